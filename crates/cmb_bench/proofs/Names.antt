@@ -1,0 +1,84 @@
+-- Names and their numbers.
+use Rattle.std.proofs.Common.{◌≡◌, ◌<◌, ◌+◌, ℕ, suc, List, [], ◌∷◌, Vec, Global, Bool, true, false, map, refl, sym, ap, ◌∙◌, arith, get_or}
+use Rattle.std.specs.Prelude.{nat_eq, Ok, Err, ◌||◌, if◌then◌else◌, ◌++◌, cond, not, length, nat_lt, Some, None, position, bytes_eq}
+use Rattle.std.specs.List.{position_or_len, list_any}
+use Rattle.std.proofs.lemmas.List.{length-map, map-append}
+use Rattle.std.proofs.lemmas.Bool.Decides.{nat_tests}
+use Rattle.std.proofs.lemmas.Slice.Eq.{bytes_eq-Decides}
+use Rattle.std.proofs.lemmas.Bool.{lt-ltb}
+use Rattle.std.proofs.lemmas.List.Sums.{position_or_len_is}
+use Rattle.std.proofs.lemmas.Map.Keys.{apart_from_distinct}
+use Rattle.std.specs.List.{IsDistinct}
+use Rattle.cmb_bench.specs.declared.fault.FaultKind.TheVariants as faults
+use Rattle.std.specs.Cmp.Lexicographic.{nat_list_eq_equiv}
+use Rattle.cmb_bench.specs.Netlist.{Netlist, name_of, number_of}
+use Rattle.cmb_bench.specs.Statement.{Mention, is_member}
+use Rattle.cmb_bench.specs.Inner.Building.{number_in, numbered}
+
+pub member_names : {X : Type 0} (bytes : X → List ℕ) (name : List ℕ) (ks : List X) → list_any (λ k. bytes_eq name (bytes k)) ks ≡ is_member name (map bytes ks)
+member_names bytes name [] = refl
+member_names bytes name (k ∷ ks) = ap (λ b. bytes_eq name (bytes k) || b) (member_names bytes name ks)
+
+-- a key that is inserted goes last, unless a key of these bytes is there
+pub inserted_names : {X : Type 0} (bytes : X → List ℕ) (ks new : List X) (k : X) (b : Bool) → list_any (λ x. bytes_eq (bytes k) (bytes x)) ks ≡ b → new ≡ (if b then ks else ks ++ k ∷ []) →
+    map bytes new ≡ (if b then map bytes ks else map bytes ks ++ bytes k ∷ [])
+inserted_names bytes ks new k true there is = ap (map bytes) is
+inserted_names bytes ks new k false there is = ap (map bytes) is ∙ map-append bytes ks (k ∷ [])
+
+places_names : (name : List ℕ) (ks : List (Vec ℕ Global)) → position_or_len (λ k. bytes_eq name k.items) ks ≡ position_or_len (bytes_eq name) (map (λ k. k.items) ks)
+places_names name [] = refl
+places_names name (k ∷ ks) = ap (λ n. cond (not (bytes_eq name k.items)) (1 + n) 0) (places_names name ks)
+
+pub position_names : (name : List ℕ) (ks : List (Vec ℕ Global)) → position (λ k. bytes_eq name k.items) ks ≡ position (bytes_eq name) (map (λ k. k.items) ks)
+position_names name ks =
+    let places = places_names name ks in
+    let lengths : length ks ≡ length (map (λ k. k.items) ks) = sym (length-map ks (λ k. k.items)) in
+    ap (λ n. cond (nat_lt n (length ks)) (Some n) None) places ∙ ap (λ n. cond (nat_lt (position_or_len (bytes_eq name) (map (λ k. k.items) ks)) n) (Some (position_or_len (bytes_eq name) (map (λ k. k.items) ks))) None) lengths
+
+first_name : (names : List (List ℕ)) (name : List ℕ) → position_or_len (bytes_eq name) names < length names → get_or names (position_or_len (bytes_eq name) names) [] ≡ name
+first_name [] name h = absurd (omega arith)
+first_name (x ∷ xs) name h = by (bytes_eq name x) refl h (first_name xs name)
+  where
+    by : (b : Bool) → bytes_eq name x ≡ b → cond (not b) (1 + position_or_len (bytes_eq name) xs) 0 < length (x ∷ xs)
+        → (position_or_len (bytes_eq name) xs < length xs → get_or xs (position_or_len (bytes_eq name) xs) [] ≡ name)
+        → get_or (x ∷ xs) (cond (not b) (1 + position_or_len (bytes_eq name) xs) 0) [] ≡ name
+    by true e h more = sym ((bytes_eq-Decides name x).0 e)
+    by false e h more =
+        let i : 1 + position_or_len (bytes_eq name) xs ≡ suc (position_or_len (bytes_eq name) xs) = omega arith in
+        rw i (more (omega arith))
+
+-- the net with a number is there, and has the name that was looked up
+pub number_name : (netlist : Netlist) (name : List ℕ) (k : ℕ) → number_of netlist name ≡ Some k → (k < length netlist.names) × (get_or netlist.names k [] ≡ name)
+unfolding number_of
+number_name netlist name k h = by (nat_lt (position_or_len (bytes_eq name) netlist.names) (length netlist.names)) refl h
+  where
+    by : (b : Bool) → nat_lt (position_or_len (bytes_eq name) netlist.names) (length netlist.names) ≡ b → cond b (Some (position_or_len (bytes_eq name) netlist.names)) None ≡ Some k
+        → (k < length netlist.names) × (get_or netlist.names k [] ≡ name)
+    by true e h =
+        let f : position_or_len (bytes_eq name) netlist.names ≡ k = cc h in
+        let g : position_or_len (bytes_eq name) netlist.names < length netlist.names = grind (arith, nat_tests) in
+        let a : k < length netlist.names = omega arith in
+        (a, ap (λ n. get_or netlist.names n []) (sym f) ∙ first_name netlist.names name g)
+    by false e h = cc h
+
+-- two names with one number are one
+pub same_name : (netlist : Netlist) (a b : List ℕ) (k : ℕ) → number_of netlist a ≡ Some k → number_of netlist b ≡ Some k → a ≡ b
+same_name netlist a b k h g = sym (number_name netlist a k h).1 ∙ (number_name netlist b k g).1
+
+pub number_found : (ks : List (Vec ℕ Global)) (m : Mention) (n : ℕ) → Some n ≡ position (λ k. bytes_eq m.name k.items) ks → number_in (map (λ k. k.items) ks) m ≡ Ok n
+unfolding number_in
+number_found ks m n is = ap (λ p. numbered p m) (sym (is ∙ position_names m.name ks))
+
+pub number_missing : (ks : List (Vec ℕ Global)) (m : Mention) → None ≡ position (λ k. bytes_eq m.name k.items) ks → number_in (map (λ k. k.items) ks) m ≡ Err (record { line = m.line; kind = faults.Undriven })
+unfolding number_in
+number_missing ks m is = ap (λ p. numbered p m) (sym (is ∙ position_names m.name ks))
+
+-- a net has the number that its name is looked up by
+pub number-name_of : (netlist : Netlist) (net : ℕ) → IsDistinct bytes_eq netlist.names → net < length netlist.names → number_of netlist (name_of netlist net) ≡ Some net
+unfolding number_of
+number-name_of netlist net different within =
+    let place : position_or_len (bytes_eq (get_or netlist.names net [])) netlist.names ≡ net =
+    position_or_len_is _ netlist.names net [] (omega arith)
+    (λ k before. nat_list_eq_equiv.symm (get_or netlist.names net []) (get_or netlist.names k []) ∙ apart_from_distinct bytes_eq netlist.names k net [] different before within)
+    (λ _. nat_list_eq_equiv.refl (get_or netlist.names net [])) in
+    ap (λ n. cond (nat_lt n (length netlist.names)) (Some n) None) place ∙ ap (λ b. cond b (Some net) None) (lt-ltb net (length netlist.names) within)

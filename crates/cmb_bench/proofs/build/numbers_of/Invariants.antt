@@ -1,0 +1,7 @@
+use Rattle.std.proofs.Common.{◌≡◌, map, drop}
+use Rattle.cmb_bench.specs.Inner.Views.{mentions}
+use Rattle.cmb_bench.specs.Inner.Building.{numbers_in, with_numbers}
+use Rattle.cmb_bench.proofs.build.numbers_of.Given as goal
+
+abbrev pub invariant-loop-used : goal.invariant-loop-used
+invariant-loop-used l = with_numbers l.numbers.items (numbers_in (map (λ k. k.items) l.names.keys) (mentions (drop l.used-index l.uses))) ≡ numbers_in (map (λ k. k.items) l.names.keys) (mentions l.uses)

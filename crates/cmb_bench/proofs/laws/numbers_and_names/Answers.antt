@@ -1,0 +1,8 @@
+use Rattle.cmb_bench.proofs.Names.{number-name_of, number_name}
+use Rattle.cmb_bench.proofs.laws.numbers_and_names.Goals as goal
+
+pub returns : goal.returns
+returns c = record {
+  number = λ netlist net sound within. number-name_of netlist net sound.different_names within;
+  name = number_name;
+}

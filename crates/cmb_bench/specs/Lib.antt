@@ -1,0 +1,10 @@
+-- what the public contracts rest on
+pub mod Kinds
+pub mod Netlist
+pub mod Text
+pub mod Statement
+pub mod Grammar
+pub mod Meaning
+pub mod FirstFault
+-- what the functions inside the crate promise each other
+pub mod Inner

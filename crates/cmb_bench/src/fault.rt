@@ -1,0 +1,103 @@
+//! Why a text has no netlist.
+ghost use Rattle.std.specs.Prelude.{◌≡◌};
+ghost use Rattle.cmb_bench.specs.FirstFault.{number_of_fault};
+
+use std::alloc::{AllocError, AllocFailed};
+use thiserror::Error;
+
+/// What is wrong with a text, at one of its tokens.
+#[derive(Clone, Copy, Debug, PartialEq, Eq, Error)]
+pub enum FaultKind {
+    /// 1: a byte that stands in no token, outside a comment.
+    #[error("a byte that no netlist has")]
+    Byte,
+    /// 2: a token with which the tokens so far begin no list of statements.
+    #[error("not a statement")]
+    Statement,
+    /// 3: the name in the place of a kind is none.
+    #[error("not a kind")]
+    Kind,
+    /// 4: a comma among the operands of NOT, BUFF or DFF.
+    #[error("too many operands")]
+    Operands,
+    /// 5: the net has a driver already.
+    #[error("driven twice")]
+    Driven,
+    /// 6: a name is used that no statement drives.
+    #[error("not driven")]
+    Undriven,
+    /// 7: this would be the net numbered 65,535.
+    #[error("too many nets")]
+    TooMany,
+    /// 8: a name of more than 255 bytes.
+    #[error("a name that is too long")]
+    Name,
+    /// 70: memory ran out. This is no fault of the text.
+    #[error("out of memory")]
+    Memory,
+}
+
+impl FaultKind {
+    /// The fault's number: 1 to 8, and 70 for want of memory.
+    pub fn number(self) -> u32
+        ensures { result ≡ number_of_fault self }
+    {
+        match self {
+            FaultKind::Byte => 1,
+            FaultKind::Statement => 2,
+            FaultKind::Kind => 3,
+            FaultKind::Operands => 4,
+            FaultKind::Driven => 5,
+            FaultKind::Undriven => 6,
+            FaultKind::TooMany => 7,
+            FaultKind::Name => 8,
+            FaultKind::Memory => 70,
+        }
+    }
+}
+
+/// Why a text has no netlist, and on which line, counted from 1. Want of memory has line 0.
+#[derive(Clone, Copy, Debug, PartialEq, Eq, Error)]
+#[error("line {line}: {kind}")]
+pub struct BenchFault {
+    pub line: u32,
+    pub kind: FaultKind,
+}
+
+impl BenchFault {
+    /// The number of the fault's kind.
+    pub fn number(self) -> u32
+        ensures { result ≡ number_of_fault self.kind }
+    {
+        self.kind.number()
+    }
+}
+
+/// Why the reader stops: memory ran out, or the text has a fault.
+#[derive(Clone, Copy, Debug, PartialEq, Eq)]
+pub(crate) enum ReadError {
+    Memory,
+    Fault(BenchFault),
+}
+
+impl From<AllocError> for ReadError {
+    ghost use Rattle.std.specs.Prelude.{◌≡◌};
+    ghost use Rattle.cmb_bench.specs.declared.fault.ReadError.TheVariants.{Memory};
+
+    ghost from_gives = { λ _ e. e ≡ Memory };
+
+    fn from(_error: AllocError) -> Self {
+        ReadError::Memory
+    }
+}
+
+impl<T: Drop> From<AllocFailed<T>> for ReadError {
+    ghost use Rattle.std.specs.Prelude.{◌≡◌};
+    ghost use Rattle.cmb_bench.specs.declared.fault.ReadError.TheVariants.{Memory};
+
+    ghost from_gives = { λ _ e. e ≡ Memory };
+
+    fn from(_error: AllocFailed<T>) -> Self {
+        ReadError::Memory
+    }
+}

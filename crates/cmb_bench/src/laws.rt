@@ -1,0 +1,33 @@
+//! Laws: each text spells one netlist or has one first fault, and never both; numbers and names of
+//! nets belong together.
+ghost use Rattle.std.specs.Prelude.{◌≡◌, ◌<◌, ℕ, List, length, Some, ◌⊎◌};
+ghost use Rattle.cmb_bench.specs.declared.fault.BenchFault.{BenchFault};
+ghost use Rattle.cmb_bench.specs.Netlist.{Netlist, IsNetlist, name_of, number_of};
+ghost use Rattle.cmb_bench.specs.Meaning.{Reads};
+ghost use Rattle.cmb_bench.specs.FirstFault.{IsFirstFault};
+
+/// Each text spells a netlist or has a first fault.
+pub fn either_one()
+    ensures { (bytes : List ℕ) → ((c : Netlist) × Reads bytes c) ⊎ ((f : BenchFault) × IsFirstFault bytes f) }
+{}
+
+/// A text that spells a netlist has no first fault.
+pub fn never_both()
+    ensures { (bytes : List ℕ) (c : Netlist) (f : BenchFault) → Reads bytes c → IsFirstFault bytes f → ⊥ }
+{}
+
+/// A text has at most one first fault.
+pub fn one_first_fault()
+    ensures { (bytes : List ℕ) (f : BenchFault) (g : BenchFault) → IsFirstFault bytes f → IsFirstFault bytes g → f ≡ g }
+{}
+
+/// A text spells at most one netlist.
+pub fn one_netlist()
+    ensures { (bytes : List ℕ) (c : Netlist) (d : Netlist) → Reads bytes c → Reads bytes d → c ≡ d }
+{}
+
+/// In a netlist the number of a net's name is the net, and a name that has a number is that net's.
+pub fn numbers_and_names()
+    ensures number { (netlist : Netlist) (net : ℕ) → IsNetlist netlist → net < length netlist.names → number_of netlist (name_of netlist net) ≡ Some net }
+    ensures name { (netlist : Netlist) (name : List ℕ) (net : ℕ) → number_of netlist name ≡ Some net → (net < length netlist.names) × (name_of netlist net ≡ name) }
+{}

@@ -1,0 +1,20 @@
+//! The reader of `.bench` netlists, the form of the ISCAS'89 benchmark set (Brglez, Bryan and
+//! Kozminski, 1989): nets by number, each with its name and its one driver.
+#![tactic(auto)]
+
+mod build;
+mod fault;
+mod kinds;
+pub mod laws;
+pub mod netlist;
+mod parser;
+mod reader;
+mod text;
+
+pub use fault::{BenchFault, FaultKind};
+pub use kinds::cell_named;
+pub use netlist::{Cell, Driver, Kind, Name, Netlist, Operands};
+pub use reader::read_bench;
+
+#[cfg(test)]
+mod tests;

@@ -1,0 +1,186 @@
+//! What a netlist is.
+
+ghost use Rattle.std.specs.Prelude.{◌≡◌, ◌<◌, ◌≤◌, ◌==◌, ℕ, List, length, map, IfOk, MatchOption};
+
+use indexmap::IndexSet;
+use std::alloc::{AllocError, Global};
+use std::marker::Model;
+
+/// A gate's function.
+#[derive(Clone, Copy, Debug, PartialEq, Eq)]
+pub enum Kind {
+    And,
+    Nand,
+    Or,
+    Nor,
+    Xor,
+    Xnor,
+    Not,
+    Buff,
+}
+
+/// What the word in the place of a kind names: one of the gates, or the flip-flop.
+#[derive(Clone, Copy, Debug, PartialEq, Eq)]
+pub enum Cell {
+    Gate(Kind),
+    Flop,
+}
+
+/// A name, as its bytes.
+#[derive(Drop)]
+pub struct Name {
+    bytes: Vec<u8>,
+}
+
+impl Model for Name {
+    ghost use Rattle.std.specs.Prelude.{List, ℕ};
+
+    ghost Value = { List ℕ };
+
+    ghost view = { λ a. a.bytes.items };
+}
+
+impl Name {
+    /// A name of these bytes. It is refused only where memory runs out.
+    pub fn new(alloc: Global, bytes: &[u8]) -> Result<Name, AllocError>
+        ensures { IfOk result (λ name. name ≡ bytes.now) }
+    {
+        Ok(Name {
+            bytes: Vec::from_slice(alloc, bytes)?,
+        })
+    }
+
+    /// The bytes of the name.
+    pub fn as_bytes(&self) -> &[u8]
+        ensures { result.now ≡ self.now }
+    {
+        self.bytes.as_slice()
+    }
+}
+
+/// The nets on a gate's pins, in order.
+#[derive(Drop)]
+pub struct Operands {
+    nets: Vec<u32>,
+}
+
+impl Model for Operands {
+    ghost use Rattle.std.specs.Prelude.{List, ℕ};
+
+    ghost Value = { List ℕ };
+
+    ghost view = { λ a. a.nets.items };
+}
+
+impl Operands {
+    /// Operands by the numbers of their nets.
+    pub fn new(nets: Vec<u32>) -> Operands
+        ensures { result ≡ nets.items }
+    {
+        Operands { nets }
+    }
+
+    /// The numbers of the nets, in the order of the pins.
+    pub fn as_slice(&self) -> &[u32]
+        ensures { result.now ≡ self.now }
+    {
+        self.nets.as_slice()
+    }
+}
+
+/// What drives a net: an input statement, a gate on its operands, or a flip-flop on its data.
+#[derive(Drop)]
+pub enum Driver {
+    Input,
+    Gate(Kind, Operands),
+    Flop(u32),
+}
+
+/// Nets, numbered from 0 in the order of their driving statements, and the outputs in the order of
+/// first mention.
+#[derive(Drop)]
+pub struct Netlist {
+    names: IndexSet<Vec<u8>>,
+    drivers: Vec<Driver>,
+    outputs: IndexSet<u32>,
+}
+
+impl Model for Netlist {
+    ghost use Rattle.std.specs.Prelude.{map};
+    ghost use Rattle.cmb_bench.specs.Netlist.{Netlist, IsNetlist};
+
+    ghost Value = { Netlist };
+
+    ghost view = { λ a. record { names = map (λ name. name.items) a.names.keys; drivers = a.drivers.items; outputs = a.outputs.keys } };
+
+    ghost invariant = { λ a. IsNetlist (record { names = map (λ name. name.items) a.names.keys; drivers = a.drivers.items; outputs = a.outputs.keys }) };
+}
+
+impl Netlist {
+    ghost use Rattle.cmb_bench.specs.Netlist.{driver_of, name_of, number_of, IsNetlist};
+
+    // A netlist of its parts.
+    pub(crate) fn new(
+        names: IndexSet<Vec<u8>>,
+        drivers: Vec<Driver>,
+        outputs: IndexSet<u32>,
+    ) -> Netlist
+        requires { IsNetlist (record { names = map (λ name. name.items) names.keys; drivers = drivers.items; outputs = outputs.keys }) }
+        ensures { result ≡ record { names = map (λ name. name.items) names.keys; drivers = drivers.items; outputs = outputs.keys } }
+    {
+        Netlist {
+            names,
+            drivers,
+            outputs,
+        }
+    }
+
+    /// How many nets there are: at most 65,535.
+    pub fn len(&self) -> usize
+        ensures value { result ≡ length self.now.names }
+        ensures few { length self.now.names ≤ 65535 }
+        // What every netlist keeps.
+        ensures sound { IsNetlist self.now }
+    {
+        self.drivers.len()
+    }
+
+    /// Whether there are no nets.
+    pub fn is_empty(&self) -> bool
+        ensures { result ≡ (length self.now.names == 0) }
+    {
+        self.drivers.is_empty()
+    }
+
+    /// The number of the net with a name, compared byte by byte; `None` where no net has it.
+    #[tactic(auto, unfolding(crate::specs::Netlist::number_of))]
+    pub fn number(&self, name: &[u8]) -> Option<usize>
+        ensures value { result ≡ number_of self.now name.now }
+        ensures below { MatchOption result (Unit {0}) (λ net. (net < length self.now.names) × (net < 65535)) }
+    {
+        self.names.get_index_of(name)
+    }
+
+    /// The name of a net.
+    pub fn name(&self, net: usize) -> &[u8]
+        requires { net < length self.now.names }
+        ensures { result.now ≡ name_of self.now net }
+    {
+        self.names[net].as_slice()
+    }
+
+    /// What drives a net.
+    pub fn driver(&self, net: usize) -> &Driver
+        requires { net < length self.now.names }
+        ensures { result.now ≡ driver_of self.now net }
+    {
+        &self.drivers[net]
+    }
+
+    /// The numbers of the outputs, each once, in the order of first mention.
+    pub fn outputs(&self) -> &[u32]
+        ensures { result.now ≡ self.now.outputs }
+    {
+        self.outputs.as_slice()
+    }
+}

@@ -1,0 +1,335 @@
+//! From tokens to statements.
+ghost use Rattle.std.specs.Prelude.{◌≡◌, ℕ, ◌+◌, ◌^◌, ◌<◌, ◌≤◌, ◌++◌, [], ◌∷◌, length, map, if◌then◌else◌, IfOk, IfErr, OnOk, IsOk, not, false};
+ghost use Rattle.cmb_bench.specs.Inner.Word.{is_end};
+ghost use Rattle.cmb_bench.specs.declared.fault.ReadError.TheVariants.{Fault, Memory};
+ghost use Rattle.cmb_bench.specs.Inner.Scan.{scan, lexeme, behind};
+ghost use Rattle.cmb_bench.specs.Inner.Views.{mention, mentions, statement};
+ghost use Rattle.cmb_bench.specs.Inner.Reading.{Gives, fault_at, misplaced, opened, closed, used_name, with_net, short_name, operands_at, driver_at, input_at, output_at, keyword_at, statement_at};
+ghost use Rattle.cmb_bench.specs.Statement.{driven_by, is_member, driven};
+ghost use Rattle.cmb_bench.specs.Inner.Building.{Stops};
+ghost use Rattle.cmb_bench.specs.Text.{tokens_of};
+ghost use Rattle.cmb_bench.specs.Inner.Part.{parts_of};
+
+use crate::fault::{BenchFault, FaultKind, ReadError};
+use crate::kinds::{cell_named, is_word, takes_one};
+use crate::netlist::Cell;
+use crate::text::{Cursor, Token};
+use indexmap::IndexSet;
+use std::alloc::Global;
+
+pub const MAX_NETS: usize = 65_535;
+
+pub const MAX_NAME: usize = 255;
+
+/// A name that is used, and the line on which it stands.
+#[derive(Clone, Copy)]
+pub struct Use<'a> {
+    pub name: &'a [u8],
+    pub line: u32,
+}
+
+/// A statement.
+#[derive(Drop)]
+pub enum Item<'a> {
+    Input(&'a [u8]),
+    Output(Use<'a>),
+    Drive(&'a [u8], Cell, Vec<Use<'a>>),
+}
+
+fn fault_at(token: Token, kind: FaultKind) -> ReadError
+    ensures { result ≡ Fault (fault_at (lexeme token.entry) kind) }
+{
+    ReadError::Fault(BenchFault {
+        line: token.line,
+        kind,
+    })
+}
+
+/// The fault of a token that no statement goes on with.
+fn misplaced(token: Token) -> ReadError
+    ensures { result ≡ Fault (misplaced (lexeme token.entry)) }
+{
+    if token.is_bad() {
+        fault_at(token, FaultKind::Byte)
+    } else {
+        fault_at(token, FaultKind::Statement)
+    }
+}
+
+#[tactic(auto, unfolding(crate::specs::Inner::Reading::opened))]
+fn open_mark(cursor: &mut Cursor) -> Result<(), ReadError>
+    requires { cursor.old.line + length cursor.old.rest.now < 2 ^ 32 }
+    ensures read { Gives (λ _. scan cursor.new) result (opened (scan cursor.old)) }
+    ensures fits { cursor.new.line + length cursor.new.rest.now ≤ cursor.old.line + length cursor.old.rest.now }
+    ensures shorter { length cursor.new.rest.now ≤ length cursor.old.rest.now }
+{
+    let token = cursor.next();
+    if token.is_open() {
+        Ok(())
+    } else {
+        Err(misplaced(token))
+    }
+}
+
+#[tactic(auto, unfolding(crate::specs::Inner::Reading::closed))]
+fn close_mark(cursor: &mut Cursor) -> Result<(), ReadError>
+    requires { cursor.old.line + length cursor.old.rest.now < 2 ^ 32 }
+    ensures read { Gives (λ _. scan cursor.new) result (closed (scan cursor.old)) }
+    ensures fits { cursor.new.line + length cursor.new.rest.now ≤ cursor.old.line + length cursor.old.rest.now }
+    ensures shorter { length cursor.new.rest.now ≤ length cursor.old.rest.now }
+{
+    let token = cursor.next();
+    if token.is_close() {
+        Ok(())
+    } else {
+        Err(misplaced(token))
+    }
+}
+
+/// The name that a token is, where it isn't too long.
+#[tactic(auto, unfolding(crate::specs::Inner::Reading::short_name))]
+fn short_name(token: Token<'_>) -> Result<&[u8], ReadError>
+    ensures read { Gives (λ n. n.now) result (short_name (lexeme token.entry)) }
+    ensures inner { IsOk result → is_end (lexeme token.entry).word ≡ false }
+{
+    let Some(name) = token.name() else {
+        return Err(misplaced(token));
+    };
+    if name.len() > MAX_NAME {
+        return Err(fault_at(token, FaultKind::Name));
+    }
+    Ok(name)
+}
+
+/// Takes the name of a net that is used.
+#[tactic(auto, unfolding(crate::specs::Inner::Reading::used_name, crate::specs::Inner::Reading::short_name))]
+fn used_name<'a>(cursor: &mut Cursor<'a>) -> Result<Use<'a>, ReadError>
+    requires { cursor.old.line + length cursor.old.rest.now < 2 ^ 32 }
+    ensures read { Gives (λ u. (mention u, scan cursor.new)) result (used_name (scan cursor.old)) }
+    ensures fits { cursor.new.line + length cursor.new.rest.now ≤ cursor.old.line + length cursor.old.rest.now }
+    ensures shorter { length cursor.new.rest.now ≤ length cursor.old.rest.now }
+{
+    let token = cursor.next();
+    let Some(name) = token.name() else {
+        return Err(misplaced(token));
+    };
+    if name.len() > MAX_NAME {
+        return Err(fault_at(token, FaultKind::Name));
+    }
+    Ok(Use {
+        name,
+        line: token.line,
+    })
+}
+
+/// Adds a name, and says whether it is new.
+fn insert_name<'a>(names: &mut IndexSet<&'a [u8]>, name: &'a [u8]) -> Result<bool, ReadError>
+    ensures new { IfOk result (λ new. new ≡ not (is_member name.now (map (λ k. k.now) names.old.keys))) }
+    ensures names { IfOk result (λ new. map (λ k. k.now) names.new.keys ≡ (if new then map (λ k. k.now) names.old.keys ++ name.now ∷ [] else map (λ k. k.now) names.old.keys)) }
+    ensures err { IfErr result (λ e. e ≡ Memory) }
+{
+    Ok(names.insert(name)?)
+}
+
+fn net_count(names: &IndexSet<&[u8]>) -> usize
+    ensures { result ≡ length (map (λ k. k.now) names.now.keys) }
+{
+    names.len()
+}
+
+/// Gives a driven net the next number. A fault stands at the token `place`.
+#[tactic(auto, unfolding(crate::specs::Inner::Reading::with_net))]
+fn add_net<'a>(
+    names: &mut IndexSet<&'a [u8]>,
+    name: &'a [u8],
+    place: Token,
+) -> Result<(), ReadError>
+    ensures read { Gives (λ _. map (λ k. k.now) names.new.keys) result
+        (with_net (map (λ k. k.now) names.old.keys) name.now (lexeme place.entry)) }
+    ensures names { OnOk result (map (λ k. k.now) names.new.keys ≡ map (λ k. k.now) names.old.keys ++ name.now ∷ []) }
+{
+    let new = insert_name(names, name)?;
+    if !new {
+        return Err(fault_at(place, FaultKind::Driven));
+    }
+    if net_count(names) > MAX_NETS {
+        return Err(fault_at(place, FaultKind::TooMany));
+    }
+    if name.len() > MAX_NAME {
+        return Err(fault_at(place, FaultKind::Name));
+    }
+    Ok(())
+}
+
+/// Reads the operands behind the opening mark, up to the closing one.
+#[tactic(auto, unfolding(crate::specs::Inner::Reading::operands_at))]
+fn read_operands<'a>(
+    alloc: Global,
+    cursor: &mut Cursor<'a>,
+    cell: Cell,
+) -> Result<Vec<Use<'a>>, ReadError>
+    requires { cursor.old.line + length cursor.old.rest.now < 2 ^ 32 }
+    ensures read { Gives (λ us. (mentions us.items, scan cursor.new)) result (operands_at cell (scan cursor.old)) }
+    ensures fits { cursor.new.line + length cursor.new.rest.now ≤ cursor.old.line + length cursor.old.rest.now }
+    ensures shorter { length cursor.new.rest.now ≤ length cursor.old.rest.now }
+{
+    let mut operands = Vec::new(alloc);
+    loop {
+        let token = cursor.next();
+        let name = short_name(token)?;
+        let line = token.line;
+        operands.push(Use { name, line })?;
+        let after = cursor.next();
+        if after.is_comma() {
+            if takes_one(cell) {
+                return Err(fault_at(after, FaultKind::Operands));
+            }
+        } else if after.is_close() {
+            return Ok(operands);
+        } else {
+            return Err(misplaced(after));
+        }
+    }
+}
+
+/// Reads a driver statement behind its `=`.
+#[tactic(auto, unfolding(crate::specs::Inner::Reading::driver_at))]
+fn read_driver<'a>(
+    alloc: Global,
+    cursor: &mut Cursor<'a>,
+    names: &mut IndexSet<&'a [u8]>,
+    name: &'a [u8],
+    equals: Token,
+) -> Result<Item<'a>, ReadError>
+    requires { cursor.old.line + length cursor.old.rest.now < 2 ^ 32 }
+    ensures read { Gives (λ i. (statement i, scan cursor.new)) result
+        (driver_at (map (λ k. k.now) names.old.keys) name.now (lexeme equals.entry) (scan cursor.old)) }
+    ensures names { IfOk result (λ i. map (λ k. k.now) names.new.keys ≡ map (λ k. k.now) names.old.keys ++ driven_by (statement i)) }
+    ensures fits { cursor.new.line + length cursor.new.rest.now ≤ cursor.old.line + length cursor.old.rest.now }
+    ensures shorter { length cursor.new.rest.now ≤ length cursor.old.rest.now }
+{
+    add_net(names, name, equals)?;
+    let token = cursor.next();
+    let Some(kind) = token.name() else {
+        return Err(misplaced(token));
+    };
+    let Some(cell) = cell_named(kind) else {
+        return Err(fault_at(token, FaultKind::Kind));
+    };
+    open_mark(cursor)?;
+    let operands = read_operands(alloc, cursor, cell)?;
+    Ok(Item::Drive(name, cell, operands))
+}
+
+/// Reads an input statement behind its opening mark.
+#[tactic(auto, unfolding(crate::specs::Inner::Reading::input_at))]
+fn read_input<'a>(
+    cursor: &mut Cursor<'a>,
+    names: &mut IndexSet<&'a [u8]>,
+) -> Result<Item<'a>, ReadError>
+    requires { cursor.old.line + length cursor.old.rest.now < 2 ^ 32 }
+    ensures read { Gives (λ i. (statement i, scan cursor.new)) result
+        (input_at (map (λ k. k.now) names.old.keys) (scan cursor.old)) }
+    ensures names { IfOk result (λ i. map (λ k. k.now) names.new.keys ≡ map (λ k. k.now) names.old.keys ++ driven_by (statement i)) }
+    ensures fits { cursor.new.line + length cursor.new.rest.now ≤ cursor.old.line + length cursor.old.rest.now }
+    ensures shorter { length cursor.new.rest.now ≤ length cursor.old.rest.now }
+{
+    let token = cursor.next();
+    let Some(name) = token.name() else {
+        return Err(misplaced(token));
+    };
+    add_net(names, name, token)?;
+    close_mark(cursor)?;
+    Ok(Item::Input(name))
+}
+
+/// Reads an output statement behind its opening mark.
+#[tactic(auto, unfolding(crate::specs::Inner::Reading::output_at))]
+fn read_output<'a>(cursor: &mut Cursor<'a>) -> Result<Item<'a>, ReadError>
+    requires { cursor.old.line + length cursor.old.rest.now < 2 ^ 32 }
+    ensures read { Gives (λ i. (statement i, scan cursor.new)) result (output_at (scan cursor.old)) }
+    ensures names { IfOk result (λ i. driven_by (statement i) ≡ []) }
+    ensures fits { cursor.new.line + length cursor.new.rest.now ≤ cursor.old.line + length cursor.old.rest.now }
+    ensures shorter { length cursor.new.rest.now ≤ length cursor.old.rest.now }
+{
+    let name = used_name(cursor)?;
+    close_mark(cursor)?;
+    Ok(Item::Output(name))
+}
+
+/// Reads a statement with this keyword behind its opening mark.
+#[tactic(auto, unfolding(crate::specs::Inner::Reading::keyword_at))]
+fn read_keyword<'a>(
+    alloc: Global,
+    cursor: &mut Cursor<'a>,
+    names: &mut IndexSet<&'a [u8]>,
+    keyword: &[u8],
+    place: Token,
+) -> Result<Item<'a>, ReadError>
+    requires { cursor.old.line + length cursor.old.rest.now < 2 ^ 32 }
+    ensures read { Gives (λ i. (statement i, scan cursor.new)) result
+        (keyword_at (map (λ k. k.now) names.old.keys) keyword.now (lexeme place.entry) (scan cursor.old)) }
+    ensures names { IfOk result (λ i. map (λ k. k.now) names.new.keys ≡ map (λ k. k.now) names.old.keys ++ driven_by (statement i)) }
+    ensures fits { cursor.new.line + length cursor.new.rest.now ≤ cursor.old.line + length cursor.old.rest.now }
+    ensures shorter { length cursor.new.rest.now ≤ length cursor.old.rest.now }
+{
+    if is_word(keyword, b"INPUT") {
+        read_input(cursor, names)
+    } else if is_word(keyword, b"OUTPUT") {
+        read_output(cursor)
+    } else {
+        Err(misplaced(place))
+    }
+}
+
+/// Reads the statement that begins with the token `first`.
+#[tactic(auto, unfolding(crate::specs::Inner::Reading::statement_at))]
+pub fn read_statement<'a>(
+    alloc: Global,
+    cursor: &mut Cursor<'a>,
+    names: &mut IndexSet<&'a [u8]>,
+    first: Token<'a>,
+) -> Result<Item<'a>, ReadError>
+    requires { cursor.old.line + length cursor.old.rest.now < 2 ^ 32 }
+    ensures read { Gives (λ i. (statement i, scan cursor.new)) result
+        (statement_at (map (λ k. k.now) names.old.keys) (lexeme first.entry ∷ behind (lexeme first.entry).word (scan cursor.old))) }
+    ensures names { IfOk result (λ i. map (λ k. k.now) names.new.keys ≡ map (λ k. k.now) names.old.keys ++ driven_by (statement i)) }
+    ensures fits { cursor.new.line + length cursor.new.rest.now ≤ cursor.old.line + length cursor.old.rest.now }
+    ensures shorter { length cursor.new.rest.now ≤ length cursor.old.rest.now }
+{
+    let name = short_name(first)?;
+    let second = cursor.next();
+    if second.is_equals() {
+        read_driver(alloc, cursor, names, name, second)
+    } else if second.is_open() {
+        read_keyword(alloc, cursor, names, name, second)
+    } else {
+        Err(misplaced(second))
+    }
+}
+
+/// What the statements of a text say, with the names of the nets that they drive.
+#[derive(Drop)]
+pub struct Parsed<'a> {
+    pub items: Vec<Item<'a>>,
+    pub names: IndexSet<&'a [u8]>,
+}
+
+/// Reads the statements of a text.
+pub fn parse(alloc: Global, bytes: &[u8]) -> Result<Parsed<'_>, ReadError>
+    requires { length bytes.now ≤ 16777216 }
+    ensures read { Stops (λ p. map statement p.items.items) result (tokens_of (parts_of bytes.now)) }
+    ensures names { IfOk result (λ p. map (λ k. k.now) p.names.keys ≡ driven (map statement p.items.items)) }
+{
+    let mut cursor = Cursor::new(bytes);
+    let mut names = IndexSet::new(alloc);
+    let mut items = Vec::new(alloc);
+    loop {
+        let first = cursor.next();
+        if first.is_end() {
+            return Ok(Parsed { items, names });
+        }
+        let item = read_statement(alloc, &mut cursor, &mut names, first)?;
+        items.push(item)?;
+    }
+}

@@ -1,0 +1,91 @@
+-- A step keeps a cluster sound.
+use Rattle.std.proofs.Common.{◌≡◌, ℕ, ◌+◌, ◌-◌, ◌<◌, ◌≤◌, inl, inr, length, List, [], ◌∷◌, get_or, set, refl, sym, ◌∙◌, subst, arith}
+use Rattle.std.proofs.lemmas.Bool.{cases_eq}
+use Rattle.std.proofs.lemmas.Bool.Decides.{nat_tests}
+use Rattle.std.proofs.lemmas.List.{get_or-set_same, get_or-set_other, length-set}
+use Rattle.cmb_wave.specs.declared.level.Level.{Level}
+use Rattle.cmb_wave.specs.declared.level.Change.{Change}
+use Rattle.cmb_wave.specs.Waveform.{IsTrace}
+use Rattle.cmb_wave.specs.Wave.{Wave, new_wave}
+use Rattle.cmb_core.specs.Spans.{changes_from}
+use Rattle.cmb_core.specs.declared.process.Operand.{Operand}
+use Rattle.cmb_core.specs.declared.process.Rule.{Rule}
+use Rattle.cmb_core.specs.declared.process.Rule.TheVariants.{Given, Input, Gate, Flop}
+use Rattle.cmb_core.specs.Arrivals.{last_sample}
+use Rattle.cmb_core.specs.Step.{wave_at}
+use Rattle.cmb_core.specs.Rows.{Process, AreReady, IsReadyFor, flop_need, slot_of}
+use Rattle.cmb_core.specs.Clusters.{IsSound, wave_nets}
+use Rattle.cmb_core.specs.Tables.{AreTables, place_in}
+use Rattle.cmb_core.specs.declared.tables.Tables.{Tables}
+use Rattle.std.proofs.Math.Seq.{map-set_same}
+use Rattle.cmb_core.proofs.Changes.{trace_of_changes}
+use Rattle.cmb_core.proofs.Skips.{last_sample_le}
+use Rattle.cmb_core.proofs.Slots.{set_slots, set_bases}
+
+pub step_trace : (f : ℕ → Level) (before : Level) (from until : ℕ) (cs : List Change) → from ≤ until → cs ≡ changes_from f before from (until - from) → IsTrace before from cs until
+step_trace f before from until cs h e =
+    let whole : from + (until - from) ≡ until = omega arith in
+    rw e (rw whole at (trace_of_changes f before from (until - from)))
+
+-- the waves are those that they were, but for a later clock
+pub record GoneOn (old new : List Wave) : Type 0 where
+  pub count : length new ≡ length old
+  pub slots : (net : ℕ) → slot_of new net ≡ slot_of old net
+  pub base : (net : ℕ) → (wave_at new net).base ≡ (wave_at old net).base
+  pub nets : wave_nets new ≡ wave_nets old
+  pub bases : (i : ℕ) → (get_or new i (new_wave 0)).base ≡ (get_or old i (new_wave 0)).base
+  pub clock : (i : ℕ) → (get_or old i (new_wave 0)).clock ≤ (get_or new i (new_wave 0)).clock
+
+pub gone_on_set : (old : List Wave) (n : ℕ) (w : Wave) → n < length old → w.net ≡ (get_or old n (new_wave 0)).net → w.base ≡ (get_or old n (new_wave 0)).base → (get_or old n (new_wave 0)).clock ≤ w.clock → GoneOn old (set old n w)
+gone_on_set old n w h e b k = record {
+  count = length-set old n w;
+  slots = λ net. set_slots old n w (new_wave 0) h e net;
+  base = λ net. set_bases old n w (new_wave 0) h e b net;
+  nets = map-set_same (λ v. v.net) old n w (new_wave 0) e;
+  bases = λ i. elim (cases_eq i n) [
+    | inl e ↦ rw (e, get_or-set_same old n w (new_wave 0) h) b
+    | inr ne ↦ rw (get_or-set_other old n i w (new_wave 0) ne) refl
+  ];
+  clock = λ i. elim (cases_eq i n) [
+    | inl e ↦ rw (e, get_or-set_same old n w (new_wave 0) h) k
+    | inr ne ↦ rw (get_or-set_other old n i w (new_wave 0) ne) (omega arith)
+  ];
+}
+
+are_ready_still : (old new : List Wave) (clock later : ℕ) (os : List Operand) → GoneOn old new → clock ≤ later → AreReady old clock os → AreReady new later os
+are_ready_still old new clock later [] g h r = tt
+are_ready_still old new clock later (o ∷ os) g h r =
+    let kept : (wave_at old o.net).base ≤ clock - o.delay = r.0.1 in
+    ((g.slots o.net ∙ r.0.0, omega (arith, g.base o.net)), are_ready_still old new clock later os g h r.1)
+
+flop_need_le : (first period delay clock later : ℕ) → 0 < period → clock ≤ later → flop_need first period delay clock ≤ flop_need first period delay later
+flop_need_le first period delay clock later pos h =
+    let samples : last_sample first period (clock - delay) ≤ last_sample first period (later - delay) = last_sample_le first period (clock - delay) (later - delay) pos (omega arith) in
+    grind (arith, nat_tests)
+
+pub ready_still : (horizon : ℕ) (old new : List Wave) (clock later : ℕ) (rule : Rule) (os : List Operand) (cs : List Change) → GoneOn old new → clock ≤ later → IsReadyFor horizon old clock rule os cs → IsReadyFor horizon new later rule os cs
+ready_still horizon old new clock later Given os cs g h r = tt
+ready_still horizon old new clock later Input os cs g h r = r
+ready_still horizon old new clock later (Gate kind) os cs g h r = (r.0, are_ready_still old new clock later os g h r.1)
+ready_still horizon old new clock later (Flop first period init) [] cs g h r = absurd r
+ready_still horizon old new clock later (Flop first period init) (o ∷ []) cs g h r =
+    let more : flop_need first period o.delay clock ≤ flop_need first period o.delay later = flop_need_le first period o.delay clock later r.0 h in
+    let kept : (wave_at old o.net).base ≤ flop_need first period o.delay clock = r.2 in
+    (r.0, g.slots o.net ∙ r.1, omega (arith, g.base o.net))
+ready_still horizon old new clock later (Flop first period init) (o ∷ p ∷ os) cs g h r = absurd r
+
+-- the place of a net's wave is that of its net
+pub slot_place : (waves : List Wave) (net : ℕ) → slot_of waves net ≡ place_in (wave_nets waves) net
+slot_place [] net = refl
+slot_place (w ∷ ws) net = rw (slot_place ws net) refl
+
+pub tables_still : (processes : List Process) (old new : List Wave) (tables : Tables) → wave_nets new ≡ wave_nets old → AreTables processes (wave_nets old) tables → AreTables processes (wave_nets new) tables
+tables_still processes old new tables e a = let P : List ℕ → Type 0 = λ nets. AreTables processes nets tables in subst P (sym e) a
+
+-- a cluster stays sound where its waves go on
+pub sound_still : (horizon : ℕ) (processes : List Process) (old new : List Wave) → GoneOn old new → IsSound (record { horizon = horizon; processes = processes; waves = old }) → IsSound (record { horizon = horizon; processes = processes; waves = new })
+sound_still horizon processes old new g s = record {
+  paired = g.count ∙ s.paired;
+  whole = λ i h driven. g.bases i ∙ s.whole i h driven;
+  ready = λ i h. ready_still horizon old new _ _ _ _ _ g (g.clock i) (s.ready i h);
+}

@@ -1,0 +1,101 @@
+-- What a process makes of the waves that its cluster has.
+use Rattle.std.specs.Prelude.{◌≡◌, ℕ, suc, ◌+◌, ◌-◌, ◌≤◌, ◌<◌, min, nat_lt, nat_eq, List, [], ◌∷◌, if◌then◌else◌, length, Option, Some, None, option_map, Bool, true, false}
+use Rattle.cmb_wave.specs.declared.level.Level.{Level}
+use Rattle.cmb_wave.specs.declared.level.Level.TheVariants.{X}
+use Rattle.cmb_wave.specs.declared.level.Change.{Change}
+use Rattle.cmb_wave.specs.Waveform.{level_at, Rises}
+use Rattle.cmb_wave.specs.Wave.{Wave}
+use Rattle.cmb_core.specs.declared.process.Operand.{Operand}
+use Rattle.cmb_core.specs.declared.process.Rule.{Rule}
+use Rattle.cmb_core.specs.declared.process.Rule.TheVariants.{Given, Input, Gate, Flop}
+use Rattle.cmb_bench.specs.declared.netlist.Kind.{Kind}
+use Rattle.cmb_design.specs.Gate.{gate}
+use Rattle.cmb_bench.specs.Netlist.{MayTake}
+use Rattle.cmb_core.specs.Arrivals.{next_sample, last_sample}
+use Rattle.cmb_core.specs.Step.{wave_at}
+
+-- the place of the first wave of a net
+abbrev pub slot_of : List Wave → ℕ → Option ℕ
+slot_of [] net = None
+slot_of (wave ∷ waves) net = if nat_eq wave.net net then Some 0 else option_map (λ slot. suc slot) (slot_of waves net)
+
+-- a wave's level, some ticks late: x before it can be known
+abbrev pub delayed : Wave → ℕ → ℕ → Level
+delayed w delay t = if nat_lt t delay then X else level_at w.kept w.changes (t - delay)
+
+-- the levels that the operands of a gate have for the output's tick `t`
+abbrev pub delayed_levels : List Wave → List Operand → ℕ → List Level
+delayed_levels waves [] t = []
+delayed_levels waves (o ∷ os) t = delayed (wave_at waves o.net) o.delay t ∷ delayed_levels waves os t
+
+-- the level that a flip-flop has at tick `t`
+abbrev pub sampled : Wave → ℕ → ℕ → Level → ℕ → ℕ → Level
+sampled w first period init delay t =
+    if nat_lt t (first + delay) then init
+    else level_at w.kept w.changes (last_sample first period (t - delay))
+
+-- an operand's wave is in its place
+abbrev pub IsThere : List Wave → Operand → Type 0
+IsThere waves o = slot_of waves o.net ≡ Some o.slot
+
+-- an operand's wave is there, and keeps what the output needs from `clock` on
+abbrev pub IsReady : List Wave → ℕ → Operand → Type 0
+IsReady waves clock o = IsThere waves o × ((wave_at waves o.net).base ≤ clock - o.delay)
+
+abbrev pub AreReady : List Wave → ℕ → List Operand → Type 0
+AreReady waves clock [] = Unit {0}
+AreReady waves clock (o ∷ os) = IsReady waves clock o × AreReady waves clock os
+
+-- the level that a gate has at tick `t`
+abbrev pub gate_row : Kind → List Wave → List Operand → ℕ → Level
+gate_row kind waves os t = gate kind (delayed_levels waves os t)
+
+-- up to here a gate's operands are known at its output
+abbrev pub gate_reach : ℕ → List Wave → List Operand → ℕ
+gate_reach horizon waves [] = horizon
+gate_reach horizon waves (o ∷ os) = min ((wave_at waves o.net).clock + o.delay) (gate_reach horizon waves os)
+
+-- up to here a flip-flop's data is known at its output
+abbrev pub flop_reach : ℕ → ℕ → ℕ → ℕ → ℕ → ℕ
+flop_reach horizon first period delay known = min (next_sample first period known + delay) horizon
+
+-- what contracts see of a process
+pub record Process : Type 0 where
+  pub rule : Rule
+  pub operands : List Operand
+  -- an input's changes
+  pub stimulus : List Change
+
+-- from here on a flip-flop still needs its data, as its output stands at `clock`
+abbrev pub flop_need : ℕ → ℕ → ℕ → ℕ → ℕ
+flop_need first period delay clock = if nat_lt clock (first + delay) then 0 else last_sample first period (clock - delay)
+
+-- a process has the operands that it takes, and their waves keep what it still needs
+abbrev pub IsReadyFor : ℕ → List Wave → ℕ → Rule → List Operand → List Change → Type 0
+IsReadyFor horizon waves clock Given os cs = Unit {0}
+IsReadyFor horizon waves clock Input os cs = Rises 0 cs
+IsReadyFor horizon waves clock (Gate kind) os cs = MayTake kind (length os) × AreReady waves clock os
+IsReadyFor horizon waves clock (Flop first period init) (o ∷ []) cs =
+    (0 < period) × IsThere waves o × ((wave_at waves o.net).base ≤ flop_need first period o.delay clock)
+IsReadyFor horizon waves clock (Flop first period init) _ cs = ⊥
+
+-- the level that a process has at tick `t`
+abbrev pub row : List Wave → Rule → List Operand → List Change → ℕ → Level
+row waves Given os cs t = X
+row waves Input os cs t = level_at X cs t
+row waves (Gate kind) os cs t = gate_row kind waves os t
+row waves (Flop first period init) [] cs t = X
+row waves (Flop first period init) (o ∷ os) cs t = sampled (wave_at waves o.net) first period init o.delay t
+
+-- up to here a process can go on
+abbrev pub reach : ℕ → List Wave → Rule → List Operand → ℕ
+reach horizon waves Given os = 0
+reach horizon waves Input os = horizon
+reach horizon waves (Gate kind) os = gate_reach horizon waves os
+reach horizon waves (Flop first period init) [] = horizon
+reach horizon waves (Flop first period init) (o ∷ os) = flop_reach horizon first period o.delay (wave_at waves o.net).clock
+
+-- a net that the cluster doesn't drive
+abbrev pub is_given : Rule → Bool
+is_given Given = true
+is_given _ = false

@@ -1,0 +1,230 @@
+//! A part of a design that is simulated by itself.
+
+ghost use Rattle.std.specs.Prelude.{◌≡◌, ◌<◌, ◌≤◌, ℕ, false, IfOk, OnOk, OnErr, IfErr, IsSome, IfSome, MatchOption, Ok, None, slice_set, length, map};
+
+use crate::advance::Span;
+use crate::clustering::Clustering;
+use crate::delivery::{DeliverFault, Stranger, refusal};
+use crate::node::Node;
+use crate::open::{nets_held, nodes_of, places_among, sides_of, waves_of};
+use crate::readers::readers_among;
+use crate::tables::{Tables, place_of};
+use cmb_design::Design;
+use cmb_wave::{Heard, Piece, Promise, Wave, WaveFault};
+use std::alloc::{AllocError, Global};
+use std::marker::Model;
+
+/// Processes with their waves, and the waves that they are given.
+#[derive(Debug, Drop)]
+pub struct Cluster {
+    pub(crate) horizon: u32,
+    pub(crate) processes: Vec<Node>,
+    pub(crate) waves: Vec<Wave>,
+    pub(crate) tables: Tables,
+}
+
+impl Model for Cluster {
+    ghost use Rattle.cmb_core.specs.Clusters.{Cluster, IsSound, wave_nets};
+    ghost use Rattle.cmb_core.specs.Tables.{AreTables};
+
+    ghost Value = { Cluster };
+
+    ghost view = { λ c. record { horizon = c.horizon; processes = c.processes.items; waves = c.waves.items } };
+
+    ghost invariant = { λ c. record { sound : IsSound (record { horizon = c.horizon; processes = c.processes.items; waves = c.waves.items }); tables : AreTables c.processes.items (wave_nets c.waves.items) c.tables } };
+}
+
+impl Cluster {
+    ghost use Rattle.cmb_wave.specs.Waveform.{last_level, level_at, level_before};
+    ghost use Rattle.cmb_design.specs.Design.{Design};
+    ghost use Rattle.cmb_design.specs.Exact.{nets_of};
+    ghost use Rattle.cmb_wave.specs.Wave.{new_wave};
+    ghost use Rattle.cmb_core.specs.Opened.{IsClusterOf, held_nets};
+    ghost use Rattle.cmb_core.specs.Step.{wave_at};
+    ghost use Rattle.cmb_core.specs.Rows.{slot_of};
+    ghost use Rattle.cmb_core.specs.Clusters.{slot_wave, new_part, new_waves_at, step_answer, step_waves, Drives, input_slot, output_slot, delivered, RefusesDelivery, heard_at, IsSameButWaves, IsNextSpan, reach_at};
+    ghost use Rattle.cmb_wave.specs.Calls.{taken, RefusesAs, hears, heard_wave};
+    ghost use Rattle.cmb_core.specs.World.{with_wave};
+
+    /// The cluster with this number, of which nothing is known yet.
+    pub fn open(
+        alloc: Global,
+        design: &Design,
+        clustering: &Clustering,
+        cluster: u32,
+    ) -> Result<Cluster, AllocError>
+        requires nets { length clustering.now.assign ≡ nets_of design.now }
+        requires cluster { cluster < clustering.now.clusters }
+        ensures of { IfOk result (λ s. IsClusterOf design.now clustering.now cluster s) }
+        ensures new { IfOk result (λ s. s.waves ≡ map new_wave (held_nets design.now clustering.now cluster)) }
+    {
+        let nets = nets_held(alloc, design, clustering, cluster)?;
+        let places = places_among(alloc, &nets, design.netlist().len())?;
+        let processes = nodes_of(alloc, design, clustering, cluster, &nets, &places)?;
+        let (driven, inputs) = sides_of(alloc, &processes, &nets)?;
+        let readers = readers_among(alloc, &processes)?;
+        let waves = waves_of(alloc, &nets)?;
+        Ok(Cluster {
+            horizon: design.horizon(),
+            processes,
+            waves,
+            tables: Tables {
+                places,
+                driven,
+                inputs,
+                readers,
+            },
+        })
+    }
+
+    /// Lets a net go on as far as its operands are known.
+    pub fn step(&mut self, net: u32) -> Result<Option<Piece>, AllocError>
+        ensures piece { (design : Design) (slot : ℕ) → Drives design self.old net slot → IfOk result (λ part. part ≡ step_answer design self.old.waves (wave_at self.old.waves net)) }
+        ensures waves { (design : Design) (slot : ℕ) → Drives design self.old net slot → OnOk result (self.new.waves ≡ step_waves design self.old.waves (wave_at self.old.waves net)) }
+        ensures unchanged { OnErr result (self.new ≡ self.old) }
+        ensures same { IsSameButWaves self.old self.new }
+    {
+        match self.place(net) {
+            Some(slot) => self.step_at(slot),
+            None => Ok(None),
+        }
+    }
+
+    // The place of the wave of a net.
+    fn place(&self, net: u32) -> Option<usize>
+        ensures place { result ≡ slot_of self.now.waves net }
+        ensures there { IfSome result (λ slot. slot < length self.now.waves) }
+    {
+        match place_of(&self.tables.places, net) {
+            Some(slot) => Some(slot as usize),
+            None => None,
+        }
+    }
+
+    // The span of a wave's new ticks, None where its process can't go on.
+    pub(crate) fn next_span(&self, slot: usize) -> Option<Span>
+        requires { slot < length self.now.waves }
+        ensures { MatchOption result (reach_at self.now slot ≤ (slot_wave self.now slot).clock) (λ span. IsNextSpan self.now slot span) }
+    {
+        let wave = &self.waves[slot];
+        let from = wave.clock();
+        let until = self.processes[slot].reach(self.horizon, &self.waves, from);
+        if until <= from {
+            return None;
+        }
+        Some(Span {
+            before: wave.last_level(),
+            from,
+            until,
+        })
+    }
+
+    // The same by the place of the net's wave.
+    fn step_at(&mut self, slot: usize) -> Result<Option<Piece>, AllocError>
+        requires { slot < length self.old.waves }
+        ensures part { IfOk result (λ part. part ≡ new_part self.old slot) }
+        ensures waves { OnOk result (self.new.waves ≡ new_waves_at self.old slot) }
+        ensures before { (slot_wave self.old slot).clock < reach_at self.old slot → last_level (slot_wave self.old slot).kept (slot_wave self.old slot).changes ≡ level_before (level_at (slot_wave self.old slot).kept (slot_wave self.old slot).changes) (slot_wave self.old slot).clock }
+        ensures unchanged { OnErr result (self.new ≡ self.old) }
+        ensures same { IsSameButWaves self.old self.new }
+    {
+        let Some(span) = self.next_span(slot) else {
+            return Ok(None);
+        };
+        let room = Vec::new(*self.waves.allocator());
+        let changes = self.processes[slot].changes(room, self.horizon, &self.waves, span)?;
+        let piece = self.waves[slot].grow(span.until, changes)?;
+        Ok(Some(piece))
+    }
+
+    // The place of an input wave of a net.
+    pub(crate) fn input_place(&self, net: u32) -> Option<usize>
+        ensures place { result ≡ input_slot self.now net }
+        ensures there { IfSome result (λ slot. slot < length self.now.waves) }
+    {
+        match self.place(net) {
+            Some(slot) => {
+                if self.processes[slot].is_given() {
+                    Some(slot)
+                } else {
+                    None
+                }
+            }
+            None => None,
+        }
+    }
+
+    // The place of the wave of a net that is driven here.
+    pub(crate) fn output_place(&self, net: u32) -> Option<usize>
+        ensures place { result ≡ output_slot self.now net }
+        ensures there { IfSome result (λ slot. slot < length self.now.waves) }
+    {
+        match self.place(net) {
+            Some(slot) => {
+                if self.processes[slot].is_given() {
+                    None
+                } else {
+                    Some(slot)
+                }
+            }
+            None => None,
+        }
+    }
+
+    /// Gives a piece to the input wave of its net, and answers the new clock.
+    pub fn deliver(&mut self, piece: &Piece) -> Result<u32, DeliverFault>
+        ensures ok { OnOk result (delivered self.old piece.now ≡ Ok (wave_at self.new.waves piece.now.net)) }
+        ensures waves { OnOk result (self.new.waves ≡ with_wave self.old.waves (wave_at self.new.waves piece.now.net)) }
+        ensures clock { IfOk result (λ clock. clock ≡ (wave_at self.new.waves piece.now.net).clock) }
+        ensures fault { IfErr result (λ fault. RefusesDelivery fault (delivered self.old piece.now)) }
+        ensures unchanged { OnErr result (self.new ≡ self.old) }
+        ensures same { IsSameButWaves self.old self.new }
+    {
+        match self.input_place(piece.net()) {
+            Some(slot) => match self.deliver_at(slot, piece) {
+                Ok(clock) => Ok(clock),
+                Err(fault) => Err(refusal(fault)),
+            },
+            None => Err(DeliverFault::Stranger),
+        }
+    }
+
+    // The same by the wave's place.
+    fn deliver_at(&mut self, slot: usize, piece: &Piece) -> Result<u32, WaveFault>
+        requires { slot < length self.old.waves }
+        ensures ok { OnOk result (taken (slot_wave self.old slot) piece.now ≡ Ok (slot_wave self.new slot)) }
+        ensures waves { self.new.waves ≡ slice_set self.old.waves slot (slot_wave self.new slot) }
+        ensures clock { IfOk result (λ clock. clock ≡ (slot_wave self.new slot).clock) }
+        ensures net { (slot_wave self.new slot).net ≡ (slot_wave self.old slot).net }
+        ensures fault { IfErr result (λ fault. RefusesAs fault (taken (slot_wave self.old slot) piece.now)) }
+        ensures unchanged { OnErr result (self.new ≡ self.old) }
+        ensures same { IsSameButWaves self.old self.new }
+    {
+        let wave = &mut self.waves[slot];
+        wave.take(piece)
+    }
+
+    /// Tells a promise to the input wave of its net.
+    pub fn hear(&mut self, promise: Promise) -> Result<Heard, Stranger>
+        ensures answer { result ≡ heard_at self.old promise (input_slot self.old promise.net) }
+        ensures waves { OnOk result (self.new.waves ≡ with_wave self.old.waves (heard_wave (wave_at self.old.waves promise.net) promise)) }
+        ensures unchanged { OnErr result (self.new ≡ self.old) }
+        ensures same { IsSameButWaves self.old self.new }
+    {
+        match self.input_place(promise.net) {
+            Some(slot) => Ok(self.hear_at(slot, promise)),
+            None => Err(Stranger),
+        }
+    }
+
+    // The same by the wave's place.
+    fn hear_at(&mut self, slot: usize, promise: Promise) -> Heard
+        requires { slot < length self.old.waves }
+        ensures answer { result ≡ hears (slot_wave self.old slot) promise }
+        ensures waves { self.new.waves ≡ slice_set self.old.waves slot (heard_wave (slot_wave self.old slot) promise) }
+        ensures same { IsSameButWaves self.old self.new }
+    {
+        let wave = &mut self.waves[slot];
+        wave.hear(promise)
+    }
+}

@@ -1,0 +1,123 @@
+//! Which cluster has the process of each net.
+
+ghost use Rattle.std.specs.Prelude.{◌≡◌, ◌<◌, ◌%◌, ◌||◌, nat_lt, map, IfOk};
+ghost use Rattle.std.specs.List.{range_with_len};
+ghost use Rattle.cmb_core.specs.Faults.{number_of_clustering_fault};
+
+use crate::below::all_below;
+use std::alloc::{AllocError, Global};
+use std::marker::Model;
+use thiserror::Error;
+
+/// Why an assignment of nets to clusters is refused.
+#[derive(Clone, Copy, Debug, PartialEq, Eq, Error)]
+pub enum ClusteringFault {
+    #[error("the number of clusters is not from 1 to 64")]
+    Clusters,
+    #[error("not one cluster for each net")]
+    Assign,
+    #[error("out of memory")]
+    Memory,
+}
+
+impl ClusteringFault {
+    /// The fault's number: 40, 41 or 70.
+    pub fn number(&self) -> u32
+        ensures { result ≡ number_of_clustering_fault self.now }
+    {
+        match self {
+            ClusteringFault::Clusters => 40,
+            ClusteringFault::Assign => 41,
+            ClusteringFault::Memory => 70,
+        }
+    }
+}
+
+// Whether there can't be so many clusters.
+fn is_unlawful(clusters: u32) -> bool
+    ensures { result ≡ (nat_lt clusters 1 || nat_lt 64 clusters) }
+{
+    clusters < 1 || clusters > 64
+}
+
+// The clusters in turn, net by net.
+fn in_turn(alloc: Global, nets: u32, clusters: u32) -> Result<Vec<u32>, AllocError>
+    requires { 0 < clusters }
+    ensures { IfOk result (λ assign. assign.items ≡ map (λ net. net % clusters) (range_with_len 0 nets)) }
+{
+    let mut assign = Vec::with_capacity(alloc, nets as usize)?;
+    for net in 0..nets {
+        assign.push(net % clusters)?;
+    }
+    Ok(assign)
+}
+
+/// The cluster of each net.
+#[derive(Debug, Drop)]
+pub struct Clustering {
+    clusters: u32,
+    assign: Vec<u32>,
+}
+
+impl Model for Clustering {
+    ghost use Rattle.cmb_core.specs.Clustering.{Clustering};
+
+    ghost Value = { Clustering };
+
+    ghost view = { λ a. record { clusters = a.clusters; assign = a.assign.items } };
+}
+
+impl Clustering {
+    ghost use Rattle.std.specs.Prelude.{◌≡◌, ◌<◌, Ok, IfOk, IfErr, length, slice_index};
+    ghost use Rattle.cmb_core.specs.Assigns.{checked_clustering, spread_clustering, RefusesClustering};
+    ghost use Rattle.cmb_core.specs.Clustering.{cluster_of};
+
+    /// A clustering of these assignments.
+    pub fn new(nets: u32, clusters: u32, assign: Vec<u32>) -> Result<Clustering, ClusteringFault>
+        ensures { result ≡ checked_clustering nets clusters assign.items }
+    {
+        if is_unlawful(clusters) {
+            return Err(ClusteringFault::Clusters);
+        }
+        if assign.len() != nets as usize || !all_below(&assign, clusters) {
+            return Err(ClusteringFault::Assign);
+        }
+        Ok(Clustering { clusters, assign })
+    }
+
+    /// Net n goes to cluster `n mod clusters`.
+    pub fn spread(alloc: Global, nets: u32, clusters: u32) -> Result<Clustering, ClusteringFault>
+        ensures ok { IfOk result (λ spread. spread_clustering nets clusters ≡ Ok spread) }
+        ensures fault { IfErr result (λ fault. RefusesClustering fault (spread_clustering nets clusters)) }
+    {
+        if is_unlawful(clusters) {
+            return Err(ClusteringFault::Clusters);
+        }
+        let Ok(assign) = in_turn(alloc, nets, clusters) else {
+            return Err(ClusteringFault::Memory);
+        };
+        Ok(Clustering { clusters, assign })
+    }
+
+    /// How many nets it is for.
+    pub fn nets(&self) -> usize
+        ensures { result ≡ length self.now.assign }
+    {
+        self.assign.len()
+    }
+
+    /// How many clusters there are.
+    pub fn clusters(&self) -> u32
+        ensures { result ≡ self.now.clusters }
+    {
+        self.clusters
+    }
+
+    /// The cluster of a net.
+    pub fn of(&self, net: u32) -> u32
+        requires { net < length self.now.assign }
+        ensures { result ≡ cluster_of self.now net }
+    {
+        self.assign[net as usize]
+    }
+}

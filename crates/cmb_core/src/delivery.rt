@@ -1,0 +1,69 @@
+//! Why a cluster refuses a piece.
+
+ghost use Rattle.std.specs.Prelude.{◌≡◌};
+ghost use Rattle.cmb_core.specs.Deliveries.{delivery_fault, fault_of_event};
+ghost use Rattle.cmb_core.specs.Faults.{number_of_deliver_fault};
+
+use crate::event::PlayFault;
+use cmb_wave::WaveFault;
+use thiserror::Error;
+
+/// Why a cluster refuses a piece.
+#[derive(Clone, Copy, Debug, PartialEq, Eq, Error)]
+pub enum DeliverFault {
+    #[error("the cluster has no input wave of the net")]
+    Stranger,
+    #[error("the piece begins after {clock}")]
+    Gap { clock: u32 },
+    #[error("the piece ends by {clock}")]
+    Old { clock: u32 },
+    #[error("no change at {tick}")]
+    Clash { tick: u32 },
+    #[error("out of memory")]
+    Memory,
+}
+
+impl DeliverFault {
+    /// The fault's number: 42 to 44, 47 or 70.
+    pub fn number(&self) -> u32
+        ensures { result ≡ number_of_deliver_fault self.now }
+    {
+        match self {
+            DeliverFault::Stranger => 44,
+            DeliverFault::Gap { .. } => 42,
+            DeliverFault::Old { .. } => 43,
+            DeliverFault::Clash { .. } => 47,
+            DeliverFault::Memory => 70,
+        }
+    }
+}
+
+/// The cluster has no input wave of the net.
+#[derive(Clone, Copy, Debug, PartialEq, Eq, Error)]
+#[error("the cluster has no input wave of the net")]
+pub struct Stranger;
+
+/// A wave's fault as that of its cluster.
+pub fn refusal(fault: WaveFault) -> DeliverFault
+    ensures { result ≡ delivery_fault fault }
+{
+    match fault {
+        WaveFault::Gap { clock } => DeliverFault::Gap { clock },
+        WaveFault::Old { clock } => DeliverFault::Old { clock },
+        WaveFault::Clash { tick } => DeliverFault::Clash { tick },
+        WaveFault::Memory => DeliverFault::Memory,
+    }
+}
+
+/// A cluster's fault as that of an event.
+pub fn play_fault(fault: DeliverFault) -> PlayFault
+    ensures { result ≡ fault_of_event fault }
+{
+    match fault {
+        DeliverFault::Stranger => PlayFault::Stranger,
+        DeliverFault::Gap { clock } => PlayFault::Gap { clock },
+        DeliverFault::Old { clock } => PlayFault::Old { clock },
+        DeliverFault::Clash { tick } => PlayFault::Clash { tick },
+        DeliverFault::Memory => PlayFault::Memory,
+    }
+}

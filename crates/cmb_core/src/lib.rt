@@ -1,0 +1,26 @@
+//! Processes that step, clusters of them, and the world of five events.
+#![tactic(auto)]
+
+pub mod advance;
+pub mod below;
+pub mod cluster;
+pub mod clustering;
+pub mod delivery;
+pub mod event;
+pub mod gate;
+pub mod laws;
+pub mod merge;
+pub mod node;
+mod open;
+pub mod pins;
+pub mod process;
+mod readers;
+mod reads;
+mod stepping;
+pub mod tables;
+mod trim;
+
+pub use cluster::Cluster;
+pub use clustering::{Clustering, ClusteringFault};
+pub use delivery::{DeliverFault, Stranger};
+pub use event::{Event, PlayFault, Reply};

@@ -1,0 +1,120 @@
+//! What a cluster answers of its waves as they stand.
+
+ghost use Rattle.std.specs.Prelude.{◌≡◌, ◌<◌, ◌≤◌, ◌==◌, ◌&&◌, not, ℕ, IfOk, map, length};
+ghost use Rattle.std.specs.List.{list_all};
+ghost use Rattle.cmb_wave.specs.Calls.{cut, promised};
+ghost use Rattle.cmb_design.specs.Design.{Design};
+ghost use Rattle.cmb_core.specs.Clustering.{Clustering as Clusters};
+ghost use Rattle.cmb_core.specs.Clusters.{IsDrivenHere, driven_waves, inputs_of, input_slot, is_complete, output_slot, outputs_of, told_at};
+ghost use Rattle.cmb_core.specs.Opened.{IsClusterOf, own_nets, read_nets};
+ghost use Rattle.cmb_core.specs.Rows.{is_given};
+ghost use Rattle.cmb_core.specs.Step.{wave_at};
+
+use crate::cluster::Cluster;
+use crate::node::Node;
+use cmb_wave::{Piece, Promise, Wave};
+use std::alloc::AllocError;
+
+// Whether a wave that is not given is not known up to a tick.
+fn is_behind(node: &Node, wave: &Wave, upto: u32) -> bool
+    ensures { result ≡ (not (is_given node.now.rule) && not (wave.now.clock == upto)) }
+{
+    !node.is_given() && wave.clock() != upto
+}
+
+// Whether every wave that is not given is known up to a tick.
+fn all_known(nodes: &[Node], waves: &[Wave], upto: u32) -> bool
+    requires { length waves.now ≡ length nodes.now }
+    ensures { result ≡ list_all (λ wave. wave.clock == upto) (driven_waves nodes.now waves.now) }
+{
+    for slot in 0..waves.len() {
+        if is_behind(&nodes[slot], &waves[slot], upto) {
+            return false;
+        }
+    }
+    true
+}
+
+impl Cluster {
+    // The wave of a net that is driven here, of which nothing was forgotten.
+    fn driven_wave(&self, net: u32) -> &Wave
+        requires { IsDrivenHere self.now net }
+        ensures wave { result.now ≡ wave_at self.now.waves net }
+        ensures whole { (wave_at self.now.waves net).base ≡ 0 }
+    {
+        match self.output_place(net) {
+            Some(slot) => &self.waves[slot],
+            None => unreachable!(),
+        }
+    }
+
+    /// The piece of a net that is driven here from a tick up to its clock, none where that is its clock.
+    pub fn post(&self, net: u32, from: u32) -> Result<Option<Piece>, AllocError>
+        requires driven { IsDrivenHere self.now net }
+        requires known { from ≤ (wave_at self.now.waves net).clock }
+        ensures { IfOk result (λ piece. piece ≡ cut (wave_at self.now.waves net) from) }
+    {
+        self.driven_wave(net).cut(from)
+    }
+
+    /// How far a net that is driven here is known, and how many changes it has there.
+    pub fn promise(&self, net: u32) -> Promise
+        requires { IsDrivenHere self.now net }
+        ensures { result ≡ promised (wave_at self.now.waves net) }
+    {
+        self.driven_wave(net).promise()
+    }
+
+    /// The clock of a net that is driven here, None of any other.
+    pub fn out_clock(&self, net: u32) -> Option<u32>
+        ensures { result ≡ told_at (λ wave. wave.clock) self.now net (output_slot self.now net) }
+    {
+        match self.output_place(net) {
+            Some(slot) => Some(self.waves[slot].clock()),
+            None => None,
+        }
+    }
+
+    /// The clock of an input wave, None where the cluster has none of the net.
+    pub fn in_clock(&self, net: u32) -> Option<u32>
+        ensures { result ≡ told_at (λ wave. wave.clock) self.now net (input_slot self.now net) }
+    {
+        match self.input_place(net) {
+            Some(place) => Some(self.waves[place].clock()),
+            None => None,
+        }
+    }
+
+    /// The tick from which on an input wave is kept, None where the cluster has none of the net.
+    pub fn base(&self, net: u32) -> Option<u32>
+        ensures { result ≡ told_at (λ wave. wave.base) self.now net (input_slot self.now net) }
+    {
+        match self.input_place(net) {
+            Some(slot) => Some(self.waves[slot].base()),
+            None => None,
+        }
+    }
+
+    /// The nets that are driven here, by rising number.
+    pub fn driven(&self) -> &[u32]
+        ensures nets { result.now ≡ map (λ wave. wave.net) (outputs_of self.now) }
+        ensures own { (design : Design) (clustering : Clusters) (cluster : ℕ) → IsClusterOf design clustering cluster self.now → result.now ≡ own_nets design clustering cluster }
+    {
+        self.tables.driven.as_slice()
+    }
+
+    /// The other nets that they read, by rising number.
+    pub fn inputs(&self) -> &[u32]
+        ensures nets { result.now ≡ map (λ wave. wave.net) (inputs_of self.now) }
+        ensures read { (design : Design) (clustering : Clusters) (cluster : ℕ) → IsClusterOf design clustering cluster self.now → result.now ≡ read_nets design clustering cluster }
+    {
+        self.tables.inputs.as_slice()
+    }
+
+    /// Whether every net that is driven here is known up to the horizon.
+    pub fn complete(&self) -> bool
+        ensures { result ≡ is_complete self.now }
+    {
+        all_known(&self.processes, &self.waves, self.horizon)
+    }
+}

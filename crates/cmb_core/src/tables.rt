@@ -1,0 +1,31 @@
+//! What a cluster looks up about its waves and its processes.
+
+ghost use Rattle.std.specs.Prelude.{◌≡◌, None, slice_index_or};
+
+/// A pin that reads a wave: the place of its process, and its delay.
+#[derive(Clone, Copy, Debug, PartialEq, Eq)]
+pub struct Reader {
+    pub slot: u32,
+    pub delay: u32,
+}
+
+/// The place of each net's wave, the nets that are driven and those that are given, and who reads each given wave.
+#[derive(Debug, Drop)]
+pub struct Tables {
+    pub places: Vec<Option<u32>>,
+    pub driven: Vec<u32>,
+    pub inputs: Vec<u32>,
+    pub readers: Vec<Vec<Reader>>,
+}
+
+/// The place of a net's wave.
+pub fn place_of(places: &[Option<u32>], net: u32) -> Option<u32>
+    ensures { result ≡ slice_index_or places.now net None }
+{
+    let net = net as usize;
+    if net < places.len() {
+        places[net]
+    } else {
+        None
+    }
+}

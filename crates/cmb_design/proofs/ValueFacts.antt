@@ -1,0 +1,86 @@
+-- The equations of `value`, and that each use in them is of an earlier tick.
+use Rattle.std.proofs.Common.{◌≡◌, ℕ, zero, suc, ◌+◌, ◌-◌, ◌*◌, ◌/◌, ◌<◌, ◌≤◌, true, false, List, [], ◌∷◌, ◌⊎◌, inl, inr, Some, None, refl, ap, ◌∙◌, arith, ltb}
+use Rattle.std.proofs.lemmas.Bool.{lt-ltb, le-ltb, cases_lt}
+use Rattle.cmb_wave.specs.declared.level.Level.{Level}
+use Rattle.cmb_bench.specs.declared.netlist.Kind.{Kind}
+use Rattle.cmb_bench.specs.declared.netlist.Driver.{Driver}
+use Rattle.cmb_bench.specs.declared.netlist.Driver.TheVariants.{Input, Gate, Flop}
+use Rattle.cmb_bench.specs.Netlist.{driver_of}
+use Rattle.cmb_design.specs.Design.{Design}
+use Rattle.cmb_design.specs.Gate.{gate}
+use Rattle.cmb_design.specs.Timing.{delay, stimulus, clock_of, last_sample}
+use Rattle.cmb_design.specs.declared.rows.Clock.{Clock}
+use Rattle.cmb_design.specs.Value.{delayed, pin_levels, flop_level, driven_level, level_within, value}
+use Rattle.cmb_design.proofs.AskFacts.{clock_of-positive}
+use Rattle.cmb_design.proofs.SampleFacts.{delay-positive, last_sample-none, last_sample-some}
+
+-- two waveforms are the same at ticks before this one
+abbrev pub AgreeBefore : ℕ → (ℕ → Level) → (ℕ → Level) → Type 0
+AgreeBefore tick f g = (t : ℕ) → t < tick → f t ≡ g t
+
+pub delayed-agrees : (tick ticks : ℕ) (f g : ℕ → Level) → 1 ≤ ticks → AgreeBefore tick f g → delayed f ticks tick ≡ delayed g ticks tick
+delayed-agrees tick ticks f g positive agree = go (cases_lt tick ticks)
+  where
+    go : (tick < ticks) ⊎ (ticks ≤ tick) → delayed f ticks tick ≡ delayed g ticks tick
+    go (inl l) = let e : ltb tick ticks ≡ true = lt-ltb tick ticks l in rw e
+    go (inr l) = let e : ltb tick ticks ≡ false = le-ltb tick ticks l in rw e (agree (tick - ticks) (omega arith))
+
+module _ (design : Design) (f g : ℕ → ℕ → Level) (net tick : ℕ) (agree : (m : ℕ) → AgreeBefore tick (f m) (g m)) where
+  pub pin_levels-agree : (pin : ℕ) (operands : List ℕ) → pin_levels design f net tick pin operands ≡ pin_levels design g net tick pin operands
+  pin_levels-agree pin [] = refl
+  pin_levels-agree pin (operand ∷ operands) =
+      let here : delayed (f operand) (delay design net pin) tick ≡ delayed (g operand) (delay design net pin) tick = delayed-agrees tick (delay design net pin) (f operand) (g operand) (delay-positive design net pin) (agree operand) in
+      rw (here, pin_levels-agree (suc pin) operands)
+
+  pub flop_level-agrees : (source : ℕ) → flop_level design (f source) net tick ≡ flop_level design (g source) net tick
+  flop_level-agrees source = go (cases_lt tick (delay design net 1)) (cases_lt (tick - delay design net 1) (clock_of design net).first)
+    where
+      clock : Clock
+      clock = clock_of design net
+
+      past : ℕ
+      past = tick - delay design net 1
+
+      go : (tick < delay design net 1) ⊎ (delay design net 1 ≤ tick) → (past < clock.first) ⊎ (clock.first ≤ past) → flop_level design (f source) net tick ≡ flop_level design (g source) net tick
+      go (inl l) _ = let e : ltb tick (delay design net 1) ≡ true = lt-ltb tick (delay design net 1) l in rw e
+      go (inr l) (inl k) =
+          let e : ltb tick (delay design net 1) ≡ false = le-ltb tick (delay design net 1) l in
+          let none : last_sample clock past ≡ None = last_sample-none clock past k in
+          rw (e, none)
+      go (inr l) (inr k) =
+          let e : ltb tick (delay design net 1) ≡ false = le-ltb tick (delay design net 1) l in
+          let some : last_sample clock past ≡ Some (clock.first + (past - clock.first) / clock.period * clock.period) = last_sample-some clock past k in
+          rw (e, some) (agree source (clock.first + (past - clock.first) / clock.period * clock.period) (let at_least : 1 ≤ delay design net 1 = delay-positive design net 1 in let positive : 1 ≤ clock.period = clock_of-positive design net in omega arith))
+
+  pub driven_level-agrees : (driver : Driver) → driven_level design f net tick driver ≡ driven_level design g net tick driver
+  driven_level-agrees Input = refl
+  driven_level-agrees (Gate kind operands) = ap (gate kind) (pin_levels-agree 1 operands)
+  driven_level-agrees (Flop source) = flop_level-agrees source
+
+-- ---- the fuel doesn't matter, so long as it lasts
+
+pub level_within-enough : (design : Design) (drivers others net tick : ℕ) → tick < drivers → tick < others → level_within design drivers net tick ≡ level_within design others net tick
+unfolding level_within
+level_within-enough design zero others net tick a b = absurd (omega arith)
+level_within-enough design (suc drivers) zero net tick a b = absurd (omega arith)
+level_within-enough design (suc drivers) (suc others) net tick a b =
+    driven_level-agrees design (level_within design drivers) (level_within design others) net tick
+    (λ m t earlier. level_within-enough design drivers others m t (omega arith) (omega arith))
+    (driver_of design.netlist net)
+
+-- the equation of `value`: the level of a net is what its driver gives, from the values at earlier ticks
+pub value-is : (design : Design) (net tick : ℕ) → value design net tick ≡ driven_level design (value design) net tick (driver_of design.netlist net)
+unfolding value
+value-is design net tick =
+    driven_level-agrees design (level_within design tick) (value design) net tick
+    (λ m t earlier. level_within-enough design tick (suc t) m t earlier (omega arith))
+    (driver_of design.netlist net)
+
+pub value-at_input : (design : Design) (net tick : ℕ) → driver_of design.netlist net ≡ Input → value design net tick ≡ stimulus design net tick
+value-at_input design net tick e = value-is design net tick ∙ ap (driven_level design (value design) net tick) e
+
+pub value-at_gate : (design : Design) (net tick : ℕ) (kind : Kind) (operands : List ℕ) → driver_of design.netlist net ≡ Gate kind operands → value design net tick ≡ gate kind (pin_levels design (value design) net tick 1 operands)
+value-at_gate design net tick kind operands e = value-is design net tick ∙ ap (driven_level design (value design) net tick) e
+
+pub value-at_flop : (design : Design) (net tick source : ℕ) → driver_of design.netlist net ≡ Flop source → value design net tick ≡ flop_level design (value design source) net tick
+value-at_flop design net tick source e = value-is design net tick ∙ ap (driven_level design (value design) net tick) e

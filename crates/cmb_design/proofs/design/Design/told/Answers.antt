@@ -1,0 +1,16 @@
+use Rattle.std.proofs.Common.{◌<◌, ◌∙◌, arith, length, sym}
+use Rattle.cmb_design.proofs.AskFacts.{changes-at, length-changes}
+use Rattle.cmb_design.proofs.design.Design.told.Goals as goal
+
+pub index-requires : goal.index-requires
+index-requires c =
+    let i = c.self.inside in
+    let h : c.args.net < length i.netlist.names = rw (sym c.self.view_is) at c.requires in
+    omega (arith, h, length-changes i.netlist i.stimuli 4294967296 i.tables.changes.items c.self.invariant.changes)
+
+pub returns-clause-value : goal.returns-clause-value
+returns-clause-value c =
+    let i = c.self.inside in
+    let h : c.args.net < length i.netlist.names = rw (sym c.self.view_is) at c.requires in
+    let e = changes-at i.netlist i.stimuli 4294967296 i.tables.changes.items c.args.net c.index.result.now c.self.invariant.changes h c.index.ensures in
+    rw (← c.self.view_is) (c.as_slice.ensures.value ∙ e)

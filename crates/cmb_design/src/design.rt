@@ -1,0 +1,216 @@
+//! The design as one value.
+
+ghost use Rattle.std.specs.Prelude.{◌≡◌, ◌⊎◌, ◌<◌, ◌≤◌, length, IfOk, IfErr, IfSome};
+ghost use Rattle.cmb_design.specs.Checks.{FollowsChecks, first_fault};
+ghost use Rattle.cmb_design.specs.declared.fault.DesignFault.TheVariants as fault;
+ghost use Rattle.cmb_design.specs.Inside.{AreTables};
+ghost use Rattle.cmb_design.specs.Nets.{pins_at};
+ghost use Rattle.cmb_design.specs.Timing.{clock_of, delay as design_delay, last_sample, next_sample, stimulus};
+ghost use Rattle.cmb_design.specs.Lawful.{IsDesign};
+ghost use Rattle.cmb_design.specs.Ranges.{IsDelay};
+ghost use Rattle.cmb_wave.specs.Waveform.{changes_between};
+ghost use Rattle.cmb_design.specs.Design.{design_of};
+ghost use Rattle.cmb_design.specs.Settings.{design_checks};
+
+use crate::clocks::take_clocks;
+use crate::delays::{all_delays, lay_out, take_delays};
+use crate::fault::DesignFault;
+use crate::rows::{Clock, ClockRows, DelayRows, StimulusRows};
+use crate::samples::{clock_for_all, last_at, level_told, next_at, told_before};
+use crate::settings::{Settings, check_settings};
+use crate::stimuli::stimuli_changes;
+use cmb_bench::Netlist;
+use cmb_wave::{Change, Level};
+use std::alloc::Global;
+use std::marker::Model;
+
+/// The tables that a design is asked by.
+#[derive(Drop)]
+pub(crate) struct Tables {
+    starts: Vec<usize>,
+    delays: Vec<u32>,
+    changes: Vec<Vec<Change>>,
+    own_clocks: Vec<Option<Clock>>,
+}
+
+fn make_tables(
+    alloc: Global,
+    netlist: &Netlist,
+    delays: &DelayRows,
+    stimuli: &StimulusRows,
+    clocks: &ClockRows,
+    settings: Settings,
+) -> Result<Tables, DesignFault>
+    ensures ok { let design = design_of netlist.now settings delays.now stimuli.now clocks.now in
+        IfOk result (λ tables. (first_fault (design_checks design) ≡ None) × AreTables design tables) }
+    ensures err { let design = design_of netlist.now settings delays.now stimuli.now clocks.now in
+        IfErr result (λ e. (e ≡ fault.Memory) ⊎ (first_fault (design_checks design) ≡ Some e)) }
+{
+    let clock_rows = clocks.as_slice();
+    check_settings(
+        alloc,
+        netlist,
+        settings.horizon,
+        settings.common_clock(),
+        clock_rows,
+    )?;
+    let layout = lay_out(alloc, netlist)?;
+    let delay_rows = delays.as_slice();
+    let places = take_delays(alloc, netlist, &layout.starts, layout.size, delay_rows)?;
+    let changes = stimuli_changes(alloc, netlist, stimuli.as_slice())?;
+    let own_clocks = take_clocks(alloc, netlist, clock_rows)?;
+    let Ok(pin_delays) = all_delays(alloc, netlist, &layout.starts, &places, delay_rows) else {
+        return Err(DesignFault::Memory);
+    };
+    Ok(Tables {
+        starts: layout.starts,
+        delays: pin_delays,
+        changes,
+        own_clocks,
+    })
+}
+
+/// A netlist with all that its waveforms depend on.
+#[derive(Drop)]
+pub struct Design {
+    netlist: Netlist,
+    horizon: u32,
+    init: Level,
+    clock: Option<Clock>,
+    delays: DelayRows,
+    stimuli: StimulusRows,
+    clocks: ClockRows,
+    tables: Tables,
+}
+
+impl Model for Design {
+    ghost use Rattle.cmb_design.specs.Design.{Design};
+
+    ghost Value = { Design };
+
+    ghost use Rattle.cmb_design.specs.Inside.{AreTables};
+
+    ghost view = { λ a. record { netlist = a.netlist; horizon = a.horizon; init = a.init; clock = a.clock; delays = a.delays; stimuli = a.stimuli; clocks = a.clocks } };
+
+    ghost invariant = { λ a. AreTables (record { netlist = a.netlist; horizon = a.horizon; init = a.init; clock = a.clock; delays = a.delays; stimuli = a.stimuli; clocks = a.clocks }) a.tables };
+}
+
+impl Design {
+    /// A design, or the first fault of its settings and rows: 20, 21 and 22 in order; then the delay rows in order, each
+    /// by 26, 29, 32 and 35; then the stimulus rows, each by 26, 29 and 30; then the clock rows, each by 26, 29 and 37.
+    /// `Memory` (70) comes where a growth was refused. The values are given up on a refusal.
+    pub fn new(
+        alloc: Global,
+        netlist: Netlist,
+        delays: DelayRows,
+        stimuli: StimulusRows,
+        clocks: ClockRows,
+        settings: Settings,
+    ) -> Result<Design, DesignFault>
+        ensures { let design = design_of netlist settings delays stimuli clocks in
+            FollowsChecks (design_checks design) design result }
+    {
+        let tables = make_tables(alloc, &netlist, &delays, &stimuli, &clocks, settings)?;
+        Ok(Design {
+            netlist,
+            horizon: settings.horizon,
+            init: settings.init,
+            clock: settings.common_clock(),
+            delays,
+            stimuli,
+            clocks,
+            tables,
+        })
+    }
+
+    /// The horizon in ticks, 1 to 1,000,000: the ticks below it are simulated.
+    pub fn horizon(&self) -> u32
+        ensures value { result ≡ self.now.horizon }
+        ensures small { (1 ≤ result) × (result ≤ 1000000) }
+        ensures lawful { IsDesign self.now }
+    {
+        self.horizon
+    }
+
+    /// The level of a flip-flop before it first sampled.
+    pub fn init(&self) -> Level
+        ensures { result ≡ self.now.init }
+    {
+        self.init
+    }
+
+    /// The netlist.
+    pub fn netlist(&self) -> &Netlist
+        ensures { result.now ≡ self.now.netlist }
+    {
+        &self.netlist
+    }
+
+    /// The delay, in ticks, from a pin of a net's driver to the net: that of the pin's row, else of the net's, else of the
+    /// kind's, else 1. Pins count from 1 in the order of operands; a flip-flop's data is pin 1.
+    pub fn delay(&self, net: usize, pin: usize) -> u32
+        requires net { net < length self.now.netlist.names }
+        requires low { 1 ≤ pin }
+        requires high { pin ≤ pins_at self.now.netlist net }
+        ensures value { result ≡ design_delay self.now net pin }
+        ensures small { IsDelay result }
+    {
+        self.tables.delays[self.tables.starts[net] + (pin - 1)]
+    }
+
+    /// The changes of a net by its stimulus, also those from the horizon on.
+    fn told(&self, net: usize) -> &[Change]
+        requires { net < length self.now.netlist.names }
+        ensures value { result.now ≡ changes_between (stimulus self.now net) 0 4294967296 }
+        ensures lawful { IsDesign self.now }
+    {
+        self.tables.changes[net].as_slice()
+    }
+
+    /// The changes below the horizon of an input net by its stimulus.
+    pub fn stim_changes(&self, net: usize) -> &[Change]
+        requires { net < length self.now.netlist.names }
+        ensures { result.now ≡ changes_between (stimulus self.now net) 0 self.now.horizon }
+    {
+        told_before(self.told(net), self.horizon())
+    }
+
+    /// The level of an input net at a tick by its stimulus.
+    pub fn stim(&self, net: usize, tick: u32) -> Level
+        requires { net < length self.now.netlist.names }
+        ensures { result ≡ stimulus self.now net tick }
+    {
+        level_told(self.told(net), tick)
+    }
+
+    /// The sampling clock of a net.
+    pub fn clock(&self, net: usize) -> Clock
+        requires { net < length self.now.netlist.names }
+        ensures value { result ≡ clock_of self.now net }
+        ensures lawful { IsDesign self.now }
+    {
+        match self.tables.own_clocks[net] {
+            Some(clock) => clock,
+            None => clock_for_all(self.clock),
+        }
+    }
+
+    /// The greatest sample tick of a flip-flop's net that is at most this tick.
+    pub fn last(&self, net: usize, tick: u32) -> Option<u32>
+        requires { net < length self.now.netlist.names }
+        ensures value { result ≡ last_sample (clock_of self.now net) tick }
+        ensures small { IfSome result (λ sample. sample ≤ tick) }
+    {
+        last_at(self.clock(net), tick)
+    }
+
+    /// The least sample tick of a flip-flop's net that is at least this tick, which is at most the horizon.
+    pub fn next(&self, net: usize, tick: u32) -> u32
+        requires net { net < length self.now.netlist.names }
+        requires tick { tick ≤ self.now.horizon }
+        ensures value { result ≡ next_sample (clock_of self.now net) tick }
+        ensures small { (tick ≤ result) × (result < 2000000) }
+    {
+        next_at(self.clock(net), tick)
+    }
+}

@@ -1,0 +1,107 @@
+//! Why there is no design.
+
+ghost use Rattle.std.specs.Prelude.{◌≡◌};
+
+use thiserror::Error;
+
+/// Why a table, the settings or the rows make no design. A fault of a table or of its rows holds the number of the record at
+/// which it stands; the header is record 1.
+#[derive(Clone, Copy, Debug, PartialEq, Eq, Error)]
+pub enum DesignFault {
+    #[error("the horizon isn't 1 to 1,000,000")]
+    Horizon,
+    #[error("the common clock's first tick is above 1,000,000, or its period isn't 1 to 1,000,000")]
+    Clock,
+    #[error("a flip-flop has no clock row, and there is no common clock")]
+    NoClock,
+    #[error("record {0}: not the table's header")]
+    Header(u32),
+    #[error("record {0}: not three fields")]
+    Fields(u32),
+    #[error("record {0}: a number is 1 to 10 digits")]
+    Number(u32),
+    #[error("record {0}: the netlist hasn't this net")]
+    UnknownNet(u32),
+    #[error("record {0}: no such kind")]
+    UnknownKind(u32),
+    #[error("record {0}: the delay isn't 1 to 1,000,000")]
+    DelayRange(u32),
+    #[error("record {0}: an earlier row is about the same")]
+    RepeatedRow(u32),
+    #[error("record {0}: the net isn't an input")]
+    NotInput(u32),
+    #[error("record {0}: a value is 0, 1, x or X")]
+    Level(u32),
+    #[error("record {0}: an input has no delay")]
+    DelayOfInput(u32),
+    #[error("the table of all levels would have more than 16,777,216 cells")]
+    TableTooLarge,
+    #[error("record {0}: a pin's name is a net's name, a colon and a number")]
+    PinName(u32),
+    #[error("record {0}: the net has no such pin")]
+    NoPin(u32),
+    #[error("record {0}: the first tick is above 1,000,000, or the period isn't 1 to 1,000,000")]
+    ClockRange(u32),
+    #[error("record {0}: the net isn't driven by a flip-flop")]
+    NotFlop(u32),
+    #[error("out of memory")]
+    Memory,
+}
+
+impl DesignFault {
+    ghost use Rattle.cmb_design.specs.Faults.{fault_number, fault_record};
+
+    /// The fault's number: 20 to 32, 33 to 37, or 70 where a growth was refused.
+    pub fn number(&self) -> u32
+        ensures { result ≡ fault_number self.now }
+    {
+        match self {
+            DesignFault::Horizon => 20,
+            DesignFault::Clock => 21,
+            DesignFault::NoClock => 22,
+            DesignFault::Header(_) => 23,
+            DesignFault::Fields(_) => 24,
+            DesignFault::Number(_) => 25,
+            DesignFault::UnknownNet(_) => 26,
+            DesignFault::UnknownKind(_) => 27,
+            DesignFault::DelayRange(_) => 28,
+            DesignFault::RepeatedRow(_) => 29,
+            DesignFault::NotInput(_) => 30,
+            DesignFault::Level(_) => 31,
+            DesignFault::DelayOfInput(_) => 32,
+            DesignFault::TableTooLarge => 33,
+            DesignFault::PinName(_) => 34,
+            DesignFault::NoPin(_) => 35,
+            DesignFault::ClockRange(_) => 36,
+            DesignFault::NotFlop(_) => 37,
+            DesignFault::Memory => 70,
+        }
+    }
+
+    /// The number of the record at which the fault stands, counted from 1; 0 where it stands at none.
+    pub fn record(&self) -> u32
+        ensures { result ≡ fault_record self.now }
+    {
+        match self {
+            DesignFault::Horizon
+            | DesignFault::Clock
+            | DesignFault::NoClock
+            | DesignFault::TableTooLarge
+            | DesignFault::Memory => 0,
+            DesignFault::Header(record)
+            | DesignFault::Fields(record)
+            | DesignFault::Number(record)
+            | DesignFault::UnknownNet(record)
+            | DesignFault::UnknownKind(record)
+            | DesignFault::DelayRange(record)
+            | DesignFault::RepeatedRow(record)
+            | DesignFault::NotInput(record)
+            | DesignFault::Level(record)
+            | DesignFault::DelayOfInput(record)
+            | DesignFault::PinName(record)
+            | DesignFault::NoPin(record)
+            | DesignFault::ClockRange(record)
+            | DesignFault::NotFlop(record) => *record,
+        }
+    }
+}

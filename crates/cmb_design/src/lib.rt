@@ -1,0 +1,35 @@
+//! A design: a netlist with its delays, its stimuli and its sampling clocks.
+#![tactic(auto)]
+
+pub mod clocks;
+pub mod delays;
+pub mod design;
+pub mod examples;
+pub mod fault;
+mod fields;
+pub mod gates;
+pub mod laws;
+pub mod nets;
+pub mod plain;
+mod plain_cells;
+mod plain_table;
+mod readers;
+mod records;
+pub mod rows;
+mod samples;
+pub mod settings;
+pub mod stimuli;
+mod table;
+
+pub use design::Design;
+pub use fault::DesignFault;
+pub use gates::gate;
+pub use plain::{MOST_CELLS, plain_waves};
+pub use readers::{read_clocks, read_delays, read_stimuli};
+pub use rows::{
+    Clock, ClockRow, ClockRows, DelayRow, DelayRows, Delayed, StimulusRow, StimulusRows,
+};
+pub use settings::Settings;
+
+#[cfg(test)]
+mod plain_tests;

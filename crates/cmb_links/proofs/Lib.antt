@@ -1,0 +1,10 @@
+pub mod Lists
+pub mod Newest
+pub mod NetWords
+pub mod StopWord
+pub mod EndWord
+pub mod Steps
+pub mod Allowed
+pub mod Seats
+pub mod Loads
+pub mod Links

@@ -1,0 +1,85 @@
+-- What a seat learns at the moment of a load.
+use Rattle.std.proofs.Common.{◌≡◌, ℕ, ◌+◌, ◌^◌, ◌<◌, ◌≤◌, ◌==◌, Bool, true, false, List, [], ◌∷◌, ◌++◌, if◌then◌else◌, map, slice_index, sym, refl, ap, ◌∙◌, subst, arith, All, Contains, length-append, div-add-mod'}
+use Rattle.std.proofs.lemmas.List.Elements.{All-weaker, All-contains}
+use Rattle.std.proofs.lemmas.List.{get_or_append_left}
+use Rattle.atomic_table.proofs.Lists.{at_map}
+use Rattle.cmb_wave.specs.Calls.{word_of}
+use Rattle.cmb_wave.specs.declared.level.Promise.{Promise}
+use Rattle.cmb_design.specs.Exact.{nets_of, IsRightIn}
+use Rattle.cmb_links.specs.Promises.{promise_of, newest}
+use Rattle.cmb_links.specs.Seats.{driver, after_look, after_check, after_count}
+use Rattle.cmb_links.specs.Boards.{IsKnown, Moment, published_at, any_raised, some_raised, number_finished}
+use Rattle.cmb_links.specs.declared.view.Stops.{Stops}
+use Rattle.cmb_links.specs.declared.view.View.{View}
+use Rattle.cmb_links.proofs.Lists.{list_any-at}
+use Rattle.cmb_links.proofs.Newest.{newest-net, promise_of-word_of}
+use Rattle.cmb_links.proofs.NetWords.{knows_newest}
+use Rattle.cmb_links.proofs.EndWord.{counts_itself}
+use Rattle.cmb_links.proofs.Steps.{log_here, loads, few_ended}
+
+All-front : {X : Type 0} (P : X → Type 0) (xs ys : List X) → All P (xs ++ ys) → All P xs
+All-front P xs ys a k d in' = subst P (get_or_append_left xs ys d k in') (a k d (omega (arith, length-append xs ys)))
+
+-- what the load of a net's word tells
+pub record Looked (v : View) (n : ℕ) (q : Promise) : Type 0 where
+  pub right : IsRightIn v.terms.design q
+  pub rising : All (λ (p : Promise). p.net ≡ n → p.upto ≤ q.upto) v.promised.loads
+  pub own : driver v.terms n ≡ v.place → q ≡ newest n v.promised.published
+  pub moment : Moment (after_look v q) (λ s. (slice_index s.words n ≡ word_of q) × IsKnown n (published_at s.views (driver v.terms n)) q)
+
+pub looks : (v : View) (n found : ℕ) → n < (nets_of v.terms.design) → Moment (after_look v (promise_of n found)) (λ s. slice_index s.words n ≡ found) → Looked v n (promise_of n found)
+looks v n found in' m =
+    let s = m.0 in let q : Promise = promise_of n found in let w : View = after_look v q in
+    let log : List Promise = published_at s.views (driver v.terms n) in
+    let held = m.1.nets n in' in
+    let is : q ≡ newest n log = ap (promise_of n) (sym m.3 ∙ held.held) ∙ promise_of-word_of (newest n log) n (newest-net n log) held.fits in
+    let known = All-front (λ (p : Promise). p.net ≡ n → IsKnown n log p) v.promised.loads (q ∷ []) (held.found v.place w.promised.loads (at_map loads s.views v.place w m.2)) in
+    record {
+      right = subst (IsRightIn v.terms.design) (sym is) held.right;
+      rising = All-weaker (λ (p : Promise). p.net ≡ n → IsKnown n log p) (λ (p : Promise). p.net ≡ n → p.upto ≤ q.upto)
+          (λ p h same. subst (λ (z : Promise). p.upto ≤ z.upto) (sym is) (h same).below) v.promised.loads known;
+      own = λ here. is ∙ ap (λ (l : List Promise). newest n l) (ap (published_at s.views) here ∙ log_here s v.place w m.2);
+      moment = (s, m.1, m.2, (m.3 ∙ sym (ap (λ (k : ℕ). k) (div-add-mod' found (2 ^ 32))), subst (IsKnown n log) (sym is) (knows_newest n log)));
+    }
+
+pub record Checked (v : View) (b : Bool) : Type 0 where
+  pub own : v.stops.raised ≡ true → b ≡ true
+  pub stays : Contains v.stops.loads true → b ≡ true
+  pub moment : Moment (after_check v b) (λ s. b ≡ some_raised s.views)
+
+one_or_none : (c : Bool) (x : ℕ) → x ≡ (if c then 1 else 0) → (x == 1) ≡ c
+one_or_none true x e = ap (λ (k : ℕ). k == 1) e
+one_or_none false x e = ap (λ (k : ℕ). k == 1) e
+
+pub looks_at_stop : (v : View) (k found : ℕ) → k ≡ (nets_of v.terms.design) → Moment (after_check v (found == 1)) (λ s. slice_index s.words k ≡ found) → Checked v (found == 1)
+looks_at_stop v k found here m =
+    let s = m.0 in let b : Bool = found == 1 in let w : View = after_check v b in
+    let held = m.1.stop in
+    let is : b ≡ some_raised s.views = one_or_none (some_raised s.views) found (sym m.3 ∙ ap (slice_index s.words) here ∙ held.held) in
+    let at = at_map (λ (u : View). u.stops) s.views v.place w m.2 in
+    let known = All-front (λ (c : Bool). c ≡ true → some_raised s.views ≡ true) v.stops.loads (b ∷ []) (held.found v.place w.stops at) in
+    record {
+      own = λ raised. is ∙ list_any-at (λ (x : Stops). x.raised) (map (λ (u : View). u.stops) s.views) v.place w.stops at raised;
+      stays = λ c. is ∙ All-contains (λ (x : Bool). x ≡ true → some_raised s.views ≡ true) v.stops.loads true known c refl;
+      moment = (s, m.1, m.2, is);
+    }
+
+pub record Counted (v : View) (k : ℕ) : Type 0 where
+  pub rising : All (λ (j : ℕ). j ≤ k) v.endings.loads
+  pub own : v.endings.finished ≡ true → 1 ≤ k
+  pub few : k ≤ v.terms.workers
+  pub moment : Moment (after_count v k) (λ s. k ≡ number_finished s.views)
+
+pub looks_at_end : (v : View) (i k : ℕ) → i ≡ nets_of v.terms.design + 1 → Moment (after_count v k) (λ s. slice_index s.words i ≡ k) → Counted v k
+looks_at_end v i k here m =
+    let s = m.0 in let w : View = after_count v k in
+    let held = m.1.finished in
+    let x : ℕ = slice_index s.words (nets_of v.terms.design + 1) in
+    let same : x ≡ k = ap (slice_index s.words) (sym here) ∙ m.3 in
+    let at = at_map (λ (u : View). u.endings) s.views v.place w m.2 in
+    record {
+      rising = subst (λ (y : ℕ). All (λ (j : ℕ). j ≤ y) v.endings.loads) same (All-front (λ (j : ℕ). j ≤ x) v.endings.loads (k ∷ []) (held.found v.place w.endings at));
+      own = λ finished. subst (λ (y : ℕ). 1 ≤ y) (sym held.held ∙ same) (counts_itself (map (λ (u : View). u.endings) s.views) v.place w.endings at finished);
+      few = subst (λ (y : ℕ). y ≤ v.terms.workers) same (few_ended v.terms s v.place w m.1 m.2 []);
+      moment = (s, m.1, m.2, sym same ∙ held.held);
+    }

@@ -1,0 +1,82 @@
+-- What a seat of a board knows, and how each step of the seat changes that.
+use Rattle.std.specs.Prelude.{ℕ, ◌+◌, Bool, true, false, List, [], ◌∷◌, ◌++◌, map, ◌≡◌}
+use Rattle.std.specs.List.{range_with_len}
+use Rattle.atomic_table.specs.Seated.{TableId}
+use Rattle.cmb_wave.specs.declared.level.Promise.{Promise}
+use Rattle.cmb_design.specs.Design.{Design}
+use Rattle.cmb_core.specs.Clustering.{Clustering, cluster_of}
+use Rattle.cmb_links.specs.Workers.{worker_of}
+use Rattle.cmb_links.specs.declared.view.Terms.{Terms}
+use Rattle.cmb_links.specs.declared.view.Told.{Told}
+use Rattle.cmb_links.specs.declared.view.View.{View}
+
+abbrev pub terms : Design → Clustering → ℕ → Terms
+terms design clustering workers = record { design = design; clustering = clustering; workers = workers }
+
+abbrev pub terms_of : Told → Terms
+terms_of told = terms told.design.value told.clustering.value told.workers
+
+-- the place of a net's driving seat: the worker that has the net's cluster
+abbrev pub driver : Terms → ℕ → ℕ
+driver t net = worker_of t.workers (cluster_of t.clustering net)
+
+-- a seat that has done nothing
+abbrev pub new_view : Terms → ℕ → Bool → View
+new_view t place last = record {
+  terms = t;
+  place = place;
+  is_last = last;
+  promised = record { published = []; loads = [] };
+  stops = record { raised = false; loads = [] };
+  endings = record { finished = false; loads = [] };
+}
+
+-- after it published p
+abbrev pub after_publish : View → Promise → View
+after_publish v p = record v { promised = record { published = v.promised.published ++ p ∷ []; loads = v.promised.loads } }
+
+-- after a load of a net's word found p
+abbrev pub after_look : View → Promise → View
+after_look v p = record v { promised = record { published = v.promised.published; loads = v.promised.loads ++ p ∷ [] } }
+
+-- after it raised the stop word
+abbrev pub after_raise : View → View
+after_raise v = record v { stops = record { raised = true; loads = v.stops.loads } }
+
+-- after a load of the stop word found b
+abbrev pub after_check : View → Bool → View
+after_check v b = record v { stops = record { raised = v.stops.raised; loads = v.stops.loads ++ b ∷ [] } }
+
+-- after its worker finished
+abbrev pub after_finish : View → View
+after_finish v = record v { endings = record { finished = true; loads = v.endings.loads } }
+
+-- after a load of the number of finished workers found k
+abbrev pub after_count : View → ℕ → View
+after_count v k = record v { endings = record { finished = v.endings.finished; loads = v.endings.loads ++ k ∷ [] } }
+
+-- what contracts see of a seat: which board it is of, and what it knows
+pub record SeatData : Type 0 where
+  pub board : TableId
+  pub view : View
+
+abbrev pub with_view : SeatData → View → SeatData
+with_view seat view = record { board = seat.board; view = view }
+
+abbrev pub new_seat : TableId → Terms → Bool → ℕ → SeatData
+new_seat board t last place = record { board = board; view = new_view t place last }
+
+-- the seats of a new board: one for each worker, in order, and the last one
+abbrev pub new_seats : TableId → Terms → List SeatData
+new_seats board t = map (new_seat board t false) (range_with_len 0 t.workers) ++ new_seat board t true t.workers ∷ []
+
+-- the seat is of this board, which was opened for these terms
+abbrev pub IsSeatOf : TableId → Terms → SeatData → Type 0
+IsSeatOf board t seat = (seat.board ≡ board) × (seat.view.terms ≡ t)
+
+-- the last seat cuts another, which is then the last
+abbrev pub cut_left : View → View
+cut_left v = record v { is_last = false }
+
+abbrev pub cut_right : View → View
+cut_right v = new_view v.terms (v.place + 1) true

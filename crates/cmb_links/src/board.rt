@@ -1,0 +1,259 @@
+//! The board: each net's newest promise, a stop word and the number of finished workers, in words that change in atomic steps.
+
+use crate::view::{Told, View};
+use crate::workers::Workers;
+use atomic_table::{Play, Split, Table, TableRule};
+use cmb_core::Clustering;
+use cmb_design::Design;
+use cmb_wave::Promise;
+use std::alloc::{AllocError, Global};
+use std::fmt;
+use std::marker::Model;
+use std::mem::replace;
+use std::snapshot::Snapshot;
+
+// What holds of the words and the views between any two steps.
+struct Law;
+
+impl TableRule<(), View, Told> for Law {
+    ghost use Rattle.std.specs.Prelude.{true};
+    ghost use Rattle.cmb_links.specs.Seats.{terms_of, new_view};
+    ghost use Rattle.cmb_links.specs.Boards.{IsBoard};
+
+    ghost holds = { λ told s. IsBoard (terms_of told) s };
+
+    ghost first = { λ told. new_view (terms_of told) 0 true };
+}
+
+// What the steps tell. These types are for the proofs alone.
+struct Publish;
+
+impl Play<(), View> for Publish {
+    ghost use Rattle.cmb_links.specs.Boards.{Publishes};
+
+    ghost then = { Publishes };
+}
+
+struct Look;
+
+impl Play<(), View> for Look {
+    ghost use Rattle.cmb_links.specs.Boards.{Looks};
+
+    ghost then = { Looks };
+}
+
+struct Raise;
+
+impl Play<(), View> for Raise {
+    ghost use Rattle.cmb_links.specs.Boards.{Raises};
+
+    ghost then = { Raises };
+}
+
+struct Check;
+
+impl Play<(), View> for Check {
+    ghost use Rattle.cmb_links.specs.Boards.{Checks};
+
+    ghost then = { Checks };
+}
+
+struct Finish;
+
+impl Play<(), View> for Finish {
+    ghost use Rattle.cmb_links.specs.Boards.{Finishes};
+
+    ghost then = { Finishes };
+}
+
+struct Count;
+
+impl Play<(), View> for Count {
+    ghost use Rattle.cmb_links.specs.Boards.{Counts};
+
+    ghost then = { Counts };
+}
+
+// How the last seat cuts another.
+struct Cut;
+
+impl Split<View> for Cut {
+    ghost use Rattle.cmb_links.specs.Seats.{cut_left, cut_right};
+
+    ghost left = { cut_left };
+
+    ghost right = { cut_right };
+}
+
+/// The words that all threads share. Contracts see which board it is.
+#[derive(Drop)]
+pub struct Board {
+    table: Table<(), View, Told, Law, Global>,
+    nets: usize,
+}
+
+impl Model for Board {
+    ghost use Rattle.std.specs.Prelude.{◌≡◌, ◌+◌, ◌<◌, ◌^◌};
+    ghost use Rattle.atomic_table.specs.Seated.{TableId};
+
+    ghost Value = { TableId };
+
+    ghost view = { λ b. b.table.shared.table_id };
+
+    ghost invariant = { λ b. (b.table.shared.table_id.words ≡ b.nets + 2) × (b.nets < 2 ^ 32) };
+}
+
+impl fmt::Debug for Board {
+    fn fmt<W: fmt::Write>(&self, f: &mut fmt::Formatter<W>) -> fmt::Result {
+        f.pad("Board { .. }")
+    }
+}
+
+/// A thread's place at a board, with which it makes its steps. Contracts see which board it is of, and what it knows.
+#[derive(Drop)]
+pub struct Seat {
+    inner: atomic_table::Seat<(), View>,
+}
+
+impl Model for Seat {
+    ghost use Rattle.std.specs.Prelude.{◌≡◌, ◌+◌, []};
+    ghost use Rattle.cmb_design.specs.Exact.{nets_of};
+    ghost use Rattle.cmb_links.specs.Seats.{SeatData};
+
+    ghost Value = { SeatData };
+
+    ghost view = { λ s. record { board = s.inner.table_id; view = s.inner.me.0 } };
+
+    ghost invariant = { λ s. (s.inner.me.1 ≡ []) × (s.inner.table_id.words ≡ nets_of s.inner.me.0.terms.design + 2) };
+}
+
+impl fmt::Debug for Seat {
+    fn fmt<W: fmt::Write>(&self, f: &mut fmt::Formatter<W>) -> fmt::Result {
+        f.pad("Seat { .. }")
+    }
+}
+
+impl Board {
+    ghost use Rattle.std.specs.Prelude.{◌≡◌, ◌+◌, ◌<◌, ◌≤◌, true, false, IfOk, slice_index, vec_len};
+    ghost use Rattle.std.specs.List.{All, Contains};
+    ghost use Rattle.cmb_wave.specs.Calls.{word_of};
+    ghost use Rattle.cmb_design.specs.Exact.{nets_of, IsRightIn};
+    ghost use Rattle.cmb_links.specs.Promises.{newest};
+    ghost use Rattle.cmb_links.specs.Seats.{driver, after_publish, after_look, after_raise, after_check, after_finish, after_count, with_view, terms, new_seats, IsSeatOf};
+    ghost use Rattle.cmb_links.specs.Boards.{Moment, IsKnown, published_at, some_raised, number_finished};
+
+    /// A board on which nothing stands, and its seats: one for each worker, in order, and a last one that drives no net.
+    pub fn open(
+        alloc: Global,
+        design: &Design,
+        clustering: &Clustering,
+        workers: Workers,
+    ) -> Result<(Board, Vec<Seat>), AllocError>
+        ensures seats { IfOk result (λ opened. opened.1.items ≡ new_seats opened.0 (terms design.now clustering.now workers)) }
+        ensures count { IfOk result (λ opened. vec_len opened.1 ≡ workers + 1) }
+        ensures board { IfOk result (λ opened. All (IsSeatOf opened.0 (terms design.now clustering.now workers)) opened.1.items) }
+    {
+        let nets = design.netlist().len();
+        let count = workers.count();
+        let words = Vec::from_elem(alloc, 0u64, nets + 2)?;
+        let mut seats = Vec::with_capacity(alloc, count as usize + 1)?;
+        let told = Told {
+            design: Snapshot::of(design),
+            clustering: Snapshot::of(clustering),
+            workers: count,
+        };
+        let (table, mut last) = Table::of_words(alloc, words.as_slice(), &told)?;
+        for _place in 0..count {
+            let next = table.shared.split_seat::<Cut>(&mut last);
+            seats.push_reserved(Seat {
+                inner: replace(&mut last, next),
+            });
+        }
+        seats.push_reserved(Seat { inner: last });
+        Ok((Board { table, nets }, seats))
+    }
+
+    /// Stores a promise in its net's word. The seat's worker drives the net, and the promise is right and not below the seat's last one for that net.
+    pub fn publish(&self, seat: &mut Seat, promise: Promise)
+        requires board { seat.old.board ≡ self.now }
+        requires drives { driver seat.old.view.terms promise.net ≡ seat.old.view.place }
+        requires right { IsRightIn seat.old.view.terms.design promise }
+        requires rises { (newest promise.net seat.old.view.promised.published).upto ≤ promise.upto }
+        ensures entry { seat.new ≡ with_view seat.old (after_publish seat.old.view promise) }
+        ensures moment { Moment seat.new.view (λ s. slice_index s.words promise.net ≡ word_of promise) }
+    {
+        let word = promise.word();
+        self.table
+            .shared
+            .store::<Publish>(&mut seat.inner, promise.net as usize, word);
+    }
+
+    /// The promise that a net's word holds, (0, 0) where none was published.
+    pub fn look(&self, seat: &mut Seat, net: u32) -> Promise
+        requires board { seat.old.board ≡ self.now }
+        requires net { net < nets_of seat.old.view.terms.design }
+        ensures entry { seat.new ≡ with_view seat.old (after_look seat.old.view result) }
+        ensures net { result.net ≡ net }
+        ensures right { IsRightIn seat.old.view.terms.design result }
+        ensures rising { All (λ p. p.net ≡ net → p.upto ≤ result.upto) seat.old.view.promised.loads }
+        ensures own { driver seat.old.view.terms net ≡ seat.old.view.place → result ≡ newest net seat.old.view.promised.published }
+
+        // In the step the word held the answer, which is (0, 0) or was published by the net's driving seat.
+        ensures moment { Moment seat.new.view (λ s. (slice_index s.words net ≡ word_of result) × IsKnown net (published_at s.views (driver seat.old.view.terms net)) result) }
+    {
+        let found = self
+            .table
+            .shared
+            .load::<Look>(&mut seat.inner, net as usize);
+        Promise::of_word(net, found)
+    }
+
+    /// Stores 1 in the stop word: the workers are to end.
+    pub fn raise(&self, seat: &mut Seat)
+        requires board { seat.old.board ≡ self.now }
+        ensures entry { seat.new ≡ with_view seat.old (after_raise seat.old.view) }
+        ensures moment { Moment seat.new.view (λ s. slice_index s.words (nets_of seat.old.view.terms.design) ≡ 1) }
+    {
+        self.table
+            .shared
+            .store::<Raise>(&mut seat.inner, self.nets, 1);
+    }
+
+    /// Whether some seat has raised.
+    pub fn raised(&self, seat: &mut Seat) -> bool
+        requires board { seat.old.board ≡ self.now }
+        ensures entry { seat.new ≡ with_view seat.old (after_check seat.old.view result) }
+        ensures own { seat.old.view.stops.raised ≡ true → result ≡ true }
+        ensures stays { Contains seat.old.view.stops.loads true → result ≡ true }
+        ensures moment { Moment seat.new.view (λ s. result ≡ some_raised s.views) }
+    {
+        self.table.shared.load::<Check>(&mut seat.inner, self.nets) == 1
+    }
+
+    /// Counts the seat's worker as finished, once.
+    pub fn finish(&self, seat: &mut Seat)
+        requires board { seat.old.board ≡ self.now }
+        requires worker { seat.old.view.place < seat.old.view.terms.workers }
+        requires once { seat.old.view.endings.finished ≡ false }
+        ensures entry { seat.new ≡ with_view seat.old (after_finish seat.old.view) }
+        ensures moment { Moment seat.new.view (λ s. slice_index s.words (nets_of seat.old.view.terms.design + 1) ≡ number_finished s.views) }
+    {
+        self.table
+            .shared
+            .fetch_add::<Finish>(&mut seat.inner, self.nets + 1, 1);
+    }
+
+    /// The number of workers that finished.
+    pub fn finished(&self, seat: &mut Seat) -> u32
+        requires board { seat.old.board ≡ self.now }
+        ensures entry { seat.new ≡ with_view seat.old (after_count seat.old.view result) }
+        ensures rising { All (λ k. k ≤ result) seat.old.view.endings.loads }
+        ensures own { seat.old.view.endings.finished ≡ true → 1 ≤ result }
+        ensures few { result ≤ seat.old.view.terms.workers }
+        ensures moment { Moment seat.new.view (λ s. result ≡ number_finished s.views) }
+    {
+        self.table
+            .shared
+            .load::<Count>(&mut seat.inner, self.nets + 1) as u32
+    }
+}

@@ -1,0 +1,153 @@
+//! A link hands the pieces of one design from one thread to another, whole and in order.
+
+use crate::end::{End, Ends, InOrder, Naming, Received, Sent};
+use crate::fault::LinkFault;
+use cmb_design::Design;
+use cmb_wave::Piece;
+use crossbeam_queue::{Pass, RuledArrayQueue};
+use std::alloc::{AllocError, Global};
+use std::fmt;
+use std::marker::{Brand, Model};
+use std::sync::Wait;
+use thiserror::Error;
+
+type Queue = RuledArrayQueue<Piece, End, InOrder>;
+
+/// The largest capacity of a link, in pieces.
+pub const MOST: usize = 65_536;
+
+/// The link was full, and the piece comes back.
+#[derive(Debug, Drop, Error)]
+#[error("the link is full")]
+pub struct Full(pub Piece);
+
+/// A bounded queue of pieces. Contracts see which one it is, and its capacity.
+#[derive(Drop)]
+pub struct Link {
+    queue: Queue,
+}
+
+impl Model for Link {
+    ghost use Rattle.cmb_links.specs.Links.{LinkData};
+
+    ghost Value = { LinkData };
+
+    ghost view = { λ l. record { link = l.queue.table.shared.table_id; capacity = l.queue.cap } };
+}
+
+impl fmt::Debug for Link {
+    fn fmt<W: fmt::Write>(&self, f: &mut fmt::Formatter<W>) -> fmt::Result {
+        f.pad("Link { .. }")
+    }
+}
+
+/// The end of a link that puts. Contracts see the link, its design and what was put, in order.
+#[derive(Drop)]
+pub struct PutPass {
+    pass: Pass<Piece, End>,
+}
+
+impl Model for PutPass {
+    ghost use Rattle.std.specs.Prelude.{◌≡◌, []};
+    ghost use Rattle.cmb_links.specs.Links.{PutData, putting};
+
+    ghost Value = { PutData };
+
+    ghost view = { λ p. record { link = p.pass.table_id; design = p.pass.me.0.client.design; sent = p.pass.me.0.client.pieces } };
+
+    ghost invariant = { λ p. (p.pass.me.1 ≡ []) × (p.pass.me.0.client ≡ putting p.pass.me.0.client.design p.pass.me.0.client.pieces) };
+}
+
+impl fmt::Debug for PutPass {
+    fn fmt<W: fmt::Write>(&self, f: &mut fmt::Formatter<W>) -> fmt::Result {
+        f.pad("PutPass { .. }")
+    }
+}
+
+/// The end of a link that takes. Contracts see the link, its design and what was taken, in order.
+#[derive(Drop)]
+pub struct TakePass {
+    pass: Pass<Piece, End>,
+}
+
+impl Model for TakePass {
+    ghost use Rattle.std.specs.Prelude.{◌≡◌, []};
+    ghost use Rattle.cmb_links.specs.Links.{TakeData, taking};
+
+    ghost Value = { TakeData };
+
+    ghost view = { λ p. record { link = p.pass.table_id; design = p.pass.me.0.client.design; received = p.pass.me.0.client.pieces } };
+
+    ghost invariant = { λ p. (p.pass.me.1 ≡ []) × (p.pass.me.0.client ≡ taking p.pass.me.0.client.design p.pass.me.0.client.pieces) };
+}
+
+impl fmt::Debug for TakePass {
+    fn fmt<W: fmt::Write>(&self, f: &mut fmt::Formatter<W>) -> fmt::Result {
+        f.pad("TakePass { .. }")
+    }
+}
+
+impl Link {
+    ghost use Rattle.std.specs.Prelude.{◌≡◌, ◌<◌, ◌↔◌, ◌⊎◌, IfOk, OnOk, IfErr, IfSome, IfNone, Err};
+    ghost use Rattle.cmb_design.specs.Exact.{IsExactIn};
+    ghost use Rattle.cmb_links.specs.Links.{IsNewLink, after_put, after_take, WasFull, WasEmpty};
+
+    /// A link with nothing in it, the end that puts and the end that takes. Fault 48 where the capacity isn't 1 to 65,536 pieces.
+    pub fn open(
+        alloc: Global,
+        design: &Design,
+        capacity: usize,
+    ) -> Result<(Link, PutPass, TakePass), LinkFault>
+        ensures ok { IfOk result (λ opened. IsNewLink design.now capacity opened.0 opened.1 opened.2) }
+        ensures capacity { (result ≡ Err LinkFault.Capacity) ↔ ((capacity ≡ 0) ⊎ (MOST < capacity)) }
+    {
+        if capacity == 0 || capacity > MOST {
+            return Err(LinkFault::Capacity);
+        }
+        Ok(Link::named::<Brand>(alloc, design, capacity)?)
+    }
+
+    // The same, for the design that D names.
+    fn named<D: Naming>(
+        alloc: Global,
+        design: &Design,
+        capacity: usize,
+    ) -> Result<(Link, PutPass, TakePass), AllocError>
+        requires capacity { 0 < capacity }
+        requires design { design.now ≡ D.design }
+        ensures { IfOk result (λ opened. IsNewLink design.now capacity opened.0 opened.1 opened.2) }
+    {
+        let _ = design;
+        let (queue, mut first) = Queue::ruled(alloc, capacity)?;
+        let second = queue.another::<Ends<D>>(&mut first);
+        Ok((
+            Link { queue },
+            PutPass { pass: first },
+            TakePass { pass: second },
+        ))
+    }
+
+    /// Puts a piece, exact in the pass's design, behind the others. Gives it back where the link was full at one moment of the call.
+    pub fn put<R: Wait>(&self, rt: &R, pass: &mut PutPass, piece: Piece) -> Result<(), Full>
+        requires link { pass.old.link ≡ self.now.link }
+        requires exact { IsExactIn pass.old.design piece }
+        ensures ok { OnOk result (pass.new ≡ after_put pass.old piece) }
+        ensures back { IfErr result (λ full. full.0 ≡ piece) }
+        ensures full { IfErr result (λ full. (pass.new ≡ pass.old) × WasFull self.now.capacity pass.old.sent) }
+    {
+        match self.queue.push_as::<Sent, R>(rt, &mut pass.pass, piece) {
+            Ok(()) => Ok(()),
+            Err(piece) => Err(Full(piece)),
+        }
+    }
+
+    /// Takes the piece that was put first of those held, if the link wasn't empty at one moment of the call.
+    pub fn take<R: Wait>(&self, rt: &R, pass: &mut TakePass) -> Option<Piece>
+        requires link { pass.old.link ≡ self.now.link }
+        ensures some { IfSome result (λ piece. pass.new ≡ after_take pass.old piece) }
+        ensures exact { IfSome result (λ piece. IsExactIn pass.old.design piece) }
+        ensures none { IfNone result ((pass.new ≡ pass.old) × WasEmpty pass.old.design pass.old.received) }
+    {
+        self.queue.pop_as::<Received, R>(rt, &mut pass.pass)
+    }
+}

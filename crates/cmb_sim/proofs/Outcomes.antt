@@ -1,0 +1,127 @@
+-- The answers of the stages as those of the whole simulation.
+use Rattle.std.proofs.Common.{◌≡◌, ℕ, ◌+◌, ◌<◌, ◌⊎◌, inl, inr, List, ◌++◌, Option, None, Some, Ok, Err, refl, sym, subst, ◌∙◌, length, take}
+use Rattle.std.specs.Io.KnownBytes.{Appends, Keeps}
+use Rattle.std.proofs.KnownBytes.{Keeps-refl}
+use Rattle.cmb_bench.specs.Netlist.{Netlist}
+use Rattle.cmb_bench.specs.Meaning.{Reads}
+use Rattle.cmb_design.proofs.CheckFacts.{first_fault-none, first_fault-some}
+use Rattle.cmb_design.specs.Checks.{Check, first_fault}
+use Rattle.cmb_design.specs.Design.{Design, design_of}
+use Rattle.cmb_design.specs.Records.{table_records}
+use Rattle.cmb_design.specs.Readers.{table_rows, delay_row_of, stimulus_row_of, clock_row_of}
+use Rattle.cmb_design.specs.declared.fault.DesignFault.{DesignFault}
+use Rattle.cmb_design.specs.declared.fault.DesignFault.TheVariants.{Memory}
+use Rattle.cmb_design.specs.declared.rows.DelayRow.{DelayRow}
+use Rattle.cmb_design.specs.declared.rows.StimulusRow.{StimulusRow}
+use Rattle.cmb_design.specs.declared.rows.ClockRow.{ClockRow}
+use Rattle.cmb_design.specs.declared.settings.Settings.{Settings}
+use Rattle.cmb_run.specs.Vcd.{vcd}
+use Rattle.cmb_sim.specs.Numbers.{design_as_fault}
+use Rattle.cmb_sim.specs.Simulation.{AreTexts, Inputs, IsOutcome, Spell, SpellDesign, Texts, design_in, mode_checks, output, report_of, text_checks}
+use Rattle.cmb_sim.specs.Stages.{FoundDesign, HaveTextFault, IsUnrun, LacksDesign, SpellAny}
+use Rattle.cmb_sim.specs.declared.fault.Fault.{Fault}
+use Rattle.cmb_sim.specs.declared.fault.Fault.TheVariants as fault
+use Rattle.cmb_sim.specs.declared.mode.Mode.{Mode}
+use Rattle.cmb_sim.specs.declared.simulation.Report.{Report}
+
+-- memory ran out, or this is the fault of the first check that stands
+abbrev pub Stops : List Check → DesignFault → Type 0
+Stops checks e = (e ≡ Memory) ⊎ (first_fault checks ≡ Some e)
+
+pub Stops-front : (a b : List Check) (e : DesignFault) → Stops a e → Stops (a ++ b) e
+Stops-front a b e (inl m) = inl m
+Stops-front a b e (inr h) = inr (first_fault-some a b e h)
+
+pub Stops-behind : (a b : List Check) (e : DesignFault) → first_fault a ≡ None → Stops b e → Stops (a ++ b) e
+Stops-behind a b e none (inl m) = inl m
+Stops-behind a b e none (inr h) = inr (first_fault-none a b none ∙ h)
+
+pub none_behind : (a b : List Check) → first_fault a ≡ None → first_fault b ≡ None → first_fault (a ++ b) ≡ None
+none_behind a b p q = first_fault-none a b p ∙ q
+
+-- ---- the texts
+
+HaveTextFault-found : (texts : Texts) (settings : Settings) (netlist : Netlist) → Reads texts.bench netlist → (e : DesignFault)
+    → first_fault (text_checks texts settings netlist) ≡ Some e → HaveTextFault texts settings (design_as_fault e)
+HaveTextFault-found texts settings netlist read Memory h = tt
+HaveTextFault-found texts settings netlist read e h = (netlist, read, h)
+
+pub HaveTextFault-of : (texts : Texts) (settings : Settings) (netlist : Netlist) (e : DesignFault) → Reads texts.bench netlist
+    → Stops (text_checks texts settings netlist) e → HaveTextFault texts settings (design_as_fault e)
+HaveTextFault-of texts settings netlist e read (inl m) =
+    let P : DesignFault → Type 0 = λ d. HaveTextFault texts settings (design_as_fault d) in subst P (sym m) tt
+HaveTextFault-of texts settings netlist e read (inr h) = HaveTextFault-found texts settings netlist read e h
+
+-- the design of rows that are those of the tables
+pub design_in-rows : (texts : Texts) (settings : Settings) (netlist : Netlist) (delays : List DelayRow) (stimuli : List StimulusRow) (clocks : List ClockRow)
+    → delays ≡ table_rows delay_row_of (table_records texts.delays) → stimuli ≡ table_rows stimulus_row_of (table_records texts.stimuli)
+    → clocks ≡ table_rows clock_row_of (table_records texts.clocks) → design_of netlist settings delays stimuli clocks ≡ design_in texts settings netlist
+design_in-rows texts settings netlist delays stimuli clocks p q r = rw (p, q, r) refl
+
+pub LacksDesign-of : (settings : Settings) (i : Inputs) (texts : Texts) → AreTexts i texts → (f : Fault) → HaveTextFault texts settings f → LacksDesign settings i f
+LacksDesign-of settings i texts are (fault.Bench f) h = (texts, are, h)
+LacksDesign-of settings i texts are (fault.Design f) h = (texts, are, h)
+LacksDesign-of settings i texts are (fault.TooLong n) h = absurd h
+LacksDesign-of settings i texts are (fault.Read n) h = absurd h
+LacksDesign-of settings i texts are (fault.Write n) h = absurd h
+LacksDesign-of settings i texts are fault.Memory h = tt
+
+-- ---- the whole
+
+pub IsOutcome-unread : (settings : Settings) (mode : Mode) (i : Inputs) (old : Option (List ℕ)) (n : ℕ) (f : Fault)
+    → LacksDesign settings i f → IsOutcome settings mode i (output old old n n) (Err f)
+IsOutcome-unread settings mode i old n (fault.TooLong k) h = (h, Keeps-refl old)
+IsOutcome-unread settings mode i old n (fault.Read k) h = (h, Keeps-refl old)
+IsOutcome-unread settings mode i old n (fault.Bench f) h = (h, Keeps-refl old)
+IsOutcome-unread settings mode i old n (fault.Design f) h =
+    ((h.0, h.1, (h.2.0, h.2.1, first_fault-some _ _ f h.2.2)), Keeps-refl old)
+IsOutcome-unread settings mode i old n (fault.Write k) h = absurd h
+IsOutcome-unread settings mode i old n fault.Memory h = Keeps-refl old
+
+-- the design's checks, then those of the mode, of which one stands
+mode_fault : (texts : Texts) (settings : Settings) (mode : Mode) (netlist : Netlist) (design : Design) (e : DesignFault)
+    → first_fault (text_checks texts settings netlist) ≡ None → design ≡ design_in texts settings netlist
+    → first_fault (mode_checks mode design) ≡ Some e → first_fault (text_checks texts settings netlist ++ mode_checks mode (design_in texts settings netlist)) ≡ Some e
+mode_fault texts settings mode netlist design e none is h =
+    first_fault-none _ _ none ∙ (let P : Design → Type 0 = λ d. first_fault (mode_checks mode d) ≡ Some e in subst P is h)
+
+pub IsOutcome-unrun : (settings : Settings) (mode : Mode) (i : Inputs) (old : Option (List ℕ)) (n : ℕ) (design : Design)
+    → FoundDesign settings i design → (f : Fault) → IsUnrun mode design f → IsOutcome settings mode i (output old old n n) (Err f)
+IsOutcome-unrun settings mode i old n design found (fault.Design f) h =
+    ((found.0, found.1, (found.2.netlist, found.2.read, mode_fault found.0 settings mode found.2.netlist design f found.2.checked found.2.is h)), Keeps-refl old)
+IsOutcome-unrun settings mode i old n design found fault.Memory h = Keeps-refl old
+IsOutcome-unrun settings mode i old n design found (fault.Bench f) h = absurd h
+IsOutcome-unrun settings mode i old n design found (fault.TooLong k) h = absurd h
+IsOutcome-unrun settings mode i old n design found (fault.Read k) h = absurd h
+IsOutcome-unrun settings mode i old n design found (fault.Write k) h = absurd h
+
+-- the design that was found can be run
+pub SpellDesign-of : (settings : Settings) (mode : Mode) (i : Inputs) (design : Design)
+    → FoundDesign settings i design → first_fault (mode_checks mode design) ≡ None → SpellDesign settings mode i design
+SpellDesign-of settings mode i design found fits = (
+  found.0,
+  found.1,
+  record {
+    netlist = found.2.netlist;
+    read = found.2.read;
+    checked = first_fault-none _ _ found.2.checked ∙ (let P : Design → Type 0 = λ d. first_fault (mode_checks mode d) ≡ None in subst P found.2.is fits);
+    is = found.2.is;
+  },
+)
+
+pub IsOutcome-written : (settings : Settings) (mode : Mode) (i : Inputs) (old new : Option (List ℕ)) (before after : ℕ) (design : Design) (text : List ℕ) (report : Report)
+    → FoundDesign settings i design → first_fault (mode_checks mode design) ≡ None → text ≡ vcd design → Appends old new text → report ≡ report_of design
+    → IsOutcome settings mode i (output old new before after) (Ok report)
+IsOutcome-written settings mode i old new before after design text report found fits is wrote told =
+    (design, SpellDesign-of settings mode i design found fits, subst (Appends old new) is wrote, told)
+
+pub IsOutcome-unwritten : (settings : Settings) (mode : Mode) (i : Inputs) (old new : Option (List ℕ)) (before after : ℕ) (design : Design) (text : List ℕ) (n : ℕ)
+    → FoundDesign settings i design → first_fault (mode_checks mode design) ≡ None → text ≡ vcd design → n < length text → Appends old new (take n text) → after ≡ before + 1
+    → IsOutcome settings mode i (output old new before after) (Err (fault.Write n))
+IsOutcome-unwritten settings mode i old new before after design text n found fits is less wrote failed = (
+  design,
+  SpellDesign-of settings mode i design found fits,
+  (let P : List ℕ → Type 0 = λ t. n < length t in subst P is less),
+  (let P : List ℕ → Type 0 = λ t. Appends old new (take n t) in subst P is wrote),
+  failed,
+)

@@ -1,0 +1,27 @@
+use Rattle.std.proofs.Common.{◌≡◌, Ok, Err, ap}
+use Rattle.std.proofs.lemmas.Result.{err_from_is_err_and}
+use Rattle.cmb_sim.proofs.PlainRuns.{AreCollected-whole, IsComplete-whole, IsExactFor-whole, IsFor-whole, IsUnrun-plain, small_enough, whole_collector-is}
+use Rattle.cmb_sim.proofs.simulation.plain_text.Goals as goal
+
+pub returns-in_err-waves-clause-fault : goal.returns-in_err-waves-clause-fault
+returns-in_err-waves-clause-fault c =
+    let p = err_from_is_err_and c.from_residual.result c.from_residual.ensures.1 in
+    rw (p.1, p.2) (IsUnrun-plain c.args.design.now _ c.in_err-waves.ensures.fault (λ e. c.in_err-waves.ensures.too_large.0 (ap (λ d. Err d) e)))
+
+pub of_waves-collector-requires : goal.of_waves-collector-requires
+of_waves-collector-requires c = AreCollected-whole c.args.design.now _ _ c.in_ok-waves.ensures.waves c.horizon.ensures.value
+
+pub vcd_text-requires-clause-opened : goal.vcd_text-requires-clause-opened
+vcd_text-requires-clause-opened c =
+    IsFor-whole c.args.design.now _ (whole_collector-is c.args.design.now _ _ _ c.of_waves-collector.ensures c.in_ok-waves.ensures.waves c.horizon.ensures.value)
+
+pub vcd_text-requires-clause-complete : goal.vcd_text-requires-clause-complete
+vcd_text-requires-clause-complete c =
+    IsComplete-whole c.args.design.now _ (whole_collector-is c.args.design.now _ _ _ c.of_waves-collector.ensures c.in_ok-waves.ensures.waves c.horizon.ensures.value)
+
+pub returns-in-Ok-clause-text : goal.returns-in-Ok-clause-text
+returns-in-Ok-clause-text c =
+    c.in-Ok.ensures.exact (IsExactFor-whole c.args.design.now _ (whole_collector-is c.args.design.now _ _ _ c.of_waves-collector.ensures c.in_ok-waves.ensures.waves c.horizon.ensures.value))
+
+pub returns-in-Ok-clause-fits : goal.returns-in-Ok-clause-fits
+returns-in-Ok-clause-fits c = small_enough c.args.design.now (λ h. let bad = c.in_ok-waves.ensures.too_large.1 h in cc)

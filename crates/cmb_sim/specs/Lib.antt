@@ -1,0 +1,4 @@
+pub mod Numbers
+pub mod Simulation
+pub mod Sources
+pub mod Stages

@@ -1,0 +1,43 @@
+-- The number and the place of each fault, and the line that is printed of it.
+use Rattle.std.specs.Prelude.{ℕ, List, ◌++◌, codes, decimal}
+use Rattle.cmb_bench.specs.declared.fault.BenchFault.{BenchFault}
+use Rattle.cmb_bench.specs.declared.fault.FaultKind.{FaultKind}
+use Rattle.cmb_bench.specs.declared.fault.FaultKind.TheVariants as kind
+use Rattle.cmb_bench.specs.FirstFault.{number_of_fault}
+use Rattle.cmb_design.specs.declared.fault.DesignFault.{DesignFault}
+use Rattle.cmb_design.specs.declared.fault.DesignFault.TheVariants as design_fault
+use Rattle.cmb_design.specs.Faults.{fault_number, fault_record}
+use Rattle.cmb_sim.specs.declared.fault.Fault.{Fault}
+use Rattle.cmb_sim.specs.declared.fault.Fault.TheVariants.{Bench, Design, TooLong, Read, Write, Memory}
+
+abbrev pub number_of : Fault → ℕ
+number_of (Bench fault) = number_of_fault fault.kind
+number_of (Design fault) = fault_number fault
+number_of (TooLong input) = 60
+number_of (Read input) = 61
+number_of (Write written) = 62
+number_of Memory = 70
+
+abbrev pub place_of : Fault → ℕ
+place_of (Bench fault) = fault.line
+place_of (Design fault) = fault_record fault
+place_of (TooLong input) = input
+place_of (Read input) = input
+place_of (Write written) = written
+place_of Memory = 0
+
+-- the line that is printed
+abbrev pub line_of : Fault → List ℕ
+line_of fault = codes "cmbsim: fault " ++ (decimal (number_of fault) ++ (codes " at " ++ (decimal (place_of fault) ++ codes "\n")))
+
+-- a fault of the netlist or of the design as one of the whole simulation: want of memory is one fault in all of them
+abbrev pub of_kind : FaultKind → BenchFault → Fault
+of_kind kind.Memory fault = Memory
+of_kind _ fault = Bench fault
+
+abbrev pub bench_as_fault : BenchFault → Fault
+bench_as_fault fault = of_kind fault.kind fault
+
+abbrev pub design_as_fault : DesignFault → Fault
+design_as_fault design_fault.Memory = Memory
+design_as_fault fault = Design fault

@@ -1,0 +1,54 @@
+-- What the stages of a simulation answer, each as a part of the whole's outcome. No public contract cites these.
+use Rattle.std.specs.Prelude.{◌≡◌, ℕ, List, Some, None, ⊤}
+use Rattle.cmb_bench.specs.Netlist.{Netlist}
+use Rattle.cmb_bench.specs.Meaning.{Reads}
+use Rattle.cmb_bench.specs.FirstFault.{IsFirstFault}
+use Rattle.cmb_design.specs.Checks.{first_fault}
+use Rattle.cmb_design.specs.Design.{Design}
+use Rattle.cmb_design.specs.declared.settings.Settings.{Settings}
+use Rattle.cmb_sim.specs.Simulation.{AreTexts, HasFailed, HasTooMany, Input, Inputs, StopsAt, Texts, design_in, mode_checks, text_checks}
+use Rattle.cmb_sim.specs.declared.fault.Fault.{Fault}
+use Rattle.cmb_sim.specs.declared.fault.Fault.TheVariants as fault
+use Rattle.cmb_sim.specs.declared.mode.Mode.{Mode}
+
+-- an input with this number wasn't read whole
+abbrev pub IsUnread : ℕ → Input → Fault → Type 0
+IsUnread number i (fault.TooLong n) = (n ≡ number) × HasTooMany i
+IsUnread number i (fault.Read n) = (n ≡ number) × HasFailed i
+IsUnread number i fault.Memory = ⊤
+IsUnread number i _ = ⊥
+
+abbrev pub texts_of : List ℕ → List ℕ → List ℕ → List ℕ → Texts
+texts_of bench delays stimuli clocks = record { bench = bench; delays = delays; stimuli = stimuli; clocks = clocks }
+
+-- the texts spell this design, whether a mode can run it or not
+pub record SpellAny (texts : Texts) (settings : Settings) (design : Design) : Type 0 where
+  pub netlist : Netlist
+  pub read : Reads texts.bench netlist
+  pub checked : first_fault (text_checks texts settings netlist) ≡ None
+  pub is : design ≡ design_in texts settings netlist
+
+-- the texts have this fault, whatever the mode
+abbrev pub HaveTextFault : Texts → Settings → Fault → Type 0
+HaveTextFault texts settings (fault.Bench f) = IsFirstFault texts.bench f
+HaveTextFault texts settings (fault.Design f) = (netlist : Netlist) × Reads texts.bench netlist × (first_fault (text_checks texts settings netlist) ≡ Some f)
+HaveTextFault texts settings fault.Memory = ⊤
+HaveTextFault texts settings _ = ⊥
+
+-- why there is no design
+abbrev pub LacksDesign : Settings → Inputs → Fault → Type 0
+LacksDesign settings i (fault.TooLong n) = StopsAt HasTooMany i n
+LacksDesign settings i (fault.Read n) = StopsAt HasFailed i n
+LacksDesign settings i (fault.Bench f) = (texts : Texts) × AreTexts i texts × HaveTextFault texts settings (fault.Bench f)
+LacksDesign settings i (fault.Design f) = (texts : Texts) × AreTexts i texts × HaveTextFault texts settings (fault.Design f)
+LacksDesign settings i (fault.Write n) = ⊥
+LacksDesign settings i fault.Memory = ⊤
+
+abbrev pub FoundDesign : Settings → Inputs → Design → Type 0
+FoundDesign settings i design = (texts : Texts) × AreTexts i texts × SpellAny texts settings design
+
+-- why a design wasn't run
+abbrev pub IsUnrun : Mode → Design → Fault → Type 0
+IsUnrun mode design (fault.Design f) = first_fault (mode_checks mode design) ≡ Some f
+IsUnrun mode design fault.Memory = ⊤
+IsUnrun mode design _ = ⊥

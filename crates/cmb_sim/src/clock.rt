@@ -1,0 +1,22 @@
+//! The value of `--clock`.
+
+ghost use Rattle.std.specs.Prelude.{◌<◌, IfSome};
+
+// One to seven digits.
+fn ticks_of(text: &str) -> Option<u32>
+    ensures { IfSome result (λ n. n < 10000000) }
+{
+    if text.len() > 7 || !text.bytes().all(|b| b.is_ascii_digit()) {
+        return None;
+    }
+    match text.parse::<u32>() {
+        Ok(n) if n < 10_000_000 => Some(n),
+        _ => None,
+    }
+}
+
+/// The clock that `F:P` names, each one to seven digits: its first sample tick and its period, in ticks.
+pub(crate) fn clock_of(text: &str) -> Option<(u32, u32)> {
+    let (first, period) = text.split_once(':')?;
+    Some((ticks_of(first)?, ticks_of(period)?))
+}

@@ -1,0 +1,95 @@
+//! Why a simulation didn't write its text.
+
+ghost use Rattle.std.specs.Prelude.{◌≡◌, IfOk};
+ghost use Rattle.cmb_sim.specs.Numbers.{bench_as_fault, design_as_fault, line_of, number_of, place_of};
+
+use cmb_bench::{BenchFault, FaultKind};
+use cmb_design::DesignFault;
+use std::alloc::{AllocError, Global};
+use thiserror::Error;
+
+/// Why a simulation didn't write its text. Inputs are 1 the netlist, 2 the delays, 3 the stimuli and 4 the clocks.
+#[derive(Debug, Drop, Error)]
+pub enum Fault {
+    /// 1 to 8: the netlist is wrong, on a line.
+    #[error("netlist, {0}")]
+    Bench(BenchFault),
+    /// 20 to 37: a table, the settings or the rows make no design, or the design is too large for its mode.
+    #[error("{0}")]
+    Design(DesignFault),
+    /// 60: an input has more than 16,777,216 bytes.
+    #[error("input {input} has more than 16,777,216 bytes")]
+    TooLong { input: u32 },
+    /// 61: an input couldn't be read.
+    #[error("input {input} couldn't be read")]
+    Read { input: u32 },
+    /// 62: the output failed after it took so many bytes.
+    #[error("the output failed after {written} bytes")]
+    Write { written: u64 },
+    /// 70: a growth was refused.
+    #[error("out of memory")]
+    Memory,
+}
+
+impl From<BenchFault> for Fault {
+    ghost from_gives = { λ fault wider. wider ≡ bench_as_fault fault };
+
+    fn from(fault: BenchFault) -> Fault {
+        match fault.kind {
+            FaultKind::Memory => Fault::Memory,
+            _ => Fault::Bench(fault),
+        }
+    }
+}
+
+impl From<DesignFault> for Fault {
+    ghost from_gives = { λ fault wider. wider ≡ design_as_fault fault };
+
+    fn from(fault: DesignFault) -> Fault {
+        match fault {
+            DesignFault::Memory => Fault::Memory,
+            _ => Fault::Design(fault),
+        }
+    }
+}
+
+impl Fault {
+    /// The fault's number: 1 to 8, 20 to 37, 60 to 62, and 70 for want of memory.
+    pub fn number(&self) -> u32
+        ensures { result ≡ number_of self.now }
+    {
+        match self {
+            Fault::Bench(fault) => fault.number(),
+            Fault::Design(fault) => fault.number(),
+            Fault::TooLong { .. } => 60,
+            Fault::Read { .. } => 61,
+            Fault::Write { .. } => 62,
+            Fault::Memory => 70,
+        }
+    }
+
+    /// Where the fault stands: the line of a netlist or the record of a table, both counted from 1,
+    /// the number of an input, or how many bytes were written; else 0.
+    pub fn place(&self) -> u64
+        ensures { result ≡ place_of self.now }
+    {
+        match self {
+            Fault::Bench(fault) => u64::from(fault.line),
+            Fault::Design(fault) => u64::from(fault.record()),
+            Fault::TooLong { input } => u64::from(*input),
+            Fault::Read { input } => u64::from(*input),
+            Fault::Write { written } => *written,
+            Fault::Memory => 0,
+        }
+    }
+}
+
+/// The line that the program prints of a fault: `cmbsim: fault N at P`, with its line feed.
+pub fn fault_line(alloc: Global, fault: &Fault) -> Result<Vec<u8>, AllocError>
+    ensures { IfOk result (λ line. line.items ≡ line_of fault.now) }
+{
+    let number = fault.number();
+    let place = fault.place();
+    let text = format!(in alloc; "cmbsim: fault {number} at {place}\n")?;
+    Ok(text.into_bytes())
+}

@@ -1,0 +1,24 @@
+//! A whole simulation: from four texts to the text of its waveforms, with the program's command line.
+#![tactic(auto)]
+
+mod clock;
+pub mod fault;
+pub mod line;
+pub mod mode;
+pub mod reading;
+pub mod simulation;
+pub mod source;
+
+pub use cmb_bench::{BenchFault, FaultKind};
+pub use cmb_design::{DesignFault, Settings};
+pub use cmb_run::sink::{Failed, Limited, Room, Sink, ToWriter};
+pub use cmb_wave::Level;
+pub use fault::{Fault, fault_line};
+pub use line::{Line, LineFault, line_message, read_line};
+pub use mode::Mode;
+pub use reading::{ReadFault, read_whole};
+pub use simulation::{Report, simulate};
+pub use source::{FromBytes, FromReader, Source};
+
+#[cfg(test)]
+mod tests;

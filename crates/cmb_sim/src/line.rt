@@ -1,0 +1,220 @@
+//! The program's command line.
+
+ghost use Rattle.std.specs.Prelude.{◌≡◌, ◌≤◌, IfOk};
+
+use crate::clock::clock_of;
+use crate::mode::Mode;
+use clap::builder::ValueParser;
+use clap::error::ErrorKind;
+use clap::{Arg, ArgMatches, Command, Error};
+use cmb_design::Settings;
+use cmb_wave::Level;
+use std::alloc::{AllocError, Global};
+
+/// What the words ask for.
+#[derive(Debug, Drop)]
+pub struct Line {
+    pub settings: Settings,
+    pub mode: Mode,
+    /// The file of the delay table. No file is an empty text.
+    pub delays: Option<String>,
+    /// The file of the stimuli.
+    pub stimuli: Option<String>,
+    /// The file of the clock table.
+    pub clocks: Option<String>,
+}
+
+/// Why the words ask for no run.
+#[derive(Clone, Copy, Debug, PartialEq, Eq)]
+pub enum LineFault {
+    /// They ask for help.
+    Help,
+    /// They aren't a line of the program.
+    Wrong,
+    /// The value of `--clock` isn't `F:P`, in a line that isn't otherwise wrong.
+    Clock,
+    Memory,
+}
+
+impl From<AllocError> for LineFault {
+    ghost use Rattle.cmb_sim.specs.declared.line.LineFault.TheVariants.{Memory};
+
+    ghost from_gives = { λ _ e. e ≡ Memory };
+
+    fn from(_e: AllocError) -> LineFault {
+        LineFault::Memory
+    }
+}
+
+const MOST_TICKS: u32 = 1_000_000;
+
+const LEVELS: [&str; 3] = ["0", "1", "x"];
+
+const MODES: [&str; 1] = ["plain"];
+
+const ABOUT: &str = "Simulates a gate-level netlist and writes the waveforms of its nets";
+
+const RUN: &str =
+    "Reads a netlist from standard input and writes a value change dump (VCD) to standard output";
+
+const HORIZON: &str = "Simulates the ticks 0 to N-1, N from 1 to 1,000,000";
+
+const CLOCK: &str = "Samples the flip-flops at the ticks F, F+P, F+2P and so on";
+
+const INIT: &str = "What a flip-flop has before it sampled [default: x]";
+
+const DELAYS: &str = "A table by,name,delay: delays of kinds, nets or pins in ticks, else 1";
+
+const STIMULI: &str = "A table tick,net,value: the levels of the inputs";
+
+const CLOCKS: &str = "A table net,first,period: clocks of single flip-flops";
+
+const EXAMPLE: &str =
+    "Times are whole ticks; the text has one tick as 1 ns. An input has at most 16,777,216 bytes.
+
+Example:
+  cmbsim run --horizon 10 --mode plain --stimuli in.csv < inverter.bench > out.vcd
+where inverter.bench has the lines INPUT(a), OUTPUT(y), y = NOT(a)
+and in.csv the lines tick,net,value and 0,a,0 and 5,a,1
+
+A fault is one line on standard error, `cmbsim: fault N at P`, with status 1. A wrong line has status 2.";
+
+// An option `--NAME VALUE`.
+fn option<'a>(alloc: Global, name: &'a str, value: &'a str, help: &'a str) -> Arg<'a> {
+    Arg::new(alloc, name)
+        .long(name)
+        .value_name(value)
+        .help(help)
+}
+
+// The options of the settings and of the mode.
+fn with_settings<'a>(alloc: Global, command: Command<'a>) -> Result<Command<'a>, AllocError> {
+    command
+        .arg(
+            option(alloc, "horizon", "N", HORIZON)
+                .required(true)
+                .value_parser(ValueParser::unsigned(1, 1_000_000)),
+        )?
+        .arg(option(alloc, "clock", "F:P", CLOCK))?
+        .arg(option(alloc, "init", "LEVEL", INIT).value_parser(LEVELS.as_slice()))?
+        .arg(
+            option(alloc, "mode", "MODE", "How the design is run")
+                .required(true)
+                .value_parser(MODES.as_slice()),
+        )
+}
+
+// The command line of `run`.
+fn run_command<'a>(alloc: Global) -> Result<Command<'a>, AllocError> {
+    let command = Command::new(alloc, "run").about(RUN).after_help(EXAMPLE);
+    with_settings(alloc, command)?
+        .arg(option(alloc, "delays", "FILE", DELAYS))?
+        .arg(option(alloc, "stimuli", "FILE", STIMULI))?
+        .arg(option(alloc, "clocks", "FILE", CLOCKS))
+}
+
+// The whole command line.
+fn whole_command<'a>(alloc: Global) -> Result<Command<'a>, AllocError> {
+    let run = run_command(alloc)?;
+    Command::new(alloc, "cmbsim")
+        .about(ABOUT)
+        .after_help(EXAMPLE)
+        .bin_name("cmbsim")?
+        .no_binary_name(true)
+        .subcommand_required(true)
+        .subcommand(run)
+}
+
+fn parse<'a>(alloc: Global, words: &'a [String]) -> Result<ArgMatches<'a>, Error> {
+    whole_command(alloc)?.try_get_matches_from(words)
+}
+
+fn fault_of(kind: ErrorKind) -> LineFault {
+    match kind {
+        ErrorKind::DisplayHelp => LineFault::Help,
+        ErrorKind::OutOfMemory => LineFault::Memory,
+        _ => LineFault::Wrong,
+    }
+}
+
+fn horizon_of(matches: &ArgMatches<'_>) -> Result<u32, LineFault>
+    ensures { IfOk result (λ n. (1 ≤ n) × (n ≤ 1000000)) }
+{
+    let number = matches
+        .get_str("horizon")
+        .and_then(|text| text.parse::<u32>().ok());
+    match number {
+        Some(n) if 1 <= n && n <= MOST_TICKS => Ok(n),
+        _ => Err(LineFault::Wrong),
+    }
+}
+
+fn init_of(matches: &ArgMatches<'_>) -> Level {
+    match matches.get_str("init") {
+        Some("0") => Level::Zero,
+        Some("1") => Level::One,
+        _ => Level::X,
+    }
+}
+
+fn common_clock(matches: &ArgMatches<'_>) -> Result<Option<(u32, u32)>, LineFault> {
+    match matches.get_str("clock") {
+        Some(text) => match clock_of(text) {
+            Some(clock) => Ok(Some(clock)),
+            None => Err(LineFault::Clock),
+        },
+        None => Ok(None),
+    }
+}
+
+fn file_of(
+    alloc: Global,
+    matches: &ArgMatches<'_>,
+    name: &str,
+) -> Result<Option<String>, AllocError> {
+    match matches.get_str(name) {
+        Some(text) => Ok(Some(String::from_str(alloc, text)?)),
+        None => Ok(None),
+    }
+}
+
+fn line_of(alloc: Global, matches: &ArgMatches<'_>) -> Result<Line, LineFault>
+    ensures { IfOk result (λ line. (1 ≤ line.settings.horizon) × (line.settings.horizon ≤ 1000000)) }
+{
+    let horizon = horizon_of(matches)?;
+    let clock = common_clock(matches)?;
+    let init = init_of(matches);
+    Ok(Line {
+        settings: Settings {
+            horizon,
+            clock,
+            init,
+        },
+        mode: Mode::Plain,
+        delays: file_of(alloc, matches, "delays")?,
+        stimuli: file_of(alloc, matches, "stimuli")?,
+        clocks: file_of(alloc, matches, "clocks")?,
+    })
+}
+
+/// Reads the words after the program's name: `run` and its options. The horizon of a line is 1 to 1,000,000 ticks.
+pub fn read_line(alloc: Global, words: &[String]) -> Result<Line, LineFault>
+    ensures { IfOk result (λ line. (1 ≤ line.settings.horizon) × (line.settings.horizon ≤ 1000000)) }
+{
+    match parse(alloc, words) {
+        Ok(matches) => match matches.subcommand_matches("run") {
+            Some(run) => line_of(alloc, run),
+            None => Err(LineFault::Wrong),
+        },
+        Err(error) => Err(fault_of(error.kind())),
+    }
+}
+
+/// What the program says of words that ask for no run: the text of help where they ask for that,
+/// else what is wrong with them and how they are written. Of other words it is empty.
+pub fn line_message(alloc: Global, words: &[String]) -> Result<String, AllocError> {
+    match parse(alloc, words) {
+        Ok(_) => Ok(String::new(alloc)),
+        Err(error) => format!(in alloc; "{error}"),
+    }
+}

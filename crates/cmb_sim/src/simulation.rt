@@ -1,0 +1,182 @@
+//! A whole simulation.
+
+ghost use Rattle.std.specs.Prelude.{◌≡◌, ◌-◌, ◌^◌, ◌<◌, ◌≤◌, length, IfOk, IfErr, OnOk, None};
+ghost use Rattle.cmb_design.specs.Checks.{first_fault};
+ghost use Rattle.cmb_run.specs.Vcd.{vcd};
+ghost use Rattle.cmb_sim.specs.Simulation.{IsOutcome, input, inputs_of, mode_checks, output};
+ghost use Rattle.cmb_sim.specs.Sources.{IsWhole, input_limit};
+ghost use Rattle.cmb_sim.specs.Stages.{FoundDesign, HaveTextFault, IsUnread, IsUnrun, LacksDesign, SpellAny, texts_of};
+
+use crate::fault::Fault;
+use crate::mode::Mode;
+use crate::reading::{ReadFault, read_whole};
+use crate::source::Source;
+use cmb_bench::read_bench;
+use cmb_design::{Design, Settings, plain_waves, read_clocks, read_delays, read_stimuli};
+use cmb_run::sink::{Sink, write_whole};
+use cmb_run::{Collector, vcd_text};
+use std::alloc::Global;
+
+/// What was simulated and written.
+#[derive(Clone, Copy, Debug, PartialEq, Eq)]
+pub struct Report {
+    /// How many nets the design has.
+    pub nets: u32,
+    /// The ticks below it were simulated.
+    pub horizon: u32,
+    /// How many bytes the text has.
+    pub written: u64,
+}
+
+// The whole text of the input with this number.
+fn read_input<S: Source>(alloc: Global, source: &mut S, number: u32) -> Result<Vec<u8>, Fault>
+    requires { S.failures source.old < 2 ^ 64 - 1 }
+    ensures whole { IfOk result (λ text. IsWhole (S.remaining source.old) text.items) }
+    ensures fault { IfErr result (IsUnread number (input (S.remaining source.old) (S.failures source.old) (S.failures source.new))) }
+{
+    match read_whole(alloc, source) {
+        Ok(text) => Ok(text),
+        Err(ReadFault::TooLong) => Err(Fault::TooLong { input: number }),
+        Err(ReadFault::Failed) => Err(Fault::Read { input: number }),
+        Err(ReadFault::Memory) => Err(Fault::Memory),
+    }
+}
+
+// The design that four texts spell.
+fn spelled_design(
+    alloc: Global,
+    bench: &[u8],
+    delays: &[u8],
+    stimuli: &[u8],
+    clocks: &[u8],
+    settings: Settings,
+) -> Result<Design, Fault>
+    requires bench { length bench.now ≤ input_limit }
+    requires delays { length delays.now ≤ input_limit }
+    requires stimuli { length stimuli.now ≤ input_limit }
+    requires clocks { length clocks.now ≤ input_limit }
+    ensures ok { IfOk result (SpellAny (texts_of bench.now delays.now stimuli.now clocks.now) settings) }
+    ensures fault { IfErr result (HaveTextFault (texts_of bench.now delays.now stimuli.now clocks.now) settings) }
+{
+    let netlist = read_bench(alloc, bench)?;
+    let delay_rows = read_delays(alloc, delays)?;
+    let stimulus_rows = read_stimuli(alloc, stimuli)?;
+    let clock_rows = read_clocks(alloc, clocks)?;
+    let design = Design::new(
+        alloc,
+        netlist,
+        delay_rows,
+        stimulus_rows,
+        clock_rows,
+        settings,
+    )?;
+    Ok(design)
+}
+
+// Reads the four inputs in order, and makes the design that they spell.
+fn read_design<B: Source, D: Source, S: Source, C: Source>(
+    alloc: Global,
+    bench: &mut B,
+    delays: &mut D,
+    stimuli: &mut S,
+    clocks: &mut C,
+    settings: Settings,
+) -> Result<Design, Fault>
+    requires bench { B.failures bench.old < 2 ^ 64 - 1 }
+    requires delays { D.failures delays.old < 2 ^ 64 - 1 }
+    requires stimuli { S.failures stimuli.old < 2 ^ 64 - 1 }
+    requires clocks { C.failures clocks.old < 2 ^ 64 - 1 }
+    ensures ok { IfOk result (FoundDesign settings (inputs_of
+        (input (B.remaining bench.old) (B.failures bench.old) (B.failures bench.new))
+        (input (D.remaining delays.old) (D.failures delays.old) (D.failures delays.new))
+        (input (S.remaining stimuli.old) (S.failures stimuli.old) (S.failures stimuli.new))
+        (input (C.remaining clocks.old) (C.failures clocks.old) (C.failures clocks.new)))) }
+    ensures fault { IfErr result (LacksDesign settings (inputs_of
+        (input (B.remaining bench.old) (B.failures bench.old) (B.failures bench.new))
+        (input (D.remaining delays.old) (D.failures delays.old) (D.failures delays.new))
+        (input (S.remaining stimuli.old) (S.failures stimuli.old) (S.failures stimuli.new))
+        (input (C.remaining clocks.old) (C.failures clocks.old) (C.failures clocks.new)))) }
+{
+    let first = read_input(alloc, bench, 1)?;
+    let second = read_input(alloc, delays, 2)?;
+    let third = read_input(alloc, stimuli, 3)?;
+    let fourth = read_input(alloc, clocks, 4)?;
+    spelled_design(
+        alloc,
+        first.as_slice(),
+        second.as_slice(),
+        third.as_slice(),
+        fourth.as_slice(),
+        settings,
+    )
+}
+
+// The text of a design, by a table with a place for each net and tick.
+fn plain_text(alloc: Global, design: &Design) -> Result<Vec<u8>, Fault>
+    ensures text { IfOk result (λ text. text.items ≡ vcd design.now) }
+    ensures fits { OnOk result (first_fault (mode_checks Mode.Plain design.now) ≡ None) }
+    ensures fault { IfErr result (IsUnrun Mode.Plain design.now) }
+{
+    let waves = plain_waves(alloc, design)?;
+    let collector = Collector::of_waves(waves, design.horizon());
+    match vcd_text(alloc, design, &collector) {
+        Ok(text) => Ok(text),
+        Err(_) => Err(Fault::Memory),
+    }
+}
+
+// The text of a design.
+fn text_by(alloc: Global, mode: Mode, design: &Design) -> Result<Vec<u8>, Fault>
+    ensures text { IfOk result (λ text. text.items ≡ vcd design.now) }
+    ensures fits { OnOk result (first_fault (mode_checks mode design.now) ≡ None) }
+    ensures fault { IfErr result (IsUnrun mode design.now) }
+{
+    match mode {
+        Mode::Plain => plain_text(alloc, design),
+    }
+}
+
+/// Reads a netlist, the tables of delays, stimuli and clocks, and writes the waveforms of all nets below the horizon.
+///
+/// The four inputs are read whole, in order, before anything else: 60 where one has more than
+/// 16,777,216 bytes, 61 where a read of it failed. Then come the faults of the netlist (1 to 8), of the
+/// tables and the design (20 to 37) and of the mode (33). The text is written once the run is complete:
+/// 62 where a write failed. `Memory` (70) comes where a growth was refused.
+pub fn simulate<R: AllocGlobal, B: Source, D: Source, S: Source, C: Source, O: Sink>(
+    rt: &R,
+    bench: &mut B,
+    delays: &mut D,
+    stimuli: &mut S,
+    clocks: &mut C,
+    settings: Settings,
+    mode: Mode,
+    out: &mut O,
+) -> Result<Report, Fault>
+    requires bench { B.failures bench.old < 2 ^ 64 - 1 }
+    requires delays { D.failures delays.old < 2 ^ 64 - 1 }
+    requires stimuli { S.failures stimuli.old < 2 ^ 64 - 1 }
+    requires clocks { C.failures clocks.old < 2 ^ 64 - 1 }
+    requires out { O.failures out.old < 2 ^ 64 - 1 }
+    ensures { IsOutcome settings mode
+        (inputs_of
+        (input (B.remaining bench.old) (B.failures bench.old) (B.failures bench.new))
+        (input (D.remaining delays.old) (D.failures delays.old) (D.failures delays.new))
+        (input (S.remaining stimuli.old) (S.failures stimuli.old) (S.failures stimuli.new))
+        (input (C.remaining clocks.old) (C.failures clocks.old) (C.failures clocks.new)))
+        (output (O.taken out.old) (O.taken out.new) (O.failures out.old) (O.failures out.new))
+        result }
+{
+    let alloc = rt.alloc();
+    let design = read_design(alloc, bench, delays, stimuli, clocks, settings)?;
+    let text = text_by(alloc, mode, &design)?;
+    match write_whole(out, text.as_slice()) {
+        Ok(()) => Ok(Report {
+            nets: design.netlist().len() as u32,
+            horizon: design.horizon(),
+            written: text.len() as u64,
+        }),
+        Err(written) => Err(Fault::Write {
+            written: written as u64,
+        }),
+    }
+}

@@ -1,0 +1,114 @@
+//! The command line, and the line of a fault.
+
+use crate::tests::{bench_case, run};
+use crate::{Level, LineFault, Mode, fault_line, line_message, read_line};
+use std::alloc::{AllocError, Global};
+use std::test::Fail;
+
+fn words(alloc: Global, line: &str) -> Result<Vec<String>, AllocError> {
+    let mut all = Vec::new(alloc);
+    for word in line.split_whitespace() {
+        all.push(String::from_str(alloc, word)?)?;
+    }
+    Ok(all)
+}
+
+#[test]
+fn command_line(rt: HostRuntime) -> Result<(), Fail> {
+    let alloc = rt.alloc();
+    for (line, want) in [
+        ("", LineFault::Wrong),
+        ("run --mode plain", LineFault::Wrong),
+        ("run --horizon 0 --mode plain", LineFault::Wrong),
+        ("run --horizon 1000001 --mode plain", LineFault::Wrong),
+        ("run --horizon 10", LineFault::Wrong),
+        ("run --horizon 10 --mode slow", LineFault::Wrong),
+        ("run --horizon 10 --mode rounds", LineFault::Wrong),
+        (
+            "run --horizon 10 --mode plain --workers 2",
+            LineFault::Wrong,
+        ),
+        ("run --horizon 10 --mode plain --init y", LineFault::Wrong),
+        (
+            "run --horizon 10 --mode plain --clock 2-4",
+            LineFault::Clock,
+        ),
+        (
+            "run --horizon 10 --mode plain --clock 2:12345678",
+            LineFault::Clock,
+        ),
+        ("run --horizon 0 --mode plain --clock 2-4", LineFault::Wrong),
+        (
+            "run --horizon 10 --horizon 11 --mode plain",
+            LineFault::Wrong,
+        ),
+        ("run --horizon 10 --mode plain more", LineFault::Wrong),
+        ("walk", LineFault::Wrong),
+        ("--help", LineFault::Help),
+        ("help", LineFault::Help),
+        ("help run", LineFault::Help),
+        ("run --help", LineFault::Help),
+    ] {
+        let words = words(alloc, line)?;
+        match read_line(alloc, words.as_slice()) {
+            Ok(_) => assert!(rt; false, "{line} is read"),
+            Err(fault) => assert_eq!(rt; fault, want, "{line}"),
+        }
+    }
+    Ok(())
+}
+
+#[test]
+fn whole_line(rt: HostRuntime) -> Result<(), Fail> {
+    let alloc = rt.alloc();
+    let words = words(
+        alloc,
+        "run --horizon=012 --clock 2:4 --init 0 --mode plain --stimuli in.csv",
+    )?;
+    match read_line(alloc, words.as_slice()) {
+        Ok(line) => {
+            assert_eq!(rt; line.settings.horizon, 12);
+            assert_eq!(rt; line.settings.clock, Some((2, 4)));
+            assert_eq!(rt; line.settings.init, Level::Zero);
+            assert_eq!(rt; line.mode, Mode::Plain);
+            let name = line.stimuli.as_ref().map(|name| name.as_str());
+            assert!(rt; name == Some("in.csv"));
+            assert!(rt; line.delays.is_none());
+            assert!(rt; line.clocks.is_none());
+        }
+        Err(_) => assert!(rt; false),
+    }
+    Ok(())
+}
+
+#[test]
+fn messages(rt: HostRuntime) -> Result<(), Fail> {
+    let alloc = rt.alloc();
+    for (line, part) in [
+        ("--help", "Usage: cmbsim <COMMAND>"),
+        (
+            "run --help",
+            "Usage: cmbsim run [OPTIONS] --horizon <N> --mode <MODE>",
+        ),
+        ("run --help", "cmbsim run --horizon 10 --mode plain"),
+        ("run --horizon 0 --mode plain", "error: invalid value '0'"),
+        ("run --mode plain", "--horizon <N>"),
+    ] {
+        let words = words(alloc, line)?;
+        let message = line_message(alloc, words.as_slice())?;
+        assert!(rt; message.as_str().contains(part), "{message}");
+    }
+    Ok(())
+}
+
+#[test]
+fn line_of_a_fault(rt: HostRuntime) -> Result<(), Fail> {
+    match run(&rt, bench_case(b"INPUT(a)\ny = AND(a", 10))?.0 {
+        Ok(_) => assert!(rt; false),
+        Err(fault) => {
+            let line = fault_line(rt.alloc(), &fault)?;
+            assert!(rt; line.as_slice() == b"cmbsim: fault 2 at 2\n".as_slice());
+        }
+    }
+    Ok(())
+}

@@ -1,0 +1,62 @@
+#!/usr/bin/env bash
+# end_to_end.sh: runs the whole program on files, as `rt try` builds it from the sources that the gate
+# has just proved (proving them once more for this would take as long again). The waveforms of each
+# example have to be those of its expected.vcd, byte for byte; a wrong use has to write nothing and to
+# end with its status. The last line is 'N passed, M failed'.
+set -uo pipefail
+cd "$(dirname "$0")/.."
+examples=$PWD/examples
+cases=$(mktemp -d)
+report=$(mktemp)
+trap 'rm -rf "$cases" "$report"' EXIT
+data=()
+declare -A statuses
+
+example() { # example NAME: the netlist is standard input, and each table a file of its own
+    local name=$1 folder=$examples/$1 table words
+    read -r -a words <"$folder/options"
+    for table in delays stimuli clocks; do
+        if [ -f "$folder/$table.csv" ]; then
+            words+=("--$table" "$name.$table.csv")
+            data+=(--data "$name.$table.csv=$folder/$table.csv")
+        fi
+    done
+    cp "$folder/netlist.bench" "$cases/$name"
+    printf '%s\n' run "${words[@]}" >"$cases/$name.args"
+    cp "$folder/expected.vcd" "$cases/$name.stdout"
+    statuses[$name]=0
+}
+
+refused() { # refused NAME STATUS WORDS..: nothing on standard output
+    local name=$1
+    statuses[$name]=$2
+    shift 2
+    cp "$examples/inverter/netlist.bench" "$cases/$name"
+    printf '%s\n' "$@" >"$cases/$name.args"
+    : >"$cases/$name.stdout"
+}
+
+for folder in "$examples"/*/; do
+    example "$(basename "$folder")"
+done
+refused horizon_of_0 2 run --horizon 0 --mode plain
+refused no_mode 2 run --horizon 10
+refused clock_of_another_form 1 run --horizon 10 --mode plain --clock 2-4
+refused period_of_0 1 run --horizon 10 --mode plain --clock 2:0
+refused missing_file 1 run --horizon 10 --mode plain --stimuli missing.csv
+refused netlist_as_a_table 1 run --horizon 10 --mode plain --delays inverter.netlist.csv
+data+=(--data "inverter.netlist.csv=$examples/inverter/netlist.bench")
+
+(cd crates/cmbsim && rt try --cases "$cases" "${data[@]}") >"$report" 2>&1
+passed=0
+failed=0
+for name in "${!statuses[@]}"; do
+    if grep -q "^case=$name run=ended status=${statuses[$name]} .*output=expected" "$report"; then
+        passed=$((passed + 1))
+    else
+        failed=$((failed + 1))
+        echo "end to end: $name FAILED: $(grep "^case=$name " "$report")"
+    fi
+done
+echo "$passed passed, $failed failed"
+[ "$failed" = 0 ]
