@@ -60,17 +60,20 @@ pub struct Clustering {
 }
 
 impl Model for Clustering {
-    ghost use Rattle.cmb_core.specs.Clustering.{Clustering};
+    ghost use Rattle.std.specs.Prelude.{length};
+    ghost use Rattle.cmb_core.specs.Clustering.{Clustering, IsClustering};
 
     ghost Value = { Clustering };
 
     ghost view = { λ a. record { clusters = a.clusters; assign = a.assign.items } };
+
+    ghost invariant = { λ a. IsClustering (length a.assign.items) (record { clusters = a.clusters; assign = a.assign.items }) };
 }
 
 impl Clustering {
     ghost use Rattle.std.specs.Prelude.{◌≡◌, ◌<◌, Ok, IfOk, IfErr, length, slice_index};
     ghost use Rattle.cmb_core.specs.Assigns.{checked_clustering, spread_clustering, RefusesClustering};
-    ghost use Rattle.cmb_core.specs.Clustering.{cluster_of};
+    ghost use Rattle.cmb_core.specs.Clustering.{cluster_of, IsClustering};
 
     /// A clustering of these assignments.
     pub fn new(nets: u32, clusters: u32, assign: Vec<u32>) -> Result<Clustering, ClusteringFault>
@@ -111,6 +114,14 @@ impl Clustering {
         ensures { result ≡ self.now.clusters }
     {
         self.clusters
+    }
+
+    // The cluster of each net.
+    pub(crate) fn assigned(&self) -> &[u32]
+        ensures value { result.now ≡ self.now.assign }
+        ensures lawful { IsClustering (length self.now.assign) self.now }
+    {
+        self.assign.as_slice()
     }
 
     /// The cluster of a net.
