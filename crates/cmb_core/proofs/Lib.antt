@@ -19,3 +19,5 @@ pub mod OpenedFacts
 pub mod ReadFacts
 pub mod ReaderFacts
 pub mod Worlds
+pub mod OwnFacts
+pub mod ExactFacts

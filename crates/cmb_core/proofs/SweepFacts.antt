@@ -68,7 +68,7 @@ filter_index p a (suc n) i h = go (p a) i h (λ k l. filter_index p (a + 1) n k 
         rw e (ap (λ o. option_map (λ place. suc place) o) (rest k (omega arith)))
     go false k l rest low = rest k l
 
-process_of : (design : Design) (clustering : Clustering) (cluster : ℕ) (nets : List ℕ) (processes : List Process) (i : ℕ) (d : Process) → AreProcessesOf design clustering cluster nets processes → i < length nets
+pub process_of : (design : Design) (clustering : Clustering) (cluster : ℕ) (nets : List ℕ) (processes : List Process) (i : ℕ) (d : Process) → AreProcessesOf design clustering cluster nets processes → i < length nets
     → IsProcessOf design clustering cluster (get_or nets i 0) (get_or processes i d)
 process_of design clustering cluster [] processes i d a h = absurd (omega arith)
 process_of design clustering cluster (net ∷ nets) [] i d a h = absurd a
@@ -87,7 +87,7 @@ module _ (design : Design) (clustering : Clustering) (cluster : ℕ) (s : Cluste
   pub net_held : (slot_wave s i).net ≡ get_or (held_nets design clustering cluster) i 0
   net_held = sym (get_or-map (λ w. w.net) s.waves i (new_wave 0) 0 h) ∙ ap (λ ns. get_or ns i 0) of.nets
 
-  long : i < length (held_nets design clustering cluster)
+  pub long : i < length (held_nets design clustering cluster)
   long = omega (arith, length-map s.waves (λ w. w.net), ap length of.nets)
 
   process_here : IsProcessOf design clustering cluster (get_or (held_nets design clustering cluster) i 0) (process_at s i)
@@ -102,7 +102,7 @@ module _ (design : Design) (clustering : Clustering) (cluster : ℕ) (s : Cluste
   drives_here own = record { horizon = of.horizon; here = slot_here; process = process_here.own own }
 
   -- a given wave goes on by no step
-  given_reach : (cluster_of clustering (get_or (held_nets design clustering cluster) i 0) ≡ cluster → ⊥) → reach_at s i ≡ 0
+  pub given_reach : (cluster_of clustering (get_or (held_nets design clustering cluster) i 0) ≡ cluster → ⊥) → reach_at s i ≡ 0
   given_reach other = let e : (process_at s i).rule ≡ Given = process_here.given other in rw e refl
 
   module _ (before : (slot_wave s i).clock < reach_at s i → last_level (slot_wave s i).kept (slot_wave s i).changes ≡ level_before (level_at (slot_wave s i).kept (slot_wave s i).changes) (slot_wave s i).clock) where

@@ -1,7 +1,7 @@
 -- A trim keeps what is still needed.
-use Rattle.std.proofs.Common.{◌≡◌, ℕ, zero, suc, ◌+◌, ◌-◌, ◌<◌, ◌≤◌, min, Bool, true, false, cond, eqb, ltb, List, [], ◌∷◌, ◌++◌, ◌⊎◌, inl, inr, length, get_or, set, map, Some, refl, sym, ◌∙◌, ap, subst, arith, get_or-set_same, get_or-set_other, length-set}
+use Rattle.std.proofs.Common.{◌≡◌, ℕ, zero, suc, ◌+◌, ◌-◌, ◌<◌, ◌≤◌, min, Bool, true, false, cond, eqb, ltb, List, [], ◌∷◌, ◌++◌, ◌⊎◌, inl, inr, length, get_or, set, map, refl, sym, ◌∙◌, ap, subst, arith, get_or-set_same, get_or-set_other, length-set}
 use Rattle.std.specs.List.{AllByRecursion, range_with_len}
-use Rattle.std.proofs.lemmas.Bool.{eq-eqb, ne_eqb, eqb-true, cases_eq, cases_lt, lt-ltb, le-ltb}
+use Rattle.std.proofs.lemmas.Bool.{eq-eqb, ne_eqb, cases_eq, cases_lt, lt-ltb, le-ltb}
 use Rattle.std.specs.Prelude.{All}
 use Rattle.std.proofs.Common.{Vec, Global}
 use Rattle.std.proofs.lemmas.List.{get_or-map}
@@ -15,8 +15,8 @@ use Rattle.cmb_core.specs.declared.process.Operand.{Operand}
 use Rattle.cmb_core.specs.declared.process.Rule.{Rule}
 use Rattle.cmb_core.specs.declared.process.Rule.TheVariants.{Given, Input, Gate, Flop}
 use Rattle.cmb_core.specs.declared.tables.Reader.{Reader}
-use Rattle.cmb_core.specs.Clusters.{Cluster, IsSound, IsSameButWaves, slot_wave, process_at, wave_nets}
-use Rattle.cmb_core.specs.Rows.{Process, IsThere, AreReady, IsReadyFor, flop_need, slot_of, is_given}
+use Rattle.cmb_core.specs.Clusters.{Cluster, IsSound, IsSameButWaves, slot_wave, process_at}
+use Rattle.cmb_core.specs.Rows.{Process, IsThere, AreReady, IsReadyFor, flop_need, is_given}
 use Rattle.cmb_core.specs.Step.{wave_at}
 use Rattle.cmb_core.specs.Tables.{given_at, pins_on, readers_from, listed_readers, AreTables}
 use Rattle.cmb_core.specs.Trims.{need, need_at, least_need, trimmed_to, trimmed_wave, trimmed}

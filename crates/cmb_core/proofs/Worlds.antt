@@ -66,7 +66,7 @@ has_wave-with (first ∷ waves) wave net = go (eqb first.net wave.net) refl (has
     go true e rest = ap (λ (n : ℕ). eqb n net || has_wave waves net) (sym (eqb-true first.net wave.net e))
     go false e rest = ap (λ (h : Bool). eqb first.net net || h) rest
 
-all-with : (P : Wave → Type 0) (waves : List Wave) (wave : Wave) → P wave → AllByRecursion P waves → AllByRecursion P (with_wave waves wave)
+pub all-with : (P : Wave → Type 0) (waves : List Wave) (wave : Wave) → P wave → AllByRecursion P waves → AllByRecursion P (with_wave waves wave)
 all-with P [] wave p all = tt
 all-with P (first ∷ waves) wave p all =
     cond_both (eqb first.net wave.net) (wave ∷ waves) (first ∷ with_wave waves wave) (AllByRecursion P) (λ yes. (p, all.1)) (λ no. (all.0, all-with P waves wave p all.1))

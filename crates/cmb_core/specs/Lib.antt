@@ -3,6 +3,7 @@ pub mod Arrivals
 pub mod Assigns
 pub mod Clusters
 pub mod Deliveries
+pub mod Exactness
 pub mod Faults
 pub mod Gates
 pub mod Rows

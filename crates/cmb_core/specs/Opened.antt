@@ -1,5 +1,5 @@
 -- The clusters of a design: which nets each one has, and their processes.
-use Rattle.std.specs.Prelude.{◌≡◌, ◌≢◌, ℕ, Bool, ◌==◌, ◌||◌, List, [], ◌∷◌, filter}
+use Rattle.std.specs.Prelude.{◌≡◌, ◌≢◌, ℕ, ◌<◌, Bool, ◌==◌, ◌||◌, List, [], ◌∷◌, filter}
 use Rattle.std.specs.List.{range_with_len}
 use Rattle.cmb_bench.specs.Netlist.{driver_of}
 use Rattle.cmb_design.specs.Design.{Design}
@@ -12,6 +12,10 @@ use Rattle.cmb_core.specs.Clusters.{Cluster, IsDrivenBy, wave_nets}
 -- the net is one of the cluster's own
 abbrev pub is_own : Clustering → ℕ → ℕ → Bool
 is_own clustering cluster net = cluster_of clustering net == cluster
+
+pub record IsOwnNet (design : Design) (clustering : Clustering) (cluster net : ℕ) : Type 0 where
+  pub there : net < nets_of design
+  pub own : cluster_of clustering net ≡ cluster
 
 -- the nets of a cluster, those that they read, and both, by rising number
 abbrev pub own_nets : Design → Clustering → ℕ → List ℕ

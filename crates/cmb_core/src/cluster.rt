@@ -1,6 +1,6 @@
 //! A part of a design that is simulated by itself.
 
-ghost use Rattle.std.specs.Prelude.{◌≡◌, ◌<◌, ◌≤◌, ℕ, false, IfOk, OnOk, OnErr, IfErr, IsSome, IfSome, MatchOption, Ok, None, slice_set, length, map};
+ghost use Rattle.std.specs.Prelude.{◌≡◌, ◌≢◌, ◌<◌, ◌≤◌, ℕ, false, IfOk, OnOk, OnErr, IfErr, IsSome, IfSome, MatchOption, Ok, Err, None, slice_set, length, map};
 
 use crate::advance::Span;
 use crate::clustering::Clustering;
@@ -37,14 +37,17 @@ impl Model for Cluster {
 impl Cluster {
     ghost use Rattle.cmb_wave.specs.Waveform.{last_level, level_at, level_before};
     ghost use Rattle.cmb_design.specs.Design.{Design};
-    ghost use Rattle.cmb_design.specs.Exact.{nets_of};
+    ghost use Rattle.cmb_design.specs.Exact.{nets_of, IsExactIn, IsRightIn};
     ghost use Rattle.cmb_wave.specs.Wave.{new_wave};
-    ghost use Rattle.cmb_core.specs.Opened.{IsClusterOf, held_nets};
+    ghost use Rattle.cmb_core.specs.Clustering.{Clustering as Clusters};
+    ghost use Rattle.cmb_core.specs.Exactness.{IsExactCluster};
+    ghost use Rattle.cmb_core.specs.Opened.{IsClusterOf, IsOwnNet, held_nets};
     ghost use Rattle.cmb_core.specs.Step.{wave_at};
     ghost use Rattle.cmb_core.specs.Rows.{slot_of};
-    ghost use Rattle.cmb_core.specs.Clusters.{slot_wave, new_part, new_waves_at, step_answer, step_waves, Drives, input_slot, output_slot, delivered, RefusesDelivery, heard_at, IsSameButWaves, IsNextSpan, reach_at};
+    ghost use Rattle.cmb_core.specs.Clusters.{slot_wave, new_part, new_waves_at, step_answer, step_waves, IsSound, input_slot, output_slot, delivered, RefusesDelivery, heard_at, IsSameButWaves, IsNextSpan, reach_at};
     ghost use Rattle.cmb_wave.specs.Calls.{taken, RefusesAs, hears, heard_wave};
     ghost use Rattle.cmb_core.specs.World.{with_wave};
+    ghost use Rattle.cmb_core.specs.declared.delivery.DeliverFault.TheVariants.{Clash};
 
     /// The cluster with this number, of which nothing is known yet.
     pub fn open(
@@ -57,6 +60,7 @@ impl Cluster {
         requires cluster { cluster < clustering.now.clusters }
         ensures of { IfOk result (λ s. IsClusterOf design.now clustering.now cluster s) }
         ensures new { IfOk result (λ s. s.waves ≡ map new_wave (held_nets design.now clustering.now cluster)) }
+        ensures exact { IfOk result (λ s. IsExactCluster design.now clustering.now cluster s) }
     {
         let nets = nets_held(alloc, design, clustering, cluster)?;
         let places = places_among(alloc, &nets, design.netlist().len())?;
@@ -77,10 +81,13 @@ impl Cluster {
         })
     }
 
-    /// Lets a net go on as far as its operands are known.
+    /// Lets a net of the cluster's own go on as far as its operands are known, and answers what is new
+    /// of it, None where nothing is. Of exact waves the new part is exact, and they stay so.
     pub fn step(&mut self, net: u32) -> Result<Option<Piece>, AllocError>
-        ensures piece { (design : Design) (slot : ℕ) → Drives design self.old net slot → IfOk result (λ part. part ≡ step_answer design self.old.waves (wave_at self.old.waves net)) }
-        ensures waves { (design : Design) (slot : ℕ) → Drives design self.old net slot → OnOk result (self.new.waves ≡ step_waves design self.old.waves (wave_at self.old.waves net)) }
+        ensures piece { (design : Design) (clustering : Clusters) (cluster : ℕ) → IsClusterOf design clustering cluster self.old → IsOwnNet design clustering cluster net → IfOk result (λ part. part ≡ step_answer design self.old.waves (wave_at self.old.waves net)) }
+        ensures waves { (design : Design) (clustering : Clusters) (cluster : ℕ) → IsClusterOf design clustering cluster self.old → IsOwnNet design clustering cluster net → OnOk result (self.new.waves ≡ step_waves design self.old.waves (wave_at self.old.waves net)) }
+        ensures exact { (design : Design) (clustering : Clusters) (cluster : ℕ) → IsExactCluster design clustering cluster self.old → IsExactCluster design clustering cluster self.new }
+        ensures sent { (design : Design) (clustering : Clusters) (cluster : ℕ) → IsExactCluster design clustering cluster self.old → IsOwnNet design clustering cluster net → IfOk result (λ part. IfSome part (IsExactIn design)) }
         ensures unchanged { OnErr result (self.new ≡ self.old) }
         ensures same { IsSameButWaves self.old self.new }
     {
@@ -104,7 +111,8 @@ impl Cluster {
     // The span of a wave's new ticks, None where its process can't go on.
     pub(crate) fn next_span(&self, slot: usize) -> Option<Span>
         requires { slot < length self.now.waves }
-        ensures { MatchOption result (reach_at self.now slot ≤ (slot_wave self.now slot).clock) (λ span. IsNextSpan self.now slot span) }
+        ensures span { MatchOption result (reach_at self.now slot ≤ (slot_wave self.now slot).clock) (λ span. IsNextSpan self.now slot span) }
+        ensures sound { IsSound self.now }
     {
         let wave = &self.waves[slot];
         let from = wave.clock();
@@ -122,6 +130,7 @@ impl Cluster {
     // The same by the place of the net's wave.
     fn step_at(&mut self, slot: usize) -> Result<Option<Piece>, AllocError>
         requires { slot < length self.old.waves }
+        ensures sound { IsSound self.old }
         ensures part { IfOk result (λ part. part ≡ new_part self.old slot) }
         ensures waves { OnOk result (self.new.waves ≡ new_waves_at self.old slot) }
         ensures before { (slot_wave self.old slot).clock < reach_at self.old slot → last_level (slot_wave self.old slot).kept (slot_wave self.old slot).changes ≡ level_before (level_at (slot_wave self.old slot).kept (slot_wave self.old slot).changes) (slot_wave self.old slot).clock }
@@ -171,7 +180,9 @@ impl Cluster {
         }
     }
 
-    /// Gives a piece to the input wave of its net, and answers the new clock.
+    /// Gives a piece to the input wave of its net, and answers the new clock. Refused by 44 `Stranger`
+    /// where the cluster has no such wave, then as by the wave: 42 `Gap`, 43 `Old`, 47 `Clash`, or 70.
+    /// Exact waves stay exact by exact pieces, which never clash with them.
     pub fn deliver(&mut self, piece: &Piece) -> Result<u32, DeliverFault>
         ensures ok { OnOk result (delivered self.old piece.now ≡ Ok (wave_at self.new.waves piece.now.net)) }
         ensures waves { OnOk result (self.new.waves ≡ with_wave self.old.waves (wave_at self.new.waves piece.now.net)) }
@@ -179,6 +190,8 @@ impl Cluster {
         ensures fault { IfErr result (λ fault. RefusesDelivery fault (delivered self.old piece.now)) }
         ensures unchanged { OnErr result (self.new ≡ self.old) }
         ensures same { IsSameButWaves self.old self.new }
+        ensures exact { (design : Design) (clustering : Clusters) (cluster : ℕ) → IsExactCluster design clustering cluster self.old → IsExactIn design piece.now → IsExactCluster design clustering cluster self.new }
+        ensures calm { (design : Design) (clustering : Clusters) (cluster tick : ℕ) → IsExactCluster design clustering cluster self.old → IsExactIn design piece.now → result ≢ Err (Clash tick) }
     {
         match self.input_place(piece.net()) {
             Some(slot) => match self.deliver_at(slot, piece) {
@@ -204,12 +217,13 @@ impl Cluster {
         wave.take(piece)
     }
 
-    /// Tells a promise to the input wave of its net.
+    /// Tells a promise to the input wave of its net. Exact waves stay exact by right promises.
     pub fn hear(&mut self, promise: Promise) -> Result<Heard, Stranger>
         ensures answer { result ≡ heard_at self.old promise (input_slot self.old promise.net) }
         ensures waves { OnOk result (self.new.waves ≡ with_wave self.old.waves (heard_wave (wave_at self.old.waves promise.net) promise)) }
         ensures unchanged { OnErr result (self.new ≡ self.old) }
         ensures same { IsSameButWaves self.old self.new }
+        ensures exact { (design : Design) (clustering : Clusters) (cluster : ℕ) → IsExactCluster design clustering cluster self.old → IsRightIn design promise → IsExactCluster design clustering cluster self.new }
     {
         match self.input_place(promise.net) {
             Some(slot) => Ok(self.hear_at(slot, promise)),

@@ -1,11 +1,13 @@
 //! What a cluster answers of its waves as they stand.
 
-ghost use Rattle.std.specs.Prelude.{◌≡◌, ◌<◌, ◌≤◌, ◌==◌, ◌&&◌, not, ℕ, IfOk, map, length};
+ghost use Rattle.std.specs.Prelude.{◌≡◌, ◌<◌, ◌≤◌, ◌==◌, ◌&&◌, not, ℕ, IfOk, IfSome, map, length};
 ghost use Rattle.std.specs.List.{list_all};
 ghost use Rattle.cmb_wave.specs.Calls.{cut, promised};
 ghost use Rattle.cmb_design.specs.Design.{Design};
+ghost use Rattle.cmb_design.specs.Exact.{IsExactIn, IsExactWaveIn, IsRightIn};
 ghost use Rattle.cmb_core.specs.Clustering.{Clustering as Clusters};
 ghost use Rattle.cmb_core.specs.Clusters.{IsDrivenHere, driven_waves, inputs_of, input_slot, is_complete, output_slot, outputs_of, told_at};
+ghost use Rattle.cmb_core.specs.Exactness.{IsExactCluster};
 ghost use Rattle.cmb_core.specs.Opened.{IsClusterOf, own_nets, read_nets};
 ghost use Rattle.cmb_core.specs.Rows.{is_given};
 ghost use Rattle.cmb_core.specs.Step.{wave_at};
@@ -41,6 +43,7 @@ impl Cluster {
         requires { IsDrivenHere self.now net }
         ensures wave { result.now ≡ wave_at self.now.waves net }
         ensures whole { (wave_at self.now.waves net).base ≡ 0 }
+        ensures exact { (design : Design) (clustering : Clusters) (cluster : ℕ) → IsExactCluster design clustering cluster self.now → IsExactWaveIn design (wave_at self.now.waves net) }
     {
         match self.output_place(net) {
             Some(slot) => &self.waves[slot],
@@ -49,18 +52,22 @@ impl Cluster {
     }
 
     /// The piece of a net that is driven here from a tick up to its clock, none where that is its clock.
+    /// Of exact waves it is exact.
     pub fn post(&self, net: u32, from: u32) -> Result<Option<Piece>, AllocError>
         requires driven { IsDrivenHere self.now net }
         requires known { from ≤ (wave_at self.now.waves net).clock }
-        ensures { IfOk result (λ piece. piece ≡ cut (wave_at self.now.waves net) from) }
+        ensures cut { IfOk result (λ piece. piece ≡ cut (wave_at self.now.waves net) from) }
+        ensures sent { (design : Design) (clustering : Clusters) (cluster : ℕ) → IsExactCluster design clustering cluster self.now → IfOk result (λ piece. IfSome piece (IsExactIn design)) }
     {
         self.driven_wave(net).cut(from)
     }
 
-    /// How far a net that is driven here is known, and how many changes it has there.
+    /// How far a net that is driven here is known, and how many changes it has there. Of exact waves it
+    /// is right.
     pub fn promise(&self, net: u32) -> Promise
         requires { IsDrivenHere self.now net }
-        ensures { result ≡ promised (wave_at self.now.waves net) }
+        ensures promised { result ≡ promised (wave_at self.now.waves net) }
+        ensures right { (design : Design) (clustering : Clusters) (cluster : ℕ) → IsExactCluster design clustering cluster self.now → IsRightIn design result }
     {
         self.driven_wave(net).promise()
     }

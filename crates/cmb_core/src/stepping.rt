@@ -4,7 +4,8 @@ ghost use Rattle.std.specs.Prelude.{◌≡◌, ◌<◌, ℕ, [], ◌||◌, nat_l
 ghost use Rattle.cmb_wave.specs.Waveform.{last_level, level_at, level_before};
 ghost use Rattle.cmb_design.specs.Design.{Design};
 ghost use Rattle.cmb_core.specs.Clustering.{Clustering as Clusters};
-ghost use Rattle.cmb_core.specs.Clusters.{IsSameButWaves, new_waves_at, reach_at, slot_wave};
+ghost use Rattle.cmb_core.specs.Clusters.{IsSameButWaves, IsSound, new_waves_at, reach_at, slot_wave};
+ghost use Rattle.cmb_core.specs.Exactness.{IsExactCluster};
 ghost use Rattle.cmb_core.specs.Opened.{IsClusterOf, own_nets};
 ghost use Rattle.cmb_core.specs.Sweep.{some_rises, stepped_waves};
 
@@ -44,6 +45,7 @@ impl Cluster {
     fn advance(&mut self, slot: usize, room: Vec<Change>) -> Result<Moved, AllocError>
         requires slot { slot < length self.old.waves }
         requires empty { room.items ≡ [] }
+        ensures sound { IsSound self.old }
         ensures rose { IfOk result (λ moved. moved.rose ≡ nat_lt (slot_wave self.old slot).clock (reach_at self.old slot)) }
         ensures room { IfOk result (λ moved. moved.room.items ≡ []) }
         ensures waves { OnOk result (self.new.waves ≡ new_waves_at self.old slot) }
@@ -70,6 +72,7 @@ impl Cluster {
         ensures waves { (design : Design) (clustering : Clusters) (cluster : ℕ) → IsClusterOf design clustering cluster self.old → OnOk result (self.new.waves ≡ stepped_waves design self.old.waves (own_nets design clustering cluster)) }
         ensures memory { (design : Design) (clustering : Clusters) (cluster : ℕ) → IsClusterOf design clustering cluster self.old → OnErr result ((first : ℕ) × (self.new.waves ≡ stepped_waves design self.old.waves (take first (own_nets design clustering cluster)))) }
         ensures same { IsSameButWaves self.old self.new }
+        ensures exact { (design : Design) (clustering : Clusters) (cluster : ℕ) → IsExactCluster design clustering cluster self.old → IsExactCluster design clustering cluster self.new }
     {
         let mut room = self.empty_room();
         let mut rose = false;

@@ -1,7 +1,10 @@
 //! Letting input waves forget what no pin needs any more.
 
-ghost use Rattle.std.specs.Prelude.{◌≡◌, ◌<◌, ◌≤◌, length, slice_set, All};
+ghost use Rattle.std.specs.Prelude.{◌≡◌, ◌<◌, ◌≤◌, ℕ, length, slice_set, All};
+ghost use Rattle.cmb_design.specs.Design.{Design};
+ghost use Rattle.cmb_core.specs.Clustering.{Clustering};
 ghost use Rattle.cmb_core.specs.Clusters.{IsSameButWaves, slot_wave};
+ghost use Rattle.cmb_core.specs.Exactness.{IsExactCluster};
 ghost use Rattle.cmb_core.specs.Rows.{flop_need};
 ghost use Rattle.cmb_core.specs.Trims.{least_need, need, trimmed, trimmed_to, trimmed_wave};
 
@@ -78,9 +81,11 @@ impl Cluster {
         trim_wave(&mut self.waves[slot], least);
     }
 
-    /// Lets each input wave forget what no pin on which its net stands needs any more.
+    /// Lets each input wave forget what no pin on which its net stands needs any more. Takes no memory,
+    /// and exact waves stay exact.
     pub fn trim(&mut self)
-        ensures { self.new ≡ trimmed self.old }
+        ensures trimmed { self.new ≡ trimmed self.old }
+        ensures exact { (design : Design) (clustering : Clustering) (cluster : ℕ) → IsExactCluster design clustering cluster self.old → IsExactCluster design clustering cluster self.new }
     {
         for slot in 0..self.slots() {
             self.trim_at(slot);

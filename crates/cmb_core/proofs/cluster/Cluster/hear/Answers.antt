@@ -1,4 +1,8 @@
-use Rattle.std.proofs.Common.{Ok, sym, ◌∙◌, ap}
+use Rattle.std.proofs.Common.{Ok, List, sym, ◌∙◌, ap, subst}
+use Rattle.std.specs.List.{AllByRecursion}
+use Rattle.cmb_wave.specs.Wave.{Wave}
+use Rattle.cmb_design.specs.Exact.{IsExactWaveIn}
+use Rattle.cmb_core.proofs.ExactFacts.{heard_exact, still_exact}
 use Rattle.cmb_core.proofs.Inputs.{hear_put, hear_answer}
 use Rattle.cmb_core.proofs.cluster.Cluster.hear.Goals as goal
 
@@ -9,3 +13,9 @@ returns-in-Some-clause-answer c =
 pub returns-in-Some-clause-waves : goal.returns-in-Some-clause-waves
 returns-in-Some-clause-waves c =
     hear_put c.args.self.now c.args.promise c.in-Some.slot _ (sym c.input_place.ensures.place ∙ c.in-Some.is) c.hear_at.ensures.waves
+
+pub returns-in-Some-clause-exact : goal.returns-in-Some-clause-exact
+returns-in-Some-clause-exact c = λ design clustering cluster exact promise.
+    let P : List Wave → Type 0 = λ ws. AllByRecursion (IsExactWaveIn design) ws in
+    still_exact design clustering cluster c.args.self.now c.hear_at.new.self c.hear_at.ensures.same exact
+    (subst P (sym (returns-in-Some-clause-waves c)) (heard_exact design c.args.self.now.waves c.args.promise exact.waves promise))

@@ -4,11 +4,12 @@ use Rattle.std.specs.List.{AllByRecursion}
 use Rattle.std.proofs.lemmas.List.Elements.{All-from_recursion}
 use Rattle.cmb_wave.specs.Wave.{Wave, new_wave}
 use Rattle.cmb_bench.specs.Netlist.{Netlist, IsNetlist}
-use Rattle.cmb_design.specs.Exact.{nets_of}
+use Rattle.cmb_design.specs.Exact.{nets_of, IsExactWaveIn}
 use Rattle.cmb_core.specs.Clusters.{IsSound, wave_nets}
 use Rattle.cmb_core.specs.Opened.{held_nets, AreProcessesOf}
 use Rattle.cmb_core.specs.Rows.{Process}
 use Rattle.cmb_core.specs.Tables.{place_in}
+use Rattle.cmb_core.proofs.ExactFacts.{new_exact}
 use Rattle.cmb_core.proofs.OpenedFacts.{held_below, held_length, pins_placed, slots_below, new_nets, opened_sound}
 use Rattle.cmb_core.proofs.cluster.Cluster.open.Goals as goal
 
@@ -76,4 +77,13 @@ returns-clause-of c =
       horizon = c.horizon.ensures.value;
       nets = ap wave_nets waves ∙ new_nets c.in_ok-nets.nets.items ∙ c.in_ok-nets.ensures;
       processes = subst P (c.deref-2.ensures.value ∙ c.in_ok-nets.ensures) c.in_ok-processes.ensures.processes;
+    }
+
+pub returns-clause-exact : goal.returns-clause-exact
+returns-clause-exact c =
+    let waves : c.in_ok-waves.waves.items ≡ map new_wave (held_nets c.args.design.now c.args.clustering.now c.args.cluster) = c.in_ok-waves.ensures ∙ ap (map new_wave) (c.deref-7.ensures.value ∙ c.in_ok-nets.ensures) in
+    let P : List Wave → Type 0 = λ ws. AllByRecursion (IsExactWaveIn c.args.design.now) ws in
+    record {
+      of = returns-clause-of c;
+      waves = subst P (sym waves) (new_exact c.args.design.now (held_nets c.args.design.now c.args.clustering.now c.args.cluster) (held_below c.args.design.now c.args.clustering.now c.args.cluster));
     }

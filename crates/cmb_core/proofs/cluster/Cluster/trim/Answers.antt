@@ -1,4 +1,7 @@
-use Rattle.std.proofs.Common.{◌≡◌, ◌<◌, ◌≤◌, length, map, arith, sym, ◌∙◌, ap}
+use Rattle.std.proofs.Common.{arith, sym, ap, subst}
+use Rattle.std.specs.List.{AllByRecursion}
+use Rattle.cmb_design.specs.Exact.{IsExactWaveIn}
+use Rattle.cmb_core.proofs.ExactFacts.{still_exact, trimmed_exact}
 use Rattle.cmb_core.proofs.SweepFacts.{same_length}
 use Rattle.cmb_core.proofs.TrimFacts.{trim_none, trim_more, trim_all}
 use Rattle.cmb_core.proofs.cluster.Cluster.trim.Goals as goal
@@ -14,4 +17,11 @@ loop-slot-preserved c =
     trim_more c.args.self.now c.loop-slot.self c.loop-slot.slot c.loop-slot.invariant (omega (arith, c.loop-slot-test.true, c.slots-slot-end.ensures)) c.trim_at.new.self c.trim_at.ensures.waves c.trim_at.ensures.same
 
 pub returns : goal.returns
-returns c = trim_all c.args.self.now c.loop-slot.self c.loop-slot.slot (omega (arith, c.loop-slot-test.false, c.slots-slot-end.ensures)) c.loop-slot.invariant
+returns c =
+    let all = trim_all c.args.self.now c.loop-slot.self c.loop-slot.slot (omega (arith, c.loop-slot-test.false, c.slots-slot-end.ensures)) c.loop-slot.invariant in
+    record {
+      trimmed = all;
+      exact = λ design clustering cluster exact.
+          still_exact design clustering cluster c.args.self.now c.loop-slot.self c.loop-slot.invariant.same exact
+          (subst (AllByRecursion (IsExactWaveIn design)) (sym (ap (λ s. s.waves) all)) (trimmed_exact design c.args.self.now exact.waves));
+    }

@@ -1,4 +1,4 @@
-use Rattle.std.proofs.Common.{rules, ◌≡◌, ◌<◌, ◌≤◌, length, List, [], true, cond, get_or, set, arith, sym, ◌∙◌, ap, subst}
+use Rattle.std.proofs.Common.{rules, ◌≡◌, ◌<◌, length, List, [], true, cond, get_or, set, arith, sym, ◌∙◌, ap, subst}
 use Rattle.std.specs.Prelude.{All}
 use Rattle.std.proofs.Math.Seq.{map-set_same}
 use Rattle.std.proofs.lemmas.Bool.{not-false}
@@ -6,7 +6,7 @@ use Rattle.std.proofs.lemmas.List.{get_or_read}
 use Rattle.cmb_wave.specs.Wave.{Wave, new_wave}
 use Rattle.cmb_core.specs.declared.process.Rule.TheVariants.{Given}
 use Rattle.cmb_core.specs.declared.tables.Reader.{Reader}
-use Rattle.cmb_core.specs.Clusters.{Cluster, IsSound, slot_wave, wave_nets}
+use Rattle.cmb_core.specs.Clusters.{Cluster, IsSound, wave_nets}
 use Rattle.cmb_core.specs.Rows.{Process, is_given}
 use Rattle.cmb_core.specs.Tables.{given_at, readers_from}
 use Rattle.cmb_core.specs.Trims.{least_need, trimmed_to, trimmed_wave}
