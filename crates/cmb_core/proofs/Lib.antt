@@ -21,3 +21,6 @@ pub mod ReaderFacts
 pub mod Worlds
 pub mod OwnFacts
 pub mod ExactFacts
+pub mod Homes
+pub mod Plays
+pub mod Opens

@@ -18,3 +18,4 @@ pub mod Clocks
 pub mod Run
 pub mod Trims
 pub mod World
+pub mod Play

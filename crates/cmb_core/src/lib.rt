@@ -13,14 +13,17 @@ pub mod merge;
 pub mod node;
 mod open;
 pub mod pins;
+mod play;
 pub mod process;
 mod readers;
 mod reads;
 mod stepping;
 pub mod tables;
 mod trim;
+pub mod world;
 
 pub use cluster::Cluster;
 pub use clustering::{Clustering, ClusteringFault};
 pub use delivery::{DeliverFault, Stranger};
 pub use event::{Event, PlayFault, Reply};
+pub use world::World;

@@ -1,0 +1,18 @@
+use Rattle.std.proofs.Common.{◌≡◌, ◌<◌, [], Some, length, arith, sym, ◌∙◌, ap, subst}
+use Rattle.std.specs.Prelude.{IfOk, slice_get}
+use Rattle.std.proofs.lemmas.List.{get_or_read}
+use Rattle.cmb_wave.specs.Calls.{cut}
+use Rattle.cmb_wave.specs.Wave.{Wave}
+use Rattle.cmb_core.specs.Play.{cluster_at, home_wave}
+use Rattle.cmb_core.specs.Step.{wave_at}
+use Rattle.cmb_core.proofs.Plays.{home_wave_at}
+use Rattle.cmb_core.proofs.world.World.part_from.Goals as goal
+
+pub returns : goal.returns
+returns c =
+    let place : slice_get c.args.self.now.assign c.args.net ≡ Some c.in-Some.cluster = sym c.home.ensures.place ∙ c.in-Some.is in
+    let listed : c.in-Some.cluster < length c.self.inside.clusters.items = omega (arith, c.in-Some.ensures.there, ap (λ w. length w.clusters) c.self.view_is) in
+    let lent = get_or_read _ _ _ listed c.index.ensures (record { horizon = 0; processes = []; waves = [] }) ∙ ap (λ w. cluster_at w c.in-Some.cluster) c.self.view_is in
+    let same : wave_at c.index.result.now.waves c.args.net ≡ home_wave c.args.self.now c.args.net = ap (λ s. wave_at s.waves c.args.net) lent ∙ home_wave_at c.args.self.now c.args.net c.in-Some.cluster place in
+    let P : Wave → Type 0 = λ v. IfOk c.post.result (λ piece. piece ≡ cut v c.args.from) in
+    subst P same c.post.ensures.cut

@@ -1,0 +1,201 @@
+//! The five events of a world.
+
+ghost use Rattle.std.specs.Prelude.{◌≡◌, ℕ, ◌<◌};
+
+use crate::delivery::{DeliverFault, Stranger, play_fault};
+use crate::event::{Event, PlayFault, Reply};
+use crate::world::World;
+use cmb_wave::{Heard, Piece, Promise};
+use std::alloc::AllocError;
+
+impl World {
+    ghost use Rattle.std.specs.Prelude.{◌≡◌, ◌<◌, ◌≤◌, ℕ, [], ◌∷◌, ◌++◌, length, nat_lt, slice_get, Some, None, Ok, OnOk, OnErr, IfOk, IfErr, if◌then◌else◌};
+    ghost use Rattle.cmb_wave.specs.Calls.{cut, promised, heard_wave};
+    ghost use Rattle.cmb_design.specs.Design.{Design};
+    ghost use Rattle.cmb_core.specs.declared.event.Event.TheVariants.{Step, Post, Deliver, Promise as Promises, Look};
+    ghost use Rattle.cmb_core.specs.Clustering.{Clustering};
+    ghost use Rattle.cmb_core.specs.Clusters.{step_answer, step_waves, delivered, RefusesDelivery, heard_at, input_slot};
+    ghost use Rattle.cmb_core.specs.Opened.{IsClusterOf, IsOwnNet};
+    ghost use Rattle.cmb_core.specs.Play.{IsWorldOf, IsSameBut, Plays, cluster_at, home_wave, post_at, shown};
+    ghost use Rattle.cmb_core.specs.Step.{wave_at};
+    ghost use Rattle.cmb_core.specs.World.{play_world, with_wave};
+
+    /// What an event does: the call on its cluster, over that cluster's own waves as they stand. 45 where the net, the
+    /// cluster or the number isn't there, 46 where a piece would begin beyond the clock, and then as the cluster
+    /// refuses: 44, 42, 43, and 47, which doesn't come over exact waves. A refusal changes nothing.
+    pub fn play(&mut self, event: Event) -> Result<Reply, PlayFault>
+        ensures played { (design : Design) (clustering : Clustering) → IsWorldOf design clustering self.old → Plays (play_world design clustering (shown self.old) event) (shown self.old) (shown self.new) result }
+        ensures kept { (design : Design) (clustering : Clustering) → IsWorldOf design clustering self.old → IsWorldOf design clustering self.new }
+        ensures unchanged { OnErr result (self.new ≡ self.old) }
+    {
+        match event {
+            Event::Step(net) => self.step(net),
+            Event::Post(net, from) => self.post(net, from),
+            Event::Deliver(cluster, number) => self.deliver(cluster, number),
+            Event::Promise(net) => self.promise(net),
+            Event::Look(cluster, number) => self.look(cluster, number),
+        }
+    }
+
+    // Steps a net in a cluster.
+    fn step_in(&mut self, cluster: usize, net: u32) -> Result<Option<Piece>, AllocError>
+        requires { cluster < length self.old.clusters }
+        ensures part { (design : Design) (clustering : Clustering) (number : ℕ) → IsClusterOf design clustering number (cluster_at self.old cluster) → IsOwnNet design clustering number net → IfOk result (λ part. part ≡ step_answer design (cluster_at self.old cluster).waves (wave_at (cluster_at self.old cluster).waves net)) }
+        ensures waves { (design : Design) (clustering : Clustering) (number : ℕ) → IsClusterOf design clustering number (cluster_at self.old cluster) → IsOwnNet design clustering number net → OnOk result ((cluster_at self.new cluster).waves ≡ step_waves design (cluster_at self.old cluster).waves (wave_at (cluster_at self.old cluster).waves net)) }
+        ensures unchanged { OnErr result (self.new ≡ self.old) }
+        ensures same { IsSameBut cluster self.old self.new }
+    {
+        self.clusters[cluster].step(net)
+    }
+
+    fn step(&mut self, net: u32) -> Result<Reply, PlayFault>
+        ensures played { (design : Design) (clustering : Clustering) → IsWorldOf design clustering self.old → Plays (play_world design clustering (shown self.old) (Step net)) (shown self.old) (shown self.new) result }
+        ensures kept { (design : Design) (clustering : Clustering) → IsWorldOf design clustering self.old → IsWorldOf design clustering self.new }
+        ensures unchanged { OnErr result (self.new ≡ self.old) }
+    {
+        let Some(cluster) = self.home(net) else {
+            return Err(PlayFault::NoSuch);
+        };
+        match self.step_in(cluster, net) {
+            Ok(part) => Ok(Reply::Stepped(part)),
+            Err(_) => Err(PlayFault::Memory),
+        }
+    }
+
+    // The piece of a net from a tick up to its clock.
+    fn part_from(&self, net: u32, from: u32) -> Result<Option<Piece>, AllocError>
+        requires there { net < length self.now.assign }
+        requires known { from ≤ (home_wave self.now net).clock }
+        ensures { IfOk result (λ piece. piece ≡ cut (home_wave self.now net) from) }
+    {
+        match self.home(net) {
+            Some(cluster) => self.clusters[cluster].post(net, from),
+            None => unreachable!(),
+        }
+    }
+
+    // Keeps a piece among those that were posted, and answers its number.
+    fn add_post(&mut self, piece: Piece) -> Result<usize, AllocError>
+        ensures number { IfOk result (λ number. number ≡ length self.old.posts) }
+        ensures added { OnOk result (self.new ≡ record self.old { posts = self.old.posts ++ piece ∷ [] }) }
+        ensures unchanged { OnErr result (self.new ≡ self.old) }
+    {
+        let number = self.posts.len();
+        self.posts.push(piece)?;
+        Ok(number)
+    }
+
+    fn post(&mut self, net: u32, from: u32) -> Result<Reply, PlayFault>
+        ensures played { (design : Design) (clustering : Clustering) → IsWorldOf design clustering self.old → Plays (play_world design clustering (shown self.old) (Post net from)) (shown self.old) (shown self.new) result }
+        ensures kept { (design : Design) (clustering : Clustering) → IsWorldOf design clustering self.old → IsWorldOf design clustering self.new }
+        ensures unchanged { OnErr result (self.new ≡ self.old) }
+    {
+        let Some(clock) = self.out_clock(net) else {
+            return Err(PlayFault::NoSuch);
+        };
+        if from > clock {
+            return Err(PlayFault::Beyond);
+        }
+        match self.part_from(net, from) {
+            Ok(Some(piece)) => match self.add_post(piece) {
+                Ok(number) => Ok(Reply::Posted(Some(number))),
+                Err(_) => Err(PlayFault::Memory),
+            },
+            Ok(None) => Ok(Reply::Posted(None)),
+            Err(_) => Err(PlayFault::Memory),
+        }
+    }
+
+    // Gives a piece that was posted to a cluster.
+    fn deliver_in(&mut self, cluster: usize, number: usize) -> Result<u32, DeliverFault>
+        requires cluster { cluster < length self.old.clusters }
+        requires number { number < length self.old.posts }
+        ensures ok { OnOk result (delivered (cluster_at self.old cluster) (post_at self.old number) ≡ Ok (wave_at (cluster_at self.new cluster).waves (post_at self.old number).net)) }
+        ensures waves { OnOk result ((cluster_at self.new cluster).waves ≡ with_wave (cluster_at self.old cluster).waves (wave_at (cluster_at self.new cluster).waves (post_at self.old number).net)) }
+        ensures clock { IfOk result (λ clock. clock ≡ (wave_at (cluster_at self.new cluster).waves (post_at self.old number).net).clock) }
+        ensures fault { IfErr result (λ fault. RefusesDelivery fault (delivered (cluster_at self.old cluster) (post_at self.old number))) }
+        ensures unchanged { OnErr result (self.new ≡ self.old) }
+        ensures same { IsSameBut cluster self.old self.new }
+    {
+        self.clusters[cluster].deliver(&self.posts[number])
+    }
+
+    fn deliver(&mut self, cluster: u32, number: usize) -> Result<Reply, PlayFault>
+        ensures played { (design : Design) (clustering : Clustering) → IsWorldOf design clustering self.old → Plays (play_world design clustering (shown self.old) (Deliver cluster number)) (shown self.old) (shown self.new) result }
+        ensures kept { (design : Design) (clustering : Clustering) → IsWorldOf design clustering self.old → IsWorldOf design clustering self.new }
+        ensures unchanged { OnErr result (self.new ≡ self.old) }
+    {
+        let place = cluster as usize;
+        if place >= self.clusters.len() || number >= self.posts.len() {
+            return Err(PlayFault::NoSuch);
+        }
+        match self.deliver_in(place, number) {
+            Ok(clock) => Ok(Reply::Delivered(clock)),
+            Err(fault) => Err(play_fault(fault)),
+        }
+    }
+
+    // What a net can promise, None where there is no such net.
+    fn promise_of(&self, net: u32) -> Option<Promise>
+        ensures { result ≡ (if nat_lt net (length self.now.assign) then Some (promised (home_wave self.now net)) else None) }
+    {
+        match self.home(net) {
+            Some(cluster) => Some(self.clusters[cluster].promise(net)),
+            None => None,
+        }
+    }
+
+    // Keeps a promise among those that were made, and answers its number.
+    fn add_promise(&mut self, promise: Promise) -> Result<usize, AllocError>
+        ensures number { IfOk result (λ number. number ≡ length self.old.promises) }
+        ensures added { OnOk result (self.new ≡ record self.old { promises = self.old.promises ++ promise ∷ [] }) }
+        ensures unchanged { OnErr result (self.new ≡ self.old) }
+    {
+        let number = self.promises.len();
+        self.promises.push(promise)?;
+        Ok(number)
+    }
+
+    fn promise(&mut self, net: u32) -> Result<Reply, PlayFault>
+        ensures played { (design : Design) (clustering : Clustering) → IsWorldOf design clustering self.old → Plays (play_world design clustering (shown self.old) (Promises net)) (shown self.old) (shown self.new) result }
+        ensures kept { (design : Design) (clustering : Clustering) → IsWorldOf design clustering self.old → IsWorldOf design clustering self.new }
+        ensures unchanged { OnErr result (self.new ≡ self.old) }
+    {
+        let Some(promise) = self.promise_of(net) else {
+            return Err(PlayFault::NoSuch);
+        };
+        match self.add_promise(promise) {
+            Ok(number) => Ok(Reply::Promised(number, promise)),
+            Err(_) => Err(PlayFault::Memory),
+        }
+    }
+
+    // Tells a promise to a cluster.
+    fn hear_in(&mut self, cluster: usize, promise: Promise) -> Result<Heard, Stranger>
+        requires { cluster < length self.old.clusters }
+        ensures answer { result ≡ heard_at (cluster_at self.old cluster) promise (input_slot (cluster_at self.old cluster) promise.net) }
+        ensures waves { OnOk result ((cluster_at self.new cluster).waves ≡ with_wave (cluster_at self.old cluster).waves (heard_wave (wave_at (cluster_at self.old cluster).waves promise.net) promise)) }
+        ensures unchanged { OnErr result (self.new ≡ self.old) }
+        ensures same { IsSameBut cluster self.old self.new }
+    {
+        self.clusters[cluster].hear(promise)
+    }
+
+    fn look(&mut self, cluster: u32, number: usize) -> Result<Reply, PlayFault>
+        ensures played { (design : Design) (clustering : Clustering) → IsWorldOf design clustering self.old → Plays (play_world design clustering (shown self.old) (Look cluster number)) (shown self.old) (shown self.new) result }
+        ensures kept { (design : Design) (clustering : Clustering) → IsWorldOf design clustering self.old → IsWorldOf design clustering self.new }
+        ensures unchanged { OnErr result (self.new ≡ self.old) }
+    {
+        let place = cluster as usize;
+        if place >= self.clusters.len() {
+            return Err(PlayFault::NoSuch);
+        }
+        let Some(promise) = self.promised(number) else {
+            return Err(PlayFault::NoSuch);
+        };
+        match self.hear_in(place, promise) {
+            Ok(heard) => Ok(Reply::Looked(heard)),
+            Err(_) => Err(PlayFault::Stranger),
+        }
+    }
+}
