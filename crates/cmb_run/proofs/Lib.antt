@@ -7,6 +7,7 @@ pub mod Known
 pub mod LineFacts
 pub mod OrderFacts
 pub mod PartFacts
+pub mod RunFacts
 pub mod SpanFacts
 pub mod Texts
 pub mod TraceFacts

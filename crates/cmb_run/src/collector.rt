@@ -11,7 +11,7 @@ use std::alloc::{AllocError, Global};
 use std::marker::Model;
 
 /// A wave for each net of a design, from tick 0 on: a collector forgets nothing.
-#[derive(Drop)]
+#[derive(Debug, Drop)]
 pub struct Collector {
     waves: Vec<Wave>,
     horizon: u32,

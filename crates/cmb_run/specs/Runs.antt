@@ -1,0 +1,7 @@
+-- What a run is of, where there is none.
+use Rattle.std.specs.Prelude.{[]}
+use Rattle.cmb_core.specs.Clustering.{Clustering}
+
+-- one cluster, and no nets
+abbrev pub no_clustering : Clustering
+no_clustering = record { clusters = 1; assign = [] }

@@ -1,0 +1,58 @@
+//! A run's collector, exact in the run's design by its type.
+
+ghost use Rattle.std.specs.Prelude.{◌≡◌};
+ghost use Rattle.cmb_run.specs.Collector.{IsExactFor};
+
+use crate::collector::Collector;
+use crate::fault::CollectFault;
+use crate::part::Posted;
+use crate::terms::Terms;
+use cmb_design::Design;
+use std::alloc::{AllocError, Global};
+use std::marker::{Model, PhantomData};
+
+/// What is collected of the run.
+#[derive(Drop)]
+pub struct Collected<T: Terms> {
+    collector: Collector,
+    of: PhantomData<T>,
+}
+
+impl<T: Terms> Model for Collected<T> {
+    ghost use Rattle.cmb_run.specs.Collector.{Collector, IsExactFor};
+
+    ghost Value = { Collector };
+
+    ghost view = { λ c. c.collector };
+
+    ghost invariant = { λ c. IsExactFor T.design c.collector };
+}
+
+impl<T: Terms> Collected<T> {
+    /// Nothing is known.
+    pub fn open(alloc: Global, design: &Design) -> Result<Collected<T>, AllocError>
+        requires { design.now ≡ T.design }
+    {
+        let collector = Collector::open(alloc, design)?;
+        Ok(Collected {
+            collector,
+            of: PhantomData,
+        })
+    }
+
+    /// Goes on by a piece of a net.
+    pub fn take(&mut self, posted: &Posted<T>) -> Result<(), AllocError> {
+        match self.collector.take(posted.piece()) {
+            Err(CollectFault::Memory) => Err(AllocError),
+            _ => Ok(()),
+        }
+    }
+
+    /// The collector.
+    pub fn into_collector(self) -> Collector
+        ensures collector { result ≡ self }
+        ensures exact { IsExactFor T.design result }
+    {
+        self.collector
+    }
+}

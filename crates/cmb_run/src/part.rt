@@ -1,0 +1,135 @@
+//! What a run's workers hold and hand on: all of it is exact in the run's design, by its type.
+
+ghost use Rattle.std.specs.Prelude.{◌≡◌, ◌<◌, length};
+ghost use Rattle.cmb_design.specs.Exact.{IsExactIn, nets_of};
+
+use crate::terms::Terms;
+use cmb_core::{Cluster, Clustering, DeliverFault};
+use cmb_design::Design;
+use cmb_wave::Piece;
+use std::alloc::{AllocError, Global};
+use std::marker::{Model, PhantomData};
+
+/// A piece that is exact in the run's design.
+#[derive(Drop)]
+pub struct Posted<T: Terms> {
+    piece: Piece,
+    of: PhantomData<T>,
+}
+
+impl<T: Terms> Model for Posted<T> {
+    ghost use Rattle.cmb_wave.specs.Wave.{Piece};
+    ghost use Rattle.cmb_design.specs.Exact.{IsExactIn};
+
+    ghost Value = { Piece };
+
+    ghost view = { λ p. p.piece };
+
+    ghost invariant = { λ p. IsExactIn T.design p.piece };
+}
+
+impl<T: Terms> Posted<T> {
+    /// A piece that was posted.
+    pub fn new(piece: Piece) -> Posted<T>
+        requires { IsExactIn T.design piece }
+        ensures { result ≡ piece }
+    {
+        Posted {
+            piece,
+            of: PhantomData,
+        }
+    }
+
+    /// The piece itself.
+    pub fn piece(&self) -> &Piece
+        ensures piece { result.now ≡ self.now }
+        ensures exact { IsExactIn T.design result.now }
+    {
+        &self.piece
+    }
+}
+
+/// A cluster of the run, each wave of which is its net's up to its clock.
+#[derive(Drop)]
+pub struct Part<T: Terms> {
+    number: u32,
+    cluster: Cluster,
+    of: PhantomData<T>,
+}
+
+impl<T: Terms> Model for Part<T> {
+    ghost use Rattle.cmb_core.specs.Clusters.{Cluster};
+    ghost use Rattle.cmb_core.specs.Exactness.{IsExactCluster};
+
+    ghost Value = { Cluster };
+
+    ghost view = { λ p. p.cluster };
+
+    ghost invariant = { λ p. IsExactCluster T.design T.clustering p.number p.cluster };
+}
+
+impl<T: Terms> Part<T> {
+    /// The cluster with this number, of which nothing is known yet.
+    pub fn open(
+        alloc: Global,
+        design: &Design,
+        clustering: &Clustering,
+        number: u32,
+    ) -> Result<Part<T>, AllocError>
+        requires design { design.now ≡ T.design }
+        requires clustering { clustering.now ≡ T.clustering }
+        requires nets { length clustering.now.assign ≡ nets_of design.now }
+        requires number { number < clustering.now.clusters }
+    {
+        let cluster = Cluster::open(alloc, design, clustering, number)?;
+        Ok(Part {
+            number,
+            cluster,
+            of: PhantomData,
+        })
+    }
+
+    /// Steps each net that is driven here once, in order, and forgets what nobody needs any more.
+    pub fn step(&mut self) -> Result<(), AllocError> {
+        self.cluster.step_all()?;
+        self.cluster.trim();
+        Ok(())
+    }
+
+    /// The piece of a net from a tick up to its clock, none where it isn't known further or isn't driven here.
+    pub fn post(&self, net: u32, from: u32) -> Result<Option<Posted<T>>, AllocError> {
+        let Some(clock) = self.cluster.out_clock(net) else {
+            return Ok(None);
+        };
+        if clock <= from {
+            return Ok(None);
+        }
+        match self.cluster.post(net, from)? {
+            Some(piece) => Ok(Some(Posted::new(piece))),
+            None => Ok(None),
+        }
+    }
+
+    /// Gives a piece to the input wave of its net. What the cluster refuses changes nothing.
+    pub fn deliver(&mut self, posted: &Posted<T>) -> Result<(), AllocError> {
+        match self.cluster.deliver(posted.piece()) {
+            Err(DeliverFault::Memory) => Err(AllocError),
+            _ => Ok(()),
+        }
+    }
+
+    /// The nets that are driven here, by rising number.
+    pub fn driven(&self) -> &[u32] {
+        self.cluster.driven()
+    }
+
+    /// The other nets that they read, by rising number.
+    pub fn inputs(&self) -> &[u32] {
+        self.cluster.inputs()
+    }
+
+    /// Whether every net that is driven here is known up to the horizon.
+    pub fn complete(&self) -> bool {
+        self.cluster.complete()
+    }
+}

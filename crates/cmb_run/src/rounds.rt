@@ -1,0 +1,266 @@
+//! A run in rounds: the workers step their clusters, each in a thread of its own, and between two
+//! rounds what they posted is passed on.
+
+ghost use Rattle.std.specs.Prelude.{◌≡◌, length, IfOk, IfErr};
+ghost use Rattle.cmb_design.specs.Exact.{nets_of};
+ghost use Rattle.cmb_run.specs.Collector.{IsComplete, IsExactFor};
+ghost use Rattle.cmb_run.specs.declared.run_fault.RunFault.TheVariants.{Memory};
+
+use crate::collected::Collected;
+use crate::collector::Collector;
+use crate::hand::Hand;
+use crate::part::{Part, Posted};
+use crate::run_fault::RunFault;
+use crate::terms::Terms;
+use cmb_core::Clustering;
+use cmb_design::Design;
+use cmb_links::Workers;
+use std::alloc::{AllocError, Global};
+use std::marker::Brand;
+use std::sync::Wait;
+use std::thread;
+use std::thread::Threads;
+
+// Where a piece of a net goes: the clusters that read the net, and their workers.
+#[derive(Drop)]
+struct Routes {
+    readers: Vec<Vec<u32>>,
+    workers: Workers,
+}
+
+// The workers' clusters. A worker without clusters has no part in the run.
+fn deal<T: Terms>(
+    alloc: Global,
+    design: &Design,
+    clustering: &Clustering,
+    workers: Workers,
+) -> Result<Vec<Hand<T>>, AllocError>
+    requires design { design.now ≡ T.design }
+    requires clustering { clustering.now ≡ T.clustering }
+    requires nets { length clustering.now.assign ≡ nets_of design.now }
+{
+    let count = workers.count().min(clustering.clusters());
+    let mut hands = Vec::with_capacity(alloc, count as usize)?;
+    for worker in 0..count {
+        hands.push(Hand::open(alloc, design, clustering, workers, worker)?)?;
+    }
+    Ok(hands)
+}
+
+// The round's steps where there is one worker.
+fn here<T: Terms>(mut hands: Vec<Hand<T>>) -> Vec<Hand<T>> {
+    for hand in hands.iter_mut() {
+        hand.work();
+    }
+    hands
+}
+
+// The round's steps, each worker's in a thread of its own. Where one can't be made the others are joined all the same.
+fn in_threads<T: Terms + Send + Sync, R: Threads + Wait + Sync>(
+    rt: &R,
+    alloc: Global,
+    hands: Vec<Hand<T>>,
+) -> Result<Vec<Hand<T>>, AllocError> {
+    thread::scope(
+        thread::scope_env(),
+        rt,
+        move |scope| -> Result<Vec<Hand<T>>, AllocError> {
+            let mut threads = Vec::with_capacity(alloc, hands.len())?;
+            let mut back = Vec::with_capacity(alloc, hands.len())?;
+            let mut refused = false;
+            for hand in hands {
+                match scope.spawn(move || hand.worked()) {
+                    Ok(thread) => threads.push(thread)?,
+                    Err(_unstarted) => refused = true,
+                }
+            }
+            for thread in threads {
+                back.push(thread.join(rt))?;
+            }
+            if refused { Err(AllocError) } else { Ok(back) }
+        },
+    )
+}
+
+// The round's steps.
+fn step<T: Terms + Send + Sync, R: Threads + Wait + Sync>(
+    rt: &R,
+    alloc: Global,
+    hands: Vec<Hand<T>>,
+) -> Result<Vec<Hand<T>>, AllocError> {
+    let back = if hands.len() > 1 {
+        in_threads(rt, alloc, hands)?
+    } else {
+        here(hands)
+    };
+    if back.iter().any(|hand| hand.refused()) {
+        return Err(AllocError);
+    }
+    Ok(back)
+}
+
+// Whom the nets of a worker's cluster are given by others.
+fn add_readers<T: Terms>(
+    readers: &mut [Vec<u32>],
+    part: &Part<T>,
+    cluster: u32,
+) -> Result<(), AllocError> {
+    for net in part.inputs() {
+        if let Some(list) = readers.get_mut(*net as usize) {
+            list.push(cluster)?;
+        }
+    }
+    Ok(())
+}
+
+// No readers for each of so many nets.
+fn no_readers(alloc: Global, nets: usize) -> Result<Vec<Vec<u32>>, AllocError> {
+    let mut readers = Vec::with_capacity(alloc, nets)?;
+    for _ in 0..nets {
+        readers.push(Vec::new(alloc))?;
+    }
+    Ok(readers)
+}
+
+impl Routes {
+    // The readers of each net, by what the clusters are given.
+    fn open<T: Terms>(
+        alloc: Global,
+        clustering: &Clustering,
+        workers: Workers,
+        hands: &[Hand<T>],
+    ) -> Result<Routes, AllocError> {
+        let mut readers = no_readers(alloc, clustering.nets())?;
+        for cluster in 0..clustering.clusters() {
+            if let Some(part) = part_of(hands, workers, cluster) {
+                add_readers(&mut readers, part, cluster)?;
+            }
+        }
+        Ok(Routes { readers, workers })
+    }
+
+    // Gives a piece to each cluster that reads its net.
+    fn deliver<T: Terms>(
+        &self,
+        hands: &mut [Hand<T>],
+        posted: &Posted<T>,
+    ) -> Result<(), AllocError> {
+        let Some(readers) = self.readers.get(posted.piece().net() as usize) else {
+            return Ok(());
+        };
+        for cluster in readers {
+            let worker = self.workers.of(*cluster) as usize;
+            if let Some(hand) = hands.get_mut(worker) {
+                hand.deliver((*cluster / self.workers.count()) as usize, posted)?;
+            }
+        }
+        Ok(())
+    }
+
+    // Passes on what a worker posted.
+    fn deliver_all<T: Terms>(
+        &self,
+        hands: &mut [Hand<T>],
+        posted: &[Posted<T>],
+    ) -> Result<(), AllocError> {
+        for one in posted {
+            self.deliver(hands, one)?;
+        }
+        Ok(())
+    }
+
+    // Passes on what all workers posted.
+    fn pass_on<T: Terms>(&self, alloc: Global, hands: &mut [Hand<T>]) -> Result<(), AllocError> {
+        for worker in 0..hands.len() {
+            let posted = match hands.get_mut(worker) {
+                Some(hand) => hand.take_posted(alloc),
+                None => return Ok(()),
+            };
+            self.deliver_all(hands, &posted)?;
+        }
+        Ok(())
+    }
+}
+
+// The cluster with a number.
+fn part_of<T: Terms>(hands: &[Hand<T>], workers: Workers, cluster: u32) -> Option<&Part<T>> {
+    let hand = hands.get(workers.of(cluster) as usize)?;
+    hand.part((cluster / workers.count()) as usize)
+}
+
+// What the clusters know of all nets.
+fn collect<T: Terms>(
+    alloc: Global,
+    design: &Design,
+    clustering: &Clustering,
+    workers: Workers,
+    hands: &[Hand<T>],
+) -> Result<Collector, AllocError>
+    requires design { design.now ≡ T.design }
+    requires nets { length clustering.now.assign ≡ nets_of design.now }
+    ensures { IfOk result (λ collector. IsExactFor design.now collector) }
+{
+    let mut collected = Collected::open(alloc, design)?;
+    for net in 0..design.netlist().len() as u32 {
+        if let Some(part) = part_of(hands, workers, clustering.of(net)) {
+            if let Some(posted) = part.post(net, 0)? {
+                collected.take(&posted)?;
+            }
+        }
+    }
+    Ok(collected.into_collector())
+}
+
+// The run of the design and the clustering that T names.
+fn run_named<T: Terms + Send + Sync, R: Threads + Wait + Sync>(
+    rt: &R,
+    alloc: Global,
+    design: &Design,
+    clustering: &Clustering,
+    workers: Workers,
+) -> Result<Collector, AllocError>
+    requires design { design.now ≡ T.design }
+    requires clustering { clustering.now ≡ T.clustering }
+    requires nets { length clustering.now.assign ≡ nets_of design.now }
+    ensures exact { IfOk result (λ collector. IsExactFor design.now collector) }
+    ensures complete { IfOk result (λ collector. IsComplete collector) }
+{
+    let mut hands = deal::<T>(alloc, design, clustering, workers)?;
+    let routes = Routes::open(alloc, clustering, workers, &hands)?;
+    for hand in hands.iter_mut() {
+        hand.connect(&routes.readers)?;
+    }
+    for _ in rt.forever() {
+        hands = step(rt, alloc, hands)?;
+        routes.pass_on(alloc, &mut hands)?;
+        if hands.iter().all(|hand| hand.complete()) {
+            let collector = collect(alloc, design, clustering, workers, &hands)?;
+            if collector.complete() {
+                return Ok(collector);
+            }
+        }
+    }
+    unreachable!()
+}
+
+/// Simulates a design in rounds and collects the waves of all its nets, up to the horizon. In each
+/// round every net is stepped once, and then what is new of it is posted to the clusters that read
+/// it. Cluster c belongs to worker `c mod workers`; where more than one worker has a cluster, each
+/// steps its clusters in a thread of its own, which is joined before pieces are passed on. What
+/// comes out is the same for any clustering and any number of workers. The only refusal is 70,
+/// where memory or a worker's thread was refused.
+pub fn run_rounds<R: Threads + Wait + Sync>(
+    rt: &R,
+    alloc: Global,
+    design: &Design,
+    clustering: &Clustering,
+    workers: Workers,
+) -> Result<Collector, RunFault>
+    requires { length clustering.now.assign ≡ nets_of design.now }
+    ensures exact { IfOk result (λ collector. IsExactFor design.now collector) }
+    ensures complete { IfOk result (λ collector. IsComplete collector) }
+    ensures fault { IfErr result (λ fault. fault ≡ Memory) }
+{
+    let collector = run_named::<Brand, R>(rt, alloc, design, clustering, workers)?;
+    Ok(collector)
+}
