@@ -23,4 +23,5 @@ pub mod OwnFacts
 pub mod ExactFacts
 pub mod Homes
 pub mod Plays
+pub mod Runs
 pub mod Opens

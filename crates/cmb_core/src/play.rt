@@ -1,6 +1,7 @@
 //! The five events of a world.
 
-ghost use Rattle.std.specs.Prelude.{◌≡◌, ℕ, ◌<◌};
+ghost use Rattle.std.specs.Prelude.{◌≡◌, ◌≢◌, Err, IfOk, OnErr};
+ghost use Rattle.cmb_core.specs.declared.event.PlayFault.TheVariants.{Memory};
 
 use crate::delivery::{DeliverFault, Stranger, play_fault};
 use crate::event::{Event, PlayFault, Reply};
@@ -8,17 +9,31 @@ use crate::world::World;
 use cmb_wave::{Heard, Piece, Promise};
 use std::alloc::AllocError;
 
+// A reply to be listed with others, unless memory was wanted.
+fn listed(reply: Result<Reply, PlayFault>) -> Result<Result<Reply, PlayFault>, AllocError>
+    ensures ok { IfOk result (λ same. (same ≡ reply) × (reply ≢ Err Memory)) }
+    ensures memory { OnErr result (reply ≡ Err Memory) }
+{
+    match reply {
+        Err(PlayFault::Memory) => Err(AllocError),
+        other => Ok(other),
+    }
+}
+
 impl World {
-    ghost use Rattle.std.specs.Prelude.{◌≡◌, ◌<◌, ◌≤◌, ℕ, [], ◌∷◌, ◌++◌, length, nat_lt, slice_get, Some, None, Ok, OnOk, OnErr, IfOk, IfErr, if◌then◌else◌};
+    ghost use Rattle.std.specs.Prelude.{◌≡◌, ◌<◌, ◌≤◌, ℕ, List, [], ◌∷◌, ◌++◌, length, take, nat_lt, slice_get, Some, None, Ok, OnOk, OnErr, IfOk, IfErr, if◌then◌else◌};
     ghost use Rattle.cmb_wave.specs.Calls.{cut, promised, heard_wave};
     ghost use Rattle.cmb_design.specs.Design.{Design};
+    ghost use Rattle.cmb_core.specs.declared.event.Event.{Event};
     ghost use Rattle.cmb_core.specs.declared.event.Event.TheVariants.{Step, Post, Deliver, Promise as Promises, Look};
     ghost use Rattle.cmb_core.specs.Clustering.{Clustering};
     ghost use Rattle.cmb_core.specs.Clusters.{step_answer, step_waves, delivered, RefusesDelivery, heard_at, input_slot};
     ghost use Rattle.cmb_core.specs.Opened.{IsClusterOf, IsOwnNet};
-    ghost use Rattle.cmb_core.specs.Play.{IsWorldOf, IsSameBut, Plays, cluster_at, home_wave, post_at, shown};
+    ghost use Rattle.cmb_core.specs.Play.{IsReached, IsWorldOf, IsSameBut, Plays, cluster_at, home_wave, post_at, shown};
+    ghost use Rattle.cmb_core.specs.Clocks.{start};
+    ghost use Rattle.cmb_core.specs.Run.{clocks_after, replies_to};
     ghost use Rattle.cmb_core.specs.Step.{wave_at};
-    ghost use Rattle.cmb_core.specs.World.{play_world, with_wave};
+    ghost use Rattle.cmb_core.specs.World.{Shows, play_world, with_wave, world_after, world_replies};
 
     /// What an event does: the call on its cluster, over that cluster's own waves as they stand. 45 where the net, the
     /// cluster or the number isn't there, 46 where a piece would begin beyond the clock, and then as the cluster
@@ -35,6 +50,26 @@ impl World {
             Event::Promise(net) => self.promise(net),
             Event::Look(cluster, number) => self.look(cluster, number),
         }
+    }
+
+    /// Each event in turn, refused ones too, with all their replies. The room for these is made first. Where
+    /// memory is wanted it stops, and the world is then the one after some number of the first events.
+    pub fn play_all(
+        &mut self,
+        events: &[Event],
+    ) -> Result<Vec<Result<Reply, PlayFault>>, AllocError>
+        ensures replies { (design : Design) (clustering : Clustering) → IsWorldOf design clustering self.old → IfOk result (λ replies. replies.items ≡ world_replies design clustering (shown self.old) events.now) }
+        ensures world { (design : Design) (clustering : Clustering) → IsWorldOf design clustering self.old → OnOk result (shown self.new ≡ world_after design clustering (shown self.old) events.now) }
+        ensures memory { (design : Design) (clustering : Clustering) → IsWorldOf design clustering self.old → OnErr result ((first : ℕ) × (shown self.new ≡ world_after design clustering (shown self.old) (take first events.now))) }
+        ensures kept { (design : Design) (clustering : Clustering) → IsWorldOf design clustering self.old → IsWorldOf design clustering self.new }
+        ensures sequential { (design : Design) (clustering : Clustering) (past : List Event) → IsWorldOf design clustering self.old → IsReached design clustering (shown self.old) past → IfOk result (λ replies. replies.items ≡ replies_to design clustering (clocks_after design clustering (start design clustering) past) events.now) }
+        ensures exact { (design : Design) (clustering : Clustering) (past : List Event) → IsWorldOf design clustering self.old → IsReached design clustering (shown self.old) past → OnOk result (Shows design clustering (shown self.new) (clocks_after design clustering (clocks_after design clustering (start design clustering) past) events.now)) }
+    {
+        let mut replies = Vec::with_capacity(*self.clusters.allocator(), events.len())?;
+        for event in events {
+            replies.push(listed(self.play(*event))?)?;
+        }
+        Ok(replies)
     }
 
     // Steps a net in a cluster.
