@@ -12,6 +12,8 @@ mod lines;
 mod part;
 pub mod rounds;
 pub mod run_fault;
+#[cfg(test)]
+mod run_tests;
 pub mod sink;
 mod terms;
 pub mod text;
