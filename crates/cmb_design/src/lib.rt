@@ -32,4 +32,4 @@ pub use rows::{
 pub use settings::Settings;
 
 #[cfg(test)]
-mod plain_tests;
+mod tests;

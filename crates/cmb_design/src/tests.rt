@@ -1,0 +1,4 @@
+//! Worked examples as tests.
+
+mod plain;
+mod tables;
