@@ -26,3 +26,6 @@ pub use run_fault::RunFault;
 pub use sink::{Failed, Limited, Room, Sink, ToWriter, write_whole};
 pub use text::vcd_text;
 pub use writer::VcdWriter;
+
+#[cfg(test)]
+mod tests;
