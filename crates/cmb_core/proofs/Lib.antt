@@ -24,4 +24,6 @@ pub mod ExactFacts
 pub mod Homes
 pub mod Plays
 pub mod Runs
+pub mod Turns
+pub mod RoundFacts
 pub mod Opens

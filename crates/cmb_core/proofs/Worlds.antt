@@ -211,7 +211,7 @@ exact_piece-is design piece exact = λ i. record { net = piece.net; from = piece
 
 module _ (design : Design) (netlist : IsNetlist design.netlist) (clustering : Clustering) (assigned : IsClustering (nets_of design) clustering) (world : World) (has : HasWaves design clustering world) (clocks : Clocks) (sound : IsSound design clustering clocks) (shows : Shows design clustering world clocks) where
   -- the reach over the waves of a net's cluster
-  reach-same : (net : ℕ) → net < nets_of design → step_reach design (waves_of world (cluster_of clustering net)) net ≡ reach design clustering clocks net
+  pub reach-same : (net : ℕ) → net < nets_of design → step_reach design (waves_of world (cluster_of clustering net)) net ≡ reach design clustering clocks net
   unfolding reach
   reach-same net there =
       driver_reach-agree design (told_upto (waves_of world (cluster_of clustering net))) (seen_clock clustering clocks (cluster_of clustering net)) net (driver_of design.netlist net)

@@ -19,3 +19,4 @@ pub mod Run
 pub mod Trims
 pub mod World
 pub mod Play
+pub mod Rounds

@@ -57,6 +57,11 @@ pub record IsSameBut (cluster : ℕ) (old new : World) : Type 0 where
   pub world : new ≡ record old { clusters = slice_set old.clusters cluster (cluster_at new cluster) }
   pub still : IsSameButWaves (cluster_at old cluster) (cluster_at new cluster)
 
+-- no event adds a net or a cluster
+pub record IsSameSize (old new : World) : Type 0 where
+  pub nets : length new.assign ≡ length old.assign
+  pub clusters : length new.clusters ≡ length old.clusters
+
 -- the event went as it is defined, and where memory was wanted nothing changed
 abbrev pub Plays : Played → Waves → Waves → Result Reply PlayFault → Type 0
 Plays played before after (Err Memory) = after ≡ before

@@ -17,6 +17,7 @@ mod play;
 pub mod process;
 mod readers;
 mod reads;
+mod rounds;
 mod stepping;
 pub mod tables;
 mod trim;

@@ -10,7 +10,9 @@ use cmb_wave::{Heard, Piece, Promise};
 use std::alloc::AllocError;
 
 // A reply to be listed with others, unless memory was wanted.
-fn listed(reply: Result<Reply, PlayFault>) -> Result<Result<Reply, PlayFault>, AllocError>
+pub(crate) fn listed(
+    reply: Result<Reply, PlayFault>,
+) -> Result<Result<Reply, PlayFault>, AllocError>
     ensures ok { IfOk result (λ same. (same ≡ reply) × (reply ≢ Err Memory)) }
     ensures memory { OnErr result (reply ≡ Err Memory) }
 {
@@ -29,7 +31,7 @@ impl World {
     ghost use Rattle.cmb_core.specs.Clustering.{Clustering};
     ghost use Rattle.cmb_core.specs.Clusters.{step_answer, step_waves, delivered, RefusesDelivery, heard_at, input_slot};
     ghost use Rattle.cmb_core.specs.Opened.{IsClusterOf, IsOwnNet};
-    ghost use Rattle.cmb_core.specs.Play.{IsReached, IsWorldOf, IsSameBut, Plays, cluster_at, home_wave, post_at, shown};
+    ghost use Rattle.cmb_core.specs.Play.{IsReached, IsWorldOf, IsSameBut, IsSameSize, Plays, cluster_at, home_wave, post_at, shown};
     ghost use Rattle.cmb_core.specs.Clocks.{start};
     ghost use Rattle.cmb_core.specs.Run.{clocks_after, replies_to};
     ghost use Rattle.cmb_core.specs.Step.{wave_at};
@@ -42,6 +44,7 @@ impl World {
         ensures played { (design : Design) (clustering : Clustering) → IsWorldOf design clustering self.old → Plays (play_world design clustering (shown self.old) event) (shown self.old) (shown self.new) result }
         ensures kept { (design : Design) (clustering : Clustering) → IsWorldOf design clustering self.old → IsWorldOf design clustering self.new }
         ensures unchanged { OnErr result (self.new ≡ self.old) }
+        ensures size { IsSameSize self.old self.new }
     {
         match event {
             Event::Step(net) => self.step(net),
@@ -87,6 +90,7 @@ impl World {
         ensures played { (design : Design) (clustering : Clustering) → IsWorldOf design clustering self.old → Plays (play_world design clustering (shown self.old) (Step net)) (shown self.old) (shown self.new) result }
         ensures kept { (design : Design) (clustering : Clustering) → IsWorldOf design clustering self.old → IsWorldOf design clustering self.new }
         ensures unchanged { OnErr result (self.new ≡ self.old) }
+        ensures size { IsSameSize self.old self.new }
     {
         let Some(cluster) = self.home(net) else {
             return Err(PlayFault::NoSuch);
@@ -124,6 +128,7 @@ impl World {
         ensures played { (design : Design) (clustering : Clustering) → IsWorldOf design clustering self.old → Plays (play_world design clustering (shown self.old) (Post net from)) (shown self.old) (shown self.new) result }
         ensures kept { (design : Design) (clustering : Clustering) → IsWorldOf design clustering self.old → IsWorldOf design clustering self.new }
         ensures unchanged { OnErr result (self.new ≡ self.old) }
+        ensures size { IsSameSize self.old self.new }
     {
         let Some(clock) = self.out_clock(net) else {
             return Err(PlayFault::NoSuch);
@@ -159,6 +164,7 @@ impl World {
         ensures played { (design : Design) (clustering : Clustering) → IsWorldOf design clustering self.old → Plays (play_world design clustering (shown self.old) (Deliver cluster number)) (shown self.old) (shown self.new) result }
         ensures kept { (design : Design) (clustering : Clustering) → IsWorldOf design clustering self.old → IsWorldOf design clustering self.new }
         ensures unchanged { OnErr result (self.new ≡ self.old) }
+        ensures size { IsSameSize self.old self.new }
     {
         let place = cluster as usize;
         if place >= self.clusters.len() || number >= self.posts.len() {
@@ -195,6 +201,7 @@ impl World {
         ensures played { (design : Design) (clustering : Clustering) → IsWorldOf design clustering self.old → Plays (play_world design clustering (shown self.old) (Promises net)) (shown self.old) (shown self.new) result }
         ensures kept { (design : Design) (clustering : Clustering) → IsWorldOf design clustering self.old → IsWorldOf design clustering self.new }
         ensures unchanged { OnErr result (self.new ≡ self.old) }
+        ensures size { IsSameSize self.old self.new }
     {
         let Some(promise) = self.promise_of(net) else {
             return Err(PlayFault::NoSuch);
@@ -220,6 +227,7 @@ impl World {
         ensures played { (design : Design) (clustering : Clustering) → IsWorldOf design clustering self.old → Plays (play_world design clustering (shown self.old) (Look cluster number)) (shown self.old) (shown self.new) result }
         ensures kept { (design : Design) (clustering : Clustering) → IsWorldOf design clustering self.old → IsWorldOf design clustering self.new }
         ensures unchanged { OnErr result (self.new ≡ self.old) }
+        ensures size { IsSameSize self.old self.new }
     {
         let place = cluster as usize;
         if place >= self.clusters.len() {
