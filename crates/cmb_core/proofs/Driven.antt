@@ -124,7 +124,7 @@ changes_from-is f g before (suc ticks) first b same =
     go false e here rest =
         ap (λ l. record { tick = first; level = l } ∷ changes_from f (f first) (suc first) ticks) here ∙ ap (λ cs. record { tick = first; level = g first } ∷ cs) (rest (f first) here)
 
-before-continued : (w : Wave) (f : ℕ → Level) (clock : ℕ) → clock ≡ w.clock → level_before (level_at w.kept w.changes) clock ≡ level_before (continued w f) clock
+pub before-continued : (w : Wave) (f : ℕ → Level) (clock : ℕ) → clock ≡ w.clock → level_before (level_at w.kept w.changes) clock ≡ level_before (continued w f) clock
 before-continued w f zero e = refl
 before-continued w f (suc tick) e = let below : ltb tick w.clock ≡ true = lt-ltb tick w.clock (omega arith) in rw below refl
 

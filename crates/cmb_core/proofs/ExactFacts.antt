@@ -162,7 +162,7 @@ moved_exact design clustering cluster s of sound all i h before = go (cases_eq (
 
 -- ---- a delivery
 
-taken_is : (wave : Wave) (piece : Piece) (w : Wave) → taken wave piece ≡ Ok w → (piece.from ≤ wave.clock) × (wave.clock < piece.to) × (w ≡ wave_with_piece wave piece)
+pub taken_is : (wave : Wave) (piece : Piece) (w : Wave) → taken wave piece ≡ Ok w → (piece.from ≤ wave.clock) × (wave.clock < piece.to) × (w ≡ wave_with_piece wave piece)
 taken_is wave piece w e = go (ltb wave.clock piece.from) refl (leb piece.to wave.clock) refl (clash (last_level wave.kept wave.changes) (at_or_after wave.clock piece.changes)) e
   where
     go : (gap : Bool) → ltb wave.clock piece.from ≡ gap → (old : Bool) → leb piece.to wave.clock ≡ old → (o : Option ℕ) → cond gap (Err (WaveGap wave.clock)) (cond old (Err (WaveOld wave.clock)) (joined wave piece o)) ≡ Ok w → (piece.from ≤ wave.clock) × (wave.clock < piece.to) × (w ≡ wave_with_piece wave piece)

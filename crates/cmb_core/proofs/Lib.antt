@@ -27,3 +27,4 @@ pub mod Runs
 pub mod Turns
 pub mod RoundFacts
 pub mod Opens
+pub mod TrimLaws

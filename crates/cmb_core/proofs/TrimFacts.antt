@@ -130,7 +130,7 @@ trim_net least w = go (ltb w.base least)
     go true = refl
     go false = refl
 
-trim_clock : (least : ℕ) (w : Wave) → (trimmed_to least w).clock ≡ w.clock
+pub trim_clock : (least : ℕ) (w : Wave) → (trimmed_to least w).clock ≡ w.clock
 trim_clock least w = go (ltb w.base least)
   where
     go : (b : Bool) → (cond b (wave_from w least) w).clock ≡ w.clock

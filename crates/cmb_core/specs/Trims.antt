@@ -1,7 +1,9 @@
 -- What input waves may forget.
-use Rattle.std.specs.Prelude.{ℕ, ◌-◌, min, nat_lt, List, [], ◌∷◌, length, map, slice_index_or, if◌then◌else◌}
-use Rattle.std.specs.List.{range_with_len}
+use Rattle.std.specs.Prelude.{◌≡◌, ℕ, ◌-◌, ◌≤◌, min, nat_lt, List, [], ◌∷◌, length, map, slice_index_or, Result, Ok, Err, if◌then◌else◌}
+use Rattle.std.specs.List.{AllByRecursion, range_with_len}
+use Rattle.cmb_wave.specs.Waveform.{IsTrace}
 use Rattle.cmb_wave.specs.Wave.{Wave, new_wave, wave_from}
+use Rattle.cmb_core.specs.declared.delivery.DeliverFault.{DeliverFault}
 use Rattle.cmb_core.specs.declared.process.Rule.{Rule}
 use Rattle.cmb_core.specs.declared.process.Rule.TheVariants.{Given, Input, Gate, Flop}
 use Rattle.cmb_core.specs.declared.tables.Reader.{Reader}
@@ -38,3 +40,30 @@ trimmed_wave s place =
 -- the cluster after a trim
 abbrev pub trimmed : Cluster → Cluster
 trimmed s = record s { waves = map (trimmed_wave s) (range_with_len 0 (length s.waves)) }
+
+-- ---- clusters that were trimmed
+
+-- the second wave is the first, less what it forgot
+abbrev pub IsTrim : Wave → Wave → Type 0
+IsTrim wave less = (least : ℕ) × (least ≤ wave.clock) × (less ≡ trimmed_to least wave)
+
+abbrev pub AreTrims : List Wave → List Wave → Type 0
+AreTrims [] [] = Unit {0}
+AreTrims (wave ∷ waves) (less ∷ lesses) = IsTrim wave less × AreTrims waves lesses
+AreTrims _ _ = ⊥
+
+-- the second cluster is the first, less what its waves forgot
+pub record IsTrimOf (s less : Cluster) : Type 0 where
+  pub horizon : less.horizon ≡ s.horizon
+  pub processes : less.processes ≡ s.processes
+  pub waves : AreTrims s.waves less.waves
+
+-- both deliveries are refused alike, or the second leaves what the first does, less what was forgotten
+abbrev pub AreAlike : Result Wave DeliverFault → Result Wave DeliverFault → Type 0
+AreAlike (Ok wave) (Ok less) = IsTrim wave less
+AreAlike (Err fault) (Err other) = other ≡ fault
+AreAlike _ _ = ⊥
+
+-- what is kept of each wave is a trace, as it is of every wave there is
+abbrev pub AreTraces : List Wave → Type 0
+AreTraces waves = AllByRecursion (λ wave. IsTrace wave.kept wave.base wave.changes wave.clock) waves

@@ -1,0 +1,13 @@
+use Rattle.cmb_core.proofs.TrimLaws.{trimmed_again, step_alike, step_trims, delivered_alike, heard_alike, heard_trims, trims_with}
+use Rattle.cmb_core.proofs.laws.trims_change_no_answer.Goals as goal
+
+pub returns : goal.returns
+returns c = record {
+  trims = trimmed_again;
+  steps = λ design clustering cluster s less net of sound traces t own. step_alike design clustering cluster s less of sound traces t net own;
+  stepped = λ design clustering cluster s less net of sound traces t own. step_trims design clustering cluster s less of sound traces t net own;
+  delivers = delivered_alike;
+  hears = heard_alike;
+  heard = heard_trims;
+  put = trims_with;
+}
