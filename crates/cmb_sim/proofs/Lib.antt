@@ -1,3 +1,4 @@
 pub mod Known
 pub mod Outcomes
 pub mod PlainRuns
+pub mod RoundRuns

@@ -17,8 +17,8 @@ use Rattle.cmb_design.specs.declared.rows.ClockRow.{ClockRow}
 use Rattle.cmb_design.specs.declared.settings.Settings.{Settings}
 use Rattle.cmb_run.specs.Vcd.{vcd}
 use Rattle.cmb_sim.specs.Numbers.{design_as_fault}
-use Rattle.cmb_sim.specs.Simulation.{AreTexts, Inputs, IsOutcome, Spell, SpellDesign, Texts, design_in, mode_checks, output, report_of, text_checks}
-use Rattle.cmb_sim.specs.Stages.{FoundDesign, HaveTextFault, IsUnrun, LacksDesign, SpellAny}
+use Rattle.cmb_sim.specs.Simulation.{AreTexts, HaveDesign, Inputs, IsOutcome, Spell, SpellDesign, Texts, design_in, mode_checks, output, report_of, text_checks}
+use Rattle.cmb_sim.specs.Stages.{CanRun, FoundDesign, HaveTextFault, IsUnrun, LacksDesign, SpellAny}
 use Rattle.cmb_sim.specs.declared.fault.Fault.{Fault}
 use Rattle.cmb_sim.specs.declared.fault.Fault.TheVariants as fault
 use Rattle.cmb_sim.specs.declared.mode.Mode.{Mode}
@@ -64,6 +64,8 @@ LacksDesign-of settings i texts are (fault.Design f) h = (texts, are, h)
 LacksDesign-of settings i texts are (fault.TooLong n) h = absurd h
 LacksDesign-of settings i texts are (fault.Read n) h = absurd h
 LacksDesign-of settings i texts are (fault.Write n) h = absurd h
+LacksDesign-of settings i texts are fault.Clusters h = absurd h
+LacksDesign-of settings i texts are fault.Workers h = absurd h
 LacksDesign-of settings i texts are fault.Memory h = tt
 
 -- ---- the whole
@@ -76,6 +78,8 @@ IsOutcome-unread settings mode i old n (fault.Bench f) h = (h, Keeps-refl old)
 IsOutcome-unread settings mode i old n (fault.Design f) h =
     ((h.0, h.1, (h.2.0, h.2.1, first_fault-some _ _ f h.2.2)), Keeps-refl old)
 IsOutcome-unread settings mode i old n (fault.Write k) h = absurd h
+IsOutcome-unread settings mode i old n fault.Clusters h = absurd h
+IsOutcome-unread settings mode i old n fault.Workers h = absurd h
 IsOutcome-unread settings mode i old n fault.Memory h = Keeps-refl old
 
 -- the design's checks, then those of the mode, of which one stands
@@ -85,10 +89,21 @@ mode_fault : (texts : Texts) (settings : Settings) (mode : Mode) (netlist : Netl
 mode_fault texts settings mode netlist design e none is h =
     first_fault-none _ _ none ∙ (let P : Design → Type 0 = λ d. first_fault (mode_checks mode d) ≡ Some e in subst P is h)
 
+-- no check refuses the design that was found, nor the mode's checks
+HaveDesign-of : (settings : Settings) (mode : Mode) (i : Inputs) (design : Design) (found : FoundDesign settings i design)
+    → first_fault (mode_checks mode design) ≡ None → HaveDesign found.0 settings mode
+HaveDesign-of settings mode i design found fits = (
+  found.2.netlist,
+  found.2.read,
+  first_fault-none _ _ found.2.checked ∙ (let P : Design → Type 0 = λ d. first_fault (mode_checks mode d) ≡ None in subst P found.2.is fits),
+)
+
 pub IsOutcome-unrun : (settings : Settings) (mode : Mode) (i : Inputs) (old : Option (List ℕ)) (n : ℕ) (design : Design)
     → FoundDesign settings i design → (f : Fault) → IsUnrun mode design f → IsOutcome settings mode i (output old old n n) (Err f)
 IsOutcome-unrun settings mode i old n design found (fault.Design f) h =
     ((found.0, found.1, (found.2.netlist, found.2.read, mode_fault found.0 settings mode found.2.netlist design f found.2.checked found.2.is h)), Keeps-refl old)
+IsOutcome-unrun settings mode i old n design found fault.Clusters h = ((found.0, found.1, (HaveDesign-of settings mode i design found h.0, h.1)), Keeps-refl old)
+IsOutcome-unrun settings mode i old n design found fault.Workers h = ((found.0, found.1, (HaveDesign-of settings mode i design found h.0, h.1, h.2)), Keeps-refl old)
 IsOutcome-unrun settings mode i old n design found fault.Memory h = Keeps-refl old
 IsOutcome-unrun settings mode i old n design found (fault.Bench f) h = absurd h
 IsOutcome-unrun settings mode i old n design found (fault.TooLong k) h = absurd h
@@ -97,26 +112,28 @@ IsOutcome-unrun settings mode i old n design found (fault.Write k) h = absurd h
 
 -- the design that was found can be run
 pub SpellDesign-of : (settings : Settings) (mode : Mode) (i : Inputs) (design : Design)
-    → FoundDesign settings i design → first_fault (mode_checks mode design) ≡ None → SpellDesign settings mode i design
-SpellDesign-of settings mode i design found fits = (
+    → FoundDesign settings i design → CanRun mode design → SpellDesign settings mode i design
+SpellDesign-of settings mode i design found runs = (
   found.0,
   found.1,
   record {
     netlist = found.2.netlist;
     read = found.2.read;
-    checked = first_fault-none _ _ found.2.checked ∙ (let P : Design → Type 0 = λ d. first_fault (mode_checks mode d) ≡ None in subst P found.2.is fits);
+    checked = first_fault-none _ _ found.2.checked ∙ (let P : Design → Type 0 = λ d. first_fault (mode_checks mode d) ≡ None in subst P found.2.is runs.fits);
+    clusters = runs.clusters;
+    workers = runs.workers;
     is = found.2.is;
   },
 )
 
 pub IsOutcome-written : (settings : Settings) (mode : Mode) (i : Inputs) (old new : Option (List ℕ)) (before after : ℕ) (design : Design) (text : List ℕ) (report : Report)
-    → FoundDesign settings i design → first_fault (mode_checks mode design) ≡ None → text ≡ vcd design → Appends old new text → report ≡ report_of design
+    → FoundDesign settings i design → CanRun mode design → text ≡ vcd design → Appends old new text → report ≡ report_of design
     → IsOutcome settings mode i (output old new before after) (Ok report)
 IsOutcome-written settings mode i old new before after design text report found fits is wrote told =
     (design, SpellDesign-of settings mode i design found fits, subst (Appends old new) is wrote, told)
 
 pub IsOutcome-unwritten : (settings : Settings) (mode : Mode) (i : Inputs) (old new : Option (List ℕ)) (before after : ℕ) (design : Design) (text : List ℕ) (n : ℕ)
-    → FoundDesign settings i design → first_fault (mode_checks mode design) ≡ None → text ≡ vcd design → n < length text → Appends old new (take n text) → after ≡ before + 1
+    → FoundDesign settings i design → CanRun mode design → text ≡ vcd design → n < length text → Appends old new (take n text) → after ≡ before + 1
     → IsOutcome settings mode i (output old new before after) (Err (fault.Write n))
 IsOutcome-unwritten settings mode i old new before after design text n found fits is less wrote failed = (
   design,

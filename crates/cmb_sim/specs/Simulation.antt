@@ -1,5 +1,5 @@
 -- What a whole simulation answers, and what it writes.
-use Rattle.std.specs.Prelude.{◌≡◌, ℕ, ◌+◌, ◌<◌, ◌⊎◌, List, [], ◌∷◌, ◌++◌, length, take, nat_lt, Option, None, Some, Result, Ok, Err}
+use Rattle.std.specs.Prelude.{◌≡◌, ℕ, ◌+◌, ◌<◌, ◌≤◌, ◌⊎◌, List, [], ◌∷◌, ◌++◌, length, take, nat_lt, Option, None, Some, Result, Ok, Err}
 use Rattle.std.specs.Io.KnownBytes.{Appends, Keeps}
 use Rattle.cmb_bench.specs.Netlist.{Netlist}
 use Rattle.cmb_bench.specs.Meaning.{Reads}
@@ -18,7 +18,7 @@ use Rattle.cmb_sim.specs.Sources.{IsTooLong, IsWhole}
 use Rattle.cmb_sim.specs.declared.fault.Fault.{Fault}
 use Rattle.cmb_sim.specs.declared.fault.Fault.TheVariants as fault
 use Rattle.cmb_sim.specs.declared.mode.Mode.{Mode}
-use Rattle.cmb_sim.specs.declared.mode.Mode.TheVariants.{Plain}
+use Rattle.cmb_sim.specs.declared.mode.Mode.TheVariants.{Plain, Rounds}
 use Rattle.cmb_sim.specs.declared.simulation.Report.{Report}
 
 -- ---- the texts
@@ -37,9 +37,23 @@ design_in texts settings netlist =
     (table_rows stimulus_row_of (table_records texts.stimuli))
     (table_rows clock_row_of (table_records texts.clocks))
 
--- what a mode can run: by a table of all levels, at most 16,777,216 of them
+-- what a mode can run: by a table of all levels, at most 16,777,216 of them; by rounds, all
 abbrev pub mode_checks : Mode → Design → List Check
 mode_checks Plain design = check TableTooLarge (nat_lt 16777216 (cells_of design)) ∷ []
+mode_checks (Rounds workers clusters) design = []
+
+-- how many clusters and workers a mode asks for
+abbrev pub clusters_of : Mode → ℕ
+clusters_of Plain = 1
+clusters_of (Rounds workers clusters) = clusters
+
+abbrev pub workers_of : Mode → ℕ
+workers_of Plain = 1
+workers_of (Rounds workers clusters) = workers
+
+-- there can be so many clusters, or workers
+abbrev pub IsMany : ℕ → Type 0
+IsMany n = (1 ≤ n) × (n ≤ 64)
 
 -- all checks of texts with a netlist, in their order: each table, then the design
 abbrev pub text_checks : Texts → Settings → Netlist → List Check
@@ -58,13 +72,26 @@ pub record Spell (texts : Texts) (settings : Settings) (mode : Mode) (design : D
   pub netlist : Netlist
   pub read : Reads texts.bench netlist
   pub checked : first_fault (all_checks texts settings mode netlist) ≡ None
+  pub clusters : IsMany (clusters_of mode)
+  pub workers : IsMany (workers_of mode)
   pub is : design ≡ design_in texts settings netlist
 
--- the texts have this fault: the netlist's first, or where there is a netlist the first check that stands
+-- the texts spell a design that no check refuses
+abbrev pub HaveDesign : Texts → Settings → Mode → Type 0
+HaveDesign texts settings mode = (netlist : Netlist) × Reads texts.bench netlist × (first_fault (all_checks texts settings mode netlist) ≡ None)
+
+-- the texts have this fault: the netlist's first, or where there is a netlist the first check that stands;
+-- where they spell a design, the mode's number of clusters and then that of its workers
 abbrev pub HaveFault : Texts → Settings → Mode → Fault → Type 0
 HaveFault texts settings mode (fault.Bench f) = IsFirstFault texts.bench f
 HaveFault texts settings mode (fault.Design f) = (netlist : Netlist) × Reads texts.bench netlist × (first_fault (all_checks texts settings mode netlist) ≡ Some f)
+HaveFault texts settings mode fault.Clusters = HaveDesign texts settings mode × (IsMany (clusters_of mode) → ⊥)
+HaveFault texts settings mode fault.Workers = HaveDesign texts settings mode × IsMany (clusters_of mode) × (IsMany (workers_of mode) → ⊥)
 HaveFault texts settings mode _ = ⊥
+
+-- a mode that is never refused for its numbers
+abbrev pub IsLawful : Mode → Type 0
+IsLawful mode = IsMany (clusters_of mode) × IsMany (workers_of mode)
 
 -- ---- the sources
 
@@ -138,6 +165,8 @@ IsOutcome settings mode i o (Err (fault.TooLong n)) = StopsAt HasTooMany i n × 
 IsOutcome settings mode i o (Err (fault.Read n)) = StopsAt HasFailed i n × Keeps o.old o.new
 IsOutcome settings mode i o (Err (fault.Bench f)) = ((texts : Texts) × AreTexts i texts × HaveFault texts settings mode (fault.Bench f)) × Keeps o.old o.new
 IsOutcome settings mode i o (Err (fault.Design f)) = ((texts : Texts) × AreTexts i texts × HaveFault texts settings mode (fault.Design f)) × Keeps o.old o.new
+IsOutcome settings mode i o (Err fault.Clusters) = ((texts : Texts) × AreTexts i texts × HaveFault texts settings mode fault.Clusters) × Keeps o.old o.new
+IsOutcome settings mode i o (Err fault.Workers) = ((texts : Texts) × AreTexts i texts × HaveFault texts settings mode fault.Workers) × Keeps o.old o.new
 IsOutcome settings mode i o (Err fault.Memory) = Keeps o.old o.new
 IsOutcome settings mode i o (Err (fault.Write n)) =
     (design : Design) × SpellDesign settings mode i design

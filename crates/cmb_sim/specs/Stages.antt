@@ -6,7 +6,7 @@ use Rattle.cmb_bench.specs.FirstFault.{IsFirstFault}
 use Rattle.cmb_design.specs.Checks.{first_fault}
 use Rattle.cmb_design.specs.Design.{Design}
 use Rattle.cmb_design.specs.declared.settings.Settings.{Settings}
-use Rattle.cmb_sim.specs.Simulation.{AreTexts, HasFailed, HasTooMany, Input, Inputs, StopsAt, Texts, design_in, mode_checks, text_checks}
+use Rattle.cmb_sim.specs.Simulation.{AreTexts, HasFailed, HasTooMany, Input, Inputs, StopsAt, Texts, IsMany, clusters_of, design_in, mode_checks, text_checks, workers_of}
 use Rattle.cmb_sim.specs.declared.fault.Fault.{Fault}
 use Rattle.cmb_sim.specs.declared.fault.Fault.TheVariants as fault
 use Rattle.cmb_sim.specs.declared.mode.Mode.{Mode}
@@ -42,13 +42,29 @@ LacksDesign settings i (fault.Read n) = StopsAt HasFailed i n
 LacksDesign settings i (fault.Bench f) = (texts : Texts) × AreTexts i texts × HaveTextFault texts settings (fault.Bench f)
 LacksDesign settings i (fault.Design f) = (texts : Texts) × AreTexts i texts × HaveTextFault texts settings (fault.Design f)
 LacksDesign settings i (fault.Write n) = ⊥
+LacksDesign settings i fault.Clusters = ⊥
+LacksDesign settings i fault.Workers = ⊥
 LacksDesign settings i fault.Memory = ⊤
 
 abbrev pub FoundDesign : Settings → Inputs → Design → Type 0
 FoundDesign settings i design = (texts : Texts) × AreTexts i texts × SpellAny texts settings design
 
+-- the mode can run the design
+pub record CanRun (mode : Mode) (design : Design) : Type 0 where
+  pub fits : first_fault (mode_checks mode design) ≡ None
+  pub clusters : IsMany (clusters_of mode)
+  pub workers : IsMany (workers_of mode)
+
 -- why a design wasn't run
 abbrev pub IsUnrun : Mode → Design → Fault → Type 0
 IsUnrun mode design (fault.Design f) = first_fault (mode_checks mode design) ≡ Some f
+IsUnrun mode design fault.Clusters = (first_fault (mode_checks mode design) ≡ None) × (IsMany (clusters_of mode) → ⊥)
+IsUnrun mode design fault.Workers = (first_fault (mode_checks mode design) ≡ None) × IsMany (clusters_of mode) × (IsMany (workers_of mode) → ⊥)
 IsUnrun mode design fault.Memory = ⊤
 IsUnrun mode design _ = ⊥
+
+-- why there is no clustering of so many clusters
+abbrev pub IsClustersFault : ℕ → Fault → Type 0
+IsClustersFault clusters fault.Clusters = IsMany clusters → ⊥
+IsClustersFault clusters fault.Memory = ⊤
+IsClustersFault clusters _ = ⊥

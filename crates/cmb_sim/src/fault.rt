@@ -17,6 +17,12 @@ pub enum Fault {
     /// 20 to 37: a table, the settings or the rows make no design, or the design is too large for its mode.
     #[error("{0}")]
     Design(DesignFault),
+    /// 40: the number of clusters isn't from 1 to 64.
+    #[error("the number of clusters isn't from 1 to 64")]
+    Clusters,
+    /// 54: the number of workers isn't from 1 to 64.
+    #[error("the number of workers isn't from 1 to 64")]
+    Workers,
     /// 60: an input has more than 16,777,216 bytes.
     #[error("input {input} has more than 16,777,216 bytes")]
     TooLong { input: u32 },
@@ -54,13 +60,15 @@ impl From<DesignFault> for Fault {
 }
 
 impl Fault {
-    /// The fault's number: 1 to 8, 20 to 37, 60 to 62, and 70 for want of memory.
+    /// The fault's number: 1 to 8, 20 to 37, 40, 54, 60 to 62, and 70 for want of memory.
     pub fn number(&self) -> u32
         ensures { result ≡ number_of self.now }
     {
         match self {
             Fault::Bench(fault) => fault.number(),
             Fault::Design(fault) => fault.number(),
+            Fault::Clusters => 40,
+            Fault::Workers => 54,
             Fault::TooLong { .. } => 60,
             Fault::Read { .. } => 61,
             Fault::Write { .. } => 62,
@@ -76,6 +84,7 @@ impl Fault {
         match self {
             Fault::Bench(fault) => u64::from(fault.line),
             Fault::Design(fault) => u64::from(fault.record()),
+            Fault::Clusters | Fault::Workers => 0,
             Fault::TooLong { input } => u64::from(*input),
             Fault::Read { input } => u64::from(*input),
             Fault::Write { written } => *written,

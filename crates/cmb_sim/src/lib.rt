@@ -6,6 +6,7 @@ pub mod fault;
 pub mod line;
 pub mod mode;
 pub mod reading;
+mod running;
 pub mod simulation;
 pub mod source;
 

@@ -1,6 +1,7 @@
 //! The program's command line.
 
 ghost use Rattle.std.specs.Prelude.{◌≡◌, ◌≤◌, IfOk};
+ghost use Rattle.cmb_sim.specs.Simulation.{IsLawful};
 
 use crate::clock::clock_of;
 use crate::mode::Mode;
@@ -50,7 +51,9 @@ const MOST_TICKS: u32 = 1_000_000;
 
 const LEVELS: [&str; 3] = ["0", "1", "x"];
 
-const MODES: [&str; 1] = ["plain"];
+const MODES: [&str; 2] = ["plain", "rounds"];
+
+const MOST_PARTS: u32 = 64;
 
 const ABOUT: &str = "Simulates a gate-level netlist and writes the waveforms of its nets";
 
@@ -69,11 +72,19 @@ const STIMULI: &str = "A table tick,net,value: the levels of the inputs";
 
 const CLOCKS: &str = "A table net,first,period: clocks of single flip-flops";
 
+const WORKERS: &str = "How many threads share the work in mode rounds, 1 to 64 [default: 1]";
+
+const PARTS: &str =
+    "How many clusters the nets are spread over in mode rounds, 1 to 64 [default: 1]";
+
+const MODE: &str =
+    "plain fills a table with a place for each net and tick; rounds [default] goes by changes";
+
 const EXAMPLE: &str =
     "Times are whole ticks; the text has one tick as 1 ns. An input has at most 16,777,216 bytes.
 
 Example:
-  cmbsim run --horizon 10 --mode plain --stimuli in.csv < inverter.bench > out.vcd
+  cmbsim run --horizon 10 --stimuli in.csv < inverter.bench > out.vcd
 where inverter.bench has the lines INPUT(a), OUTPUT(y), y = NOT(a)
 and in.csv the lines tick,net,value and 0,a,0 and 5,a,1
 
@@ -97,11 +108,9 @@ fn with_settings<'a>(alloc: Global, command: Command<'a>) -> Result<Command<'a>,
         )?
         .arg(option(alloc, "clock", "F:P", CLOCK))?
         .arg(option(alloc, "init", "LEVEL", INIT).value_parser(LEVELS.as_slice()))?
-        .arg(
-            option(alloc, "mode", "MODE", "How the design is run")
-                .required(true)
-                .value_parser(MODES.as_slice()),
-        )
+        .arg(option(alloc, "mode", "MODE", MODE).value_parser(MODES.as_slice()))?
+        .arg(option(alloc, "workers", "W", WORKERS).value_parser(ValueParser::unsigned(1, 64)))?
+        .arg(option(alloc, "clusters", "K", PARTS).value_parser(ValueParser::unsigned(1, 64)))
 }
 
 // The command line of `run`.
@@ -137,15 +146,44 @@ fn fault_of(kind: ErrorKind) -> LineFault {
     }
 }
 
+// A number from 1 to `most`.
+fn number_up_to(text: &str, most: u32) -> Result<u32, LineFault>
+    ensures { IfOk result (λ n. (1 ≤ n) × (n ≤ most)) }
+{
+    match text.parse::<u32>() {
+        Ok(n) if 1 <= n && n <= most => Ok(n),
+        _ => Err(LineFault::Wrong),
+    }
+}
+
 fn horizon_of(matches: &ArgMatches<'_>) -> Result<u32, LineFault>
     ensures { IfOk result (λ n. (1 ≤ n) × (n ≤ 1000000)) }
 {
-    let number = matches
-        .get_str("horizon")
-        .and_then(|text| text.parse::<u32>().ok());
-    match number {
-        Some(n) if 1 <= n && n <= MOST_TICKS => Ok(n),
-        _ => Err(LineFault::Wrong),
+    match matches.get_str("horizon") {
+        Some(text) => number_up_to(text, MOST_TICKS),
+        None => Err(LineFault::Wrong),
+    }
+}
+
+// How many workers or clusters there are, 1 where the line doesn't say.
+fn parts_of(matches: &ArgMatches<'_>, name: &str) -> Result<u32, LineFault>
+    ensures { IfOk result (λ n. (1 ≤ n) × (n ≤ 64)) }
+{
+    match matches.get_str(name) {
+        Some(text) => number_up_to(text, MOST_PARTS),
+        None => Ok(1),
+    }
+}
+
+// How the design is run.
+fn mode_of(matches: &ArgMatches<'_>) -> Result<Mode, LineFault>
+    ensures { IfOk result IsLawful }
+{
+    let workers = parts_of(matches, "workers")?;
+    let clusters = parts_of(matches, "clusters")?;
+    match matches.get_str("mode") {
+        Some("plain") => Ok(Mode::Plain),
+        _ => Ok(Mode::Rounds { workers, clusters }),
     }
 }
 
@@ -179,9 +217,11 @@ fn file_of(
 }
 
 fn line_of(alloc: Global, matches: &ArgMatches<'_>) -> Result<Line, LineFault>
-    ensures { IfOk result (λ line. (1 ≤ line.settings.horizon) × (line.settings.horizon ≤ 1000000)) }
+    ensures horizon { IfOk result (λ line. (1 ≤ line.settings.horizon) × (line.settings.horizon ≤ 1000000)) }
+    ensures mode { IfOk result (λ line. IsLawful line.mode) }
 {
     let horizon = horizon_of(matches)?;
+    let mode = mode_of(matches)?;
     let clock = common_clock(matches)?;
     let init = init_of(matches);
     Ok(Line {
@@ -190,16 +230,18 @@ fn line_of(alloc: Global, matches: &ArgMatches<'_>) -> Result<Line, LineFault>
             clock,
             init,
         },
-        mode: Mode::Plain,
+        mode,
         delays: file_of(alloc, matches, "delays")?,
         stimuli: file_of(alloc, matches, "stimuli")?,
         clocks: file_of(alloc, matches, "clocks")?,
     })
 }
 
-/// Reads the words after the program's name: `run` and its options. The horizon of a line is 1 to 1,000,000 ticks.
+/// Reads the words after the program's name: `run` and its options. The horizon of a line is 1 to 1,000,000 ticks,
+/// and it has 1 to 64 workers and clusters.
 pub fn read_line(alloc: Global, words: &[String]) -> Result<Line, LineFault>
-    ensures { IfOk result (λ line. (1 ≤ line.settings.horizon) × (line.settings.horizon ≤ 1000000)) }
+    ensures horizon { IfOk result (λ line. (1 ≤ line.settings.horizon) × (line.settings.horizon ≤ 1000000)) }
+    ensures mode { IfOk result (λ line. IsLawful line.mode) }
 {
     match parse(alloc, words) {
         Ok(matches) => match matches.subcommand_matches("run") {

@@ -5,4 +5,7 @@
 pub enum Mode {
     /// By a table with a place for each net and tick, of at most 16,777,216 places.
     Plain,
+    /// By rounds: the nets are spread over this many clusters, 1 to 64, and these over this many
+    /// workers, 1 to 64.
+    Rounds { workers: u32, clusters: u32 },
 }

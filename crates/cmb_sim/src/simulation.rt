@@ -1,21 +1,22 @@
 //! A whole simulation.
 
-ghost use Rattle.std.specs.Prelude.{◌≡◌, ◌-◌, ◌^◌, ◌<◌, ◌≤◌, length, IfOk, IfErr, OnOk, None};
-ghost use Rattle.cmb_design.specs.Checks.{first_fault};
+ghost use Rattle.std.specs.Prelude.{◌≡◌, ◌-◌, ◌^◌, ◌<◌, ◌≤◌, length, IfOk, IfErr};
 ghost use Rattle.cmb_run.specs.Vcd.{vcd};
-ghost use Rattle.cmb_sim.specs.Simulation.{IsOutcome, input, inputs_of, mode_checks, output};
+ghost use Rattle.cmb_sim.specs.Simulation.{IsOutcome, input, inputs_of, output};
 ghost use Rattle.cmb_sim.specs.Sources.{IsWhole, input_limit};
-ghost use Rattle.cmb_sim.specs.Stages.{FoundDesign, HaveTextFault, IsUnread, IsUnrun, LacksDesign, SpellAny, texts_of};
+ghost use Rattle.cmb_sim.specs.Stages.{FoundDesign, HaveTextFault, IsUnread, LacksDesign, SpellAny, texts_of};
 
 use crate::fault::Fault;
 use crate::mode::Mode;
 use crate::reading::{ReadFault, read_whole};
+use crate::running::text_by;
 use crate::source::Source;
 use cmb_bench::read_bench;
-use cmb_design::{Design, Settings, plain_waves, read_clocks, read_delays, read_stimuli};
+use cmb_design::{Design, Settings, read_clocks, read_delays, read_stimuli};
 use cmb_run::sink::{Sink, write_whole};
-use cmb_run::{Collector, vcd_text};
 use std::alloc::Global;
+use std::sync::Wait;
+use std::thread::Threads;
 
 /// What was simulated and written.
 #[derive(Clone, Copy, Debug, PartialEq, Eq)]
@@ -111,38 +112,20 @@ fn read_design<B: Source, D: Source, S: Source, C: Source>(
     )
 }
 
-// The text of a design, by a table with a place for each net and tick.
-fn plain_text(alloc: Global, design: &Design) -> Result<Vec<u8>, Fault>
-    ensures text { IfOk result (λ text. text.items ≡ vcd design.now) }
-    ensures fits { OnOk result (first_fault (mode_checks Mode.Plain design.now) ≡ None) }
-    ensures fault { IfErr result (IsUnrun Mode.Plain design.now) }
-{
-    let waves = plain_waves(alloc, design)?;
-    let collector = Collector::of_waves(waves, design.horizon());
-    match vcd_text(alloc, design, &collector) {
-        Ok(text) => Ok(text),
-        Err(_) => Err(Fault::Memory),
-    }
-}
-
-// The text of a design.
-fn text_by(alloc: Global, mode: Mode, design: &Design) -> Result<Vec<u8>, Fault>
-    ensures text { IfOk result (λ text. text.items ≡ vcd design.now) }
-    ensures fits { OnOk result (first_fault (mode_checks mode design.now) ≡ None) }
-    ensures fault { IfErr result (IsUnrun mode design.now) }
-{
-    match mode {
-        Mode::Plain => plain_text(alloc, design),
-    }
-}
-
 /// Reads a netlist, the tables of delays, stimuli and clocks, and writes the waveforms of all nets below the horizon.
 ///
 /// The four inputs are read whole, in order, before anything else: 60 where one has more than
 /// 16,777,216 bytes, 61 where a read of it failed. Then come the faults of the netlist (1 to 8), of the
-/// tables and the design (20 to 37) and of the mode (33). The text is written once the run is complete:
+/// tables and the design (20 to 37) and of the mode (33, 40, 54). The text is written once the run is complete:
 /// 62 where a write failed. `Memory` (70) comes where a growth was refused.
-pub fn simulate<R: AllocGlobal, B: Source, D: Source, S: Source, C: Source, O: Sink>(
+pub fn simulate<
+    R: AllocGlobal + Threads + Wait + Sync,
+    B: Source,
+    D: Source,
+    S: Source,
+    C: Source,
+    O: Sink,
+>(
     rt: &R,
     bench: &mut B,
     delays: &mut D,
@@ -168,7 +151,7 @@ pub fn simulate<R: AllocGlobal, B: Source, D: Source, S: Source, C: Source, O: S
 {
     let alloc = rt.alloc();
     let design = read_design(alloc, bench, delays, stimuli, clocks, settings)?;
-    let text = text_by(alloc, mode, &design)?;
+    let text = text_by(rt, mode, &design)?;
     match write_whole(out, text.as_slice()) {
         Ok(()) => Ok(Report {
             nets: design.netlist().len() as u32,

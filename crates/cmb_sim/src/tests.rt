@@ -9,7 +9,9 @@ mod waves;
 use crate::{Fault, FromBytes, Level, Mode, Report, Room, Settings, simulate};
 use std::alloc::{AllocError, Global};
 use std::process::Abort;
+use std::sync::Wait;
 use std::test::Fail;
+use std::thread::Threads;
 
 /// What a simulation is given. Rows are parted by spaces, and their header is left out.
 #[derive(Clone, Copy)]
@@ -92,10 +94,36 @@ pub fn text_of(alloc: Global, references: &str, body: &str) -> Result<String, Al
     Ok(text)
 }
 
+/// All modes, with one worker and with more, and with each net in a cluster of its own and empty clusters besides.
+pub const MODES: [Mode; 6] = [
+    Mode::Plain,
+    Mode::Rounds {
+        workers: 1,
+        clusters: 1,
+    },
+    Mode::Rounds {
+        workers: 1,
+        clusters: 64,
+    },
+    Mode::Rounds {
+        workers: 2,
+        clusters: 7,
+    },
+    Mode::Rounds {
+        workers: 3,
+        clusters: 2,
+    },
+    Mode::Rounds {
+        workers: 64,
+        clusters: 64,
+    },
+];
+
 /// Simulates over memory, and gives the answer and what was written.
-pub fn run<R: AllocGlobal>(
+pub fn run<R: AllocGlobal + Threads + Wait + Sync>(
     rt: &R,
     case: Case<'_>,
+    mode: Mode,
 ) -> Result<(Result<Report, Fault>, Room), AllocError> {
     let alloc = rt.alloc();
     let delays = table(alloc, "by,name,delay", case.delays)?;
@@ -109,39 +137,52 @@ pub fn run<R: AllocGlobal>(
         &mut FromBytes::new(stimuli.as_bytes()),
         &mut FromBytes::new(clocks.as_bytes()),
         case.settings,
-        Mode::Plain,
+        mode,
         &mut out,
     );
     Ok((answer, out))
 }
 
-/// The text of this case is that of these references and this body, and the report tells its length.
-pub fn writes<R: AllocGlobal + Abort>(
+/// In every mode the text of this case is that of these references and this body, and the report tells its length.
+pub fn writes<R: AllocGlobal + Abort + Threads + Wait + Sync>(
     rt: &R,
     case: Case<'_>,
     references: &str,
     body: &str,
 ) -> Result<(), Fail> {
-    let (answer, out) = run(rt, case)?;
     let want = text_of(rt.alloc(), references, body)?;
     let report = Report {
         nets: u32::try_from(references.split_whitespace().count()).unwrap_or(0),
         horizon: case.settings.horizon,
         written: want.len() as u64,
     };
-    assert!(rt; out.bytes.as_slice() == want.as_bytes(), "{body}");
-    assert_eq!(rt; answer?, report, "{body}");
+    for mode in MODES {
+        let (answer, out) = run(rt, case, mode)?;
+        assert!(rt; out.bytes.as_slice() == want.as_bytes(), "{body}");
+        assert_eq!(rt; answer?, report, "{body}");
+    }
     Ok(())
 }
 
 /// The answer to this case is this fault at this place, and nothing is written.
-pub fn refuses<R: AllocGlobal + Abort>(
+pub fn refuses<R: AllocGlobal + Abort + Threads + Wait + Sync>(
     rt: &R,
     case: Case<'_>,
     number: u32,
     place: u64,
 ) -> Result<(), Fail> {
-    let (answer, out) = run(rt, case)?;
+    refuses_in(rt, case, Mode::Plain, number, place)
+}
+
+/// In this mode the answer to this case is this fault at this place, and nothing is written.
+pub fn refuses_in<R: AllocGlobal + Abort + Threads + Wait + Sync>(
+    rt: &R,
+    case: Case<'_>,
+    mode: Mode,
+    number: u32,
+    place: u64,
+) -> Result<(), Fail> {
+    let (answer, out) = run(rt, case, mode)?;
     match answer {
         Ok(_) => assert!(rt; false, "no fault {number} at {place}"),
         Err(fault) => assert_eq!(rt; (fault.number(), fault.place()), (number, place)),

@@ -7,7 +7,9 @@ use crate::tests::{Case, bench_case, clocked, refuses, table, text_of};
 use crate::{Failed, Fault, FromBytes, Limited, Mode, Report, Sink, Source, simulate};
 use std::alloc::{AllocError, Global};
 use std::process::Abort;
+use std::sync::Wait;
 use std::test::Fail;
+use std::thread::Threads;
 
 // Gives one byte a call, and fails at the read after a number of them.
 #[derive(Drop)]
@@ -47,7 +49,7 @@ fn dripping(rest: &[u8], left: u32) -> Drip<'_>
 }
 
 // Simulates with sources that fail after so many reads each.
-fn run_drips<R: AllocGlobal>(
+fn run_drips<R: AllocGlobal + Threads + Wait + Sync>(
     rt: &R,
     case: Case<'_>,
     reads: [u32; 4],
@@ -72,7 +74,10 @@ fn run_drips<R: AllocGlobal>(
 const READS: [u32; 4] = [30, 15, 28, 18];
 
 // The input with this index fails at each of its reads in turn.
-fn fails_at_each_read<R: AllocGlobal + Abort>(rt: &R, index: usize) -> Result<(), Fail> {
+fn fails_at_each_read<R: AllocGlobal + Abort + Threads + Wait + Sync>(
+    rt: &R,
+    index: usize,
+) -> Result<(), Fail> {
     let case = inverter();
     let mut reads = READS;
     for left in 0..100u32 {
@@ -105,7 +110,7 @@ fn each_read_fails(rt: HostRuntime) -> Result<(), Fail> {
 }
 
 // Simulates with a sink that takes so many bytes.
-fn run_limited<R: AllocGlobal>(
+fn run_limited<R: AllocGlobal + Threads + Wait + Sync>(
     rt: &R,
     case: Case<'_>,
     left: usize,
@@ -168,7 +173,11 @@ fn either(is_long: bool, long: &[u8]) -> &[u8] {
 }
 
 // The input with this number has one byte too many.
-fn too_long<R: AllocGlobal + Abort>(rt: &R, long: &[u8], input: u64) -> Result<(), Fail> {
+fn too_long<R: AllocGlobal + Abort + Threads + Wait + Sync>(
+    rt: &R,
+    long: &[u8],
+    input: u64,
+) -> Result<(), Fail> {
     let mut out = Limited::new(rt.alloc(), 1000);
     let answer = simulate(
         rt,

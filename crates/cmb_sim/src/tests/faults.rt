@@ -1,8 +1,8 @@
 //! Faults of the netlist and of the settings.
 
-use crate::Settings;
 use crate::tests::waves::{inverter, toggle};
-use crate::tests::{Case, bench_case, clocked, refuses, writes};
+use crate::tests::{Case, bench_case, clocked, refuses, refuses_in, writes};
+use crate::{Mode, Settings};
 use std::alloc::{AllocError, Global};
 use std::test::Fail;
 
@@ -62,6 +62,16 @@ fn names_and_operands(rt: HostRuntime) -> Result<(), Fail> {
     }
     let keyword = bench_case(b"INPUT(a) INPUT(b) INPUT = AND(a, b)", 1);
     writes(&rt, keyword, "a b INPUT", "#0 x! x\" x# #1")
+}
+
+#[test]
+fn refused_numbers(rt: HostRuntime) -> Result<(), Fail> {
+    for (workers, clusters, number) in [(1, 0, 40), (0, 65, 40), (0, 64, 54), (65, 1, 54)] {
+        let mode = Mode::Rounds { workers, clusters };
+        refuses_in(&rt, inverter(), mode, number, 0)?;
+        refuses_in(&rt, toggle(), mode, 22, 0)?;
+    }
+    Ok(())
 }
 
 #[test]

@@ -18,16 +18,16 @@ fn command_line(rt: HostRuntime) -> Result<(), Fail> {
     let alloc = rt.alloc();
     for (line, want) in [
         ("", LineFault::Wrong),
+        ("run", LineFault::Wrong),
         ("run --mode plain", LineFault::Wrong),
         ("run --horizon 0 --mode plain", LineFault::Wrong),
         ("run --horizon 1000001 --mode plain", LineFault::Wrong),
-        ("run --horizon 10", LineFault::Wrong),
         ("run --horizon 10 --mode slow", LineFault::Wrong),
-        ("run --horizon 10 --mode rounds", LineFault::Wrong),
-        (
-            "run --horizon 10 --mode plain --workers 2",
-            LineFault::Wrong,
-        ),
+        ("run --horizon 10 --mode free", LineFault::Wrong),
+        ("run --horizon 10 --workers 0", LineFault::Wrong),
+        ("run --horizon 10 --workers 65", LineFault::Wrong),
+        ("run --horizon 10 --clusters 0", LineFault::Wrong),
+        ("run --horizon 10 --clusters 65", LineFault::Wrong),
         ("run --horizon 10 --mode plain --init y", LineFault::Wrong),
         (
             "run --horizon 10 --mode plain --clock 2-4",
@@ -82,15 +82,29 @@ fn whole_line(rt: HostRuntime) -> Result<(), Fail> {
 }
 
 #[test]
+fn modes_of_lines(rt: HostRuntime) -> Result<(), Fail> {
+    let alloc = rt.alloc();
+    for (line, workers, clusters) in [
+        ("run --horizon 10", 1, 1),
+        ("run --horizon 10 --mode rounds --workers 64", 64, 1),
+        ("run --horizon 10 --clusters 64 --workers 2", 2, 64),
+    ] {
+        let words = words(alloc, line)?;
+        match read_line(alloc, words.as_slice()) {
+            Ok(line) => assert_eq!(rt; line.mode, Mode::Rounds { workers, clusters }),
+            Err(_) => assert!(rt; false, "{line} is refused"),
+        }
+    }
+    Ok(())
+}
+
+#[test]
 fn messages(rt: HostRuntime) -> Result<(), Fail> {
     let alloc = rt.alloc();
     for (line, part) in [
         ("--help", "Usage: cmbsim <COMMAND>"),
-        (
-            "run --help",
-            "Usage: cmbsim run [OPTIONS] --horizon <N> --mode <MODE>",
-        ),
-        ("run --help", "cmbsim run --horizon 10 --mode plain"),
+        ("run --help", "Usage: cmbsim run [OPTIONS] --horizon <N>"),
+        ("run --help", "cmbsim run --horizon 10 --stimuli"),
         ("run --horizon 0 --mode plain", "error: invalid value '0'"),
         ("run --mode plain", "--horizon <N>"),
     ] {
@@ -103,7 +117,7 @@ fn messages(rt: HostRuntime) -> Result<(), Fail> {
 
 #[test]
 fn line_of_a_fault(rt: HostRuntime) -> Result<(), Fail> {
-    match run(&rt, bench_case(b"INPUT(a)\ny = AND(a", 10))?.0 {
+    match run(&rt, bench_case(b"INPUT(a)\ny = AND(a", 10), Mode::Plain)?.0 {
         Ok(_) => assert!(rt; false),
         Err(fault) => {
             let line = fault_line(rt.alloc(), &fault)?;

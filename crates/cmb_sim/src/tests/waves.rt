@@ -1,5 +1,6 @@
 //! Texts of whole runs.
 
+use crate::Mode;
 use crate::tests::{Case, bench_case, clocked, run, writes};
 use std::test::Fail;
 
@@ -44,7 +45,7 @@ pub fn two_flops<'a>() -> Case<'a> {
 
 #[test]
 fn empty(rt: HostRuntime) -> Result<(), Fail> {
-    let (answer, out) = run(&rt, bench_case(b"", 1))?;
+    let (answer, out) = run(&rt, bench_case(b"", 1), Mode::Plain)?;
     assert_eq!(rt; answer?.written, 123);
     assert_eq!(rt; out.bytes.len(), 123);
     writes(&rt, bench_case(b"", 1), "", "#0 #1")
@@ -52,7 +53,7 @@ fn empty(rt: HostRuntime) -> Result<(), Fail> {
 
 #[test]
 fn inverter_text(rt: HostRuntime) -> Result<(), Fail> {
-    assert_eq!(rt; run(&rt, inverter())?.1.bytes.len(), 190);
+    assert_eq!(rt; run(&rt, inverter(), Mode::Plain)?.1.bytes.len(), 190);
     writes(&rt, inverter(), "a y", "#0 0! x\" #1 1\" #5 1! #6 0\" #10")
 }
 
@@ -102,7 +103,7 @@ fn references(rt: HostRuntime) -> Result<(), Fail> {
     for net in 0..96u32 {
         write!(bench, "INPUT(n{net})\n")?;
     }
-    let (answer, out) = run(&rt, bench_case(bench.as_bytes(), 1))?;
+    let (answer, out) = run(&rt, bench_case(bench.as_bytes(), 1), Mode::Plain)?;
     assert_eq!(rt; answer?.nets, 96);
     let lines =
         b"$var wire 1 ~ n93 $end\n$var wire 1 !! n94 $end\n$var wire 1 \"! n95 $end\n$upscope $end\n";

@@ -1,7 +1,7 @@
-use Rattle.std.proofs.Common.{◌≡◌, Ok, Err, ap}
+use Rattle.std.proofs.Common.{◌≡◌, Ok, Err, ap, arith}
 use Rattle.std.proofs.lemmas.Result.{err_from_is_err_and}
 use Rattle.cmb_sim.proofs.PlainRuns.{AreCollected-whole, IsComplete-whole, IsExactFor-whole, IsFor-whole, IsUnrun-plain, small_enough, whole_collector-is}
-use Rattle.cmb_sim.proofs.simulation.plain_text.Goals as goal
+use Rattle.cmb_sim.proofs.running.plain_text.Goals as goal
 
 pub returns-in_err-waves-clause-fault : goal.returns-in_err-waves-clause-fault
 returns-in_err-waves-clause-fault c =
@@ -24,4 +24,8 @@ returns-in-Ok-clause-text c =
     c.in-Ok.ensures.exact (IsExactFor-whole c.args.design.now _ (whole_collector-is c.args.design.now _ _ _ c.of_waves-collector.ensures c.in_ok-waves.ensures.waves c.horizon.ensures.value))
 
 pub returns-in-Ok-clause-fits : goal.returns-in-Ok-clause-fits
-returns-in-Ok-clause-fits c = small_enough c.args.design.now (λ h. let bad = c.in_ok-waves.ensures.too_large.1 h in cc)
+returns-in-Ok-clause-fits c = record {
+  fits = small_enough c.args.design.now (λ h. let bad = c.in_ok-waves.ensures.too_large.1 h in cc);
+  clusters = (omega arith, omega arith);
+  workers = (omega arith, omega arith);
+}
