@@ -1,48 +1,33 @@
 //! Tables as texts: laid out in odd ways, with far ticks, cut short and damaged at every byte.
 
-ghost use Rattle.std.specs.Prelude.{◌<◌, ◌≤◌, length};
+ghost use Rattle.std.specs.Prelude.{◌≤◌, length, IfOk};
 
-use crate::{Design, DesignFault, Settings, read_clocks, read_delays, read_stimuli};
-use cmb_bench::{Netlist, read_bench};
-use cmb_wave::{Change, Level};
-use std::alloc::Global;
+use crate::Settings;
+use crate::tests::design_of;
+use cmb_wave::Level;
+use std::alloc::{AllocError, Global};
 use std::test::Fail;
 
-const NETLIST: &[u8] = b"INPUT(G0)\nG1 = DFF(G2)\nG2 = NOR(G0, G1)\nG3 = NOT(G1)\n";
+const BENCH: &[u8] = b"INPUT(G0)\nG1 = DFF(G2)\nG2 = NOR(G0, G1)\nG3 = NOT(G1)\n";
 
-const DELAYS: [u8; 34] = *b"by,name,delay\nkind,DFF,2\nnet,G3,3\n";
+const DELAYS: &[u8] = b"by,name,delay\nkind,DFF,2\nnet,G3,3\n";
 
-const STIMULI: [u8; 22] = *b"tick,net,value\n0,G0,0\n";
+const STIMULI: &[u8] = b"tick,net,value\n0,G0,0\n";
 
-fn design_of(
-    alloc: Global,
-    netlist: Netlist,
-    delays: &[u8],
-    stimuli: &[u8],
-) -> Result<Design, DesignFault>
-    requires delays { length delays.now ≤ 16777216 }
-    requires stimuli { length stimuli.now ≤ 16777216 }
-{
-    let settings = Settings {
-        horizon: 12,
-        clock: Some((3, 5)),
-        init: Level::Zero,
-    };
-    let delays = read_delays(alloc, delays)?;
-    let stimuli = read_stimuli(alloc, stimuli)?;
-    let clocks = read_clocks(alloc, b"")?;
-    Design::new(alloc, netlist, delays, stimuli, clocks, settings)
-}
+const SETTINGS: Settings = Settings {
+    horizon: 12,
+    clock: Some((3, 5)),
+    init: Level::Zero,
+};
 
 // The number and the record of the fault, or 0 and 0 where there is a design.
-fn outcome(alloc: Global, delays: &[u8], stimuli: &[u8]) -> Result<(u32, u32), Fail>
+fn outcome(alloc: Global, delays: &[u8], stimuli: &[u8]) -> (u32, u32)
     requires delays { length delays.now ≤ 16777216 }
     requires stimuli { length stimuli.now ≤ 16777216 }
 {
-    let netlist = read_bench(alloc, NETLIST)?;
-    match design_of(alloc, netlist, delays, stimuli) {
-        Ok(_) => Ok((0, 0)),
-        Err(fault) => Ok((fault.number(), fault.record())),
+    match design_of(alloc, BENCH, delays, stimuli, SETTINGS) {
+        Ok(_) => (0, 0),
+        Err(fault) => (fault.number(), fault.record()),
     }
 }
 
@@ -69,16 +54,15 @@ fn of_stimuli(n: usize) -> (u32, u32) {
 }
 
 #[test]
-fn cut_tables(rt: HostRuntime) -> Result<(), Fail> {
-    for n in 0..35 {
-        let found = outcome(rt.alloc(), &DELAYS[..n], &STIMULI)?;
+fn cut_tables(rt: HostRuntime) {
+    for n in 0..=DELAYS.len() {
+        let found = outcome(rt.alloc(), &DELAYS[..n], STIMULI);
         assert_eq!(rt; found, of_delays(n), "{n} bytes of delays");
     }
-    for n in 0..23 {
-        let found = outcome(rt.alloc(), &DELAYS, &STIMULI[..n])?;
+    for n in 0..=STIMULI.len() {
+        let found = outcome(rt.alloc(), DELAYS, &STIMULI[..n]);
         assert_eq!(rt; found, of_stimuli(n), "{n} bytes of stimuli");
     }
-    Ok(())
 }
 
 // A design, or a fault of a record of a table.
@@ -86,13 +70,16 @@ fn is_of_record((number, record): (u32, u32)) -> bool {
     number == 0 || record >= 1 && number >= 23 && number <= 37 && number != 33
 }
 
-// The delays with another byte at a place.
-fn other_delays(at: usize, value: u8) -> [u8; 34]
-    requires { at < 34 }
+// The text with another byte at a place.
+fn damaged(alloc: Global, text: &[u8], at: usize, value: u8) -> Result<Vec<u8>, AllocError>
+    requires { length text.now ≤ 16777216 }
+    ensures { IfOk result (λ v. length v.items ≤ 16777216) }
 {
-    let mut text = DELAYS;
-    text[at] = value;
-    text
+    let mut text = Vec::from_slice(alloc, text)?;
+    if at < text.len() {
+        text[at] = value;
+    }
+    Ok(text)
 }
 
 #[test]
@@ -106,25 +93,21 @@ fn damaged_delays(rt: HostRuntime) -> Result<(), Fail> {
         (30, b'0', (32, 3)),
         (30, b'9', (26, 3)),
     ] {
-        let found = outcome(rt.alloc(), &other_delays(at, value), &STIMULI)?;
-        assert_eq!(rt; found, want, "byte {at} to {value}");
+        let text = damaged(rt.alloc(), DELAYS, at, value)?;
+        assert_eq!(rt;
+            outcome(rt.alloc(), &text, STIMULI),
+            want,
+            "byte {at} to {value}"
+        );
     }
-    for at in 0..34 {
+    for at in 0..DELAYS.len() {
         for value in 0..=255 {
-            let found = outcome(rt.alloc(), &other_delays(at, value), &STIMULI)?;
+            let text = damaged(rt.alloc(), DELAYS, at, value)?;
+            let found = outcome(rt.alloc(), &text, STIMULI);
             assert!(rt; is_of_record(found), "byte {at} to {value}");
         }
     }
     Ok(())
-}
-
-// The stimuli with another byte at a place.
-fn other_stimuli(at: usize, value: u8) -> [u8; 22]
-    requires { at < 22 }
-{
-    let mut text = STIMULI;
-    text[at] = value;
-    text
 }
 
 #[test]
@@ -137,12 +120,17 @@ fn damaged_stimuli(rt: HostRuntime) -> Result<(), Fail> {
         (20, b'2', (31, 2)),
         (20, b'X', (0, 0)),
     ] {
-        let found = outcome(rt.alloc(), &DELAYS, &other_stimuli(at, value))?;
-        assert_eq!(rt; found, want, "byte {at} to {value}");
+        let text = damaged(rt.alloc(), STIMULI, at, value)?;
+        assert_eq!(rt;
+            outcome(rt.alloc(), DELAYS, &text),
+            want,
+            "byte {at} to {value}"
+        );
     }
-    for at in 0..22 {
+    for at in 0..STIMULI.len() {
         for value in 0..=255 {
-            let found = outcome(rt.alloc(), &DELAYS, &other_stimuli(at, value))?;
+            let text = damaged(rt.alloc(), STIMULI, at, value)?;
+            let found = outcome(rt.alloc(), DELAYS, &text);
             assert!(rt; is_of_record(found), "byte {at} to {value}");
         }
     }
@@ -150,55 +138,34 @@ fn damaged_stimuli(rt: HostRuntime) -> Result<(), Fail> {
 }
 
 #[test]
-fn layouts(rt: HostRuntime) -> Result<(), Fail> {
+fn layouts(rt: HostRuntime) {
     for (delays, want) in [
-        (b"\r\n\n".as_slice(), (0, 0)),
-        (b"\"\"".as_slice(), (23, 1)),
+        ("\r\n\n", (0, 0)),
+        ("\"\"", (23, 1)),
         (
-            b"by ,\"name\",\tdelay\r\n net,\"G3\" ,0000000007\r\n".as_slice(),
+            "by ,\"name\",\tdelay\r\n net,\"G3\" ,0000000007\r\n",
             (0, 0),
         ),
-        (b"by,name,delay\nnet,G3,00000000007".as_slice(), (25, 2)),
-        (
-            b"by,name,delay\nkind,buf,2\nkind,BUFF,3".as_slice(),
-            (29, 3),
-        ),
-        (b"by,name,delay\npin,G2:1:2,3".as_slice(), (26, 2)),
-        (
-            b"by,name,delay\nnet,G9,3\nnet,G3,1000001".as_slice(),
-            (28, 3),
-        ),
+        ("by,name,delay\nnet,G3,00000000007", (25, 2)),
+        ("by,name,delay\nkind,buf,2\nkind,BUFF,3", (29, 3)),
+        ("by,name,delay\npin,G2:1:2,3", (26, 2)),
+        ("by,name,delay\nnet,G9,3\nnet,G3,1000001", (28, 3)),
     ] {
-        let found = outcome(rt.alloc(), delays, b"")?;
-        assert_eq!(rt; found, want, "{delays:?}");
+        assert!(rt; delays.len() < 100);
+        let found = outcome(rt.alloc(), delays.as_bytes(), b"");
+        assert_eq!(rt; found, want, "{delays}");
     }
-    Ok(())
 }
 
 #[test]
-fn far_ticks(rt: HostRuntime) -> Result<(), Fail> {
+fn ticks_of_10_digits(rt: HostRuntime) {
     for (stimuli, want) in [
-        (
-            b"tick,net,value\n1,G0,0\n4294967297,G0,1".as_slice(),
-            (0, 0),
-        ),
-        (
-            b"tick,net,value\n9999999999,G0,0\n9999999999,G0,1".as_slice(),
-            (29, 3),
-        ),
-        (b"tick,net,value\n10000000000,G0,0".as_slice(), (25, 2)),
+        ("tick,net,value\n1,G0,0\n4294967297,G0,1", (0, 0)),
+        ("tick,net,value\n9999999999,G0,0\n9999999999,G0,1", (29, 3)),
+        ("tick,net,value\n10000000000,G0,0", (25, 2)),
     ] {
-        assert_eq!(rt; outcome(rt.alloc(), b"", stimuli)?, want);
+        assert!(rt; stimuli.len() < 100);
+        let found = outcome(rt.alloc(), b"", stimuli.as_bytes());
+        assert_eq!(rt; found, want, "{stimuli}");
     }
-    let netlist = read_bench(rt.alloc(), NETLIST)?;
-    let stimuli = b"tick,net,value\n4294967301,G0,1\n9999999999,G0,x\n3,G0,0\n";
-    let design = design_of(rt.alloc(), netlist, b"", stimuli)?;
-    assert!(rt; design.netlist().len() == 4);
-    let only = [Change {
-        tick: 3,
-        level: Level::Zero,
-    }];
-    assert_eq!(rt; design.stim_changes(0), only.as_slice());
-    assert_eq!(rt; design.stim(0, 11), Level::Zero);
-    Ok(())
 }
