@@ -3,6 +3,7 @@
 ghost use Rattle.std.specs.Prelude.{◌≡◌, length};
 ghost use Rattle.cmb_design.specs.Exact.{nets_of};
 
+use crate::collected::Collected;
 use crate::part::{Part, Posted};
 use crate::terms::Terms;
 use cmb_core::Clustering;
@@ -10,6 +11,13 @@ use cmb_design::Design;
 use cmb_links::Workers;
 use std::alloc::{AllocError, Global};
 use std::mem::replace;
+
+/// Where a cluster is: which worker has it, and at which place among that worker's clusters.
+#[derive(Clone, Copy, Debug)]
+pub struct Place {
+    pub worker: usize,
+    pub index: usize,
+}
 
 /// A net that other clusters read, and the tick up to which it was posted to them.
 #[derive(Drop)]
@@ -38,14 +46,34 @@ impl<T: Terms> Member<T> {
         Ok(())
     }
 
+    // Notes the cluster as a reader of each net that it is given.
+    fn add_reader(&self, place: Place, readers: &mut [Vec<Place>]) -> Result<(), AllocError> {
+        for net in self.part.inputs() {
+            if let Some(places) = readers.get_mut(*net as usize) {
+                places.push(place)?;
+            }
+        }
+        Ok(())
+    }
+
     // Notes which of the cluster's nets are read by others.
-    fn connect(&mut self, readers: &[Vec<u32>]) -> Result<(), AllocError> {
+    fn connect(&mut self, readers: &[Vec<Place>]) -> Result<(), AllocError> {
         for net in self.part.driven() {
             if readers
                 .get(*net as usize)
-                .is_some_and(|readers| !readers.is_empty())
+                .is_some_and(|places| !places.is_empty())
             {
                 self.outlets.push(Outlet { net: *net, sent: 0 })?;
+            }
+        }
+        Ok(())
+    }
+
+    // Adds what is known of the cluster's nets.
+    fn collect(&self, collected: &mut Collected<T>) -> Result<(), AllocError> {
+        for net in self.part.driven() {
+            if let Some(whole) = self.part.post(*net, 0)? {
+                collected.take(&whole)?;
             }
         }
         Ok(())
@@ -118,31 +146,34 @@ impl<T: Terms> Hand<T> {
         replace(&mut self.posted, Vec::new(alloc))
     }
 
-    /// Gives a piece to the cluster in this place.
-    pub fn deliver(&mut self, place: usize, posted: &Posted<T>) -> Result<(), AllocError> {
-        match self.members.get_mut(place) {
+    /// Gives a piece to the cluster at this place.
+    pub fn deliver(&mut self, index: usize, posted: &Posted<T>) -> Result<(), AllocError> {
+        match self.members.get_mut(index) {
             Some(member) => member.part.deliver(posted),
             None => Ok(()),
         }
     }
 
-    /// The cluster in a place.
-    pub fn part(&self, place: usize) -> Option<&Part<T>> {
-        match self.members.get(place) {
-            Some(member) => Some(&member.part),
-            None => None,
+    /// Notes each of the worker's clusters as a reader of the nets that it is given.
+    pub fn add_readers(&self, worker: usize, readers: &mut [Vec<Place>]) -> Result<(), AllocError> {
+        for (index, member) in self.members.iter().enumerate() {
+            member.add_reader(Place { worker, index }, readers)?;
         }
-    }
-
-    /// How many clusters there are.
-    pub fn len(&self) -> usize {
-        self.members.len()
+        Ok(())
     }
 
     /// Notes for each cluster which of its nets others read.
-    pub fn connect(&mut self, readers: &[Vec<u32>]) -> Result<(), AllocError> {
+    pub fn connect(&mut self, readers: &[Vec<Place>]) -> Result<(), AllocError> {
         for member in self.members.iter_mut() {
             member.connect(readers)?;
+        }
+        Ok(())
+    }
+
+    /// Adds what is known of the nets that are driven here.
+    pub fn collect(&self, collected: &mut Collected<T>) -> Result<(), AllocError> {
+        for member in self.members.iter() {
+            member.collect(collected)?;
         }
         Ok(())
     }

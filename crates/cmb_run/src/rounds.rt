@@ -8,8 +8,8 @@ ghost use Rattle.cmb_run.specs.declared.run_fault.RunFault.TheVariants.{Memory};
 
 use crate::collected::Collected;
 use crate::collector::Collector;
-use crate::hand::Hand;
-use crate::part::{Part, Posted};
+use crate::hand::{Hand, Place};
+use crate::part::Posted;
 use crate::run_fault::RunFault;
 use crate::terms::Terms;
 use cmb_core::Clustering;
@@ -21,11 +21,10 @@ use std::sync::Wait;
 use std::thread;
 use std::thread::Threads;
 
-// Where a piece of a net goes: the clusters that read the net, and their workers.
+// Where a piece of a net goes: the clusters that read the net.
 #[derive(Drop)]
 struct Routes {
-    readers: Vec<Vec<u32>>,
-    workers: Workers,
+    readers: Vec<Vec<Place>>,
 }
 
 // The workers' clusters. A worker without clusters has no part in the run.
@@ -99,22 +98,8 @@ fn step<T: Terms + Send + Sync, R: Threads + Wait + Sync>(
     Ok(back)
 }
 
-// Whom the nets of a worker's cluster are given by others.
-fn add_readers<T: Terms>(
-    readers: &mut [Vec<u32>],
-    part: &Part<T>,
-    cluster: u32,
-) -> Result<(), AllocError> {
-    for net in part.inputs() {
-        if let Some(list) = readers.get_mut(*net as usize) {
-            list.push(cluster)?;
-        }
-    }
-    Ok(())
-}
-
 // No readers for each of so many nets.
-fn no_readers(alloc: Global, nets: usize) -> Result<Vec<Vec<u32>>, AllocError> {
+fn no_readers(alloc: Global, nets: usize) -> Result<Vec<Vec<Place>>, AllocError> {
     let mut readers = Vec::with_capacity(alloc, nets)?;
     for _ in 0..nets {
         readers.push(Vec::new(alloc))?;
@@ -124,19 +109,12 @@ fn no_readers(alloc: Global, nets: usize) -> Result<Vec<Vec<u32>>, AllocError> {
 
 impl Routes {
     // The readers of each net, by what the clusters are given.
-    fn open<T: Terms>(
-        alloc: Global,
-        clustering: &Clustering,
-        workers: Workers,
-        hands: &[Hand<T>],
-    ) -> Result<Routes, AllocError> {
-        let mut readers = no_readers(alloc, clustering.nets())?;
-        for cluster in 0..clustering.clusters() {
-            if let Some(part) = part_of(hands, workers, cluster) {
-                add_readers(&mut readers, part, cluster)?;
-            }
+    fn open<T: Terms>(alloc: Global, nets: usize, hands: &[Hand<T>]) -> Result<Routes, AllocError> {
+        let mut readers = no_readers(alloc, nets)?;
+        for (worker, hand) in hands.iter().enumerate() {
+            hand.add_readers(worker, &mut readers)?;
         }
-        Ok(Routes { readers, workers })
+        Ok(Routes { readers })
     }
 
     // Gives a piece to each cluster that reads its net.
@@ -145,13 +123,12 @@ impl Routes {
         hands: &mut [Hand<T>],
         posted: &Posted<T>,
     ) -> Result<(), AllocError> {
-        let Some(readers) = self.readers.get(posted.piece().net() as usize) else {
+        let Some(places) = self.readers.get(posted.piece().net() as usize) else {
             return Ok(());
         };
-        for cluster in readers {
-            let worker = self.workers.of(*cluster) as usize;
-            if let Some(hand) = hands.get_mut(worker) {
-                hand.deliver((*cluster / self.workers.count()) as usize, posted)?;
+        for place in places {
+            if let Some(hand) = hands.get_mut(place.worker) {
+                hand.deliver(place.index, posted)?;
             }
         }
         Ok(())
@@ -182,31 +159,18 @@ impl Routes {
     }
 }
 
-// The cluster with a number.
-fn part_of<T: Terms>(hands: &[Hand<T>], workers: Workers, cluster: u32) -> Option<&Part<T>> {
-    let hand = hands.get(workers.of(cluster) as usize)?;
-    hand.part((cluster / workers.count()) as usize)
-}
-
 // What the clusters know of all nets.
 fn collect<T: Terms>(
     alloc: Global,
     design: &Design,
-    clustering: &Clustering,
-    workers: Workers,
     hands: &[Hand<T>],
 ) -> Result<Collector, AllocError>
-    requires design { design.now ≡ T.design }
-    requires nets { length clustering.now.assign ≡ nets_of design.now }
+    requires { design.now ≡ T.design }
     ensures { IfOk result (λ collector. IsExactFor design.now collector) }
 {
     let mut collected = Collected::open(alloc, design)?;
-    for net in 0..design.netlist().len() as u32 {
-        if let Some(part) = part_of(hands, workers, clustering.of(net)) {
-            if let Some(posted) = part.post(net, 0)? {
-                collected.take(&posted)?;
-            }
-        }
+    for hand in hands {
+        hand.collect(&mut collected)?;
     }
     Ok(collected.into_collector())
 }
@@ -226,7 +190,7 @@ fn run_named<T: Terms + Send + Sync, R: Threads + Wait + Sync>(
     ensures complete { IfOk result (λ collector. IsComplete collector) }
 {
     let mut hands = deal::<T>(alloc, design, clustering, workers)?;
-    let routes = Routes::open(alloc, clustering, workers, &hands)?;
+    let routes = Routes::open(alloc, design.netlist().len(), &hands)?;
     for hand in hands.iter_mut() {
         hand.connect(&routes.readers)?;
     }
@@ -234,7 +198,7 @@ fn run_named<T: Terms + Send + Sync, R: Threads + Wait + Sync>(
         hands = step(rt, alloc, hands)?;
         routes.pass_on(alloc, &mut hands)?;
         if hands.iter().all(|hand| hand.complete()) {
-            let collector = collect(alloc, design, clustering, workers, &hands)?;
+            let collector = collect(alloc, design, &hands)?;
             if collector.complete() {
                 return Ok(collector);
             }
