@@ -36,7 +36,9 @@ pub struct Member<T: Terms> {
 impl<T: Terms> Member<T> {
     // Steps the cluster, and posts what is new to those that read it.
     fn step(&mut self, posted: &mut Vec<Posted<T>>) -> Result<(), AllocError> {
-        self.part.step()?;
+        if !self.part.step()? {
+            return Ok(());
+        }
         for outlet in self.outlets.iter_mut() {
             if let Some(new) = self.part.post(outlet.net, outlet.sent)? {
                 outlet.sent = new.piece().to();

@@ -89,11 +89,14 @@ impl<T: Terms> Part<T> {
         })
     }
 
-    /// Steps each net that is driven here once, in order, and forgets what nobody needs any more.
-    pub fn step(&mut self) -> Result<(), AllocError> {
-        self.cluster.step_all()?;
-        self.cluster.trim();
-        Ok(())
+    /// Steps each net that is driven here once, in order, and says whether one is known further now.
+    /// Then what nobody needs any more is forgotten.
+    pub fn step(&mut self) -> Result<bool, AllocError> {
+        let rose = self.cluster.step_all()?;
+        if rose {
+            self.cluster.trim();
+        }
+        Ok(rose)
     }
 
     /// The piece of a net from a tick up to its clock, none where it isn't known further or isn't driven here.
