@@ -10,6 +10,8 @@ use cmb_sim::{
 use std::fs::File;
 use std::io::Write;
 use std::process::ExitCode;
+use std::sync::Wait;
+use std::thread::Threads;
 use std::{env, io};
 
 // The file of the input with this number, opened, if one is named.
@@ -29,13 +31,18 @@ fn open(
     }
 }
 
-// Opens the named files in the order of their inputs, and simulates.
-fn run(rt: &HostRuntime, line: &Line) -> Result<Report, Fault> {
+// Opens the named files in the order of their inputs, and simulates. Only `main` may lend the runtime
+// as one that starts threads, so it comes once more as that.
+fn run<R: AllocGlobal + Threads + Wait + Sync>(
+    rt: &HostRuntime,
+    threads: &R,
+    line: &Line,
+) -> Result<Report, Fault> {
     let mut delays = open(rt, &line.delays, 2)?;
     let mut stimuli = open(rt, &line.stimuli, 3)?;
     let mut clocks = open(rt, &line.clocks, 4)?;
     simulate(
-        rt,
+        threads,
         &mut FromReader::new(rt.stdin()),
         &mut delays,
         &mut stimuli,
@@ -89,7 +96,7 @@ fn main(rt: HostRuntime) -> ExitCode {
         return tell(&rt, &Fault::Memory);
     };
     match read_line(rt.alloc(), words.as_slice()) {
-        Ok(line) => match run(&rt, &line) {
+        Ok(line) => match run(&rt, &rt, &line) {
             Ok(_) => ExitCode::SUCCESS,
             Err(fault) => tell(&rt, &fault),
         },
