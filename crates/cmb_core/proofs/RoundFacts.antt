@@ -1,5 +1,5 @@
 -- Rounds of a world, and the same rounds of the clocks beside it.
-use Rattle.std.proofs.Common.{◌≡◌, ℕ, zero, suc, ◌+◌, ◌<◌, ◌≤◌, Bool, true, false, ◌&&◌, cond, ltb, List, [], ◌∷◌, ◌++◌, length, map, Option, Some, None, Result, Ok, Err, OnErr, refl, sym, ◌∙◌, ap, subst, arith}
+use Rattle.std.proofs.Common.{◌≡◌, ℕ, zero, suc, ◌+◌, ◌<◌, ◌≤◌, min, Bool, true, false, ◌&&◌, cond, ltb, List, [], ◌∷◌, ◌++◌, length, map, Option, Some, None, Result, Ok, Err, OnErr, refl, sym, ◌∙◌, ap, subst, arith}
 use Rattle.std.proofs.lemmas.List.{length-map}
 use Rattle.cmb_bench.specs.Netlist.{IsNetlist}
 use Rattle.cmb_design.specs.Design.{Design}
@@ -8,13 +8,13 @@ use Rattle.cmb_core.specs.declared.event.Event.{Event}
 use Rattle.cmb_core.specs.declared.event.Event.TheVariants.{Step, Post, Deliver}
 use Rattle.cmb_core.specs.Clustering.{Clustering, IsClustering, has_input}
 use Rattle.cmb_core.specs.Clocks.{Clocks, out_clock, in_clock, start, piece_of}
-use Rattle.cmb_core.specs.Run.{clocks_after, for_each, pass_on, round, IsQuiet, IsComplete}
+use Rattle.cmb_core.specs.Run.{clocks_after, for_each, pass_on, round, rounds, AtLeast, IsQuiet, IsComplete}
 use Rattle.cmb_core.specs.World.{World, in_wave, out_wave, world_after}
 use Rattle.cmb_core.specs.Play.{IsReached}
-use Rattle.cmb_core.specs.Rounds.{events_each, step_event, pass_on_events, step_events, net_events, passing_events, round_events, IsQuietWorld, IsCompleteWorld}
+use Rattle.cmb_core.specs.Rounds.{events_each, step_event, pass_on_events, step_events, net_events, passing_events, round_events, world_rounds, IsKnownTo, IsQuietWorld, IsCompleteWorld}
 use Rattle.cmb_core.proofs.Homes.{input_there}
 use Rattle.cmb_core.proofs.Machine.{clocks_after-append}
-use Rattle.cmb_core.proofs.Progress.{quiet-complete}
+use Rattle.cmb_core.proofs.Progress.{quiet-complete, rounds-at_least}
 use Rattle.cmb_core.proofs.Runs.{Together, together_after, together_reached}
 use Rattle.cmb_core.proofs.Worlds.{reach-same}
 
@@ -85,3 +85,24 @@ module _ (design : Design) (netlist : IsNetlist design.netlist) (clustering : Cl
             sym (t.shows.ins cluster n inside reads) ∙ quiet.passed_on cluster n inside reads ∙ t.shows.outs n (input_there design clustering cluster n netlist reads);
       } in
       t.shows.outs net there ∙ quiet-complete design netlist clustering lawful clocks (past, refl) is net there
+
+  together_rounds : (world : World) (clocks : Clocks) → Together design clustering world clocks → (many : ℕ) → Together design clustering (world_rounds design clustering many world) (rounds design clustering many clocks)
+  together_rounds world clocks t zero = t
+  together_rounds world clocks t (suc many) =
+      let before : World = world_rounds design clustering many world in
+      let known : Clocks = rounds design clustering many clocks in
+      let so_far : Together design clustering before known = together_rounds world clocks t many in
+      let P : Clocks → Type 0 = λ k. Together design clustering (world_after design clustering before (round_events design clustering before)) k in
+      subst P (round_clocks before known so_far) (together_after design netlist clustering lawful (round_events design clustering before) before known so_far)
+
+  -- each round brings every clock on by a tick at least
+  pub rounds_known : (world : World) (past : List Event) → IsReached design clustering world past → (many : ℕ) → IsKnownTo design clustering (min design.horizon many) (world_rounds design clustering many world)
+  rounds_known world past reached many =
+      let clocks : Clocks = clocks_after design clustering (start design clustering) past in
+      let start' : Together design clustering world clocks = together_reached design netlist clustering lawful world past reached in
+      let t : Together design clustering (world_rounds design clustering many world) (rounds design clustering many clocks) = together_rounds world clocks start' many in
+      let least : AtLeast design clustering (min design.horizon many) (rounds design clustering many clocks) = rounds-at_least design netlist clustering lawful clocks start'.sound many in
+      record {
+        outs = λ net there. omega (arith, least.outs net there, t.shows.outs net there);
+        ins = λ cluster net inside reads. omega (arith, least.ins cluster net inside (input_there design clustering cluster net netlist reads) reads, t.shows.ins cluster net inside reads);
+      }

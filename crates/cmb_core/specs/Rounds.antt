@@ -49,6 +49,18 @@ abbrev pub round_events : Design → Clustering → World → List Event
 round_events design clustering world =
     step_events design clustering world ++ passing_events design clustering (world_after design clustering world (step_events design clustering world))
 
+-- so many rounds
+abbrev pub world_rounds : Design → Clustering → ℕ → World → World
+world_rounds design clustering zero world = world
+world_rounds design clustering (suc many) world =
+    let before = world_rounds design clustering many world in
+    world_after design clustering before (round_events design clustering before)
+
+-- every wave is known up to a tick at least
+pub record IsKnownTo (design : Design) (clustering : Clustering) (tick : ℕ) (world : World) : Type 0 where
+  pub outs : (net : ℕ) → net < nets_of design → tick ≤ (out_wave clustering world net).clock
+  pub ins : (cluster net : ℕ) → cluster < clustering.clusters → has_input design clustering cluster net ≡ true → tick ≤ (in_wave world cluster net).clock
+
 -- some of these events were played, from the first on
 pub record IsBegun (design : Design) (clustering : Clustering) (start : World) (events : List Event) (now : World) : Type 0 where
   pub done : List Event

@@ -1,12 +1,16 @@
 //! All clusters of a design, in one thread.
 
-ghost use Rattle.std.specs.Prelude.{◌≡◌, ◌<◌, ◌≤◌, ℕ, [], length, map, slice_get, slice_index_or, nat_lt, IfOk, IfSome, MatchOption, Some, None, if◌then◌else◌};
+ghost use Rattle.std.specs.Prelude.{◌≡◌, ◌<◌, ◌≤◌, ℕ, List, min, [], length, map, slice_get, slice_index_or, nat_lt, IfOk, IfSome, MatchOption, Some, None, if◌then◌else◌};
 ghost use Rattle.cmb_design.specs.Design.{Design};
 ghost use Rattle.cmb_design.specs.Exact.{nets_of};
-ghost use Rattle.cmb_core.specs.Clustering.{Clustering};
+ghost use Rattle.cmb_bench.specs.Netlist.{IsNetlist};
+ghost use Rattle.cmb_core.specs.declared.event.Event.{Event};
+ghost use Rattle.cmb_core.specs.Clustering.{Clustering, IsClustering};
+ghost use Rattle.cmb_core.specs.Play.{IsReached};
+ghost use Rattle.cmb_core.specs.Rounds.{IsKnownTo, world_rounds};
 ghost use Rattle.cmb_core.specs.Clusters.{IsDrivenHere};
 ghost use Rattle.cmb_core.specs.Opened.{IsClusterOf};
-ghost use Rattle.cmb_core.specs.World.{new_clusters};
+ghost use Rattle.cmb_core.specs.World.{World as Waves, new_clusters};
 
 use crate::cluster::Cluster;
 use crate::clustering::Clustering;
@@ -160,3 +164,9 @@ impl World {
         }
     }
 }
+
+/// So many rounds bring every clock of a world that came about from newly opened clusters to the lesser of that number
+/// and the horizon at least.
+pub fn rounds_of_worlds_go_on()
+    ensures { (design : Design) (clustering : Clustering) (world : Waves) (past : List Event) (many : ℕ) → IsNetlist design.netlist → IsClustering (nets_of design) clustering → IsReached design clustering world past → IsKnownTo design clustering (min design.horizon many) (world_rounds design clustering many world) }
+{}
