@@ -1,7 +1,14 @@
 //! What a run's workers hold and hand on: all of it is exact in the run's design, by its type.
 
-ghost use Rattle.std.specs.Prelude.{◌≡◌, ◌<◌, length};
+ghost use Rattle.std.specs.Prelude.{◌≡◌, ◌<◌, ℕ, length, map, IfOk, IfSome, OnOk, Ok, Err};
+ghost use Rattle.cmb_wave.specs.Wave.{Wave as WaveOf, cut_of, new_wave};
 ghost use Rattle.cmb_design.specs.Exact.{IsExactIn, nets_of};
+ghost use Rattle.cmb_core.specs.Clusters.{IsSameButWaves, delivered, inputs_of, is_complete, outputs_of};
+ghost use Rattle.cmb_core.specs.Opened.{IsClusterOf, held_nets, own_nets};
+ghost use Rattle.cmb_core.specs.Sweep.{some_rises};
+ghost use Rattle.cmb_core.specs.Step.{wave_at};
+ghost use Rattle.cmb_core.specs.World.{with_wave};
+ghost use Rattle.cmb_core.specs.declared.delivery.DeliverFault.{DeliverFault as Refusal};
 
 use crate::terms::Terms;
 use cmb_core::{Cluster, Clustering, DeliverFault};
@@ -80,6 +87,7 @@ impl<T: Terms> Part<T> {
         requires clustering { clustering.now ≡ T.clustering }
         requires nets { length clustering.now.assign ≡ nets_of design.now }
         requires number { number < clustering.now.clusters }
+        ensures { IfOk result (λ part. part.waves ≡ map new_wave (held_nets design.now clustering.now number)) }
     {
         let cluster = Cluster::open(alloc, design, clustering, number)?;
         Ok(Part {
@@ -91,7 +99,10 @@ impl<T: Terms> Part<T> {
 
     /// Steps each net that is driven here once, in order, and says whether one is known further now.
     /// Then what nobody needs any more is forgotten.
-    pub fn step(&mut self) -> Result<bool, AllocError> {
+    pub fn step(&mut self) -> Result<bool, AllocError>
+        ensures rose { (cluster : ℕ) → IsClusterOf T.design T.clustering cluster self.old → IfOk result (λ rose. rose ≡ some_rises T.design self.old.waves (own_nets T.design T.clustering cluster)) }
+        ensures same { IsSameButWaves self.old self.new }
+    {
         let rose = self.cluster.step_all()?;
         if rose {
             self.cluster.trim();
@@ -100,7 +111,9 @@ impl<T: Terms> Part<T> {
     }
 
     /// The piece of a net from a tick up to its clock, none where it isn't known further or isn't driven here.
-    pub fn post(&self, net: u32, from: u32) -> Result<Option<Posted<T>>, AllocError> {
+    pub fn post(&self, net: u32, from: u32) -> Result<Option<Posted<T>>, AllocError>
+        ensures { IfOk result (λ posted. IfSome posted (λ piece. piece ≡ cut_of (wave_at self.now.waves net) from)) }
+    {
         let Some(clock) = self.cluster.out_clock(net) else {
             return Ok(None);
         };
@@ -114,7 +127,11 @@ impl<T: Terms> Part<T> {
     }
 
     /// Gives a piece to the input wave of its net. What the cluster refuses changes nothing.
-    pub fn deliver(&mut self, posted: &Posted<T>) -> Result<(), AllocError> {
+    pub fn deliver(&mut self, posted: &Posted<T>) -> Result<(), AllocError>
+        ensures taken { (wave : WaveOf) → delivered self.old posted.now ≡ Ok wave → OnOk result (self.new.waves ≡ with_wave self.old.waves wave) }
+        ensures refused { (fault : Refusal) → delivered self.old posted.now ≡ Err fault → self.new ≡ self.old }
+        ensures same { IsSameButWaves self.old self.new }
+    {
         match self.cluster.deliver(posted.piece()) {
             Err(DeliverFault::Memory) => Err(AllocError),
             _ => Ok(()),
@@ -122,17 +139,23 @@ impl<T: Terms> Part<T> {
     }
 
     /// The nets that are driven here, by rising number.
-    pub fn driven(&self) -> &[u32] {
+    pub fn driven(&self) -> &[u32]
+        ensures { result.now ≡ map (λ wave. wave.net) (outputs_of self.now) }
+    {
         self.cluster.driven()
     }
 
     /// The other nets that they read, by rising number.
-    pub fn inputs(&self) -> &[u32] {
+    pub fn inputs(&self) -> &[u32]
+        ensures { result.now ≡ map (λ wave. wave.net) (inputs_of self.now) }
+    {
         self.cluster.inputs()
     }
 
     /// Whether every net that is driven here is known up to the horizon.
-    pub fn complete(&self) -> bool {
+    pub fn complete(&self) -> bool
+        ensures { result ≡ is_complete self.now }
+    {
         self.cluster.complete()
     }
 }
