@@ -4,6 +4,7 @@ pub mod ClusterLemmas
 pub mod GateLemmas
 pub mod Merging
 pub mod PinLists
+pub mod Settles
 pub mod Skips
 pub mod Slots
 pub mod Machine

@@ -2,6 +2,7 @@
 
 ghost use Rattle.std.specs.Prelude.{◌≡◌, ℕ, ◌+◌, ◌-◌, ◌≤◌, ◌<◌, IfOk, length, min, []};
 ghost use Rattle.cmb_wave.specs.Waveform.{last_level, level_at, Rises};
+ghost use Rattle.cmb_wave.specs.declared.level.Level.{Level};
 ghost use Rattle.cmb_wave.specs.declared.level.Level.TheVariants.{X};
 ghost use Rattle.cmb_core.specs.Spans.{changes_from};
 ghost use Rattle.cmb_bench.specs.Netlist.{MayTake};
@@ -11,6 +12,7 @@ ghost use Rattle.cmb_core.specs.Rows.{delayed, gate_row, sampled, AreReady, gate
 use crate::merge::{Lag, Pin, merge};
 use crate::pins::{gate_pins, operand_wave};
 use crate::process::Operand;
+use crate::settled::settled_gate;
 use cmb_bench::netlist::Kind;
 use cmb_wave::search::{left_from, level_after};
 use cmb_wave::{Change, Level, Wave};
@@ -55,6 +57,23 @@ pub fn reach_of_flop(horizon: u32, first: u32, period: u32, delay: u32, known: u
     }
 }
 
+// The changes of an output that stays at a level, put into an empty list: one at most.
+fn held_changes(room: Vec<Change>, level: Level, span: Span) -> Result<Vec<Change>, AllocError>
+    requires ordered { span.from ≤ span.until }
+    requires empty { room.items ≡ [] }
+    ensures { (row : ℕ → Level) → ((t : ℕ) → span.from ≤ t → row t ≡ level) → IfOk result (λ made. made.items ≡ changes_from row span.before span.from (span.until - span.from)) }
+{
+    let mut pins = [held_pin(level)];
+    merge(
+        Kind::Buff,
+        &mut pins,
+        room,
+        span.before,
+        span.from,
+        span.until,
+    )
+}
+
 /// The changes of a gate's output in a span, put into an empty list.
 pub fn gate_changes(
     room: Vec<Change>,
@@ -69,6 +88,9 @@ pub fn gate_changes(
     requires empty { room.items ≡ [] }
     ensures { IfOk result (λ made. made.items ≡ changes_from (gate_row kind waves.now operands.now) span.before span.from (span.until - span.from)) }
 {
+    if let Some(level) = settled_gate(kind, operands, waves, span.from) {
+        return held_changes(room, level, span);
+    }
     let mut pins = gate_pins(*room.allocator(), operands, waves, span.from)?;
     merge(kind, &mut pins, room, span.before, span.from, span.until)
 }

@@ -18,6 +18,7 @@ pub mod process;
 mod readers;
 mod reads;
 mod rounds;
+mod settled;
 mod stepping;
 pub mod tables;
 mod trim;
