@@ -1,12 +1,12 @@
 -- Operands of which no change is on its way.
-use Rattle.std.proofs.Common.{◌≡◌, ℕ, zero, suc, ◌+◌, ◌-◌, ◌<◌, ◌≤◌, true, false, nat_le, nat_lt, List, [], ◌∷◌, ◌++◌, length, get_or, take, refl, ap, subst, ◌∙◌, arith}
+use Rattle.std.proofs.Common.{◌≡◌, ℕ, zero, suc, ◌+◌, ◌-◌, ◌<◌, ◌≤◌, true, false, nat_le, nat_lt, List, [], ◌∷◌, length, get_or, take, refl, ap, arith}
 use Rattle.std.specs.Prelude.{if◌then◌else◌}
 use Rattle.std.proofs.lemmas.Bool.Decides.{nat_tests}
 use Rattle.std.proofs.lemmas.List.{take_more}
 use Rattle.cmb_wave.specs.declared.level.Level.{Level}
 use Rattle.cmb_wave.specs.declared.level.Level.TheVariants.{X}
 use Rattle.cmb_wave.specs.declared.level.Change.{Change}
-use Rattle.cmb_wave.specs.Waveform.{Rises, last_level, level_at}
+use Rattle.cmb_wave.specs.Waveform.{Rises, level_at}
 use Rattle.cmb_wave.specs.Wave.{Wave}
 use Rattle.cmb_wave.proofs.Lists.{rises_get}
 use Rattle.cmb_core.specs.declared.process.Operand.{Operand}

@@ -1,9 +1,8 @@
-use Rattle.std.proofs.Common.{◌≡◌, ◌<◌, ap, arith, length, sym, take, ◌∙◌}
+use Rattle.std.proofs.Common.{◌≡◌, ◌<◌, arith, length, sym, take, ◌∙◌}
 use Rattle.std.proofs.lemmas.List.{take_all}
 use Rattle.cmb_bench.specs.Netlist.{MayTake}
-use Rattle.cmb_design.specs.Gate.{gate}
 use Rattle.cmb_core.specs.declared.process.Operand.{Operand}
-use Rattle.cmb_core.specs.Rows.{delayed, delayed_levels}
+use Rattle.cmb_core.specs.Rows.{delayed_levels}
 use Rattle.cmb_core.specs.Gates.{Counts}
 use Rattle.cmb_core.proofs.GateLemmas.{level_of_counts}
 use Rattle.cmb_core.proofs.PinLists.{ready_step}

@@ -1,4 +1,4 @@
-use Rattle.std.proofs.Common.{◌≡◌, ℕ, ◌≤◌, take, drop}
+use Rattle.std.proofs.Common.{ℕ, ◌≤◌, take, drop}
 use Rattle.cmb_core.specs.Gates.{Counts}
 use Rattle.cmb_core.specs.Rows.{delayed_levels, AreReady}
 use Rattle.cmb_core.proofs.settled.settled_gate.Given as goal
