@@ -1,9 +1,8 @@
 -- Clocks of waves, and new waves.
-use Rattle.std.proofs.Common.{◌≡◌, ℕ, ◌+◌, ◌<◌, ◌≤◌, List, [], ◌∷◌, ◌++◌, length, get_or, map, refl, arith}
-use Rattle.std.specs.List.{range_with_len}
+use Rattle.std.proofs.Common.{◌≡◌, ℕ, ◌+◌, ◌≤◌, List, [], ◌∷◌, ◌++◌, length, refl, arith}
 use Rattle.std.proofs.lemmas.List.FromFn.{length-map-range_with_len, get_or-map-range_with_len, map-range_with_len_more}
 use Rattle.cmb_wave.specs.Wave.{Wave, new_wave}
-use Rattle.cmb_run.specs.Collector.{AreCollected, IsCollected, least_clock, new_waves, wave_of}
+use Rattle.cmb_run.specs.Collector.{AreCollected, least_clock, new_waves, wave_of}
 
 pub least_clock_bound : (horizon : ℕ) (waves : List Wave) → least_clock horizon waves ≤ horizon
 least_clock_bound horizon [] = omega arith

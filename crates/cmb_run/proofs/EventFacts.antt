@@ -1,5 +1,5 @@
 -- Lists of changes, one element at a time.
-use Rattle.std.proofs.Common.{◌≡◌, ◌<◌, ◌+◌, ℕ, suc, List, ◌∷◌, ◌++◌, length, drop, get_or, refl, ◌∙◌, add-one, drop-cons}
+use Rattle.std.proofs.Common.{◌≡◌, ◌<◌, ◌+◌, ℕ, List, ◌∷◌, ◌++◌, length, drop, get_or, refl, ◌∙◌, add-one, drop-cons}
 use Rattle.std.proofs.lemmas.List.{get_or_default}
 use Rattle.cmb_wave.specs.declared.level.Change.{Change}
 use Rattle.cmb_wave.specs.Wave.{Wave, new_wave}

@@ -1,16 +1,16 @@
 -- Exact collectors stay exact.
-use Rattle.std.proofs.Common.{◌≡◌, ◌≢◌, ℕ, zero, suc, ◌+◌, ◌<◌, ◌≤◌, Bool, true, false, List, [], ◌∷◌, ◌⊎◌, inl, inr, length, get_or, set, map, refl, ap, sym, ◌∙◌, subst, arith, Ok, Err, Some, None, length-set, get_or-set_same, get_or-set_other}
-use Rattle.std.specs.Prelude.{nat_le, nat_lt, Result, Option, if◌then◌else◌}
+use Rattle.std.proofs.Common.{◌≡◌, ◌≢◌, ℕ, zero, suc, ◌+◌, ◌<◌, ◌≤◌, Bool, true, false, ◌⊎◌, inl, inr, length, set, map, refl, ap, sym, ◌∙◌, subst, arith, Ok, Err, None, length-set, get_or-set_same, get_or-set_other}
+use Rattle.std.specs.Prelude.{nat_le, nat_lt, Result}
 use Rattle.std.specs.List.{range_with_len}
-use Rattle.std.proofs.lemmas.Bool.{cases_eq, cases_lt, leb-true, ltb-true}
+use Rattle.std.proofs.lemmas.Bool.{cases_eq}
 use Rattle.std.proofs.lemmas.Bool.Decides.{nat_tests}
 use Rattle.std.proofs.lemmas.List.FromFn.{length-map-range_with_len, get_or-map-range_with_len}
 use Rattle.cmb_wave.specs.declared.level.Level.{Level}
 use Rattle.cmb_wave.specs.declared.wave.WaveFault.{WaveFault}
 use Rattle.cmb_wave.specs.declared.wave.WaveFault.TheVariants as wave_fault
-use Rattle.cmb_wave.specs.Waveform.{at_or_after, changes_between, clash, count_below, last_level}
+use Rattle.cmb_wave.specs.Waveform.{at_or_after, clash, count_below, last_level}
 use Rattle.cmb_wave.specs.Wave.{Piece, Wave, IsExactPiece, IsExactWave, new_wave, wave_with_piece}
-use Rattle.cmb_wave.specs.Calls.{taken, joined}
+use Rattle.cmb_wave.specs.Calls.{taken}
 use Rattle.cmb_wave.proofs.Spans.{clash-none}
 use Rattle.cmb_wave.proofs.Waveforms.{changes_between-same}
 use Rattle.cmb_wave.proofs.Waves.{added-alternates, with_piece-exact}
@@ -19,10 +19,10 @@ use Rattle.cmb_design.specs.Exact.{IsExactIn, nets_of}
 use Rattle.cmb_design.specs.Plain.{whole_wave, whole_waves}
 use Rattle.cmb_design.specs.Value.{value}
 use Rattle.cmb_run.specs.declared.fault.CollectFault.{CollectFault}
-use Rattle.cmb_run.specs.declared.fault.CollectFault.TheVariants.{Clash, Stranger}
-use Rattle.cmb_run.specs.Collector.{AreCollected, Collector, IsCollected, IsComplete, IsExactFor, collected, least_clock, new_collector, new_waves, with_wave, wave_of}
+use Rattle.cmb_run.specs.declared.fault.CollectFault.TheVariants.{Clash}
+use Rattle.cmb_run.specs.Collector.{Collector, IsCollected, IsComplete, IsExactFor, collected, least_clock, new_collector, new_waves, wave_of}
 use Rattle.cmb_run.specs.Faults.{collect_fault}
-use Rattle.cmb_run.proofs.CollectorFacts.{least_clock_bound, new_waves_collected}
+use Rattle.cmb_run.proofs.CollectorFacts.{new_waves_collected}
 
 -- ---- new collectors
 

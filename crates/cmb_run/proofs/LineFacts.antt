@@ -1,5 +1,5 @@
 -- One more step of a loop that writes, and the parts of a line.
-use Rattle.std.proofs.Common.{◌≡◌, ◌≤◌, ◌<◌, ◌+◌, ℕ, suc, ◌-◌, List, [], ◌∷◌, ◌++◌, length, drop, get_or, refl, sym, ap, arith, ◌∙◌, append_assoc, add-one, drop-cons}
+use Rattle.std.proofs.Common.{◌≡◌, ◌≤◌, ◌<◌, ◌+◌, ℕ, suc, ◌-◌, List, [], ◌++◌, length, drop, get_or, refl, sym, ap, arith, ◌∙◌, append_assoc, add-one, drop-cons}
 use Rattle.std.proofs.lemmas.List.{append-nil, drop_all}
 use Rattle.cmb_wave.specs.declared.level.Level.{Level}
 use Rattle.cmb_run.specs.Vcd.{level_line, level_lines, var_line, var_lines}

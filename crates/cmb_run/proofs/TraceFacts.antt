@@ -1,8 +1,8 @@
 -- The change of a net at a tick, in its wave's list.
-use Rattle.std.proofs.Common.{◌≡◌, ◌≢◌, ◌≤◌, ◌<◌, ◌+◌, ℕ, zero, suc, List, [], ◌∷◌, ◌++◌, ◌-◌, length, take, drop, length-drop, true, false, Bool, refl, ap, sym, ◌∙◌, arith, cond, ⊎_elim, map}
+use Rattle.std.proofs.Common.{◌≡◌, ◌≤◌, ◌<◌, ℕ, zero, suc, List, [], ◌∷◌, ◌-◌, length, take, drop, length-drop, true, false, Bool, refl, ap, sym, ◌∙◌, arith, cond, ⊎_elim}
 use Rattle.std.specs.Prelude.{◌==◌, filter, nat_le, nat_lt, if◌then◌else◌}
 use Rattle.std.specs.List.{flat_map}
-use Rattle.std.proofs.lemmas.Bool.{cases_lt, leb-true, ltb-true}
+use Rattle.std.proofs.lemmas.Bool.{cases_lt}
 use Rattle.std.proofs.lemmas.Bool.Decides.{nat_tests}
 use Rattle.std.proofs.lemmas.List.{append-nil}
 use Rattle.cmb_wave.specs.declared.level.Level.{Level}

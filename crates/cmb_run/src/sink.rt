@@ -1,6 +1,6 @@
 //! Where the text goes.
 
-ghost use Rattle.std.specs.Prelude.{◌≡◌, ℕ, ◌+◌, ◌-◌, ◌^◌, ◌<◌, ◌≤◌, List, [], Option, Some, length, take, IfOk, IfErr, OnOk, OnErr};
+ghost use Rattle.std.specs.Prelude.{◌≡◌, ℕ, ◌+◌, ◌-◌, ◌^◌, ◌<◌, ◌≤◌, List, [], Option, Some, length, take, vec_capacity, IfOk, IfErr, OnOk, OnErr};
 ghost use Rattle.std.specs.Io.KnownBytes.{Appends, WriteAppends};
 ghost use Rattle.cmb_run.specs.Ends.{write_failures};
 
@@ -57,6 +57,7 @@ impl Room {
     /// No bytes yet, and room for so many.
     pub fn new(alloc: Global, capacity: usize) -> Result<Room, AllocError>
         ensures empty { IfOk result (λ room. room.bytes.items ≡ []) }
+        ensures room { IfOk result (λ room. vec_capacity room.bytes ≡ capacity) }
         ensures no_failure { IfOk result (λ room. room.failures ≡ 0) }
     {
         Ok(Room {

@@ -1,4 +1,4 @@
-use Rattle.std.proofs.Common.{◌≡◌, ℕ, ◌<◌, ◌∙◌, ◌++◌, ◌+◌, sym, ap, arith, refl, drop, below_more, length}
+use Rattle.std.proofs.Common.{◌≡◌, ◌<◌, ◌∙◌, ◌++◌, ◌+◌, sym, ap, arith, refl, drop, below_more, length}
 use Rattle.cmb_wave.specs.Wave.{Wave}
 use Rattle.cmb_wave.specs.Waveform.{IsTrace}
 use Rattle.cmb_run.specs.Collector.{wave_of}

@@ -1,7 +1,6 @@
 use Rattle.std.proofs.Common.{◌≡◌, ◌≤◌, ◌∙◌, ◌++◌, Some, sym, ap, arith}
 use Rattle.std.specs.Prelude.{unwrap_or}
 use Rattle.cmb_design.specs.Design.{Design}
-use Rattle.cmb_design.specs.Value.{value}
 use Rattle.cmb_run.specs.Collector.{collected_level, least}
 use Rattle.cmb_run.specs.Writer.{Writer, done_text}
 use Rattle.cmb_run.proofs.CollectorFacts.{least_clock_bound}
