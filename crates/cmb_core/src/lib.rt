@@ -4,6 +4,8 @@
 pub mod advance;
 pub mod below;
 pub mod cluster;
+#[cfg(test)]
+mod cluster_tests;
 pub mod clustering;
 pub mod delivery;
 pub mod event;
