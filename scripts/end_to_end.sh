@@ -1,7 +1,7 @@
 #!/usr/bin/env bash
 # end_to_end.sh: runs the whole program on files, as `rt try` builds it from the sources that the gate
 # has just proved (proving them once more for this would take as long again). The waveforms of each
-# example have to be those of its expected.vcd, byte for byte; a wrong use has to write nothing and to
+# example have to be those of its expected.vcd, byte for byte, in each mode; a wrong use has to write nothing and to
 # end with its status. The last line is 'N passed, M failed'.
 set -uo pipefail
 cd "$(dirname "$0")/.."
@@ -12,19 +12,25 @@ trap 'rm -rf "$cases" "$report"' EXIT
 data=()
 declare -A statuses
 
-example() { # example NAME: the netlist is standard input, and each table a file of its own
-    local name=$1 folder=$examples/$1 table words
-    read -r -a words <"$folder/options"
+tables() { # tables NAME: each table of the example is a file of its own
+    local folder=$examples/$1 table
+    words=()
     for table in delays stimuli clocks; do
         if [ -f "$folder/$table.csv" ]; then
-            words+=("--$table" "$name.$table.csv")
-            data+=(--data "$name.$table.csv=$folder/$table.csv")
+            words+=("--$table" "$1.$table.csv")
+            data+=(--data "$1.$table.csv=$folder/$table.csv")
         fi
     done
-    cp "$folder/netlist.bench" "$cases/$name"
-    printf '%s\n' run "${words[@]}" >"$cases/$name.args"
-    cp "$folder/expected.vcd" "$cases/$name.stdout"
-    statuses[$name]=0
+}
+
+example() { # example NAME CASE WORDS..: the netlist is standard input, and the words say how it is run
+    local name=$1 case=$1.$2 options
+    shift 2
+    read -r -a options <"$examples/$name/options"
+    cp "$examples/$name/netlist.bench" "$cases/$case"
+    printf '%s\n' run "${options[@]}" "${words[@]}" "$@" >"$cases/$case.args"
+    cp "$examples/$name/expected.vcd" "$cases/$case.stdout"
+    statuses[$case]=0
 }
 
 refused() { # refused NAME STATUS WORDS..: nothing on standard output
@@ -37,14 +43,20 @@ refused() { # refused NAME STATUS WORDS..: nothing on standard output
 }
 
 for folder in "$examples"/*/; do
-    example "$(basename "$folder")"
+    name=$(basename "$folder")
+    tables "$name"
+    example "$name" plain --mode plain
+    example "$name" default
+    example "$name" rounds --mode rounds --workers 3 --clusters 5
 done
-refused horizon_of_0 2 run --horizon 0 --mode plain
-refused no_mode 2 run --horizon 10
-refused clock_of_another_form 1 run --horizon 10 --mode plain --clock 2-4
-refused period_of_0 1 run --horizon 10 --mode plain --clock 2:0
-refused missing_file 1 run --horizon 10 --mode plain --stimuli missing.csv
-refused netlist_as_a_table 1 run --horizon 10 --mode plain --delays inverter.netlist.csv
+refused horizon_of_0 2 run --horizon 0
+refused no_horizon 2 run --mode rounds
+refused no_such_mode 2 run --horizon 10 --mode slow
+refused too_many_workers 2 run --horizon 10 --workers 65
+refused clock_of_another_form 1 run --horizon 10 --clock 2-4
+refused period_of_0 1 run --horizon 10 --clock 2:0
+refused missing_file 1 run --horizon 10 --stimuli missing.csv
+refused netlist_as_a_table 1 run --horizon 10 --delays inverter.netlist.csv
 data+=(--data "inverter.netlist.csv=$examples/inverter/netlist.bench")
 
 (cd crates/cmbsim && rt try --cases "$cases" "${data[@]}") >"$report" 2>&1
