@@ -28,12 +28,7 @@ fn settled(wave: &Wave, delay: u32, clock: u32) -> Option<Level>
 }
 
 /// The level that a gate keeps from its clock on, None where a change of an operand is still on its way.
-pub fn settled_gate(
-    kind: Kind,
-    operands: &[Operand],
-    waves: &[Wave],
-    clock: u32,
-) -> Option<Level>
+pub fn settled_gate(kind: Kind, operands: &[Operand], waves: &[Wave], clock: u32) -> Option<Level>
     requires ready { AreReady waves.now clock operands.now }
     requires takes { MayTake kind (length operands.now) }
     ensures { IfSome result (λ level. (t : ℕ) → clock ≤ t → gate_row kind waves.now operands.now t ≡ level) }
