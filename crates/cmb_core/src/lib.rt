@@ -25,6 +25,8 @@ mod stepping;
 pub mod tables;
 mod trim;
 pub mod world;
+#[cfg(test)]
+mod world_tests;
 
 pub use cluster::Cluster;
 pub use clustering::{Clustering, ClusteringFault};
