@@ -1,0 +1,104 @@
+//! A circuit that threads work on, and the plain program's waves of it, with which everything is compared.
+
+ghost use Rattle.std.specs.Prelude.{◌≡◌, ◌≤◌, length};
+ghost use Rattle.cmb_design.specs.Exact.{nets_of};
+
+use crate::trouble::Trouble;
+use cmb_bench::read_bench;
+use cmb_core::Clustering;
+use cmb_design::{Design, Settings, plain_waves, read_clocks, read_delays, read_stimuli};
+use cmb_wave::{Change, Level, Piece, Promise, Wave};
+use std::alloc::Global;
+
+/// A design, a clustering of it, and every net's wave up to the horizon.
+#[derive(Drop)]
+pub struct Circuit {
+    pub design: Design,
+    pub clustering: Clustering,
+    pub waves: Vec<Wave>,
+    ghost each: { length clustering.assign ≡ nets_of design },
+    ghost two: { clustering.clusters ≡ 2 },
+}
+
+/// Flip-flops that sample at ticks 2, 6, 10 and so on, and hold 0 before.
+fn settings(horizon: u32) -> Settings {
+    Settings {
+        horizon,
+        clock: Some((2, 4)),
+        init: Level::Zero,
+    }
+}
+
+/// The design of a netlist without rows.
+fn design_of(alloc: Global, netlist: &[u8], horizon: u32) -> Result<Design, Trouble>
+    requires { length netlist.now ≤ 16777216 }
+{
+    let Ok(netlist) = read_bench(alloc, netlist) else {
+        return Err(Trouble::Circuit);
+    };
+    let (Ok(delays), Ok(stimuli), Ok(clocks)) = (
+        read_delays(alloc, b""),
+        read_stimuli(alloc, b""),
+        read_clocks(alloc, b""),
+    ) else {
+        return Err(Trouble::Circuit);
+    };
+    match Design::new(alloc, netlist, delays, stimuli, clocks, settings(horizon)) {
+        Ok(design) => Ok(design),
+        Err(_) => Err(Trouble::Circuit),
+    }
+}
+
+/// How many of the changes are below a tick.
+fn below(changes: &[Change], tick: u32) -> usize
+    ensures { result ≤ length changes.now }
+{
+    changes.partition_point(|change| change.tick < tick)
+}
+
+impl Circuit {
+    /// A circuit of two clusters. `clusters` has the cluster of each net.
+    pub fn read(
+        alloc: Global,
+        netlist: &[u8],
+        clusters: &[u32],
+        horizon: u32,
+    ) -> Result<Circuit, Trouble>
+        requires { length netlist.now ≤ 16777216 }
+    {
+        let design = design_of(alloc, netlist, horizon)?;
+        let assign = clusters.to_vec(alloc)?;
+        let Ok(clustering) = Clustering::new(design.netlist().len() as u32, 2, assign) else {
+            return Err(Trouble::Circuit);
+        };
+        let Ok(waves) = plain_waves(alloc, &design) else {
+            return Err(Trouble::Circuit);
+        };
+        if clustering.nets() != design.netlist().len() || clustering.clusters() != 2 {
+            return Err(Trouble::Circuit);
+        }
+        Ok(Circuit {
+            design,
+            clustering,
+            waves,
+        })
+    }
+
+    /// Whether the net has as many changes below the promise's tick as it says.
+    pub fn is_right(&self, promise: Promise) -> bool {
+        match self.waves.get(promise.net as usize) {
+            Some(wave) => below(wave.changes(), promise.upto) == promise.count as usize,
+            None => false,
+        }
+    }
+
+    /// Whether the piece has the net's changes in its span, and no others.
+    pub fn is_exact(&self, piece: &Piece) -> bool {
+        let Some(wave) = self.waves.get(piece.net() as usize) else {
+            return false;
+        };
+        let first = below(wave.changes(), piece.from());
+        let last = below(wave.changes(), piece.to());
+        first <= last && &wave.changes()[first..last] == piece.changes()
+    }
+}

@@ -1,0 +1,43 @@
+//! What a run can find wrong.
+
+use std::alloc::AllocError;
+use thiserror::Error;
+
+/// What a thread found that no contract allows, or why it couldn't go on.
+#[derive(Clone, Copy, Debug, PartialEq, Eq, Error)]
+pub enum Trouble {
+    #[error("out of memory")]
+    Memory,
+    #[error("the circuit isn't a design")]
+    Circuit,
+    #[error("a promise isn't right")]
+    NotRight,
+    #[error("a promise is below an earlier one")]
+    Falls,
+    #[error("a promise was found that nobody published")]
+    Unknown,
+    #[error("a seat doesn't find what it published")]
+    NotOwn,
+    #[error("a seat publishes of a net that it doesn't drive")]
+    NotDriven,
+    #[error("the stop word went back, or was 1 before a seat raised it")]
+    Stop,
+    #[error("the number of finished workers fell, or is wrong")]
+    Finished,
+    #[error("a piece doesn't begin where the one before it ended")]
+    Order,
+    #[error("a piece isn't exact")]
+    NotExact,
+    #[error("a cluster refuses what it was sent")]
+    Refused,
+    #[error("a worker was stopped")]
+    Stopped,
+    #[error("a thread made all its turns and didn't come to an end")]
+    TooLong,
+}
+
+impl From<AllocError> for Trouble {
+    fn from(_: AllocError) -> Trouble {
+        Trouble::Memory
+    }
+}
