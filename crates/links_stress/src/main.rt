@@ -7,6 +7,8 @@ mod circuit;
 mod ends;
 mod exact;
 mod run;
+#[cfg(test)]
+mod tests;
 mod trouble;
 mod watch;
 mod worker;
