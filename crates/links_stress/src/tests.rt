@@ -8,11 +8,13 @@ use crate::exact::ExactCluster;
 use crate::run::open_board;
 use crate::trouble::Trouble;
 use crate::watch::Watch;
+use crate::worker::TURNS;
 use cmb_core::Clustering;
 use cmb_links::{Link, LinkFault, Workers, WorkersFault};
 use cmb_wave::Promise;
 use std::alloc::Global;
 use std::test::Fail;
+use std::thread;
 
 // The flip-flop in cluster 0, its inverse in cluster 1, up to tick 12.
 fn toggle(alloc: Global) -> Result<Circuit, Trouble> {
@@ -100,6 +102,61 @@ fn board_words(rt: HostRuntime) -> Result<(), Fail> {
     assert!(rt; first_seat(&mut first, &mut cluster) == Ok(true));
     let mut second = Watch::new(alloc, &board, &circuit, table.second, workers, 1);
     assert!(rt; second_seat(&mut second) == Ok(true));
+    Ok(())
+}
+
+// Publishes four promises, the last of them up to the horizon. True where they are these.
+fn publish_all(mut watch: Watch<'_>, mut cluster: ExactCluster) -> Result<bool, Trouble>
+    requires { cluster ≡ watch.circuit.now.design }
+{
+    let first = publish_next(&mut watch, &mut cluster)?;
+    let second = publish_next(&mut watch, &mut cluster)?;
+    let third = publish_next(&mut watch, &mut cluster)?;
+    let fourth = publish_next(&mut watch, &mut cluster)?;
+    Ok(
+        first == promise(1, 3)
+            && second == promise(2, 7)
+            && third == promise(3, 11)
+            && fourth == promise(4, 12),
+    )
+}
+
+fn is_known(found: Promise) -> bool {
+    found == promise(0, 0)
+        || found == promise(1, 3)
+        || found == promise(2, 7)
+        || found == promise(3, 11)
+        || found == promise(4, 12)
+}
+
+// Looks until the horizon is found. The watch compares each answer with the earlier ones. True where all were published.
+fn look_all(mut watch: Watch<'_>) -> Result<bool, Trouble> {
+    for _ in 0..TURNS {
+        let found = watch.look(0)?;
+        if !is_known(found) {
+            return Ok(false);
+        }
+        if found.upto == 12 {
+            return Ok(true);
+        }
+        thread::yield_now();
+    }
+    Err(Trouble::TooLong)
+}
+
+#[test]
+fn board_threads(rt: HostRuntime) -> Result<(), Fail> {
+    let alloc = rt.alloc();
+    let circuit = toggle(alloc)?;
+    let workers = Workers::new(2)?;
+    let table = open_board(alloc, &circuit, workers)?;
+    let cluster = source(alloc, &circuit)?;
+    let board = table.board;
+    let first = Watch::new(alloc, &board, &circuit, table.first, workers, 0);
+    let second = Watch::new(alloc, &board, &circuit, table.second, workers, 1);
+    let (published, found) = thread::join(&rt, || publish_all(first, cluster), || look_all(second));
+    assert!(rt; published?);
+    assert!(rt; found?);
     Ok(())
 }
 
