@@ -1,9 +1,9 @@
 //! Worked examples of worlds, by their events and replies.
 
-use crate::{Clustering, World};
+use crate::{Clustering, Event, PlayFault, Reply, World};
 use cmb_bench::read_bench;
 use cmb_design::{Design, Settings, read_clocks, read_delays, read_stimuli};
-use cmb_wave::Level;
+use cmb_wave::{Change, Heard, Level, Piece};
 use std::alloc::Global;
 use std::process::Abort;
 use std::test::Fail;
@@ -37,6 +37,182 @@ fn opened(rt: &impl Abort, alloc: Global, design: &Design, clusters: u32) -> Res
 fn toggle(rt: &impl Abort, alloc: Global, clusters: u32) -> Result<World, Fail> {
     let design = design_of(rt, alloc, b"q = DFF(d) d = NOT(q)", b"")?;
     opened(rt, alloc, &design, clusters)
+}
+
+// A reply as a test says it: of a piece its net, its span, its number of changes and the first of them.
+#[derive(Clone, Copy, PartialEq, Eq)]
+enum Told {
+    Piece(u32, u32, u32, usize, Option<Change>),
+    Post(usize),
+    Clock(u32),
+    Promise(usize, u32, u32),
+    Look(Heard),
+    Fault(PlayFault),
+    Nothing,
+}
+
+fn told_piece(piece: &Piece) -> Told {
+    let changes = piece.changes();
+    let first = if changes.is_empty() {
+        None
+    } else {
+        Some(changes[0])
+    };
+    Told::Piece(piece.net(), piece.from(), piece.to(), changes.len(), first)
+}
+
+fn told_reply(reply: &Reply) -> Told {
+    match reply {
+        Reply::Stepped(Some(piece)) => told_piece(piece),
+        Reply::Posted(Some(number)) => Told::Post(*number),
+        Reply::Delivered(clock) => Told::Clock(*clock),
+        Reply::Promised(number, promise) => Told::Promise(*number, promise.count, promise.upto),
+        Reply::Looked(heard) => Told::Look(*heard),
+        _ => Told::Nothing,
+    }
+}
+
+fn answer_of(reply: &Result<Reply, PlayFault>) -> Told {
+    match reply {
+        Ok(reply) => told_reply(reply),
+        Err(fault) => Told::Fault(*fault),
+    }
+}
+
+// Whether the reply with this number is as wanted.
+fn is_as_wanted(replies: &[Result<Reply, PlayFault>], wanted: &[Told], number: usize) -> bool {
+    number < replies.len() && number < wanted.len() && answer_of(&replies[number]) == wanted[number]
+}
+
+fn are_as_wanted(replies: &[Result<Reply, PlayFault>], wanted: &[Told]) -> bool {
+    for number in 0..wanted.len() {
+        if !is_as_wanted(replies, wanted, number) {
+            return false;
+        }
+    }
+    replies.len() == wanted.len()
+}
+
+// Whether the replies to these events are these.
+fn replies_with(world: &mut World, events: &[Event], wanted: &[Told]) -> bool {
+    match world.play_all(events) {
+        Ok(replies) => are_as_wanted(&replies, wanted),
+        Err(_) => false,
+    }
+}
+
+const TWO_CLUSTERS: [Event; 10] = [
+    Event::Step(0),
+    Event::Promise(0),
+    Event::Look(1, 0),
+    Event::Post(0, 0),
+    Event::Deliver(1, 0),
+    Event::Step(1),
+    Event::Post(1, 5),
+    Event::Deliver(1, 7),
+    Event::Deliver(0, 0),
+    Event::Look(1, 0),
+];
+
+const WANTED_OF_TWO_CLUSTERS: [Told; 10] = [
+    Told::Piece(
+        0,
+        0,
+        3,
+        1,
+        Some(Change {
+            tick: 0,
+            level: Level::Zero,
+        }),
+    ),
+    Told::Promise(0, 1, 3),
+    Told::Look(Heard::Ahead),
+    Told::Post(0),
+    Told::Clock(3),
+    Told::Piece(
+        1,
+        0,
+        4,
+        1,
+        Some(Change {
+            tick: 1,
+            level: Level::One,
+        }),
+    ),
+    Told::Fault(PlayFault::Beyond),
+    Told::Fault(PlayFault::NoSuch),
+    Told::Fault(PlayFault::Stranger),
+    Told::Look(Heard::Old),
+];
+
+#[test]
+fn two_clusters(rt: HostRuntime) -> Result<(), Fail> {
+    let mut world = toggle(&rt, rt.alloc(), 2)?;
+    assert!(&rt; replies_with(&mut world, &TWO_CLUSTERS, &WANTED_OF_TWO_CLUSTERS));
+    assert!(&rt; world.promised(0).is_some());
+    assert!(&rt; world.promised(1).is_none());
+    assert!(&rt; world.posted(0).is_some());
+    assert!(&rt; world.posted(1).is_none());
+    Ok(())
+}
+
+const PROMISE_OVERTAKES: [Event; 11] = [
+    Event::Step(1),
+    Event::Post(1, 0),
+    Event::Deliver(2, 0),
+    Event::Step(0),
+    Event::Post(0, 0),
+    Event::Deliver(1, 1),
+    Event::Step(1),
+    Event::Promise(1),
+    Event::Post(1, 3),
+    Event::Look(2, 0),
+    Event::Deliver(2, 2),
+];
+
+const WANTED_OF_PROMISE_OVERTAKES: [Told; 11] = [
+    Told::Piece(
+        1,
+        0,
+        3,
+        1,
+        Some(Change {
+            tick: 0,
+            level: Level::Zero,
+        }),
+    ),
+    Told::Post(0),
+    Told::Clock(3),
+    Told::Piece(
+        0,
+        0,
+        12,
+        1,
+        Some(Change {
+            tick: 0,
+            level: Level::Zero,
+        }),
+    ),
+    Told::Post(1),
+    Told::Clock(12),
+    Told::Piece(1, 3, 12, 0, None),
+    Told::Promise(0, 1, 12),
+    Told::Post(2),
+    Told::Look(Heard::Extended),
+    Told::Fault(PlayFault::Old { clock: 12 }),
+];
+
+#[test]
+fn promise_overtakes(rt: HostRuntime) -> Result<(), Fail> {
+    let bench = b"INPUT(a) q = DFF(a) y = BUFF(q)";
+    let design = design_of(&rt, rt.alloc(), bench, b"tick,net,value\n0,a,0\n")?;
+    let mut world = opened(&rt, rt.alloc(), &design, 3)?;
+    assert!(&rt; replies_with(&mut world, &PROMISE_OVERTAKES, &WANTED_OF_PROMISE_OVERTAKES));
+    assert!(&rt; world.in_clock(2, 1) == Some(12));
+    assert!(&rt; world.out_clock(2) == Some(0));
+    assert!(&rt; world.in_clock(0, 1) == None);
+    assert!(&rt; world.out_clock(3) == None);
+    Ok(())
 }
 
 // What a world tells after a round: how far q and d are known where they are driven, and where they are read.
