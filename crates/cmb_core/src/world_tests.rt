@@ -1,6 +1,10 @@
 //! Worked examples of worlds, by their events and replies.
 
-use crate::{Clustering, Event, PlayFault, Reply, World};
+ghost use Rattle.std.specs.Prelude.{◌≡◌, IfOk, length};
+ghost use Rattle.cmb_design.specs.Exact.{nets_of};
+ghost use Rattle.cmb_core.specs.Opened.{IsClusterOf};
+
+use crate::{Cluster, Clustering, DeliverFault, Event, PlayFault, Reply, World};
 use cmb_bench::read_bench;
 use cmb_design::{Design, Settings, read_clocks, read_delays, read_stimuli};
 use cmb_wave::{Change, Heard, Level, Piece};
@@ -274,5 +278,112 @@ fn rounds_of_one_cluster(rt: HostRuntime) -> Result<(), Fail> {
         assert!(&rt; after_round(&mut world)? == together(q, d, false));
     }
     assert!(&rt; after_round(&mut world)? == together(12, 12, true));
+    Ok(())
+}
+
+// The second cluster of two, told what is not so of q.
+fn misled(
+    rt: &impl Abort,
+    alloc: Global,
+    design: &Design,
+    clustering: &Clustering,
+) -> Result<Cluster, Fail>
+    requires nets { length clustering.now.assign ≡ nets_of design.now }
+    requires two { clustering.now.clusters ≡ 2 }
+    ensures { IfOk result (λ s. IsClusterOf design.now clustering.now 1 s) }
+{
+    let mut cluster = Cluster::open(alloc, design, clustering, 1)?;
+    let unknown = Piece::new(
+        0,
+        0,
+        3,
+        vec![in alloc;
+            Change {
+                tick: 0,
+                level: Level::X
+            },
+        ]?,
+    )?;
+    assert!(rt; cluster.deliver(&unknown) == Err(DeliverFault::Clash { tick: 0 }));
+    let wrong = Piece::new(
+        0,
+        0,
+        3,
+        vec![in alloc;
+            Change {
+                tick: 0,
+                level: Level::One
+            },
+        ]?,
+    )?;
+    assert!(rt; cluster.deliver(&wrong) == Ok(3));
+    Ok(cluster)
+}
+
+// A world of a new first cluster and of this second one.
+fn world_with(
+    alloc: Global,
+    design: &Design,
+    clustering: &Clustering,
+    second: Cluster,
+) -> Result<World, Fail>
+    requires nets { length clustering.now.assign ≡ nets_of design.now }
+    requires two { clustering.now.clusters ≡ 2 }
+    requires second { IsClusterOf design.now clustering.now 1 second }
+{
+    let first = Cluster::open(alloc, design, clustering, 0)?;
+    let mut clusters = Vec::with_capacity(alloc, 2)?;
+    clusters.push(first)?;
+    clusters.push(second)?;
+    Ok(World::of(alloc, design, clustering, clusters)?)
+}
+
+const WORLD_OF: [Event; 4] = [
+    Event::Step(1),
+    Event::Post(1, 0),
+    Event::Deliver(0, 0),
+    Event::Step(0),
+];
+
+const WANTED_OF_WORLD_OF: [Told; 4] = [
+    Told::Piece(
+        1,
+        0,
+        4,
+        1,
+        Some(Change {
+            tick: 1,
+            level: Level::Zero,
+        }),
+    ),
+    Told::Post(0),
+    Told::Clock(4),
+    Told::Piece(
+        0,
+        0,
+        7,
+        1,
+        Some(Change {
+            tick: 0,
+            level: Level::Zero,
+        }),
+    ),
+];
+
+fn misled_world(rt: &impl Abort, alloc: Global) -> Result<World, Fail> {
+    let design = design_of(rt, alloc, b"q = DFF(d) d = NOT(q)", b"")?;
+    let nets = design.netlist().len();
+    assert!(rt; nets <= 65_535);
+    let clustering = Clustering::spread(alloc, nets as u32, 2)?;
+    assert!(rt; clustering.nets() == nets);
+    assert!(rt; clustering.clusters() == 2);
+    let second = misled(rt, alloc, &design, &clustering)?;
+    world_with(alloc, &design, &clustering, second)
+}
+
+#[test]
+fn world_of(rt: HostRuntime) -> Result<(), Fail> {
+    let mut world = misled_world(&rt, rt.alloc())?;
+    assert!(&rt; replies_with(&mut world, &WORLD_OF, &WANTED_OF_WORLD_OF));
     Ok(())
 }
