@@ -2,19 +2,24 @@
 //! 10: q changes at 0, 3, 7 and 11.
 
 ghost use Rattle.std.specs.Prelude.{◌≡◌, IfOk};
+ghost use Rattle.cmb_design.specs.Exact.{IsExactIn};
 
 use crate::circuit::Circuit;
+use crate::ends::{In, Out};
 use crate::exact::ExactCluster;
 use crate::run::open_board;
 use crate::trouble::Trouble;
 use crate::watch::Watch;
 use crate::worker::TURNS;
 use cmb_core::Clustering;
-use cmb_links::{Link, LinkFault, Workers, WorkersFault};
-use cmb_wave::Promise;
+use cmb_links::{Full, Link, LinkFault, Workers, WorkersFault};
+use cmb_wave::{Piece, Promise, Wave};
 use std::alloc::Global;
+use std::process::Abort;
+use std::sync::Wait;
 use std::test::Fail;
 use std::thread;
+use std::thread::Threads;
 
 // The flip-flop in cluster 0, its inverse in cluster 1, up to tick 12.
 fn toggle(alloc: Global) -> Result<Circuit, Trouble> {
@@ -160,6 +165,107 @@ fn board_threads(rt: HostRuntime) -> Result<(), Fail> {
     Ok(())
 }
 
+// The piece of q from a tick on, after a step.
+fn next_piece(cluster: &mut ExactCluster, from: u32) -> Result<Piece, Trouble>
+    ensures exact { IfOk result (IsExactIn cluster.old) }
+    ensures same { cluster.new ≡ cluster.old }
+{
+    cluster.step()?;
+    match cluster.post(0, from)? {
+        Some(piece) => Ok(piece),
+        None => Err(Trouble::NotDriven),
+    }
+}
+
+fn is_span(piece: &Piece, from: u32, to: u32, changes: usize) -> bool {
+    piece.net() == 0 && piece.from() == from && piece.to() == to && piece.changes().len() == changes
+}
+
+// Puts two pieces into a link that holds one, takes the first, and gives back the second.
+fn put_two<R: Wait + Abort>(
+    rt: &R,
+    out: &mut Out<'_>,
+    into: &mut In<'_>,
+    first: Piece,
+    second: Piece,
+) -> Piece
+    requires first { IsExactIn out.old.pass.design first }
+    requires second { IsExactIn out.old.pass.design second }
+    ensures exact { IsExactIn out.old.pass.design result }
+    ensures same { out.new.pass.design ≡ out.old.pass.design }
+{
+    assert!(rt; out.put(rt, first).is_ok());
+    let Err(Full(back)) = out.put(rt, second) else {
+        panic!(rt; "the link wasn't full")
+    };
+    assert!(rt; is_span(&back, 3, 7, 1));
+    let Some(first) = into.take(rt) else {
+        panic!(rt; "the link was empty")
+    };
+    assert!(rt; is_span(&first, 0, 3, 1));
+    assert!(rt; into.take(rt).is_none());
+    back
+}
+
+/// Pieces of q: the first two, and the second with the third in one.
+#[derive(Drop)]
+struct Pieces {
+    first: Piece,
+    second: Piece,
+    longer: Piece,
+}
+
+fn pieces_of_q(alloc: Global, circuit: &Circuit) -> Result<Pieces, Trouble>
+    ensures first { IfOk result (λ pieces. IsExactIn circuit.now.design pieces.first) }
+    ensures second { IfOk result (λ pieces. IsExactIn circuit.now.design pieces.second) }
+    ensures longer { IfOk result (λ pieces. IsExactIn circuit.now.design pieces.longer) }
+{
+    let mut cluster = source(alloc, circuit)?;
+    Ok(Pieces {
+        first: next_piece(&mut cluster, 0)?,
+        second: next_piece(&mut cluster, 3)?,
+        longer: next_piece(&mut cluster, 3)?,
+    })
+}
+
+// After two puts and two takes over a link that holds one, the second piece, or the longer one, is put.
+fn put_again<R: Wait + Abort>(
+    rt: &R,
+    out: &mut Out<'_>,
+    into: &mut In<'_>,
+    pieces: Pieces,
+    is_longer: bool,
+) -> bool
+    requires first { IsExactIn out.old.pass.design pieces.first }
+    requires second { IsExactIn out.old.pass.design pieces.second }
+    requires longer { IsExactIn out.old.pass.design pieces.longer }
+{
+    let Pieces {
+        first,
+        second,
+        longer,
+    } = pieces;
+    assert!(rt; is_span(&longer, 3, 11, 2));
+    let back = put_two(rt, out, into, first, second);
+    let last = if is_longer { longer } else { back };
+    out.put(rt, last).is_ok()
+}
+
+fn full_link_by<R: Wait + Abort>(rt: &R, alloc: Global, is_longer: bool) -> Result<(), Fail> {
+    let circuit = toggle(alloc)?;
+    let pieces = pieces_of_q(alloc, &circuit)?;
+    let (link, put, take) = Link::open(alloc, &circuit.design, 1)?;
+    let (mut out, mut into) = (Out::new(&link, put), In::new(&link, take));
+    assert!(rt; put_again(rt, &mut out, &mut into, pieces, is_longer));
+    Ok(())
+}
+
+#[test]
+fn full_link(rt: HostRuntime) -> Result<(), Fail> {
+    full_link_by(&rt, rt.alloc(), false)?;
+    full_link_by(&rt, rt.alloc(), true)
+}
+
 #[test]
 fn capacities(rt: HostRuntime) -> Result<(), Fail> {
     let alloc = rt.alloc();
@@ -172,4 +278,86 @@ fn capacities(rt: HostRuntime) -> Result<(), Fail> {
     assert_eq!(rt; Workers::new(65), Err(WorkersFault::Workers));
     assert_eq!(rt; WorkersFault::Workers.number(), 54);
     Ok(())
+}
+
+// Puts the piece, and tries again where the link was full.
+fn put_at_last<R: Wait>(rt: &R, out: &mut Out<'_>, piece: Piece) -> Result<(), Trouble>
+    requires { IsExactIn out.old.pass.design piece }
+    ensures { out.new.pass.design ≡ out.old.pass.design }
+{
+    let mut piece = piece;
+    for _ in 0..TURNS {
+        match out.put(rt, piece) {
+            Ok(()) => return Ok(()),
+            Err(Full(back)) => piece = back,
+        }
+        thread::yield_now();
+    }
+    Err(Trouble::TooLong)
+}
+
+// Puts the piece of q from a tick on, after a step.
+fn put_next<R: Wait>(
+    rt: &R,
+    out: &mut Out<'_>,
+    cluster: &mut ExactCluster,
+    from: u32,
+) -> Result<(), Trouble>
+    requires { out.old.pass.design ≡ cluster.old }
+    ensures out { out.new.pass.design ≡ out.old.pass.design }
+    ensures cluster { cluster.new ≡ cluster.old }
+{
+    let piece = next_piece(cluster, from)?;
+    put_at_last(rt, out, piece)
+}
+
+// Puts the pieces of q one after the other.
+fn put_all<R: Wait>(rt: &R, mut out: Out<'_>, mut cluster: ExactCluster) -> Result<(), Trouble>
+    requires { out.pass.design ≡ cluster }
+{
+    put_next(rt, &mut out, &mut cluster, 0)?;
+    put_next(rt, &mut out, &mut cluster, 3)?;
+    put_next(rt, &mut out, &mut cluster, 7)?;
+    put_next(rt, &mut out, &mut cluster, 11)
+}
+
+// A wave of the pieces that are taken, once it is known up to the horizon.
+fn take_all<R: Wait>(rt: &R, alloc: Global, mut into: In<'_>) -> Result<Wave, Trouble> {
+    let mut wave = Wave::new(alloc, 0);
+    for _ in 0..TURNS {
+        match into.take(rt) {
+            Some(piece) => {
+                if wave.take(&piece).is_err() {
+                    return Err(Trouble::Order);
+                }
+            }
+            None => thread::yield_now(),
+        }
+        if wave.clock() == 12 {
+            return Ok(wave);
+        }
+    }
+    Err(Trouble::TooLong)
+}
+
+fn link_threads_by<R: Threads + Wait + Abort + Sync>(rt: &R, alloc: Global) -> Result<(), Fail> {
+    let circuit = toggle(alloc)?;
+    let cluster = source(alloc, &circuit)?;
+    let (link, put, take) = Link::open(alloc, &circuit.design, 1)?;
+    let (out, into) = (Out::new(&link, put), In::new(&link, take));
+    let (sent, taken) = thread::join(
+        rt,
+        || put_all(rt, out, cluster),
+        || take_all(rt, alloc, into),
+    );
+    sent?;
+    let wave = taken?;
+    assert_eq!(rt; wave.count(), 4);
+    assert!(rt; circuit.is_right(wave.promise()));
+    Ok(())
+}
+
+#[test]
+fn link_threads(rt: HostRuntime) -> Result<(), Fail> {
+    link_threads_by(&rt, rt.alloc())
 }

@@ -1,0 +1,9 @@
+use Rattle.std.proofs.Common.{◌≡◌}
+use Rattle.cmb_design.specs.Exact.{IsExactIn}
+use Rattle.links_stress.proofs.tests.put_at_last.Given as goal
+
+abbrev pub invariant-loop : goal.invariant-loop
+invariant-loop g l = record {
+  exact : IsExactIn l.out.pass.design l.piece;
+  same : l.out.pass.design ≡ l.initial.out.pass.design;
+}
