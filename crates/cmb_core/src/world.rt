@@ -95,6 +95,7 @@ impl World {
         ensures of { IfOk result (λ world. IsWorldOf design.now clustering.now world) }
         ensures these { IfOk result (λ world. world ≡ record { assign = clustering.now.assign; clusters = clusters.items; posts = []; promises = [] }) }
     {
+        // What every netlist keeps is told by the contract of its length.
         let _nets = design.netlist().len();
         let assign = Vec::from_slice(alloc, clustering.assigned())?;
         Ok(World {

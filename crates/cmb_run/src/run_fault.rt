@@ -7,8 +7,8 @@ use thiserror::Error;
 /// Why a run by workers fails.
 #[derive(Debug, Drop, Error)]
 pub enum RunFault {
-    /// The run was stopped. The collector is exact as far as it goes: `net` is the first of those
-    /// that are known least far, only below the tick `upto`.
+    /// The run was stopped. The collector is exact as far as it goes: `net` is the least net that
+    /// isn't known up to the horizon, and is known only below the tick `upto`.
     #[error("net {net} is known only below {upto}")]
     Incomplete {
         net: u32,
