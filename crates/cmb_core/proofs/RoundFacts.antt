@@ -1,14 +1,14 @@
 -- Rounds of a world, and the same rounds of the clocks beside it.
-use Rattle.std.proofs.Common.{◌≡◌, ℕ, zero, suc, ◌+◌, ◌<◌, ◌≤◌, min, Bool, true, false, ◌&&◌, cond, ltb, List, [], ◌∷◌, ◌++◌, length, map, Option, Some, None, Result, Ok, Err, OnErr, refl, sym, ◌∙◌, ap, subst, arith}
+use Rattle.std.proofs.Common.{◌≡◌, ℕ, zero, suc, ◌+◌, ◌<◌, min, Bool, true, false, cond, ltb, List, [], ◌∷◌, length, Some, None, Result, Ok, Err, OnErr, refl, sym, ◌∙◌, ap, subst, arith}
 use Rattle.std.proofs.lemmas.List.{length-map}
 use Rattle.cmb_bench.specs.Netlist.{IsNetlist}
 use Rattle.cmb_design.specs.Design.{Design}
 use Rattle.cmb_design.specs.Exact.{nets_of}
 use Rattle.cmb_core.specs.declared.event.Event.{Event}
-use Rattle.cmb_core.specs.declared.event.Event.TheVariants.{Step, Post, Deliver}
+use Rattle.cmb_core.specs.declared.event.Event.TheVariants.{Post, Deliver}
 use Rattle.cmb_core.specs.Clustering.{Clustering, IsClustering, has_input}
 use Rattle.cmb_core.specs.Clocks.{Clocks, out_clock, in_clock, start, piece_of}
-use Rattle.cmb_core.specs.Run.{clocks_after, for_each, pass_on, round, rounds, AtLeast, IsQuiet, IsComplete}
+use Rattle.cmb_core.specs.Run.{clocks_after, for_each, pass_on, round, rounds, AtLeast, IsQuiet}
 use Rattle.cmb_core.specs.World.{World, in_wave, out_wave, world_after}
 use Rattle.cmb_core.specs.Play.{IsReached}
 use Rattle.cmb_core.specs.Rounds.{events_each, step_event, pass_on_events, step_events, net_events, passing_events, round_events, world_rounds, IsKnownTo, IsQuietWorld, IsCompleteWorld}

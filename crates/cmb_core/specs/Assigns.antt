@@ -18,6 +18,10 @@ spread_clustering nets clusters =
     if nat_lt clusters 1 || nat_lt 64 clusters then Err Clusters
     else Ok (record { clusters = clusters; assign = map (λ net. net % clusters) (range_with_len 0 nets) })
 
+-- what cluster c has goes to cluster `c mod clusters`
+abbrev pub merged_clustering : Clustering → ℕ → Clustering
+merged_clustering clustering clusters = record { clusters = clusters; assign = map (λ cluster. cluster % clusters) clustering.assign }
+
 -- a fault is the one that stands, and want of memory comes where none does
 abbrev pub RefusesClustering : ClusteringFault → Result Clustering ClusteringFault → Type 0
 RefusesClustering Memory result = IsOk result

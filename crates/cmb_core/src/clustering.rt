@@ -52,6 +52,18 @@ fn in_turn(alloc: Global, nets: u32, clusters: u32) -> Result<Vec<u32>, AllocErr
     Ok(assign)
 }
 
+// What is left of each number when it is divided.
+fn remainders(alloc: Global, numbers: &[u32], by: u32) -> Result<Vec<u32>, AllocError>
+    requires { 0 < by }
+    ensures { IfOk result (λ left. left.items ≡ map (λ number. number % by) numbers.now) }
+{
+    let mut left = Vec::with_capacity(alloc, numbers.len())?;
+    for number in numbers {
+        left.push(number % by)?;
+    }
+    Ok(left)
+}
+
 /// The cluster of each net.
 #[derive(Debug, Drop)]
 pub struct Clustering {
@@ -71,8 +83,8 @@ impl Model for Clustering {
 }
 
 impl Clustering {
-    ghost use Rattle.std.specs.Prelude.{◌≡◌, ◌<◌, Ok, IfOk, IfErr, length, slice_index};
-    ghost use Rattle.cmb_core.specs.Assigns.{checked_clustering, spread_clustering, RefusesClustering};
+    ghost use Rattle.std.specs.Prelude.{◌≡◌, ◌<◌, ◌≤◌, Ok, IfOk, IfErr, length, slice_index};
+    ghost use Rattle.cmb_core.specs.Assigns.{checked_clustering, merged_clustering, spread_clustering, RefusesClustering};
     ghost use Rattle.cmb_core.specs.Clustering.{cluster_of, IsClustering};
 
     /// A clustering of these assignments.
@@ -100,6 +112,18 @@ impl Clustering {
             return Err(ClusteringFault::Memory);
         };
         Ok(Clustering { clusters, assign })
+    }
+
+    /// So many clusters, from 1 to 64, of which cluster `c mod clusters` has what cluster c of this clustering has.
+    pub fn merged(&self, alloc: Global, clusters: u32) -> Result<Clustering, AllocError>
+        requires some { 1 ≤ clusters }
+        requires few { clusters ≤ 64 }
+        ensures { IfOk result (λ merged. merged ≡ merged_clustering self.now clusters) }
+    {
+        Ok(Clustering {
+            clusters,
+            assign: remainders(alloc, &self.assign, clusters)?,
+        })
     }
 
     /// How many nets it is for.

@@ -1,13 +1,1 @@
-pub mod Codes
-pub mod CollectorFacts
-pub mod EventFacts
-pub mod ExactFacts
-pub mod ExampleFacts
-pub mod Known
-pub mod LineFacts
-pub mod OrderFacts
-pub mod PartFacts
 pub mod RunFacts
-pub mod SpanFacts
-pub mod Texts
-pub mod TraceFacts

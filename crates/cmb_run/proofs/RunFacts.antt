@@ -4,9 +4,9 @@ use Rattle.std.specs.Prelude.{Result, Ok, Err, OnOk, OnErr}
 use Rattle.cmb_wave.specs.Wave.{Piece}
 use Rattle.cmb_design.specs.Design.{Design}
 use Rattle.cmb_design.specs.Exact.{IsExactIn}
-use Rattle.cmb_run.specs.declared.fault.CollectFault.{CollectFault}
-use Rattle.cmb_run.specs.Collector.{Collector, IsExactFor, collected}
-use Rattle.cmb_run.proofs.ExactFacts.{collected_exact}
+use Rattle.cmb_vcd.specs.declared.fault.CollectFault.{CollectFault}
+use Rattle.cmb_vcd.specs.Collector.{Collector, IsExactFor, collected}
+use Rattle.cmb_vcd.proofs.ExactFacts.{collected_exact}
 
 pub stays_exact : (design : Design) (old new : Collector) (piece : Piece) (result : Result ℕ CollectFault)
     → IsExactFor design old → IsExactIn design piece

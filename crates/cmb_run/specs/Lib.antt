@@ -1,9 +1,2 @@
-pub mod Collector
-pub mod Ends
-pub mod Events
-pub mod Examples
-pub mod Faults
 pub mod RunFaults
 pub mod Runs
-pub mod Vcd
-pub mod Writer

@@ -1,13 +1,12 @@
 //! A run's collector, exact in the run's design by its type.
 
 ghost use Rattle.std.specs.Prelude.{◌≡◌};
-ghost use Rattle.cmb_run.specs.Collector.{IsExactFor};
+ghost use Rattle.cmb_vcd.specs.Collector.{IsExactFor};
 
-use crate::collector::Collector;
-use crate::fault::CollectFault;
 use crate::part::Posted;
 use crate::terms::Terms;
 use cmb_design::Design;
+use cmb_vcd::{CollectFault, Collector};
 use std::alloc::{AllocError, Global};
 use std::marker::{Model, PhantomData};
 
@@ -19,7 +18,7 @@ pub struct Collected<T: Terms> {
 }
 
 impl<T: Terms> Model for Collected<T> {
-    ghost use Rattle.cmb_run.specs.Collector.{Collector, IsExactFor};
+    ghost use Rattle.cmb_vcd.specs.Collector.{Collector, IsExactFor};
 
     ghost Value = { Collector };
 

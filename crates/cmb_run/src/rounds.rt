@@ -3,11 +3,10 @@
 
 ghost use Rattle.std.specs.Prelude.{◌≡◌, length, IfOk, IfErr};
 ghost use Rattle.cmb_design.specs.Exact.{nets_of};
-ghost use Rattle.cmb_run.specs.Collector.{IsComplete, IsExactFor};
+ghost use Rattle.cmb_vcd.specs.Collector.{IsComplete, IsExactFor};
 ghost use Rattle.cmb_run.specs.declared.run_fault.RunFault.TheVariants.{Memory};
 
 use crate::collected::Collected;
-use crate::collector::Collector;
 use crate::hand::{Hand, Place};
 use crate::part::Posted;
 use crate::run_fault::RunFault;
@@ -15,6 +14,7 @@ use crate::terms::Terms;
 use cmb_core::Clustering;
 use cmb_design::Design;
 use cmb_links::Workers;
+use cmb_vcd::Collector;
 use std::alloc::{AllocError, Global};
 use std::marker::Brand;
 use std::sync::Wait;

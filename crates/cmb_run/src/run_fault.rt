@@ -1,6 +1,6 @@
 //! Why a run answers no complete collector.
 
-use crate::collector::Collector;
+use cmb_vcd::Collector;
 use std::alloc::AllocError;
 use thiserror::Error;
 

@@ -2,11 +2,12 @@
 
 ghost use Rattle.std.specs.Prelude.{◌≤◌, length};
 
-use crate::{RunFault, run_rounds, vcd_text};
+use crate::{RunFault, run_rounds};
 use cmb_bench::read_bench;
 use cmb_core::Clustering;
 use cmb_design::{Design, Settings, read_clocks, read_delays, read_stimuli};
 use cmb_links::Workers;
+use cmb_vcd::vcd_text;
 use cmb_wave::Level;
 use std::alloc::Global;
 use std::process::Abort;

@@ -13,7 +13,7 @@ pub trait Terms {
 }
 
 impl Terms for Brand {
-    ghost use Rattle.cmb_run.specs.Examples.{nothing};
+    ghost use Rattle.cmb_vcd.specs.Examples.{nothing};
     ghost use Rattle.cmb_run.specs.Runs.{no_clustering};
 
     ghost design = { nothing };

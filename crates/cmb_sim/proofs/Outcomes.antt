@@ -15,7 +15,7 @@ use Rattle.cmb_design.specs.declared.rows.DelayRow.{DelayRow}
 use Rattle.cmb_design.specs.declared.rows.StimulusRow.{StimulusRow}
 use Rattle.cmb_design.specs.declared.rows.ClockRow.{ClockRow}
 use Rattle.cmb_design.specs.declared.settings.Settings.{Settings}
-use Rattle.cmb_run.specs.Vcd.{vcd}
+use Rattle.cmb_vcd.specs.Vcd.{vcd}
 use Rattle.cmb_sim.specs.Numbers.{design_as_fault}
 use Rattle.cmb_sim.specs.Simulation.{AreTexts, HaveDesign, Inputs, IsOutcome, Spell, SpellDesign, Texts, design_in, mode_checks, output, report_of, text_checks}
 use Rattle.cmb_sim.specs.Stages.{CanRun, FoundDesign, HaveTextFault, IsUnrun, LacksDesign, SpellAny}

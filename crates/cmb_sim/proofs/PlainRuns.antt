@@ -15,7 +15,7 @@ use Rattle.cmb_sim.specs.Numbers.{design_as_fault}
 use Rattle.cmb_sim.specs.Simulation.{mode_checks}
 use Rattle.cmb_sim.specs.Stages.{IsUnrun}
 use Rattle.cmb_sim.specs.declared.mode.Mode.TheVariants.{Plain}
-use Rattle.cmb_run.specs.Collector.{AreCollected, Collector, IsComplete, IsExactFor, IsFor, least_clock, wave_of}
+use Rattle.cmb_vcd.specs.Collector.{AreCollected, Collector, IsComplete, IsExactFor, IsFor, least_clock, wave_of}
 
 -- a net's wave stands in its place
 wave_of-whole : (design : Design) (net : ℕ) → net < nets_of design → wave_of (whole_waves design) net ≡ whole_wave design net

@@ -2,7 +2,7 @@
 
 ghost use Rattle.std.specs.Prelude.{◌≡◌, length, IfOk, IfErr, OnOk};
 ghost use Rattle.cmb_design.specs.Exact.{nets_of};
-ghost use Rattle.cmb_run.specs.Vcd.{vcd};
+ghost use Rattle.cmb_vcd.specs.Vcd.{vcd};
 ghost use Rattle.cmb_sim.specs.Simulation.{IsMany};
 ghost use Rattle.cmb_sim.specs.Stages.{CanRun, IsClustersFault, IsUnrun};
 

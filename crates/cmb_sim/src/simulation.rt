@@ -1,7 +1,7 @@
 //! A whole simulation.
 
 ghost use Rattle.std.specs.Prelude.{◌≡◌, ◌-◌, ◌^◌, ◌<◌, ◌≤◌, length, IfOk, IfErr};
-ghost use Rattle.cmb_run.specs.Vcd.{vcd};
+ghost use Rattle.cmb_vcd.specs.Vcd.{vcd};
 ghost use Rattle.cmb_sim.specs.Simulation.{IsOutcome, input, inputs_of, output};
 ghost use Rattle.cmb_sim.specs.Sources.{IsWhole, input_limit};
 ghost use Rattle.cmb_sim.specs.Stages.{FoundDesign, HaveTextFault, IsUnread, LacksDesign, SpellAny, texts_of};
@@ -13,7 +13,7 @@ use crate::running::text_by;
 use crate::source::Source;
 use cmb_bench::read_bench;
 use cmb_design::{Design, Settings, read_clocks, read_delays, read_stimuli};
-use cmb_run::sink::{Sink, write_whole};
+use cmb_run::{Sink, write_whole};
 use std::alloc::Global;
 use std::sync::Wait;
 use std::thread::Threads;

@@ -2,7 +2,7 @@ use Rattle.std.proofs.Common.{◌≡◌, ◌∙◌, ap, length, refl, sym}
 use Rattle.std.proofs.lemmas.Result.{err_from_is_err_and}
 use Rattle.cmb_bench.specs.Netlist.{Netlist}
 use Rattle.cmb_design.specs.Exact.{nets_of}
-use Rattle.cmb_run.specs.Vcd.{vcd}
+use Rattle.cmb_vcd.specs.Vcd.{vcd}
 use Rattle.cmb_sim.proofs.Outcomes.{IsOutcome-unread, IsOutcome-unrun, IsOutcome-unwritten, IsOutcome-written}
 use Rattle.cmb_sim.proofs.simulation.simulate.Goals as goal
 

@@ -1,4 +1,4 @@
-use Rattle.std.proofs.Common.{◌≡◌, arith, ◌∙◌, ap}
+use Rattle.std.proofs.Common.{arith, ◌∙◌}
 use Rattle.cmb_core.specs.Play.{shown}
 use Rattle.cmb_core.specs.Rounds.{pass_on_events}
 use Rattle.cmb_core.proofs.RoundFacts.{at_err}

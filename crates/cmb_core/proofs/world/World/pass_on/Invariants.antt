@@ -1,4 +1,4 @@
-use Rattle.std.proofs.Common.{◌≡◌, length}
+use Rattle.std.proofs.Common.{◌≡◌}
 use Rattle.cmb_design.specs.Design.{Design}
 use Rattle.cmb_core.specs.Clustering.{Clustering}
 use Rattle.cmb_core.specs.Play.{IsSameSize, IsWorldOf, shown}

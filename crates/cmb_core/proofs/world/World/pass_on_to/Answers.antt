@@ -1,9 +1,8 @@
-use Rattle.std.proofs.Common.{◌≡◌, ◌&&◌, ltb, true, ◌∷◌, ◌++◌, [], List, length, Some, arith, sym, ◌∙◌, ap, refl}
-use Rattle.cmb_core.specs.declared.event.Event.{Event}
+use Rattle.std.proofs.Common.{◌≡◌, ◌&&◌, ltb, true, ◌∷◌, [], length, arith, sym, ◌∙◌, ap, refl}
 use Rattle.cmb_core.specs.declared.event.Event.TheVariants.{Post, Deliver}
 use Rattle.cmb_core.specs.Clustering.{has_input}
 use Rattle.cmb_core.specs.Play.{shown}
-use Rattle.cmb_core.specs.Rounds.{pass_on_events, IsBegun}
+use Rattle.cmb_core.specs.Rounds.{pass_on_events}
 use Rattle.cmb_core.specs.World.{in_wave, out_wave}
 use Rattle.cmb_core.proofs.RoundFacts.{on_err, stood}
 use Rattle.cmb_core.proofs.world.World.pass_on_to.Goals as goal

@@ -1,8 +1,5 @@
-use Rattle.std.proofs.Common.{◌≡◌, ◌∷◌, ◌++◌, ◌+◌, ℕ, [], take, length, Result, Ok, Err, OnErr, arith, sym, ◌∙◌, ap, subst}
+use Rattle.std.proofs.Common.{◌≡◌, ◌∷◌, ◌++◌, ◌+◌, [], take, Result, Ok, Err, OnErr, arith, sym, ◌∙◌, ap, subst}
 use Rattle.std.proofs.lemmas.List.{take_all}
-use Rattle.cmb_core.specs.declared.event.Event.{Event}
-use Rattle.cmb_core.specs.declared.event.Reply.{Reply}
-use Rattle.cmb_core.specs.declared.event.PlayFault.{PlayFault}
 use Rattle.cmb_core.specs.Clocks.{start}
 use Rattle.cmb_core.specs.Run.{clocks_after}
 use Rattle.cmb_core.specs.Play.{shown}

@@ -1,4 +1,4 @@
-use Rattle.std.proofs.Common.{◌≡◌, ◌<◌, refl, arith}
+use Rattle.std.proofs.Common.{◌<◌, refl, arith}
 use Rattle.cmb_design.specs.Exact.{nets_of}
 use Rattle.cmb_core.specs.Play.{shown}
 use Rattle.cmb_core.specs.Rounds.{IsQuietWorld}

@@ -1,5 +1,4 @@
-use Rattle.std.proofs.Common.{◌≡◌, ◌++◌, List, refl, sym, ◌∙◌, ap, subst}
-use Rattle.cmb_core.specs.declared.event.Event.{Event}
+use Rattle.std.proofs.Common.{refl, sym, ◌∙◌, ap, subst}
 use Rattle.cmb_core.specs.Clocks.{Clocks, start}
 use Rattle.cmb_core.specs.Run.{clocks_after}
 use Rattle.cmb_core.specs.Play.{shown}

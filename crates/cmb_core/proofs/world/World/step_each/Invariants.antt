@@ -1,7 +1,7 @@
-use Rattle.std.proofs.Common.{◌≡◌, length}
+use Rattle.std.proofs.Common.{◌≡◌}
 use Rattle.cmb_design.specs.Design.{Design}
 use Rattle.cmb_core.specs.Clustering.{Clustering}
-use Rattle.cmb_core.specs.Play.{IsSameSize, IsWorldOf, shown}
+use Rattle.cmb_core.specs.Play.{IsWorldOf, shown}
 use Rattle.cmb_core.specs.Rounds.{events_each, step_event}
 use Rattle.cmb_core.specs.World.{world_after}
 use Rattle.cmb_core.proofs.world.World.step_each.Given as goal

@@ -1,8 +1,8 @@
 use Rattle.std.proofs.Common.{sym, subst}
 use Rattle.cmb_design.specs.Design.{Design}
-use Rattle.cmb_run.specs.Collector.{IsExactFor, new_waves}
+use Rattle.cmb_vcd.specs.Collector.{IsExactFor, new_waves}
 use Rattle.cmb_design.specs.Exact.{nets_of}
-use Rattle.cmb_run.proofs.ExactFacts.{new_exact}
+use Rattle.cmb_vcd.proofs.ExactFacts.{new_exact}
 use Rattle.cmb_run.proofs.collected.Collected.open.Goals as goal
 
 pub invariant_of-result : goal.invariant_of-result

@@ -1,6 +1,0 @@
-use Rattle.std.proofs.Common.{refl}
-use Rattle.cmb_run.proofs.ExampleFacts.{inverter_is}
-use Rattle.cmb_run.proofs.examples.inverter.Goals as goal
-
-pub returns : goal.returns
-returns c = record { text = inverter_is; size = refl }

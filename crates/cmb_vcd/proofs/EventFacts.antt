@@ -1,0 +1,27 @@
+-- Lists of changes, one element at a time.
+use Rattle.std.proofs.Common.{◌≡◌, ◌<◌, ◌+◌, ℕ, List, ◌∷◌, ◌++◌, length, drop, get_or, refl, ◌∙◌, add-one, drop-cons}
+use Rattle.std.proofs.lemmas.List.{get_or_default}
+use Rattle.cmb_wave.specs.declared.level.Change.{Change}
+use Rattle.cmb_wave.specs.Wave.{Wave, new_wave}
+use Rattle.cmb_vcd.specs.declared.events.Event.{Event}
+use Rattle.cmb_vcd.specs.Events.{all_events, event_text, events_of, events_text, within}
+use Rattle.cmb_vcd.specs.Collector.{wave_of}
+
+pub events_of-next : (net : ℕ) (cs : List Change) (i : ℕ) (d : Change) → i < length cs
+    → events_of net (drop i cs) ≡ record { tick = (get_or cs i d).tick; net = net; level = (get_or cs i d).level } ∷ events_of net (drop (i + 1) cs)
+unfolding events_of
+events_of-next net cs i d h = rw (add-one, drop-cons cs i d h) refl
+
+-- an element of the list of waves is its net's wave
+pub wave_here : (ws : List Wave) (net : ℕ) (w : Wave) → net < length ws → w ≡ get_or ws net w → w ≡ wave_of ws net
+wave_here ws net w h e = e ∙ get_or_default ws net w (new_wave 0) h
+
+pub all_events-next : (from to : ℕ) (ws : List Wave) (net : ℕ) → net < length ws
+    → all_events from to net (drop net ws) ≡ events_of net (within from to (wave_of ws net).changes) ++ all_events from to (net + 1) (drop (net + 1) ws)
+unfolding all_events
+all_events-next from to ws net h = rw (add-one, drop-cons ws net (new_wave 0) h) refl
+
+pub events_text-next : (last : ℕ) (es : List Event) (i : ℕ) (d : Event) → i < length es
+    → events_text last (drop i es) ≡ event_text last (get_or es i d) ++ events_text (get_or es i d).tick (drop (i + 1) es)
+unfolding events_text
+events_text-next last es i d h = rw (add-one, drop-cons es i d h) refl

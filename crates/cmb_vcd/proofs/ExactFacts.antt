@@ -1,0 +1,156 @@
+-- Exact collectors stay exact.
+use Rattle.std.proofs.Common.{◌≡◌, ◌≢◌, ℕ, zero, suc, ◌+◌, ◌<◌, ◌≤◌, Bool, true, false, ◌⊎◌, inl, inr, length, set, map, refl, ap, sym, ◌∙◌, subst, arith, Ok, Err, None, length-set, get_or-set_same, get_or-set_other}
+use Rattle.std.specs.Prelude.{nat_le, nat_lt, Result}
+use Rattle.std.specs.List.{range_with_len}
+use Rattle.std.proofs.lemmas.Bool.{cases_eq}
+use Rattle.std.proofs.lemmas.Bool.Decides.{nat_tests}
+use Rattle.std.proofs.lemmas.List.FromFn.{length-map-range_with_len, get_or-map-range_with_len}
+use Rattle.cmb_wave.specs.declared.level.Level.{Level}
+use Rattle.cmb_wave.specs.declared.wave.WaveFault.{WaveFault}
+use Rattle.cmb_wave.specs.declared.wave.WaveFault.TheVariants as wave_fault
+use Rattle.cmb_wave.specs.Waveform.{at_or_after, clash, count_below, last_level}
+use Rattle.cmb_wave.specs.Wave.{Piece, Wave, IsExactPiece, IsExactWave, new_wave, wave_with_piece}
+use Rattle.cmb_wave.specs.Calls.{taken}
+use Rattle.cmb_wave.proofs.Spans.{clash-none}
+use Rattle.cmb_wave.proofs.Waveforms.{changes_between-same}
+use Rattle.cmb_wave.proofs.Waves.{added-alternates, with_piece-exact}
+use Rattle.cmb_design.specs.Design.{Design}
+use Rattle.cmb_design.specs.Exact.{IsExactIn, nets_of}
+use Rattle.cmb_design.specs.Plain.{whole_wave, whole_waves}
+use Rattle.cmb_design.specs.Value.{value}
+use Rattle.cmb_vcd.specs.declared.fault.CollectFault.{CollectFault}
+use Rattle.cmb_vcd.specs.declared.fault.CollectFault.TheVariants.{Clash}
+use Rattle.cmb_vcd.specs.Collector.{Collector, IsCollected, IsComplete, IsExactFor, collected, least_clock, new_collector, new_waves, wave_of}
+use Rattle.cmb_vcd.specs.Faults.{collect_fault}
+use Rattle.cmb_vcd.proofs.CollectorFacts.{new_waves_collected}
+
+-- ---- new collectors
+
+none_exact : (level : ℕ → Level) (horizon net : ℕ) → IsExactWave level horizon (new_wave net)
+unfolding count_below
+none_exact level horizon net = record {
+  base = omega arith;
+  within = omega arith;
+  count = ap length (sym (changes_between-same level 0));
+  changes = sym (changes_between-same level 0);
+  kept = refl;
+}
+
+pub new_exact : (design : Design) → IsExactFor design (new_collector design)
+new_exact design = record {
+  opened = record { nets = length-map-range_with_len new_wave 0 (nets_of design); horizon = refl };
+  collected = new_waves_collected design.horizon (nets_of design);
+  exact = λ net h.
+      let here : wave_of (new_waves (nets_of design)) net ≡ new_wave net = get_or-map-range_with_len new_wave 0 (nets_of design) net net (new_wave 0) h (omega arith) in
+      subst (IsExactWave (value design net) design.horizon) (sym here) (none_exact (value design net) design.horizon net);
+}
+
+-- ---- taking an exact piece
+
+-- what an exact wave makes of an exact piece: it goes on by it, or has it already, or misses something before it
+module _ (level : ℕ → Level) (horizon : ℕ) (wave : Wave) (piece : Piece) (exact : IsExactWave level horizon wave) (p : IsExactPiece level horizon piece) where
+  no_clash : piece.from ≤ wave.clock → wave.clock ≤ piece.to → clash (last_level wave.kept wave.changes) (at_or_after wave.clock piece.changes) ≡ None
+  no_clash a b = clash-none _ _ (added-alternates level horizon wave exact piece p a b)
+
+  pub taken_exact : (next : Wave) → taken wave piece ≡ Ok next → IsExactWave level horizon next × (next.net ≡ wave.net) × (next.base ≡ wave.base)
+  taken_exact next e = by (nat_lt wave.clock piece.from) refl (nat_le piece.to wave.clock) refl
+    where
+      by : (b : Bool) → nat_lt wave.clock piece.from ≡ b → (d : Bool) → nat_le piece.to wave.clock ≡ d → IsExactWave level horizon next × (next.net ≡ wave.net) × (next.base ≡ wave.base)
+      by true f d g = let bad : ◌≡◌ {A = Result Wave WaveFault} (Err (wave_fault.Gap wave.clock)) (Ok next) = rw f at e in cc
+      by false f true g = let bad : ◌≡◌ {A = Result Wave WaveFault} (Err (wave_fault.Old wave.clock)) (Ok next) = rw (f, g) at e in cc
+      by false f false g =
+          let a : piece.from ≤ wave.clock = grind (arith, nat_tests) in
+          let b : wave.clock ≤ piece.to = grind (arith, nat_tests) in
+          let good : ◌≡◌ {A = Result Wave WaveFault} (Ok (wave_with_piece wave piece)) (Ok next) = rw (f, g, no_clash a b) at e in
+          let same : wave_with_piece wave piece ≡ next = cc in
+          (subst (IsExactWave level horizon) same (with_piece-exact level horizon wave exact piece p a b), ap (λ (w : Wave). w.net) (sym same), ap (λ (w : Wave). w.base) (sym same))
+
+  pub taken_clash : (tick : ℕ) → taken wave piece ≢ Err (wave_fault.Clash tick)
+  taken_clash tick e = by (nat_lt wave.clock piece.from) refl (nat_le piece.to wave.clock) refl
+    where
+      by : (b : Bool) → nat_lt wave.clock piece.from ≡ b → (d : Bool) → nat_le piece.to wave.clock ≡ d → ⊥
+      by true f d g = let bad : ◌≡◌ {A = Result Wave WaveFault} (Err (wave_fault.Gap wave.clock)) (Err (wave_fault.Clash tick)) = rw f at e in cc
+      by false f true g = let bad : ◌≡◌ {A = Result Wave WaveFault} (Err (wave_fault.Old wave.clock)) (Err (wave_fault.Clash tick)) = rw (f, g) at e in cc
+      by false f false g =
+          let a : piece.from ≤ wave.clock = grind (arith, nat_tests) in
+          let b : wave.clock ≤ piece.to = grind (arith, nat_tests) in
+          let bad : ◌≡◌ {A = Result Wave WaveFault} (Ok (wave_with_piece wave piece)) (Err (wave_fault.Clash tick)) = rw (f, g, no_clash a b) at e in cc
+
+-- one wave goes on, and the others stay
+set_exact : (design : Design) (collector : Collector) (net : ℕ) (next : Wave) → IsExactFor design collector → net < nets_of design
+    → IsExactWave (value design net) design.horizon next → next.net ≡ net → next.base ≡ 0 → IsExactFor design (record collector { waves = set collector.waves net next })
+set_exact design collector net next exact h good number base = record {
+  opened = record { nets = length-set collector.waves net next ∙ exact.opened.nets; horizon = exact.opened.horizon };
+  collected = λ k a.
+      let b : k < length collector.waves = rw length-set at a in
+      one k b (cases_eq k net);
+  exact = λ k a. whole k a (cases_eq k net);
+}
+  where
+    here : net < length collector.waves
+    here = omega (arith, exact.opened.nets)
+
+    one : (k : ℕ) → k < length collector.waves → (k ≡ net) ⊎ (k ≡ net → ⊥) → IsCollected design.horizon k (wave_of (set collector.waves net next) k)
+    one k a (inl e) = rw (e, get_or-set_same collector.waves net next (new_wave 0) here) (record { number = number; base = base; within = good.within })
+    one k a (inr ne) = rw (get_or-set_other collector.waves net k next (new_wave 0) ne) (exact.collected k a)
+
+    whole : (k : ℕ) → k < nets_of design → (k ≡ net) ⊎ (k ≡ net → ⊥) → IsExactWave (value design k) design.horizon (wave_of (set collector.waves net next) k)
+    whole k a (inl e) = rw (e, get_or-set_same collector.waves net next (new_wave 0) here) good
+    whole k a (inr ne) = rw (get_or-set_other collector.waves net k next (new_wave 0) ne) (exact.exact k a)
+
+module _ (design : Design) (collector : Collector) (piece : Piece) (exact : IsExactFor design collector) (p : IsExactIn design piece) where
+  known : nat_lt piece.net (length collector.waves) ≡ true
+  known = let n = exact.opened.nets in let h = p.net in grind (arith, nat_tests)
+
+  place : piece.net < length collector.waves
+  place = omega (arith, exact.opened.nets, p.net)
+
+  wave : Wave
+  wave = wave_of collector.waves piece.net
+
+  pub collected_exact : (next : Collector) → collected collector piece ≡ Ok next → IsExactFor design next
+  unfolding wave
+  collected_exact next e = by (taken (wave_of collector.waves piece.net) piece) refl
+    where
+      by : (r : Result Wave WaveFault) → taken (wave_of collector.waves piece.net) piece ≡ r → IsExactFor design next
+      by (Ok after) f =
+          let good : ◌≡◌ {A = Result Collector CollectFault} (Ok (record collector { waves = set collector.waves piece.net after })) (Ok next) = rw (known, f) at e in
+          let same : record collector { waves = set collector.waves piece.net after } ≡ next = cc in
+          let t = taken_exact (value design piece.net) design.horizon (wave_of collector.waves piece.net) piece (exact.exact piece.net p.net) p.exact after f in
+          subst (IsExactFor design) same (set_exact design collector piece.net after exact p.net t.0 (t.1 ∙ (exact.collected piece.net place).number) (t.2 ∙ (exact.collected piece.net place).base))
+      by (Err fault) f = let bad : ◌≡◌ {A = Result Collector CollectFault} (Err (collect_fault fault)) (Ok next) = rw (known, f) at e in cc
+
+  pub collected_clash : (tick : ℕ) → collected collector piece ≢ Err (Clash tick)
+  collected_clash tick e = by (taken (wave_of collector.waves piece.net) piece) refl
+    where
+      by : (r : Result Wave WaveFault) → taken (wave_of collector.waves piece.net) piece ≡ r → ⊥
+      by (Ok after) f = let bad : ◌≡◌ {A = Result Collector CollectFault} (Ok (record collector { waves = set collector.waves piece.net after })) (Err (Clash tick)) = rw (known, f) at e in cc
+      by (Err (wave_fault.Gap clock)) f = let bad : ◌≡◌ {A = Result Collector CollectFault} (Err (collect_fault (wave_fault.Gap clock))) (Err (Clash tick)) = rw (known, f) at e in cc
+      by (Err (wave_fault.Old clock)) f = let bad : ◌≡◌ {A = Result Collector CollectFault} (Err (collect_fault (wave_fault.Old clock))) (Err (Clash tick)) = rw (known, f) at e in cc
+      by (Err wave_fault.Memory) f = let bad : ◌≡◌ {A = Result Collector CollectFault} (Err (collect_fault wave_fault.Memory)) (Err (Clash tick)) = rw (known, f) at e in cc
+      by (Err (wave_fault.Clash other)) f = taken_clash (value design piece.net) design.horizon (wave_of collector.waves piece.net) piece (exact.exact piece.net p.net) p.exact other f
+
+-- ---- whole waves
+
+whole_exact : (design : Design) (net : ℕ) → IsExactWave (value design net) design.horizon (whole_wave design net)
+whole_exact design net = record { base = omega arith; within = omega arith; count = refl; changes = refl; kept = refl }
+
+pub whole_waves_exact : (design : Design) → IsExactFor design (record { waves = whole_waves design; horizon = design.horizon })
+whole_waves_exact design = record {
+  opened = record { nets = many; horizon = refl };
+  collected = λ net h. rw (here net (rw many at h)) (record { number = refl; base = refl; within = omega arith });
+  exact = λ net h. subst (IsExactWave (value design net) design.horizon) (sym (here net h)) (whole_exact design net);
+}
+  where
+    many : length (whole_waves design) ≡ nets_of design
+    many = length-map-range_with_len (whole_wave design) 0 (nets_of design)
+
+    here : (net : ℕ) → net < nets_of design → wave_of (whole_waves design) net ≡ whole_wave design net
+    here net h = get_or-map-range_with_len (whole_wave design) 0 (nets_of design) net net (new_wave 0) h (omega arith)
+
+whole_least : (design : Design) (net count : ℕ) → least_clock design.horizon (map (whole_wave design) (range_with_len net count)) ≡ design.horizon
+whole_least design net zero = refl
+whole_least design net (suc count) = omega (arith, whole_least design (net + 1) count)
+
+pub whole_waves_complete : (design : Design) → IsComplete (record { waves = whole_waves design; horizon = design.horizon })
+whole_waves_complete design = whole_least design 0 (nets_of design)

@@ -1,0 +1,20 @@
+use Rattle.std.proofs.Common.{◌∙◌, ◌++◌, ◌+◌, sym, ap, arith, refl, drop}
+use Rattle.cmb_wave.specs.declared.level.Change.{Change}
+use Rattle.cmb_wave.specs.declared.level.Level.TheVariants as level
+use Rattle.cmb_vcd.specs.Events.{events_of}
+use Rattle.cmb_vcd.proofs.EventFacts.{events_of-next}
+use Rattle.cmb_vcd.proofs.LineFacts.{push_rest, rest_none}
+use Rattle.cmb_vcd.proofs.events.add_events.Goals as goal
+
+pub loop-change-preserved : goal.loop-change-preserved
+loop-change-preserved c =
+    let cs = c.args.changes.now in
+    let i = c.loop-change.change-index in
+    let old = c.loop-change.events.items in
+    let d : Change = record { tick = 0; level = level.Zero } in
+    push_rest old c.push.new.self.items _ (events_of c.args.net (drop (i + 1) cs)) _ c.in_ok-push.ensures.items
+    (ap (λ t. old ++ t) (sym (events_of-next c.args.net cs i d (omega arith))) ∙ c.loop-change.invariant)
+
+pub returns : goal.returns
+unfolding events_of
+returns c = rest_none (events_of c.args.net) c.args.changes.now c.loop-change.change-index _ _ (omega arith) refl c.loop-change.invariant

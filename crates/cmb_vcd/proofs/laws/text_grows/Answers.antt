@@ -1,0 +1,10 @@
+use Rattle.std.proofs.Common.{add-one}
+use Rattle.cmb_vcd.proofs.Texts.{part_text-agree, part_text-grows, ticks_text-still}
+use Rattle.cmb_vcd.proofs.laws.text_grows.Goals as goal
+
+pub returns : goal.returns
+returns c = record {
+  depends = part_text-agree;
+  begins = part_text-grows;
+  still = λ nets levels from more late same. ticks_text-still nets levels from more late (λ net tick n a b. rw (← add-one) (same net tick n (rw add-one a) (rw add-one b)));
+}

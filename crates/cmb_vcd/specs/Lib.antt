@@ -1,0 +1,7 @@
+pub mod Collector
+pub mod Ends
+pub mod Events
+pub mod Examples
+pub mod Faults
+pub mod Vcd
+pub mod Writer

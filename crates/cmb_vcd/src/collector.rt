@@ -1,0 +1,121 @@
+//! The waves of all nets, put together from pieces.
+
+ghost use Rattle.std.specs.Prelude.{◌≡◌, ◌≤◌, ◌<◌, ◌↔◌, ℕ, length, slice_set, IsTrue, IfOk, IfErr, OnOk, OnErr, Ok};
+ghost use Rattle.cmb_wave.specs.Calls.{taken};
+ghost use Rattle.cmb_vcd.specs.Collector.{AreCollected, IsComplete, RefusesAs, collected, least, least_clock, new_collector, new_waves, wave_of};
+
+use crate::fault::CollectFault;
+use cmb_design::Design;
+use cmb_wave::{Piece, Wave, WaveFault};
+use std::alloc::{AllocError, Global};
+use std::marker::Model;
+
+/// A wave for each net of a design, from tick 0 on: a collector forgets nothing.
+#[derive(Debug, Drop)]
+pub struct Collector {
+    waves: Vec<Wave>,
+    horizon: u32,
+}
+
+impl Model for Collector {
+    ghost use Rattle.cmb_vcd.specs.Collector.{AreCollected, Collector};
+
+    ghost Value = { Collector };
+
+    ghost view = { λ c. record { waves = c.waves.items; horizon = c.horizon } };
+
+    ghost invariant = { λ c. AreCollected c.horizon c.waves.items };
+}
+
+#[tactic(auto, using(crate::proofs::CollectorFacts::new_waves_more))]
+// The waves of so many nets, of which nothing is known.
+fn make_waves(alloc: Global, nets: u32) -> Result<Vec<Wave>, AllocError>
+    ensures { IfOk result (λ waves. waves.items ≡ new_waves nets) }
+{
+    let mut waves = Vec::with_capacity(alloc, nets as usize)?;
+    for net in 0..nets {
+        waves.push(Wave::new(alloc, net))?;
+    }
+    Ok(waves)
+}
+
+#[tactic(auto, using(crate::proofs::CollectorFacts::least_clock_bound))]
+// The least clock of some waves, and no more than the horizon.
+fn least_of(waves: &[Wave], horizon: u32) -> u32
+    ensures { result ≡ least_clock horizon waves.now }
+{
+    let mut least = horizon;
+    for wave in waves {
+        least = least.min(wave.clock());
+    }
+    least
+}
+
+impl Collector {
+    /// A collector of which nothing is known, for the nets of a design and up to its horizon.
+    pub fn open(alloc: Global, design: &Design) -> Result<Collector, AllocError>
+        ensures { IfOk result (λ collector. collector ≡ new_collector design.now) }
+    {
+        let waves = make_waves(alloc, design.netlist().len() as u32)?;
+        Ok(Collector {
+            waves,
+            horizon: design.horizon(),
+        })
+    }
+
+    /// Takes over the waves of a design's nets, one a net in the order of their numbers. Each goes from tick 0 to the horizon at most.
+    pub fn of_waves(waves: Vec<Wave>, horizon: u32) -> Collector
+        requires { AreCollected horizon waves.items }
+        ensures { result ≡ record { waves = waves.items; horizon = horizon } }
+    {
+        Collector { waves, horizon }
+    }
+
+    /// Goes on by a piece of a net, and gives the net's new clock. Of an overlapping piece the changes from the clock on are added.
+    /// A refused piece changes nothing. Faults: 52, 50, 51, 49, tested in this order, and 70.
+    pub fn take(&mut self, piece: &Piece) -> Result<u32, CollectFault>
+        requires { piece.now.to ≤ self.old.horizon }
+        ensures ok { OnOk result (collected self.old piece.now ≡ Ok self.new) }
+        ensures clock { IfOk result (λ clock. clock ≡ piece.now.to) }
+        ensures fault { IfErr result (λ fault. RefusesAs fault (collected self.old piece.now)) }
+        ensures unchanged { OnErr result (self.new ≡ self.old) }
+        ensures nets { length self.new.waves ≡ length self.old.waves }
+        ensures horizon { self.new.horizon ≡ self.old.horizon }
+    {
+        let net = piece.net() as usize;
+        if net >= self.waves.len() {
+            return Err(CollectFault::Stranger);
+        }
+        let clock = self.waves[net].take(piece)?;
+        Ok(clock)
+    }
+
+    /// The waves of the nets, in the order of their numbers.
+    pub fn waves(&self) -> &[Wave]
+        ensures waves { result.now ≡ self.now.waves }
+        ensures whole { AreCollected self.now.horizon result.now }
+    {
+        &self.waves
+    }
+
+    /// The tick up to which the waves can be known.
+    pub fn horizon(&self) -> u32
+        ensures { result ≡ self.now.horizon }
+    {
+        self.horizon
+    }
+
+    /// The least clock: below it all levels are known. It is the horizon where there are no nets.
+    pub fn least(&self) -> u32
+        ensures { result ≡ least self.now }
+    {
+        least_of(&self.waves, self.horizon)
+    }
+
+    /// Whether all levels below the horizon are known.
+    pub fn complete(&self) -> bool
+        ensures { IsTrue result ↔ IsComplete self.now }
+    {
+        self.least() == self.horizon
+    }
+}

@@ -1,0 +1,91 @@
+//! The changes of all nets in one list, by ticks and nets.
+
+ghost use Rattle.std.specs.Prelude.{◌≡◌, ◌+◌, ◌++◌, ◌≤◌, ◌<◌, ℕ, filter, length, IfOk, OnOk};
+ghost use Rattle.std.specs.List.Sorted.{IsNonDecreasingBy, IsPermutation};
+ghost use Rattle.cmb_wave.specs.Waveform.{IsTrace};
+ghost use Rattle.cmb_vcd.specs.Events.{AreFromStart, AreTraces, all_events, event_text, events_of, events_text, is_at, tick_of, within};
+
+use crate::lines::{push_level, push_tick};
+use cmb_wave::search::left_from;
+use cmb_wave::{Change, Level, Wave};
+use std::alloc::{AllocError, Global};
+
+/// From its tick on a net has this level.
+#[derive(Debug, Clone, Copy, PartialEq, Eq)]
+pub struct Event {
+    pub tick: u32,
+    pub net: u32,
+    pub level: Level,
+}
+
+// The changes of a wave at ticks of [from, to).
+#[tactic(auto, using(crate::proofs::TraceFacts::rises_take))]
+fn changes_within(wave: &Wave, from: u32, to: u32) -> &[Change]
+    ensures changes { result.now ≡ within from to wave.now.changes }
+    ensures trace { IsTrace wave.now.kept wave.now.base wave.now.changes wave.now.clock }
+{
+    let changes = wave.changes();
+    let later = left_from(wave.kept(), changes, to).changes;
+    let earlier = &changes[..changes.len() - later.len()];
+    left_from(wave.kept(), earlier, from).changes
+}
+
+fn add_events(events: &mut Vec<Event>, net: u32, changes: &[Change]) -> Result<(), AllocError>
+    ensures { OnOk result (events.new.items ≡ events.old.items ++ events_of net changes.now) }
+{
+    for change in changes {
+        events.push(Event {
+            tick: change.tick,
+            net,
+            level: change.level,
+        })?;
+    }
+    Ok(())
+}
+
+/// The changes of the nets at ticks of [from, to), net by net.
+pub fn gather(alloc: Global, waves: &[Wave], from: u32, to: u32) -> Result<Vec<Event>, AllocError>
+    requires few { length waves.now ≤ 65535 }
+    requires whole { AreFromStart waves.now }
+    ensures events { IfOk result (λ events. events.items ≡ all_events from to 0 waves.now) }
+    ensures traces { OnOk result (AreTraces waves.now) }
+{
+    let mut events = Vec::new(alloc);
+    for net in 0..waves.len() {
+        let wave = &waves[net];
+        add_events(&mut events, net as u32, changes_within(wave, from, to))?;
+    }
+    Ok(events)
+}
+
+/// Puts changes in the order of their ticks; those of one tick stay in the order of their nets.
+pub fn sort_events(events: &mut Vec<Event>) -> Result<(), AllocError>
+    ensures moved { IsPermutation events.old.items events.new.items }
+    ensures sorted { OnOk result (IsNonDecreasingBy tick_of events.new.items) }
+    ensures stable { OnOk result ((tick : ℕ) → filter (is_at tick) events.new.items ≡ filter (is_at tick) events.old.items) }
+{
+    events.sort_by_key(|event| event.tick)?;
+    Ok(())
+}
+
+fn push_event(out: &mut Vec<u8>, last: u32, event: Event) -> Result<(), AllocError>
+    ensures { OnOk result (out.new.items ≡ out.old.items ++ event_text last event) }
+{
+    if event.tick != last {
+        push_tick(out, event.tick)?;
+    }
+    push_level(out, event.level, event.net)?;
+    Ok(())
+}
+
+/// The text of changes by rising tick, below the line of the tick `last`.
+pub fn push_events(out: &mut Vec<u8>, first: u32, events: &[Event]) -> Result<(), AllocError>
+    ensures { OnOk result (out.new.items ≡ out.old.items ++ events_text first events.now) }
+{
+    let mut last = first;
+    for event in events {
+        push_event(out, last, *event)?;
+        last = event.tick;
+    }
+    Ok(())
+}

@@ -1,0 +1,58 @@
+//! Why a collector takes no piece.
+
+use cmb_wave::WaveFault;
+use thiserror::Error;
+
+/// Why a collector takes no piece. They are tested in the order 52, 50, 51, 49.
+#[derive(Clone, Copy, Debug, PartialEq, Eq, Error)]
+pub enum CollectFault {
+    /// 49: the first new change, at this tick, is to the level that the net's wave ends with.
+    #[error("no change at {tick}")]
+    Clash { tick: u32 },
+    /// 50: the piece begins after the clock of the net's wave, so the changes between them are missing.
+    #[error("the piece begins after {clock}")]
+    Gap { clock: u32 },
+    /// 51: the piece ends by the clock of the net's wave, so all of it was taken before.
+    #[error("the piece ends by {clock}")]
+    Double { clock: u32 },
+    /// 52: the piece is of no net of the design.
+    #[error("there is no such net")]
+    Stranger,
+    /// 70: out of memory.
+    #[error("out of memory")]
+    Memory,
+}
+
+impl CollectFault {
+    ghost use Rattle.std.specs.Prelude.{◌≡◌};
+    ghost use Rattle.cmb_vcd.specs.Faults.{number_of_collect_fault};
+
+    /// The fault's number: 49 to 52, or 70.
+    pub fn number(&self) -> u32
+        ensures { result ≡ number_of_collect_fault self.now }
+    {
+        match self {
+            CollectFault::Clash { .. } => 49,
+            CollectFault::Gap { .. } => 50,
+            CollectFault::Double { .. } => 51,
+            CollectFault::Stranger => 52,
+            CollectFault::Memory => 70,
+        }
+    }
+}
+
+impl From<WaveFault> for CollectFault {
+    ghost use Rattle.std.specs.Prelude.{◌≡◌};
+    ghost use Rattle.cmb_vcd.specs.Faults.{collect_fault};
+
+    ghost from_gives = { λ fault e. e ≡ collect_fault fault };
+
+    fn from(fault: WaveFault) -> CollectFault {
+        match fault {
+            WaveFault::Gap { clock } => CollectFault::Gap { clock },
+            WaveFault::Old { clock } => CollectFault::Double { clock },
+            WaveFault::Clash { tick } => CollectFault::Clash { tick },
+            WaveFault::Memory => CollectFault::Memory,
+        }
+    }
+}

@@ -1,0 +1,41 @@
+//! The laws of the text.
+
+ghost use Rattle.std.specs.Prelude.{◌≡◌, ◌≢◌, ℕ, ◌+◌, ◌<◌, ◌≤◌, List, ◌++◌, length, Ok, Err};
+ghost use Rattle.cmb_wave.specs.declared.level.Level.{Level};
+ghost use Rattle.cmb_wave.specs.Wave.{Piece};
+ghost use Rattle.cmb_bench.specs.Netlist.{Netlist};
+ghost use Rattle.cmb_design.specs.Design.{Design};
+ghost use Rattle.cmb_design.specs.Exact.{IsExactIn};
+ghost use Rattle.cmb_design.specs.Plain.{whole_waves};
+ghost use Rattle.cmb_design.specs.Value.{value};
+ghost use Rattle.cmb_vcd.specs.declared.fault.CollectFault.TheVariants.{Clash};
+ghost use Rattle.cmb_vcd.specs.Collector.{Collector, IsComplete, IsExactFor, collected, collected_level, least, new_collector};
+ghost use Rattle.cmb_vcd.specs.Vcd.{code, part_text, ticks_text};
+
+/// Codes of different nets differ.
+pub fn codes_differ()
+    ensures { (net other : ℕ) → code net ≡ code other → net ≡ other }
+{}
+
+/// The text as far as the levels are known depends on the known levels alone, and each part begins the later ones.
+/// It says nothing of a span, after tick 0, in which no net changes.
+pub fn text_grows()
+    ensures depends { (netlist : Netlist) (horizon : ℕ) (levels others : ℕ → ℕ → Level) (upto : ℕ) → ((net tick : ℕ) → net < length netlist.names → tick < upto → levels net tick ≡ others net tick) → part_text netlist horizon levels upto ≡ part_text netlist horizon others upto }
+    ensures begins { (netlist : Netlist) (horizon : ℕ) (levels : ℕ → ℕ → Level) (from to : ℕ) → from ≤ to → from < horizon → (rest : List ℕ) × (part_text netlist horizon levels to ≡ part_text netlist horizon levels from ++ rest) }
+    ensures still { (nets : ℕ) (levels : ℕ → ℕ → Level) (from more : ℕ) → 1 ≤ from → ((net tick : ℕ) → net < nets → from ≤ tick + 1 → tick + 1 < from + more → levels net tick ≡ levels net (tick + 1)) → ticks_text nets levels (from + more) ≡ ticks_text nets levels from }
+{}
+
+/// A new collector is exact, and stays so when it takes exact pieces; of these none is refused by 49.
+/// The text of an exact collector is that of the design, as far as all its waves are known.
+pub fn exact_collectors_stay_exact()
+    ensures opens { (design : Design) → IsExactFor design (new_collector design) }
+    ensures takes { (design : Design) (collector next : Collector) (piece : Piece) → IsExactFor design collector → IsExactIn design piece → collected collector piece ≡ Ok next → IsExactFor design next }
+    ensures no_clash { (design : Design) (collector : Collector) (piece : Piece) (tick : ℕ) → IsExactFor design collector → IsExactIn design piece → collected collector piece ≢ Err (Clash tick) }
+    ensures tells { (design : Design) (collector : Collector) (upto : ℕ) → IsExactFor design collector → upto ≤ least collector → part_text design.netlist design.horizon (collected_level collector.waves) upto ≡ part_text design.netlist design.horizon (value design) upto }
+{}
+
+/// The whole waves of a design's nets make a complete and exact collector.
+pub fn whole_waves_are_collected()
+    ensures exact { (design : Design) → IsExactFor design (record { waves = whole_waves design; horizon = design.horizon }) }
+    ensures complete { (design : Design) → IsComplete (record { waves = whole_waves design; horizon = design.horizon }) }
+{}

@@ -1,0 +1,21 @@
+//! What is collected of a run, its text as a value change dump, and the sinks that take it.
+#![tactic(auto)]
+
+pub mod collector;
+mod events;
+pub mod examples;
+pub mod fault;
+pub mod laws;
+mod lines;
+pub mod sink;
+pub mod text;
+pub mod writer;
+
+pub use collector::Collector;
+pub use fault::CollectFault;
+pub use sink::{Failed, Limited, Room, Sink, ToWriter, write_whole};
+pub use text::vcd_text;
+pub use writer::VcdWriter;
+
+#[cfg(test)]
+mod tests;

@@ -1,0 +1,127 @@
+//! The lines of the text.
+
+ghost use Rattle.std.specs.Prelude.{◌≡◌, ◌++◌, length, OnOk};
+ghost use Rattle.std.specs.List.{list_all};
+ghost use Rattle.cmb_bench.specs.Netlist.{name_of};
+ghost use Rattle.cmb_vcd.specs.Vcd.{begins_identifier, code, continues_identifier, header, is_identifier, level_byte, level_line, reference, tick_line, var_line, var_lines};
+
+use cmb_bench::Netlist;
+use cmb_wave::Level;
+use itoa::Buffer;
+use std::alloc::AllocError;
+
+fn push_code(out: &mut Vec<u8>, net: u32) -> Result<(), AllocError>
+    ensures { OnOk result (out.new.items ≡ out.old.items ++ code net) }
+{
+    let mut rest = net;
+    while rest >= 94 {
+        out.push(33 + (rest % 94) as u8)?;
+        rest = rest / 94 - 1;
+    }
+    out.push(33 + rest as u8)?;
+    Ok(())
+}
+
+fn byte_of(level: Level) -> u8
+    ensures { result ≡ level_byte level }
+{
+    match level {
+        Level::Zero => b'0',
+        Level::One => b'1',
+        Level::X => b'x',
+    }
+}
+
+/// The line of a net's level.
+#[tactic(auto, unfolding(crate::specs::Vcd::level_line))]
+pub fn push_level(out: &mut Vec<u8>, level: Level, net: u32) -> Result<(), AllocError>
+    ensures { OnOk result (out.new.items ≡ out.old.items ++ level_line level net) }
+{
+    out.push(byte_of(level))?;
+    push_code(out, net)?;
+    out.push(b'\n')?;
+    Ok(())
+}
+
+/// The line of a tick.
+#[tactic(auto, unfolding(crate::specs::Vcd::tick_line))]
+pub fn push_tick(out: &mut Vec<u8>, tick: u32) -> Result<(), AllocError>
+    ensures { OnOk result (out.new.items ≡ out.old.items ++ tick_line tick) }
+{
+    let mut digits = Buffer::new();
+    out.push(b'#')?;
+    out.extend_from_slice(digits.format(tick).as_bytes())?;
+    out.push(b'\n')?;
+    Ok(())
+}
+
+fn begins(byte: u8) -> bool
+    ensures { result ≡ begins_identifier byte }
+{
+    byte.is_ascii_alphabetic() || byte == b'_'
+}
+
+fn continues(byte: u8) -> bool
+    ensures { result ≡ continues_identifier byte }
+{
+    byte.is_ascii_alphanumeric() || byte == b'_' || byte == b'$'
+}
+
+fn all_continue(bytes: &[u8]) -> bool
+    ensures { result ≡ list_all continues_identifier bytes.now }
+{
+    bytes.iter().all(|byte| continues(*byte))
+}
+
+fn is_simple(name: &[u8]) -> bool
+    ensures { result ≡ is_identifier name.now }
+{
+    match name.split_first() {
+        Some((first, rest)) => begins(*first) && all_continue(rest),
+        None => false,
+    }
+}
+
+#[tactic(auto, unfolding(crate::specs::Vcd::reference))]
+fn push_reference(out: &mut Vec<u8>, name: &[u8]) -> Result<(), AllocError>
+    ensures { OnOk result (out.new.items ≡ out.old.items ++ reference name.now) }
+{
+    if !is_simple(name) {
+        out.push(b'\\')?;
+    }
+    out.extend_from_slice(name)?;
+    Ok(())
+}
+
+/// The declaration of a net.
+fn push_var(out: &mut Vec<u8>, net: u32, name: &[u8]) -> Result<(), AllocError>
+    ensures { OnOk result (out.new.items ≡ out.old.items ++ var_line net name.now) }
+{
+    out.extend_from_slice(b"$var wire 1 ")?;
+    push_code(out, net)?;
+    out.extend_from_slice(b" ")?;
+    push_reference(out, name)?;
+    out.extend_from_slice(b" $end\n")?;
+    Ok(())
+}
+
+fn push_vars(out: &mut Vec<u8>, netlist: &Netlist) -> Result<(), AllocError>
+    ensures { OnOk result (out.new.items ≡ out.old.items ++ var_lines 0 netlist.now.names) }
+{
+    for net in 0..netlist.len() {
+        push_var(out, net as u32, netlist.name(net))?;
+    }
+    Ok(())
+}
+
+/// The lines up to the end of the declarations.
+pub fn push_header(out: &mut Vec<u8>, netlist: &Netlist) -> Result<(), AllocError>
+    ensures { OnOk result (out.new.items ≡ out.old.items ++ header netlist.now) }
+{
+    out.extend_from_slice(
+        b"$version cmbsim 1 $end\n$timescale 1 ns $end\n$scope module top $end\n",
+    )?;
+    push_vars(out, netlist)?;
+    out.extend_from_slice(b"$upscope $end\n$enddefinitions $end\n")?;
+    Ok(())
+}

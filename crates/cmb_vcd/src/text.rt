@@ -1,0 +1,128 @@
+//! The text of a collector's waves.
+
+ghost use Rattle.std.specs.Prelude.{◌≡◌, ◌++◌, ◌<◌, ◌≤◌, length, IfOk, OnOk};
+ghost use Rattle.cmb_wave.specs.Waveform.{level_at};
+ghost use Rattle.cmb_vcd.specs.Collector.{IsComplete, IsExactFor, IsFor, collected_level};
+ghost use Rattle.cmb_vcd.specs.Events.{AreFromStart, end_line, ticks_between};
+ghost use Rattle.cmb_vcd.specs.Vcd.{level_lines, text_of, tick_text, vcd};
+
+use crate::collector::Collector;
+use crate::events::{gather, push_events, sort_events};
+use crate::lines::{push_header, push_level, push_tick};
+use cmb_design::Design;
+use cmb_wave::{Level, Wave};
+use std::alloc::{AllocError, Global};
+
+// The level of a wave at tick 0.
+fn first_level(wave: &Wave) -> Level
+    requires { wave.now.base ≡ 0 }
+    ensures { result ≡ level_at wave.now.kept wave.now.changes 0 }
+{
+    match wave.changes().first() {
+        Some(change) if change.tick == 0 => change.level,
+        _ => wave.kept(),
+    }
+}
+
+fn push_levels(out: &mut Vec<u8>, waves: &[Wave]) -> Result<(), AllocError>
+    requires few { length waves.now ≤ 65535 }
+    requires whole { AreFromStart waves.now }
+    ensures { OnOk result (out.new.items ≡ out.old.items ++ level_lines (collected_level waves.now) 0 0 (length waves.now)) }
+{
+    for net in 0..waves.len() {
+        push_level(out, first_level(&waves[net]), net as u32)?;
+    }
+    Ok(())
+}
+
+// The lines of tick 0.
+#[tactic(auto, unfolding(crate::specs::Vcd::tick_text))]
+fn push_first(out: &mut Vec<u8>, waves: &[Wave]) -> Result<(), AllocError>
+    requires few { length waves.now ≤ 65535 }
+    requires whole { AreFromStart waves.now }
+    ensures { OnOk result (out.new.items ≡ out.old.items ++ tick_text (length waves.now) (collected_level waves.now) 0) }
+{
+    push_tick(out, 0)?;
+    out.extend_from_slice(b"$dumpvars\n")?;
+    push_levels(out, waves)?;
+    out.extend_from_slice(b"$end\n")?;
+    Ok(())
+}
+
+// The lines of the ticks of [from, to), of which none is tick 0.
+fn push_later(out: &mut Vec<u8>, waves: &[Wave], from: u32, to: u32) -> Result<(), AllocError>
+    requires late { 0 < from }
+    requires order { from ≤ to }
+    requires few { length waves.now ≤ 65535 }
+    requires whole { AreFromStart waves.now }
+    ensures { OnOk result (out.new.items ≡ out.old.items ++ ticks_between (length waves.now) (collected_level waves.now) from to) }
+{
+    let mut events = gather(*out.allocator(), waves, from, to)?;
+    sort_events(&mut events)?;
+    push_events(out, 0, events.as_slice())?;
+    Ok(())
+}
+
+// The lines of the ticks of [from, to).
+fn push_ticks(out: &mut Vec<u8>, waves: &[Wave], from: u32, to: u32) -> Result<(), AllocError>
+    requires order { from ≤ to }
+    requires few { length waves.now ≤ 65535 }
+    requires whole { AreFromStart waves.now }
+    ensures { OnOk result (out.new.items ≡ out.old.items ++ ticks_between (length waves.now) (collected_level waves.now) from to) }
+{
+    if from == to {
+        return Ok(());
+    }
+    if from != 0 {
+        return push_later(out, waves, from, to);
+    }
+    push_first(out, waves)?;
+    push_later(out, waves, 1, to)?;
+    Ok(())
+}
+
+// The last line, where it comes after the tick `from` and by the tick `upto`.
+fn push_end(out: &mut Vec<u8>, horizon: u32, from: u32, upto: u32) -> Result<(), AllocError>
+    ensures { OnOk result (out.new.items ≡ out.old.items ++ end_line horizon from upto) }
+{
+    if from < horizon && upto >= horizon {
+        return push_tick(out, horizon);
+    }
+    Ok(())
+}
+
+/// What the text gains when the levels are known up to `upto`, where they were known up to `from`.
+pub fn push_part(
+    out: &mut Vec<u8>,
+    waves: &[Wave],
+    horizon: u32,
+    from: u32,
+    upto: u32,
+) -> Result<(), AllocError>
+    requires order { from ≤ upto }
+    requires few { length waves.now ≤ 65535 }
+    requires whole { AreFromStart waves.now }
+    ensures { OnOk result (out.new.items ≡ out.old.items ++ (ticks_between (length waves.now) (collected_level waves.now) from upto ++ end_line horizon from upto)) }
+{
+    push_ticks(out, waves, from, upto)?;
+    push_end(out, horizon, from, upto)?;
+    Ok(())
+}
+
+/// The text of a complete collector: that of the levels which its waves tell.
+pub fn vcd_text(
+    alloc: Global,
+    design: &Design,
+    collector: &Collector,
+) -> Result<Vec<u8>, AllocError>
+    requires opened { IsFor design.now collector.now }
+    requires complete { IsComplete collector.now }
+    ensures text { IfOk result (λ text. text.items ≡ text_of design.now.netlist design.now.horizon (collected_level collector.now.waves)) }
+    ensures exact { IsExactFor design.now collector.now → IfOk result (λ text. text.items ≡ vcd design.now) }
+{
+    let horizon = design.horizon();
+    let mut text = Vec::new(alloc);
+    push_header(&mut text, design.netlist())?;
+    push_part(&mut text, collector.waves(), horizon, 0, horizon)?;
+    Ok(text)
+}
