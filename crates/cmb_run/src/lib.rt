@@ -2,6 +2,7 @@
 #![tactic(auto)]
 
 mod collected;
+mod free;
 mod hand;
 mod part;
 pub mod rounds;
@@ -14,5 +15,6 @@ pub use cmb_vcd::{
     CollectFault, Collector, Failed, Limited, Room, Sink, ToWriter, VcdWriter, vcd_text,
     write_whole,
 };
+pub use free::turnstile::{OpenGate, Turnstile};
 pub use rounds::run_rounds;
 pub use run_fault::RunFault;
