@@ -22,7 +22,7 @@ pub const MODE: &str = "How the run is made: rounds, free or plain [default: rou
 
 pub const WORKERS: &str = "Threads in the modes rounds and free, 1 to 64 [default: 1]";
 
-pub const PARTS: &str = "Clusters of nets that the threads share, 1 to 64 [default: 1]";
+pub const PARTS: &str = "Clusters of nets that the threads share out, 1 to 64 [default: 1]";
 
 /// What stands below the options: the files, the modes, the statuses and a line to begin with.
 pub const FILES: &str = "\
@@ -52,6 +52,7 @@ Modes; each writes the same text:
     rounds  threads carry their clusters on by changes, and hand over what is new after each round
     free    threads run freely, and promise one another up to which tick a net doesn't change
     plain   one thread fills a table with a place for each net and tick, at most 16,777,216
+A thread without a cluster has nothing to do: give at least as many --clusters as --workers.
 
 Status 0: the text was written. Status 2: the command line is wrong.
 Status 1: a fault, told by one line on standard error, `cmbsim: fault N at P`. By N, P is
