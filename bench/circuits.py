@@ -85,32 +85,24 @@ class Circuit:
 
 # Verilog. A tick is two units of its time, so that a flip-flop can sample when the changes of a tick are over. A
 # gate is a non-blocking assignment with a delay, which lets each pulse pass, as a transport delay does; `assign
-# #d` and the primitives swallow short ones.
+# #d` and the primitives swallow short ones. The nets are spread over modules of some hundred, since Icarus
+# takes long to compile one large module.
 JOIN = {"AND": " & ", "NAND": " & ", "OR": " | ", "NOR": " | ", "XOR": " ^ ", "XNOR": " ^ ", "NOT": "", "BUFF": ""}
 TURNED = ("NAND", "NOR", "XNOR", "NOT")
+PART = 200
 
 
-def verilog(c):
-    def ref(name):
-        return f"\\{name} "
-    names = c.inputs + [name for name, _, _ in c.gates]
-    lines = ["`timescale 1ns/1ns", "module top;"]
-    lines += [f"reg {ref(name)};" for name in names]
-    flops = {}
-    for name, kind, operands in c.gates:
-        wait = 2 * c.delay(name, kind)
-        if kind == "DFF":
-            flops.setdefault(c.clocks.get(name, c.clock), []).append(f"{ref(name)}<= #{wait - 1} {ref(operands[0])};")
-        else:
-            value = JOIN[kind].join(map(ref, operands))
-            value = f"~({value})" if kind in TURNED else value
-            lines.append(f"always @({' or '.join(map(ref, dict.fromkeys(operands)))}) {ref(name)}<= #{wait} {value};")
-    for (first, period), samples in flops.items():
-        lines += [f"initial begin #{2 * first + 1}; forever begin"] + samples + [f"#{2 * period}; end end"]
-    lines.append("initial begin")
+def gate_line(c, ref, name, kind, operands):
+    value = JOIN[kind].join(map(ref, operands))
+    value = f"~({value})" if kind in TURNED else value
+    return f"always @* {ref(name)}<= #{2 * c.delay(name, kind)} {value};"
+
+
+def stimulus_lines(c, ref):
+    """The levels of the inputs and of flip-flops before their first samples, by rising tick."""
+    lines, now = [], 0
     if c.init != "x":
         lines += [f"{ref(name)}<= 1'b{c.init};" for name, kind, _ in c.gates if kind == "DFF"]
-    now = 0
     for tick, name, level in sorted(c.stimuli, key=lambda row: row[0]):
         if tick >= c.horizon:
             break
@@ -118,6 +110,30 @@ def verilog(c):
             lines.append(f"#{2 * (tick - now)};")
             now = tick
         lines.append(f"{ref(name)}<= 1'b{level};")
+    return lines
+
+
+def verilog(c):
+    names = c.inputs + [name for name, _, _ in c.gates]
+    part = {name: i // PART for i, name in enumerate(names)}
+    gates = {name: (name, kind, operands) for name, kind, operands in c.gates}
+    flops, lines = {}, ["`timescale 1ns/1ns"]
+
+    def ref(name):
+        return f"top.p{part[name]}.\\{name} "
+    for first in range(0, len(names), PART):
+        held = names[first:first + PART]
+        lines += [f"module part{first // PART};"] + [f"reg \\{name} ;" for name in held]
+        lines += [gate_line(c, ref, *gates[name]) for name in held if name in gates and gates[name][1] != "DFF"]
+        lines.append("endmodule")
+    for name, kind, operands in c.gates:
+        if kind == "DFF":
+            sample = f"{ref(name)}<= #{2 * c.delay(name, kind) - 1} {ref(operands[0])};"
+            flops.setdefault(c.clocks.get(name, c.clock), []).append(sample)
+    lines += ["module top;"] + [f"part{i} p{i}();" for i in range(len(range(0, len(names), PART)))]
+    for (first, period), samples in flops.items():
+        lines += [f"initial begin #{2 * first + 1}; forever begin"] + samples + [f"#{2 * period}; end end"]
+    lines += ["initial begin"] + stimulus_lines(c, ref)
     lines += ["end", 'initial begin $dumpfile("/dev/null"); $dumpvars(0, top);', f"#{2 * c.horizon}; $finish; end", "endmodule"]
     return "\n".join(lines) + "\n"
 
