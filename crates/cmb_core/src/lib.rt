@@ -4,8 +4,6 @@
 pub mod advance;
 pub mod below;
 pub mod cluster;
-#[cfg(test)]
-mod cluster_tests;
 pub mod clustering;
 pub mod delivery;
 pub mod event;
@@ -25,8 +23,6 @@ mod stepping;
 pub mod tables;
 mod trim;
 pub mod world;
-#[cfg(test)]
-mod world_tests;
 
 pub use cluster::Cluster;
 pub use clustering::{Clustering, ClusteringFault};

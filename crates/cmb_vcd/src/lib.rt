@@ -16,6 +16,3 @@ pub use fault::CollectFault;
 pub use sink::{Failed, Limited, Room, Sink, ToWriter, write_whole};
 pub use text::vcd_text;
 pub use writer::VcdWriter;
-
-#[cfg(test)]
-mod tests;

@@ -1,6 +1,6 @@
 ghost use Rattle.std.specs.Prelude.{◌<◌, ◌≤◌, length};
 
-use crate::{Cell, Driver, Kind, Netlist, Operands, cell_named, read_bench};
+use cmb_bench::{Cell, Driver, Kind, Netlist, Operands, cell_named, read_bench};
 use std::alloc::{AllocError, Global};
 use std::process::Abort;
 

@@ -3,7 +3,7 @@
 
 ghost use Rattle.std.specs.Prelude.{◌≡◌};
 
-use crate::{Change, Heard, Level, Piece, PieceFault, Promise, Wave, WaveFault};
+use cmb_wave::{Change, Heard, Level, Piece, PieceFault, Promise, Wave, WaveFault};
 use std::alloc::Global;
 use std::process::Abort;
 use std::test::Fail;

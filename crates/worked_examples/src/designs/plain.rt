@@ -2,8 +2,8 @@
 
 ghost use Rattle.std.specs.Prelude.{◌≤◌, length};
 
-use crate::tests::design_of;
-use crate::{DesignFault, Settings, plain_waves};
+use crate::designs::design_of;
+use cmb_design::{DesignFault, Settings, plain_waves};
 use cmb_wave::{Change, Level, Wave};
 use std::alloc::Global;
 use std::process::Abort;

@@ -2,56 +2,21 @@
 
 ghost use Rattle.std.specs.Prelude.{◌≤◌, length};
 
-use crate::{Cluster, Clustering, ClusteringFault, DeliverFault};
-use cmb_bench::read_bench;
-use cmb_design::{Design, Settings, read_clocks, read_delays, read_stimuli};
+use crate::inputs::{Inputs, bare, design_of};
+use cmb_core::{Cluster, Clustering, ClusteringFault, DeliverFault};
+use cmb_design::{Design, Settings};
 use cmb_wave::{Change, Heard, Level, Piece, Promise};
 use std::alloc::Global;
 use std::process::Abort;
 use std::test::Fail;
 
-// A netlist with its delays, stimuli and clocks.
-#[derive(Clone, Copy)]
-struct Texts<'a> {
-    netlist: &'a [u8],
-    delays: &'a [u8],
-    stimuli: &'a [u8],
-    clocks: &'a [u8],
-}
-
-// A netlist without tables.
-fn bare(netlist: &[u8]) -> Texts<'_> {
-    Texts {
-        netlist,
-        delays: b"",
-        stimuli: b"",
-        clocks: b"",
-    }
-}
-
-// The design of these texts, of which no flip-flop has a level but 0 before its first sample.
-fn design_of(
-    rt: &impl Abort,
-    alloc: Global,
-    texts: Texts<'_>,
-    horizon: u32,
-    clock: Option<(u32, u32)>,
-) -> Result<Design, Fail> {
-    assert!(rt; texts.netlist.len() <= 100);
-    assert!(rt; texts.delays.len() <= 100);
-    assert!(rt; texts.stimuli.len() <= 100);
-    assert!(rt; texts.clocks.len() <= 100);
-    let netlist = read_bench(alloc, texts.netlist)?;
-    let delays = read_delays(alloc, texts.delays)?;
-    let stimuli = read_stimuli(alloc, texts.stimuli)?;
-    let clocks = read_clocks(alloc, texts.clocks)?;
-    let settings = Settings {
+// What the flip-flops sample at, from first on with a period, and have before.
+fn settings_of(horizon: u32, clock: Option<(u32, u32)>) -> Settings {
+    Settings {
         horizon,
         clock,
         init: Level::Zero,
-    };
-    let design = Design::new(alloc, netlist, delays, stimuli, clocks, settings)?;
-    Ok(design)
+    }
 }
 
 // The cluster with this number, where the nets are spread over so many.
@@ -74,12 +39,12 @@ fn opened(
 fn cluster_of(
     rt: &impl Abort,
     alloc: Global,
-    texts: Texts<'_>,
+    texts: Inputs<'_>,
     times: (u32, Option<(u32, u32)>),
     clusters: u32,
     cluster: u32,
 ) -> Result<Cluster, Fail> {
-    let design = design_of(rt, alloc, texts, times.0, times.1)?;
+    let design = design_of(rt, alloc, texts, settings_of(times.0, times.1))?;
     opened(rt, alloc, &design, clusters, cluster)
 }
 
@@ -175,7 +140,7 @@ fn promise(rt: &impl Abort, cluster: &Cluster, net: u32) -> Promise {
 // A gate goes on from its pins' clocks by its delay, never beyond the horizon.
 #[test]
 fn step_of_a_slow_gate(rt: HostRuntime) -> Result<(), Fail> {
-    let texts = Texts {
+    let texts = Inputs {
         netlist: b"INPUT(a)\nOUTPUT(y)\ny = NOT(a)\n",
         delays: b"by,name,delay\nnet,y,20\n",
         stimuli: b"tick,net,value\n0,a,0\n5,a,1\n",
@@ -200,7 +165,7 @@ fn step_of_a_flip_flop(rt: HostRuntime) -> Result<(), Fail> {
 // A flip-flop with a clock of its own.
 #[test]
 fn step_by_a_clock_row(rt: HostRuntime) -> Result<(), Fail> {
-    let texts = Texts {
+    let texts = Inputs {
         netlist: b"INPUT(a)\np = DFF(a)\nq = DFF(p)\n",
         delays: b"",
         stimuli: b"tick,net,value\n0,a,0\n3,a,1\n",
@@ -285,7 +250,7 @@ fn trim_row(rt: HostRuntime) -> Result<(), Fail> {
 
 // A cluster of an input, a flip-flop and a gate in a row, with each net in a cluster of its own.
 fn in_a_row(rt: &impl Abort, alloc: Global, cluster: u32) -> Result<Cluster, Fail> {
-    let texts = Texts {
+    let texts = Inputs {
         netlist: b"INPUT(a)\nq = DFF(a)\ny = BUFF(q)\n",
         delays: b"",
         stimuli: b"tick,net,value\n0,a,0\n",

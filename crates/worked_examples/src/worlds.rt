@@ -4,28 +4,28 @@ ghost use Rattle.std.specs.Prelude.{◌≡◌, IfOk, length};
 ghost use Rattle.cmb_design.specs.Exact.{nets_of};
 ghost use Rattle.cmb_core.specs.Opened.{IsClusterOf};
 
-use crate::{Cluster, Clustering, DeliverFault, Event, PlayFault, Reply, World};
-use cmb_bench::read_bench;
-use cmb_design::{Design, Settings, read_clocks, read_delays, read_stimuli};
+use crate::inputs::{Inputs, design_of};
+use cmb_core::{Cluster, Clustering, DeliverFault, Event, PlayFault, Reply, World};
+use cmb_design::{Design, Settings};
 use cmb_wave::{Change, Heard, Level, Piece};
 use std::alloc::Global;
 use std::process::Abort;
 use std::test::Fail;
 
 // A design up to tick 12 without delay rows, whose flip-flops sample at ticks 2, 6, 10 and so on, and hold 0 before.
-fn design_of(rt: &impl Abort, alloc: Global, bench: &[u8], stimuli: &[u8]) -> Result<Design, Fail> {
-    assert!(rt; bench.len() <= 100);
-    assert!(rt; stimuli.len() <= 100);
-    let netlist = read_bench(alloc, bench)?;
-    let delays = read_delays(alloc, b"")?;
-    let stimuli = read_stimuli(alloc, stimuli)?;
-    let clocks = read_clocks(alloc, b"")?;
+fn sampled(rt: &impl Abort, alloc: Global, netlist: &[u8], stimuli: &[u8]) -> Result<Design, Fail> {
     let settings = Settings {
         horizon: 12,
         clock: Some((2, 4)),
         init: Level::Zero,
     };
-    Ok(Design::new(alloc, netlist, delays, stimuli, clocks, settings)?)
+    let inputs = Inputs {
+        netlist,
+        delays: b"",
+        stimuli,
+        clocks: b"",
+    };
+    design_of(rt, alloc, inputs, settings)
 }
 
 // A world of this design whose nets are spread over so many clusters.
@@ -39,7 +39,7 @@ fn opened(rt: &impl Abort, alloc: Global, design: &Design, clusters: u32) -> Res
 
 // A flip-flop q that samples its data d, and d, the inverse of q.
 fn toggle(rt: &impl Abort, alloc: Global, clusters: u32) -> Result<World, Fail> {
-    let design = design_of(rt, alloc, b"q = DFF(d) d = NOT(q)", b"")?;
+    let design = sampled(rt, alloc, b"q = DFF(d) d = NOT(q)", b"")?;
     opened(rt, alloc, &design, clusters)
 }
 
@@ -206,11 +206,16 @@ const WANTED_OF_PROMISE_OVERTAKES: [Told; 11] = [
     Told::Fault(PlayFault::Old { clock: 12 }),
 ];
 
+// A flip-flop q that samples the input a, which is 0, and y, which follows it, each in a cluster of its own.
+fn followed(rt: &impl Abort, alloc: Global) -> Result<World, Fail> {
+    let bench = b"INPUT(a) q = DFF(a) y = BUFF(q)";
+    let design = sampled(rt, alloc, bench, b"tick,net,value\n0,a,0\n")?;
+    opened(rt, alloc, &design, 3)
+}
+
 #[test]
 fn promise_overtakes(rt: HostRuntime) -> Result<(), Fail> {
-    let bench = b"INPUT(a) q = DFF(a) y = BUFF(q)";
-    let design = design_of(&rt, rt.alloc(), bench, b"tick,net,value\n0,a,0\n")?;
-    let mut world = opened(&rt, rt.alloc(), &design, 3)?;
+    let mut world = followed(&rt, rt.alloc())?;
     assert!(&rt; replies_with(&mut world, &PROMISE_OVERTAKES, &WANTED_OF_PROMISE_OVERTAKES));
     assert!(&rt; world.in_clock(2, 1) == Some(12));
     assert!(&rt; world.out_clock(2) == Some(0));
@@ -371,14 +376,32 @@ const WANTED_OF_WORLD_OF: [Told; 4] = [
 ];
 
 fn misled_world(rt: &impl Abort, alloc: Global) -> Result<World, Fail> {
-    let design = design_of(rt, alloc, b"q = DFF(d) d = NOT(q)", b"")?;
+    let design = sampled(rt, alloc, b"q = DFF(d) d = NOT(q)", b"")?;
+    misled_in(rt, alloc, &design)
+}
+
+// The same of this design.
+fn misled_in(rt: &impl Abort, alloc: Global, design: &Design) -> Result<World, Fail> {
     let nets = design.netlist().len();
     assert!(rt; nets <= 65_535);
     let clustering = Clustering::spread(alloc, nets as u32, 2)?;
     assert!(rt; clustering.nets() == nets);
     assert!(rt; clustering.clusters() == 2);
-    let second = misled(rt, alloc, &design, &clustering)?;
-    world_with(alloc, &design, &clustering, second)
+    misled_with(rt, alloc, design, &clustering)
+}
+
+// The same of this clustering.
+fn misled_with(
+    rt: &impl Abort,
+    alloc: Global,
+    design: &Design,
+    clustering: &Clustering,
+) -> Result<World, Fail>
+    requires nets { length clustering.now.assign ≡ nets_of design.now }
+    requires two { clustering.now.clusters ≡ 2 }
+{
+    let second = misled(rt, alloc, design, clustering)?;
+    world_with(alloc, design, clustering, second)
 }
 
 #[test]

@@ -5,8 +5,8 @@ mod tables;
 
 ghost use Rattle.std.specs.Prelude.{◌≤◌, length};
 
-use crate::{Design, DesignFault, Settings, read_clocks, read_delays, read_stimuli};
 use cmb_bench::read_bench;
+use cmb_design::{Design, DesignFault, Settings, read_clocks, read_delays, read_stimuli};
 use std::alloc::Global;
 
 /// The design of these texts, without clock rows.

@@ -2,7 +2,7 @@ use Rattle.std.proofs.Common.{◌≡◌, ℕ, zero, suc, ◌<◌, [], ◌∷◌,
 use Rattle.std.proofs.Common.{List}
 use Rattle.cmb_core.specs.Clusters.{Cluster}
 use Rattle.cmb_core.specs.Opened.{IsClusterOf}
-use Rattle.cmb_core.proofs.world_tests.world_with.Goals as goal
+use Rattle.worked_examples.proofs.worlds.world_with.Goals as goal
 
 each_of_two : (C : ℕ → Cluster → Type 0) (a b d : Cluster) → C 0 a → C 1 b → (k : ℕ) → k < 2 → C k (get_or (a ∷ b ∷ []) k d)
 each_of_two C a b d first second zero h = first

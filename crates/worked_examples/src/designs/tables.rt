@@ -2,8 +2,8 @@
 
 ghost use Rattle.std.specs.Prelude.{◌≤◌, length, IfOk};
 
-use crate::Settings;
-use crate::tests::design_of;
+use crate::designs::design_of;
+use cmb_design::Settings;
 use cmb_wave::Level;
 use std::alloc::{AllocError, Global};
 use std::test::Fail;

@@ -2,10 +2,10 @@
 
 ghost use Rattle.std.specs.Prelude.{◌≡◌};
 
-use crate::sink::{Limited, Room, Sink, ToWriter, write_whole};
-use crate::{CollectFault, Collector, VcdWriter, vcd_text};
-use cmb_bench::read_bench;
-use cmb_design::{Design, Settings, read_clocks, read_delays, read_stimuli};
+use crate::inputs::{bare, design_of};
+use cmb_design::{Design, Settings};
+use cmb_vcd::sink::{Limited, Room, Sink, ToWriter, write_whole};
+use cmb_vcd::{CollectFault, Collector, VcdWriter, vcd_text};
 use cmb_wave::{Change, Level, Piece, Wave};
 use std::alloc::Global;
 use std::process::Abort;
@@ -18,18 +18,13 @@ const D: u32 = 1;
 const TOGGLE: &[u8] = b"q = DFF(d) d = NOT(q)";
 
 // A design without rows, whose flip-flops sample at ticks 2, 6, 10 and so on.
-fn design_of(rt: &impl Abort, alloc: Global, bench: &[u8], horizon: u32) -> Result<Design, Fail> {
-    assert!(rt; bench.len() <= 16_777_216);
-    let netlist = read_bench(alloc, bench)?;
-    let delays = read_delays(alloc, b"")?;
-    let stimuli = read_stimuli(alloc, b"")?;
-    let clocks = read_clocks(alloc, b"")?;
+fn sampled(rt: &impl Abort, alloc: Global, netlist: &[u8], horizon: u32) -> Result<Design, Fail> {
     let settings = Settings {
         horizon,
         clock: Some((2, 4)),
         init: Level::Zero,
     };
-    Ok(Design::new(alloc, netlist, delays, stimuli, clocks, settings)?)
+    design_of(rt, alloc, bare(netlist), settings)
 }
 
 fn at(tick: u32, level: Level) -> Change
@@ -108,7 +103,7 @@ fn toggle_answers(rt: &impl Abort, alloc: Global, toggle: &mut Collector) -> Res
 }
 
 fn opened(rt: &impl Abort, alloc: Global, bench: &[u8], horizon: u32) -> Result<Collector, Fail> {
-    let design = design_of(rt, alloc, bench, horizon)?;
+    let design = sampled(rt, alloc, bench, horizon)?;
     Ok(Collector::open(alloc, &design)?)
 }
 
@@ -190,7 +185,7 @@ fn tells_inverted(rt: &impl Abort, alloc: Global, design: &Design) -> Result<(),
 
 // The text is that of the waves that were collected, whatever the design says.
 fn tells_its_own(rt: &impl Abort, alloc: Global) -> Result<(), Fail> {
-    let design = design_of(rt, alloc, b"INPUT(a) OUTPUT(y) y = NOT(a)", 10)?;
+    let design = sampled(rt, alloc, b"INPUT(a) OUTPUT(y) y = NOT(a)", 10)?;
     tells_inverted(rt, alloc, &design)
 }
 
@@ -293,7 +288,7 @@ fn tells_parts(rt: &impl Abort, alloc: Global, design: &Design) -> Result<(), Fa
 }
 
 fn parts_of_toggle(rt: &impl Abort, alloc: Global) -> Result<(), Fail> {
-    let design = design_of(rt, alloc, TOGGLE, 12)?;
+    let design = sampled(rt, alloc, TOGGLE, 12)?;
     tells_parts(rt, alloc, &design)
 }
 
@@ -321,7 +316,7 @@ fn tells_whole(rt: &impl Abort, alloc: Global, design: &Design) -> Result<(), Fa
 }
 
 fn whole_toggle(rt: &impl Abort, alloc: Global) -> Result<(), Fail> {
-    let design = design_of(rt, alloc, TOGGLE, 12)?;
+    let design = sampled(rt, alloc, TOGGLE, 12)?;
     tells_whole(rt, alloc, &design)
 }
 
@@ -372,7 +367,7 @@ fn ends_with(
 
 // A table with a place for each net and tick would be too large.
 fn seventeen_inputs(rt: &impl Abort, alloc: Global) -> Result<(), Fail> {
-    let design = design_of(rt, alloc, SEVENTEEN, 1_000_000)?;
+    let design = sampled(rt, alloc, SEVENTEEN, 1_000_000)?;
     ends_with(rt, alloc, &design, 562, SEVENTEEN_LEVELS)
 }
 
@@ -392,7 +387,7 @@ fn inputs(alloc: Global, count: u32) -> Result<String, Fail> {
 
 fn most_inputs(rt: &impl Abort, alloc: Global) -> Result<(), Fail> {
     let bench = inputs(alloc, 65_535)?;
-    let design = design_of(rt, alloc, bench.as_bytes(), 1)?;
+    let design = sampled(rt, alloc, bench.as_bytes(), 1)?;
     ends_with(rt, alloc, &design, 2_133_620, b"x0G'\nx1G'\n$end\n#1\n")
 }
 
