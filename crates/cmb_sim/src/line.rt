@@ -243,6 +243,9 @@ pub fn read_line(alloc: Global, words: &[String]) -> Result<Line, LineFault>
 pub fn line_message(alloc: Global, words: &[String]) -> Result<String, AllocError> {
     match parse(alloc, words) {
         Ok(_) => Ok(String::new(alloc)),
-        Err(error) => format!(in alloc; "{error}"),
+        Err(error) => match error.kind() {
+            ErrorKind::OutOfMemory => Err(AllocError),
+            _ => format!(in alloc; "{error}"),
+        },
     }
 }
