@@ -279,8 +279,8 @@ ALL = {
     "random, s38417": (lambda: random_sequential(22179, 1636, 28, 300), lambda: random_sequential(2217, 163, 28, 30)),
     "40 pipelines": (lambda: pipelines(16, 8, 60, 40), lambda: pipelines(16, 8, 10, 4)),
     "adder 4000": (lambda: adder(4000, 4), lambda: adder(200, 4)),
-    "ring": (lambda: ring(1_000_000, 0), lambda: ring(5_000, 0)),
-    "ring, 20000 idle": (lambda: ring(1_000_000, 20_000), lambda: ring(2_000, 2_000)),
+    "ring": (lambda: ring(1_000_000, 0), lambda: ring(2_000, 0)),
+    "ring, 20000 idle": (lambda: ring(1_000_000, 20_000), lambda: ring(1_000, 2_000)),
 }
 
 

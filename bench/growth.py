@@ -58,7 +58,7 @@ def families(quick):
             ("LFSRs, all nets busy", [lambda x=x: banks_of(x, fixed) for x in nets]),
             ("ring beside idle nets", [lambda x=x: ring_beside(idle, x) for x in nets])]),
         ("horizon at equal changes", [
-            ("LFSRs, longer period", [lambda x=x: banks_of(17 * 40, 80_000, max(4, x // 226)) for x in steps(10 ** 3, horizon, quick)]),
+            ("LFSRs, longer period", [lambda x=x: banks_of(17 * 40, 80_000, max(4, x // 238)) for x in steps(10 ** 3, horizon, quick)]),
             ("multiplier 32, longer gap", [lambda x=x: multipliers(66_000 * 2, x // 2) for x in steps(10 ** 3, horizon, quick)])])]
 
 
@@ -90,8 +90,10 @@ def measure(make, options, folder):
     command = [measuring.PROGRAM] + words + ["--workers", str(options.workers), "--clusters", str(options.workers)]
     path = os.path.join(folder, "text.vcd")
     first = measuring.once(command, netlist, path, options.limit)
-    if first.late or first.status:
+    if first.late:
         return None
+    if first.status:
+        raise RuntimeError(f"status {first.status}: {' '.join(command)}")
     with open(os.path.join(folder, "nets")) as file:
         nets = int(file.read())
     horizon = int(words[words.index("--horizon") + 1])

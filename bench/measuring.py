@@ -24,6 +24,10 @@ class Run:
 
 TIME = "/usr/bin/time"
 
+# A command is ended together with those that it started. A session of its own does this too, but the scheduler may
+# weigh sessions, and then a priority that was given to this script isn't the command's.
+OWN_GROUP = {"process_group": 0} if sys.version_info >= (3, 11) else {"start_new_session": True}
+
 
 def peak_of(path):
     """The peak memory that TIME wrote, in bytes; it counts in kilobytes."""
@@ -48,7 +52,7 @@ def once(command, stdin=None, stdout=None, limit=120.0, cwd=None):
     late = threading.Event()
     with open(stdin or os.devnull, "rb") as source, open(stdout or os.devnull, "wb") as sink:
         start = time.perf_counter()
-        child = subprocess.Popen(command, stdin=source, stdout=sink, stderr=subprocess.DEVNULL, cwd=cwd, start_new_session=True)
+        child = subprocess.Popen(command, stdin=source, stdout=sink, stderr=subprocess.DEVNULL, cwd=cwd, **OWN_GROUP)
 
         def stop():
             late.set()

@@ -120,16 +120,16 @@ def tell(result):
 def row_of(result, results):
     """A line of the table."""
     if result.sample is None:
-        return [result.circuit, result.way] + [""] * 7 + [result.note]
+        return [result.circuit, result.way] + [""] * 8 + [result.note]
     beside = next((r.sample for r in results if r.circuit == result.circuit and r.way == "cref"), None)
     sample, text = result.sample, result.text
     return [
         result.circuit, result.way, measuring.short(sample.best), measuring.short(sample.median), measuring.short(sample.processor),
         f"{result.memory / 1e6:.0f} MB", f"{text.changes / sample.best / 1e6:.2f} M", f"{text.size / sample.best / 1e6:.1f} MB",
-        f"{sample.best / beside.best:.2f}" if beside else "", result.note]
+        f"{sample.best / beside.best:.2f}" if beside else "", f"{sample.processor / beside.processor:.2f}" if beside else "", result.note]
 
 
-HEADER = ["circuit", "way", "best", "median", "processor", "memory", "changes a second", "bytes a second", "to cref", "note"]
+HEADER = ["circuit", "way", "best", "median", "processor", "memory", "changes a second", "bytes a second", "to cref", "processor to cref", "note"]
 
 
 def differences(results):
