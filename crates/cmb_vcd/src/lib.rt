@@ -9,6 +9,7 @@ pub mod laws;
 mod lines;
 pub mod sink;
 pub mod text;
+mod ticks;
 pub mod writer;
 
 pub use collector::Collector;
