@@ -21,7 +21,9 @@ mod rounds;
 mod settled;
 mod stepping;
 pub mod tables;
+pub mod tip;
 mod trim;
+pub mod waves;
 pub mod world;
 
 pub use cluster::Cluster;
