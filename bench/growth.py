@@ -145,8 +145,8 @@ def write_all(found, options):
     print(report)
     with open(os.path.join(options.out, "growth.md"), "w") as file:
         file.write(report)
-    parts = [(family, family, [(name, [(p.along(family), p.sample.best) for p in points]) for name, points in lines if points]) for family, lines in found]
-    plots.panels(os.path.join(options.out, "growth.svg"), "Wall time of a run in mode rounds", parts)
+    parts = [(family, [(name, [(p.along(family), p.sample.best) for p in points]) for name, points in lines if points]) for family, lines in found]
+    plots.panels(os.path.join(options.out, "growth.svg"), f"Wall time of a run in mode rounds, {options.workers} workers", parts)
 
 
 def read_words():

@@ -84,19 +84,20 @@ def bars(path, title, unit, groups):
     picture.write(path)
 
 
-def panel(picture, name, x_name, lines, colors, left, top):
-    """Lines are (series, [(x, y)]), on logarithmic axes; a dashed helper isn't needed: a straight growth has slope 1."""
+def panel(picture, name, lines, left, top):
+    """Lines are (series, [(x, y)]), on logarithmic axes."""
     points = [point for _, row in lines for point in row]
-    across = Axis([x for x, _ in points], left + 50, left + 350)
-    up = Axis([y for _, y in points], top + 300, top + 20)
-    picture.text(left + 50, top + 8, name, weight="bold")
+    colors = {series: COLORS[(1, 6)[i % 2]] for i, (series, _) in enumerate(lines)}
+    across = Axis([x for x, _ in points], left + 60, left + 360)
+    up = Axis([y for _, y in points], top + 320, top + 40)
+    picture.text(left + 60, top + 8, name, weight="bold")
+    legend(picture, list(colors), colors, left + 60, top + 26)
     for tick in across.ticks:
         picture.line([(across(tick), up.start), (across(tick), up.end)], "#ddd")
         picture.text(across(tick), up.start + 16, named(tick), "middle")
     for tick in up.ticks:
         picture.line([(across.start, up(tick)), (across.end, up(tick))], "#ddd")
         picture.text(across.start - 6, up(tick) + 4, named(tick) + " s", "end")
-    picture.text((across.start + across.end) / 2, up.start + 32, x_name, "middle")
     for series, row in lines:
         picture.line([(across(x), up(y)) for x, y in row], colors[series], 1.8)
         for x, y in row:
@@ -104,12 +105,8 @@ def panel(picture, name, x_name, lines, colors, left, top):
 
 
 def panels(path, title, parts):
-    """Parts are (name, name of x, lines); panels side by side, two in a row."""
-    names = list(dict.fromkeys(series for _, _, lines in parts for series, _ in lines))
-    colors = {name: COLORS[(i + 1) % len(COLORS)] for i, name in enumerate(names)}
-    height = 70 + 350 * ((len(parts) + 1) // 2)
-    picture = Picture(800, height, title)
-    legend(picture, names, colors, 12, 40)
-    for i, (name, x_name, lines) in enumerate(parts):
-        panel(picture, name, x_name, lines, colors, 390 * (i % 2), 60 + 350 * (i // 2))
+    """Parts are (name, lines); one panel each, side by side."""
+    picture = Picture(40 + 390 * len(parts), 410, title)
+    for i, (name, lines) in enumerate(parts):
+        panel(picture, name, lines, 390 * i, 50)
     picture.write(path)
