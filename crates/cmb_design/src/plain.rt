@@ -133,7 +133,7 @@ pub fn plain_waves(alloc: Global, design: &Design) -> Result<Vec<Wave>, DesignFa
     ensures waves { IfOk result (λ waves. waves.items ≡ whole_waves design.now) }
     ensures exact { IfOk result (λ waves. All (IsExactWaveIn design.now) waves.items) }
     ensures fault { IfErr result (λ e. (e ≡ fault.Memory) ⊎ (e ≡ fault.TableTooLarge)) }
-    ensures too_large { (result ≡ Err fault.TableTooLarge) ↔ (MOST_CELLS < cells_of design.now) }
+    ensures too_large { (result ≡ Err fault.TableTooLarge) ↔ (16777216 < cells_of design.now) }
 {
     if design.netlist().len() * design.horizon() as usize > MOST_CELLS {
         return Err(DesignFault::TableTooLarge);

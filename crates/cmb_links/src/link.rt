@@ -99,7 +99,7 @@ impl Link {
         capacity: usize,
     ) -> Result<(Link, PutPass, TakePass), LinkFault>
         ensures ok { IfOk result (λ opened. IsNewLink design.now capacity opened.0 opened.1 opened.2) }
-        ensures capacity { (result ≡ Err LinkFault.Capacity) ↔ ((capacity ≡ 0) ⊎ (MOST < capacity)) }
+        ensures capacity { (result ≡ Err LinkFault.Capacity) ↔ ((capacity ≡ 0) ⊎ (65536 < capacity)) }
     {
         if capacity == 0 || capacity > MOST {
             return Err(LinkFault::Capacity);
