@@ -5,7 +5,7 @@ use Rattle.std.specs.Prelude.{◌==◌}
 use Rattle.std.proofs.lemmas.Bool.{false≢true}
 use denote.Ref.{Bor}
 use Rattle.csv.specs.Machine.{Read, ends_at_end, field_after, fields_after, is_end, next_record, step}
-use Rattle.csv.specs.Reading.{is_bom, strip_bom, NextIs, ReadRecord, ReadsNext, default_config, pending_of, records_from, records_next, took_first}
+use Rattle.csv.specs.Reading.{is_bom, strip_bom, NextIs, ReadRecord, ReadsNext, default_config, is_flexible, pending_of, records_from, records_next, took_first}
 use Rattle.csv.specs.declared.parser.State.{State}
 use Rattle.csv.specs.declared.parser.State.TheVariants as st
 use Rattle.csv.specs.declared.parser.Action.{Action}
@@ -135,10 +135,10 @@ takes s t xs (Some ys) found fields b h = takes_next s t xs ys found fields (nex
 
 -- what a read of a record does to a reader between two records
 pub record_read : (r next : Reader (Bor (List ℕ))) (found : Bool) (fields : List (List ℕ)) → IsReading r → took_first next ≡ true
-    → ReadRecord (λ s. Some s.now) r next found fields
+    → is_flexible next ≡ is_flexible r → ReadRecord (λ s. Some s.now) r next found fields
     → MatchBool found (IsReading next × (records_left r ≡ fields ∷ records_left next)) (records_left r ≡ [])
 unfolding records_left
-record_read r next found fields h first read =
+record_read r next found fields h first flexible read =
     let bytes = h.known.0 in
     let t = takes r.state next.state bytes (pending_of (Some next.rdr.now) next) found fields h.between (rw (h.defaults, h.known.1) at read.0) in
     by found t
@@ -151,6 +151,7 @@ record_read r next found fields h first read =
             plain = read.3 ∙ h.plain;
             ready = inl first;
             defaults = read.2 ∙ h.defaults;
+            of_any_length = flexible ∙ h.of_any_length;
             known = (t.0, known);
             between = t.2;
           },

@@ -1,9 +1,9 @@
 -- The records of a text of a table.
-use Rattle.std.specs.Prelude.{◌≡◌, ◌+◌, map, ℕ, false, List, [], length, Option, Some, None}
+use Rattle.std.specs.Prelude.{◌≡◌, ◌+◌, map, ℕ, false, true, List, [], length, Option, Some, None}
 use denote.Ref.{Bor}
 use Rattle.cmb_design.specs.Fields.{fields_in}
 use Rattle.csv.specs.Machine.{ends_at_end}
-use Rattle.csv.specs.Reading.{Ready, default_config, reader_config, reader_state, reader_trim, records, records_from, source_of, strip_bom}
+use Rattle.csv.specs.Reading.{Ready, default_config, is_flexible, reader_config, reader_state, reader_trim, records, records_from, source_of, strip_bom}
 use Rattle.csv.specs.declared.parser.State.{State}
 use Rattle.csv.specs.declared.reader.Reader.{Reader}
 use Rattle.csv.specs.declared.reader.Trim.TheVariants as trim
@@ -34,5 +34,6 @@ pub record IsReading (r : Reader (Bor (List ℕ))) : Type 0 where
   pub plain : reader_trim r ≡ trim.None
   pub ready : Ready r
   pub defaults : reader_config r ≡ default_config
+  pub of_any_length : is_flexible r ≡ true
   pub known : (bytes : List ℕ) × (unread r ≡ Some bytes)
   pub between : ends_at_end (reader_state r) ≡ false

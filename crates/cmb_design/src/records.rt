@@ -4,7 +4,7 @@ ghost use Rattle.std.specs.Prelude.{◌≡◌, ◌∷◌, [], ◌≤◌, length,
 ghost use Rattle.csv.specs.Records.{fields_of};
 ghost use Rattle.cmb_design.specs.Records.{IsReading, records_left, records_of};
 
-use csv::{ByteRecord, Reader, ReaderBuilder};
+use csv::{ByteRecord, ErrorKind, Reader, ReaderBuilder};
 use std::alloc::{AllocError, Global};
 
 /// A reader at the start of a text.
@@ -18,7 +18,8 @@ pub(crate) fn open_records(alloc: Global, text: &[u8]) -> Reader<&[u8]>
         .from_reader(alloc, text)
 }
 
-/// Reads the next record, if there is one. An error of a reader over bytes in memory is a want of memory.
+/// Reads the next record, if there is one. Records of any length are read, so an error of a reader over bytes in memory is a
+/// want of memory.
 pub(crate) fn next_record(
     reader: &mut Reader<&[u8]>,
     row: &mut ByteRecord,
@@ -28,8 +29,11 @@ pub(crate) fn next_record(
         (IsReading reader.new × (records_left reader.old ≡ fields_of row.new ∷ records_left reader.new))
         (records_left reader.old ≡ [])) }
 {
-    let Ok(found) = reader.read_byte_record(row) else {
-        return Err(AllocError);
-    };
-    Ok(found)
+    match reader.read_byte_record(row) {
+        Ok(found) => Ok(found),
+        Err(error) => match error.kind() {
+            ErrorKind::Io(_) | ErrorKind::OutOfMemory => Err(AllocError),
+            _ => unreachable!(),
+        },
+    }
 }
