@@ -1,17 +1,20 @@
-#!/usr/bin/env python3
+#!/usr/bin/env -S python3 -B
 """damaged.py [--all]: cuts the netlist and each table of a small case at every byte, and damages every byte.
 
 Each byte is left out, doubled, and changed to each of a few values, or to all 255 others with --all. In each mode the
 answer has to be the whole text of some design, or a fault of those that this input can have, with a place of its
 kind and nothing written; all modes have to give the same answer.
 
-ORACLE names another program with the same command line, if there is one, a Python file or a program; its mode plain
-then has to give the same answer too.
+ORACLE names another program with the same command line, if there is one, whose mode plain then has to give the same
+answer too; or a Python file with a function run_program(words, input) that gives a status and what is written to
+the two streams.
 """
+import importlib.util
+import io
 import os
 import sys
 
-from tools import PLACES, PROGRAM, Case, Files, Tally, each, modes, run
+from tools import PLACES, PROGRAM, Answer, Case, Files, Tally, each, modes, run
 
 ORACLE = os.environ.get("ORACLE")
 VALUES = b"\x00\x09\x0a\x0d \"#(),019:=Aabx\x7f\x80\xe9\xff"
@@ -75,12 +78,23 @@ def is_lawful(which, text, answer):
     return place == 0
 
 
+def oracle_of(path):
+    """What gives the oracle's answer to a line and a netlist."""
+    if not path.endswith(".py"):
+        return lambda words, netlist: run([path] + words, netlist, SECONDS)
+    spec = importlib.util.spec_from_file_location("oracle", path)
+    module = importlib.util.module_from_spec(spec)
+    spec.loader.exec_module(module)
+    return lambda words, netlist: Answer(*module.run_program(words, io.BytesIO(netlist)))
+
+
 class Runs:
     """What runs a damaged input in all modes, and the oracle."""
 
     def __init__(self):
         self.files = Files()
         self.modes = modes(rounds=((1, 1), (2, 3)), free=((1, 1), (2, 3)))
+        self.oracle = oracle_of(ORACLE) if ORACLE else None
         self.tables = {name: self.files.write(name + ".csv", data) for name, data in CASE.tables.items()}
 
     def answers(self, which, text):
@@ -93,9 +107,8 @@ class Runs:
         for name, path in tables.items():
             words += ["--" + name, path]
         found = {name: run([PROGRAM] + words + more, netlist, SECONDS) for name, more in self.modes.items()}
-        if ORACLE:
-            oracle = [sys.executable, ORACLE] if ORACLE.endswith(".py") else [ORACLE]
-            found["oracle"] = run(oracle + words + ["--mode", "plain"], netlist, SECONDS)
+        if self.oracle:
+            found["oracle"] = self.oracle(words + ["--mode", "plain"], netlist)
         if which != "netlist":
             os.unlink(tables[which])
         return found

@@ -24,6 +24,11 @@ check() { # check WHAT WANTED FOUND
     echo "n0 = NOT(a)"
     for ((i = 1; i < 3000; i++)); do echo "n$i = NOT(n$((i - 1)))"; done
 } >"$room/chain"
+{
+    printf 'INPUT(a)\ny = NAND(a'
+    for ((i = 0; i < 100000; i++)); do printf ',a'; done
+    echo ')'
+} >"$room/operands"
 printf 'tick,net,value\n0,a,0\n5,a,1\n' >"$room/stimuli.csv"
 printf 'INPUT(a)\nOUTPUT(y)\ny = NOT(a)\n' >"$room/inverter"
 : >"$room/empty"
@@ -159,6 +164,16 @@ for mode in "${modes[@]}"; do
     wait "$pid"
     check "$mode: stopped and continued" "0 yes " "$? $(cmp -s "$room/out" "$room/whole" && echo yes) $(told)"
     rm "$room/pipe"
+
+    # A small stack is enough, however long a chain or a list of operands is.
+    (
+        ulimit -s 128
+        timeout 60 "$program" "${chain[@]}" "${words[@]}" <"$room/chain" 2>"$room/err" | cmp -s - "$room/long"
+        echo "${PIPESTATUS[*]}" >"$room/status"
+        timeout 60 "$program" "${inverter[@]}" "${words[@]}" <"$room/operands" >"$room/out" 2>>"$room/err"
+        echo $? >>"$room/status"
+    )
+    check "$mode: a small stack" "0 0 0 " "$(tr '\n' ' ' <"$room/status")$(told)"
 
     # A reader that is slow: the pipe is full most of the time, and nothing is lost.
     timeout 60 "$program" "${chain[@]}" "${words[@]}" <"$room/chain" 2>"$room/err" | { sleep 0.3; cat; } | cmp -s - "$room/long"

@@ -1,13 +1,14 @@
-#!/usr/bin/env python3
+#!/usr/bin/env -S python3 -B
 """largest.py [WORD..]: the largest inputs and the deepest structures, in bounded time and memory.
 
 Each case runs in mode rounds with 1 and 4 workers and 1 and 4 clusters, and in mode free where it is there. A run fails
 where it needs more processor time or memory than its case allows, ends with another status or line, or writes another
 text than the other runs of the case. With words, only the cases whose names have one of them are run. What is
-printed: the processor seconds, the seconds by the clock, and the megabytes at the peak.
+printed: the processor seconds, the seconds by the clock, and the megabytes at the peak, at least the fifteen or so of this script.
 
 Where a change goes through many nets one after the other, against the order of their lines or between workers, mode rounds
-goes over all nets for each of them. So such circuits run at a lesser size than the others.
+goes over all nets for each of them; and with more workers than one each round starts their threads. So such circuits run
+at a lesser size, or for fewer ticks.
 
 REFERENCE names another simulator that reads the same line without --mode, --workers and --clusters, if there is one;
 its text then has to be the same, where it gives one.
@@ -116,9 +117,13 @@ def stimulus_ticks(shuffled):
 
 def colliding(files):
     """Names that fall into one place of the table of names."""
-    program = files.path("collide")
-    subprocess.run(["gcc", "-O2", "-o", program, os.path.join(HERE, "collide.c")], check=True)
-    return subprocess.run([program, str(MOST)], capture_output=True, check=True).stdout.split()
+    program, found = files.path("collide"), files.path("names")
+    if not os.path.exists(found):
+        subprocess.run(["gcc", "-O2", "-o", program, os.path.join(HERE, "collide.c")], check=True)
+        with open(found, "wb") as names:
+            subprocess.run([program, str(MOST)], stdout=names, check=True)
+    with open(found, "rb") as names:
+        return names.read().split()
 
 
 def wide():
@@ -139,10 +144,12 @@ def wide():
 
 def deep_in_time():
     a_row = {"stimuli": lambda: [b"tick,net,value\n0,a,0\n5,a,1\n"]}
-    yield Large("a ring of one inverter", lambda: [b"n = NOT(n)\n"], ["--horizon", "1000000"], 20, 100)
-    yield Large("a ring of one gate, started", lambda: [b"INPUT(a)\nn = NAND(a, n)\n"], ["--horizon", "1000000"], 20, 200, a_row)
-    yield Large("a ring of 64 gates, started", lambda: ring(64), ["--horizon", "1000000"], 40, 300, a_row)
-    yield Large("64 flip-flops turning over", lambda: toggles(64), ["--horizon", "200000", "--clock", "0:2", "--init", "0"], 40, 600)
+    yield Large("a ring of one inverter", lambda: [b"n = NOT(n)\n"], ["--horizon", "1000000"], 20, 100, deep=True)
+    yield Large("a ring of one gate, started", lambda: [b"INPUT(a)\nn = NAND(a, n)\n"], ["--horizon", "1000000"], 20, 200, a_row, deep=True)
+    yield Large("a ring of 64 gates, started", lambda: ring(64), ["--horizon", "1000000"], 40, 300, a_row, deep=True)
+    yield Large("64 flip-flops turning over", lambda: toggles(64), ["--horizon", "200000", "--clock", "2:2", "--init", "0"], 40, 600, deep=True)
+    yield Large("a ring of 64 gates, shorter", lambda: ring(64), ["--horizon", "10000"], 20, 100, a_row)
+    yield Large("64 flip-flops turning over, shorter", lambda: toggles(64), ["--horizon", "10000", "--clock", "2:2", "--init", "0"], 20, 100)
     yield Large("a shift register of 65,534", lambda: shift_register(MOST - 1), ["--horizon", "1000", "--clock", "0:1"], 20, 300, deep=True)
     yield Large("largest delays", lambda: ring(1000), ["--horizon", "1000000"], 20, 200, dict(a_row, delays=lambda: [b"by,name,delay\nkind,BUFF,1000000\nkind,NAND,999999\n"]))
 
@@ -164,14 +171,14 @@ def full_texts():
 def full_tables():
     one, flop = lambda: [b"INPUT(a)\n"], lambda: [b"INPUT(a)\nq = DFF(a)\n"]
     ten = ["--horizon", "10"]
-    table = lambda name, header, lines: {name: lambda: rows(header, lines)}
+    table = lambda name, header, lines: {name: lambda: rows(header, lines())}
     stimuli, delays, clocks = b"tick,net,value", b"by,name,delay", b"net,first,period"
-    yield Large("16 MB of stimuli in order", one, ["--horizon", "1000000"], 10, 500, table("stimuli", stimuli, stimulus_ticks(False)))
-    yield Large("16 MB of stimuli, shuffled", one, ["--horizon", "1000000"], 10, 500, {"stimuli": lambda: rows(stimuli, stimulus_ticks(True))})
-    yield Large("16 MB of stimuli of all inputs", lambda: (b"INPUT(n%d)\n" % i for i in range(MOST)), ten, 15, 500, table("stimuli", stimuli, [b"%d,n%d,1\n" % (i // MOST, i % MOST) for i in range(1_500_000)]))
-    yield Large("16 MB of one stimulus repeated", one, ten, 10, 400, table("stimuli", stimuli, [b"1,a,1\n"] * 2_800_000), 1, b"cmbsim: fault 29 at 3\n")
-    yield Large("16 MB of delays of pins", lambda: operands(1_500_000), ten, 20, 700, table("delays", delays, [b"pin,y:%d,2\n" % (i + 1) for i in range(1_400_000)]))
-    yield Large("16 MB of clocks", lambda: shift_register(MOST - 1), ["--horizon", "1000"], 20, 600, table("clocks", clocks, [b"q%d,%d,000000000%d\n" % (i, i % 7, 1 + i % 9) for i in range(MOST - 1)]))
+    yield Large("16 MB of stimuli in order", one, ["--horizon", "1000000"], 10, 500, table("stimuli", stimuli, lambda: stimulus_ticks(False)))
+    yield Large("16 MB of stimuli, shuffled", one, ["--horizon", "1000000"], 10, 500, table("stimuli", stimuli, lambda: stimulus_ticks(True)))
+    yield Large("16 MB of stimuli of all inputs", lambda: (b"INPUT(n%d)\n" % i for i in range(MOST)), ten, 15, 500, table("stimuli", stimuli, lambda: (b"%d,n%d,1\n" % (i // MOST, i % MOST) for i in range(1_500_000))))
+    yield Large("16 MB of one stimulus repeated", one, ten, 10, 400, table("stimuli", stimuli, lambda: [b"1,a,1\n"] * 2_800_000), 1, b"cmbsim: fault 29 at 3\n")
+    yield Large("16 MB of delays of pins", lambda: operands(1_500_000), ten, 20, 700, table("delays", delays, lambda: (b"pin,y:%d,2\n" % (i + 1) for i in range(1_400_000))))
+    yield Large("65,534 clocks", lambda: shift_register(MOST - 1), ["--horizon", "1000"], 20, 600, table("clocks", clocks, lambda: (b"q%d,%d,000000000%d\n" % (i, i % 7, 1 + i % 9) for i in range(MOST - 1))))
     yield Large("16 MB of empty lines", one, ten, 5, 100, {"stimuli": lambda: fill([b"\n" * 65536] * 1000)})
     yield Large("16 MB of commas", one, ten, 10, 700, {"delays": lambda: fill([b"," * 65536] * 1000)}, 1, b"cmbsim: fault 23 at 1\n")
     yield Large("16 MB in one field", one, ten, 5, 400, {"delays": lambda: fill([b"a" * 65536] * 1000)}, 1, b"cmbsim: fault 23 at 1\n")
@@ -180,10 +187,12 @@ def full_tables():
 
 
 def collisions(files):
-    names = colliding(files)
-    last = names[-1]
-    inputs = lambda: (b"INPUT(%s)\n" % name for name in names)
-    far = lambda: rows(b"tick,net,value", (b"%d,%s,1\n" % (i, last) for i in range(800_000)))
+    inputs = lambda: (b"INPUT(%s)\n" % name for name in colliding(files))
+
+    def far():
+        last = colliding(files)[-1]
+        return rows(b"tick,net,value", (b"%d,%s,1\n" % (i, last) for i in range(800_000)))
+
     yield Large("colliding names", inputs, ["--horizon", "1"], 15, 200)
     yield Large("16 MB of rows of colliding names", inputs, ["--horizon", "1"], 60, 500, {"stimuli": far})
 
@@ -231,24 +240,35 @@ def ways(deep):
         yield f"{mode} {workers}/{clusters}", ["--mode", mode, "--workers", str(workers), "--clusters", str(clusters)]
 
 
-def write(files, name, parts):
-    with open(files.path(name), "wb") as file:
-        file.writelines(parts)
-    return files.path(name)
+def write(files, case):
+    """Writes the inputs, in a process of its own: what it needs would count as the programs' peak, which begins with that of this script."""
+    child = os.fork()
+    if child == 0:
+        status = 1
+        try:
+            for name, lines in [("netlist", case.netlist)] + list(case.tables.items()):
+                with open(files.path(name), "wb") as file:
+                    file.writelines(lines())
+            status = 0
+        finally:
+            os._exit(status)
+    if os.waitstatus_to_exitcode(os.waitpid(child, 0)[1]) != 0:
+        sys.exit(f"the inputs of {case.name} can't be written")
+    return files.path("netlist")
 
 
 def check(tally, files, case):
-    netlist = write(files, "netlist", case.netlist())
+    netlist = write(files, case)
     words = ["run"] + case.words
-    for table, lines in case.tables.items():
-        words += ["--" + table, write(files, table, lines())]
+    for table in case.tables:
+        words += ["--" + table, files.path(table)]
     texts = {}
     for way, more in ways(case.deep):
         status, err, digest, last, cost = measured([PROGRAM] + words + more, netlist, files.path("out"))
         name = f"{case.name}, {way}"
         if not tally.check(cost is not None, f"{name}: no end in {PATIENCE} s"):
             continue
-        print(f"{case.name:34}{way:13}{cost.seconds:9.2f} s{cost.clock:9.2f} s{cost.megabytes:8.0f} MB", flush=True)
+        print(f"{case.name:37}{way:13}{cost.seconds:9.2f} s{cost.clock:9.2f} s{cost.megabytes:8.0f} MB", flush=True)
         tally.check(status == case.status and err == case.line, f"{name}: status {status}, {err!r}")
         if status == 0:
             horizon = case.words[1].encode()
@@ -260,14 +280,14 @@ def check(tally, files, case):
     if REFERENCE and case.status == 0:
         status, _, digest, _, cost = measured([REFERENCE] + words, netlist, files.path("out"))
         if status == 0:
-            print(f"{case.name:34}{'reference':13}{cost.seconds:9.2f} s{cost.clock:9.2f} s{cost.megabytes:8.0f} MB", flush=True)
+            print(f"{case.name:37}{'reference':13}{cost.seconds:9.2f} s{cost.clock:9.2f} s{cost.megabytes:8.0f} MB", flush=True)
             tally.check(digest in texts, f"{case.name}: the reference's text differs")
 
 
 def main():
     wanted = sys.argv[1:]
     tally, files = Tally(), Files()
-    print(f"{'case':34}{'mode':13}{'processors':>11}{'clock':>11}{'peak':>11}")
+    print(f"{'case':37}{'mode':13}{'processors':>11}{'clock':>11}{'peak':>11}")
     for group in (wide, deep_in_time, full_texts, full_tables, lambda: collisions(files)):
         for case in group():
             if not wanted or any(word in case.name for word in wanted):

@@ -1,4 +1,4 @@
-#!/usr/bin/env python3
+#!/usr/bin/env -S python3 -B
 """refuse_each.py: runs the built programs with each request for memory or for a thread refused in turn.
 
 Each request is refused alone, and with all that follow it, until a run meets none that is refused. The answer has to

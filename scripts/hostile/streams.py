@@ -1,4 +1,4 @@
-#!/usr/bin/env python3
+#!/usr/bin/env -S python3 -B
 """streams.py: fails each read of the built program in turn, and its output after each number of bytes.
 
 Reads and writes take one byte a call, a few, or what they like. A read that fails is fault 61 at its input with
