@@ -30,3 +30,4 @@ pub mod RoundFacts
 pub mod Opens
 pub mod TrimLaws
 pub mod TipFacts
+pub mod NodeFacts

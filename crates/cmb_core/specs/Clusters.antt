@@ -31,8 +31,12 @@ pub record Cluster : Type 0 where
   pub processes : List Process
   pub waves : List Wave
 
+-- the process in a place
+abbrev pub nth_process : List Process → ℕ → Process
+nth_process processes i = slice_index_or processes i (record { rule = Given; operands = []; stimulus = [] })
+
 abbrev pub process_at : Cluster → ℕ → Process
-process_at s i = slice_index_or s.processes i (record { rule = Given; operands = []; stimulus = [] })
+process_at s i = nth_process s.processes i
 
 abbrev pub slot_wave : Cluster → ℕ → Wave
 slot_wave s i = slice_index_or s.waves i (new_wave 0)

@@ -7,6 +7,7 @@ pub mod Exactness
 pub mod Faults
 pub mod Gates
 pub mod Rows
+pub mod Nodes
 pub mod Opened
 pub mod Opening
 pub mod Spans

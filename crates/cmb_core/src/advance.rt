@@ -1,16 +1,17 @@
 //! How a process goes on from the waves that it reads.
 
-ghost use Rattle.std.specs.Prelude.{◌≡◌, ℕ, ◌+◌, ◌-◌, ◌≤◌, ◌<◌, IfOk, length, min, []};
-ghost use Rattle.cmb_wave.specs.Waveform.{last_level, level_at, Rises};
+ghost use Rattle.std.specs.Prelude.{◌≡◌, ℕ, ◌+◌, ◌-◌, ◌≤◌, ◌<◌, ◌&&◌, nat_lt, not, IfOk, length, min, [], take, drop};
+ghost use Rattle.cmb_wave.specs.Waveform.{below, last_level, level_at, same_level, Rises};
 ghost use Rattle.cmb_wave.specs.declared.level.Level.{Level};
 ghost use Rattle.cmb_wave.specs.declared.level.Level.TheVariants.{X};
 ghost use Rattle.cmb_core.specs.Spans.{changes_from};
 ghost use Rattle.cmb_bench.specs.Netlist.{MayTake};
 ghost use Rattle.cmb_core.specs.Arrivals.{pin_at, gate_at, next_sample, last_sample};
-ghost use Rattle.cmb_core.specs.Rows.{delayed, gate_row, sampled, AreReady, gate_reach, flop_reach};
+ghost use Rattle.cmb_core.specs.Rows.{delayed, gate_row, sampled, AreReady, IsThere, gate_reach, flop_reach};
+ghost use Rattle.cmb_core.specs.Step.{wave_at};
 
-use crate::merge::{Lag, Pin, merge};
-use crate::pins::{gate_pins, operand_tip};
+use crate::merge::{Lag, Pin, differ, merge};
+use crate::pins::{fill_pins, gate_pins, operand_tip, operand_wave};
 use crate::process::Operand;
 use crate::settled::settled_gate;
 use crate::waves::Waves;
@@ -58,21 +59,51 @@ pub fn reach_of_flop(horizon: u32, first: u32, period: u32, delay: u32, known: u
     }
 }
 
+// Whether an output that stays at a level changes to it at the head of a span.
+fn begins_anew(level: Level, span: Span) -> bool
+    ensures { result ≡ (nat_lt span.from span.until && not (same_level level span.before)) }
+{
+    span.from < span.until && differ(level, span.before)
+}
+
 // The changes of an output that stays at a level, put into an empty list: one at most.
-fn held_changes(room: Vec<Change>, level: Level, span: Span) -> Result<Vec<Change>, AllocError>
+#[tactic(auto, using(crate::proofs::Changes::changes_from_held))]
+fn held_changes(mut room: Vec<Change>, level: Level, span: Span) -> Result<Vec<Change>, AllocError>
     requires ordered { span.from ≤ span.until }
     requires empty { room.items ≡ [] }
     ensures { (row : ℕ → Level) → ((t : ℕ) → span.from ≤ t → row t ≡ level) → IfOk result (λ made. made.items ≡ changes_from row span.before span.from (span.until - span.from)) }
 {
-    let mut pins = [held_pin(level)];
-    merge(
-        Kind::Buff,
-        &mut pins,
-        room,
-        span.before,
-        span.from,
-        span.until,
-    )
+    if begins_anew(level, span) {
+        room.push(Change {
+            tick: span.from,
+            level,
+        })?;
+    }
+    Ok(room)
+}
+
+/// So many pins of a gate need no list of their own.
+const FEW: usize = 4;
+
+// The changes of the output of a gate with few operands.
+fn few_changes(
+    room: Vec<Change>,
+    kind: Kind,
+    operands: &[Operand],
+    waves: &Waves,
+    span: Span,
+) -> Result<Vec<Change>, AllocError>
+    requires few { length operands.now ≤ 4 }
+    requires ready { AreReady waves.now span.from operands.now }
+    requires takes { MayTake kind (length operands.now) }
+    requires ordered { span.from ≤ span.until }
+    requires empty { room.items ≡ [] }
+    ensures { IfOk result (λ made. made.items ≡ changes_from (gate_row kind waves.now operands.now) span.before span.from (span.until - span.from)) }
+{
+    let mut all = [held_pin(Level::X); FEW];
+    let pins = &mut all[..operands.len()];
+    fill_pins(pins, operands, waves, span.from);
+    merge(kind, pins, room, span.before, span.from, span.until)
 }
 
 /// The changes of a gate's output in a span, put into an empty list.
@@ -92,30 +123,61 @@ pub fn gate_changes(
     if let Some(level) = settled_gate(kind, operands, waves, span.from) {
         return held_changes(room, level, span);
     }
+    if operands.len() <= FEW {
+        return few_changes(room, kind, operands, waves, span);
+    }
     let mut pins = gate_pins(*room.allocator(), operands, waves, span.from)?;
     merge(kind, &mut pins, room, span.before, span.from, span.until)
 }
 
-// The pin of a flip-flop's data, from the output's clock on.
-fn sampled_pin(wave: &Wave, first: u32, period: u32, delay: u32, clock: u32) -> Pin<'_>
+// What a flip-flop sampled by its clock shows from there on: no later sample is before this tick.
+fn seen_upto(first: u32, period: u32, delay: u32, clock: u32) -> u32
     requires { 0 < period }
-    ensures { (t : ℕ) → clock ≤ t → first + delay ≤ t → pin_at result t ≡ level_at wave.now.kept wave.now.changes (last_sample first period (t - delay)) }
+    ensures { (t : ℕ) → clock ≤ t → first + delay ≤ t → result ≤ last_sample first period (t - delay) }
 {
     let ticks = clock.saturating_sub(delay).saturating_sub(first);
-    let seen = if ticks == 0 {
+    if ticks == 0 {
         0
     } else {
         first + ticks / period * period
-    };
+    }
+}
+
+// The pin of a flip-flop's data, of which what is before a tick isn't needed.
+fn sampled_pin(wave: &Wave, lag: Lag, seen: u32) -> Pin<'_>
+    ensures level { result.level ≡ last_level wave.now.kept (take (below seen wave.now.changes) wave.now.changes) }
+    ensures rest { result.rest.now ≡ drop (below seen wave.now.changes) wave.now.changes }
+    ensures lag { result.lag ≡ lag }
+{
     let left = left_from(wave.kept(), wave.changes(), seen);
     Pin {
         level: left.level,
-        lag: Lag::Sampled {
-            first,
-            period,
-            delay,
-        },
+        lag,
         rest: left.changes,
+    }
+}
+
+// The pin of a flip-flop's data, from the output's clock on.
+fn flop_pin(waves: &Waves, operand: Operand, first: u32, period: u32, clock: u32) -> Pin<'_>
+    requires positive { 0 < period }
+    requires there { IsThere waves.now operand }
+    ensures { (t : ℕ) → clock ≤ t → first + operand.delay ≤ t → pin_at result t ≡ level_at (wave_at waves.now operand.net).kept (wave_at waves.now operand.net).changes (last_sample first period (t - operand.delay)) }
+{
+    let lag = Lag::Sampled {
+        first,
+        period,
+        delay: operand.delay,
+    };
+    let seen = seen_upto(first, period, operand.delay, clock);
+    let tip = operand_tip(waves, operand);
+    if tip.before.tick <= seen {
+        Pin {
+            level: tip.before.level,
+            lag,
+            rest: &tip.newest,
+        }
+    } else {
+        sampled_pin(operand_wave(waves, operand), lag, seen)
     }
 }
 
@@ -133,23 +195,26 @@ fn held_pin(level: Level) -> Pin<'static>
 /// The changes of a flip-flop's output in a span, put into an empty list.
 pub fn flop_changes(
     room: Vec<Change>,
-    wave: &Wave,
+    waves: &Waves,
+    operand: Operand,
     first: u32,
     period: u32,
-    delay: u32,
     init: Level,
     span: Span,
 ) -> Result<Vec<Change>, AllocError>
     requires positive { 0 < period }
+    requires there { IsThere waves.now operand }
     requires ordered { span.from ≤ span.until }
     requires empty { room.items ≡ [] }
-    ensures { IfOk result (λ made. made.items ≡ changes_from (sampled wave.now first period init delay) span.before span.from (span.until - span.from)) }
+    ensures { IfOk result (λ made. made.items ≡ changes_from (sampled (wave_at waves.now operand.net) first period init operand.delay) span.before span.from (span.until - span.from)) }
 {
-    let start = span.from.max(first.saturating_add(delay).min(span.until));
+    let start = span
+        .from
+        .max(first.saturating_add(operand.delay).min(span.until));
     let mut held = [held_pin(init)];
     let changes = merge(Kind::Buff, &mut held, room, span.before, span.from, start)?;
     let last = level_after(span.before, &changes, changes.len());
-    let mut pins = [sampled_pin(wave, first, period, delay, span.from)];
+    let mut pins = [flop_pin(waves, operand, first, period, span.from)];
     merge(Kind::Buff, &mut pins, changes, last, start, span.until)
 }
 

@@ -5,7 +5,7 @@ ghost use Rattle.std.specs.Prelude.{◌≡◌, ◌≢◌, ◌<◌, ◌≤◌, �
 use crate::advance::Span;
 use crate::clustering::Clustering;
 use crate::delivery::{DeliverFault, Stranger, refusal};
-use crate::node::Node;
+use crate::nodes::Nodes;
 use crate::open::{nets_held, nodes_of, places_among, sides_of};
 use crate::readers::readers_among;
 use crate::tables::{Tables, place_of};
@@ -19,7 +19,7 @@ use std::marker::Model;
 #[derive(Debug, Drop)]
 pub struct Cluster {
     pub(crate) horizon: u32,
-    pub(crate) processes: Vec<Node>,
+    pub(crate) processes: Nodes,
     pub(crate) waves: Waves,
     pub(crate) tables: Tables,
 }
@@ -30,9 +30,9 @@ impl Model for Cluster {
 
     ghost Value = { Cluster };
 
-    ghost view = { λ c. record { horizon = c.horizon; processes = c.processes.items; waves = c.waves } };
+    ghost view = { λ c. record { horizon = c.horizon; processes = c.processes; waves = c.waves } };
 
-    ghost invariant = { λ c. record { sound : IsSound (record { horizon = c.horizon; processes = c.processes.items; waves = c.waves }); tables : AreTables c.processes.items (wave_nets c.waves) c.tables } };
+    ghost invariant = { λ c. record { sound : IsSound (record { horizon = c.horizon; processes = c.processes; waves = c.waves }); tables : AreTables c.processes (wave_nets c.waves) c.tables } };
 }
 
 impl Cluster {
@@ -65,9 +65,10 @@ impl Cluster {
     {
         let nets = nets_held(alloc, design, clustering, cluster)?;
         let places = places_among(alloc, &nets, design.netlist().len())?;
-        let processes = nodes_of(alloc, design, clustering, cluster, &nets, &places)?;
-        let (driven, inputs) = sides_of(alloc, &processes, &nets)?;
-        let readers = readers_among(alloc, &processes)?;
+        let nodes = nodes_of(alloc, design, clustering, cluster, &nets, &places)?;
+        let (driven, inputs) = sides_of(alloc, &nodes, &nets)?;
+        let readers = readers_among(alloc, &nodes)?;
+        let processes = Nodes::of(alloc, &nodes)?;
         let waves = Waves::new(alloc, &nets)?;
         Ok(Cluster {
             horizon: design.horizon(),
@@ -117,7 +118,7 @@ impl Cluster {
     {
         let tip = self.waves.tip(slot);
         let from = tip.clock;
-        let until = self.processes[slot].reach(self.horizon, &self.waves, from);
+        let until = self.processes.reach(slot, self.horizon, &self.waves, from);
         if until <= from {
             return None;
         }
@@ -142,7 +143,9 @@ impl Cluster {
             return Ok(None);
         };
         let room = Vec::new(self.waves.allocator());
-        let changes = self.processes[slot].changes(room, self.horizon, &self.waves, span)?;
+        let changes = self
+            .processes
+            .changes(slot, room, self.horizon, &self.waves, span)?;
         let piece = self.waves.grow(slot, span.until, changes)?;
         Ok(Some(piece))
     }
@@ -154,7 +157,7 @@ impl Cluster {
     {
         match self.place(net) {
             Some(slot) => {
-                if self.processes[slot].is_given() {
+                if self.processes.is_given(slot) {
                     Some(slot)
                 } else {
                     None
@@ -171,7 +174,7 @@ impl Cluster {
     {
         match self.place(net) {
             Some(slot) => {
-                if self.processes[slot].is_given() {
+                if self.processes.is_given(slot) {
                     None
                 } else {
                     Some(slot)

@@ -11,6 +11,7 @@ pub mod gate;
 pub mod laws;
 pub mod merge;
 pub mod node;
+pub mod nodes;
 mod open;
 pub mod pins;
 mod play;

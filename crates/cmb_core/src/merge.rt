@@ -93,8 +93,8 @@ fn pass(kind: Kind, pins: &mut [Pin], now: u32, until: u32) -> Turn
     }
 }
 
-// Whether two levels are different ones.
-fn differ(level: Level, other: Level) -> bool
+/// Whether two levels are different ones.
+pub(crate) fn differ(level: Level, other: Level) -> bool
     ensures { result ≡ not (same_level level other) }
 {
     level != other

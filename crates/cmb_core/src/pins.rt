@@ -91,3 +91,15 @@ pub fn gate_pins<'a>(
     }
     Ok(pins)
 }
+
+/// The pins of a gate, from the output's clock on, put in the place of as many others.
+pub fn fill_pins<'a>(pins: &mut [Pin<'a>], operands: &[Operand], waves: &'a Waves, clock: u32)
+    requires ready { AreReady waves.now clock operands.now }
+    requires room { length pins.old ≡ length operands.now }
+    ensures levels { (t : ℕ) → clock ≤ t → pins_at pins.new t ≡ delayed_levels waves.now operands.now t }
+    ensures count { length pins.new ≡ length operands.now }
+{
+    for i in 0..operands.len() {
+        pins[i] = operand_pin(waves, operands[i], clock);
+    }
+}

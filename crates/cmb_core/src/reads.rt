@@ -6,33 +6,34 @@ ghost use Rattle.cmb_wave.specs.Calls.{cut, promised};
 ghost use Rattle.cmb_design.specs.Design.{Design};
 ghost use Rattle.cmb_design.specs.Exact.{IsExactIn, IsExactWaveIn, IsRightIn};
 ghost use Rattle.cmb_core.specs.Clustering.{Clustering as Clusters};
-ghost use Rattle.cmb_core.specs.Clusters.{IsDrivenHere, driven_waves, inputs_of, input_slot, is_complete, output_slot, outputs_of, told_at};
+ghost use Rattle.cmb_core.specs.Clusters.{IsDrivenHere, driven_waves, inputs_of, input_slot, is_complete, nth_process, output_slot, outputs_of, told_at};
 ghost use Rattle.cmb_core.specs.Exactness.{IsExactCluster};
 ghost use Rattle.cmb_core.specs.Opened.{IsClusterOf, own_nets, read_nets};
 ghost use Rattle.cmb_core.specs.Rows.{is_given};
 ghost use Rattle.cmb_core.specs.Step.{wave_at};
 
 use crate::cluster::Cluster;
-use crate::node::Node;
+use crate::nodes::Nodes;
 use crate::tip::Tip;
 use crate::waves::Waves;
 use cmb_wave::{Piece, Promise, Wave};
 use std::alloc::AllocError;
 
 // Whether a wave that is not given is not known up to a tick.
-fn is_behind(node: &Node, tip: &Tip, upto: u32) -> bool
-    ensures { result ≡ (not (is_given node.now.rule) && not (tip.now.clock == upto)) }
+fn is_behind(nodes: &Nodes, slot: usize, tip: &Tip, upto: u32) -> bool
+    requires { slot < length nodes.now }
+    ensures { result ≡ (not (is_given (nth_process nodes.now slot).rule) && not (tip.now.clock == upto)) }
 {
-    !node.is_given() && tip.clock != upto
+    !nodes.is_given(slot) && tip.clock != upto
 }
 
 // Whether every wave that is not given is known up to a tick.
-fn all_known(nodes: &[Node], waves: &Waves, upto: u32) -> bool
+fn all_known(nodes: &Nodes, waves: &Waves, upto: u32) -> bool
     requires { length waves.now ≡ length nodes.now }
     ensures { result ≡ list_all (λ wave. wave.clock == upto) (driven_waves nodes.now waves.now) }
 {
     for slot in 0..waves.len() {
-        if is_behind(&nodes[slot], waves.tip(slot), upto) {
+        if is_behind(nodes, slot, waves.tip(slot), upto) {
             return false;
         }
     }

@@ -56,7 +56,9 @@ impl Cluster {
         let Some(span) = self.next_span(slot) else {
             return Ok(Moved { rose: false, room });
         };
-        let mut changes = self.processes[slot].changes(room, self.horizon, &self.waves, span)?;
+        let mut changes = self
+            .processes
+            .changes(slot, room, self.horizon, &self.waves, span)?;
         self.waves.extend(slot, span.until, &changes)?;
         changes.clear();
         Ok(Moved {

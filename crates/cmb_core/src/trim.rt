@@ -9,7 +9,7 @@ ghost use Rattle.cmb_core.specs.Rows.{flop_need};
 ghost use Rattle.cmb_core.specs.Trims.{least_need, need, trimmed, trimmed_to, trimmed_wave};
 
 use crate::cluster::Cluster;
-use crate::node::Node;
+use crate::nodes::Nodes;
 use crate::process::Rule;
 use crate::tables::Reader;
 use crate::waves::Waves;
@@ -42,7 +42,7 @@ fn need_of(rule: Rule, delay: u32, clock: u32) -> u32
 }
 
 // The least tick from which on one of these pins needs what is on it, at most `most`.
-fn least_need_of(nodes: &[Node], waves: &Waves, readers: &[Reader], most: u32) -> u32
+fn least_need_of(nodes: &Nodes, waves: &Waves, readers: &[Reader], most: u32) -> u32
     requires there { All (λ reader. reader.slot < length nodes.now) readers.now }
     requires paired { length waves.now ≡ length nodes.now }
     ensures { result ≡ least_need nodes.now waves.now readers.now most }
@@ -50,7 +50,7 @@ fn least_need_of(nodes: &[Node], waves: &Waves, readers: &[Reader], most: u32) -
     let mut least = most;
     for reader in readers {
         let slot = reader.slot as usize;
-        least = least.min(need_of(nodes[slot].rule(), reader.delay, waves.tip(slot).clock));
+        least = least.min(need_of(nodes.rule(slot), reader.delay, waves.tip(slot).clock));
     }
     least
 }
@@ -62,7 +62,7 @@ impl Cluster {
         ensures waves { self.new.waves ≡ slice_set self.old.waves slot (trimmed_wave self.old slot) }
         ensures same { IsSameButWaves self.old self.new }
     {
-        if !self.processes[slot].is_given() {
+        if !self.processes.is_given(slot) {
             return;
         }
         let most = self.waves.tip(slot).clock;

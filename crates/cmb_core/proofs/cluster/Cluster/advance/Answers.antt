@@ -18,8 +18,8 @@ pub invariant_of-self-2 : goal.invariant_of-self-2
 invariant_of-self-2 c =
     let there : c.args.slot < length c.self.inside.waves = omega (arith, ap (λ s. length s.waves) c.self.view_is) in
     let same : get_or c.self.inside.waves c.args.slot (new_wave 0) ≡ slot_wave c.args.self.now c.args.slot = ap (λ s. slot_wave s c.args.slot) c.self.view_is in
-    let kept : IsKept c.self.inside.horizon c.self.inside.processes.items c.self.inside.tables c.self.inside.waves c.extend.new.self =
-    kept_by_set c.self.inside.horizon c.self.inside.processes.items c.self.inside.tables c.self.inside.waves c.extend.new.self c.args.slot (grown (get_or c.self.inside.waves c.args.slot (new_wave 0)) c.in-Some.span.until c.deref.result.now) c.in_ok-extend.ensures.ok there refl refl (omega (arith, c.in-Some.ensures.span.later, c.in-Some.ensures.span.from, ap (λ w. w.clock) same)) c.self.invariant.sound c.self.invariant.tables
+    let kept : IsKept c.self.inside.horizon c.self.inside.processes c.self.inside.tables c.self.inside.waves c.extend.new.self =
+    kept_by_set c.self.inside.horizon c.self.inside.processes c.self.inside.tables c.self.inside.waves c.extend.new.self c.args.slot (grown (get_or c.self.inside.waves c.args.slot (new_wave 0)) c.in-Some.span.until c.deref.result.now) c.in_ok-extend.ensures.ok there refl refl (omega (arith, c.in-Some.ensures.span.later, c.in-Some.ensures.span.from, ap (λ w. w.clock) same)) c.self.invariant.sound c.self.invariant.tables
     in
     record { sound = kept.sound; tables = kept.listed }
 
@@ -27,7 +27,7 @@ pub returns-clause-same : goal.returns-clause-same
 returns-clause-same c =
     let there : c.args.slot < length c.self.inside.waves = omega (arith, ap (λ s. length s.waves) c.self.view_is) in
     let same : get_or c.self.inside.waves c.args.slot (new_wave 0) ≡ slot_wave c.args.self.now c.args.slot = ap (λ s. slot_wave s c.args.slot) c.self.view_is in
-    let kept : IsKept c.self.inside.horizon c.self.inside.processes.items c.self.inside.tables c.self.inside.waves c.extend.new.self =
-    kept_by_set c.self.inside.horizon c.self.inside.processes.items c.self.inside.tables c.self.inside.waves c.extend.new.self c.args.slot (grown (get_or c.self.inside.waves c.args.slot (new_wave 0)) c.in-Some.span.until c.deref.result.now) c.in_ok-extend.ensures.ok there refl refl (omega (arith, c.in-Some.ensures.span.later, c.in-Some.ensures.span.from, ap (λ w. w.clock) same)) c.self.invariant.sound c.self.invariant.tables
+    let kept : IsKept c.self.inside.horizon c.self.inside.processes c.self.inside.tables c.self.inside.waves c.extend.new.self =
+    kept_by_set c.self.inside.horizon c.self.inside.processes c.self.inside.tables c.self.inside.waves c.extend.new.self c.args.slot (grown (get_or c.self.inside.waves c.args.slot (new_wave 0)) c.in-Some.span.until c.deref.result.now) c.in_ok-extend.ensures.ok there refl refl (omega (arith, c.in-Some.ensures.span.later, c.in-Some.ensures.span.from, ap (λ w. w.clock) same)) c.self.invariant.sound c.self.invariant.tables
     in
     record { horizon = ap (λ s. s.horizon) c.self.view_is; processes = ap (λ s. s.processes) c.self.view_is; nets = kept.nets ∙ ap (λ s. wave_nets s.waves) c.self.view_is }

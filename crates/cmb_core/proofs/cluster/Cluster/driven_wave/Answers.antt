@@ -13,7 +13,7 @@ returns-clause-wave c =
 pub returns-clause-whole : goal.returns-clause-whole
 returns-clause-whole c =
     let place : output_slot c.args.self.now c.args.net ≡ Some c.in-Some.slot = sym c.output_place.ensures.place ∙ c.in-Some.is in
-    let there : c.in-Some.slot < length c.self.inside.processes.items = omega (arith, output_there c.args.self.now c.args.net c.in-Some.slot place, ap (λ s. length s.waves) c.self.view_is, c.self.invariant.sound.paired) in
+    let there : c.in-Some.slot < length c.self.inside.processes = omega (arith, output_there c.args.self.now c.args.net c.in-Some.slot place, ap (λ s. length s.waves) c.self.view_is, c.self.invariant.sound.paired) in
     let driven = ap (λ s. is_given (process_at s c.in-Some.slot).rule) c.self.view_is ∙ output_driven c.args.self.now c.args.net c.in-Some.slot place in
     sym (ap (λ w. w.base) (ap (λ s. slot_wave s c.in-Some.slot) c.self.view_is ∙ output_wave c.args.self.now c.args.net c.in-Some.slot place)) ∙ c.self.invariant.sound.whole c.in-Some.slot there driven
 

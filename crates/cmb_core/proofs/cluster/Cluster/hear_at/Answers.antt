@@ -8,15 +8,15 @@ use Rattle.cmb_core.proofs.cluster.Cluster.hear_at.Goals as goal
 pub invariant_of-self : goal.invariant_of-self
 invariant_of-self c =
     let there : c.args.slot < length c.self.inside.waves = omega (arith, ap (λ s. length s.waves) c.self.view_is) in
-    let kept : IsKept c.self.inside.horizon c.self.inside.processes.items c.self.inside.tables c.self.inside.waves c.hear.new.self =
-    kept_by_set c.self.inside.horizon c.self.inside.processes.items c.self.inside.tables c.self.inside.waves c.hear.new.self c.args.slot (heard_wave (get_or c.self.inside.waves c.args.slot (new_wave 0)) c.args.promise) c.hear.ensures.waves there c.hear.ensures.net c.hear.ensures.base c.hear.ensures.later c.self.invariant.sound c.self.invariant.tables
+    let kept : IsKept c.self.inside.horizon c.self.inside.processes c.self.inside.tables c.self.inside.waves c.hear.new.self =
+    kept_by_set c.self.inside.horizon c.self.inside.processes c.self.inside.tables c.self.inside.waves c.hear.new.self c.args.slot (heard_wave (get_or c.self.inside.waves c.args.slot (new_wave 0)) c.args.promise) c.hear.ensures.waves there c.hear.ensures.net c.hear.ensures.base c.hear.ensures.later c.self.invariant.sound c.self.invariant.tables
     in
     record { sound = kept.sound; tables = kept.listed }
 
 pub returns-clause-same : goal.returns-clause-same
 returns-clause-same c =
     let there : c.args.slot < length c.self.inside.waves = omega (arith, ap (λ s. length s.waves) c.self.view_is) in
-    let kept : IsKept c.self.inside.horizon c.self.inside.processes.items c.self.inside.tables c.self.inside.waves c.hear.new.self =
-    kept_by_set c.self.inside.horizon c.self.inside.processes.items c.self.inside.tables c.self.inside.waves c.hear.new.self c.args.slot (heard_wave (get_or c.self.inside.waves c.args.slot (new_wave 0)) c.args.promise) c.hear.ensures.waves there c.hear.ensures.net c.hear.ensures.base c.hear.ensures.later c.self.invariant.sound c.self.invariant.tables
+    let kept : IsKept c.self.inside.horizon c.self.inside.processes c.self.inside.tables c.self.inside.waves c.hear.new.self =
+    kept_by_set c.self.inside.horizon c.self.inside.processes c.self.inside.tables c.self.inside.waves c.hear.new.self c.args.slot (heard_wave (get_or c.self.inside.waves c.args.slot (new_wave 0)) c.args.promise) c.hear.ensures.waves there c.hear.ensures.net c.hear.ensures.base c.hear.ensures.later c.self.invariant.sound c.self.invariant.tables
     in
     record { horizon = ap (λ s. s.horizon) c.self.view_is; processes = ap (λ s. s.processes) c.self.view_is; nets = kept.nets ∙ ap (λ s. wave_nets s.waves) c.self.view_is }
