@@ -72,3 +72,13 @@ code-from net h = code_within-more net net h ∙ ap (λ bs. (33 + net % 94) ∷ 
 pub code-differs : (net other : ℕ) → code net ≡ code other → net ≡ other
 unfolding code
 code-differs net other e = code_within-differ (suc net) (suc other) net other (omega arith) (omega arith) e
+
+-- codes of one, two and three digits
+pub code-one : (net : ℕ) → net < 94 → (33 + net % 94) ∷ [] ≡ code net
+code-one net h = let same : net % 94 ≡ net = omega arith in rw same (sym (code-below net h))
+
+pub code-two : (net : ℕ) → 94 ≤ net → net / 94 - 1 < 94 → (33 + net % 94) ∷ (33 + (net / 94 - 1) % 94) ∷ [] ≡ code net
+code-two net h k = ap (λ bs. (33 + net % 94) ∷ bs) (code-one (net / 94 - 1) k) ∙ sym (code-from net h)
+
+pub code-three : (net : ℕ) → 94 ≤ net → 94 ≤ net / 94 - 1 → (net / 94 - 1) / 94 - 1 < 94 → (33 + net % 94) ∷ (33 + (net / 94 - 1) % 94) ∷ (33 + ((net / 94 - 1) / 94 - 1) % 94) ∷ [] ≡ code net
+code-three net h k m = ap (λ bs. (33 + net % 94) ∷ bs) (code-two (net / 94 - 1) k m) ∙ sym (code-from net h)

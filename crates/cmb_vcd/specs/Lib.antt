@@ -3,6 +3,7 @@ pub mod Ends
 pub mod Events
 pub mod Examples
 pub mod Faults
+pub mod ReadyCodes
 pub mod Ticks
 pub mod Vcd
 pub mod Writer

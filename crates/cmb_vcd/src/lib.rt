@@ -7,6 +7,7 @@ pub mod examples;
 pub mod fault;
 pub mod laws;
 mod lines;
+mod ready_codes;
 pub mod sink;
 pub mod text;
 mod ticks;

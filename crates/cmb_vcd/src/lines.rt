@@ -22,7 +22,8 @@ fn push_code(out: &mut Vec<u8>, net: u32) -> Result<(), AllocError>
     Ok(())
 }
 
-fn byte_of(level: Level) -> u8
+/// The byte of a level.
+pub fn byte_of(level: Level) -> u8
     ensures { result ≡ level_byte level }
 {
     match level {

@@ -11,6 +11,7 @@ ghost use Rattle.cmb_vcd.specs.Vcd.{level_lines, text_of, tick_text, vcd};
 use crate::collector::Collector;
 use crate::events::{Part, gather, parts_within, push_events, sort_events};
 use crate::lines::{push_header, push_level, push_tick};
+use crate::ready_codes::Codes;
 use crate::ticks::{by_ticks, count_of, push_by_ticks};
 use cmb_design::Design;
 use cmb_wave::{Level, Wave};
@@ -65,6 +66,7 @@ fn push_compared(out: &mut Vec<u8>, parts: &[Part]) -> Result<(), AllocError>
 // The lines of changes at the ticks of [from, to), of which there are so many: a count of each tick sorts them.
 fn push_counted(
     out: &mut Vec<u8>,
+    codes: &Codes,
     parts: &[Part],
     from: u32,
     to: u32,
@@ -76,25 +78,37 @@ fn push_counted(
     ensures { OnOk result (out.new.items ≡ out.old.items ++ span_lines (part_events parts.now) from to) }
 {
     let sorted = by_ticks(*out.allocator(), parts, from, to, count)?;
-    push_by_ticks(out, from, &sorted.ends, &sorted.marks)?;
+    push_by_ticks(out, codes, from, &sorted.ends, &sorted.marks)?;
     Ok(())
 }
 
 // The lines of changes at the ticks of [from, to), of which none is tick 0. Work goes by changes, not by ticks.
-fn push_parts(out: &mut Vec<u8>, parts: &[Part], from: u32, to: u32) -> Result<(), AllocError>
+fn push_parts(
+    out: &mut Vec<u8>,
+    codes: &Codes,
+    parts: &[Part],
+    from: u32,
+    to: u32,
+) -> Result<(), AllocError>
     requires late { 0 < from }
     requires order { from ≤ to }
     requires inside { All (IsWithin from to) (part_events parts.now) }
     ensures { OnOk result (out.new.items ≡ out.old.items ++ span_lines (part_events parts.now) from to) }
 {
     match count_of(parts) {
-        Some(count) if count >= (to - from) / 8 => push_counted(out, parts, from, to, count),
+        Some(count) if count >= (to - from) / 8 => push_counted(out, codes, parts, from, to, count),
         _ => push_compared(out, parts),
     }
 }
 
 // The lines of the ticks of [from, to), of which none is tick 0.
-fn push_later(out: &mut Vec<u8>, waves: &[Wave], from: u32, to: u32) -> Result<(), AllocError>
+fn push_later(
+    out: &mut Vec<u8>,
+    codes: &Codes,
+    waves: &[Wave],
+    from: u32,
+    to: u32,
+) -> Result<(), AllocError>
     requires late { 0 < from }
     requires order { from ≤ to }
     requires few { length waves.now ≤ 65535 }
@@ -102,12 +116,18 @@ fn push_later(out: &mut Vec<u8>, waves: &[Wave], from: u32, to: u32) -> Result<(
     ensures { OnOk result (out.new.items ≡ out.old.items ++ ticks_between (length waves.now) (collected_level waves.now) from to) }
 {
     let parts = parts_within(*out.allocator(), waves, from, to)?;
-    push_parts(out, &parts, from, to)?;
+    push_parts(out, codes, &parts, from, to)?;
     Ok(())
 }
 
 // The lines of the ticks of [from, to).
-fn push_ticks(out: &mut Vec<u8>, waves: &[Wave], from: u32, to: u32) -> Result<(), AllocError>
+fn push_ticks(
+    out: &mut Vec<u8>,
+    codes: &Codes,
+    waves: &[Wave],
+    from: u32,
+    to: u32,
+) -> Result<(), AllocError>
     requires order { from ≤ to }
     requires few { length waves.now ≤ 65535 }
     requires whole { AreFromStart waves.now }
@@ -117,10 +137,10 @@ fn push_ticks(out: &mut Vec<u8>, waves: &[Wave], from: u32, to: u32) -> Result<(
         return Ok(());
     }
     if from != 0 {
-        return push_later(out, waves, from, to);
+        return push_later(out, codes, waves, from, to);
     }
     push_first(out, waves)?;
-    push_later(out, waves, 1, to)?;
+    push_later(out, codes, waves, 1, to)?;
     Ok(())
 }
 
@@ -137,6 +157,7 @@ fn push_end(out: &mut Vec<u8>, horizon: u32, from: u32, upto: u32) -> Result<(),
 /// What the text gains when the levels are known up to `upto`, where they were known up to `from`.
 pub fn push_part(
     out: &mut Vec<u8>,
+    codes: &Codes,
     waves: &[Wave],
     horizon: u32,
     from: u32,
@@ -147,7 +168,7 @@ pub fn push_part(
     requires whole { AreFromStart waves.now }
     ensures { OnOk result (out.new.items ≡ out.old.items ++ (ticks_between (length waves.now) (collected_level waves.now) from upto ++ end_line horizon from upto)) }
 {
-    push_ticks(out, waves, from, upto)?;
+    push_ticks(out, codes, waves, from, upto)?;
     push_end(out, horizon, from, upto)?;
     Ok(())
 }
@@ -164,8 +185,9 @@ pub fn vcd_text(
     ensures exact { IsExactFor design.now collector.now → IfOk result (λ text. text.items ≡ vcd design.now) }
 {
     let horizon = design.horizon();
+    let codes = Codes::new(alloc, design.netlist().len() as u16)?;
     let mut text = Vec::new(alloc);
     push_header(&mut text, design.netlist())?;
-    push_part(&mut text, collector.waves(), horizon, 0, horizon)?;
+    push_part(&mut text, &codes, collector.waves(), horizon, 0, horizon)?;
     Ok(text)
 }

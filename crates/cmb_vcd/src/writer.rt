@@ -7,6 +7,7 @@ ghost use Rattle.cmb_vcd.specs.Writer.{IsNotBefore, begun_text, done_text, new_w
 
 use crate::collector::Collector;
 use crate::lines::push_header;
+use crate::ready_codes::Codes;
 use crate::text::push_part;
 use cmb_design::Design;
 use std::alloc::{AllocError, Global};
@@ -17,6 +18,7 @@ use std::marker::Model;
 pub struct VcdWriter<'a> {
     design: &'a Design,
     declarations: Vec<u8>,
+    codes: Codes,
     done: Option<u32>,
 }
 
@@ -42,6 +44,7 @@ impl<'a> VcdWriter<'a> {
         Ok(VcdWriter {
             design,
             declarations,
+            codes: Codes::new(alloc, design.netlist().len() as u16)?,
             done: None,
         })
     }
@@ -78,7 +81,14 @@ impl<'a> VcdWriter<'a> {
         let from = self.done.unwrap_or(0);
         let horizon = self.design.horizon();
         let mut text = self.begin()?;
-        push_part(&mut text, collector.waves(), horizon, from, least)?;
+        push_part(
+            &mut text,
+            &self.codes,
+            collector.waves(),
+            horizon,
+            from,
+            least,
+        )?;
         self.done = Some(least);
         Ok(text)
     }

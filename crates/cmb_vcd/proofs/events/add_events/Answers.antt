@@ -1,6 +1,7 @@
-use Rattle.std.proofs.Common.{◌∙◌, ◌++◌, ◌+◌, ℕ, [], ◌∷◌, sym, ap, arith, refl, drop, get_or}
+use Rattle.std.proofs.Common.{◌∙◌, ◌++◌, ◌+◌, ℕ, List, [], ◌∷◌, sym, ap, arith, refl, drop, get_or}
 use Rattle.cmb_wave.specs.declared.level.Change.{Change}
 use Rattle.cmb_wave.specs.declared.level.Level.TheVariants as level
+use Rattle.cmb_vcd.specs.declared.events.Event.{Event}
 use Rattle.cmb_vcd.specs.Events.{events_of}
 use Rattle.cmb_vcd.proofs.EventFacts.{events_of-next}
 use Rattle.cmb_vcd.proofs.LineFacts.{push_rest, rest_none}
@@ -13,7 +14,7 @@ loop-change-preserved c =
     let i = c.loop-change.change-index in
     let old = c.loop-change.events.items in
     let d : Change = record { tick = 0; level = level.Zero } in
-    let event = λ (n : ℕ). (record { tick = (get_or cs i d).tick; net = n; level = (get_or cs i d).level } ∷ []) in
+    let event : ℕ → List Event = λ n. record { tick = (get_or cs i d).tick; net = n; level = (get_or cs i d).level } ∷ [] in
     push_rest old c.push.new.self.items (event net) (events_of net (drop (i + 1) cs)) _ (c.in_ok-push.ensures.items ∙ ap (λ n. old ++ event n) c.from.ensures)
     (ap (λ t. old ++ t) (sym (events_of-next net cs i d (omega arith))) ∙ c.loop-change.invariant)
 

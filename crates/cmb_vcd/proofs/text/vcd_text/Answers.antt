@@ -10,9 +10,9 @@ returns c =
     let design = c.args.design.now in
     let collector = c.args.collector.now in
     let told : c.push_part.new.out.items ≡ text_of design.netlist design.horizon (collected_level collector.waves) = (
-    written_whole design.netlist c.netlist.result.now design.horizon c.horizon-horizon.result collector.waves c.waves.result.now
+    written_whole design.netlist c.netlist-2.result.now design.horizon c.horizon-horizon.result collector.waves c.waves.result.now
     c.new-text.result.items c.push_header.new.out.items c.push_part.new.out.items
-    c.netlist.ensures c.horizon-horizon.ensures.value c.waves.ensures.waves c.new-text.ensures.items c.requires.opened.nets (omega (arith, c.horizon-horizon.ensures.small))
+    c.netlist-2.ensures c.horizon-horizon.ensures.value c.waves.ensures.waves c.new-text.ensures.items c.requires.opened.nets (omega (arith, c.horizon-horizon.ensures.small))
     c.in_ok-push_header.ensures c.in_ok-push_part.ensures
     ) in
     record {
