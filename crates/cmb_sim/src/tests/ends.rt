@@ -3,7 +3,7 @@
 ghost use Rattle.std.specs.Prelude.{◌≡◌, Some};
 
 use crate::tests::waves::{inverter, toggle};
-use crate::tests::{Case, bench_case, clocked, refuses, table, text_of};
+use crate::tests::{Case, MODES, bench_case, clocked, refuses, table, text_of};
 use crate::{Failed, Fault, FromBytes, Limited, Mode, Report, Sink, Source, simulate};
 use std::alloc::{AllocError, Global};
 use std::process::Abort;
@@ -52,6 +52,7 @@ fn dripping(rest: &[u8], left: u32) -> Drip<'_>
 fn run_drips<R: AllocGlobal + Threads + Wait + Sync>(
     rt: &R,
     case: Case<'_>,
+    mode: Mode,
     reads: [u32; 4],
     out: &mut Limited,
 ) -> Result<Result<Report, Fault>, AllocError>
@@ -65,7 +66,7 @@ fn run_drips<R: AllocGlobal + Threads + Wait + Sync>(
         &mut dripping(stimuli.as_bytes(), reads[2]),
         &mut dripping(b"net,first,period\n", reads[3]),
         case.settings,
-        Mode::Plain,
+        mode,
         out,
     ))
 }
@@ -76,6 +77,7 @@ const READS: [u32; 4] = [30, 15, 28, 18];
 // The input with this index fails at each of its reads in turn.
 fn fails_at_each_read<R: AllocGlobal + Abort + Threads + Wait + Sync>(
     rt: &R,
+    mode: Mode,
     index: usize,
 ) -> Result<(), Fail> {
     let case = inverter();
@@ -85,7 +87,7 @@ fn fails_at_each_read<R: AllocGlobal + Abort + Threads + Wait + Sync>(
             reads[index] = left;
         }
         let mut out = Limited::new(rt.alloc(), 1000);
-        match run_drips(rt, case, reads, &mut out)? {
+        match run_drips(rt, case, mode, reads, &mut out)? {
             Ok(report) => {
                 assert_eq!(rt; READS.get(index).copied(), Some(left));
                 assert_eq!(rt; report.written, 190);
@@ -103,8 +105,10 @@ fn fails_at_each_read<R: AllocGlobal + Abort + Threads + Wait + Sync>(
 
 #[test]
 fn each_read_fails(rt: HostRuntime) -> Result<(), Fail> {
-    for index in 0..4usize {
-        fails_at_each_read(&rt, index)?;
+    for mode in MODES {
+        for index in 0..4usize {
+            fails_at_each_read(&rt, mode, index)?;
+        }
     }
     Ok(())
 }
@@ -113,6 +117,7 @@ fn each_read_fails(rt: HostRuntime) -> Result<(), Fail> {
 fn run_limited<R: AllocGlobal + Threads + Wait + Sync>(
     rt: &R,
     case: Case<'_>,
+    mode: Mode,
     left: usize,
 ) -> Result<(Result<Report, Fault>, Limited), AllocError> {
     let stimuli = table(rt.alloc(), "tick,net,value", case.stimuli)?;
@@ -124,7 +129,7 @@ fn run_limited<R: AllocGlobal + Threads + Wait + Sync>(
         &mut FromBytes::new(stimuli.as_bytes()),
         &mut None::<FromBytes<'_>>,
         case.settings,
-        Mode::Plain,
+        mode,
         &mut out,
     );
     Ok((answer, out))
@@ -132,12 +137,31 @@ fn run_limited<R: AllocGlobal + Threads + Wait + Sync>(
 
 #[test]
 fn short_sink(rt: HostRuntime) -> Result<(), Fail> {
-    let (answer, out) = run_limited(&rt, inverter(), 17)?;
-    match answer {
-        Ok(_) => assert!(rt; false),
-        Err(fault) => assert_eq!(rt; (fault.number(), fault.place()), (62, 17)),
+    for mode in MODES {
+        let (answer, out) = run_limited(&rt, inverter(), mode, 17)?;
+        match answer {
+            Ok(_) => assert!(rt; false),
+            Err(fault) => assert_eq!(rt; (fault.number(), fault.place()), (62, 17)),
+        }
+        assert!(rt; out.bytes.as_slice() == b"$version cmbsim 1".as_slice());
     }
-    assert!(rt; out.bytes.as_slice() == b"$version cmbsim 1".as_slice());
+    Ok(())
+}
+
+// A sink that takes so many bytes of the text of `toggle` and then fails.
+fn write_fails_after<R: AllocGlobal + Abort + Threads + Wait + Sync>(
+    rt: &R,
+    mode: Mode,
+    text: &str,
+    left: usize,
+) -> Result<(), Fail> {
+    let (answer, out) = run_limited(rt, clocked(toggle(), 2, 4), mode, left)?;
+    match answer {
+        Ok(report) => assert_eq!(rt; (left, report.written), (209, 209)),
+        Err(fault) => assert_eq!(rt; (fault.number(), fault.place()), (62, left as u64)),
+    }
+    assert_eq!(rt; out.bytes.len(), left);
+    assert!(rt; text.as_bytes().starts_with(out.bytes.as_slice()));
     Ok(())
 }
 
@@ -146,14 +170,10 @@ fn each_write_fails(rt: HostRuntime) -> Result<(), Fail> {
     let body = "#0 0! x\" #1 1\" #3 1! #4 0\" #7 0! #8 1\" #11 1! #12";
     let text = text_of(rt.alloc(), "q d", body)?;
     assert_eq!(rt; text.len(), 209);
-    for left in 0..=209usize {
-        let (answer, out) = run_limited(&rt, clocked(toggle(), 2, 4), left)?;
-        match answer {
-            Ok(report) => assert_eq!(rt; (left, report.written), (209, 209)),
-            Err(fault) => assert_eq!(rt; (fault.number(), fault.place()), (62, left as u64)),
+    for mode in MODES {
+        for left in 0..=209usize {
+            write_fails_after(&rt, mode, text.as_str(), left)?;
         }
-        assert_eq!(rt; out.bytes.len(), left);
-        assert!(rt; text.as_bytes().starts_with(out.bytes.as_slice()));
     }
     Ok(())
 }
