@@ -60,7 +60,6 @@ Status 1: a fault, told by one line on standard error, `cmbsim: fault N at P`. B
     20 to 22            0: the horizon, --clock, or a flip-flop without a clock
     23 to 32, 34 to 37  the record of a table, the header being record 1
     33                  0: mode plain would need more than 16,777,216 places
-    53                  a net: a free run ended before that net was complete
     60, 61              1 the netlist, 2 delays, 3 stimuli, 4 clocks: too long, or not readable
     62                  the number of bytes after which the output failed
     70                  0: memory was wanting

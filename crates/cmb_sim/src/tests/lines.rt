@@ -98,6 +98,11 @@ fn modes_of_lines(rt: HostRuntime) -> Result<(), Fail> {
     Ok(())
 }
 
+fn message_of(alloc: Global, line: &str) -> Result<String, AllocError> {
+    let words = words(alloc, line)?;
+    line_message(alloc, words.as_slice())
+}
+
 #[test]
 fn messages(rt: HostRuntime) -> Result<(), Fail> {
     let alloc = rt.alloc();
@@ -112,8 +117,7 @@ fn messages(rt: HostRuntime) -> Result<(), Fail> {
         ),
         ("run --mode plain", "--horizon <N>"),
     ] {
-        let words = words(alloc, line)?;
-        let message = line_message(alloc, words.as_slice())?;
+        let message = message_of(alloc, line)?;
         assert!(rt; message.as_str().contains(part), "{message}");
     }
     Ok(())
@@ -123,8 +127,7 @@ fn messages(rt: HostRuntime) -> Result<(), Fail> {
 fn help_has_the_forms(rt: HostRuntime) -> Result<(), Fail> {
     let alloc = rt.alloc();
     for line in ["--help", "run --help", "help", "help run"] {
-        let words = words(alloc, line)?;
-        let message = line_message(alloc, words.as_slice())?;
+        let message = message_of(alloc, line)?;
         for part in [
             "\n    INPUT(a)\n    y = NAND(a, b)\n",
             "\n    by,name,delay\n    kind,NAND,3\n",
@@ -146,8 +149,7 @@ fn help_has_the_forms(rt: HostRuntime) -> Result<(), Fail> {
 #[test]
 fn help_has_each_option(rt: HostRuntime) -> Result<(), Fail> {
     let alloc = rt.alloc();
-    let words = words(alloc, "run --help")?;
-    let message = line_message(alloc, words.as_slice())?;
+    let message = message_of(alloc, "run --help")?;
     for option in [
         "--horizon <N>",
         "--clock <F:P>",
