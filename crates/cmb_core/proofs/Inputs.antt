@@ -5,10 +5,12 @@ use Rattle.cmb_wave.specs.declared.level.Promise.{Promise}
 use Rattle.cmb_wave.specs.Wave.{Wave, Piece, new_wave, wave_up_to}
 use Rattle.cmb_wave.specs.declared.wave.WaveFault.TheVariants.{Gap as WaveGap, Old as WaveOld, Clash as WaveClash, Memory as WaveMemory}
 use Rattle.cmb_wave.specs.Calls.{taken, heard_wave, hears, RefusesAs}
+use Rattle.cmb_core.specs.declared.process.Rule.{Rule}
+use Rattle.cmb_core.specs.declared.process.Rule.TheVariants.{Given, Input, Gate, Flop}
 use Rattle.cmb_core.specs.Step.{wave_at}
 use Rattle.cmb_core.specs.Rows.{slot_of, is_given}
 use Rattle.cmb_core.specs.World.{with_wave}
-use Rattle.cmb_core.specs.Clusters.{Cluster, process_at, slot_wave, given_only, driven_only, input_slot, output_slot, as_delivery, delivered_at, delivered, heard_at, RefusesDelivery}
+use Rattle.cmb_core.specs.Clusters.{Cluster, process_at, reach_at, slot_wave, given_only, driven_only, input_slot, output_slot, as_delivery, delivered_at, delivered, heard_at, RefusesDelivery}
 use Rattle.cmb_core.specs.Deliveries.{delivery_fault}
 use Rattle.cmb_core.proofs.Slots.{slot_is, slot_net, slot_there, set_slots, set_with}
 
@@ -101,3 +103,15 @@ output_there s net slot e = slot_there s.waves net slot (output_slot_is s net sl
 
 pub output_wave : (s : Cluster) (net slot : ℕ) → output_slot s net ≡ Some slot → slot_wave s slot ≡ wave_at s.waves net
 output_wave s net slot e = (slot_is s.waves net slot (new_wave 0) (output_slot_is s net slot e)).1
+
+-- a net that isn't driven here can't go on
+pub other_still : (s : Cluster) (net slot : ℕ) → slot_of s.waves net ≡ Some slot → output_slot s net ≡ None → reach_at s slot ≡ 0
+other_still s net slot e none = go (process_at s slot).rule refl
+  where
+    kept : cond (is_given (process_at s slot).rule) None (Some slot) ≡ None
+    kept = ap (driven_only s) (sym e) ∙ none
+    go : (rule : Rule) → (process_at s slot).rule ≡ rule → reach_at s slot ≡ 0
+    go Given is = rw is refl
+    go Input is = let no : Some slot ≡ None = rw is at kept in cc
+    go (Gate kind) is = let no : Some slot ≡ None = rw is at kept in cc
+    go (Flop first period init) is = let no : Some slot ≡ None = rw is at kept in cc

@@ -84,12 +84,15 @@ impl Cluster {
     }
 
     /// Lets a net of the cluster's own go on as far as its operands are known, and answers what is new
-    /// of it, None where nothing is. Of exact waves the new part is exact, and they stay so.
+    /// of it, None where nothing is. Of exact waves the new part is exact, and they stay so. Of a net
+    /// that isn't driven here nothing is new.
     pub fn step(&mut self, net: u32) -> Result<Option<Piece>, AllocError>
         ensures piece { (design : Design) (clustering : Clusters) (cluster : ℕ) → IsClusterOf design clustering cluster self.old → IsOwnNet design clustering cluster net → IfOk result (λ part. part ≡ step_answer design self.old.waves (wave_at self.old.waves net)) }
         ensures waves { (design : Design) (clustering : Clusters) (cluster : ℕ) → IsClusterOf design clustering cluster self.old → IsOwnNet design clustering cluster net → OnOk result (self.new.waves ≡ step_waves design self.old.waves (wave_at self.old.waves net)) }
         ensures exact { (design : Design) (clustering : Clusters) (cluster : ℕ) → IsExactCluster design clustering cluster self.old → IsExactCluster design clustering cluster self.new }
         ensures sent { (design : Design) (clustering : Clusters) (cluster : ℕ) → IsExactCluster design clustering cluster self.old → IsOwnNet design clustering cluster net → IfOk result (λ part. IfSome part (IsExactIn design)) }
+        ensures other { output_slot self.old net ≡ None → result ≡ Ok None }
+        ensures idle { output_slot self.old net ≡ None → self.new ≡ self.old }
         ensures unchanged { OnErr result (self.new ≡ self.old) }
         ensures same { IsSameButWaves self.old self.new }
     {
@@ -136,6 +139,8 @@ impl Cluster {
         ensures part { IfOk result (λ part. part ≡ new_part self.old slot) }
         ensures waves { OnOk result (self.new.waves ≡ new_waves_at self.old slot) }
         ensures before { (slot_wave self.old slot).clock < reach_at self.old slot → last_level (slot_wave self.old slot).kept (slot_wave self.old slot).changes ≡ level_before (level_at (slot_wave self.old slot).kept (slot_wave self.old slot).changes) (slot_wave self.old slot).clock }
+        ensures none { reach_at self.old slot ≤ (slot_wave self.old slot).clock → result ≡ Ok None }
+        ensures idle { reach_at self.old slot ≤ (slot_wave self.old slot).clock → self.new ≡ self.old }
         ensures unchanged { OnErr result (self.new ≡ self.old) }
         ensures same { IsSameButWaves self.old self.new }
     {

@@ -1,9 +1,10 @@
-use Rattle.std.proofs.Common.{◌≡◌, ◌<◌, length, List, Option, Some, IfSome, sym, ◌∙◌, ap, subst}
+use Rattle.std.proofs.Common.{◌≡◌, ◌<◌, length, List, Option, Some, IfSome, arith, sym, ◌∙◌, ap, subst}
 use Rattle.std.specs.List.{AllByRecursion}
 use Rattle.cmb_wave.specs.Wave.{Wave, Piece}
 use Rattle.cmb_design.specs.Exact.{IsExactIn, IsExactWaveIn}
 use Rattle.cmb_core.specs.Rows.{slot_of}
 use Rattle.cmb_core.specs.Clusters.{Drives, new_part}
+use Rattle.cmb_core.proofs.Inputs.{other_still}
 use Rattle.cmb_core.proofs.Slots.{slot_there}
 use Rattle.cmb_core.proofs.Driven.{step_part_is, step_waves_are}
 use Rattle.cmb_core.proofs.ExactFacts.{by_result, if_ok, none_some, kept_here, part_exact, moved_exact, still_exact}
@@ -47,3 +48,13 @@ returns-in-None-clause-piece c = λ design clustering cluster of own. absurd (no
 
 pub returns-in-None-clause-waves : goal.returns-in-None-clause-waves
 returns-in-None-clause-waves c = λ design clustering cluster of own. absurd (none_some _ (sym c.place.ensures.place ∙ c.in-None.is) (own_placed design clustering cluster c.args.self.now of c.args.net own))
+
+pub returns-in-Some-clause-other : goal.returns-in-Some-clause-other
+returns-in-Some-clause-other c = λ none.
+    let place : slot_of c.args.self.now.waves c.args.net ≡ Some c.in-Some.slot = sym c.place.ensures.place ∙ c.in-Some.is in
+    c.step_at.ensures.none (omega (arith, other_still c.args.self.now c.args.net c.in-Some.slot place none))
+
+pub returns-in-Some-clause-idle : goal.returns-in-Some-clause-idle
+returns-in-Some-clause-idle c = λ none.
+    let place : slot_of c.args.self.now.waves c.args.net ≡ Some c.in-Some.slot = sym c.place.ensures.place ∙ c.in-Some.is in
+    c.step_at.ensures.idle (omega (arith, other_still c.args.self.now c.args.net c.in-Some.slot place none))
