@@ -25,14 +25,15 @@ pub struct Event {
     pub level: Level,
 }
 
-// What is left of changes from a tick on. Where that is all or nothing, the list isn't searched.
+// What is left of changes from a tick on. Where that is nothing or all, the list isn't searched: a net
+// without news costs a look at its last change.
 fn rest_from(changes: &[Change], tick: u32) -> &[Change]
     requires { Rises 0 changes.now }
     ensures { result.now ≡ drop (below tick changes.now) changes.now }
 {
     match changes {
-        [first, ..] if first.tick >= tick => changes,
         [.., last] if last.tick < tick => &changes[changes.len()..],
+        [first, ..] if first.tick >= tick => changes,
         _ => left_from(Level::X, changes, tick).changes,
     }
 }

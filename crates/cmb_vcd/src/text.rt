@@ -17,6 +17,9 @@ use cmb_design::Design;
 use cmb_wave::{Level, Wave};
 use std::alloc::{AllocError, Global};
 
+// The bytes of a level, a code of three digits, and the line's end.
+const LONGEST_LINE: usize = 5;
+
 // The level of a wave at tick 0.
 fn first_level(wave: &Wave) -> Level
     requires { wave.now.base ≡ 0 }
@@ -78,6 +81,7 @@ fn push_counted(
     ensures { OnOk result (out.new.items ≡ out.old.items ++ span_lines (part_events parts.now) from to) }
 {
     let sorted = by_ticks(*out.allocator(), parts, from, to, count)?;
+    out.reserve(count as usize * LONGEST_LINE)?;
     push_by_ticks(out, codes, from, &sorted.ends, &sorted.marks)?;
     Ok(())
 }
