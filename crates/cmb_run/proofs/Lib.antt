@@ -1,1 +1,5 @@
 pub mod RunFacts
+pub mod RunClocks
+pub mod TellerFacts
+pub mod TextSizes
+pub mod TextRuns
