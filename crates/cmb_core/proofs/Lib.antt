@@ -11,6 +11,7 @@ pub mod Machine
 pub mod Progress
 pub mod Steps
 pub mod SweepFacts
+pub mod Sweeps
 pub mod TrimFacts
 pub mod Commute
 pub mod Driven

@@ -12,7 +12,7 @@ use Rattle.cmb_wave.specs.Wave.{Wave, new_wave, grown}
 use Rattle.cmb_wave.proofs.Lists.{rises_get, last_before, last_level_take}
 use Rattle.cmb_core.specs.declared.tip.Tip.{Tip}
 use Rattle.cmb_core.specs.Rows.{delayed}
-use Rattle.cmb_core.specs.Tips.{AreTips, IsTip, no_tip}
+use Rattle.cmb_core.specs.Tips.{AreSkips, AreTips, IsTip, no_tip}
 
 -- from its last change but one on a list tells what its last two changes do
 level_at_two : (low : ℕ) (kept : Level) (cs : List Change) (i t : ℕ) (d : Change) → Rises low cs → length cs ≡ suc (suc i) → (get_or cs i d).tick ≤ t → level_at kept cs t ≡ level_at (get_or cs i d).level (get_or cs (suc i) d ∷ []) t
@@ -133,3 +133,17 @@ tips_push ws ts w t a is = record {
         rw (get_or_append_left ws (w ∷ []) (new_wave 0) i here, get_or_append_left ts (t ∷ []) no_tip i (omega (arith, here, a.count))) (a.each i here)
   ];
 }
+
+-- ---- the places that are passed over
+
+pub skips_set : (horizon : ℕ) (ws : List Wave) (skips : List ℕ) (n : ℕ) (w : Wave) → AreSkips horizon ws skips → n < length ws → (get_or ws n (new_wave 0)).clock ≤ w.clock → AreSkips horizon (set ws n w) skips
+skips_set horizon ws skips n w a h on = λ i j k l. elim (cases_eq j n) [
+  | inl e ↦ rw (e, get_or-set_same ws n w (new_wave 0) h) (omega (arith, on, a i n (omega (arith, k, e)) (omega (arith, l, e))))
+  | inr ne ↦ rw (get_or-set_other ws n j w (new_wave 0) ne) (a i j k l)
+]
+
+pub skips_put : (horizon : ℕ) (ws : List Wave) (skips : List ℕ) (n next : ℕ) → AreSkips horizon ws skips → n < length skips → ((j : ℕ) → n < j → j < next → horizon ≤ (get_or ws j (new_wave 0)).clock) → AreSkips horizon ws (set skips n next)
+skips_put horizon ws skips n next a h known = λ i j k l. elim (cases_eq i n) [
+  | inl e ↦ known j (omega (arith, k, e)) (rw (e, get_or-set_same skips n next 0 h) at l)
+  | inr ne ↦ a i j k (rw (get_or-set_other skips n i next 0 ne) at l)
+]

@@ -19,3 +19,7 @@ no_tip = record { clock = 0; before = record { tick = 0; level = X }; newest = [
 pub record AreTips (waves : List Wave) (tips : List Tip) : Type 0 where
   pub count : length tips ≡ length waves
   pub each : (i : ℕ) → i < length waves → IsTip (slice_index_or tips i no_tip) (slice_index_or waves i (new_wave 0))
+
+-- between a place and the later one that is kept for it, each wave is known up to the end
+abbrev pub AreSkips : ℕ → List Wave → List ℕ → Type 0
+AreSkips end waves skips = (i j : ℕ) → i < j → j < slice_index_or skips i 0 → end ≤ (slice_index_or waves j (new_wave 0)).clock

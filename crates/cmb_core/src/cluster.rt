@@ -69,7 +69,7 @@ impl Cluster {
         let (driven, inputs) = sides_of(alloc, &nodes, &nets)?;
         let readers = readers_among(alloc, &nodes)?;
         let processes = Nodes::of(alloc, &nodes)?;
-        let waves = Waves::new(alloc, &nets)?;
+        let waves = Waves::new(alloc, &nets, design.horizon())?;
         Ok(Cluster {
             horizon: design.horizon(),
             processes,

@@ -1,6 +1,6 @@
 //! Stepping every net of a cluster, in place.
 
-ghost use Rattle.std.specs.Prelude.{◌≡◌, ◌<◌, ℕ, [], ◌||◌, nat_lt, length, take, IfOk, OnOk, OnErr};
+ghost use Rattle.std.specs.Prelude.{◌≡◌, ◌<◌, ◌≤◌, ℕ, [], ◌||◌, nat_lt, length, take, IfOk, OnOk, OnErr};
 ghost use Rattle.cmb_wave.specs.Waveform.{last_level, level_at, level_before};
 ghost use Rattle.cmb_design.specs.Design.{Design};
 ghost use Rattle.cmb_core.specs.Clustering.{Clustering as Clusters};
@@ -67,6 +67,17 @@ impl Cluster {
         })
     }
 
+    // A place behind this one, such that no step goes on at the places between the two.
+    fn next_short(&mut self, slot: usize) -> usize
+        requires { slot < length self.old.waves }
+        ensures later { slot < result }
+        ensures within { result ≤ length self.old.waves }
+        ensures idle { (j : ℕ) → slot < j → j < result → reach_at self.old j ≤ (slot_wave self.old j).clock }
+        ensures unchanged { self.new ≡ self.old }
+    {
+        self.waves.next_short(slot, self.horizon)
+    }
+
     /// Steps each net that is driven here once, in order, and says whether a clock rose. Where there
     /// is no memory the cluster stands as after the first few of these steps.
     pub fn step_all(&mut self) -> Result<bool, AllocError>
@@ -78,10 +89,12 @@ impl Cluster {
     {
         let mut room = self.empty_room();
         let mut rose = false;
-        for slot in 0..self.slots() {
+        let mut slot = 0;
+        while slot < self.slots() {
             let moved = self.advance(slot, room)?;
             rose = either(rose, moved.rose);
             room = moved.room;
+            slot = self.next_short(slot);
         }
         Ok(rose)
     }

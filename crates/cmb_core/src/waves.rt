@@ -1,10 +1,10 @@
 //! The waves of a cluster, with the end of each beside them.
 
-ghost use Rattle.std.specs.Prelude.{◌≡◌, ◌≤◌, ◌<◌, IfOk, IfErr, OnOk, OnErr, Ok, length, map, slice_index_or, slice_set};
+ghost use Rattle.std.specs.Prelude.{◌≡◌, ◌≤◌, ◌<◌, ℕ, List, IfOk, IfErr, OnOk, OnErr, Ok, length, map, slice_index_or, slice_set};
 ghost use Rattle.cmb_wave.specs.Waveform.{IsTrace, last_level, level_at, level_before};
-ghost use Rattle.cmb_wave.specs.Wave.{new_wave, grown};
+ghost use Rattle.cmb_wave.specs.Wave.{Wave as WaveOf, new_wave, grown};
 ghost use Rattle.cmb_wave.specs.Calls.{taken, hears, heard_wave, RefusesAs};
-ghost use Rattle.cmb_core.specs.Tips.{IsTip};
+ghost use Rattle.cmb_core.specs.Tips.{AreSkips, AreTips, IsTip};
 ghost use Rattle.cmb_core.specs.Trims.{trimmed_to};
 
 use crate::tip::Tip;
@@ -12,31 +12,50 @@ use cmb_wave::{Change, Heard, Level, Piece, Promise, Wave, WaveFault};
 use std::alloc::{AllocError, Global};
 use std::marker::Model;
 
+// The first place behind this one whose wave isn't known up to the horizon, or one behind all.
+fn first_short(tips: &[Tip], skips: &[usize], slot: usize, horizon: u32) -> usize
+    requires slot { slot < length tips.now }
+    requires count { length skips.now ≡ length tips.now }
+    ensures later { slot < result }
+    ensures within { result ≤ length tips.now }
+    ensures known { (waves : List WaveOf) → AreTips waves tips.now → AreSkips horizon waves skips.now → (j : ℕ) → slot < j → j < result → horizon ≤ (slice_index_or waves j (new_wave 0)).clock }
+{
+    let mut at = (slot + 1).max(skips[slot]);
+    while at < tips.len() && tips[at].clock >= horizon {
+        at = (at + 1).max(skips[at]);
+    }
+    at.min(tips.len())
+}
+
 /// Waves, each with its end in a list of its own, so that a step that finds nothing new reads that
-/// list alone.
+/// list alone. For each place a later one is kept, so that waves between the two, which are known up
+/// to the horizon, are passed over.
 #[derive(Debug, Drop)]
 pub struct Waves {
+    horizon: u32,
     waves: Vec<Wave>,
     tips: Vec<Tip>,
+    skips: Vec<usize>,
 }
 
 impl Model for Waves {
-    ghost use Rattle.std.specs.Prelude.{List};
+    ghost use Rattle.std.specs.Prelude.{List, length, ◌≡◌};
     ghost use Rattle.cmb_wave.specs.Wave.{Wave};
-    ghost use Rattle.cmb_core.specs.Tips.{AreTips};
+    ghost use Rattle.cmb_core.specs.Tips.{AreTips, AreSkips};
 
     ghost Value = { List Wave };
 
     ghost view = { λ w. w.waves.items };
 
-    ghost invariant = { λ w. AreTips w.waves.items w.tips.items };
+    ghost invariant = { λ w. record { tips : AreTips w.waves.items w.tips.items; count : length w.skips.items ≡ length w.waves.items; skips : AreSkips w.horizon w.waves.items w.skips.items } };
 }
 
 impl Waves {
-    /// New waves of these nets.
-    pub fn new(alloc: Global, nets: &[u32]) -> Result<Waves, AllocError>
+    /// New waves of these nets, which are known once they are known up to the horizon.
+    pub fn new(alloc: Global, nets: &[u32], horizon: u32) -> Result<Waves, AllocError>
         ensures { IfOk result (λ waves. waves ≡ map new_wave nets.now) }
     {
+        let skips = Vec::from_elem(alloc, 0usize, nets.len())?;
         let mut waves = Vec::with_capacity(alloc, nets.len())?;
         let mut tips = Vec::with_capacity(alloc, nets.len())?;
         for net in nets {
@@ -44,7 +63,28 @@ impl Waves {
             tips.push(Tip::of(&wave))?;
             waves.push(wave)?;
         }
-        Ok(Waves { waves, tips })
+        Ok(Waves {
+            horizon,
+            waves,
+            tips,
+            skips,
+        })
+    }
+
+    /// A place behind this one, such that all waves between the two are known up to the horizon.
+    pub fn next_short(&mut self, slot: usize, horizon: u32) -> usize
+        requires { slot < length self.old }
+        ensures later { slot < result }
+        ensures within { result ≤ length self.old }
+        ensures known { (j : ℕ) → slot < j → j < result → horizon ≤ (slice_index_or self.old j (new_wave 0)).clock }
+        ensures same { self.new ≡ self.old }
+    {
+        if horizon != self.horizon {
+            return slot + 1;
+        }
+        let next = first_short(&self.tips, &self.skips, slot, horizon);
+        self.skips[slot] = next;
+        next
     }
 
     /// How many waves there are.
