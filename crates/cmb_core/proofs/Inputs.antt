@@ -110,6 +110,7 @@ other_still s net slot e none = go (process_at s slot).rule refl
   where
     kept : cond (is_given (process_at s slot).rule) None (Some slot) ≡ None
     kept = ap (driven_only s) (sym e) ∙ none
+
     go : (rule : Rule) → (process_at s slot).rule ≡ rule → reach_at s slot ≡ 0
     go Given is = rw is refl
     go Input is = let no : Some slot ≡ None = rw is at kept in cc

@@ -58,11 +58,11 @@ invariant_of-result c =
     let nets : wave_nets c.in_ok-waves.waves ≡ c.in_ok-nets.nets.items = ap wave_nets waves ∙ new_nets c.in_ok-nets.nets.items in
     let count : length c.in_ok-nodes.nodes.items ≡ length c.in_ok-nets.nets.items = c.in_ok-nodes.ensures.count ∙ ap length c.deref-2.ensures.value in
     let same : c.in_ok-processes.processes ≡ c.in_ok-nodes.nodes.items = c.in_ok-processes.ensures ∙ c.deref-7.ensures.value in
-    let S : List Wave → Type 0 = λ ws. IsSound (record { horizon = c.horizon.result; processes = c.in_ok-nodes.nodes.items; waves = ws }) in
-    let start = rw (sym c.horizon.ensures.value) at c.in_ok-nodes.ensures.start in
-    let R : List Process → Type 0 = λ ps. IsSound (record { horizon = c.horizon.result; processes = ps; waves = c.in_ok-waves.waves }) in
+    let S : List Wave → Type 0 = λ ws. IsSound (record { horizon = c.horizon-2.result; processes = c.in_ok-nodes.nodes.items; waves = ws }) in
+    let start = rw (sym c.horizon-2.ensures.value) at c.in_ok-nodes.ensures.start in
+    let R : List Process → Type 0 = λ ps. IsSound (record { horizon = c.horizon-2.result; processes = ps; waves = c.in_ok-waves.waves }) in
     record {
-      sound = subst R (sym same) (subst S (sym waves) (opened_sound c.horizon.result c.deref-3.result.now c.in_ok-nets.nets.items c.in_ok-nodes.nodes.items at start count));
+      sound = subst R (sym same) (subst S (sym waves) (opened_sound c.horizon-2.result c.deref-3.result.now c.in_ok-nets.nets.items c.in_ok-nodes.nodes.items at start count));
       tables = record {
         places = λ net. c.in_ok-places.ensures.places net ∙ ap (λ ns. place_in ns net) (c.deref.ensures.value ∙ sym nets);
         driven = (rw (c.deref-4.ensures.value, c.deref-5.ensures.value, sym nets) at c.in_ok-driven.ensures.0) ∙ ap (λ ps. driven_among ps (wave_nets c.in_ok-waves.waves)) (sym same);
@@ -78,7 +78,7 @@ returns-clause-of c =
     let O : List Process → Type 0 = λ ps. AreProcessesOf c.args.design.now c.args.clustering.now c.args.cluster (held_nets c.args.design.now c.args.clustering.now c.args.cluster) ps in
     let P : List ℕ → Type 0 = λ nets. AreProcessesOf c.args.design.now c.args.clustering.now c.args.cluster nets c.in_ok-nodes.nodes.items in
     record {
-      horizon = c.horizon.ensures.value;
+      horizon = c.horizon-2.ensures.value;
       nets = ap wave_nets waves ∙ new_nets c.in_ok-nets.nets.items ∙ c.in_ok-nets.ensures;
       processes = subst O (sym same) (subst P (c.deref-2.ensures.value ∙ c.in_ok-nets.ensures) c.in_ok-nodes.ensures.processes);
     }

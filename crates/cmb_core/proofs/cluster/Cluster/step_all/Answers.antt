@@ -1,4 +1,4 @@
-use Rattle.std.proofs.Common.{◌≡◌, ◌<◌, ◌≤◌, ◌||◌, Bool, length, Result, Ok, Err, OnErr, arith, sym, ◌∙◌, ap, subst}
+use Rattle.std.proofs.Common.{◌<◌, ◌≤◌, ◌||◌, Bool, length, Result, Ok, Err, OnErr, arith, sym, ◌∙◌, ap, subst}
 use Rattle.cmb_core.specs.Clusters.{Cluster}
 use Rattle.cmb_core.specs.Opened.{held_nets}
 use Rattle.cmb_core.specs.Sweep.{some_rises, stepped_waves}
