@@ -56,6 +56,8 @@ struct Out<T: Terms> {
     next: usize,
     /// Whether pieces without a change go there too.
     takes_empty: bool,
+    /// Whether there may be something to put.
+    is_left: bool,
 }
 
 impl<T: Terms> Out<T> {
@@ -75,24 +77,26 @@ impl<T: Terms> Out<T> {
             outlets,
             next: 0,
             takes_empty,
+            is_left: false,
         })
     }
 
-    // Puts what is new of each net, and begins where it last stopped. False where the link was full.
-    fn put_all<R: Wait>(&mut self, rt: &R, part: &Part<T>) -> Result<bool, AllocError> {
+    // Puts what is new of each net, and begins where it last stopped. Where the link was full something is left.
+    fn put_all<R: Wait>(&mut self, rt: &R, part: &Part<T>) -> Result<(), AllocError> {
         for _ in 0..self.outlets.len() {
             if self.next >= self.outlets.len() {
                 self.next = 0;
             }
             let Some(outlet) = self.outlets.get_mut(self.next) else {
-                return Ok(true);
+                break;
             };
             if !outlet.put(rt, part, &mut self.end, self.takes_empty)? {
-                return Ok(false);
+                return Ok(());
             }
             self.next += 1;
         }
-        Ok(true)
+        self.is_left = false;
+        Ok(())
     }
 }
 
@@ -115,8 +119,6 @@ pub struct Worker<T: Terms> {
     own: Vec<Own<T>>,
     /// Whether a step may bring a net on.
     is_new: bool,
-    /// Whether there may be something to put.
-    is_left: bool,
     is_complete: bool,
 }
 
@@ -145,7 +147,6 @@ impl<T: Terms> Worker<T> {
             outs,
             own: Vec::new(alloc),
             is_new: true,
-            is_left: true,
             is_complete: false,
         })
     }
@@ -219,20 +220,18 @@ impl<T: Terms> Worker<T> {
     fn turn<R: Wait>(&mut self, rt: &R) -> Result<(), AllocError> {
         self.take_all(rt)?;
         self.look_all();
-        let is_idle = !self.is_new;
-        if self.is_new {
+        let stepped = self.is_new;
+        if stepped {
             self.step()?;
         }
-        if self.is_left {
-            self.put_all(rt)?;
-        }
-        if !is_idle {
+        self.put_all(rt)?;
+        if stepped {
             self.publish_all();
         }
-        if self.is_complete && !self.is_left {
+        if self.is_complete && !self.outs.iter().any(|out| out.is_left) {
             self.desk.finish();
         }
-        if is_idle {
+        if !stepped {
             thread::yield_now();
         }
         Ok(())
@@ -275,7 +274,9 @@ impl<T: Terms> Worker<T> {
     fn step(&mut self) -> Result<(), AllocError> {
         self.is_new = self.part.step()?;
         if self.is_new {
-            self.is_left = true;
+            for out in self.outs.iter_mut() {
+                out.is_left = true;
+            }
         }
         self.is_complete = self.part.complete();
         Ok(())
@@ -283,10 +284,9 @@ impl<T: Terms> Worker<T> {
 
     // Puts what is new into each link.
     fn put_all<R: Wait>(&mut self, rt: &R) -> Result<(), AllocError> {
-        self.is_left = false;
         for out in self.outs.iter_mut() {
-            if !out.put_all(rt, &self.part)? {
-                self.is_left = true;
+            if out.is_left {
+                out.put_all(rt, &self.part)?;
             }
         }
         Ok(())
