@@ -54,6 +54,7 @@ level_at_append low kept (c ∷ cs) ds t r = go (nat_le c.tick t) refl (level_at
     low_rest : (least more : ℕ) (xs : List Change) → least ≤ more → Rises more (xs ++ ds) → Rises least ds
     low_rest least more [] h q = rises_lower least more ds h q
     low_rest least more (x ∷ xs) h q = low_rest least (suc x.tick) xs (omega (arith, h, q.0)) q.1
+
     go : (b : Bool) → nat_le c.tick t ≡ b → level_at c.level (cs ++ ds) t ≡ level_at (level_at c.level cs t) ds t → cond b (level_at c.level (cs ++ ds) t) kept ≡ level_at (cond b (level_at c.level cs t) kept) ds t
     go true e rest = rest
     go false e rest =
