@@ -1,2 +1,3 @@
+pub mod FreeRuns
 pub mod RunFaults
 pub mod Runs

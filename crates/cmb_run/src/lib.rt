@@ -15,6 +15,7 @@ pub use cmb_vcd::{
     CollectFault, Collector, Failed, Limited, Room, Sink, ToWriter, VcdWriter, vcd_text,
     write_whole,
 };
+pub use free::run::run_free;
 pub use free::turnstile::{OpenGate, Turnstile};
 pub use rounds::run_rounds;
 pub use run_fault::RunFault;

@@ -1,0 +1,62 @@
+//! What the calling thread of a free run does while the workers run: it collects what they put.
+
+use crate::collected::Collected;
+use crate::free::crew::Lookout;
+use crate::terms::Terms;
+use std::alloc::AllocError;
+use std::sync::Wait;
+use std::thread;
+
+// How many pieces are taken from a link before the next one has its turn.
+const MOST: u32 = 64;
+
+// Takes what waits in a link, up to so many pieces, and says whether there was one.
+fn take_some<T: Terms, R: Wait>(
+    rt: &R,
+    lookout: &mut Lookout<T>,
+    link: usize,
+    collected: &mut Collected<T>,
+) -> Result<bool, AllocError> {
+    let mut found = false;
+    for _ in 0..MOST {
+        let Some(posted) = lookout.take(rt, link) else {
+            break;
+        };
+        collected.take(&posted)?;
+        found = true;
+    }
+    Ok(found)
+}
+
+/// Takes what waits in the links, up to so many pieces each, and says whether there was one.
+pub fn take_round<T: Terms, R: Wait>(
+    rt: &R,
+    lookout: &mut Lookout<T>,
+    collected: &mut Collected<T>,
+) -> Result<bool, AllocError> {
+    let mut found = false;
+    for link in 0..lookout.links() {
+        found |= take_some(rt, lookout, link, collected)?;
+    }
+    Ok(found)
+}
+
+/// Collects until all workers that were started have finished, and the links are empty.
+pub fn collect<T: Terms, R: Wait>(
+    rt: &R,
+    lookout: &mut Lookout<T>,
+    started: usize,
+    collected: &mut Collected<T>,
+) -> Result<(), AllocError> {
+    for _ in rt.forever() {
+        let over = lookout.finished() as usize >= started;
+        let found = take_round(rt, lookout, collected)?;
+        if !found {
+            if over {
+                return Ok(());
+            }
+            thread::yield_now();
+        }
+    }
+    unreachable!()
+}

@@ -1,0 +1,143 @@
+//! A free run.
+
+ghost use Rattle.std.specs.Prelude.{◌≡◌, length, IfOk, IfErr, IfSome, IfNone};
+ghost use Rattle.cmb_design.specs.Exact.{nets_of};
+ghost use Rattle.cmb_vcd.specs.Collector.{IsComplete, IsExactFor};
+ghost use Rattle.cmb_run.specs.FreeRuns.{IsLeastBehind, IsStopped, IsStoppedAt};
+
+use crate::collected::Collected;
+use crate::free::collect::collect;
+use crate::free::crew::Crew;
+use crate::free::turnstile::Turnstile;
+use crate::run_fault::RunFault;
+use crate::terms::Terms;
+use cmb_core::Clustering;
+use cmb_design::Design;
+use cmb_links::Workers;
+use cmb_vcd::Collector;
+use std::alloc::Global;
+use std::marker::Brand;
+use std::sync::Wait;
+use std::thread;
+use std::thread::Threads;
+
+// The least net that isn't known up to the horizon, and the tick up to which it is.
+fn least_behind(collector: &Collector) -> Option<(u32, u32)>
+    ensures some { IfSome result (λ least. IsLeastBehind collector.now least.0 least.1) }
+    ensures none { IfNone result (IsComplete collector.now) }
+{
+    let horizon = collector.horizon();
+    for wave in collector.waves() {
+        if wave.clock() < horizon {
+            return Some((wave.net(), wave.clock()));
+        }
+    }
+    None
+}
+
+// The collector of a run that ended.
+fn ended(collector: Collector) -> Result<Collector, RunFault>
+    ensures same { IfOk result (λ whole. whole ≡ collector) }
+    ensures complete { IfOk result (λ whole. IsComplete whole) }
+    ensures fault { IfErr result (IsStoppedAt collector) }
+{
+    match least_behind(&collector) {
+        None => Ok(collector),
+        Some((net, upto)) => Err(RunFault::Incomplete {
+            net,
+            upto,
+            collector,
+        }),
+    }
+}
+
+// Runs each worker in a thread of its own and collects in this one. Says whether memory or a thread was refused.
+fn run_crew<T: Terms + Send + Sync, G: Turnstile + Sync, R: Threads + Wait + Sync>(
+    rt: &R,
+    alloc: Global,
+    crew: Crew<T>,
+    mut collected: Collected<T>,
+    gate: &G,
+) -> (Collected<T>, bool) {
+    thread::scope(
+        thread::scope_env(),
+        rt,
+        move |scope| -> (Collected<T>, bool) {
+            let Crew {
+                workers,
+                mut lookout,
+            } = crew;
+            let Ok(mut threads) = Vec::with_capacity(alloc, workers.len()) else {
+                return (collected, true);
+            };
+            let mut refused = false;
+            for worker in workers {
+                let started = match scope.spawn(move || worker.run(rt, alloc, gate)) {
+                    Ok(thread) => threads.push(thread).is_ok(),
+                    Err(_unstarted) => false,
+                };
+                if !started {
+                    refused = true;
+                    lookout.raise();
+                }
+            }
+            if collect(rt, &mut lookout, threads.len(), &mut collected).is_err() {
+                refused = true;
+                lookout.raise();
+            }
+            for thread in threads {
+                refused |= thread.join(rt);
+            }
+            (collected, refused)
+        },
+    )
+}
+
+// The run of the design and the clustering that T names.
+fn run_named<T: Terms + Send + Sync, G: Turnstile + Sync, R: Threads + Wait + Sync>(
+    rt: &R,
+    alloc: Global,
+    design: &Design,
+    clustering: &Clustering,
+    workers: Workers,
+    gate: &G,
+) -> Result<Collector, RunFault>
+    requires design { design.now ≡ T.design }
+    requires clustering { clustering.now ≡ T.clustering }
+    requires nets { length clustering.now.assign ≡ nets_of design.now }
+    requires each { clustering.now.clusters ≡ workers }
+    ensures exact { IfOk result (λ collector. IsExactFor design.now collector) }
+    ensures complete { IfOk result (λ collector. IsComplete collector) }
+    ensures fault { IfErr result (IsStopped design.now) }
+{
+    let crew = Crew::<T>::open(alloc, design, clustering, workers)?;
+    let collected = Collected::open(alloc, design)?;
+    let (collected, refused) = run_crew(rt, alloc, crew, collected, gate);
+    if refused {
+        return Err(RunFault::Memory);
+    }
+    ended(collected.into_collector())
+}
+
+/// Simulates a design by workers that run freely, and collects the waves of all its nets, up to the
+/// horizon. Cluster c belongs to worker `c mod workers`. Each worker has a thread of its own, in which
+/// it takes turn after turn; the calling thread collects what they put. Before each of its turns a worker
+/// asks the turnstile, and where that refuses, the run is stopped. What comes out doesn't change with clustering,
+/// workers or turns. It may wait without end. Faults: 70 where memory or a worker's thread was
+/// refused, and 53 where the run was stopped before all was known.
+pub fn run_free<G: Turnstile + Sync, R: Threads + Wait + Sync>(
+    rt: &R,
+    alloc: Global,
+    design: &Design,
+    clustering: &Clustering,
+    workers: Workers,
+    gate: &G,
+) -> Result<Collector, RunFault>
+    requires { length clustering.now.assign ≡ nets_of design.now }
+    ensures exact { IfOk result (λ collector. IsExactFor design.now collector) }
+    ensures complete { IfOk result (λ collector. IsComplete collector) }
+    ensures fault { IfErr result (IsStopped design.now) }
+{
+    let merged = clustering.merged(alloc, workers.count())?;
+    run_named::<Brand, G, R>(rt, alloc, design, &merged, workers, gate)
+}
