@@ -1,3 +1,4 @@
 pub mod FreeRuns
 pub mod RunFaults
 pub mod Runs
+pub mod Tellers

@@ -47,6 +47,14 @@ impl<T: Terms> Collected<T> {
         }
     }
 
+    /// What is known so far.
+    pub fn collector(&self) -> &Collector
+        ensures collector { result.now ≡ self.now }
+        ensures exact { IsExactFor T.design result.now }
+    {
+        &self.collector
+    }
+
     /// The collector.
     pub fn into_collector(self) -> Collector
         ensures collector { result ≡ self }

@@ -3,4 +3,6 @@
 pub mod collect;
 pub mod crew;
 pub mod run;
+pub mod teller;
+pub mod text_run;
 pub mod turnstile;

@@ -35,8 +35,8 @@ fn least_behind(collector: &Collector) -> Option<(u32, u32)>
     None
 }
 
-// The collector of a run that ended.
-fn ended(collector: Collector) -> Result<Collector, RunFault>
+/// The collector of a run that ended.
+pub fn ended(collector: Collector) -> Result<Collector, RunFault>
     ensures same { IfOk result (λ whole. whole ≡ collector) }
     ensures complete { IfOk result (λ whole. IsComplete whole) }
     ensures fault { IfErr result (IsStoppedAt collector) }

@@ -1,0 +1,83 @@
+-- What a teller gave is a beginning of the design's text.
+use Rattle.std.proofs.Common.{◌≡◌, ◌⊎◌, inl, inr, ◌∙◌, ℕ, ◌+◌, ◌^◌, ◌<◌, ◌≤◌, List, [], ◌++◌, Option, None, Some, length, take, refl, ap, sym, subst, append_assoc, length-append, arith}
+use Rattle.std.specs.Io.KnownBytes.{Appends}
+use Rattle.std.proofs.KnownBytes.{Appends-trans}
+use Rattle.std.proofs.lemmas.Bool.{cases_lt}
+use Rattle.std.proofs.lemmas.List.{append-nil, take-append-le}
+use Rattle.std.proofs.Math.Seq.{take-append-add}
+use Rattle.cmb_design.specs.Design.{Design}
+use Rattle.cmb_design.specs.Lawful.{IsDesign}
+use Rattle.cmb_design.specs.Value.{value}
+use Rattle.cmb_vcd.specs.Collector.{Collector, IsExactFor, least}
+use Rattle.cmb_vcd.specs.Vcd.{part_text, vcd}
+use Rattle.cmb_vcd.specs.Writer.{done_text}
+use Rattle.cmb_vcd.proofs.CollectorFacts.{least_clock_bound}
+use Rattle.cmb_vcd.proofs.Texts.{part_text-grows}
+use Rattle.cmb_run.specs.Tellers.{HasBegun, IsCutOff, IsWithin, told}
+use Rattle.cmb_run.proofs.TextSizes.{part_text-fits}
+
+pub least-within : (design : Design) (collector : Collector) → IsExactFor design collector → least collector ≤ design.horizon
+least-within design collector exact = omega (arith, least_clock_bound collector.horizon collector.waves, exact.opened.horizon)
+
+told-fits : (design : Design) (done : Option ℕ) → IsDesign design → IsWithin design done → length (told design done) < 2 ^ 64
+told-fits design None lawful within = omega arith
+told-fits design (Some done) lawful within = part_text-fits design.netlist design.horizon (value design) done lawful.netlist lawful.horizon.1 within
+
+-- what a writer of the design adds to what it gave
+pub told-more : (design own : Design) (collector : Collector) (done now : Option ℕ) (part : List ℕ) → own ≡ design → done ≡ now → IsExactFor design collector
+    → (IsExactFor own collector → done_text own (value own) (Some (least collector)) ≡ done_text own (value own) done ++ part)
+    → told design (Some (least collector)) ≡ told design now ++ part
+told-more design own collector done now part o v exact more =
+    let P : Design → Type 0 = λ d. done_text d (value d) (Some (least collector)) ≡ done_text d (value d) done ++ part in
+    let Q : Option ℕ → Type 0 = λ k. told design (Some (least collector)) ≡ told design k ++ part in
+    subst Q v (subst P o (more (subst (λ (d : Design). IsExactFor d collector) (sym o) exact)))
+
+-- and how long it all is then
+pub told-more-fits : (design : Design) (collector : Collector) (now : Option ℕ) (part : List ℕ) → IsDesign design → IsExactFor design collector
+    → told design (Some (least collector)) ≡ told design now ++ part → length (told design now) + length part < 2 ^ 64
+told-more-fits design collector now part lawful exact more =
+    let fits = told-fits design (Some (least collector)) lawful (least-within design collector exact) in
+    let both : length (told design (Some (least collector))) ≡ length (told design now) + length part = ap length more ∙ length-append (told design now) part in
+    omega arith
+
+told-begins : (design : Design) (done : Option ℕ) → IsWithin design done → (rest : List ℕ) × (vcd design ≡ told design done ++ rest)
+unfolding vcd
+told-begins design None within = (vcd design, refl)
+told-begins design (Some done) within = by (cases_lt done design.horizon)
+  where
+    by : (done < design.horizon) ⊎ (design.horizon ≤ done) → (rest : List ℕ) × (vcd design ≡ told design (Some done) ++ rest)
+    by (inl below) = part_text-grows design.netlist design.horizon (value design) done design.horizon within below
+    by (inr ended) =
+        let same : done ≡ design.horizon = omega arith in
+        ([], rw same (sym (append-nil (part_text design.netlist design.horizon (value design) design.horizon))))
+
+pub told-whole : (design : Design) (done : ℕ) → done ≡ design.horizon → told design (Some done) ≡ vcd design
+unfolding vcd
+told-whole design done e = rw e refl
+
+take-past : (front part rest : List ℕ) (n : ℕ) → n ≤ length part → take (length front + n) (front ++ (part ++ rest)) ≡ front ++ take n part
+take-past front part rest n h = take-append-add front (part ++ rest) n ∙ ap (λ l. front ++ l) (take-append-le n part rest h)
+
+pub HasBegun-told : (design : Design) (done : Option ℕ) (old new : Option (List ℕ)) → IsWithin design done → Appends old new (told design done) → HasBegun design old new
+HasBegun-told design done old new within h =
+    let whole = told-begins design done within in
+    let text = told design done in
+    let all : vcd design ≡ text ++ ([] ++ whole.0) = whole.1 in
+    let same : take (length text + 0) (vcd design) ≡ text = ap (take (length text + 0)) all ∙ take-past text [] whole.0 0 (omega arith) ∙ append-nil text in
+    (length text + 0, subst (Appends old new) (sym same) h)
+
+-- a sink that took a part's front and failed
+pub IsCutOff-told : (design : Design) (done after : Option ℕ) (start old new : Option (List ℕ)) (before later given n : ℕ) (part : List ℕ)
+    → IsWithin design after → told design after ≡ told design done ++ part → given ≡ length (told design done) → n < length part
+    → Appends start old (told design done) → Appends old new (take n part) → later ≡ before + 1 → IsCutOff design start new before later (given + n)
+IsCutOff-told design done after start old new before later given n part within more count short a b failed =
+    let whole = told-begins design after within in
+    let text = told design done in
+    let all : vcd design ≡ text ++ (part ++ whole.0) = whole.1 ∙ ap (λ l. l ++ whole.0) more ∙ append_assoc text part whole.0 in
+    let same : take (given + n) (vcd design) ≡ text ++ take n part = ap (take (given + n)) all ∙ ap (λ k. take (k + n) (text ++ (part ++ whole.0))) count ∙ take-past text part whole.0 n (omega arith) in
+    let long : length (vcd design) ≡ length text + (length part + length whole.0) = ap length all ∙ length-append text (part ++ whole.0) ∙ ap (λ k. length text + k) (length-append part whole.0) in
+    record {
+      short = omega arith;
+      begun = subst (Appends start new) (sym same) (Appends-trans start old new text (take n part) a b);
+      failed = failed;
+    }
