@@ -135,7 +135,9 @@ impl Clustering {
 
     /// How many clusters there are.
     pub fn clusters(&self) -> u32
-        ensures { result ≡ self.now.clusters }
+        ensures count { result ≡ self.now.clusters }
+        ensures some { 1 ≤ self.now.clusters }
+        ensures few { self.now.clusters ≤ 64 }
     {
         self.clusters
     }

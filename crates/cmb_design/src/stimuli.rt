@@ -1,6 +1,6 @@
 //! The changes of input nets, from the rows of their stimuli.
 
-ghost use Rattle.std.specs.Prelude.{◌≡◌, ◌==◌, ◌+◌, ◌<◌, ◌≤◌, ◌⊎◌, ℕ, length, take, map, is_some, Some, IfOk, IfErr, OnOk, if◌then◌else◌};
+ghost use Rattle.std.specs.Prelude.{◌≡◌, ◌==◌, ◌+◌, ◌<◌, ◌≤◌, ◌⊎◌, ℕ, length, take, map, Some, IfOk, IfErr, OnOk, if◌then◌else◌};
 ghost use Rattle.std.specs.Ordering.{nat_cmp};
 ghost use Rattle.std.specs.BTreeMap.{get};
 ghost use Rattle.cmb_wave.specs.Waveform.{changes_between, same_level};
@@ -45,20 +45,20 @@ fn changes_told(alloc: Global, rows: &BTreeMap<u64, Level>) -> Result<Vec<Change
     Ok(list)
 }
 
-fn has_tick(levels: &BTreeMap<u64, Level>, tick: u64) -> bool
-    ensures { result ≡ is_some (get nat_cmp levels.now tick) }
-{
-    levels.contains_key(&tick)
-}
-
-fn add_level(levels: &mut BTreeMap<u64, Level>, tick: u64, level: Level) -> Result<(), DesignFault>
-    ensures ok { OnOk result ((t : ℕ) → get nat_cmp levels.new t ≡ (if t == tick then Some level else get nat_cmp levels.old t)) }
+// The level that stood at the tick before, if any.
+fn add_level(
+    levels: &mut BTreeMap<u64, Level>,
+    tick: u64,
+    level: Level,
+) -> Result<Option<Level>, DesignFault>
+    ensures old { IfOk result (λ old. old ≡ get nat_cmp levels.old tick) }
+    ensures new { OnOk result ((t : ℕ) → get nat_cmp levels.new t ≡ (if t == tick then Some level else get nat_cmp levels.old t)) }
     ensures err { IfErr result (λ e. e ≡ fault.Memory) }
 {
-    let Ok(_) = levels.insert(tick, level) else {
-        return Err(DesignFault::Memory);
-    };
-    Ok(())
+    match levels.insert(tick, level) {
+        Ok(old) => Ok(old),
+        Err(_) => Err(DesignFault::Memory),
+    }
 }
 
 fn take_stimulus(
@@ -79,13 +79,14 @@ fn take_stimulus(
     let Some(net) = netlist.number(row.net.as_bytes()) else {
         return Err(DesignFault::UnknownNet(number));
     };
-    if has_tick(&table[net], row.tick) {
+    let old = add_level(&mut table[net], row.tick, row.level)?;
+    if old.is_some() {
         return Err(DesignFault::RepeatedRow(number));
     }
     if !is_input_driver(netlist.driver(net)) {
         return Err(DesignFault::NotInput(number));
     }
-    add_level(&mut table[net], row.tick, row.level)
+    Ok(())
 }
 
 fn no_levels(alloc: Global, count: usize) -> Result<Vec<BTreeMap<u64, Level>>, AllocError>

@@ -1,8 +1,11 @@
 //! Free runs: workers that take turns of their own, and tell one another by links and a board.
 
-pub mod collect;
-pub mod crew;
+mod collect;
+mod crew;
+mod desk;
+mod ends;
 pub mod run;
-pub mod teller;
+mod teller;
 pub mod text_run;
 pub mod turnstile;
+mod worker;

@@ -1,9 +1,11 @@
 //! What a run's workers hold and hand on: all of it is exact in the run's design, by its type.
 
 ghost use Rattle.std.specs.Prelude.{◌≡◌, ◌<◌, ℕ, length, map, IfOk, IfSome, OnOk, Ok, Err};
+ghost use Rattle.cmb_wave.specs.Calls.{heard_wave, promised};
 ghost use Rattle.cmb_wave.specs.Wave.{Wave as WaveOf, cut_of, new_wave};
-ghost use Rattle.cmb_design.specs.Exact.{IsExactIn, nets_of};
-ghost use Rattle.cmb_core.specs.Clusters.{IsSameButWaves, delivered, inputs_of, is_complete, outputs_of};
+ghost use Rattle.cmb_wave.specs.declared.level.Heard.{Heard as Hearing};
+ghost use Rattle.cmb_design.specs.Exact.{IsExactIn, IsRightIn, nets_of};
+ghost use Rattle.cmb_core.specs.Clusters.{IsSameButWaves, delivered, heard_at, input_slot, inputs_of, is_complete, outputs_of};
 ghost use Rattle.cmb_core.specs.Opened.{IsClusterOf, held_nets, own_nets};
 ghost use Rattle.cmb_core.specs.Sweep.{some_rises};
 ghost use Rattle.cmb_core.specs.Step.{wave_at};
@@ -13,7 +15,7 @@ ghost use Rattle.cmb_core.specs.declared.delivery.DeliverFault.{DeliverFault as 
 use crate::terms::Terms;
 use cmb_core::{Cluster, Clustering, DeliverFault};
 use cmb_design::Design;
-use cmb_wave::Piece;
+use cmb_wave::{Heard, Piece, Promise};
 use std::alloc::{AllocError, Global};
 use std::marker::{Model, PhantomData};
 
@@ -53,6 +55,14 @@ impl<T: Terms> Posted<T> {
         ensures exact { IsExactIn T.design result.now }
     {
         &self.piece
+    }
+
+    /// The piece, given up.
+    pub fn into_piece(self) -> Piece
+        ensures piece { result ≡ self }
+        ensures exact { IsExactIn T.design result }
+    {
+        self.piece
     }
 }
 
@@ -135,6 +145,30 @@ impl<T: Terms> Part<T> {
         match self.cluster.deliver(posted.piece()) {
             Err(DeliverFault::Memory) => Err(AllocError),
             _ => Ok(()),
+        }
+    }
+
+    /// How far a net is known, and how many changes it has there. None where it isn't driven here.
+    pub fn promise(&self, net: u32) -> Option<Promise>
+        ensures promised { IfSome result (λ promise. promise ≡ promised (wave_at self.now.waves net)) }
+        ensures right { IfSome result (λ promise. IsRightIn T.design promise) }
+    {
+        match self.cluster.out_clock(net) {
+            Some(_) => Some(self.cluster.promise(net)),
+            None => None,
+        }
+    }
+
+    /// Tells a promise to the input wave of its net. What is no input here counts as known.
+    pub fn hear(&mut self, promise: Promise) -> Heard
+        requires { IsRightIn T.design promise }
+        ensures answer { (heard : Hearing) → heard_at self.old promise (input_slot self.old promise.net) ≡ Ok heard → result ≡ heard }
+        ensures waves { (heard : Hearing) → heard_at self.old promise (input_slot self.old promise.net) ≡ Ok heard → self.new.waves ≡ with_wave self.old.waves (heard_wave (wave_at self.old.waves promise.net) promise) }
+        ensures same { IsSameButWaves self.old self.new }
+    {
+        match self.cluster.hear(promise) {
+            Ok(heard) => heard,
+            Err(_) => Heard::Old,
         }
     }
 

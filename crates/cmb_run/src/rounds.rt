@@ -7,7 +7,7 @@ ghost use Rattle.cmb_vcd.specs.Collector.{IsComplete, IsExactFor};
 ghost use Rattle.cmb_run.specs.declared.run_fault.RunFault.TheVariants.{Memory};
 
 use crate::collected::Collected;
-use crate::hand::{Hand, Place};
+use crate::hand::Hand;
 use crate::part::Posted;
 use crate::run_fault::RunFault;
 use crate::terms::Terms;
@@ -21,27 +21,26 @@ use std::sync::Wait;
 use std::thread;
 use std::thread::Threads;
 
-// Where a piece of a net goes: the clusters that read the net.
+// Where a piece of a net goes: the workers that read the net.
 #[derive(Drop)]
 struct Routes {
-    readers: Vec<Vec<Place>>,
+    readers: Vec<Vec<usize>>,
 }
 
-// The workers' clusters. A worker without clusters has no part in the run.
+// A cluster for each worker.
 fn deal<T: Terms>(
     alloc: Global,
     design: &Design,
     clustering: &Clustering,
-    workers: Workers,
 ) -> Result<Vec<Hand<T>>, AllocError>
     requires design { design.now ≡ T.design }
     requires clustering { clustering.now ≡ T.clustering }
     requires nets { length clustering.now.assign ≡ nets_of design.now }
 {
-    let count = workers.count().min(clustering.clusters());
+    let count = clustering.clusters();
     let mut hands = Vec::with_capacity(alloc, count as usize)?;
     for worker in 0..count {
-        hands.push(Hand::open(alloc, design, clustering, workers, worker)?)?;
+        hands.push(Hand::open(alloc, design, clustering, worker)?)?;
     }
     Ok(hands)
 }
@@ -99,7 +98,7 @@ fn step<T: Terms + Send + Sync, R: Threads + Wait + Sync>(
 }
 
 // No readers for each of so many nets.
-fn no_readers(alloc: Global, nets: usize) -> Result<Vec<Vec<Place>>, AllocError> {
+fn no_readers(alloc: Global, nets: usize) -> Result<Vec<Vec<usize>>, AllocError> {
     let mut readers = Vec::with_capacity(alloc, nets)?;
     for _ in 0..nets {
         readers.push(Vec::new(alloc))?;
@@ -112,23 +111,23 @@ impl Routes {
     fn open<T: Terms>(alloc: Global, nets: usize, hands: &[Hand<T>]) -> Result<Routes, AllocError> {
         let mut readers = no_readers(alloc, nets)?;
         for (worker, hand) in hands.iter().enumerate() {
-            hand.add_readers(worker, &mut readers)?;
+            hand.add_reader(worker, &mut readers)?;
         }
         Ok(Routes { readers })
     }
 
-    // Gives a piece to each cluster that reads its net.
+    // Gives a piece to each worker that reads its net.
     fn deliver<T: Terms>(
         &self,
         hands: &mut [Hand<T>],
         posted: &Posted<T>,
     ) -> Result<(), AllocError> {
-        let Some(places) = self.readers.get(posted.piece().net() as usize) else {
+        let Some(workers) = self.readers.get(posted.piece().net() as usize) else {
             return Ok(());
         };
-        for place in places {
-            if let Some(hand) = hands.get_mut(place.worker) {
-                hand.deliver(place.index, posted)?;
+        for worker in workers {
+            if let Some(hand) = hands.get_mut(*worker) {
+                hand.deliver(posted)?;
             }
         }
         Ok(())
@@ -175,13 +174,12 @@ fn collect<T: Terms>(
     Ok(collected.into_collector())
 }
 
-// The run of the design and the clustering that T names.
+// The run of the design by one worker for each cluster of the clustering that T names.
 fn run_named<T: Terms + Send + Sync, R: Threads + Wait + Sync>(
     rt: &R,
     alloc: Global,
     design: &Design,
     clustering: &Clustering,
-    workers: Workers,
 ) -> Result<Collector, AllocError>
     requires design { design.now ≡ T.design }
     requires clustering { clustering.now ≡ T.clustering }
@@ -189,7 +187,7 @@ fn run_named<T: Terms + Send + Sync, R: Threads + Wait + Sync>(
     ensures exact { IfOk result (λ collector. IsExactFor design.now collector) }
     ensures complete { IfOk result (λ collector. IsComplete collector) }
 {
-    let mut hands = deal::<T>(alloc, design, clustering, workers)?;
+    let mut hands = deal::<T>(alloc, design, clustering)?;
     let routes = Routes::open(alloc, design.netlist().len(), &hands)?;
     for hand in hands.iter_mut() {
         hand.connect(&routes.readers)?;
@@ -207,12 +205,13 @@ fn run_named<T: Terms + Send + Sync, R: Threads + Wait + Sync>(
     unreachable!()
 }
 
-/// Simulates a design in rounds and collects the waves of all its nets, up to the horizon. In each
-/// round every net is stepped once, and then what is new of it is posted to the clusters that read
-/// it. Cluster c belongs to worker `c mod workers`; where more than one worker has a cluster, each
-/// steps its clusters in a thread of its own, which is joined before pieces are passed on. What
-/// comes out is the same for any clustering and any number of workers. The only refusal is 70,
-/// where memory or a worker's thread was refused.
+/// Simulates a design in rounds and collects the waves of all its nets, up to the horizon. The nets
+/// of cluster c belong to worker `c mod workers`, which treats all its nets as one cluster; a worker
+/// whose number isn't below that of the clusters has none, and no part in the run. In each round
+/// every net is stepped once, and then what is new of it is posted to the workers that read it.
+/// Where there are several, each steps its nets in a thread of its own, which is joined before
+/// pieces are passed on. What comes out is the same for any clustering and any number of workers.
+/// The only refusal is 70, where memory or a worker's thread was refused.
 pub fn run_rounds<R: Threads + Wait + Sync>(
     rt: &R,
     alloc: Global,
@@ -225,6 +224,8 @@ pub fn run_rounds<R: Threads + Wait + Sync>(
     ensures complete { IfOk result (λ collector. IsComplete collector) }
     ensures fault { IfErr result (λ fault. fault ≡ Memory) }
 {
-    let collector = run_named::<Brand, R>(rt, alloc, design, clustering, workers)?;
+    let count = workers.count().min(clustering.clusters());
+    let merged = clustering.merged(alloc, count)?;
+    let collector = run_named::<Brand, R>(rt, alloc, design, &merged)?;
     Ok(collector)
 }

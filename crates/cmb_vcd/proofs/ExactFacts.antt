@@ -1,15 +1,16 @@
 -- Exact collectors stay exact.
-use Rattle.std.proofs.Common.{◌≡◌, ◌≢◌, ℕ, zero, suc, ◌+◌, ◌<◌, ◌≤◌, Bool, true, false, ◌⊎◌, inl, inr, length, set, map, refl, ap, sym, ◌∙◌, subst, arith, Ok, Err, None, length-set, get_or-set_same, get_or-set_other}
+use Rattle.std.proofs.Common.{◌≡◌, ◌≢◌, ℕ, zero, suc, ◌+◌, ◌<◌, ◌≤◌, List, [], ◌∷◌, Bool, true, false, ◌⊎◌, inl, inr, length, set, map, refl, ap, sym, ◌∙◌, subst, arith, Ok, Err, None, length-set, get_or-set_same, get_or-set_other}
 use Rattle.std.specs.Prelude.{nat_le, nat_lt, Result}
 use Rattle.std.specs.List.{range_with_len}
 use Rattle.std.proofs.lemmas.Bool.{cases_eq}
 use Rattle.std.proofs.lemmas.Bool.Decides.{nat_tests}
 use Rattle.std.proofs.lemmas.List.FromFn.{length-map-range_with_len, get_or-map-range_with_len}
+use Rattle.cmb_wave.specs.declared.level.Change.{Change}
 use Rattle.cmb_wave.specs.declared.level.Level.{Level}
 use Rattle.cmb_wave.specs.declared.wave.WaveFault.{WaveFault}
 use Rattle.cmb_wave.specs.declared.wave.WaveFault.TheVariants as wave_fault
-use Rattle.cmb_wave.specs.Waveform.{at_or_after, clash, count_below, last_level}
-use Rattle.cmb_wave.specs.Wave.{Piece, Wave, IsExactPiece, IsExactWave, new_wave, wave_with_piece}
+use Rattle.cmb_wave.specs.Waveform.{at_or_after, changes_between, clash, count_below, last_level, level_before}
+use Rattle.cmb_wave.specs.Wave.{Piece, Wave, IsExactPiece, IsExactWave, cut_of, new_wave, wave_with_piece}
 use Rattle.cmb_wave.specs.Calls.{taken}
 use Rattle.cmb_wave.proofs.Spans.{clash-none}
 use Rattle.cmb_wave.proofs.Waveforms.{changes_between-same}
@@ -20,7 +21,7 @@ use Rattle.cmb_design.specs.Plain.{whole_wave, whole_waves}
 use Rattle.cmb_design.specs.Value.{value}
 use Rattle.cmb_vcd.specs.declared.fault.CollectFault.{CollectFault}
 use Rattle.cmb_vcd.specs.declared.fault.CollectFault.TheVariants.{Clash}
-use Rattle.cmb_vcd.specs.Collector.{Collector, IsCollected, IsComplete, IsExactFor, collected, least_clock, new_collector, new_waves, wave_of}
+use Rattle.cmb_vcd.specs.Collector.{Collector, IsCollected, IsComplete, IsExactFor, adopted, collected, least_clock, new_collector, new_waves, wave_of}
 use Rattle.cmb_vcd.specs.Faults.{collect_fault}
 use Rattle.cmb_vcd.proofs.CollectorFacts.{new_waves_collected}
 
@@ -129,6 +130,57 @@ module _ (design : Design) (collector : Collector) (piece : Piece) (exact : IsEx
       by (Err (wave_fault.Old clock)) f = let bad : ◌≡◌ {A = Result Collector CollectFault} (Err (collect_fault (wave_fault.Old clock))) (Err (Clash tick)) = rw (known, f) at e in cc
       by (Err wave_fault.Memory) f = let bad : ◌≡◌ {A = Result Collector CollectFault} (Err (collect_fault wave_fault.Memory)) (Err (Clash tick)) = rw (known, f) at e in cc
       by (Err (wave_fault.Clash other)) f = taken_clash (value design piece.net) design.horizon (wave_of collector.waves piece.net) piece (exact.exact piece.net p.net) p.exact other f
+
+-- ---- taking an exact wave over
+
+-- all changes stand at or after tick 0
+all_after : (cs : List Change) → at_or_after 0 cs ≡ cs
+all_after [] = refl
+all_after (c ∷ cs) =
+    let low : 0 ≤ c.tick = omega arith in
+    let e : nat_le 0 c.tick ≡ true = grind (arith, nat_tests) in
+    rw (e, all_after cs) refl
+
+-- exact waves of a net that are known as far are one
+same_wave : (level : ℕ → Level) (horizon : ℕ) (wave other : Wave) → IsExactWave level horizon wave → IsExactWave level horizon other → wave.net ≡ other.net → wave.base ≡ other.base → wave.clock ≡ other.clock → wave ≡ other
+same_wave level horizon wave other exact good net base clock =
+    let count : wave.count ≡ other.count = exact.count ∙ ap (count_below level) clock ∙ sym good.count in
+    let kept : wave.kept ≡ other.kept = exact.kept ∙ ap (level_before level) base ∙ sym good.kept in
+    let changes : wave.changes ≡ other.changes = exact.changes ∙ ap (λ from. changes_between level from wave.clock) base ∙ ap (changes_between level other.base) clock ∙ sym good.changes in
+    λ i. record { net = net i; base = base i; clock = clock i; count = count i; kept = kept i; changes = changes i }
+
+-- an exact wave that takes the whole of one that is known further is that one
+whole_taken : (level : ℕ → Level) (horizon : ℕ) (wave next : Wave) → IsExactWave level horizon wave → IsExactWave level horizon next → wave.clock < next.clock → wave.net ≡ next.net → wave.base ≡ 0 → next.base ≡ 0
+    → taken wave (cut_of next 0) ≡ Ok next
+whole_taken level horizon wave next exact good later net base start =
+    let piece : IsExactPiece level horizon (cut_of next 0) = record {
+      not_empty = omega arith;
+      within = good.within;
+      changes = all_after next.changes ∙ good.changes ∙ ap (λ from. changes_between level from next.clock) start;
+    } in
+    let low : 0 ≤ wave.clock = omega arith in
+    let high : wave.clock ≤ next.clock = omega arith in
+    let e : nat_lt wave.clock 0 ≡ false = grind (arith, nat_tests) in
+    let f : nat_le next.clock wave.clock ≡ false = grind (arith, nat_tests) in
+    let none = no_clash level horizon wave (cut_of next 0) exact piece low high in
+    let joined : wave_with_piece wave (cut_of next 0) ≡ next = same_wave level horizon _ next (with_piece-exact level horizon wave exact (cut_of next 0) piece low high) good net (base ∙ sym start) refl in
+    rw (e, f, none) (ap Ok joined)
+
+module _ (design : Design) (collector : Collector) (wave : Wave) (exact : IsExactFor design collector) (h : wave.net < length collector.waves) (start : wave.base ≡ 0) (good : IsExactWave (value design wave.net) design.horizon wave) where
+  pub adopted_exact : IsExactFor design (adopted collector wave)
+  adopted_exact = by (nat_lt (wave_of collector.waves wave.net).clock wave.clock) refl
+    where
+      by : (b : Bool) → nat_lt (wave_of collector.waves wave.net).clock wave.clock ≡ b → IsExactFor design (adopted collector wave)
+      by true e = rw e (set_exact design collector wave.net wave exact (omega (arith, exact.opened.nets)) good refl start)
+      by false e = rw e exact
+
+  pub adopted_taken : (wave_of collector.waves wave.net).clock < wave.clock → collected collector (cut_of wave 0) ≡ Ok (adopted collector wave)
+  adopted_taken later =
+      let e : nat_lt wave.net (length collector.waves) ≡ true = grind (arith, nat_tests) in
+      let f : nat_lt (wave_of collector.waves wave.net).clock wave.clock ≡ true = grind (arith, nat_tests) in
+      let n : wave.net < nets_of design = omega (arith, exact.opened.nets) in
+      let own = exact.collected wave.net h in
+      rw (e, f, whole_taken (value design wave.net) design.horizon (wave_of collector.waves wave.net) wave (exact.exact wave.net n) good later own.number own.base start) refl
 
 -- ---- whole waves
 

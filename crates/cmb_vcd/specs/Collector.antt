@@ -71,6 +71,14 @@ abbrev pub RefusesAs : CollectFault → Result Collector CollectFault → Type 0
 RefusesAs Memory result = IsOk result
 RefusesAs fault result = result ≡ Err fault
 
+-- ---- taking a wave over
+
+-- the collector after it took a wave over: it stands in the place of its net's, where it is known further
+abbrev pub adopted : Collector → Wave → Collector
+adopted collector wave =
+    if nat_lt (wave_of collector.waves wave.net).clock wave.clock then record collector { waves = slice_set collector.waves wave.net wave }
+    else collector
+
 -- ---- exactness
 
 -- the collector has a wave for each net of the design, and its horizon

@@ -2,7 +2,7 @@
 
 ghost use Rattle.std.specs.Prelude.{◌≡◌, ◌≤◌, ◌<◌, ◌↔◌, ℕ, length, slice_set, IsTrue, IfOk, IfErr, OnOk, OnErr, Ok};
 ghost use Rattle.cmb_wave.specs.Calls.{taken};
-ghost use Rattle.cmb_vcd.specs.Collector.{AreCollected, IsComplete, RefusesAs, collected, least, least_clock, new_collector, new_waves, wave_of};
+ghost use Rattle.cmb_vcd.specs.Collector.{AreCollected, IsComplete, RefusesAs, adopted, collected, least, least_clock, new_collector, new_waves, wave_of};
 
 use crate::fault::CollectFault;
 use cmb_design::Design;
@@ -88,6 +88,20 @@ impl Collector {
         }
         let clock = self.waves[net].take(piece)?;
         Ok(clock)
+    }
+
+    /// Takes a wave over in the place of its net's, where it is known further. Copies no change and takes no memory.
+    /// Both waves must tell the same as far as both are known; exact ones do.
+    pub fn adopt(&mut self, wave: Wave)
+        requires net { wave.net < length self.old.waves }
+        requires whole { wave.base ≡ 0 }
+        requires within { wave.clock ≤ self.old.horizon }
+        ensures { self.new ≡ adopted self.old wave }
+    {
+        let net = wave.net() as usize;
+        if self.waves[net].clock() < wave.clock() {
+            self.waves[net] = wave;
+        }
     }
 
     /// The waves of the nets, in the order of their numbers.

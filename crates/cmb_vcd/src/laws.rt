@@ -2,14 +2,14 @@
 
 ghost use Rattle.std.specs.Prelude.{◌≡◌, ◌≢◌, ℕ, ◌+◌, ◌<◌, ◌≤◌, List, ◌++◌, length, Ok, Err};
 ghost use Rattle.cmb_wave.specs.declared.level.Level.{Level};
-ghost use Rattle.cmb_wave.specs.Wave.{Piece};
+ghost use Rattle.cmb_wave.specs.Wave.{IsExactWave, Piece, Wave, cut_of};
 ghost use Rattle.cmb_bench.specs.Netlist.{Netlist};
 ghost use Rattle.cmb_design.specs.Design.{Design};
 ghost use Rattle.cmb_design.specs.Exact.{IsExactIn};
 ghost use Rattle.cmb_design.specs.Plain.{whole_waves};
 ghost use Rattle.cmb_design.specs.Value.{value};
 ghost use Rattle.cmb_vcd.specs.declared.fault.CollectFault.TheVariants.{Clash};
-ghost use Rattle.cmb_vcd.specs.Collector.{Collector, IsComplete, IsExactFor, collected, collected_level, least, new_collector};
+ghost use Rattle.cmb_vcd.specs.Collector.{Collector, IsComplete, IsExactFor, adopted, collected, collected_level, least, new_collector, wave_of};
 ghost use Rattle.cmb_vcd.specs.Vcd.{code, part_text, ticks_text};
 
 /// Codes of different nets differ.
@@ -25,11 +25,14 @@ pub fn text_grows()
     ensures still { (nets : ℕ) (levels : ℕ → ℕ → Level) (from more : ℕ) → 1 ≤ from → ((net tick : ℕ) → net < nets → from ≤ tick + 1 → tick + 1 < from + more → levels net tick ≡ levels net (tick + 1)) → ticks_text nets levels (from + more) ≡ ticks_text nets levels from }
 {}
 
-/// A new collector is exact, and stays so when it takes exact pieces; of these none is refused by 49.
+/// A new collector is exact, and stays so when it takes exact pieces, of which none is refused by 49, and when it takes exact waves over.
+/// One that is known further than its net's is to it as its changes from tick 0 on in one piece.
 /// The text of an exact collector is that of the design, as far as all its waves are known.
 pub fn exact_collectors_stay_exact()
     ensures opens { (design : Design) → IsExactFor design (new_collector design) }
     ensures takes { (design : Design) (collector next : Collector) (piece : Piece) → IsExactFor design collector → IsExactIn design piece → collected collector piece ≡ Ok next → IsExactFor design next }
+    ensures adopts { (design : Design) (collector : Collector) (wave : Wave) → IsExactFor design collector → wave.net < length collector.waves → wave.base ≡ 0 → IsExactWave (value design wave.net) design.horizon wave → IsExactFor design (adopted collector wave) }
+    ensures as_taken { (design : Design) (collector : Collector) (wave : Wave) → IsExactFor design collector → wave.net < length collector.waves → wave.base ≡ 0 → IsExactWave (value design wave.net) design.horizon wave → (wave_of collector.waves wave.net).clock < wave.clock → collected collector (cut_of wave 0) ≡ Ok (adopted collector wave) }
     ensures no_clash { (design : Design) (collector : Collector) (piece : Piece) (tick : ℕ) → IsExactFor design collector → IsExactIn design piece → collected collector piece ≢ Err (Clash tick) }
     ensures tells { (design : Design) (collector : Collector) (upto : ℕ) → IsExactFor design collector → upto ≤ least collector → part_text design.netlist design.horizon (collected_level collector.waves) upto ≡ part_text design.netlist design.horizon (value design) upto }
 {}

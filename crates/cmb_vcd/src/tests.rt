@@ -6,7 +6,7 @@ use crate::sink::{Limited, Room, Sink, ToWriter, write_whole};
 use crate::{CollectFault, Collector, VcdWriter, vcd_text};
 use cmb_bench::read_bench;
 use cmb_design::{Design, Settings, read_clocks, read_delays, read_stimuli};
-use cmb_wave::{Change, Level, Piece};
+use cmb_wave::{Change, Level, Piece, Wave};
 use std::alloc::Global;
 use std::process::Abort;
 use std::test::Fail;
@@ -123,6 +123,35 @@ fn collector(rt: HostRuntime) -> Result<(), Fail> {
     toggle_answers(&rt, rt.alloc(), &mut toggle)?;
     is_begun(&rt, &toggle);
     Ok(())
+}
+
+fn adopt(rt: &impl Abort, collector: &mut Collector, wave: Wave) {
+    assert!(rt; (wave.net() as usize) < collector.waves().len());
+    assert!(rt; wave.base() == 0);
+    assert!(rt; wave.clock() <= collector.horizon());
+    collector.adopt(wave);
+}
+
+// A wave that is known further takes the place of its net's, and one that isn't doesn't.
+fn adopts_the_later(rt: &impl Abort, alloc: Global, toggle: &mut Collector) -> Result<(), Fail> {
+    let mut later = Wave::new(alloc, D);
+    later.take(&Piece::new(D, 0, 4, vec![in alloc; at(1, Level::One)]?)?)?;
+    adopt(rt, toggle, later);
+    adopt(rt, toggle, Wave::new(alloc, D));
+    assert!(rt;
+        toggle
+            .waves()
+            .get(1)
+            .is_some_and(|wave| wave.promise().upto == 4)
+    );
+    let next = vec![in alloc; at(4, Level::Zero)]?;
+    answers(rt, toggle, D, 4, 5, next, Ok(5))
+}
+
+#[test]
+fn waves_are_adopted(rt: HostRuntime) -> Result<(), Fail> {
+    let mut toggle = opened(&rt, rt.alloc(), TOGGLE, 12)?;
+    adopts_the_later(&rt, rt.alloc(), &mut toggle)
 }
 
 #[test]

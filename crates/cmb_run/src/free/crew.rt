@@ -1,37 +1,187 @@
-//! Stub.
+//! The workers of a free run, and what the collecting thread has of it.
 
-ghost use Rattle.std.specs.Prelude.{◌≡◌, length};
+ghost use Rattle.std.specs.Prelude.{◌≡◌, ◌<◌, length};
+ghost use Rattle.std.specs.Arc.{arc_value};
 ghost use Rattle.cmb_design.specs.Exact.{nets_of};
 
-use crate::free::turnstile::Turnstile;
-use crate::part::Posted;
+use crate::free::desk::Desk;
+use crate::free::ends::{TakeEnd, open_link};
+use crate::free::worker::Worker;
+use crate::part::{Part, Posted};
 use crate::terms::Terms;
 use cmb_core::Clustering;
 use cmb_design::Design;
-use cmb_links::Workers;
+use cmb_links::{Board, Seat, Workers};
 use std::alloc::{AllocError, Global};
-use std::marker::PhantomData;
-use std::sync::Wait;
+use std::sync::{Arc, Wait};
 
-#[derive(Drop)]
-pub struct Worker<T: Terms> {
-    of: PhantomData<T>,
-}
-
+/// The last seat, and the taking end of each worker's link to the collector.
 #[derive(Drop)]
 pub struct Lookout<T: Terms> {
-    of: PhantomData<T>,
+    board: Arc<Board>,
+    seat: Seat,
+    ends: Vec<TakeEnd<T>>,
+    ghost same: { seat.board ≡ arc_value board },
 }
 
+impl<T: Terms> Lookout<T> {
+    // The lookout of a board.
+    fn new(board: Arc<Board>, seat: Seat, ends: Vec<TakeEnd<T>>) -> Lookout<T>
+        requires { seat.board ≡ arc_value board }
+    {
+        Lookout { board, seat, ends }
+    }
+
+    /// Raises the stop word.
+    pub fn raise(&mut self) {
+        self.board.raise(&mut self.seat);
+    }
+
+    /// How many workers have finished.
+    pub fn finished(&mut self) -> u32 {
+        self.board.finished(&mut self.seat)
+    }
+
+    /// How many links there are to take from, one for each worker.
+    pub fn links(&self) -> usize {
+        self.ends.len()
+    }
+
+    /// Takes the next piece from a link, none where it was empty.
+    pub fn take<R: Wait>(&mut self, rt: &R, link: usize) -> Option<Posted<T>> {
+        match self.ends.get_mut(link) {
+            Some(end) => end.take(rt),
+            None => None,
+        }
+    }
+}
+
+/// The workers of a free run, and what the collecting thread has of it.
 #[derive(Drop)]
 pub struct Crew<T: Terms> {
     pub workers: Vec<Worker<T>>,
     pub lookout: Lookout<T>,
 }
 
+// The worker at a desk, with the cluster of this number, and the end of its link that the collector has.
+fn open_worker<T: Terms>(
+    alloc: Global,
+    design: &Design,
+    clustering: &Clustering,
+    desk: Desk<T>,
+    number: u32,
+) -> Result<(Worker<T>, TakeEnd<T>), AllocError>
+    requires design { design.now ≡ T.design }
+    requires clustering { clustering.now ≡ T.clustering }
+    requires nets { length clustering.now.assign ≡ nets_of design.now }
+    requires number { number < clustering.now.clusters }
+{
+    let part = Part::open(alloc, design, clustering, number)?;
+    let (put, take) = open_link(alloc, design)?;
+    let worker = Worker::open(alloc, desk, part, put)?;
+    Ok((worker, take))
+}
+
+// No nets for each of so many workers.
+fn no_nets(alloc: Global, workers: usize) -> Result<Vec<Vec<u32>>, AllocError> {
+    let mut nets = Vec::with_capacity(alloc, workers)?;
+    for _ in 0..workers {
+        nets.push(Vec::new(alloc))?;
+    }
+    Ok(nets)
+}
+
+// The nets of a list that each worker drives.
+fn by_worker(
+    alloc: Global,
+    clustering: &Clustering,
+    workers: usize,
+    nets: &[u32],
+) -> Result<Vec<Vec<u32>>, AllocError> {
+    let mut theirs = no_nets(alloc, workers)?;
+    for net in nets {
+        if *net as usize >= clustering.nets() {
+            continue;
+        }
+        if let Some(list) = theirs.get_mut(clustering.of(*net) as usize) {
+            list.push(*net)?;
+        }
+    }
+    Ok(theirs)
+}
+
+// Links a worker to another one, which reads these nets.
+fn link_two<T: Terms>(
+    alloc: Global,
+    design: &Design,
+    workers: &mut [Worker<T>],
+    from: usize,
+    to: usize,
+    nets: &[u32],
+) -> Result<(), AllocError>
+    requires { design.now ≡ T.design }
+{
+    let (put, take) = open_link(alloc, design)?;
+    if let Some(worker) = workers.get_mut(from) {
+        worker.add_out(alloc, put, nets)?;
+    }
+    if let Some(worker) = workers.get_mut(to) {
+        worker.add_in(take)?;
+    }
+    Ok(())
+}
+
+// Links each worker that drives a net of another one to that.
+fn link_all<T: Terms>(
+    alloc: Global,
+    design: &Design,
+    clustering: &Clustering,
+    workers: &mut [Worker<T>],
+) -> Result<(), AllocError>
+    requires { design.now ≡ T.design }
+{
+    for to in 0..workers.len() {
+        let theirs = by_worker(alloc, clustering, workers.len(), workers[to].inputs())?;
+        for (from, nets) in theirs.iter().enumerate() {
+            if !nets.is_empty() {
+                link_two(alloc, design, workers, from, to, nets)?;
+            }
+        }
+    }
+    Ok(())
+}
+
+// Marks the nets of a list.
+fn mark(marks: &mut [bool], nets: &[u32]) {
+    for net in nets {
+        if let Some(mark) = marks.get_mut(*net as usize) {
+            *mark = true;
+        }
+    }
+}
+
+// Tells each worker which of its nets others read.
+fn note_readers<T: Terms>(
+    alloc: Global,
+    clustering: &Clustering,
+    workers: &mut [Worker<T>],
+) -> Result<(), AllocError>
+    requires { clustering.now ≡ T.clustering }
+{
+    let mut is_read = Vec::from_elem(alloc, false, clustering.nets())?;
+    for worker in workers.iter() {
+        mark(&mut is_read, worker.inputs());
+    }
+    for worker in workers.iter_mut() {
+        worker.note_read(clustering, &is_read)?;
+    }
+    Ok(())
+}
+
 impl<T: Terms> Crew<T> {
+    /// One cluster of T's clustering for each worker, newly opened, with its seat and its ends of links.
     pub fn open(
-        _alloc: Global,
+        alloc: Global,
         design: &Design,
         clustering: &Clustering,
         workers: Workers,
@@ -41,28 +191,23 @@ impl<T: Terms> Crew<T> {
         requires nets { length clustering.now.assign ≡ nets_of design.now }
         requires each { clustering.now.clusters ≡ workers }
     {
-        Err(AllocError)
-    }
-}
-
-impl<T: Terms> Worker<T> {
-    pub fn run<G: Turnstile, R: Wait>(self, _rt: &R, _alloc: Global, _gate: &G) -> bool {
-        false
-    }
-}
-
-impl<T: Terms> Lookout<T> {
-    pub fn raise(&mut self) {}
-
-    pub fn finished(&mut self) -> u32 {
-        0
-    }
-
-    pub fn links(&self) -> usize {
-        0
-    }
-
-    pub fn take<R: Wait>(&mut self, _rt: &R, _link: usize) -> Option<Posted<T>> {
-        None
+        let (board, mut seats) = Board::open(alloc, design, clustering, workers)?;
+        let board = Arc::new(alloc, board)?;
+        let mut crew = Vec::with_capacity(alloc, workers.count() as usize)?;
+        let mut ends = Vec::with_capacity(alloc, workers.count() as usize)?;
+        for number in 0..workers.count() {
+            let seat = seats.remove(0);
+            let desk = Desk::new(Arc::try_clone(&board)?, seat, design, workers, number);
+            let (worker, end) = open_worker(alloc, design, clustering, desk, number)?;
+            crew.push(worker)?;
+            ends.push(end)?;
+        }
+        link_all(alloc, design, clustering, &mut crew)?;
+        note_readers(alloc, clustering, &mut crew)?;
+        let lookout = Lookout::new(board, seats.remove(0), ends);
+        Ok(Crew {
+            workers: crew,
+            lookout,
+        })
     }
 }

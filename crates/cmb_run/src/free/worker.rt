@@ -1,0 +1,303 @@
+//! A worker of a free run: its cluster, its desk, and what links it to the others.
+
+ghost use Rattle.std.specs.Prelude.{◌≡◌};
+
+use crate::free::desk::{Desk, Own};
+use crate::free::ends::{PutEnd, TakeEnd};
+use crate::free::turnstile::Turnstile;
+use crate::part::Part;
+use crate::terms::Terms;
+use cmb_core::Clustering;
+use cmb_wave::Heard;
+use std::alloc::{AllocError, Global};
+use std::sync::Wait;
+use std::thread;
+
+/// How many pieces a worker takes from a link in one turn.
+const AT_ONCE: u32 = 64;
+
+/// A net that goes through a link, and the tick up to which it was put.
+#[derive(Clone, Copy, Debug)]
+struct Outlet {
+    net: u32,
+    sent: u32,
+}
+
+impl Outlet {
+    // Puts what is new of the net, less a piece without a change where those aren't taken. False where the link was full.
+    fn put<T: Terms, R: Wait>(
+        &mut self,
+        rt: &R,
+        part: &Part<T>,
+        end: &mut PutEnd<T>,
+        takes_empty: bool,
+    ) -> Result<bool, AllocError> {
+        let Some(posted) = part.post(self.net, self.sent)? else {
+            return Ok(true);
+        };
+        if !takes_empty && posted.piece().changes().is_empty() {
+            return Ok(true);
+        }
+        let to = posted.piece().to();
+        if end.put(rt, posted).is_err() {
+            return Ok(false);
+        }
+        self.sent = to;
+        Ok(true)
+    }
+}
+
+/// A link to the collector or to another worker, and the nets that go there.
+#[derive(Drop)]
+struct Out<T: Terms> {
+    end: PutEnd<T>,
+    outlets: Vec<Outlet>,
+    /// The place of the net that is put next.
+    next: usize,
+    /// Whether pieces without a change go there too.
+    takes_empty: bool,
+}
+
+impl<T: Terms> Out<T> {
+    // The link for these nets, of which nothing was put.
+    fn open(
+        alloc: Global,
+        end: PutEnd<T>,
+        nets: &[u32],
+        takes_empty: bool,
+    ) -> Result<Out<T>, AllocError> {
+        let mut outlets = Vec::with_capacity(alloc, nets.len())?;
+        for net in nets {
+            outlets.push(Outlet { net: *net, sent: 0 })?;
+        }
+        Ok(Out {
+            end,
+            outlets,
+            next: 0,
+            takes_empty,
+        })
+    }
+
+    // Puts what is new of each net, and begins where it last stopped. False where the link was full.
+    fn put_all<R: Wait>(&mut self, rt: &R, part: &Part<T>) -> Result<bool, AllocError> {
+        for _ in 0..self.outlets.len() {
+            if self.next >= self.outlets.len() {
+                self.next = 0;
+            }
+            let Some(outlet) = self.outlets.get_mut(self.next) else {
+                return Ok(true);
+            };
+            if !outlet.put(rt, part, &mut self.end, self.takes_empty)? {
+                return Ok(false);
+            }
+            self.next += 1;
+        }
+        Ok(true)
+    }
+}
+
+/// A net that another worker drives, and the tick up to which it is known here at least.
+#[derive(Clone, Copy, Debug)]
+struct Inlet {
+    net: u32,
+    known: u32,
+}
+
+/// A worker before and between its turns.
+#[derive(Drop)]
+pub struct Worker<T: Terms> {
+    desk: Desk<T>,
+    part: Part<T>,
+    inlets: Vec<Inlet>,
+    ins: Vec<TakeEnd<T>>,
+    outs: Vec<Out<T>>,
+    /// The nets that others read.
+    own: Vec<Own<T>>,
+    /// Whether a step may bring a net on.
+    is_new: bool,
+    /// Whether there may be something to put.
+    is_left: bool,
+    is_complete: bool,
+}
+
+impl<T: Terms> Worker<T> {
+    /// A worker with its cluster and its link to the collector, which isn't linked to others yet.
+    pub fn open(
+        alloc: Global,
+        desk: Desk<T>,
+        part: Part<T>,
+        collector: PutEnd<T>,
+    ) -> Result<Worker<T>, AllocError> {
+        let mut inlets = Vec::with_capacity(alloc, part.inputs().len())?;
+        for net in part.inputs() {
+            inlets.push(Inlet {
+                net: *net,
+                known: 0,
+            })?;
+        }
+        let mut outs = Vec::new(alloc);
+        outs.push(Out::open(alloc, collector, part.driven(), true)?)?;
+        Ok(Worker {
+            desk,
+            part,
+            inlets,
+            ins: Vec::new(alloc),
+            outs,
+            own: Vec::new(alloc),
+            is_new: true,
+            is_left: true,
+            is_complete: false,
+        })
+    }
+
+    /// The nets that the worker is given.
+    pub fn inputs(&self) -> &[u32] {
+        self.part.inputs()
+    }
+
+    /// Adds a link by which another worker is sent these nets.
+    pub fn add_out(
+        &mut self,
+        alloc: Global,
+        end: PutEnd<T>,
+        nets: &[u32],
+    ) -> Result<(), AllocError> {
+        self.outs.push(Out::open(alloc, end, nets, false)?)?;
+        Ok(())
+    }
+
+    /// Adds a link by which the worker is sent nets.
+    pub fn add_in(&mut self, end: TakeEnd<T>) -> Result<(), AllocError> {
+        self.ins.push(end)?;
+        Ok(())
+    }
+
+    /// Notes which of the worker's nets others read, by a table with a place for each net.
+    pub fn note_read(&mut self, clustering: &Clustering, is_read: &[bool]) -> Result<(), AllocError>
+        requires { clustering.now ≡ T.clustering }
+    {
+        for net in self.part.driven() {
+            if is_read.get(*net as usize) == Some(&true) {
+                if let Some(own) = Own::new(clustering, *net, self.desk.number()) {
+                    self.own.push(own)?;
+                }
+            }
+        }
+        Ok(())
+    }
+
+    /// Works until all workers have finished or the stop word is raised. Says whether memory was refused to it.
+    pub fn run<G: Turnstile, R: Wait>(mut self, rt: &R, alloc: Global, gate: &G) -> bool {
+        let is_refused = self.turns(rt, gate).is_err();
+        if is_refused {
+            self.desk.raise();
+        }
+        self.desk.finish();
+        is_refused
+    }
+
+    // One turn after the other, up to the end of the run.
+    fn turns<G: Turnstile, R: Wait>(&mut self, rt: &R, gate: &G) -> Result<(), AllocError> {
+        let mut turn = 0u32;
+        for _ in rt.forever() {
+            if !gate.pass(self.desk.number(), turn) {
+                self.desk.raise();
+            }
+            if self.desk.raised() {
+                return Ok(());
+            }
+            self.turn(rt)?;
+            if self.desk.all_finished() {
+                return Ok(());
+            }
+            turn = turn.saturating_add(1);
+        }
+        unreachable!()
+    }
+
+    // What a worker does in a turn.
+    fn turn<R: Wait>(&mut self, rt: &R) -> Result<(), AllocError> {
+        self.take_all(rt)?;
+        self.look_all();
+        let is_idle = !self.is_new;
+        if self.is_new {
+            self.step()?;
+        }
+        if self.is_left {
+            self.put_all(rt)?;
+        }
+        if !is_idle {
+            self.publish_all();
+        }
+        if self.is_complete && !self.is_left {
+            self.desk.finish();
+        }
+        if is_idle {
+            thread::yield_now();
+        }
+        Ok(())
+    }
+
+    // Takes what the links hold, and gives it to the cluster.
+    fn take_all<R: Wait>(&mut self, rt: &R) -> Result<(), AllocError> {
+        for end in self.ins.iter_mut() {
+            for _ in 0..AT_ONCE {
+                let Some(posted) = end.take(rt) else {
+                    break;
+                };
+                self.part.deliver(&posted)?;
+                self.is_new = true;
+            }
+        }
+        Ok(())
+    }
+
+    // Looks at each net that is read here, and hears what is new of it.
+    fn look_all(&mut self) {
+        for inlet in self.inlets.iter_mut() {
+            let Some(promise) = self.desk.look(inlet.net) else {
+                continue;
+            };
+            if promise.upto <= inlet.known {
+                continue;
+            }
+            let heard = self.part.hear(promise);
+            if heard != Heard::Ahead {
+                inlet.known = promise.upto;
+            }
+            if heard == Heard::Extended {
+                self.is_new = true;
+            }
+        }
+    }
+
+    // Steps the cluster. Where nothing goes on there, a further step is of no use before something is taken or heard.
+    fn step(&mut self) -> Result<(), AllocError> {
+        self.is_new = self.part.step()?;
+        if self.is_new {
+            self.is_left = true;
+        }
+        self.is_complete = self.part.complete();
+        Ok(())
+    }
+
+    // Puts what is new into each link.
+    fn put_all<R: Wait>(&mut self, rt: &R) -> Result<(), AllocError> {
+        self.is_left = false;
+        for out in self.outs.iter_mut() {
+            if !out.put_all(rt, &self.part)? {
+                self.is_left = true;
+            }
+        }
+        Ok(())
+    }
+
+    // Tells the board how far the nets that others read are known.
+    fn publish_all(&mut self) {
+        for own in self.own.iter_mut() {
+            if let Some(promise) = self.part.promise(own.net) {
+                self.desk.publish(own, promise);
+            }
+        }
+    }
+}
