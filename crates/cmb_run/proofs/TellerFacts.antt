@@ -13,7 +13,8 @@ use Rattle.cmb_vcd.specs.Vcd.{part_text, vcd}
 use Rattle.cmb_vcd.specs.Writer.{done_text}
 use Rattle.cmb_vcd.proofs.CollectorFacts.{least_clock_bound}
 use Rattle.cmb_vcd.proofs.Texts.{part_text-grows}
-use Rattle.cmb_run.specs.Tellers.{HasBegun, IsCutOff, IsWithin, told}
+use Rattle.cmb_run.specs.FreeRuns.{HasBegun, IsCutOff}
+use Rattle.cmb_run.specs.Tellers.{IsWithin, told}
 use Rattle.cmb_run.proofs.TextSizes.{part_text-fits}
 
 pub least-within : (design : Design) (collector : Collector) → IsExactFor design collector → least collector ≤ design.horizon

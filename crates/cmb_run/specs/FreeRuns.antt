@@ -1,7 +1,9 @@
--- Why a free run has no complete collector.
-use Rattle.std.specs.Prelude.{◌≡◌, ℕ, ◌<◌, length, ⊤}
+-- Why a free run has no complete collector, or wrote no whole text.
+use Rattle.std.specs.Prelude.{◌≡◌, ℕ, ◌+◌, ◌<◌, List, Option, length, take, ⊤}
+use Rattle.std.specs.Io.KnownBytes.{Appends}
 use Rattle.cmb_design.specs.Design.{Design}
 use Rattle.cmb_vcd.specs.Collector.{Collector, IsExactFor, wave_of}
+use Rattle.cmb_vcd.specs.Vcd.{vcd}
 use Rattle.cmb_run.specs.declared.run_fault.RunFault.{RunFault}
 use Rattle.cmb_run.specs.declared.run_fault.RunFault.TheVariants.{Incomplete, Write, Memory}
 
@@ -23,3 +25,19 @@ abbrev pub IsStopped : Design → RunFault → Type 0
 IsStopped design (Incomplete net upto collector) = IsExactFor design collector × IsLeastBehind collector net upto
 IsStopped design (Write written) = ⊥
 IsStopped design Memory = ⊤
+
+-- the sink took a beginning of the design's text
+abbrev pub HasBegun : Design → Option (List ℕ) → Option (List ℕ) → Type 0
+HasBegun design old new = (n : ℕ) × Appends old new (take n (vcd design))
+
+-- the sink failed after it took so many bytes of the design's text, which has more
+pub record IsCutOff (design : Design) (old new : Option (List ℕ)) (before after written : ℕ) : Type 0 where
+  pub short : written < length (vcd design)
+  pub begun : Appends old new (take written (vcd design))
+  pub failed : after ≡ before + 1
+
+-- why a text isn't written whole, and that a beginning of it is
+abbrev pub IsCutAt : Design → Option (List ℕ) → Option (List ℕ) → ℕ → ℕ → RunFault → Type 0
+IsCutAt design old new before after (Incomplete net upto collector) = HasBegun design old new × IsExactFor design collector × IsLeastBehind collector net upto
+IsCutAt design old new before after (Write written) = IsCutOff design old new before after written
+IsCutAt design old new before after Memory = HasBegun design old new

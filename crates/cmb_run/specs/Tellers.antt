@@ -1,15 +1,12 @@
--- The text of a run that is written while it is collected.
-use Rattle.std.specs.Prelude.{◌≡◌, ℕ, ◌+◌, ◌<◌, ◌≤◌, List, length, take, Option, None, Some, ⊤}
+-- The text of a run that is written while it is collected. No public contract cites these.
+use Rattle.std.specs.Prelude.{◌≡◌, ℕ, ◌≤◌, List, length, Option, None, Some, Result, Ok, Err, ⊤}
 use Rattle.std.specs.Io.KnownBytes.{Appends}
 use Rattle.cmb_design.specs.Design.{Design}
 use Rattle.cmb_design.specs.Lawful.{IsDesign}
 use Rattle.cmb_design.specs.Value.{value}
-use Rattle.cmb_vcd.specs.Collector.{IsExactFor}
-use Rattle.cmb_vcd.specs.Vcd.{vcd}
 use Rattle.cmb_vcd.specs.Writer.{Writer, done_text}
-use Rattle.cmb_run.specs.FreeRuns.{IsLeastBehind}
 use Rattle.cmb_run.specs.declared.run_fault.RunFault.{RunFault}
-use Rattle.cmb_run.specs.declared.run_fault.RunFault.TheVariants.{Incomplete, Write, Memory}
+use Rattle.cmb_run.specs.declared.run_fault.RunFault.TheVariants.{Write, Memory}
 
 -- the design's text up to a tick, nothing where no tick is given
 abbrev pub told : Design → Option ℕ → List ℕ
@@ -40,18 +37,7 @@ pub record IsGiven (design : Design) (old new : Option (List ℕ)) (upto given :
   pub count : given ≡ length (told design (Some done))
   pub text : Appends old new (told design (Some done))
 
--- the sink took a beginning of the design's text
-abbrev pub HasBegun : Design → Option (List ℕ) → Option (List ℕ) → Type 0
-HasBegun design old new = (n : ℕ) × Appends old new (take n (vcd design))
-
--- the sink failed after it took so many bytes of the design's text, which has more
-pub record IsCutOff (design : Design) (old new : Option (List ℕ)) (before after written : ℕ) : Type 0 where
-  pub short : written < length (vcd design)
-  pub begun : Appends old new (take written (vcd design))
-  pub failed : after ≡ before + 1
-
--- why a text isn't written whole, and that a beginning of it is
-abbrev pub IsCutAt : Design → Option (List ℕ) → Option (List ℕ) → ℕ → ℕ → RunFault → Type 0
-IsCutAt design old new before after (Incomplete net upto collector) = HasBegun design old new × IsExactFor design collector × IsLeastBehind collector net upto
-IsCutAt design old new before after (Write written) = IsCutOff design old new before after written
-IsCutAt design old new before after Memory = HasBegun design old new
+-- the fault of a run is that of its text; want of memory may come in the place of all but a failed write
+abbrev pub IsDecided : Result ℕ RunFault → RunFault → Type 0
+IsDecided given Memory = (written : ℕ) → given ≡ Err (Write written) → ⊥
+IsDecided given fault = given ≡ Err fault

@@ -3,6 +3,8 @@
 
 mod collected;
 mod free;
+#[cfg(test)]
+mod free_tests;
 mod hand;
 mod part;
 pub mod rounds;
@@ -16,6 +18,7 @@ pub use cmb_vcd::{
     write_whole,
 };
 pub use free::run::run_free;
+pub use free::text_run::run_free_text;
 pub use free::turnstile::{OpenGate, Turnstile};
 pub use rounds::run_rounds;
 pub use run_fault::RunFault;

@@ -8,12 +8,13 @@ use Rattle.cmb_design.specs.declared.fault.DesignFault.{DesignFault}
 use Rattle.cmb_design.specs.declared.fault.DesignFault.TheVariants as design_fault
 use Rattle.cmb_design.specs.Faults.{fault_number, fault_record}
 use Rattle.cmb_sim.specs.declared.fault.Fault.{Fault}
-use Rattle.cmb_sim.specs.declared.fault.Fault.TheVariants.{Bench, Design, Clusters, Workers, TooLong, Read, Write, Memory}
+use Rattle.cmb_sim.specs.declared.fault.Fault.TheVariants.{Bench, Design, Clusters, Incomplete, Workers, TooLong, Read, Write, Memory}
 
 abbrev pub number_of : Fault → ℕ
 number_of (Bench fault) = number_of_fault fault.kind
 number_of (Design fault) = fault_number fault
 number_of Clusters = 40
+number_of (Incomplete net upto) = 53
 number_of Workers = 54
 number_of (TooLong input) = 60
 number_of (Read input) = 61
@@ -24,6 +25,7 @@ abbrev pub place_of : Fault → ℕ
 place_of (Bench fault) = fault.line
 place_of (Design fault) = fault_record fault
 place_of Clusters = 0
+place_of (Incomplete net upto) = net
 place_of Workers = 0
 place_of (TooLong input) = input
 place_of (Read input) = input

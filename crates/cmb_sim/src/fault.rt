@@ -20,6 +20,9 @@ pub enum Fault {
     /// 40: the number of clusters isn't from 1 to 64.
     #[error("the number of clusters isn't from 1 to 64")]
     Clusters,
+    /// 53: the run was stopped, and this net is known only below a tick.
+    #[error("net {net} is known only below {upto}")]
+    Incomplete { net: u32, upto: u32 },
     /// 54: the number of workers isn't from 1 to 64.
     #[error("the number of workers isn't from 1 to 64")]
     Workers,
@@ -60,7 +63,7 @@ impl From<DesignFault> for Fault {
 }
 
 impl Fault {
-    /// The fault's number: 1 to 8, 20 to 37, 40, 54, 60 to 62, and 70 for want of memory.
+    /// The fault's number: 1 to 8, 20 to 37, 40, 53, 54, 60 to 62, and 70 for want of memory.
     pub fn number(&self) -> u32
         ensures { result ≡ number_of self.now }
     {
@@ -68,6 +71,7 @@ impl Fault {
             Fault::Bench(fault) => fault.number(),
             Fault::Design(fault) => fault.number(),
             Fault::Clusters => 40,
+            Fault::Incomplete { .. } => 53,
             Fault::Workers => 54,
             Fault::TooLong { .. } => 60,
             Fault::Read { .. } => 61,
@@ -77,7 +81,7 @@ impl Fault {
     }
 
     /// Where the fault stands: the line of a netlist or the record of a table, both counted from 1,
-    /// the number of an input, or how many bytes were written; else 0.
+    /// the number of a net or of an input, or how many bytes were written; else 0.
     pub fn place(&self) -> u64
         ensures { result ≡ place_of self.now }
     {
@@ -85,6 +89,7 @@ impl Fault {
             Fault::Bench(fault) => u64::from(fault.line),
             Fault::Design(fault) => u64::from(fault.record()),
             Fault::Clusters | Fault::Workers => 0,
+            Fault::Incomplete { net, .. } => u64::from(*net),
             Fault::TooLong { input } => u64::from(*input),
             Fault::Read { input } => u64::from(*input),
             Fault::Write { written } => *written,

@@ -51,7 +51,7 @@ const MOST_TICKS: u32 = 1_000_000;
 
 const LEVELS: [&str; 3] = ["0", "1", "x"];
 
-const MODES: [&str; 2] = ["plain", "rounds"];
+const MODES: [&str; 3] = ["plain", "rounds", "free"];
 
 const MOST_PARTS: u32 = 64;
 
@@ -72,13 +72,13 @@ const STIMULI: &str = "A table tick,net,value: the levels of the inputs";
 
 const CLOCKS: &str = "A table net,first,period: clocks of single flip-flops";
 
-const WORKERS: &str = "How many threads share the work in mode rounds, 1 to 64 [default: 1]";
+const WORKERS: &str = "How many threads share the work in modes rounds and free, 1 to 64 [default: 1]";
 
 const PARTS: &str =
-    "How many clusters the nets are spread over in mode rounds, 1 to 64 [default: 1]";
+    "How many clusters the nets are spread over in modes rounds and free, 1 to 64 [default: 1]";
 
 const MODE: &str =
-    "plain fills a table with a place for each net and tick; rounds [default] goes by changes";
+    "plain fills a table with a place for each net and tick; rounds [default] goes by changes; free goes by changes too, with workers that don't wait for one another";
 
 const EXAMPLE: &str =
     "Times are whole ticks; the text has one tick as 1 ns. An input has at most 16,777,216 bytes.
@@ -183,6 +183,7 @@ fn mode_of(matches: &ArgMatches<'_>) -> Result<Mode, LineFault>
     let clusters = parts_of(matches, "clusters")?;
     match matches.get_str("mode") {
         Some("plain") => Ok(Mode::Plain),
+        Some("free") => Ok(Mode::Free { workers, clusters }),
         _ => Ok(Mode::Rounds { workers, clusters }),
     }
 }

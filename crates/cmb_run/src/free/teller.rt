@@ -3,7 +3,8 @@
 ghost use Rattle.std.specs.Prelude.{◌≡◌, ◌-◌, ◌^◌, ◌<◌, List, ℕ, None, Option, length, IfOk, IfErr, OnOk};
 ghost use Rattle.std.specs.Io.KnownBytes.{Appends};
 ghost use Rattle.cmb_vcd.specs.Collector.{least};
-ghost use Rattle.cmb_run.specs.Tellers.{IsCutAt, IsToldTo, told};
+ghost use Rattle.cmb_run.specs.FreeRuns.{IsCutAt};
+ghost use Rattle.cmb_run.specs.Tellers.{IsToldTo, told};
 
 use crate::collected::Collected;
 use crate::run_fault::RunFault;

@@ -1,11 +1,12 @@
 //! A free run whose text is written while it runs.
 
-ghost use Rattle.std.specs.Prelude.{◌≡◌, ◌-◌, ◌^◌, ◌<◌, None, length, IfOk, IfErr};
+ghost use Rattle.std.specs.Prelude.{◌≡◌, ◌-◌, ◌^◌, ◌<◌, None, Ok, length, IfOk, IfErr};
 ghost use Rattle.std.specs.Io.KnownBytes.{Appends};
 ghost use Rattle.cmb_design.specs.Exact.{nets_of};
 ghost use Rattle.cmb_vcd.specs.Collector.{least};
 ghost use Rattle.cmb_vcd.specs.Vcd.{vcd};
-ghost use Rattle.cmb_run.specs.Tellers.{IsCutAt, IsGiven};
+ghost use Rattle.cmb_run.specs.FreeRuns.{IsCutAt};
+ghost use Rattle.cmb_run.specs.Tellers.{IsDecided, IsGiven};
 
 use crate::collected::Collected;
 use crate::free::collect::take_round;
@@ -62,4 +63,109 @@ fn tell_all<T: Terms, S: Sink, R: Wait>(
         }
     }
     unreachable!()
+}
+
+// Why a text isn't whole: a failed write comes before all else, and want of memory before the rest.
+fn decided(given: Result<u64, RunFault>, refused: bool) -> Result<u64, RunFault>
+    ensures ok { IfOk result (λ now. given ≡ Ok now) }
+    ensures fault { IfErr result (IsDecided given) }
+{
+    match given {
+        Err(RunFault::Write { written }) => Err(RunFault::Write { written }),
+        _ if refused => Err(RunFault::Memory),
+        given => given,
+    }
+}
+
+// Does nothing. This use of a reference that came back ties it to the parameter that lent it.
+fn take_back<T>(back: &mut T)
+    ensures { back.new ≡ back.old }
+{}
+
+// The run of the design and the clustering that T names.
+fn run_named<T: Terms + Send + Sync, G: Turnstile + Sync, S: Sink, R: Threads + Wait + Sync>(
+    rt: &R,
+    alloc: Global,
+    design: &Design,
+    clustering: &Clustering,
+    workers: Workers,
+    gate: &G,
+    sink: &mut S,
+) -> Result<u64, RunFault>
+    requires room { S.failures sink.old < 2 ^ 64 - 1 }
+    requires design { design.now ≡ T.design }
+    requires clustering { clustering.now ≡ T.clustering }
+    requires nets { length clustering.now.assign ≡ nets_of design.now }
+    requires each { clustering.now.clusters ≡ workers }
+    ensures whole { IfOk result (λ given. (given ≡ length (vcd design.now)) × Appends (S.taken sink.old) (S.taken sink.new) (vcd design.now)) }
+    ensures fault { IfErr result (IsCutAt design.now (S.taken sink.old) (S.taken sink.new) (S.failures sink.old) (S.failures sink.new)) }
+{
+    let crew = Crew::<T>::open(alloc, design, clustering, workers)?;
+    let mut collected = Collected::<T>::open(alloc, design)?;
+    let teller = Teller::<T>::open(alloc, design)?;
+    let (back, collected, given) = thread::scope(
+        thread::scope_env(),
+        rt,
+        move |scope| -> (&mut S, Collected<T>, Result<u64, RunFault>)
+            requires room { S.failures sink.now < 2 ^ 64 - 1 }
+            requires begin { teller ≡ None }
+            ensures name { result.0.ghost_name ≡ sink.entry.ghost_name }
+            ensures given { IfOk result.2 (λ given. IsGiven T.design (S.taken sink.entry.now) (S.taken result.0.now) (least result.1) given) }
+            ensures fault { IfErr result.2 (IsCutAt T.design (S.taken sink.entry.now) (S.taken result.0.now) (S.failures sink.entry.now) (S.failures result.0.now)) }
+        {
+            let Crew {
+                workers,
+                mut lookout,
+            } = crew;
+            let Ok(mut threads) = Vec::with_capacity(alloc, workers.len()) else {
+                return (sink, collected, Err(RunFault::Memory));
+            };
+            let mut refused = false;
+            for worker in workers {
+                let started = match scope.spawn(move || worker.run(rt, alloc, gate)) {
+                    Ok(thread) => threads.push(thread).is_ok(),
+                    Err(_unstarted) => false,
+                };
+                if !started {
+                    refused = true;
+                    lookout.raise();
+                }
+            }
+            let started = threads.len();
+            let given = tell_all(rt, &mut lookout, started, &mut collected, teller, sink);
+            if given.is_err() {
+                lookout.raise();
+            }
+            for thread in threads {
+                refused |= thread.join(rt);
+            }
+            (sink, collected, decided(given, refused))
+        },
+    );
+    take_back(back);
+    let given = given?;
+    ended(collected.into_collector())?;
+    Ok(given)
+}
+
+/// Simulates a design as `run_free` does, and writes its text while the workers run. Gives the text's
+/// length. Whatever the fault, the sink took a beginning of the text. A failed write stops the
+/// run; that is 62 then, whatever else happened. Else 70 comes where memory or a worker's thread was refused,
+/// and 53 where the run was stopped before all was known.
+pub fn run_free_text<G: Turnstile + Sync, S: Sink, R: Threads + Wait + Sync>(
+    rt: &R,
+    alloc: Global,
+    design: &Design,
+    clustering: &Clustering,
+    workers: Workers,
+    gate: &G,
+    sink: &mut S,
+) -> Result<u64, RunFault>
+    requires room { S.failures sink.old < 2 ^ 64 - 1 }
+    requires nets { length clustering.now.assign ≡ nets_of design.now }
+    ensures whole { IfOk result (λ given. (given ≡ length (vcd design.now)) × Appends (S.taken sink.old) (S.taken sink.new) (vcd design.now)) }
+    ensures fault { IfErr result (IsCutAt design.now (S.taken sink.old) (S.taken sink.new) (S.failures sink.old) (S.failures sink.new)) }
+{
+    let merged = clustering.merged(alloc, workers.count())?;
+    run_named::<Brand, G, S, R>(rt, alloc, design, &merged, workers, gate, sink)
 }
