@@ -15,6 +15,3 @@ pub use fault::{BenchFault, FaultKind};
 pub use kinds::cell_named;
 pub use netlist::{Cell, Driver, Kind, Name, Netlist, Operands};
 pub use reader::read_bench;
-
-#[cfg(test)]
-mod tests;

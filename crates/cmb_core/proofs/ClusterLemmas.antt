@@ -89,3 +89,21 @@ sound_still horizon processes old new g s = record {
   whole = λ i h driven. g.bases i ∙ s.whole i h driven;
   ready = λ i h. ready_still horizon old new _ _ _ _ _ g (g.clock i) (s.ready i h);
 }
+
+-- and where one of them is put in its place anew
+pub record IsKept (horizon : ℕ) (processes : List Process) (tables : Tables) (old new : List Wave) : Type 0 where
+  pub sound : IsSound (record { horizon = horizon; processes = processes; waves = new })
+  pub listed : AreTables processes (wave_nets new) tables
+  pub nets : wave_nets new ≡ wave_nets old
+
+pub kept_by_set : (horizon : ℕ) (processes : List Process) (tables : Tables) (old new : List Wave) (n : ℕ) (w : Wave) → new ≡ set old n w → n < length old
+    → w.net ≡ (get_or old n (new_wave 0)).net → w.base ≡ (get_or old n (new_wave 0)).base → (get_or old n (new_wave 0)).clock ≤ w.clock
+    → IsSound (record { horizon = horizon; processes = processes; waves = old }) → AreTables processes (wave_nets old) tables → IsKept horizon processes tables old new
+kept_by_set horizon processes tables old new n w e h net base later sound listed =
+    let P : List Wave → Type 0 = λ ws. IsKept horizon processes tables old ws in
+    let gone = gone_on_set old n w h net base later in
+    subst P (sym e) (record {
+      sound = sound_still horizon processes old (set old n w) gone sound;
+      listed = tables_still processes old (set old n w) tables gone.nets listed;
+      nets = gone.nets;
+    })

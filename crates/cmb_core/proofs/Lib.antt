@@ -29,3 +29,4 @@ pub mod Turns
 pub mod RoundFacts
 pub mod Opens
 pub mod TrimLaws
+pub mod TipFacts

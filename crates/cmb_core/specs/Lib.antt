@@ -16,6 +16,7 @@ pub mod Step
 pub mod Sweep
 pub mod Clocks
 pub mod Run
+pub mod Tips
 pub mod Trims
 pub mod World
 pub mod Play

@@ -10,9 +10,10 @@ ghost use Rattle.cmb_core.specs.Arrivals.{pin_at, gate_at, next_sample, last_sam
 ghost use Rattle.cmb_core.specs.Rows.{delayed, gate_row, sampled, AreReady, gate_reach, flop_reach};
 
 use crate::merge::{Lag, Pin, merge};
-use crate::pins::{gate_pins, operand_wave};
+use crate::pins::{gate_pins, operand_tip};
 use crate::process::Operand;
 use crate::settled::settled_gate;
+use crate::waves::Waves;
 use cmb_bench::netlist::Kind;
 use cmb_wave::search::{left_from, level_after};
 use cmb_wave::{Change, Level, Wave};
@@ -27,13 +28,13 @@ pub struct Span {
 }
 
 /// The tick up to which a gate's operands are known at its output.
-pub fn reach_of_gate(horizon: u32, operands: &[Operand], waves: &[Wave], clock: u32) -> u32
+pub fn reach_of_gate(horizon: u32, operands: &[Operand], waves: &Waves, clock: u32) -> u32
     requires { AreReady waves.now clock operands.now }
     ensures { result ≡ gate_reach horizon waves.now operands.now }
 {
     let mut reach = horizon;
     for operand in operands {
-        let known = operand_wave(waves, *operand).clock();
+        let known = operand_tip(waves, *operand).clock;
         reach = reach.min(known.saturating_add(operand.delay));
     }
     reach
@@ -79,7 +80,7 @@ pub fn gate_changes(
     room: Vec<Change>,
     kind: Kind,
     operands: &[Operand],
-    waves: &[Wave],
+    waves: &Waves,
     span: Span,
 ) -> Result<Vec<Change>, AllocError>
     requires ready { AreReady waves.now span.from operands.now }

@@ -6,11 +6,12 @@ use crate::advance::Span;
 use crate::clustering::Clustering;
 use crate::delivery::{DeliverFault, Stranger, refusal};
 use crate::node::Node;
-use crate::open::{nets_held, nodes_of, places_among, sides_of, waves_of};
+use crate::open::{nets_held, nodes_of, places_among, sides_of};
 use crate::readers::readers_among;
 use crate::tables::{Tables, place_of};
+use crate::waves::Waves;
 use cmb_design::Design;
-use cmb_wave::{Heard, Piece, Promise, Wave, WaveFault};
+use cmb_wave::{Heard, Piece, Promise, WaveFault};
 use std::alloc::{AllocError, Global};
 use std::marker::Model;
 
@@ -19,7 +20,7 @@ use std::marker::Model;
 pub struct Cluster {
     pub(crate) horizon: u32,
     pub(crate) processes: Vec<Node>,
-    pub(crate) waves: Vec<Wave>,
+    pub(crate) waves: Waves,
     pub(crate) tables: Tables,
 }
 
@@ -29,9 +30,9 @@ impl Model for Cluster {
 
     ghost Value = { Cluster };
 
-    ghost view = { λ c. record { horizon = c.horizon; processes = c.processes.items; waves = c.waves.items } };
+    ghost view = { λ c. record { horizon = c.horizon; processes = c.processes.items; waves = c.waves } };
 
-    ghost invariant = { λ c. record { sound : IsSound (record { horizon = c.horizon; processes = c.processes.items; waves = c.waves.items }); tables : AreTables c.processes.items (wave_nets c.waves.items) c.tables } };
+    ghost invariant = { λ c. record { sound : IsSound (record { horizon = c.horizon; processes = c.processes.items; waves = c.waves }); tables : AreTables c.processes.items (wave_nets c.waves) c.tables } };
 }
 
 impl Cluster {
@@ -67,7 +68,7 @@ impl Cluster {
         let processes = nodes_of(alloc, design, clustering, cluster, &nets, &places)?;
         let (driven, inputs) = sides_of(alloc, &processes, &nets)?;
         let readers = readers_among(alloc, &processes)?;
-        let waves = waves_of(alloc, &nets)?;
+        let waves = Waves::new(alloc, &nets)?;
         Ok(Cluster {
             horizon: design.horizon(),
             processes,
@@ -114,14 +115,14 @@ impl Cluster {
         ensures span { MatchOption result (reach_at self.now slot ≤ (slot_wave self.now slot).clock) (λ span. IsNextSpan self.now slot span) }
         ensures sound { IsSound self.now }
     {
-        let wave = &self.waves[slot];
-        let from = wave.clock();
+        let tip = self.waves.tip(slot);
+        let from = tip.clock;
         let until = self.processes[slot].reach(self.horizon, &self.waves, from);
         if until <= from {
             return None;
         }
         Some(Span {
-            before: wave.last_level(),
+            before: self.waves.last_level(slot),
             from,
             until,
         })
@@ -140,9 +141,9 @@ impl Cluster {
         let Some(span) = self.next_span(slot) else {
             return Ok(None);
         };
-        let room = Vec::new(*self.waves.allocator());
+        let room = Vec::new(self.waves.allocator());
         let changes = self.processes[slot].changes(room, self.horizon, &self.waves, span)?;
-        let piece = self.waves[slot].grow(span.until, changes)?;
+        let piece = self.waves.grow(slot, span.until, changes)?;
         Ok(Some(piece))
     }
 
@@ -213,8 +214,7 @@ impl Cluster {
         ensures unchanged { OnErr result (self.new ≡ self.old) }
         ensures same { IsSameButWaves self.old self.new }
     {
-        let wave = &mut self.waves[slot];
-        wave.take(piece)
+        self.waves.take(slot, piece)
     }
 
     /// Tells a promise to the input wave of its net. Exact waves stay exact by right promises.
@@ -238,7 +238,6 @@ impl Cluster {
         ensures waves { self.new.waves ≡ slice_set self.old.waves slot (heard_wave (slot_wave self.old slot) promise) }
         ensures same { IsSameButWaves self.old self.new }
     {
-        let wave = &mut self.waves[slot];
-        wave.hear(promise)
+        self.waves.hear(slot, promise)
     }
 }

@@ -4,8 +4,6 @@
 pub mod advance;
 pub mod below;
 pub mod cluster;
-#[cfg(test)]
-mod cluster_tests;
 pub mod clustering;
 pub mod delivery;
 pub mod event;
@@ -23,10 +21,10 @@ mod rounds;
 mod settled;
 mod stepping;
 pub mod tables;
+pub mod tip;
 mod trim;
+pub mod waves;
 pub mod world;
-#[cfg(test)]
-mod world_tests;
 
 pub use cluster::Cluster;
 pub use clustering::{Clustering, ClusteringFault};

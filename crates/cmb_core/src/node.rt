@@ -7,9 +7,10 @@ ghost use Rattle.cmb_core.specs.Rows.{IsReadyFor, row, reach};
 use crate::advance::{
     Span, flop_changes, gate_changes, input_changes, reach_of_flop, reach_of_gate,
 };
-use crate::pins::operand_wave;
+use crate::pins::{operand_tip, operand_wave};
 use crate::process::{Operand, Rule};
-use cmb_wave::{Change, Wave};
+use crate::waves::Waves;
+use cmb_wave::Change;
 use std::alloc::AllocError;
 use std::marker::Model;
 
@@ -67,7 +68,7 @@ impl Node {
     }
 
     /// The tick up to which the output can go on.
-    pub fn reach(&self, horizon: u32, waves: &[Wave], clock: u32) -> u32
+    pub fn reach(&self, horizon: u32, waves: &Waves, clock: u32) -> u32
         requires { IsReadyFor horizon waves.now clock self.now.rule self.now.operands self.now.stimulus }
         ensures { result ≡ reach horizon waves.now self.now.rule self.now.operands }
     {
@@ -77,7 +78,7 @@ impl Node {
             Rule::Gate(_) => reach_of_gate(horizon, &self.operands, waves, clock),
             Rule::Flop { first, period, .. } => {
                 let data = self.operands[0];
-                let known = operand_wave(waves, data).clock();
+                let known = operand_tip(waves, data).clock;
                 reach_of_flop(horizon, first, period, data.delay, known)
             }
         }
@@ -88,7 +89,7 @@ impl Node {
         &self,
         room: Vec<Change>,
         horizon: u32,
-        waves: &[Wave],
+        waves: &Waves,
         span: Span,
     ) -> Result<Vec<Change>, AllocError>
         requires ready { IsReadyFor horizon waves.now span.from self.now.rule self.now.operands self.now.stimulus }

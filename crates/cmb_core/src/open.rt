@@ -17,7 +17,6 @@ use crate::node::Node;
 use crate::process::{Operand, Rule};
 use cmb_bench::netlist::{Driver, Kind};
 use cmb_design::Design;
-use cmb_wave::Wave;
 use std::alloc::{AllocError, Global};
 
 // Marks these nets.
@@ -299,11 +298,4 @@ pub(crate) fn sides_of(
         }
     }
     Ok((driven, given))
-}
-
-/// New waves of these nets.
-pub(crate) fn waves_of(alloc: Global, nets: &[u32]) -> Result<Vec<Wave>, AllocError>
-    ensures { IfOk result (λ waves. waves.items ≡ map new_wave nets.now) }
-{
-    nets.iter().map(|net| Wave::new(alloc, *net)).collect(alloc)
 }

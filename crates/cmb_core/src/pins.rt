@@ -6,20 +6,33 @@ ghost use Rattle.cmb_wave.specs.Waveform.{Rises, last_level, below, level_at};
 ghost use Rattle.cmb_core.specs.Arrivals.{pin_at, pins_at, levels, last_sample};
 ghost use Rattle.cmb_core.specs.Rows.{delayed, delayed_levels, IsReady, AreReady, IsThere};
 ghost use Rattle.cmb_core.specs.Step.{wave_at};
+ghost use Rattle.cmb_core.specs.Tips.{IsTip};
+ghost use Rattle.cmb_wave.specs.Wave.{Wave as WaveOf};
 
 use crate::merge::{Lag, Pin};
 use crate::process::Operand;
+use crate::tip::Tip;
+use crate::waves::Waves;
 use cmb_wave::Wave;
 use cmb_wave::search::left_from;
 use std::alloc::{AllocError, Global};
 
 #[tactic(auto, using(crate::proofs::Slots::slot_there, crate::proofs::Slots::slot_wave))]
 /// The wave that an operand reads.
-pub fn operand_wave<'a>(waves: &'a [Wave], operand: Operand) -> &'a Wave
+pub fn operand_wave(waves: &Waves, operand: Operand) -> &Wave
     requires { IsThere waves.now operand }
     ensures { result.now ≡ wave_at waves.now operand.net }
 {
-    &waves[operand.slot as usize]
+    waves.at(operand.slot as usize)
+}
+
+#[tactic(auto, using(crate::proofs::Slots::slot_there, crate::proofs::Slots::slot_wave))]
+/// The end of the wave that an operand reads.
+pub fn operand_tip(waves: &Waves, operand: Operand) -> &Tip
+    requires { IsThere waves.now operand }
+    ensures { IsTip result.now (wave_at waves.now operand.net) }
+{
+    waves.tip(operand.slot as usize)
 }
 
 /// The pin of an operand that reaches the output with a delay, from the output's clock on.
@@ -35,11 +48,37 @@ pub fn delayed_pin(wave: &Wave, delay: u32, clock: u32) -> Pin<'_>
     }
 }
 
+// The pin of an operand of which the end of the wave tells enough: the last change but one has reached the output.
+fn tip_pin(tip: &Tip, delay: u32, clock: u32) -> Pin<'_>
+    requires late { delay ≤ clock }
+    requires known { tip.now.before.tick ≤ clock - delay }
+    ensures { (wave : WaveOf) → IsTip tip.now wave → (t : ℕ) → clock ≤ t → pin_at result t ≡ delayed wave delay t }
+{
+    Pin {
+        level: tip.before.level,
+        lag: Lag::Delay(delay),
+        rest: &tip.newest,
+    }
+}
+
+/// The pin of an operand that reaches the output with a delay, from the output's clock on.
+pub fn operand_pin(waves: &Waves, operand: Operand, clock: u32) -> Pin<'_>
+    requires { IsReady waves.now clock operand }
+    ensures { (t : ℕ) → clock ≤ t → pin_at result t ≡ delayed (wave_at waves.now operand.net) operand.delay t }
+{
+    let tip = operand_tip(waves, operand);
+    if operand.delay <= clock && tip.before.tick <= clock - operand.delay {
+        tip_pin(tip, operand.delay, clock)
+    } else {
+        delayed_pin(operand_wave(waves, operand), operand.delay, clock)
+    }
+}
+
 /// The pins of a gate, from the output's clock on.
 pub fn gate_pins<'a>(
     alloc: Global,
     operands: &[Operand],
-    waves: &'a [Wave],
+    waves: &'a Waves,
     clock: u32,
 ) -> Result<Vec<Pin<'a>>, AllocError>
     requires { AreReady waves.now clock operands.now }
@@ -48,8 +87,7 @@ pub fn gate_pins<'a>(
 {
     let mut pins = Vec::with_capacity(alloc, operands.len())?;
     for operand in operands {
-        let wave = operand_wave(waves, *operand);
-        pins.push(delayed_pin(wave, operand.delay, clock))?;
+        pins.push(operand_pin(waves, *operand, clock))?;
     }
     Ok(pins)
 }

@@ -14,23 +14,25 @@ ghost use Rattle.cmb_core.specs.Step.{wave_at};
 
 use crate::cluster::Cluster;
 use crate::node::Node;
+use crate::tip::Tip;
+use crate::waves::Waves;
 use cmb_wave::{Piece, Promise, Wave};
 use std::alloc::AllocError;
 
 // Whether a wave that is not given is not known up to a tick.
-fn is_behind(node: &Node, wave: &Wave, upto: u32) -> bool
-    ensures { result ≡ (not (is_given node.now.rule) && not (wave.now.clock == upto)) }
+fn is_behind(node: &Node, tip: &Tip, upto: u32) -> bool
+    ensures { result ≡ (not (is_given node.now.rule) && not (tip.now.clock == upto)) }
 {
-    !node.is_given() && wave.clock() != upto
+    !node.is_given() && tip.clock != upto
 }
 
 // Whether every wave that is not given is known up to a tick.
-fn all_known(nodes: &[Node], waves: &[Wave], upto: u32) -> bool
+fn all_known(nodes: &[Node], waves: &Waves, upto: u32) -> bool
     requires { length waves.now ≡ length nodes.now }
     ensures { result ≡ list_all (λ wave. wave.clock == upto) (driven_waves nodes.now waves.now) }
 {
     for slot in 0..waves.len() {
-        if is_behind(&nodes[slot], &waves[slot], upto) {
+        if is_behind(&nodes[slot], waves.tip(slot), upto) {
             return false;
         }
     }
@@ -46,7 +48,7 @@ impl Cluster {
         ensures exact { (design : Design) (clustering : Clusters) (cluster : ℕ) → IsExactCluster design clustering cluster self.now → IsExactWaveIn design (wave_at self.now.waves net) }
     {
         match self.output_place(net) {
-            Some(slot) => &self.waves[slot],
+            Some(slot) => self.waves.at(slot),
             None => unreachable!(),
         }
     }
@@ -77,7 +79,7 @@ impl Cluster {
         ensures { result ≡ told_at (λ wave. wave.clock) self.now net (output_slot self.now net) }
     {
         match self.output_place(net) {
-            Some(slot) => Some(self.waves[slot].clock()),
+            Some(slot) => Some(self.waves.at(slot).clock()),
             None => None,
         }
     }
@@ -87,7 +89,7 @@ impl Cluster {
         ensures { result ≡ told_at (λ wave. wave.clock) self.now net (input_slot self.now net) }
     {
         match self.input_place(net) {
-            Some(place) => Some(self.waves[place].clock()),
+            Some(place) => Some(self.waves.at(place).clock()),
             None => None,
         }
     }
@@ -97,7 +99,7 @@ impl Cluster {
         ensures { result ≡ told_at (λ wave. wave.base) self.now net (input_slot self.now net) }
     {
         match self.input_place(net) {
-            Some(slot) => Some(self.waves[slot].base()),
+            Some(slot) => Some(self.waves.at(slot).base()),
             None => None,
         }
     }

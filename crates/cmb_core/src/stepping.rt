@@ -38,7 +38,7 @@ impl Cluster {
     fn empty_room(&self) -> Vec<Change>
         ensures { result.items ≡ [] }
     {
-        Vec::new(*self.waves.allocator())
+        Vec::new(self.waves.allocator())
     }
 
     // Lets the wave in a place go on as far as its process can.
@@ -57,7 +57,7 @@ impl Cluster {
             return Ok(Moved { rose: false, room });
         };
         let mut changes = self.processes[slot].changes(room, self.horizon, &self.waves, span)?;
-        self.waves[slot].extend(span.until, &changes)?;
+        self.waves.extend(slot, span.until, &changes)?;
         changes.clear();
         Ok(Moved {
             rose: true,

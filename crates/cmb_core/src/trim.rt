@@ -12,7 +12,7 @@ use crate::cluster::Cluster;
 use crate::node::Node;
 use crate::process::Rule;
 use crate::tables::Reader;
-use cmb_wave::Wave;
+use crate::waves::Waves;
 
 // From this tick on a flip-flop needs its data, as its output stands at a clock.
 fn need_of_flop(first: u32, period: u32, delay: u32, clock: u32) -> u32
@@ -42,7 +42,7 @@ fn need_of(rule: Rule, delay: u32, clock: u32) -> u32
 }
 
 // The least tick from which on one of these pins needs what is on it, at most `most`.
-fn least_need_of(nodes: &[Node], waves: &[Wave], readers: &[Reader], most: u32) -> u32
+fn least_need_of(nodes: &[Node], waves: &Waves, readers: &[Reader], most: u32) -> u32
     requires there { All (λ reader. reader.slot < length nodes.now) readers.now }
     requires paired { length waves.now ≡ length nodes.now }
     ensures { result ≡ least_need nodes.now waves.now readers.now most }
@@ -50,19 +50,9 @@ fn least_need_of(nodes: &[Node], waves: &[Wave], readers: &[Reader], most: u32) 
     let mut least = most;
     for reader in readers {
         let slot = reader.slot as usize;
-        least = least.min(need_of(nodes[slot].rule(), reader.delay, waves[slot].clock()));
+        least = least.min(need_of(nodes[slot].rule(), reader.delay, waves.tip(slot).clock));
     }
     least
-}
-
-// Lets a wave forget what is before a tick, if it hasn't.
-fn trim_wave(wave: &mut Wave, least: u32)
-    requires { least ≤ wave.old.clock }
-    ensures { wave.new ≡ trimmed_to least wave.old }
-{
-    if wave.base() < least {
-        wave.forget(least);
-    }
 }
 
 impl Cluster {
@@ -75,10 +65,10 @@ impl Cluster {
         if !self.processes[slot].is_given() {
             return;
         }
-        let most = self.waves[slot].clock();
+        let most = self.waves.tip(slot).clock;
         let readers = self.tables.readers[slot].as_slice();
         let least = least_need_of(&self.processes, &self.waves, readers, most);
-        trim_wave(&mut self.waves[slot], least);
+        self.waves.trim(slot, least);
     }
 
     /// Lets each input wave forget what no pin on which its net stands needs any more. Takes no memory,

@@ -30,6 +30,3 @@ pub use rows::{
     Clock, ClockRow, ClockRows, DelayRow, DelayRows, Delayed, StimulusRow, StimulusRows,
 };
 pub use settings::Settings;
-
-#[cfg(test)]
-mod tests;

@@ -53,18 +53,22 @@ fn here<T: Terms>(mut hands: Vec<Hand<T>>) -> Vec<Hand<T>> {
     hands
 }
 
-// The round's steps, each worker's in a thread of its own. Where one can't be made the others are joined all the same.
+// The round's steps, each worker's in a thread of its own but for the last one's, which are made
+// here. Where a thread can't be made the others are joined all the same.
 fn in_threads<T: Terms + Send + Sync, R: Threads + Wait + Sync>(
     rt: &R,
     alloc: Global,
-    hands: Vec<Hand<T>>,
+    mut hands: Vec<Hand<T>>,
 ) -> Result<Vec<Hand<T>>, AllocError> {
+    let Some(last) = hands.pop() else {
+        return Ok(hands);
+    };
     thread::scope(
         thread::scope_env(),
         rt,
         move |scope| -> Result<Vec<Hand<T>>, AllocError> {
             let mut threads = Vec::with_capacity(alloc, hands.len())?;
-            let mut back = Vec::with_capacity(alloc, hands.len())?;
+            let mut back = Vec::with_capacity(alloc, hands.len() + 1)?;
             let mut refused = false;
             for hand in hands {
                 match scope.spawn(move || hand.worked()) {
@@ -72,9 +76,11 @@ fn in_threads<T: Terms + Send + Sync, R: Threads + Wait + Sync>(
                     Err(_unstarted) => refused = true,
                 }
             }
+            let last = last.worked();
             for thread in threads {
                 back.push(thread.join(rt))?;
             }
+            back.push(last)?;
             if refused { Err(AllocError) } else { Ok(back) }
         },
     )
@@ -209,8 +215,8 @@ fn run_named<T: Terms + Send + Sync, R: Threads + Wait + Sync>(
 /// of cluster c belong to worker `c mod workers`, which treats all its nets as one cluster; a worker
 /// whose number isn't below that of the clusters has none, and no part in the run. In each round
 /// every net is stepped once, and then what is new of it is posted to the workers that read it.
-/// Where there are several, each steps its nets in a thread of its own, which is joined before
-/// pieces are passed on. What comes out is the same for any clustering and any number of workers.
+/// Where there are several, each steps its nets in a thread of its own, but the last one in the
+/// calling thread, and all are joined before pieces are passed on. What comes out is the same for any clustering and any number of workers.
 /// The only refusal is 70, where memory or a worker's thread was refused.
 pub fn run_rounds<R: Threads + Wait + Sync>(
     rt: &R,

@@ -3,6 +3,7 @@
 
 mod clock;
 pub mod fault;
+mod help;
 pub mod line;
 pub mod mode;
 pub mod reading;

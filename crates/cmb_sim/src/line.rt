@@ -4,6 +4,9 @@ ghost use Rattle.std.specs.Prelude.{◌≡◌, ◌≤◌, IfOk};
 ghost use Rattle.cmb_sim.specs.Simulation.{IsLawful};
 
 use crate::clock::clock_of;
+use crate::help::{
+    ABOUT, CLOCK, CLOCKS, DELAYS, FILES, HORIZON, INIT, MODE, PARTS, RUN, STIMULI, WORKERS,
+};
 use crate::mode::Mode;
 use clap::builder::ValueParser;
 use clap::error::ErrorKind;
@@ -55,41 +58,6 @@ const MODES: [&str; 3] = ["plain", "rounds", "free"];
 
 const MOST_PARTS: u32 = 64;
 
-const ABOUT: &str = "Simulates a gate-level netlist and writes the waveforms of its nets";
-
-const RUN: &str =
-    "Reads a netlist from standard input and writes a value change dump (VCD) to standard output";
-
-const HORIZON: &str = "Simulates the ticks 0 to N-1, N from 1 to 1,000,000";
-
-const CLOCK: &str = "Samples the flip-flops at the ticks F, F+P, F+2P and so on";
-
-const INIT: &str = "What a flip-flop has before it sampled [default: x]";
-
-const DELAYS: &str = "A table by,name,delay: delays of kinds, nets or pins in ticks, else 1";
-
-const STIMULI: &str = "A table tick,net,value: the levels of the inputs";
-
-const CLOCKS: &str = "A table net,first,period: clocks of single flip-flops";
-
-const WORKERS: &str = "How many threads share the work in modes rounds and free, 1 to 64 [default: 1]";
-
-const PARTS: &str =
-    "How many clusters the nets are spread over in modes rounds and free, 1 to 64 [default: 1]";
-
-const MODE: &str =
-    "plain fills a table with a place for each net and tick; rounds [default] goes by changes; free goes by changes too, with workers that don't wait for one another";
-
-const EXAMPLE: &str =
-    "Times are whole ticks; the text has one tick as 1 ns. An input has at most 16,777,216 bytes.
-
-Example:
-  cmbsim run --horizon 10 --stimuli in.csv < inverter.bench > out.vcd
-where inverter.bench has the lines INPUT(a), OUTPUT(y), y = NOT(a)
-and in.csv the lines tick,net,value and 0,a,0 and 5,a,1
-
-A fault is one line on standard error, `cmbsim: fault N at P`, with status 1. A wrong line has status 2.";
-
 // An option `--NAME VALUE`.
 fn option<'a>(alloc: Global, name: &'a str, value: &'a str, help: &'a str) -> Arg<'a> {
     Arg::new(alloc, name)
@@ -98,7 +66,20 @@ fn option<'a>(alloc: Global, name: &'a str, value: &'a str, help: &'a str) -> Ar
         .help(help)
 }
 
-// The options of the settings and of the mode.
+// An option that takes one of these values, which its help names.
+fn choice<'a>(
+    alloc: Global,
+    name: &'a str,
+    value: &'a str,
+    help: &'a str,
+    values: &'a [&'a str],
+) -> Arg<'a> {
+    option(alloc, name, value, help)
+        .value_parser(values)
+        .hide_possible_values(true)
+}
+
+// What is simulated.
 fn with_settings<'a>(alloc: Global, command: Command<'a>) -> Result<Command<'a>, AllocError> {
     command
         .arg(
@@ -107,19 +88,24 @@ fn with_settings<'a>(alloc: Global, command: Command<'a>) -> Result<Command<'a>,
                 .value_parser(ValueParser::unsigned(1, 1_000_000)),
         )?
         .arg(option(alloc, "clock", "F:P", CLOCK))?
-        .arg(option(alloc, "init", "LEVEL", INIT).value_parser(LEVELS.as_slice()))?
-        .arg(option(alloc, "mode", "MODE", MODE).value_parser(MODES.as_slice()))?
+        .arg(choice(alloc, "init", "LEVEL", INIT, LEVELS.as_slice()))?
+        .arg(option(alloc, "delays", "FILE", DELAYS))?
+        .arg(option(alloc, "stimuli", "FILE", STIMULI))?
+        .arg(option(alloc, "clocks", "FILE", CLOCKS))
+}
+
+// How it is run.
+fn with_mode<'a>(alloc: Global, command: Command<'a>) -> Result<Command<'a>, AllocError> {
+    command
+        .arg(choice(alloc, "mode", "MODE", MODE, MODES.as_slice()))?
         .arg(option(alloc, "workers", "W", WORKERS).value_parser(ValueParser::unsigned(1, 64)))?
         .arg(option(alloc, "clusters", "K", PARTS).value_parser(ValueParser::unsigned(1, 64)))
 }
 
 // The command line of `run`.
 fn run_command<'a>(alloc: Global) -> Result<Command<'a>, AllocError> {
-    let command = Command::new(alloc, "run").about(RUN).after_help(EXAMPLE);
-    with_settings(alloc, command)?
-        .arg(option(alloc, "delays", "FILE", DELAYS))?
-        .arg(option(alloc, "stimuli", "FILE", STIMULI))?
-        .arg(option(alloc, "clocks", "FILE", CLOCKS))
+    let command = Command::new(alloc, "run").about(RUN).after_help(FILES);
+    with_mode(alloc, with_settings(alloc, command)?)
 }
 
 // The whole command line.
@@ -127,7 +113,7 @@ fn whole_command<'a>(alloc: Global) -> Result<Command<'a>, AllocError> {
     let run = run_command(alloc)?;
     Command::new(alloc, "cmbsim")
         .about(ABOUT)
-        .after_help(EXAMPLE)
+        .after_help(FILES)
         .bin_name("cmbsim")?
         .no_binary_name(true)
         .subcommand_required(true)
@@ -258,6 +244,9 @@ pub fn read_line(alloc: Global, words: &[String]) -> Result<Line, LineFault>
 pub fn line_message(alloc: Global, words: &[String]) -> Result<String, AllocError> {
     match parse(alloc, words) {
         Ok(_) => Ok(String::new(alloc)),
-        Err(error) => format!(in alloc; "{error}"),
+        Err(error) => match error.kind() {
+            ErrorKind::OutOfMemory => Err(AllocError),
+            _ => format!(in alloc; "{error}"),
+        },
     }
 }

@@ -9,4 +9,5 @@ pub mod OrderFacts
 pub mod PartFacts
 pub mod SpanFacts
 pub mod Texts
+pub mod TickFacts
 pub mod TraceFacts

@@ -1,5 +1,5 @@
 -- The change of a net at a tick, in its wave's list.
-use Rattle.std.proofs.Common.{◌≡◌, ◌≤◌, ◌<◌, ℕ, zero, suc, List, [], ◌∷◌, ◌-◌, length, take, drop, length-drop, true, false, Bool, refl, ap, sym, ◌∙◌, arith, cond, ⊎_elim}
+use Rattle.std.proofs.Common.{◌≡◌, ◌≤◌, ◌<◌, ℕ, zero, suc, List, [], ◌∷◌, ◌-◌, length, get_or, take, drop, length-drop, true, false, Bool, refl, ap, sym, ◌∙◌, arith, cond, ⊎_elim}
 use Rattle.std.specs.Prelude.{◌==◌, filter, nat_le, nat_lt, if◌then◌else◌}
 use Rattle.std.specs.List.{flat_map}
 use Rattle.std.proofs.lemmas.Bool.{cases_lt}
@@ -17,6 +17,22 @@ pub rises_take : (low count : ℕ) (cs : List Change) → Rises low cs → Rises
 rises_take low zero cs r = tt
 rises_take low (suc count) [] r = tt
 rises_take low (suc count) (c ∷ cs) r = (r.0, rises_take (suc c.tick) count cs r.1)
+
+-- in a list that rises all ticks are below one that the last is below
+rises_last : (low : ℕ) (c : Change) (cs : List Change) (d : Change) → Rises low (c ∷ cs) → low ≤ (get_or (c ∷ cs) (length cs) d).tick
+rises_last low c [] d r = r.0
+rises_last low c (e ∷ cs) d r = omega (arith, r.0, rises_last (suc c.tick) e cs d r.1)
+
+all_below : (low tick : ℕ) (c : Change) (cs : List Change) (d : Change) → Rises low (c ∷ cs) → (get_or (c ∷ cs) (length cs) d).tick < tick → below tick (c ∷ cs) ≡ suc (length cs)
+all_below low tick c [] d r h = let e : nat_lt c.tick tick ≡ true = grind (arith, nat_tests) in rw e refl
+all_below low tick c (n ∷ cs) d r h =
+    let first : c.tick < tick = omega (arith, rises_last (suc c.tick) n cs d r.1, h) in
+    let e : nat_lt c.tick tick ≡ true = grind (arith, nat_tests) in
+    rw e (ap suc (all_below (suc c.tick) tick n cs d r.1 h))
+
+pub none_left_from : (low tick : ℕ) (cs : List Change) (d : Change) → Rises low cs → 1 ≤ length cs → (get_or cs (length cs - 1) d).tick < tick → below tick cs ≡ length cs
+none_left_from low tick [] d r h g = absurd (omega arith)
+none_left_from low tick (c ∷ cs) d r h g = all_below low tick c cs d r (let same : suc (length cs) - 1 ≡ length cs = omega arith in rw same at g)
 
 -- what is left of a list from one tick on, of what stands before the rest from another tick on
 pub between : (from to : ℕ) (cs later earlier : List Change) → Rises 0 cs → later ≡ drop (below to cs) cs → earlier ≡ take (length cs - length later) cs

@@ -1,14 +1,21 @@
-//! The changes of all nets in one list, by ticks and nets.
+//! The changes of all nets in a span of ticks, net by net, and in one list by ticks and nets.
 
-ghost use Rattle.std.specs.Prelude.{◌≡◌, ◌+◌, ◌++◌, ◌≤◌, ◌<◌, ℕ, filter, length, IfOk, OnOk};
+ghost use Rattle.std.specs.Prelude.{◌≡◌, ◌+◌, ◌++◌, ◌≤◌, ◌<◌, ℕ, drop, filter, length, IfOk, OnOk};
 ghost use Rattle.std.specs.List.Sorted.{IsNonDecreasingBy, IsPermutation};
-ghost use Rattle.cmb_wave.specs.Waveform.{IsTrace};
-ghost use Rattle.cmb_vcd.specs.Events.{AreFromStart, AreTraces, all_events, event_text, events_of, events_text, is_at, tick_of, within};
+ghost use Rattle.cmb_wave.specs.Waveform.{IsTrace, Rises, below};
+ghost use Rattle.cmb_vcd.specs.Events.{AreFromStart, AreTraces, all_events, event_text, events_of, events_text, is_at, part_events, tick_of, within};
 
 use crate::lines::{push_level, push_tick};
 use cmb_wave::search::left_from;
 use cmb_wave::{Change, Level, Wave};
 use std::alloc::{AllocError, Global};
+
+/// The changes of a net in a span of ticks.
+#[derive(Clone, Copy, Debug)]
+pub struct Part<'a> {
+    pub net: u16,
+    pub changes: &'a [Change],
+}
 
 /// From its tick on a net has this level.
 #[derive(Debug, Clone, Copy, PartialEq, Eq)]
@@ -18,6 +25,18 @@ pub struct Event {
     pub level: Level,
 }
 
+// What is left of changes from a tick on. Where that is all or nothing, the list isn't searched.
+fn rest_from(changes: &[Change], tick: u32) -> &[Change]
+    requires { Rises 0 changes.now }
+    ensures { result.now ≡ drop (below tick changes.now) changes.now }
+{
+    match changes {
+        [first, ..] if first.tick >= tick => changes,
+        [.., last] if last.tick < tick => &changes[changes.len()..],
+        _ => left_from(Level::X, changes, tick).changes,
+    }
+}
+
 // The changes of a wave at ticks of [from, to).
 #[tactic(auto, using(crate::proofs::TraceFacts::rises_take))]
 fn changes_within(wave: &Wave, from: u32, to: u32) -> &[Change]
@@ -25,35 +44,65 @@ fn changes_within(wave: &Wave, from: u32, to: u32) -> &[Change]
     ensures trace { IsTrace wave.now.kept wave.now.base wave.now.changes wave.now.clock }
 {
     let changes = wave.changes();
-    let later = left_from(wave.kept(), changes, to).changes;
+    let later = rest_from(changes, to);
     let earlier = &changes[..changes.len() - later.len()];
-    left_from(wave.kept(), earlier, from).changes
+    rest_from(earlier, from)
 }
 
-fn add_events(events: &mut Vec<Event>, net: u32, changes: &[Change]) -> Result<(), AllocError>
-    ensures { OnOk result (events.new.items ≡ events.old.items ++ events_of net changes.now) }
+fn add_part<'a>(
+    parts: &mut Vec<Part<'a>>,
+    net: u16,
+    changes: &'a [Change],
+) -> Result<(), AllocError>
+    ensures { OnOk result (part_events parts.new.items ≡ part_events parts.old.items ++ events_of net changes.now) }
 {
-    for change in changes {
+    if changes.is_empty() {
+        return Ok(());
+    }
+    parts.push(Part { net, changes })?;
+    Ok(())
+}
+
+/// The changes of the nets at ticks of [from, to), net by net, of those nets that have any.
+pub fn parts_within<'a>(
+    alloc: Global,
+    waves: &'a [Wave],
+    from: u32,
+    to: u32,
+) -> Result<Vec<Part<'a>>, AllocError>
+    requires few { length waves.now ≤ 65535 }
+    requires whole { AreFromStart waves.now }
+    ensures events { IfOk result (λ parts. part_events parts.items ≡ all_events from to 0 waves.now) }
+    ensures traces { OnOk result (AreTraces waves.now) }
+{
+    let mut parts = Vec::new(alloc);
+    for net in 0..waves.len() {
+        let wave = &waves[net];
+        add_part(&mut parts, net as u16, changes_within(wave, from, to))?;
+    }
+    Ok(parts)
+}
+
+fn add_events(events: &mut Vec<Event>, part: Part) -> Result<(), AllocError>
+    ensures { OnOk result (events.new.items ≡ events.old.items ++ events_of part.entry.net part.entry.changes.now) }
+{
+    for change in part.changes {
         events.push(Event {
             tick: change.tick,
-            net,
+            net: u32::from(part.net),
             level: change.level,
         })?;
     }
     Ok(())
 }
 
-/// The changes of the nets at ticks of [from, to), net by net.
-pub fn gather(alloc: Global, waves: &[Wave], from: u32, to: u32) -> Result<Vec<Event>, AllocError>
-    requires few { length waves.now ≤ 65535 }
-    requires whole { AreFromStart waves.now }
-    ensures events { IfOk result (λ events. events.items ≡ all_events from to 0 waves.now) }
-    ensures traces { OnOk result (AreTraces waves.now) }
+/// The changes of parts, part by part.
+pub fn gather(alloc: Global, parts: &[Part]) -> Result<Vec<Event>, AllocError>
+    ensures events { IfOk result (λ events. events.items ≡ part_events parts.now) }
 {
     let mut events = Vec::new(alloc);
-    for net in 0..waves.len() {
-        let wave = &waves[net];
-        add_events(&mut events, net as u32, changes_within(wave, from, to))?;
+    for part in parts {
+        add_events(&mut events, *part)?;
     }
     Ok(events)
 }

@@ -9,6 +9,7 @@ pub mod laws;
 mod lines;
 pub mod sink;
 pub mod text;
+mod ticks;
 pub mod writer;
 
 pub use collector::Collector;
@@ -16,6 +17,3 @@ pub use fault::CollectFault;
 pub use sink::{Failed, Limited, Room, Sink, ToWriter, write_whole};
 pub use text::vcd_text;
 pub use writer::VcdWriter;
-
-#[cfg(test)]
-mod tests;

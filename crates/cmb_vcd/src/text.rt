@@ -1,14 +1,17 @@
 //! The text of a collector's waves.
 
-ghost use Rattle.std.specs.Prelude.{◌≡◌, ◌++◌, ◌<◌, ◌≤◌, length, IfOk, OnOk};
+ghost use Rattle.std.specs.Prelude.{◌≡◌, ◌++◌, ◌<◌, ◌≤◌, ℕ, length, IfOk, OnOk};
+ghost use Rattle.std.specs.List.{All};
 ghost use Rattle.cmb_wave.specs.Waveform.{level_at};
 ghost use Rattle.cmb_vcd.specs.Collector.{IsComplete, IsExactFor, IsFor, collected_level};
-ghost use Rattle.cmb_vcd.specs.Events.{AreFromStart, end_line, ticks_between};
+ghost use Rattle.cmb_vcd.specs.Events.{AreFromStart, end_line, part_events, ticks_between};
+ghost use Rattle.cmb_vcd.specs.Ticks.{IsWithin, span_lines};
 ghost use Rattle.cmb_vcd.specs.Vcd.{level_lines, text_of, tick_text, vcd};
 
 use crate::collector::Collector;
-use crate::events::{gather, push_events, sort_events};
+use crate::events::{Part, gather, parts_within, push_events, sort_events};
 use crate::lines::{push_header, push_level, push_tick};
+use crate::ticks::{by_ticks, count_of, push_by_ticks};
 use cmb_design::Design;
 use cmb_wave::{Level, Wave};
 use std::alloc::{AllocError, Global};
@@ -49,6 +52,47 @@ fn push_first(out: &mut Vec<u8>, waves: &[Wave]) -> Result<(), AllocError>
     Ok(())
 }
 
+// The lines of changes, which are sorted by comparison: for few changes in a long span of ticks.
+fn push_compared(out: &mut Vec<u8>, parts: &[Part]) -> Result<(), AllocError>
+    ensures { (from to : ℕ) → 0 < from → from ≤ to → All (IsWithin from to) (part_events parts.now) → OnOk result (out.new.items ≡ out.old.items ++ span_lines (part_events parts.now) from to) }
+{
+    let mut events = gather(*out.allocator(), parts)?;
+    sort_events(&mut events)?;
+    push_events(out, 0, events.as_slice())?;
+    Ok(())
+}
+
+// The lines of changes at the ticks of [from, to), of which there are so many: a count of each tick sorts them.
+fn push_counted(
+    out: &mut Vec<u8>,
+    parts: &[Part],
+    from: u32,
+    to: u32,
+    count: u32,
+) -> Result<(), AllocError>
+    requires order { from ≤ to }
+    requires inside { All (IsWithin from to) (part_events parts.now) }
+    requires count { count ≡ length (part_events parts.now) }
+    ensures { OnOk result (out.new.items ≡ out.old.items ++ span_lines (part_events parts.now) from to) }
+{
+    let sorted = by_ticks(*out.allocator(), parts, from, to, count)?;
+    push_by_ticks(out, from, &sorted.ends, &sorted.marks)?;
+    Ok(())
+}
+
+// The lines of changes at the ticks of [from, to), of which none is tick 0. Work goes by changes, not by ticks.
+fn push_parts(out: &mut Vec<u8>, parts: &[Part], from: u32, to: u32) -> Result<(), AllocError>
+    requires late { 0 < from }
+    requires order { from ≤ to }
+    requires inside { All (IsWithin from to) (part_events parts.now) }
+    ensures { OnOk result (out.new.items ≡ out.old.items ++ span_lines (part_events parts.now) from to) }
+{
+    match count_of(parts) {
+        Some(count) if count >= (to - from) / 8 => push_counted(out, parts, from, to, count),
+        _ => push_compared(out, parts),
+    }
+}
+
 // The lines of the ticks of [from, to), of which none is tick 0.
 fn push_later(out: &mut Vec<u8>, waves: &[Wave], from: u32, to: u32) -> Result<(), AllocError>
     requires late { 0 < from }
@@ -57,9 +101,8 @@ fn push_later(out: &mut Vec<u8>, waves: &[Wave], from: u32, to: u32) -> Result<(
     requires whole { AreFromStart waves.now }
     ensures { OnOk result (out.new.items ≡ out.old.items ++ ticks_between (length waves.now) (collected_level waves.now) from to) }
 {
-    let mut events = gather(*out.allocator(), waves, from, to)?;
-    sort_events(&mut events)?;
-    push_events(out, 0, events.as_slice())?;
+    let parts = parts_within(*out.allocator(), waves, from, to)?;
+    push_parts(out, &parts, from, to)?;
     Ok(())
 }
 

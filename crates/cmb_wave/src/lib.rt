@@ -5,8 +5,6 @@ pub mod laws;
 pub mod level;
 pub mod piece;
 pub mod search;
-#[cfg(test)]
-mod tests;
 pub mod wave;
 
 pub use level::{Change, Heard, Level, Promise};

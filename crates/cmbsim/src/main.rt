@@ -8,7 +8,7 @@ use cmb_sim::{
     line_message, read_line, simulate,
 };
 use std::fs::File;
-use std::io::Write;
+use std::io::{Read, Write};
 use std::process::ExitCode;
 use std::sync::Wait;
 use std::thread::Threads;
@@ -31,6 +31,12 @@ fn open(
     }
 }
 
+// Whether standard input can be read at all. Where it is closed, the first file that is opened takes its place, and would be read
+// as the netlist.
+fn has_input(rt: &HostRuntime) -> bool {
+    rt.stdin().read(&mut []).is_ok()
+}
+
 // Opens the named files in the order of their inputs, and simulates. Only `main` may lend the runtime
 // as one that starts threads, so it comes once more as that.
 fn run<R: AllocGlobal + Threads + Wait + Sync>(
@@ -38,9 +44,13 @@ fn run<R: AllocGlobal + Threads + Wait + Sync>(
     threads: &R,
     line: &Line,
 ) -> Result<Report, Fault> {
+    let has_input = has_input(rt);
     let mut delays = open(rt, &line.delays, 2)?;
     let mut stimuli = open(rt, &line.stimuli, 3)?;
     let mut clocks = open(rt, &line.clocks, 4)?;
+    if !has_input {
+        return Err(Fault::Read { input: 1 });
+    }
     simulate(
         threads,
         &mut FromReader::new(rt.stdin()),

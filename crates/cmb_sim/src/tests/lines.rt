@@ -119,11 +119,60 @@ fn messages(rt: HostRuntime) -> Result<(), Fail> {
         ("run --help", "Usage: cmbsim run [OPTIONS] --horizon <N>"),
         ("run --help", "cmbsim run --horizon 10 --stimuli"),
         ("run --horizon 0 --mode plain", "error: invalid value '0'"),
+        (
+            "run --horizon 10 --mode slow",
+            "error: invalid value 'slow'",
+        ),
         ("run --mode plain", "--horizon <N>"),
     ] {
         let words = words(alloc, line)?;
         let message = line_message(alloc, words.as_slice())?;
         assert!(rt; message.as_str().contains(part), "{message}");
+    }
+    Ok(())
+}
+
+#[test]
+fn help_has_the_forms(rt: HostRuntime) -> Result<(), Fail> {
+    let alloc = rt.alloc();
+    for line in ["--help", "run --help", "help", "help run"] {
+        let words = words(alloc, line)?;
+        let message = line_message(alloc, words.as_slice())?;
+        for part in [
+            "\n    INPUT(a)\n    y = NAND(a, b)\n",
+            "\n    by,name,delay\n    kind,NAND,3\n",
+            "\n    tick,net,value\n    5,a,1\n",
+            "\n    net,first,period\n    q,4,10\n",
+            "one tick as 1 ns",
+            "Status 0:",
+            "Status 1: a fault",
+            "Status 2:",
+            "`cmbsim: fault N at P`",
+            "\n    cmbsim run --horizon 10 --stimuli stimuli.csv < netlist.bench > inverter.vcd",
+        ] {
+            assert!(rt; message.as_str().contains(part), "{line}: {part}");
+        }
+    }
+    Ok(())
+}
+
+#[test]
+fn help_has_each_option(rt: HostRuntime) -> Result<(), Fail> {
+    let alloc = rt.alloc();
+    let words = words(alloc, "run --help")?;
+    let message = line_message(alloc, words.as_slice())?;
+    for option in [
+        "--horizon <N>",
+        "--clock <F:P>",
+        "--init <LEVEL>",
+        "--delays <FILE>",
+        "--stimuli <FILE>",
+        "--clocks <FILE>",
+        "--mode <MODE>",
+        "--workers <W>",
+        "--clusters <K>",
+    ] {
+        assert!(rt; message.as_str().contains(option), "{option}");
     }
     Ok(())
 }

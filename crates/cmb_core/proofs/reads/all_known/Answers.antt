@@ -12,9 +12,8 @@ loop-slot-preserved c =
     let here : c.loop-slot.slot < length c.args.nodes.now = omega arith in
     let there : c.loop-slot.slot < length c.args.waves.now = omega arith in
     let node = get_or_read _ _ _ here c.index-nodes-slot.is none in
-    let wave = get_or_read _ _ _ there c.index-waves-slot.is (new_wave 0) in
     let test : (not (is_given (get_or c.args.nodes.now c.loop-slot.slot none).rule) && not (eqb (get_or c.args.waves.now c.loop-slot.slot (new_wave 0)).clock c.args.upto)) ≡ false =
-    rw (sym node, sym wave) (sym c.is_behind.ensures ∙ c.if-is_behind.false)
+    rw (sym node, sym c.tip.ensures.clock) (sym c.is_behind.ensures ∙ c.if-is_behind.false)
     in
     known_more c.args.upto c.args.nodes.now c.args.waves.now c.loop-slot.slot none (new_wave 0) here there test ∙ c.loop-slot.invariant
 
@@ -24,8 +23,7 @@ returns-then-is_behind c =
     let here : c.loop-slot.slot < length c.args.nodes.now = omega arith in
     let there : c.loop-slot.slot < length c.args.waves.now = omega arith in
     let node = get_or_read _ _ _ here c.index-nodes-slot.is none in
-    let wave = get_or_read _ _ _ there c.index-waves-slot.is (new_wave 0) in
     let test : (not (is_given (get_or c.args.nodes.now c.loop-slot.slot none).rule) && not (eqb (get_or c.args.waves.now c.loop-slot.slot (new_wave 0)).clock c.args.upto)) ≡ true =
-    rw (sym node, sym wave) (sym c.is_behind.ensures ∙ c.if-is_behind.true)
+    rw (sym node, sym c.tip.ensures.clock) (sym c.is_behind.ensures ∙ c.if-is_behind.true)
     in
     sym (sym c.loop-slot.invariant ∙ known_less c.args.upto c.args.nodes.now c.args.waves.now c.loop-slot.slot none (new_wave 0) here there test)

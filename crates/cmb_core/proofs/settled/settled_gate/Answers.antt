@@ -14,7 +14,7 @@ loop-operand-preserved c =
     let here : c.loop-operand.operand-index < length c.args.operands.now = omega arith in
     let none : Operand = record { net = 0; slot = 0; delay = 0 } in
     rw c.add.ensures (record {
-      counted = λ t h. counted_step c.args.waves.now _ _ c.args.operands.now c.loop-operand.operand-index none t here (c.loop-operand.invariant.counted t h) (rw c.operand_wave.ensures at (c.in_ok-level.ensures t h));
+      counted = λ t h. counted_step c.args.waves.now _ _ c.args.operands.now c.loop-operand.operand-index none t here (c.loop-operand.invariant.counted t h) (c.in_ok-level.ensures _ c.operand_tip.ensures t h);
       ready = ready_step c.args.waves.now c.args.clock c.args.operands.now c.loop-operand.operand-index none here c.loop-operand.invariant.ready;
     })
 

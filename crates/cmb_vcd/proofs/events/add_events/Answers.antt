@@ -1,4 +1,4 @@
-use Rattle.std.proofs.Common.{◌∙◌, ◌++◌, ◌+◌, sym, ap, arith, refl, drop}
+use Rattle.std.proofs.Common.{◌∙◌, ◌++◌, ◌+◌, ℕ, [], ◌∷◌, sym, ap, arith, refl, drop, get_or}
 use Rattle.cmb_wave.specs.declared.level.Change.{Change}
 use Rattle.cmb_wave.specs.declared.level.Level.TheVariants as level
 use Rattle.cmb_vcd.specs.Events.{events_of}
@@ -8,13 +8,15 @@ use Rattle.cmb_vcd.proofs.events.add_events.Goals as goal
 
 pub loop-change-preserved : goal.loop-change-preserved
 loop-change-preserved c =
-    let cs = c.args.changes.now in
+    let cs = c.args.part.changes.now in
+    let net = c.args.part.net in
     let i = c.loop-change.change-index in
     let old = c.loop-change.events.items in
     let d : Change = record { tick = 0; level = level.Zero } in
-    push_rest old c.push.new.self.items _ (events_of c.args.net (drop (i + 1) cs)) _ c.in_ok-push.ensures.items
-    (ap (λ t. old ++ t) (sym (events_of-next c.args.net cs i d (omega arith))) ∙ c.loop-change.invariant)
+    let event = λ (n : ℕ). (record { tick = (get_or cs i d).tick; net = n; level = (get_or cs i d).level } ∷ []) in
+    push_rest old c.push.new.self.items (event net) (events_of net (drop (i + 1) cs)) _ (c.in_ok-push.ensures.items ∙ ap (λ n. old ++ event n) c.from.ensures)
+    (ap (λ t. old ++ t) (sym (events_of-next net cs i d (omega arith))) ∙ c.loop-change.invariant)
 
 pub returns : goal.returns
 unfolding events_of
-returns c = rest_none (events_of c.args.net) c.args.changes.now c.loop-change.change-index _ _ (omega arith) refl c.loop-change.invariant
+returns c = rest_none (events_of c.args.part.net) c.args.part.changes.now c.loop-change.change-index _ _ (omega arith) refl c.loop-change.invariant

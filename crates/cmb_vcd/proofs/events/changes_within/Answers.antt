@@ -5,6 +5,6 @@ use Rattle.cmb_vcd.proofs.events.changes_within.Goals as goal
 
 pub returns-clause-changes : goal.returns-clause-changes
 returns-clause-changes c =
-    c.left_from-2.ensures.changes
-    ∙ between c.args.from c.args.to c.changes-changes.result.now c.left_from.result.changes.now _ c.changes-changes.ensures.rises c.left_from.ensures.changes refl
+    c.rest_from.ensures
+    ∙ between c.args.from c.args.to c.changes-changes.result.now c.rest_from-later.result.now _ c.changes-changes.ensures.rises c.rest_from-later.ensures refl
     ∙ ap (within c.args.from c.args.to) c.changes-changes.ensures.changes

@@ -1,11 +1,6 @@
-use Rattle.std.proofs.Common.{◌≡◌, ◌<◌, ℕ, ◌++◌, drop}
-use Rattle.cmb_wave.specs.Waveform.{IsTrace}
-use Rattle.cmb_vcd.specs.Collector.{wave_of}
-use Rattle.cmb_vcd.specs.Events.{all_events}
+use Rattle.std.proofs.Common.{◌≡◌, ◌++◌, drop}
+use Rattle.cmb_vcd.specs.Events.{part_events}
 use Rattle.cmb_vcd.proofs.events.gather.Given as goal
 
-abbrev pub invariant-loop-net : goal.invariant-loop-net
-invariant-loop-net l = record {
-  events : l.events.items ++ all_events l.from l.to l.net (drop l.net l.waves) ≡ all_events l.from l.to 0 l.waves;
-  traces : (net : ℕ) → net < l.net → IsTrace (wave_of l.waves net).kept 0 (wave_of l.waves net).changes (wave_of l.waves net).clock;
-}
+abbrev pub invariant-loop-part : goal.invariant-loop-part
+invariant-loop-part l = l.events.items ++ part_events (drop l.part-index l.parts) ≡ part_events l.parts

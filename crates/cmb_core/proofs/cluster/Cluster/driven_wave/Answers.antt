@@ -1,6 +1,4 @@
 use Rattle.std.proofs.Common.{◌≡◌, ◌<◌, length, Some, arith, sym, ◌∙◌, ap}
-use Rattle.std.proofs.lemmas.List.{get_or_read}
-use Rattle.cmb_wave.specs.Wave.{new_wave}
 use Rattle.cmb_core.specs.Clusters.{output_slot, slot_wave, process_at}
 use Rattle.cmb_core.specs.Rows.{is_given}
 use Rattle.cmb_core.proofs.ExactFacts.{placed_exact}
@@ -10,8 +8,7 @@ use Rattle.cmb_core.proofs.cluster.Cluster.driven_wave.Goals as goal
 pub returns-clause-wave : goal.returns-clause-wave
 returns-clause-wave c =
     let place : output_slot c.args.self.now c.args.net ≡ Some c.in-Some.slot = sym c.output_place.ensures.place ∙ c.in-Some.is in
-    let there : c.in-Some.slot < length c.self.inside.waves.items = omega (arith, output_there c.args.self.now c.args.net c.in-Some.slot place, ap (λ s. length s.waves) c.self.view_is) in
-    get_or_read _ _ _ there c.index.ensures (new_wave 0) ∙ ap (λ s. slot_wave s c.in-Some.slot) c.self.view_is ∙ output_wave c.args.self.now c.args.net c.in-Some.slot place
+    c.at.ensures ∙ ap (λ s. slot_wave s c.in-Some.slot) c.self.view_is ∙ output_wave c.args.self.now c.args.net c.in-Some.slot place
 
 pub returns-clause-whole : goal.returns-clause-whole
 returns-clause-whole c =

@@ -1,16 +1,12 @@
-use Rattle.std.proofs.Common.{◌≡◌, ◌<◌, length, Some, eqb, arith, sym, ◌∙◌, ap}
-use Rattle.std.proofs.lemmas.List.{get_or_read}
-use Rattle.cmb_wave.specs.Wave.{new_wave}
+use Rattle.std.proofs.Common.{◌≡◌, Some, eqb, sym, ◌∙◌, ap}
 use Rattle.cmb_core.specs.Clusters.{output_slot, slot_wave}
 use Rattle.cmb_core.specs.Step.{wave_at}
-use Rattle.cmb_core.proofs.Inputs.{output_there, output_wave}
+use Rattle.cmb_core.proofs.Inputs.{output_wave}
 use Rattle.cmb_core.proofs.cluster.Cluster.is_done.Goals as goal
 
 pub returns : goal.returns
 returns c =
     let place : output_slot c.args.self.now c.args.net ≡ Some c.in-Some.slot = sym c.output_place.ensures.place ∙ c.in-Some.is in
-    let there : c.in-Some.slot < length c.self.inside.waves.items = omega (arith, output_there c.args.self.now c.args.net c.in-Some.slot place, ap (λ s. length s.waves) c.self.view_is) in
-    let read = get_or_read _ _ _ there c.index.ensures (new_wave 0) in
     let same = ap (λ s. slot_wave s c.in-Some.slot) c.self.view_is in
-    ap (λ t. eqb t c.self.inside.horizon) (c.clock.ensures ∙ ap (λ w. w.clock) (read ∙ same ∙ output_wave c.args.self.now c.args.net c.in-Some.slot place))
+    ap (λ t. eqb t c.self.inside.horizon) (c.clock.ensures ∙ ap (λ w. w.clock) (c.at.ensures ∙ same ∙ output_wave c.args.self.now c.args.net c.in-Some.slot place))
     ∙ ap (λ s. eqb (wave_at c.args.self.now.waves c.args.net).clock s.horizon) c.self.view_is

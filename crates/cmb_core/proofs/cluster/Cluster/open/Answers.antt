@@ -54,8 +54,8 @@ readers_among-requires-clause-few c =
 pub invariant_of-result : goal.invariant_of-result
 invariant_of-result c =
     let at : (net : ℕ) → get_or c.deref-3.result.now net None ≡ place_in c.in_ok-nets.nets.items net = λ net. ap (λ ps. get_or ps net None) c.deref-3.ensures.value ∙ c.in_ok-places.ensures.places net ∙ ap (λ nets. place_in nets net) c.deref.ensures.value in
-    let waves : c.in_ok-waves.waves.items ≡ map new_wave c.in_ok-nets.nets.items = c.in_ok-waves.ensures ∙ ap (map new_wave) c.deref-7.ensures.value in
-    let nets : wave_nets c.in_ok-waves.waves.items ≡ c.in_ok-nets.nets.items = ap wave_nets waves ∙ new_nets c.in_ok-nets.nets.items in
+    let waves : c.in_ok-waves.waves ≡ map new_wave c.in_ok-nets.nets.items = c.in_ok-waves.ensures ∙ ap (map new_wave) c.deref-7.ensures.value in
+    let nets : wave_nets c.in_ok-waves.waves ≡ c.in_ok-nets.nets.items = ap wave_nets waves ∙ new_nets c.in_ok-nets.nets.items in
     let count : length c.in_ok-processes.processes.items ≡ length c.in_ok-nets.nets.items = c.in_ok-processes.ensures.count ∙ ap length c.deref-2.ensures.value in
     let S : List Wave → Type 0 = λ ws. IsSound (record { horizon = c.horizon.result; processes = c.in_ok-processes.processes.items; waves = ws }) in
     let start = rw (sym c.horizon.ensures.value) at c.in_ok-processes.ensures.start in
@@ -71,7 +71,7 @@ invariant_of-result c =
 
 pub returns-clause-of : goal.returns-clause-of
 returns-clause-of c =
-    let waves : c.in_ok-waves.waves.items ≡ map new_wave c.in_ok-nets.nets.items = c.in_ok-waves.ensures ∙ ap (map new_wave) c.deref-7.ensures.value in
+    let waves : c.in_ok-waves.waves ≡ map new_wave c.in_ok-nets.nets.items = c.in_ok-waves.ensures ∙ ap (map new_wave) c.deref-7.ensures.value in
     let P : List ℕ → Type 0 = λ nets. AreProcessesOf c.args.design.now c.args.clustering.now c.args.cluster nets c.in_ok-processes.processes.items in
     record {
       horizon = c.horizon.ensures.value;
@@ -81,7 +81,7 @@ returns-clause-of c =
 
 pub returns-clause-exact : goal.returns-clause-exact
 returns-clause-exact c =
-    let waves : c.in_ok-waves.waves.items ≡ map new_wave (held_nets c.args.design.now c.args.clustering.now c.args.cluster) = c.in_ok-waves.ensures ∙ ap (map new_wave) (c.deref-7.ensures.value ∙ c.in_ok-nets.ensures) in
+    let waves : c.in_ok-waves.waves ≡ map new_wave (held_nets c.args.design.now c.args.clustering.now c.args.cluster) = c.in_ok-waves.ensures ∙ ap (map new_wave) (c.deref-7.ensures.value ∙ c.in_ok-nets.ensures) in
     let P : List Wave → Type 0 = λ ws. AllByRecursion (IsExactWaveIn c.args.design.now) ws in
     record {
       of = returns-clause-of c;

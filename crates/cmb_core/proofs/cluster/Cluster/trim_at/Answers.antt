@@ -14,30 +14,30 @@ use Rattle.cmb_core.proofs.ClusterLemmas.{tables_still}
 use Rattle.cmb_core.proofs.TrimFacts.{least_clock, listed_below, listed_given, readers_at, readers_length, trim_net, trim_sound}
 use Rattle.cmb_core.proofs.cluster.Cluster.trim_at.Goals as goal
 
-pub index-requires-3 : goal.index-requires-3
-index-requires-3 c =
+pub index-requires-2 : goal.index-requires-2
+index-requires-2 c =
     let i = c.self.inside in
     omega (arith, ap (λ s. length s.waves) c.self.view_is, c.self.invariant.sound.paired, readers_length i.processes.items _ i.tables c.self.invariant.tables)
 
 pub least_need_of-least-requires-clause-there : goal.least_need_of-least-requires-clause-there
 least_need_of-least-requires-clause-there c =
     let i = c.self.inside in
-    let there : c.args.slot < length i.waves.items = omega (arith, ap (λ s. length s.waves) c.self.view_is) in
+    let there : c.args.slot < length i.waves = omega (arith, ap (λ s. length s.waves) c.self.view_is) in
     let place : c.args.slot < length i.processes.items = omega (arith, there, c.self.invariant.sound.paired) in
     let none : Process = record { rule = Given; operands = []; stimulus = [] } in
     let here : c.is_given.result ≡ true = first_of (cc, search (rules, not-false, c.if-not-is_given.false)) in
     let given : given_at i.processes.items c.args.slot ≡ true =
     sym (c.is_given.ensures ∙ ap (λ p. is_given p.rule) (get_or_read _ _ _ place c.index.ensures none)) ∙ here
     in
-    let list = c.as_slice-readers.ensures.value ∙ readers_at i.processes.items _ i.tables c.args.slot c.index-3.result.now c.self.invariant.tables place c.index-3.ensures in
+    let list = c.as_slice-readers.ensures.value ∙ readers_at i.processes.items _ i.tables c.args.slot c.index-2.result.now c.self.invariant.tables place c.index-2.ensures in
     let P : List Reader → Type 0 = λ rs. All (λ r. r.slot < length i.processes.items) rs in
     let Q : List Process → Type 0 = λ ps. All (λ (r : Reader). r.slot < length ps) c.as_slice-readers.result.now in
     subst Q (sym c.deref.ensures.value) (subst P (sym list) (listed_below i.processes.items c.args.slot given))
 
-pub trim_wave-requires : goal.trim_wave-requires
-trim_wave-requires c =
+pub trim-requires-clause-known : goal.trim-requires-clause-known
+trim-requires-clause-known c =
     let i = c.self.inside in
-    let there : c.args.slot < length i.waves.items = omega (arith, ap (λ s. length s.waves) c.self.view_is) in
+    let there : c.args.slot < length i.waves = omega (arith, ap (λ s. length s.waves) c.self.view_is) in
     let place : c.args.slot < length i.processes.items = omega (arith, there, c.self.invariant.sound.paired) in
     let none : Process = record { rule = Given; operands = []; stimulus = [] } in
     let here : c.is_given.result ≡ true = first_of (cc, search (rules, not-false, c.if-not-is_given.false)) in
@@ -45,23 +45,20 @@ trim_wave-requires c =
     sym (c.is_given.ensures ∙ ap (λ p. is_given p.rule) (get_or_read _ _ _ place c.index.ensures none)) ∙ here
     in
     let list : c.as_slice-readers.result.now ≡ readers_from c.args.slot 0 i.processes.items =
-    c.as_slice-readers.ensures.value ∙ readers_at i.processes.items _ i.tables c.args.slot c.index-3.result.now c.self.invariant.tables place c.index-3.ensures ∙ listed_given i.processes.items c.args.slot given
+    c.as_slice-readers.ensures.value ∙ readers_at i.processes.items _ i.tables c.args.slot c.index-2.result.now c.self.invariant.tables place c.index-2.ensures ∙ listed_given i.processes.items c.args.slot given
     in
-    let lent : c.index_mut.result.now ≡ get_or i.waves.items c.args.slot (new_wave 0) = get_or_read _ _ _ there c.index_mut.ensures.value (new_wave 0) in
-    let clock : c.clock-most.result ≡ (get_or i.waves.items c.args.slot (new_wave 0)).clock = c.clock-most.ensures ∙ ap (λ w. w.clock) (get_or_read _ _ _ there c.index-2.ensures (new_wave 0)) in
-    let least : c.least_need_of-least.result ≡ least_need i.processes.items i.waves.items (readers_from c.args.slot 0 i.processes.items) (get_or i.waves.items c.args.slot (new_wave 0)).clock =
+    let least : c.least_need_of-least.result ≡ least_need i.processes.items i.waves (readers_from c.args.slot 0 i.processes.items) (get_or i.waves c.args.slot (new_wave 0)).clock =
     c.least_need_of-least.ensures
-    ∙ ap (λ ps. least_need ps c.deref-2.result.now c.as_slice-readers.result.now c.clock-most.result) c.deref.ensures.value
-    ∙ ap (λ ws. least_need i.processes.items ws c.as_slice-readers.result.now c.clock-most.result) c.deref-2.ensures.value
-    ∙ ap (λ rs. least_need i.processes.items i.waves.items rs c.clock-most.result) list
-    ∙ ap (least_need i.processes.items i.waves.items (readers_from c.args.slot 0 i.processes.items)) clock
+    ∙ ap (λ ps. least_need ps i.waves c.as_slice-readers.result.now c.tip.result.now.clock) c.deref.ensures.value
+    ∙ ap (λ rs. least_need i.processes.items i.waves rs c.tip.result.now.clock) list
+    ∙ ap (least_need i.processes.items i.waves (readers_from c.args.slot 0 i.processes.items)) c.tip.ensures.clock
     in
-    omega (arith, least, least_clock i.processes.items i.waves.items (readers_from c.args.slot 0 i.processes.items) (get_or i.waves.items c.args.slot (new_wave 0)).clock, ap (λ w. w.clock) lent)
+    omega (arith, least, least_clock i.processes.items i.waves (readers_from c.args.slot 0 i.processes.items) (get_or i.waves c.args.slot (new_wave 0)).clock)
 
 pub invariant_of-self : goal.invariant_of-self
 invariant_of-self c =
     let i = c.self.inside in
-    let there : c.args.slot < length i.waves.items = omega (arith, ap (λ s. length s.waves) c.self.view_is) in
+    let there : c.args.slot < length i.waves = omega (arith, ap (λ s. length s.waves) c.self.view_is) in
     let place : c.args.slot < length i.processes.items = omega (arith, there, c.self.invariant.sound.paired) in
     let none : Process = record { rule = Given; operands = []; stimulus = [] } in
     let here : c.is_given.result ≡ true = first_of (cc, search (rules, not-false, c.if-not-is_given.false)) in
@@ -69,23 +66,18 @@ invariant_of-self c =
     sym (c.is_given.ensures ∙ ap (λ p. is_given p.rule) (get_or_read _ _ _ place c.index.ensures none)) ∙ here
     in
     let list : c.as_slice-readers.result.now ≡ readers_from c.args.slot 0 i.processes.items =
-    c.as_slice-readers.ensures.value ∙ readers_at i.processes.items _ i.tables c.args.slot c.index-3.result.now c.self.invariant.tables place c.index-3.ensures ∙ listed_given i.processes.items c.args.slot given
+    c.as_slice-readers.ensures.value ∙ readers_at i.processes.items _ i.tables c.args.slot c.index-2.result.now c.self.invariant.tables place c.index-2.ensures ∙ listed_given i.processes.items c.args.slot given
     in
-    let lent : c.index_mut.result.now ≡ get_or i.waves.items c.args.slot (new_wave 0) = get_or_read _ _ _ there c.index_mut.ensures.value (new_wave 0) in
-    let clock : c.clock-most.result ≡ (get_or i.waves.items c.args.slot (new_wave 0)).clock = c.clock-most.ensures ∙ ap (λ w. w.clock) (get_or_read _ _ _ there c.index-2.ensures (new_wave 0)) in
-    let least : c.least_need_of-least.result ≡ least_need i.processes.items i.waves.items (readers_from c.args.slot 0 i.processes.items) (get_or i.waves.items c.args.slot (new_wave 0)).clock =
+    let least : c.least_need_of-least.result ≡ least_need i.processes.items i.waves (readers_from c.args.slot 0 i.processes.items) (get_or i.waves c.args.slot (new_wave 0)).clock =
     c.least_need_of-least.ensures
-    ∙ ap (λ ps. least_need ps c.deref-2.result.now c.as_slice-readers.result.now c.clock-most.result) c.deref.ensures.value
-    ∙ ap (λ ws. least_need i.processes.items ws c.as_slice-readers.result.now c.clock-most.result) c.deref-2.ensures.value
-    ∙ ap (λ rs. least_need i.processes.items i.waves.items rs c.clock-most.result) list
-    ∙ ap (least_need i.processes.items i.waves.items (readers_from c.args.slot 0 i.processes.items)) clock
+    ∙ ap (λ ps. least_need ps i.waves c.as_slice-readers.result.now c.tip.result.now.clock) c.deref.ensures.value
+    ∙ ap (λ rs. least_need i.processes.items i.waves rs c.tip.result.now.clock) list
+    ∙ ap (least_need i.processes.items i.waves (readers_from c.args.slot 0 i.processes.items)) c.tip.ensures.clock
     in
-    let made : c.trim_wave.new.wave ≡ trimmed_to (least_need i.processes.items i.waves.items (readers_from c.args.slot 0 i.processes.items) (get_or i.waves.items c.args.slot (new_wave 0)).clock) (get_or i.waves.items c.args.slot (new_wave 0)) =
-    c.trim_wave.ensures ∙ ap (λ n. trimmed_to n c.index_mut.result.now) least ∙ ap (trimmed_to (least_need i.processes.items i.waves.items (readers_from c.args.slot 0 i.processes.items) (get_or i.waves.items c.args.slot (new_wave 0)).clock)) lent
-    in
-    let s : Cluster = record { horizon = i.horizon; processes = i.processes.items; waves = i.waves.items } in
-    let P : Wave → Type 0 = λ w. IsSound (record { horizon = i.horizon; processes = i.processes.items; waves = set i.waves.items c.args.slot w }) in
-    let nets : wave_nets (set i.waves.items c.args.slot c.trim_wave.new.wave) ≡ wave_nets i.waves.items = map-set_same (λ v. v.net) i.waves.items c.args.slot c.trim_wave.new.wave (new_wave 0) (ap (λ w. w.net) made ∙ trim_net (least_need i.processes.items i.waves.items (readers_from c.args.slot 0 i.processes.items) (get_or i.waves.items c.args.slot (new_wave 0)).clock) (get_or i.waves.items c.args.slot (new_wave 0))) in
+    let made : c.trim.new.self ≡ set i.waves c.args.slot (trimmed_to (least_need i.processes.items i.waves (readers_from c.args.slot 0 i.processes.items) (get_or i.waves c.args.slot (new_wave 0)).clock) (get_or i.waves c.args.slot (new_wave 0))) = c.trim.ensures ∙ ap (λ n. set i.waves c.args.slot (trimmed_to n (get_or i.waves c.args.slot (new_wave 0)))) least in
+    let s : Cluster = record { horizon = i.horizon; processes = i.processes.items; waves = i.waves } in
+    let P : List Wave → Type 0 = λ ws. IsSound (record { horizon = i.horizon; processes = i.processes.items; waves = ws }) in
+    let nets : wave_nets c.trim.new.self ≡ wave_nets i.waves = ap wave_nets made ∙ map-set_same (λ v. v.net) i.waves c.args.slot (trimmed_to (least_need i.processes.items i.waves (readers_from c.args.slot 0 i.processes.items) (get_or i.waves c.args.slot (new_wave 0)).clock) (get_or i.waves c.args.slot (new_wave 0))) (new_wave 0) (trim_net (least_need i.processes.items i.waves (readers_from c.args.slot 0 i.processes.items) (get_or i.waves c.args.slot (new_wave 0)).clock) (get_or i.waves c.args.slot (new_wave 0))) in
     record {
       sound = subst P (sym made) (trim_sound s c.self.invariant.sound c.args.slot there given);
       tables = tables_still _ _ _ _ nets c.self.invariant.tables;
@@ -94,7 +86,7 @@ invariant_of-self c =
 pub returns-clause-waves : goal.returns-clause-waves
 returns-clause-waves c =
     let i = c.self.inside in
-    let there : c.args.slot < length i.waves.items = omega (arith, ap (λ s. length s.waves) c.self.view_is) in
+    let there : c.args.slot < length i.waves = omega (arith, ap (λ s. length s.waves) c.self.view_is) in
     let place : c.args.slot < length i.processes.items = omega (arith, there, c.self.invariant.sound.paired) in
     let none : Process = record { rule = Given; operands = []; stimulus = [] } in
     let here : c.is_given.result ≡ true = first_of (cc, search (rules, not-false, c.if-not-is_given.false)) in
@@ -102,30 +94,25 @@ returns-clause-waves c =
     sym (c.is_given.ensures ∙ ap (λ p. is_given p.rule) (get_or_read _ _ _ place c.index.ensures none)) ∙ here
     in
     let list : c.as_slice-readers.result.now ≡ readers_from c.args.slot 0 i.processes.items =
-    c.as_slice-readers.ensures.value ∙ readers_at i.processes.items _ i.tables c.args.slot c.index-3.result.now c.self.invariant.tables place c.index-3.ensures ∙ listed_given i.processes.items c.args.slot given
+    c.as_slice-readers.ensures.value ∙ readers_at i.processes.items _ i.tables c.args.slot c.index-2.result.now c.self.invariant.tables place c.index-2.ensures ∙ listed_given i.processes.items c.args.slot given
     in
-    let lent : c.index_mut.result.now ≡ get_or i.waves.items c.args.slot (new_wave 0) = get_or_read _ _ _ there c.index_mut.ensures.value (new_wave 0) in
-    let clock : c.clock-most.result ≡ (get_or i.waves.items c.args.slot (new_wave 0)).clock = c.clock-most.ensures ∙ ap (λ w. w.clock) (get_or_read _ _ _ there c.index-2.ensures (new_wave 0)) in
-    let least : c.least_need_of-least.result ≡ least_need i.processes.items i.waves.items (readers_from c.args.slot 0 i.processes.items) (get_or i.waves.items c.args.slot (new_wave 0)).clock =
+    let least : c.least_need_of-least.result ≡ least_need i.processes.items i.waves (readers_from c.args.slot 0 i.processes.items) (get_or i.waves c.args.slot (new_wave 0)).clock =
     c.least_need_of-least.ensures
-    ∙ ap (λ ps. least_need ps c.deref-2.result.now c.as_slice-readers.result.now c.clock-most.result) c.deref.ensures.value
-    ∙ ap (λ ws. least_need i.processes.items ws c.as_slice-readers.result.now c.clock-most.result) c.deref-2.ensures.value
-    ∙ ap (λ rs. least_need i.processes.items i.waves.items rs c.clock-most.result) list
-    ∙ ap (least_need i.processes.items i.waves.items (readers_from c.args.slot 0 i.processes.items)) clock
+    ∙ ap (λ ps. least_need ps i.waves c.as_slice-readers.result.now c.tip.result.now.clock) c.deref.ensures.value
+    ∙ ap (λ rs. least_need i.processes.items i.waves rs c.tip.result.now.clock) list
+    ∙ ap (least_need i.processes.items i.waves (readers_from c.args.slot 0 i.processes.items)) c.tip.ensures.clock
     in
-    let made : c.trim_wave.new.wave ≡ trimmed_to (least_need i.processes.items i.waves.items (readers_from c.args.slot 0 i.processes.items) (get_or i.waves.items c.args.slot (new_wave 0)).clock) (get_or i.waves.items c.args.slot (new_wave 0)) =
-    c.trim_wave.ensures ∙ ap (λ n. trimmed_to n c.index_mut.result.now) least ∙ ap (trimmed_to (least_need i.processes.items i.waves.items (readers_from c.args.slot 0 i.processes.items) (get_or i.waves.items c.args.slot (new_wave 0)).clock)) lent
+    let made : c.trim.new.self ≡ set i.waves c.args.slot (trimmed_to (least_need i.processes.items i.waves (readers_from c.args.slot 0 i.processes.items) (get_or i.waves c.args.slot (new_wave 0)).clock) (get_or i.waves c.args.slot (new_wave 0))) = c.trim.ensures ∙ ap (λ n. set i.waves c.args.slot (trimmed_to n (get_or i.waves c.args.slot (new_wave 0)))) least in
+    let s : Cluster = record { horizon = i.horizon; processes = i.processes.items; waves = i.waves } in
+    let whole : trimmed_to (least_need i.processes.items i.waves (readers_from c.args.slot 0 i.processes.items) (get_or i.waves c.args.slot (new_wave 0)).clock) (get_or i.waves c.args.slot (new_wave 0)) ≡ trimmed_wave s c.args.slot =
+    sym (ap (λ b. cond b (trimmed_to (least_need i.processes.items i.waves (readers_from c.args.slot 0 i.processes.items) (get_or i.waves c.args.slot (new_wave 0)).clock) (get_or i.waves c.args.slot (new_wave 0))) (get_or i.waves c.args.slot (new_wave 0))) given)
     in
-    let s : Cluster = record { horizon = i.horizon; processes = i.processes.items; waves = i.waves.items } in
-    let whole : c.trim_wave.new.wave ≡ trimmed_wave s c.args.slot =
-    made ∙ sym (ap (λ b. cond b (trimmed_to (least_need i.processes.items i.waves.items (readers_from c.args.slot 0 i.processes.items) (get_or i.waves.items c.args.slot (new_wave 0)).clock) (get_or i.waves.items c.args.slot (new_wave 0))) (get_or i.waves.items c.args.slot (new_wave 0))) given)
-    in
-    ap (set i.waves.items c.args.slot) whole ∙ ap (λ t. set t.waves c.args.slot (trimmed_wave t c.args.slot)) c.self.view_is
+    made ∙ ap (set i.waves c.args.slot) whole ∙ ap (λ t. set t.waves c.args.slot (trimmed_wave t c.args.slot)) c.self.view_is
 
 pub returns-clause-same : goal.returns-clause-same
 returns-clause-same c =
     let i = c.self.inside in
-    let there : c.args.slot < length i.waves.items = omega (arith, ap (λ s. length s.waves) c.self.view_is) in
+    let there : c.args.slot < length i.waves = omega (arith, ap (λ s. length s.waves) c.self.view_is) in
     let place : c.args.slot < length i.processes.items = omega (arith, there, c.self.invariant.sound.paired) in
     let none : Process = record { rule = Given; operands = []; stimulus = [] } in
     let here : c.is_given.result ≡ true = first_of (cc, search (rules, not-false, c.if-not-is_given.false)) in
@@ -133,19 +120,14 @@ returns-clause-same c =
     sym (c.is_given.ensures ∙ ap (λ p. is_given p.rule) (get_or_read _ _ _ place c.index.ensures none)) ∙ here
     in
     let list : c.as_slice-readers.result.now ≡ readers_from c.args.slot 0 i.processes.items =
-    c.as_slice-readers.ensures.value ∙ readers_at i.processes.items _ i.tables c.args.slot c.index-3.result.now c.self.invariant.tables place c.index-3.ensures ∙ listed_given i.processes.items c.args.slot given
+    c.as_slice-readers.ensures.value ∙ readers_at i.processes.items _ i.tables c.args.slot c.index-2.result.now c.self.invariant.tables place c.index-2.ensures ∙ listed_given i.processes.items c.args.slot given
     in
-    let lent : c.index_mut.result.now ≡ get_or i.waves.items c.args.slot (new_wave 0) = get_or_read _ _ _ there c.index_mut.ensures.value (new_wave 0) in
-    let clock : c.clock-most.result ≡ (get_or i.waves.items c.args.slot (new_wave 0)).clock = c.clock-most.ensures ∙ ap (λ w. w.clock) (get_or_read _ _ _ there c.index-2.ensures (new_wave 0)) in
-    let least : c.least_need_of-least.result ≡ least_need i.processes.items i.waves.items (readers_from c.args.slot 0 i.processes.items) (get_or i.waves.items c.args.slot (new_wave 0)).clock =
+    let least : c.least_need_of-least.result ≡ least_need i.processes.items i.waves (readers_from c.args.slot 0 i.processes.items) (get_or i.waves c.args.slot (new_wave 0)).clock =
     c.least_need_of-least.ensures
-    ∙ ap (λ ps. least_need ps c.deref-2.result.now c.as_slice-readers.result.now c.clock-most.result) c.deref.ensures.value
-    ∙ ap (λ ws. least_need i.processes.items ws c.as_slice-readers.result.now c.clock-most.result) c.deref-2.ensures.value
-    ∙ ap (λ rs. least_need i.processes.items i.waves.items rs c.clock-most.result) list
-    ∙ ap (least_need i.processes.items i.waves.items (readers_from c.args.slot 0 i.processes.items)) clock
+    ∙ ap (λ ps. least_need ps i.waves c.as_slice-readers.result.now c.tip.result.now.clock) c.deref.ensures.value
+    ∙ ap (λ rs. least_need i.processes.items i.waves rs c.tip.result.now.clock) list
+    ∙ ap (least_need i.processes.items i.waves (readers_from c.args.slot 0 i.processes.items)) c.tip.ensures.clock
     in
-    let made : c.trim_wave.new.wave ≡ trimmed_to (least_need i.processes.items i.waves.items (readers_from c.args.slot 0 i.processes.items) (get_or i.waves.items c.args.slot (new_wave 0)).clock) (get_or i.waves.items c.args.slot (new_wave 0)) =
-    c.trim_wave.ensures ∙ ap (λ n. trimmed_to n c.index_mut.result.now) least ∙ ap (trimmed_to (least_need i.processes.items i.waves.items (readers_from c.args.slot 0 i.processes.items) (get_or i.waves.items c.args.slot (new_wave 0)).clock)) lent
-    in
-    let nets : wave_nets (set i.waves.items c.args.slot c.trim_wave.new.wave) ≡ wave_nets i.waves.items = map-set_same (λ v. v.net) i.waves.items c.args.slot c.trim_wave.new.wave (new_wave 0) (ap (λ w. w.net) made ∙ trim_net (least_need i.processes.items i.waves.items (readers_from c.args.slot 0 i.processes.items) (get_or i.waves.items c.args.slot (new_wave 0)).clock) (get_or i.waves.items c.args.slot (new_wave 0))) in
+    let made : c.trim.new.self ≡ set i.waves c.args.slot (trimmed_to (least_need i.processes.items i.waves (readers_from c.args.slot 0 i.processes.items) (get_or i.waves c.args.slot (new_wave 0)).clock) (get_or i.waves c.args.slot (new_wave 0))) = c.trim.ensures ∙ ap (λ n. set i.waves c.args.slot (trimmed_to n (get_or i.waves c.args.slot (new_wave 0)))) least in
+    let nets : wave_nets c.trim.new.self ≡ wave_nets i.waves = ap wave_nets made ∙ map-set_same (λ v. v.net) i.waves c.args.slot (trimmed_to (least_need i.processes.items i.waves (readers_from c.args.slot 0 i.processes.items) (get_or i.waves c.args.slot (new_wave 0)).clock) (get_or i.waves c.args.slot (new_wave 0))) (new_wave 0) (trim_net (least_need i.processes.items i.waves (readers_from c.args.slot 0 i.processes.items) (get_or i.waves c.args.slot (new_wave 0)).clock) (get_or i.waves c.args.slot (new_wave 0))) in
     record { horizon = ap (λ t. t.horizon) c.self.view_is; processes = ap (λ t. t.processes) c.self.view_is; nets = nets ∙ ap (λ t. wave_nets t.waves) c.self.view_is }

@@ -1,0 +1,305 @@
+#!/usr/bin/env python3
+"""circuits.py: the circuits that are measured, made from nothing but their sizes and a seed.
+
+  circuits.py list
+  circuits.py write NAME FOLDER [--quick]
+
+A folder gets netlist.bench, delays.csv, stimuli.csv, clocks.csv (each table only where it has rows),
+options (the words for the horizon, the clock and the level before the first sample), nets (how many
+there are) and netlist.v, the same circuit as Verilog.
+"""
+import os
+import random
+import sys
+
+
+class Circuit:
+    """A netlist with its tables. Gates are (name, kind, operands) in the order of the netlist."""
+
+    def __init__(self, horizon=0, clock=None, init="x"):
+        self.inputs, self.gates, self.outputs = [], [], []
+        self.kind_delays, self.net_delays = {}, {}
+        self.stimuli, self.clocks = [], {}
+        self.horizon, self.clock, self.init = horizon, clock, init
+
+    def input(self, name):
+        self.inputs.append(name)
+        return name
+
+    def gate(self, kind, *operands, name=None):
+        name = name or f"n{len(self.gates)}"
+        self.gates.append((name, kind, operands))
+        return name
+
+    def drive(self, tick, names, number, last):
+        """Puts a number on a bus, the least bit first; rows for the bits that change."""
+        for i, name in enumerate(names):
+            bit = number >> i & 1
+            if last.get(name) != bit:
+                last[name] = bit
+                self.stimuli.append((tick, name, bit))
+
+    def adder(self, a, b, carry):
+        """A full adder of five gates: the sum and the carry."""
+        half = self.gate("XOR", a, b)
+        total = self.gate("XOR", half, carry)
+        both = self.gate("AND", a, b)
+        through = self.gate("AND", half, carry)
+        return total, self.gate("OR", both, through)
+
+    def delay(self, name, kind):
+        return self.net_delays.get(name, self.kind_delays.get(kind, 1))
+
+    @property
+    def nets(self):
+        return len(self.inputs) + len(self.gates)
+
+    def options(self):
+        words = ["--horizon", str(self.horizon), "--init", self.init]
+        if self.clock:
+            words += ["--clock", f"{self.clock[0]}:{self.clock[1]}"]
+        return words
+
+    def bench(self):
+        lines = [f"INPUT({x})" for x in self.inputs] + [f"OUTPUT({x})" for x in self.outputs]
+        lines += [f"{name} = {kind}({', '.join(operands)})" for name, kind, operands in self.gates]
+        return "\n".join(lines) + "\n"
+
+    def delay_rows(self):
+        return [("kind", k, d) for k, d in self.kind_delays.items()] + [("net", n, d) for n, d in self.net_delays.items()]
+
+    def write(self, folder):
+        os.makedirs(folder, exist_ok=True)
+        tables = {
+            "delays.csv": (("by", "name", "delay"), self.delay_rows()),
+            "stimuli.csv": (("tick", "net", "value"), self.stimuli),
+            "clocks.csv": (("net", "first", "period"), [(n, f, p) for n, (f, p) in self.clocks.items()])}
+        texts = {"netlist.bench": self.bench(), "options": " ".join(self.options()) + "\n", "nets": f"{self.nets}\n", "netlist.v": verilog(self)}
+        for name, (header, rows) in tables.items():
+            if rows:
+                texts[name] = "\n".join(",".join(map(str, row)) for row in [header] + rows) + "\n"
+        for name, text in texts.items():
+            with open(os.path.join(folder, name), "w") as file:
+                file.write(text)
+
+
+# Verilog. A tick is two units of its time, so that a flip-flop can sample when the changes of a tick are over. A
+# gate is a non-blocking assignment with a delay, which lets each pulse pass, as a transport delay does; `assign
+# #d` and the primitives swallow short ones. The nets are spread over modules of some hundred, since Icarus
+# takes long to compile one large module.
+JOIN = {"AND": " & ", "NAND": " & ", "OR": " | ", "NOR": " | ", "XOR": " ^ ", "XNOR": " ^ ", "NOT": "", "BUFF": ""}
+TURNED = ("NAND", "NOR", "XNOR", "NOT")
+PART = 200
+
+
+def gate_line(c, ref, name, kind, operands):
+    value = JOIN[kind].join(map(ref, operands))
+    value = f"~({value})" if kind in TURNED else value
+    return f"always @* {ref(name)}<= #{2 * c.delay(name, kind)} {value};"
+
+
+def stimulus_lines(c, ref):
+    """The levels of the inputs and of flip-flops before their first samples, by rising tick."""
+    lines, now = [], 0
+    if c.init != "x":
+        lines += [f"{ref(name)}<= 1'b{c.init};" for name, kind, _ in c.gates if kind == "DFF"]
+    for tick, name, level in sorted(c.stimuli, key=lambda row: row[0]):
+        if tick >= c.horizon:
+            break
+        if tick > now:
+            lines.append(f"#{2 * (tick - now)};")
+            now = tick
+        lines.append(f"{ref(name)}<= 1'b{level};")
+    return lines
+
+
+def verilog(c):
+    names = c.inputs + [name for name, _, _ in c.gates]
+    part = {name: i // PART for i, name in enumerate(names)}
+    gates = {name: (name, kind, operands) for name, kind, operands in c.gates}
+    flops, lines = {}, ["`timescale 1ns/1ns"]
+
+    def ref(name):
+        return f"top.p{part[name]}.\\{name} "
+    for first in range(0, len(names), PART):
+        held = names[first:first + PART]
+        lines += [f"module part{first // PART};"] + [f"reg \\{name} ;" for name in held]
+        lines += [gate_line(c, ref, *gates[name]) for name in held if name in gates and gates[name][1] != "DFF"]
+        lines.append("endmodule")
+    for name, kind, operands in c.gates:
+        if kind == "DFF":
+            sample = f"{ref(name)}<= #{2 * c.delay(name, kind) - 1} {ref(operands[0])};"
+            flops.setdefault(c.clocks.get(name, c.clock), []).append(sample)
+    lines += ["module top;"] + [f"part{i} p{i}();" for i in range(len(range(0, len(names), PART)))]
+    for (first, period), samples in flops.items():
+        lines += [f"initial begin #{2 * first + 1}; forever begin"] + samples + [f"#{2 * period}; end end"]
+    lines += ["initial begin"] + stimulus_lines(c, ref)
+    lines += ["end", 'initial begin $dumpfile("/dev/null"); $dumpvars(0, top);', f"#{2 * c.horizon}; $finish; end", "endmodule"]
+    return "\n".join(lines) + "\n"
+
+
+UNIT = {}
+SLOW = {"XOR": 3, "AND": 2, "OR": 2}
+
+
+def multiplier(bits, count, delays, gap=0, seed=1):
+    """An array multiplier: a row of full adders for each bit of the second factor, fed with so many pairs."""
+    c, r = Circuit(), random.Random(f"multiplier {bits} {seed}")
+    a = [c.input(f"a{i}") for i in range(bits)]
+    b = [c.input(f"b{i}") for i in range(bits)]
+    zero = c.input("zero")
+    c.kind_delays = dict(delays)
+    total, product = None, []
+    for y in b:
+        row = [c.gate("AND", x, y) for x in a]
+        if total is None:
+            total = row + [zero]
+        else:
+            carry, sums = zero, []
+            for x, old in zip(row, total[1:]):
+                out, carry = c.adder(x, old, carry)
+                sums.append(out)
+            total = sums + [carry]
+        product.append(total[0])
+    c.outputs = product + total[1:]
+    gap = gap or (6 if delays else 2) * (6 * bits + 4)
+    last = {}
+    c.drive(0, [zero], 0, last)
+    for k in range(count):
+        c.drive(k * gap, a, r.getrandbits(bits), last)
+        c.drive(k * gap, b, r.getrandbits(bits), last)
+    c.horizon = count * gap
+    return c
+
+
+TAPS = {16: (16, 15, 13, 4), 32: (32, 22, 2, 1)}
+
+
+def lfsrs(width, cycles, banks, period=4):
+    """So many shift registers with feedback, each at one of four phases of the clock."""
+    c = Circuit(cycles * period, (period - 1, period), "1")
+    for bank in range(banks):
+        q = [f"b{bank}q{i}" for i in range(width)]
+        feedback = c.gate("XOR", *(q[tap - 1] for tap in TAPS[width]), name=f"b{bank}f")
+        for name, data in zip(q, [feedback] + q):
+            c.gate("DFF", data, name=name)
+            if bank % 4:
+                c.clocks[name] = (period - 1 + bank % 4, period)
+    return c
+
+
+KINDS = ("NAND", "NAND", "NOR", "NOR", "AND", "OR", "NOT", "NOT", "XOR", "BUFF")
+
+
+def random_sequential(gates, flops, inputs, cycles, period=60, depth=15, seed=1):
+    """Layers of random gates between flip-flops, with random delays from 1 to 3."""
+    r = random.Random(f"random {gates} {seed}")
+    c = Circuit(cycles * period, (period - 1, period), "0")
+    bus = [c.input(f"i{k}") for k in range(inputs)]
+    sources = bus + [f"f{k}" for k in range(flops)]
+    made, layer = [], sources
+    for level in range(depth):
+        new = []
+        for _ in range(gates // depth + (level < gates % depth)):
+            kind = r.choice(KINDS)
+            pins = 1 if kind in ("NOT", "BUFF") else r.choice((2, 2, 2, 3, 4))
+            new.append(c.gate(kind, *(r.choice(layer if r.random() < 0.8 else sources) for _ in range(pins))))
+        made += new
+        layer = new
+    for k in range(flops):
+        c.gate("DFF", r.choice(made[len(made) // 2:]), name=f"f{k}")
+    c.net_delays = {name: r.choice((2, 2, 3)) for name in made if r.random() < 0.5}
+    last = {}
+    for cycle in range(cycles):
+        c.drive(cycle * period, bus, r.getrandbits(inputs), last)
+    return c
+
+
+def pipelines(bits, stages, cycles, banks, seed=1):
+    """Adders between registers, in so many independent banks."""
+    r = random.Random(f"pipelines {seed}")
+    period = 4 * (bits + 2)
+    c = Circuit(cycles * period, (period - 1, period), "0")
+    for bank in range(banks):
+        a = [c.input(f"b{bank}a{i}") for i in range(bits)]
+        zero = c.input(f"b{bank}zero")
+        word = a
+        for stage in range(stages):
+            held = [c.gate("DFF", x, name=f"b{bank}s{stage}r{i}") for i, x in enumerate(word)]
+            carry, word = zero, []
+            for x, y in zip(a, held):
+                out, carry = c.adder(x, y, carry)
+                word.append(out)
+        last = {}
+        c.drive(0, [zero], 0, last)
+        for cycle in range(cycles):
+            c.drive(cycle * period, a, r.getrandbits(bits), last)
+    c.stimuli.sort(key=lambda row: row[0])
+    return c
+
+
+def adder(bits, count, seed=1):
+    """A ripple-carry adder with delays; the first pair makes the carry run through all bits."""
+    c, r = Circuit(), random.Random(f"adder {seed}")
+    a = [c.input(f"a{i}") for i in range(bits)]
+    b = [c.input(f"b{i}") for i in range(bits)]
+    carry = c.input("c")
+    bus = a + b + [carry]
+    for x, y in zip(a, b):
+        out, carry = c.adder(x, y, carry)
+        c.outputs.append(out)
+    c.kind_delays = dict(SLOW)
+    gap, last = 4 * (2 * bits + 4), {}
+    c.drive(0, bus, (1 << bits) - 1 | 1 << 2 * bits, last)
+    for k in range(1, count):
+        c.drive(k * gap, bus, r.getrandbits(2 * bits + 1), last)
+    c.horizon = count * gap
+    return c
+
+
+def ring(horizon, idle):
+    """A ring of one gate that changes at each tick, beside a tree of gates that stand still after some ticks."""
+    c = Circuit(horizon)
+    enable = c.input("e")
+    c.gate("NAND", enable, "y", name="y")
+    c.stimuli = [(0, enable, 0), (1, enable, 1)]
+    nodes = [enable]
+    for k in range(idle):
+        nodes.append(c.gate("NOT", nodes[k // 2], name=f"idle{k}"))
+    return c
+
+
+# Each with its measured and its quick size.
+ALL = {
+    "multiplier 64": (lambda: multiplier(64, 6, UNIT), lambda: multiplier(16, 6, UNIT)),
+    "multiplier 104": (lambda: multiplier(104, 4, UNIT), lambda: multiplier(24, 4, UNIT)),
+    "multiplier 64, delays": (lambda: multiplier(64, 4, SLOW), lambda: multiplier(16, 4, SLOW)),
+    "600 LFSRs of 16": (lambda: lfsrs(16, 600, 600), lambda: lfsrs(16, 60, 60)),
+    "1900 LFSRs of 32": (lambda: lfsrs(32, 120, 1900), lambda: lfsrs(32, 12, 190)),
+    "random, s38417": (lambda: random_sequential(22179, 1636, 28, 300), lambda: random_sequential(2217, 163, 28, 30)),
+    "40 pipelines": (lambda: pipelines(16, 8, 60, 40), lambda: pipelines(16, 8, 10, 4)),
+    "adder 4000": (lambda: adder(4000, 4), lambda: adder(200, 4)),
+    "ring": (lambda: ring(1_000_000, 0), lambda: ring(2_000, 0)),
+    "ring, 20000 idle": (lambda: ring(1_000_000, 20_000), lambda: ring(1_000, 2_000)),
+}
+
+
+def make(name, quick=False):
+    return ALL[name][1 if quick else 0]()
+
+
+def main(words):
+    quick = "--quick" in words
+    words = [word for word in words if word != "--quick"]
+    if words == ["list"]:
+        print("\n".join(ALL))
+    elif len(words) == 3 and words[0] == "write" and words[1] in ALL:
+        make(words[1], quick).write(words[2])
+    else:
+        print(__doc__, file=sys.stderr)
+        return 2
+    return 0
+
+
+if __name__ == "__main__":
+    sys.exit(main(sys.argv[1:]))

@@ -1,0 +1,86 @@
+//! The end of a wave: what a step mostly needs to know of it, in a few words side by side.
+
+ghost use Rattle.std.specs.Prelude.{◌≡◌, ◌≤◌, ◌+◌, ℕ, IfSome, [], ◌∷◌};
+ghost use Rattle.cmb_wave.specs.Wave.{Wave as WaveOf, grown};
+ghost use Rattle.cmb_core.specs.Tips.{IsTip};
+ghost use Rattle.cmb_core.specs.Rows.{delayed};
+
+use cmb_wave::{Change, Level, Wave};
+
+/// A wave's clock and its two newest changes. From the tick of `before` on the wave has that level,
+/// up to the newest change. Where there is no such change its place has tick 0 and the level before
+/// the first change.
+#[derive(Clone, Copy, Debug)]
+pub struct Tip {
+    pub clock: u32,
+    pub before: Change,
+    pub newest: [Change; 1],
+}
+
+impl Tip {
+    /// The end of a wave.
+    pub fn of(wave: &Wave) -> Tip
+        ensures { IsTip result wave.now }
+    {
+        let changes = wave.changes();
+        let count = changes.len();
+        let start = Change {
+            tick: 0,
+            level: wave.kept(),
+        };
+        if count == 0 {
+            return Tip {
+                clock: wave.clock(),
+                before: start,
+                newest: [start],
+            };
+        }
+        let newest = changes[count - 1];
+        if count == 1 {
+            return Tip {
+                clock: wave.clock(),
+                before: start,
+                newest: [newest],
+            };
+        }
+        Tip {
+            clock: wave.clock(),
+            before: changes[count - 2],
+            newest: [newest],
+        }
+    }
+
+    /// The end of a wave that went on by these changes, from what it was before.
+    pub fn after(self, wave: &Wave, changes: &[Change]) -> Tip
+        ensures { (old : WaveOf) → IsTip self old → wave.now ≡ grown old wave.now.clock changes.now → IsTip result wave.now }
+    {
+        if changes.is_empty() {
+            Tip {
+                clock: wave.clock(),
+                ..self
+            }
+        } else {
+            Tip::of(wave)
+        }
+    }
+
+    /// The newest change.
+    pub fn newest(&self) -> Change
+        ensures { self.now.newest ≡ result ∷ [] }
+    {
+        self.newest[0]
+    }
+
+    /// The level that the wave has at an output from the output's clock on, some ticks late, None where
+    /// a change is still on its way.
+    pub fn settled(&self, delay: u32, clock: u32) -> Option<Level>
+        ensures { (wave : WaveOf) → IsTip self.now wave → IfSome result (λ level. (t : ℕ) → clock ≤ t → delayed wave delay t ≡ level) }
+    {
+        let newest = self.newest();
+        if clock < delay || clock - delay < newest.tick {
+            None
+        } else {
+            Some(newest.level)
+        }
+    }
+}

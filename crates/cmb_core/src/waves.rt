@@ -1,0 +1,165 @@
+//! The waves of a cluster, with the end of each beside them.
+
+ghost use Rattle.std.specs.Prelude.{◌≡◌, ◌≤◌, ◌<◌, IfOk, IfErr, OnOk, OnErr, Ok, length, map, slice_index_or, slice_set};
+ghost use Rattle.cmb_wave.specs.Waveform.{IsTrace, last_level, level_at, level_before};
+ghost use Rattle.cmb_wave.specs.Wave.{new_wave, grown};
+ghost use Rattle.cmb_wave.specs.Calls.{taken, hears, heard_wave, RefusesAs};
+ghost use Rattle.cmb_core.specs.Tips.{IsTip};
+ghost use Rattle.cmb_core.specs.Trims.{trimmed_to};
+
+use crate::tip::Tip;
+use cmb_wave::{Change, Heard, Level, Piece, Promise, Wave, WaveFault};
+use std::alloc::{AllocError, Global};
+use std::marker::Model;
+
+/// Waves, each with its end in a list of its own, so that a step that finds nothing new reads that
+/// list alone.
+#[derive(Debug, Drop)]
+pub struct Waves {
+    waves: Vec<Wave>,
+    tips: Vec<Tip>,
+}
+
+impl Model for Waves {
+    ghost use Rattle.std.specs.Prelude.{List};
+    ghost use Rattle.cmb_wave.specs.Wave.{Wave};
+    ghost use Rattle.cmb_core.specs.Tips.{AreTips};
+
+    ghost Value = { List Wave };
+
+    ghost view = { λ w. w.waves.items };
+
+    ghost invariant = { λ w. AreTips w.waves.items w.tips.items };
+}
+
+impl Waves {
+    /// New waves of these nets.
+    pub fn new(alloc: Global, nets: &[u32]) -> Result<Waves, AllocError>
+        ensures { IfOk result (λ waves. waves ≡ map new_wave nets.now) }
+    {
+        let mut waves = Vec::with_capacity(alloc, nets.len())?;
+        let mut tips = Vec::with_capacity(alloc, nets.len())?;
+        for net in nets {
+            let wave = Wave::new(alloc, *net);
+            tips.push(Tip::of(&wave))?;
+            waves.push(wave)?;
+        }
+        Ok(Waves { waves, tips })
+    }
+
+    /// How many waves there are.
+    pub fn len(&self) -> usize
+        ensures { result ≡ length self.now }
+    {
+        self.waves.len()
+    }
+
+    /// The allocator of the list.
+    pub fn allocator(&self) -> Global {
+        *self.waves.allocator()
+    }
+
+    /// The wave in a place.
+    pub fn at(&self, slot: usize) -> &Wave
+        requires { slot < length self.now }
+        ensures { result.now ≡ slice_index_or self.now slot (new_wave 0) }
+    {
+        &self.waves[slot]
+    }
+
+    /// The end of the wave in a place.
+    pub fn tip(&self, slot: usize) -> &Tip
+        requires { slot < length self.now }
+        ensures { IsTip result.now (slice_index_or self.now slot (new_wave 0)) }
+    {
+        &self.tips[slot]
+    }
+
+    /// The level one tick below the clock of the wave in a place, x at clock 0.
+    #[tactic(auto, using(crate::proofs::TipFacts::tip_before))]
+    pub fn last_level(&self, slot: usize) -> Level
+        requires { slot < length self.now }
+        ensures last { result ≡ last_level (slice_index_or self.now slot (new_wave 0)).kept (slice_index_or self.now slot (new_wave 0)).changes }
+        ensures before { result ≡ level_before (level_at (slice_index_or self.now slot (new_wave 0)).kept (slice_index_or self.now slot (new_wave 0)).changes) (slice_index_or self.now slot (new_wave 0)).clock }
+    {
+        // What these two answer isn't read: their contracts say that the changes are a trace.
+        let wave = &self.waves[slot];
+        let _kept = wave.kept();
+        let _changes = wave.changes();
+        self.tips[slot].newest().level
+    }
+
+    /// Lets the wave in a place go on, as `Wave::extend` does.
+    pub fn extend(&mut self, slot: usize, to: u32, changes: &[Change]) -> Result<(), AllocError>
+        requires slot { slot < length self.old }
+        requires trace { IsTrace (last_level (slice_index_or self.old slot (new_wave 0)).kept (slice_index_or self.old slot (new_wave 0)).changes) (slice_index_or self.old slot (new_wave 0)).clock changes.now to }
+        ensures ok { OnOk result (self.new ≡ slice_set self.old slot (grown (slice_index_or self.old slot (new_wave 0)) to changes.now)) }
+        ensures unchanged { OnErr result (self.new ≡ self.old) }
+    {
+        let wave = &mut self.waves[slot];
+        wave.extend(to, changes)?;
+        self.tips[slot] = self.tips[slot].after(wave, changes);
+        Ok(())
+    }
+
+    /// Lets the wave in a place go on, as `Wave::grow` does.
+    pub fn grow(&mut self, slot: usize, to: u32, changes: Vec<Change>) -> Result<Piece, AllocError>
+        requires slot { slot < length self.old }
+        requires later { (slice_index_or self.old slot (new_wave 0)).clock < to }
+        requires trace { IsTrace (last_level (slice_index_or self.old slot (new_wave 0)).kept (slice_index_or self.old slot (new_wave 0)).changes) (slice_index_or self.old slot (new_wave 0)).clock changes.items to }
+        ensures ok { OnOk result (self.new ≡ slice_set self.old slot (grown (slice_index_or self.old slot (new_wave 0)) to changes.items)) }
+        ensures piece { IfOk result (λ p. p ≡ record { net = (slice_index_or self.old slot (new_wave 0)).net; from = (slice_index_or self.old slot (new_wave 0)).clock; to = to; changes = changes.items }) }
+        ensures unchanged { OnErr result (self.new ≡ self.old) }
+    {
+        let wave = &mut self.waves[slot];
+        let piece = wave.grow(to, changes)?;
+        self.tips[slot] = Tip::of(wave);
+        Ok(piece)
+    }
+
+    /// Gives a piece to the wave in a place, as `Wave::take` does.
+    pub fn take(&mut self, slot: usize, piece: &Piece) -> Result<u32, WaveFault>
+        requires { slot < length self.old }
+        ensures ok { OnOk result (taken (slice_index_or self.old slot (new_wave 0)) piece.now ≡ Ok (slice_index_or self.new slot (new_wave 0))) }
+        ensures waves { self.new ≡ slice_set self.old slot (slice_index_or self.new slot (new_wave 0)) }
+        ensures clock { IfOk result (λ clock. clock ≡ (slice_index_or self.new slot (new_wave 0)).clock) }
+        ensures fault { IfErr result (λ fault. RefusesAs fault (taken (slice_index_or self.old slot (new_wave 0)) piece.now)) }
+        ensures unchanged { OnErr result (self.new ≡ self.old) }
+        ensures net { (slice_index_or self.new slot (new_wave 0)).net ≡ (slice_index_or self.old slot (new_wave 0)).net }
+        ensures base { (slice_index_or self.new slot (new_wave 0)).base ≡ (slice_index_or self.old slot (new_wave 0)).base }
+        ensures later { (slice_index_or self.old slot (new_wave 0)).clock ≤ (slice_index_or self.new slot (new_wave 0)).clock }
+    {
+        let wave = &mut self.waves[slot];
+        let answer = wave.take(piece);
+        self.tips[slot] = Tip::of(wave);
+        answer
+    }
+
+    /// Tells a promise to the wave in a place, as `Wave::hear` does.
+    pub fn hear(&mut self, slot: usize, promise: Promise) -> Heard
+        requires { slot < length self.old }
+        ensures answer { result ≡ hears (slice_index_or self.old slot (new_wave 0)) promise }
+        ensures waves { self.new ≡ slice_set self.old slot (heard_wave (slice_index_or self.old slot (new_wave 0)) promise) }
+        ensures net { (heard_wave (slice_index_or self.old slot (new_wave 0)) promise).net ≡ (slice_index_or self.old slot (new_wave 0)).net }
+        ensures base { (heard_wave (slice_index_or self.old slot (new_wave 0)) promise).base ≡ (slice_index_or self.old slot (new_wave 0)).base }
+        ensures later { (slice_index_or self.old slot (new_wave 0)).clock ≤ (heard_wave (slice_index_or self.old slot (new_wave 0)) promise).clock }
+    {
+        let wave = &mut self.waves[slot];
+        let answer = wave.hear(promise);
+        self.tips[slot] = Tip::of(wave);
+        answer
+    }
+
+    /// Lets the wave in a place forget what is before a tick, if it hasn't.
+    pub fn trim(&mut self, slot: usize, least: u32)
+        requires slot { slot < length self.old }
+        requires known { least ≤ (slice_index_or self.old slot (new_wave 0)).clock }
+        ensures { self.new ≡ slice_set self.old slot (trimmed_to least (slice_index_or self.old slot (new_wave 0))) }
+    {
+        let wave = &mut self.waves[slot];
+        if wave.base() < least {
+            wave.forget(least);
+            self.tips[slot] = Tip::of(wave);
+        }
+    }
+}

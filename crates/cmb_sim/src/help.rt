@@ -1,0 +1,70 @@
+//! The texts of help.
+
+pub const ABOUT: &str = "Simulates a gate-level netlist and writes the waveforms of its nets";
+
+pub const RUN: &str =
+    "Reads a netlist from standard input and writes a value change dump (VCD) to standard output";
+
+pub const HORIZON: &str = "Simulates the ticks 0 to N-1, N from 1 to 1,000,000";
+
+pub const CLOCK: &str =
+    "Flip-flops sample at ticks F, F+P, F+2P ..; at most 1,000,000, P at least 1";
+
+pub const INIT: &str = "What a flip-flop has before its first sample: 0, 1 or x [default: x]";
+
+pub const DELAYS: &str = "Table of delays in ticks; a pin without a row has a delay of 1";
+
+pub const STIMULI: &str = "Table of the levels of inputs; an input is x before its first row";
+
+pub const CLOCKS: &str = "Table of when single flip-flops sample, in the place of --clock";
+
+pub const MODE: &str = "How the run is made: rounds, free or plain [default: rounds]";
+
+pub const WORKERS: &str = "Threads in the modes rounds and free, 1 to 64 [default: 1]";
+
+pub const PARTS: &str = "Clusters of nets that the threads share out, 1 to 64 [default: 1]";
+
+/// What stands below the options: the files, the modes, the statuses and a line to begin with.
+pub const FILES: &str = "\
+Time is whole ticks; the VCD has one tick as 1 ns. A level is 0, 1 or x, which is: not known.
+All nets are x before tick 0. An input has at most 16,777,216 bytes; a table not given is empty.
+
+The netlist, on standard input, in the .bench form of the ISCAS sets; # begins a comment:
+    INPUT(a)
+    y = NAND(a, b)
+Kinds: AND, NAND, OR, NOR, XOR, XNOR, NOT, BUFF (or BUF), and DFF, a flip-flop with its data.
+OUTPUT(y) may stand too and changes nothing: all nets are written.
+
+--delays FILE: the delay, 1 to 1,000,000 ticks, by kind, net or pin (y:2 is y's second operand).
+A pin's row beats its net's, and that its kind's. A delay is a transport delay: every pulse passes.
+    by,name,delay
+    kind,NAND,3
+
+--stimuli FILE: the level that an input has from a tick on.
+    tick,net,value
+    5,a,1
+
+--clocks FILE: a flip-flop samples at the ticks first, first+period, first+2*period and so on.
+    net,first,period
+    q,4,10
+
+Modes; each writes the same text:
+    rounds  threads carry their clusters on by changes, and hand over what is new after each round
+    free    threads run freely, and promise one another up to which tick a net doesn't change
+    plain   one thread fills a table with a place for each net and tick, at most 16,777,216
+A thread without a cluster has nothing to do: give at least as many --clusters as --workers.
+
+Status 0: the text was written. Status 2: the command line is wrong.
+Status 1: a fault, told by one line on standard error, `cmbsim: fault N at P`. By N, P is
+    1 to 8              the line of the netlist
+    20 to 22            0: the horizon, --clock, or a flip-flop without a clock
+    23 to 32, 34 to 37  the record of a table, the header being record 1
+    33                  0: mode plain would need more than 16,777,216 places
+    53                  a net: a free run ended before that net was complete
+    60, 61              1 the netlist, 2 delays, 3 stimuli, 4 clocks: too long, or not readable
+    62                  the number of bytes after which the output failed
+    70                  0: memory was wanting
+README.md and docs/GUIDE.md of the repository have each number.
+
+Example, in the repository's folder examples/inverter:
+    cmbsim run --horizon 10 --stimuli stimuli.csv < netlist.bench > inverter.vcd";

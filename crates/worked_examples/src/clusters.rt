@@ -1,0 +1,314 @@
+//! The worked examples of clusters. Their values follow by hand from the netlists, delays and stimuli.
+
+ghost use Rattle.std.specs.Prelude.{◌≤◌, length};
+
+use crate::inputs::{Inputs, bare, design_of};
+use cmb_core::{Cluster, Clustering, ClusteringFault, DeliverFault};
+use cmb_design::{Design, Settings};
+use cmb_wave::{Change, Heard, Level, Piece, Promise};
+use std::alloc::Global;
+use std::process::Abort;
+use std::test::Fail;
+
+// What the flip-flops sample at, from first on with a period, and have before.
+fn settings_of(horizon: u32, clock: Option<(u32, u32)>) -> Settings {
+    Settings {
+        horizon,
+        clock,
+        init: Level::Zero,
+    }
+}
+
+// The cluster with this number, where the nets are spread over so many.
+fn opened(
+    rt: &impl Abort,
+    alloc: Global,
+    design: &Design,
+    clusters: u32,
+    cluster: u32,
+) -> Result<Cluster, Fail> {
+    let nets = design.netlist().len();
+    assert!(rt; nets <= 65_535);
+    let clustering = Clustering::spread(alloc, nets as u32, clusters)?;
+    assert!(rt; clustering.nets() == nets);
+    assert!(rt; cluster < clustering.clusters());
+    Ok(Cluster::open(alloc, design, &clustering, cluster)?)
+}
+
+// A cluster of a design of these texts.
+fn cluster_of(
+    rt: &impl Abort,
+    alloc: Global,
+    texts: Inputs<'_>,
+    times: (u32, Option<(u32, u32)>),
+    clusters: u32,
+    cluster: u32,
+) -> Result<Cluster, Fail> {
+    let design = design_of(rt, alloc, texts, settings_of(times.0, times.1))?;
+    opened(rt, alloc, &design, clusters, cluster)
+}
+
+// Of a flip-flop q that samples its data d at ticks 2, 6 and 10, and d, the inverse of q.
+fn toggle(rt: &impl Abort, alloc: Global, clusters: u32, cluster: u32) -> Result<Cluster, Fail> {
+    let texts = bare(b"q = DFF(d)\nd = NOT(q)\n");
+    cluster_of(rt, alloc, texts, (12, Some((2, 4))), clusters, cluster)
+}
+
+// A piece with one change.
+fn piece_of(alloc: Global, net: u32, to: u32, tick: u32, level: Level) -> Result<Piece, Fail> {
+    let changes = vec![in alloc; Change { tick, level }]?;
+    Ok(Piece::new(net, 0, to, changes)?)
+}
+
+// A piece of q with two changes.
+fn two_changes(alloc: Global) -> Result<Piece, Fail> {
+    let first = Change {
+        tick: 0,
+        level: Level::Zero,
+    };
+    let second = Change {
+        tick: 3,
+        level: Level::One,
+    };
+    Ok(Piece::new(0, 0, 7, vec![in alloc; first, second]?)?)
+}
+
+// What a step of a net answers.
+fn stepped(cluster: &mut Cluster, net: u32) -> Result<Option<Piece>, Fail> {
+    Ok(cluster.step(net)?)
+}
+
+// Whether a step of all nets raises a clock.
+fn all_stepped(cluster: &mut Cluster) -> Result<bool, Fail> {
+    Ok(cluster.step_all()?)
+}
+
+// The output clocks of nets 0 and 1.
+fn clocks(cluster: &Cluster) -> (Option<u32>, Option<u32>) {
+    (cluster.out_clock(0), cluster.out_clock(1))
+}
+
+// The base and the clock of an input wave after a trim.
+fn trimmed(cluster: &mut Cluster, net: u32) -> (Option<u32>, Option<u32>) {
+    cluster.trim();
+    (cluster.base(net), cluster.in_clock(net))
+}
+
+// The part of a step: its span and its changes.
+fn is_part(rt: &impl Abort, part: Option<Piece>, from: u32, to: u32, changes: &[Change]) {
+    let Some(piece) = part else {
+        panic!(rt; "no part");
+    };
+    assert_eq!(rt; piece.from(), from);
+    assert_eq!(rt; piece.to(), to);
+    assert!(rt; piece.changes() == changes);
+}
+
+fn at(tick: u32, level: Level) -> Change {
+    Change { tick, level }
+}
+
+fn delivers(
+    rt: &impl Abort,
+    cluster: &mut Cluster,
+    piece: &Piece,
+    answer: Result<u32, DeliverFault>,
+) {
+    assert_eq!(rt; cluster.deliver(piece), answer);
+}
+
+fn hears(rt: &impl Abort, cluster: &mut Cluster, promise: Promise, answer: Heard) {
+    assert_eq!(rt; cluster.hear(promise), Ok(answer));
+}
+
+// What a cluster posts of a net that it drives.
+fn post(rt: &impl Abort, cluster: &Cluster, net: u32, from: u32) -> Result<Piece, Fail> {
+    let Some(clock) = cluster.out_clock(net) else {
+        panic!(rt; "a net that is driven elsewhere");
+    };
+    assert!(rt; from <= clock);
+    let piece = cluster.post(net, from)?.ok_or("no piece")?;
+    Ok(piece)
+}
+
+// What a cluster promises of a net that it drives.
+fn promise(rt: &impl Abort, cluster: &Cluster, net: u32) -> Promise {
+    assert!(rt; cluster.out_clock(net).is_some());
+    cluster.promise(net)
+}
+
+// A gate goes on from its pins' clocks by its delay, never beyond the horizon.
+#[test]
+fn step_of_a_slow_gate(rt: HostRuntime) -> Result<(), Fail> {
+    let texts = Inputs {
+        netlist: b"INPUT(a)\nOUTPUT(y)\ny = NOT(a)\n",
+        delays: b"by,name,delay\nnet,y,20\n",
+        stimuli: b"tick,net,value\n0,a,0\n5,a,1\n",
+        clocks: b"",
+    };
+    let mut all = cluster_of(&rt, rt.alloc(), texts, (10, None), 1, 0)?;
+    let part = stepped(&mut all, 1)?;
+    is_part(&rt, part, 0, 10, &[]);
+    Ok(())
+}
+
+// A flip-flop goes on to its delay after the first sample that it doesn't know.
+#[test]
+fn step_of_a_flip_flop(rt: HostRuntime) -> Result<(), Fail> {
+    let texts = bare(b"INPUT(a)\nq = DFF(a)\n");
+    let mut all = cluster_of(&rt, rt.alloc(), texts, (12, Some((0, 5))), 1, 0)?;
+    let part = stepped(&mut all, 1)?;
+    is_part(&rt, part, 0, 1, &[at(0, Level::Zero)]);
+    Ok(())
+}
+
+// A flip-flop with a clock of its own.
+#[test]
+fn step_by_a_clock_row(rt: HostRuntime) -> Result<(), Fail> {
+    let texts = Inputs {
+        netlist: b"INPUT(a)\np = DFF(a)\nq = DFF(p)\n",
+        delays: b"",
+        stimuli: b"tick,net,value\n0,a,0\n3,a,1\n",
+        clocks: b"net,first,period\nq,4,3\n",
+    };
+    let mut last = cluster_of(&rt, rt.alloc(), texts, (12, Some((2, 4))), 3, 2)?;
+    let part = stepped(&mut last, 2)?;
+    is_part(&rt, part, 0, 5, &[at(0, Level::Zero)]);
+    Ok(())
+}
+
+fn loop_steps(rt: &impl Abort, all: &mut Cluster) -> Result<(), Fail> {
+    is_part(rt, stepped(all, 0)?, 0, 1, &[]);
+    is_part(rt, stepped(all, 0)?, 1, 2, &[]);
+    is_part(rt, stepped(all, 0)?, 2, 3, &[]);
+    is_part(rt, stepped(all, 0)?, 3, 4, &[]);
+    assert!(rt; stepped(all, 0)?.is_none());
+    Ok(())
+}
+
+// A gate that reads itself goes on by its delay at each step.
+#[test]
+fn steps_of_a_loop(rt: HostRuntime) -> Result<(), Fail> {
+    let texts = bare(b"n = NOT(n)\n");
+    let mut all = cluster_of(&rt, rt.alloc(), texts, (4, None), 1, 0)?;
+    loop_steps(&rt, &mut all)
+}
+
+fn rounds(rt: &impl Abort, all: &mut Cluster) -> Result<(), Fail> {
+    assert!(rt; all_stepped(all)?);
+    assert_eq!(rt; clocks(all), (Some(3), Some(4)));
+    assert!(rt; all_stepped(all)?);
+    assert_eq!(rt; clocks(all), (Some(7), Some(8)));
+    assert!(rt; all_stepped(all)?);
+    assert_eq!(rt; clocks(all), (Some(11), Some(12)));
+    assert!(rt; all_stepped(all)?);
+    assert_eq!(rt; clocks(all), (Some(12), Some(12)));
+    assert!(rt; !all_stepped(all)?);
+    Ok(())
+}
+
+#[test]
+fn rounds_of_one_cluster(rt: HostRuntime) -> Result<(), Fail> {
+    let mut all = toggle(&rt, rt.alloc(), 1, 0)?;
+    rounds(&rt, &mut all)
+}
+
+fn wrong_steps(rt: &impl Abort, alloc: Global, second: &mut Cluster) -> Result<(), Fail> {
+    let unknown = piece_of(alloc, 0, 3, 0, Level::X)?;
+    let clash = DeliverFault::Clash { tick: 0 };
+    delivers(rt, second, &unknown, Err(clash));
+    let wrong = piece_of(alloc, 0, 3, 0, Level::One)?;
+    delivers(rt, second, &wrong, Ok(3));
+    is_part(rt, stepped(second, 1)?, 0, 4, &[at(1, Level::Zero)]);
+    Ok(())
+}
+
+// Whatever is delivered, a step goes by the cluster's own waves.
+#[test]
+fn step_by_what_was_delivered(rt: HostRuntime) -> Result<(), Fail> {
+    let mut second = toggle(&rt, rt.alloc(), 2, 1)?;
+    wrong_steps(&rt, rt.alloc(), &mut second)
+}
+
+fn trim_steps(rt: &impl Abort, alloc: Global, second: &mut Cluster) -> Result<(), Fail> {
+    let first = piece_of(alloc, 0, 3, 0, Level::Zero)?;
+    delivers(rt, second, &first, Ok(3));
+    is_part(rt, stepped(second, 1)?, 0, 4, &[at(1, Level::One)]);
+    assert_eq!(rt; trimmed(second, 0), (Some(3), Some(3)));
+    let next = two_changes(alloc)?;
+    delivers(rt, second, &next, Ok(7));
+    is_part(rt, stepped(second, 1)?, 4, 8, &[at(4, Level::Zero)]);
+    Ok(())
+}
+
+// What a trim forgets is needed no more.
+#[test]
+fn trim_row(rt: HostRuntime) -> Result<(), Fail> {
+    let mut second = toggle(&rt, rt.alloc(), 2, 1)?;
+    trim_steps(&rt, rt.alloc(), &mut second)
+}
+
+// A cluster of an input, a flip-flop and a gate in a row, with each net in a cluster of its own.
+fn in_a_row(rt: &impl Abort, alloc: Global, cluster: u32) -> Result<Cluster, Fail> {
+    let texts = Inputs {
+        netlist: b"INPUT(a)\nq = DFF(a)\ny = BUFF(q)\n",
+        delays: b"",
+        stimuli: b"tick,net,value\n0,a,0\n",
+        clocks: b"",
+    };
+    cluster_of(rt, alloc, texts, (12, Some((2, 4))), 3, cluster)
+}
+
+// Up to the flip-flop's second step, which has no change.
+fn row_steps(
+    rt: &impl Abort,
+    input: &mut Cluster,
+    flop: &mut Cluster,
+    gate: &mut Cluster,
+) -> Result<(), Fail> {
+    is_part(rt, stepped(flop, 1)?, 0, 3, &[at(0, Level::Zero)]);
+    let first = post(rt, flop, 1, 0)?;
+    delivers(rt, gate, &first, Ok(3));
+    is_part(rt, stepped(input, 0)?, 0, 12, &[at(0, Level::Zero)]);
+    let data = post(rt, input, 0, 0)?;
+    delivers(rt, flop, &data, Ok(12));
+    is_part(rt, stepped(flop, 1)?, 3, 12, &[]);
+    Ok(())
+}
+
+fn overtakes(rt: &impl Abort, flop: &Cluster, gate: &mut Cluster) -> Result<(), Fail> {
+    let late = post(rt, flop, 1, 3)?;
+    let told = promise(rt, flop, 1);
+    assert_eq!(rt; (told.net, told.count, told.upto), (1, 1, 12));
+    hears(rt, gate, told, Heard::Extended);
+    delivers(rt, gate, &late, Err(DeliverFault::Old { clock: 12 }));
+    Ok(())
+}
+
+// A promise comes before the piece that it makes needless.
+#[test]
+fn promise_overtakes(rt: HostRuntime) -> Result<(), Fail> {
+    let mut input = in_a_row(&rt, rt.alloc(), 0)?;
+    let mut flop = in_a_row(&rt, rt.alloc(), 1)?;
+    let mut gate = in_a_row(&rt, rt.alloc(), 2)?;
+    row_steps(&rt, &mut input, &mut flop, &mut gate)?;
+    overtakes(&rt, &flop, &mut gate)
+}
+
+#[test]
+fn refused_clusterings(rt: HostRuntime) -> Result<(), Fail> {
+    let alloc = rt.alloc();
+    let none = Clustering::new(2, 0, vec![in alloc; 0u32, 0]?).err();
+    assert_eq!(&rt; none, Some(ClusteringFault::Clusters));
+    let many = Clustering::new(2, 65, vec![in alloc; 0u32, 0]?).err();
+    assert_eq!(&rt; many, Some(ClusteringFault::Clusters));
+    let beyond = Clustering::new(2, 2, vec![in alloc; 0u32, 2]?).err();
+    assert_eq!(&rt; beyond, Some(ClusteringFault::Assign));
+    let short = Clustering::new(2, 2, vec![in alloc; 0u32]?).err();
+    assert_eq!(&rt; short, Some(ClusteringFault::Assign));
+    let spread = Clustering::spread(alloc, 2, 65).err();
+    assert_eq!(&rt; spread, Some(ClusteringFault::Clusters));
+    assert_eq!(&rt; ClusteringFault::Clusters.number(), 40);
+    assert_eq!(&rt; ClusteringFault::Assign.number(), 41);
+    Ok(())
+}

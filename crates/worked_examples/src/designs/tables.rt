@@ -1,0 +1,171 @@
+//! Tables as texts: laid out in odd ways, with far ticks, cut short and damaged at every byte.
+
+ghost use Rattle.std.specs.Prelude.{◌≤◌, length, IfOk};
+
+use crate::designs::design_of;
+use cmb_design::Settings;
+use cmb_wave::Level;
+use std::alloc::{AllocError, Global};
+use std::test::Fail;
+
+const BENCH: &[u8] = b"INPUT(G0)\nG1 = DFF(G2)\nG2 = NOR(G0, G1)\nG3 = NOT(G1)\n";
+
+const DELAYS: &[u8] = b"by,name,delay\nkind,DFF,2\nnet,G3,3\n";
+
+const STIMULI: &[u8] = b"tick,net,value\n0,G0,0\n";
+
+const SETTINGS: Settings = Settings {
+    horizon: 12,
+    clock: Some((3, 5)),
+    init: Level::Zero,
+};
+
+// The number and the record of the fault, or 0 and 0 where there is a design.
+fn outcome(alloc: Global, delays: &[u8], stimuli: &[u8]) -> (u32, u32)
+    requires delays { length delays.now ≤ 16777216 }
+    requires stimuli { length stimuli.now ≤ 16777216 }
+{
+    match design_of(alloc, BENCH, delays, stimuli, SETTINGS) {
+        Ok(_) => (0, 0),
+        Err(fault) => (fault.number(), fault.record()),
+    }
+}
+
+// What the first n bytes of the delays give.
+fn of_delays(n: usize) -> (u32, u32) {
+    match n {
+        0 | 13 | 14 | 24 | 25 | 33 | 34 => (0, 0),
+        1..=12 => (23, 1),
+        23 => (25, 2),
+        32 => (25, 3),
+        15..=22 => (24, 2),
+        _ => (24, 3),
+    }
+}
+
+// What the first n bytes of the stimuli give.
+fn of_stimuli(n: usize) -> (u32, u32) {
+    match n {
+        0 | 14 | 15 | 21 | 22 => (0, 0),
+        1..=13 => (23, 1),
+        20 => (31, 2),
+        _ => (24, 2),
+    }
+}
+
+#[test]
+fn cut_tables(rt: HostRuntime) {
+    for n in 0..=DELAYS.len() {
+        let found = outcome(rt.alloc(), &DELAYS[..n], STIMULI);
+        assert_eq!(rt; found, of_delays(n), "{n} bytes of delays");
+    }
+    for n in 0..=STIMULI.len() {
+        let found = outcome(rt.alloc(), DELAYS, &STIMULI[..n]);
+        assert_eq!(rt; found, of_stimuli(n), "{n} bytes of stimuli");
+    }
+}
+
+// A design, or a fault of a record of a table.
+fn is_of_record((number, record): (u32, u32)) -> bool {
+    number == 0 || record >= 1 && number >= 23 && number <= 37 && number != 33
+}
+
+// The text with another byte at a place.
+fn damaged(alloc: Global, text: &[u8], at: usize, value: u8) -> Result<Vec<u8>, AllocError>
+    requires { length text.now ≤ 16777216 }
+    ensures { IfOk result (λ v. length v.items ≤ 16777216) }
+{
+    let mut text = Vec::from_slice(alloc, text)?;
+    if at < text.len() {
+        text[at] = value;
+    }
+    Ok(text)
+}
+
+#[test]
+fn damaged_delays(rt: HostRuntime) -> Result<(), Fail> {
+    for (at, value, want) in [
+        (0, b'B', (23, 1)),
+        (14, b'"', (24, 2)),
+        (19, b'X', (27, 2)),
+        (23, b'0', (28, 2)),
+        (23, b'-', (25, 2)),
+        (30, b'0', (32, 3)),
+        (30, b'9', (26, 3)),
+    ] {
+        let text = damaged(rt.alloc(), DELAYS, at, value)?;
+        assert_eq!(rt;
+            outcome(rt.alloc(), &text, STIMULI),
+            want,
+            "byte {at} to {value}"
+        );
+    }
+    for at in 0..DELAYS.len() {
+        for value in 0..=255 {
+            let text = damaged(rt.alloc(), DELAYS, at, value)?;
+            let found = outcome(rt.alloc(), &text, STIMULI);
+            assert!(rt; is_of_record(found), "byte {at} to {value}");
+        }
+    }
+    Ok(())
+}
+
+#[test]
+fn damaged_stimuli(rt: HostRuntime) -> Result<(), Fail> {
+    for (at, value, want) in [
+        (14, b',', (23, 1)),
+        (15, b'x', (25, 2)),
+        (18, b'1', (30, 2)),
+        (18, b'9', (26, 2)),
+        (20, b'2', (31, 2)),
+        (20, b'X', (0, 0)),
+    ] {
+        let text = damaged(rt.alloc(), STIMULI, at, value)?;
+        assert_eq!(rt;
+            outcome(rt.alloc(), DELAYS, &text),
+            want,
+            "byte {at} to {value}"
+        );
+    }
+    for at in 0..STIMULI.len() {
+        for value in 0..=255 {
+            let text = damaged(rt.alloc(), STIMULI, at, value)?;
+            let found = outcome(rt.alloc(), DELAYS, &text);
+            assert!(rt; is_of_record(found), "byte {at} to {value}");
+        }
+    }
+    Ok(())
+}
+
+#[test]
+fn layouts(rt: HostRuntime) {
+    for (delays, want) in [
+        ("\r\n\n", (0, 0)),
+        ("\"\"", (23, 1)),
+        (
+            "by ,\"name\",\tdelay\r\n net,\"G3\" ,0000000007\r\n",
+            (0, 0),
+        ),
+        ("by,name,delay\nnet,G3,00000000007", (25, 2)),
+        ("by,name,delay\nkind,buf,2\nkind,BUFF,3", (29, 3)),
+        ("by,name,delay\npin,G2:1:2,3", (26, 2)),
+        ("by,name,delay\nnet,G9,3\nnet,G3,1000001", (28, 3)),
+    ] {
+        assert!(rt; delays.len() < 100);
+        let found = outcome(rt.alloc(), delays.as_bytes(), b"");
+        assert_eq!(rt; found, want, "{delays}");
+    }
+}
+
+#[test]
+fn ticks_of_10_digits(rt: HostRuntime) {
+    for (stimuli, want) in [
+        ("tick,net,value\n1,G0,0\n4294967297,G0,1", (0, 0)),
+        ("tick,net,value\n9999999999,G0,0\n9999999999,G0,1", (29, 3)),
+        ("tick,net,value\n10000000000,G0,0", (25, 2)),
+    ] {
+        assert!(rt; stimuli.len() < 100);
+        let found = outcome(rt.alloc(), b"", stimuli.as_bytes());
+        assert_eq!(rt; found, want, "{stimuli}");
+    }
+}

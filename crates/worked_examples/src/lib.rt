@@ -1,0 +1,17 @@
+//! Worked examples of the public calls, from waves to texts, as tests.
+#![tactic(auto)]
+
+#[cfg(test)]
+mod clusters;
+#[cfg(test)]
+mod designs;
+#[cfg(test)]
+mod inputs;
+#[cfg(test)]
+mod netlists;
+#[cfg(test)]
+mod texts;
+#[cfg(test)]
+mod waves;
+#[cfg(test)]
+mod worlds;

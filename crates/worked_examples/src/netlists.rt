@@ -1,0 +1,204 @@
+ghost use Rattle.std.specs.Prelude.{◌<◌, ◌≤◌, length};
+
+use cmb_bench::{Cell, Driver, Kind, Netlist, Operands, cell_named, read_bench};
+use std::alloc::{AllocError, Global};
+use std::process::Abort;
+
+// The number and the line of the fault, or 0 and 0 where the text has a netlist.
+fn outcome(alloc: Global, text: &[u8]) -> (u32, u32)
+    requires { length text.now ≤ 16777216 }
+{
+    match read_bench(alloc, text) {
+        Ok(_) => (0, 0),
+        Err(fault) => (fault.number(), fault.line),
+    }
+}
+
+fn netlist_of(rt: &impl Abort, alloc: Global, text: &[u8]) -> Netlist
+    requires { length text.now ≤ 16777216 }
+{
+    match read_bench(alloc, text) {
+        Ok(netlist) => netlist,
+        Err(_) => panic!(rt; "a fault was found"),
+    }
+}
+
+fn is_gate(driver: &Driver, kind: Kind, operands: &[u32]) -> bool {
+    match driver {
+        Driver::Gate(found, pins) => *found == kind && Operands::as_slice(pins) == operands,
+        _ => false,
+    }
+}
+
+#[test]
+fn spelling(rt: HostRuntime) {
+    let netlist = netlist_of(
+        &rt,
+        rt.alloc(),
+        b"INPUT(a)\r\ninput(b) # caf\xe9\r\nOUTPUT(y)\r\nOUTPUT(y)\r\ny = nand(a,\r\n b)\r\nz = BUF(y)\r\n",
+    );
+    assert!(&rt; netlist.len() == 4);
+    assert!(&rt; !netlist.is_empty());
+    assert!(&rt; netlist.outputs() == &[2u32][..]);
+    assert!(&rt; netlist.name(0) == &b"a"[..]);
+    assert!(&rt; netlist.name(1) == &b"b"[..]);
+    assert!(&rt; netlist.name(2) == &b"y"[..]);
+    assert!(&rt; netlist.name(3) == &b"z"[..]);
+    assert!(&rt; netlist.number(&b"z"[..]) == Some(3));
+    assert!(&rt; netlist.number(&b"Z"[..]) == None);
+    assert!(&rt; matches!(netlist.driver(0), Driver::Input));
+    assert!(&rt; is_gate(netlist.driver(2), Kind::Nand, &[0u32, 1][..]));
+    assert!(&rt; is_gate(netlist.driver(3), Kind::Buff, &[2u32][..]));
+}
+
+#[test]
+fn flip_flops(rt: HostRuntime) {
+    let netlist = netlist_of(&rt, rt.alloc(), b"q = DFF(d)\nd = NOT(q)\n");
+    assert!(&rt; netlist.len() == 2);
+    assert!(&rt; matches!(netlist.driver(0), Driver::Flop(1)));
+    assert!(&rt; is_gate(netlist.driver(1), Kind::Not, &[0u32][..]));
+}
+
+#[test]
+fn kind_words(rt: HostRuntime) {
+    assert!(&rt; cell_named(&b"XNOR"[..]) == Some(Cell::Gate(Kind::Xnor)));
+    assert!(&rt; cell_named(&b"buf"[..]) == Some(Cell::Gate(Kind::Buff)));
+    assert!(&rt; cell_named(&b"Buff"[..]) == Some(Cell::Gate(Kind::Buff)));
+    assert!(&rt; cell_named(&b"dFF"[..]) == Some(Cell::Flop));
+    assert!(&rt; cell_named(&b"INPUT"[..]) == None);
+    assert!(&rt; cell_named(&b""[..]) == None);
+}
+
+#[test]
+fn cut_short(rt: HostRuntime) {
+    assert!(&rt; outcome(rt.alloc(), b"INPUT(a)\ny = AND(a") == (2, 2));
+}
+
+#[test]
+fn driven_twice(rt: HostRuntime) {
+    assert!(&rt; outcome(rt.alloc(), b"INPUT(a)\na = NOT(a)\n") == (5, 2));
+    let netlist = netlist_of(&rt, rt.alloc(), b"n = NOT(n)\n");
+    assert!(&rt; netlist.len() == 1);
+    assert!(&rt; is_gate(netlist.driver(0), Kind::Not, &[0u32][..]));
+}
+
+#[test]
+fn unknown_kind(rt: HostRuntime) {
+    assert!(&rt; outcome(rt.alloc(), b"OUTPUT(z)\nINPUT(a)\nb = FOO(a)\n") == (3, 3));
+    assert!(&rt; outcome(rt.alloc(), b"OUTPUT(z)\nINPUT(a)\n") == (6, 1));
+}
+
+// An input statement of a net whose name has so many bytes.
+fn long_input(alloc: Global, bytes: usize) -> Result<Vec<u8>, AllocError> {
+    let mut text = Vec::new(alloc);
+    text.extend_from_slice(b"INPUT(")?;
+    for _ in 0..bytes {
+        text.push(b'n')?;
+    }
+    text.push(b')')?;
+    Ok(text)
+}
+
+#[test]
+fn names_and_operands(rt: HostRuntime) -> Result<(), AllocError> {
+    let text = long_input(rt.alloc(), 255)?;
+    assert!(&rt; text.len() == 262);
+    assert!(&rt; outcome(rt.alloc(), &text) == (0, 0));
+    let text = long_input(rt.alloc(), 256)?;
+    assert!(&rt; text.len() == 263);
+    assert!(&rt; outcome(rt.alloc(), &text) == (8, 1));
+    assert!(&rt; outcome(rt.alloc(), b"y = NOT(a, b)") == (4, 1));
+    assert!(&rt; outcome(rt.alloc(), b"y = AND()") == (2, 1));
+    assert!(&rt; outcome(rt.alloc(), b"FOO(a)") == (2, 1));
+    assert!(&rt; outcome(rt.alloc(), b"\xe9") == (1, 1));
+    let netlist = netlist_of(&rt, rt.alloc(), b"INPUT(a)\nINPUT(b)\nINPUT = AND(a, b)\n");
+    assert!(&rt; netlist.len() == 3);
+    assert!(&rt; netlist.name(2) == &b"INPUT"[..]);
+    assert!(&rt; outcome(rt.alloc(), b"y = FOO(") == (3, 1));
+    Ok(())
+}
+
+const SMALL: [u8; 30] = *b"INPUT(a)\nOUTPUT(y)\ny = NOT(a)\n";
+
+// What the first n bytes of the small netlist give.
+fn of_prefix(n: usize) -> (u32, u32) {
+    match n {
+        0 | 8 | 9 | 29 | 30 => (0, 0),
+        1..=7 => (2, 1),
+        10..=17 => (2, 2),
+        18 | 19 => (6, 2),
+        24 | 25 => (3, 3),
+        _ => (2, 3),
+    }
+}
+
+#[test]
+fn truncated_netlist(rt: HostRuntime) {
+    for n in 0..31 {
+        assert!(&rt; outcome(rt.alloc(), &SMALL[..n]) == of_prefix(n));
+    }
+    assert!(&rt; netlist_of(&rt, rt.alloc(), b"").is_empty());
+    assert!(&rt; netlist_of(&rt, rt.alloc(), &SMALL[..9]).len() == 1);
+    assert!(&rt; netlist_of(&rt, rt.alloc(), &SMALL).len() == 2);
+}
+
+// The small netlist with another byte at a place.
+fn damaged(at: usize, value: u8) -> [u8; 30]
+    requires { at < 30 }
+{
+    let mut text = SMALL;
+    text[at] = value;
+    text
+}
+
+#[test]
+fn damaged_netlist(rt: HostRuntime) {
+    assert!(&rt; outcome(rt.alloc(), &damaged(0, 0)) == (1, 1));
+    assert!(&rt; outcome(rt.alloc(), &damaged(5, b'=')) == (3, 1));
+    assert!(&rt;
+        netlist_of(&rt, rt.alloc(), &damaged(8, b'#'))
+            .outputs()
+            .is_empty()
+    );
+    assert!(&rt; outcome(rt.alloc(), &damaged(23, b'X')) == (3, 3));
+    assert!(&rt; outcome(rt.alloc(), &damaged(27, b'b')) == (6, 3));
+    for at in 0..30 {
+        for value in 0..=255 {
+            let (number, line) = outcome(rt.alloc(), &damaged(at, value));
+            assert!(&rt; number == 0 || number <= 8 && line >= 1 && line <= 4);
+        }
+    }
+}
+
+// So many lines `INPUT(nK)`, with K from 0.
+fn inputs(alloc: Global, lines: usize) -> Result<String, AllocError> {
+    let mut text = String::new(alloc);
+    for k in 0..lines {
+        text.push_str(&format!(in alloc; "INPUT(n{k})\n")?)?;
+    }
+    Ok(text)
+}
+
+#[test]
+fn largest_netlist(rt: HostRuntime) -> Result<(), AllocError> {
+    let text = inputs(rt.alloc(), 65_535)?;
+    assert!(&rt; text.len() < 1_000_000);
+    let netlist = netlist_of(&rt, rt.alloc(), text.as_bytes());
+    assert!(&rt; netlist.len() == 65_535);
+    assert!(&rt; netlist.number(&b"n65534"[..]) == Some(65_534));
+    let text = inputs(rt.alloc(), 65_536)?;
+    assert!(&rt; text.len() < 1_000_000);
+    assert!(&rt; outcome(rt.alloc(), text.as_bytes()) == (7, 65_536));
+    Ok(())
+}
+
+#[test]
+fn fault_text(rt: HostRuntime) -> Result<(), AllocError> {
+    match read_bench(rt.alloc(), b"INPUT(a)\na = NOT(a)\n") {
+        Ok(_) => panic!(&rt; "a netlist was read"),
+        Err(fault) => {
+            assert!(&rt; format!(in rt.alloc(); "{fault}")?.as_str() == "line 2: driven twice");
+        }
+    }
+    Ok(())
+}

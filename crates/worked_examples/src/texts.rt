@@ -1,0 +1,423 @@
+//! The worked examples of collectors and texts, and what sinks take. The texts were made by another simulator.
+
+ghost use Rattle.std.specs.Prelude.{◌≡◌};
+
+use crate::inputs::{bare, design_of};
+use cmb_design::{Design, Settings};
+use cmb_vcd::sink::{Limited, Room, Sink, ToWriter, write_whole};
+use cmb_vcd::{CollectFault, Collector, VcdWriter, vcd_text};
+use cmb_wave::{Change, Level, Piece, Wave};
+use std::alloc::Global;
+use std::process::Abort;
+use std::test::Fail;
+
+const Q: u32 = 0;
+
+const D: u32 = 1;
+
+const TOGGLE: &[u8] = b"q = DFF(d) d = NOT(q)";
+
+// A design without rows, whose flip-flops sample at ticks 2, 6, 10 and so on.
+fn sampled(rt: &impl Abort, alloc: Global, netlist: &[u8], horizon: u32) -> Result<Design, Fail> {
+    let settings = Settings {
+        horizon,
+        clock: Some((2, 4)),
+        init: Level::Zero,
+    };
+    design_of(rt, alloc, bare(netlist), settings)
+}
+
+fn at(tick: u32, level: Level) -> Change
+    ensures { result ≡ record { tick = tick; level = level } }
+{
+    Change { tick, level }
+}
+
+fn take(rt: &impl Abort, collector: &mut Collector, piece: &Piece) -> Result<u32, CollectFault> {
+    assert!(rt; piece.to() <= collector.horizon());
+    collector.take(piece)
+}
+
+// The piece of a net with these changes has this answer.
+fn answers(
+    rt: &impl Abort,
+    collector: &mut Collector,
+    net: u32,
+    from: u32,
+    to: u32,
+    changes: Vec<Change>,
+    answer: Result<u32, CollectFault>,
+) -> Result<(), Fail> {
+    let piece = Piece::new(net, from, to, changes)?;
+    let found = take(rt, collector, &piece);
+    assert!(rt; found == answer, "{net} from {from} to {to}");
+    Ok(())
+}
+
+fn whole_text(
+    rt: &impl Abort,
+    alloc: Global,
+    design: &Design,
+    collector: &Collector,
+) -> Result<Vec<u8>, Fail> {
+    assert!(rt; collector.complete());
+    assert!(rt; collector.waves().len() == design.netlist().len());
+    assert!(rt; collector.horizon() == design.horizon());
+    Ok(vcd_text(alloc, design, collector)?)
+}
+
+fn toggle_answers(rt: &impl Abort, alloc: Global, toggle: &mut Collector) -> Result<(), Fail> {
+    let unknown = vec![in alloc; at(0, Level::X)]?;
+    let clash = Err(CollectFault::Clash { tick: 0 });
+    answers(rt, toggle, Q, 0, 3, unknown, clash)?;
+    let gap = Err(CollectFault::Gap { clock: 0 });
+    answers(rt, toggle, Q, 3, 7, vec![in alloc; at(3, Level::One)]?, gap)?;
+    answers(
+        rt,
+        toggle,
+        Q,
+        0,
+        3,
+        vec![in alloc; at(0, Level::Zero)]?,
+        Ok(3),
+    )?;
+    let double = Err(CollectFault::Double { clock: 3 });
+    answers(
+        rt,
+        toggle,
+        Q,
+        0,
+        3,
+        vec![in alloc; at(0, Level::Zero)]?,
+        double,
+    )?;
+    answers(
+        rt,
+        toggle,
+        2,
+        0,
+        3,
+        Vec::new(alloc),
+        Err(CollectFault::Stranger),
+    )
+}
+
+fn opened(rt: &impl Abort, alloc: Global, bench: &[u8], horizon: u32) -> Result<Collector, Fail> {
+    let design = sampled(rt, alloc, bench, horizon)?;
+    Ok(Collector::open(alloc, &design)?)
+}
+
+fn is_begun(rt: &impl Abort, toggle: &Collector) {
+    assert!(rt; toggle.least() == 0);
+    assert!(rt; !toggle.complete());
+}
+
+#[test]
+fn collector(rt: HostRuntime) -> Result<(), Fail> {
+    let mut toggle = opened(&rt, rt.alloc(), TOGGLE, 12)?;
+    toggle_answers(&rt, rt.alloc(), &mut toggle)?;
+    is_begun(&rt, &toggle);
+    Ok(())
+}
+
+fn adopt(rt: &impl Abort, collector: &mut Collector, wave: Wave) {
+    assert!(rt; (wave.net() as usize) < collector.waves().len());
+    assert!(rt; wave.base() == 0);
+    assert!(rt; wave.clock() <= collector.horizon());
+    collector.adopt(wave);
+}
+
+// A wave that is known further takes the place of its net's, and one that isn't doesn't.
+fn adopts_the_later(rt: &impl Abort, alloc: Global, toggle: &mut Collector) -> Result<(), Fail> {
+    let mut later = Wave::new(alloc, D);
+    later.take(&Piece::new(D, 0, 4, vec![in alloc; at(1, Level::One)]?)?)?;
+    adopt(rt, toggle, later);
+    adopt(rt, toggle, Wave::new(alloc, D));
+    assert!(rt;
+        toggle
+            .waves()
+            .get(1)
+            .is_some_and(|wave| wave.promise().upto == 4)
+    );
+    let next = vec![in alloc; at(4, Level::Zero)]?;
+    answers(rt, toggle, D, 4, 5, next, Ok(5))
+}
+
+#[test]
+fn waves_are_adopted(rt: HostRuntime) -> Result<(), Fail> {
+    let mut toggle = opened(&rt, rt.alloc(), TOGGLE, 12)?;
+    adopts_the_later(&rt, rt.alloc(), &mut toggle)
+}
+
+#[test]
+fn numbers(rt: HostRuntime) {
+    assert_eq!(rt; CollectFault::Clash { tick: 0 }.number(), 49);
+    assert_eq!(rt; CollectFault::Gap { clock: 0 }.number(), 50);
+    assert_eq!(rt; CollectFault::Double { clock: 0 }.number(), 51);
+    assert_eq!(rt; CollectFault::Stranger.number(), 52);
+    assert_eq!(rt; CollectFault::Memory.number(), 70);
+}
+
+const INVERTED: &[u8] = b"$version cmbsim 1 $end
+$timescale 1 ns $end
+$scope module top $end
+$var wire 1 ! a $end
+$var wire 1 \" y $end
+$upscope $end
+$enddefinitions $end
+#0
+$dumpvars
+1!
+x\"
+$end
+#10
+";
+
+fn tells_inverted(rt: &impl Abort, alloc: Global, design: &Design) -> Result<(), Fail> {
+    let mut inverter = Collector::open(alloc, design)?;
+    let one = vec![in alloc; at(0, Level::One)]?;
+    answers(rt, &mut inverter, 0, 0, 10, one, Ok(10))?;
+    answers(rt, &mut inverter, 1, 0, 10, Vec::new(alloc), Ok(10))?;
+    let text = whole_text(rt, alloc, design, &inverter)?;
+    assert!(rt; text.as_slice() == INVERTED);
+    Ok(())
+}
+
+// The text is that of the waves that were collected, whatever the design says.
+fn tells_its_own(rt: &impl Abort, alloc: Global) -> Result<(), Fail> {
+    let design = sampled(rt, alloc, b"INPUT(a) OUTPUT(y) y = NOT(a)", 10)?;
+    tells_inverted(rt, alloc, &design)
+}
+
+#[test]
+fn collector_tells_its_own(rt: HostRuntime) -> Result<(), Fail> {
+    tells_its_own(&rt, rt.alloc())
+}
+
+const TOGGLE_HEADER: &[u8] = b"$version cmbsim 1 $end
+$timescale 1 ns $end
+$scope module top $end
+$var wire 1 ! q $end
+$var wire 1 \" d $end
+$upscope $end
+$enddefinitions $end
+";
+
+const BELOW_3: &[u8] = b"#0\n$dumpvars\n0!\nx\"\n$end\n#1\n1\"\n";
+
+const BELOW_4: &[u8] = b"#3\n1!\n";
+
+const BELOW_12: &[u8] = b"#4\n0\"\n#7\n0!\n#8\n1\"\n#11\n1!\n#12\n";
+
+// The next part of the text is this one, and it tells the levels below this tick.
+fn goes_on(
+    rt: &impl Abort,
+    design: &Design,
+    writer: &mut VcdWriter<'_>,
+    collector: &Collector,
+    part: &[u8],
+    upto: u32,
+) -> Result<(), Fail>
+    requires { writer.old.design ≡ design.now }
+    ensures { writer.new.design ≡ design.now }
+{
+    assert!(rt; collector.waves().len() == design.netlist().len());
+    assert!(rt; collector.horizon() == design.horizon());
+    assert!(rt; writer.done().unwrap_or(0) <= collector.least());
+    let text = writer.extend(collector)?;
+    assert!(rt; text.as_slice() == part, "up to {upto}");
+    assert!(rt; writer.done() == Some(upto));
+    Ok(())
+}
+
+fn collect_first(rt: &impl Abort, alloc: Global, toggle: &mut Collector) -> Result<(), Fail> {
+    let first = vec![in alloc; at(0, Level::Zero)]?;
+    let inverse = vec![in alloc; at(1, Level::One)]?;
+    answers(rt, toggle, Q, 0, 3, first, Ok(3))?;
+    answers(rt, toggle, D, 0, 4, inverse, Ok(4))
+}
+
+fn collect_second(rt: &impl Abort, alloc: Global, toggle: &mut Collector) -> Result<(), Fail> {
+    let second = vec![in alloc; at(3, Level::One)]?;
+    answers(rt, toggle, Q, 3, 7, second, Ok(7))
+}
+
+fn collect_rest(rt: &impl Abort, alloc: Global, toggle: &mut Collector) -> Result<(), Fail> {
+    let inverse = vec![in alloc; at(4, Level::Zero), at(8, Level::One)]?;
+    let rest = vec![in alloc; at(7, Level::Zero), at(11, Level::One)]?;
+    answers(rt, toggle, D, 4, 12, inverse, Ok(12))?;
+    answers(rt, toggle, Q, 7, 12, rest, Ok(12))
+}
+
+fn tells_first_parts(
+    rt: &impl Abort,
+    alloc: Global,
+    design: &Design,
+    writer: &mut VcdWriter<'_>,
+    toggle: &mut Collector,
+) -> Result<(), Fail>
+    requires { writer.old.design ≡ design.now }
+    ensures { writer.new.design ≡ design.now }
+{
+    goes_on(rt, design, writer, toggle, TOGGLE_HEADER, 0)?;
+    collect_first(rt, alloc, toggle)?;
+    goes_on(rt, design, writer, toggle, BELOW_3, 3)?;
+    collect_second(rt, alloc, toggle)?;
+    goes_on(rt, design, writer, toggle, BELOW_4, 4)
+}
+
+fn tells_last_parts(
+    rt: &impl Abort,
+    alloc: Global,
+    design: &Design,
+    writer: &mut VcdWriter<'_>,
+    toggle: &mut Collector,
+) -> Result<(), Fail>
+    requires { writer.old.design ≡ design.now }
+{
+    collect_rest(rt, alloc, toggle)?;
+    goes_on(rt, design, writer, toggle, BELOW_12, 12)?;
+    goes_on(rt, design, writer, toggle, b"", 12)
+}
+
+fn tells_parts(rt: &impl Abort, alloc: Global, design: &Design) -> Result<(), Fail> {
+    let mut toggle = Collector::open(alloc, design)?;
+    let mut writer = VcdWriter::open(alloc, design)?;
+    tells_first_parts(rt, alloc, design, &mut writer, &mut toggle)?;
+    tells_last_parts(rt, alloc, design, &mut writer, &mut toggle)
+}
+
+fn parts_of_toggle(rt: &impl Abort, alloc: Global) -> Result<(), Fail> {
+    let design = sampled(rt, alloc, TOGGLE, 12)?;
+    tells_parts(rt, alloc, &design)
+}
+
+#[test]
+fn text_in_parts(rt: HostRuntime) -> Result<(), Fail> {
+    parts_of_toggle(&rt, rt.alloc())
+}
+
+fn collected_toggle(rt: &impl Abort, alloc: Global, design: &Design) -> Result<Collector, Fail> {
+    let mut toggle = Collector::open(alloc, design)?;
+    collect_first(rt, alloc, &mut toggle)?;
+    collect_second(rt, alloc, &mut toggle)?;
+    collect_rest(rt, alloc, &mut toggle)?;
+    Ok(toggle)
+}
+
+// The whole text is its parts.
+fn tells_whole(rt: &impl Abort, alloc: Global, design: &Design) -> Result<(), Fail> {
+    let toggle = collected_toggle(rt, alloc, design)?;
+    let text = whole_text(rt, alloc, design, &toggle)?;
+    let parts = [TOGGLE_HEADER, BELOW_3, BELOW_4, BELOW_12].concat(alloc)?;
+    assert!(rt; text.len() == 209);
+    assert!(rt; text == parts);
+    Ok(())
+}
+
+fn whole_toggle(rt: &impl Abort, alloc: Global) -> Result<(), Fail> {
+    let design = sampled(rt, alloc, TOGGLE, 12)?;
+    tells_whole(rt, alloc, &design)
+}
+
+#[test]
+fn text_of_toggle(rt: HostRuntime) -> Result<(), Fail> {
+    whole_toggle(&rt, rt.alloc())
+}
+
+// Each net is collected in one piece without changes.
+fn unknown_text(rt: &impl Abort, alloc: Global, design: &Design) -> Result<Vec<u8>, Fail> {
+    let mut collector = Collector::open(alloc, design)?;
+    let horizon = design.horizon();
+    for net in 0..design.netlist().len() {
+        let none = Vec::new(alloc);
+        answers(
+            rt,
+            &mut collector,
+            net as u32,
+            0,
+            horizon,
+            none,
+            Ok(horizon),
+        )?;
+    }
+    whole_text(rt, alloc, design, &collector)
+}
+
+const SEVENTEEN: &[u8] =
+    b"INPUT(a1) INPUT(a2) INPUT(a3) INPUT(a4) INPUT(a5) INPUT(a6) INPUT(a7) INPUT(a8) INPUT(a9)
+INPUT(a10) INPUT(a11) INPUT(a12) INPUT(a13) INPUT(a14) INPUT(a15) INPUT(a16) INPUT(a17)";
+
+const SEVENTEEN_LEVELS: &[u8] =
+    b"#0\n$dumpvars\nx!\nx\"\nx#\nx$\nx%\nx&\nx'\nx(\nx)\nx*\nx+\nx,\nx-\nx.\nx/\nx0\nx1\n$end\n#1000000\n";
+
+// The text of the inputs of which nothing is known has this length, and ends with these bytes.
+fn ends_with(
+    rt: &impl Abort,
+    alloc: Global,
+    design: &Design,
+    len: usize,
+    end: &[u8],
+) -> Result<(), Fail> {
+    let text = unknown_text(rt, alloc, design)?;
+    assert!(rt; text.len() == len);
+    assert!(rt; text.as_slice().ends_with(end));
+    Ok(())
+}
+
+// A table with a place for each net and tick would be too large.
+fn seventeen_inputs(rt: &impl Abort, alloc: Global) -> Result<(), Fail> {
+    let design = sampled(rt, alloc, SEVENTEEN, 1_000_000)?;
+    ends_with(rt, alloc, &design, 562, SEVENTEEN_LEVELS)
+}
+
+#[test]
+fn too_large(rt: HostRuntime) -> Result<(), Fail> {
+    seventeen_inputs(&rt, rt.alloc())
+}
+
+// So many inputs, with names by number.
+fn inputs(alloc: Global, count: u32) -> Result<String, Fail> {
+    let mut bench = String::new(alloc);
+    for net in 0..count {
+        write!(bench, "INPUT(n{net})\n")?;
+    }
+    Ok(bench)
+}
+
+fn most_inputs(rt: &impl Abort, alloc: Global) -> Result<(), Fail> {
+    let bench = inputs(alloc, 65_535)?;
+    let design = sampled(rt, alloc, bench.as_bytes(), 1)?;
+    ends_with(rt, alloc, &design, 2_133_620, b"x0G'\nx1G'\n$end\n#1\n")
+}
+
+#[test]
+fn largest_netlist(rt: HostRuntime) -> Result<(), Fail> {
+    most_inputs(&rt, rt.alloc())
+}
+
+#[test]
+fn room(rt: HostRuntime) -> Result<(), Fail> {
+    let mut room = Room::new(rt.alloc(), 5)?;
+    assert!(rt; write_whole(&mut room, b"three") == Ok(()));
+    assert!(rt; room.bytes.as_slice() == b"three".as_slice());
+    Ok(())
+}
+
+#[test]
+fn limited(rt: HostRuntime) {
+    let mut limited = Limited::new(rt.alloc(), 3);
+    assert!(rt; limited.write(b"th") == Ok(2));
+    assert!(rt; limited.failures < 10);
+    assert!(rt; write_whole(&mut limited, b"ree") == Err(1));
+    assert!(rt; limited.bytes.as_slice() == b"thr".as_slice());
+    assert!(rt; limited.failures == 1);
+}
+
+#[test]
+fn to_writer(rt: HostRuntime) {
+    let mut list = ToWriter::new(Vec::new(rt.alloc()));
+    assert!(rt; write_whole(&mut list, b"three") == Ok(()));
+    assert!(rt; list.writer.as_slice() == b"three".as_slice());
+    assert!(rt; list.failures == 0);
+}

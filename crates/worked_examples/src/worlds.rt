@@ -1,0 +1,412 @@
+//! Worked examples of worlds, by their events and replies.
+
+ghost use Rattle.std.specs.Prelude.{◌≡◌, IfOk, length};
+ghost use Rattle.cmb_design.specs.Exact.{nets_of};
+ghost use Rattle.cmb_core.specs.Opened.{IsClusterOf};
+
+use crate::inputs::{Inputs, design_of};
+use cmb_core::{Cluster, Clustering, DeliverFault, Event, PlayFault, Reply, World};
+use cmb_design::{Design, Settings};
+use cmb_wave::{Change, Heard, Level, Piece};
+use std::alloc::Global;
+use std::process::Abort;
+use std::test::Fail;
+
+// A design up to tick 12 without delay rows, whose flip-flops sample at ticks 2, 6, 10 and so on, and hold 0 before.
+fn sampled(rt: &impl Abort, alloc: Global, netlist: &[u8], stimuli: &[u8]) -> Result<Design, Fail> {
+    let settings = Settings {
+        horizon: 12,
+        clock: Some((2, 4)),
+        init: Level::Zero,
+    };
+    let inputs = Inputs {
+        netlist,
+        delays: b"",
+        stimuli,
+        clocks: b"",
+    };
+    design_of(rt, alloc, inputs, settings)
+}
+
+// A world of this design whose nets are spread over so many clusters.
+fn opened(rt: &impl Abort, alloc: Global, design: &Design, clusters: u32) -> Result<World, Fail> {
+    let nets = design.netlist().len();
+    assert!(rt; nets <= 65_535);
+    let clustering = Clustering::spread(alloc, nets as u32, clusters)?;
+    assert!(rt; clustering.nets() == nets);
+    Ok(World::open(alloc, design, &clustering)?)
+}
+
+// A flip-flop q that samples its data d, and d, the inverse of q.
+fn toggle(rt: &impl Abort, alloc: Global, clusters: u32) -> Result<World, Fail> {
+    let design = sampled(rt, alloc, b"q = DFF(d) d = NOT(q)", b"")?;
+    opened(rt, alloc, &design, clusters)
+}
+
+// A reply as a test says it: of a piece its net, its span, its number of changes and the first of them.
+#[derive(Clone, Copy, PartialEq, Eq)]
+enum Told {
+    Piece(u32, u32, u32, usize, Option<Change>),
+    Post(usize),
+    Clock(u32),
+    Promise(usize, u32, u32),
+    Look(Heard),
+    Fault(PlayFault),
+    Nothing,
+}
+
+fn told_piece(piece: &Piece) -> Told {
+    let changes = piece.changes();
+    let first = if changes.is_empty() {
+        None
+    } else {
+        Some(changes[0])
+    };
+    Told::Piece(piece.net(), piece.from(), piece.to(), changes.len(), first)
+}
+
+fn told_reply(reply: &Reply) -> Told {
+    match reply {
+        Reply::Stepped(Some(piece)) => told_piece(piece),
+        Reply::Posted(Some(number)) => Told::Post(*number),
+        Reply::Delivered(clock) => Told::Clock(*clock),
+        Reply::Promised(number, promise) => Told::Promise(*number, promise.count, promise.upto),
+        Reply::Looked(heard) => Told::Look(*heard),
+        _ => Told::Nothing,
+    }
+}
+
+fn answer_of(reply: &Result<Reply, PlayFault>) -> Told {
+    match reply {
+        Ok(reply) => told_reply(reply),
+        Err(fault) => Told::Fault(*fault),
+    }
+}
+
+// Whether the reply with this number is as wanted.
+fn is_as_wanted(replies: &[Result<Reply, PlayFault>], wanted: &[Told], number: usize) -> bool {
+    number < replies.len() && number < wanted.len() && answer_of(&replies[number]) == wanted[number]
+}
+
+fn are_as_wanted(replies: &[Result<Reply, PlayFault>], wanted: &[Told]) -> bool {
+    for number in 0..wanted.len() {
+        if !is_as_wanted(replies, wanted, number) {
+            return false;
+        }
+    }
+    replies.len() == wanted.len()
+}
+
+// Whether the replies to these events are these.
+fn replies_with(world: &mut World, events: &[Event], wanted: &[Told]) -> bool {
+    match world.play_all(events) {
+        Ok(replies) => are_as_wanted(&replies, wanted),
+        Err(_) => false,
+    }
+}
+
+const TWO_CLUSTERS: [Event; 10] = [
+    Event::Step(0),
+    Event::Promise(0),
+    Event::Look(1, 0),
+    Event::Post(0, 0),
+    Event::Deliver(1, 0),
+    Event::Step(1),
+    Event::Post(1, 5),
+    Event::Deliver(1, 7),
+    Event::Deliver(0, 0),
+    Event::Look(1, 0),
+];
+
+const WANTED_OF_TWO_CLUSTERS: [Told; 10] = [
+    Told::Piece(
+        0,
+        0,
+        3,
+        1,
+        Some(Change {
+            tick: 0,
+            level: Level::Zero,
+        }),
+    ),
+    Told::Promise(0, 1, 3),
+    Told::Look(Heard::Ahead),
+    Told::Post(0),
+    Told::Clock(3),
+    Told::Piece(
+        1,
+        0,
+        4,
+        1,
+        Some(Change {
+            tick: 1,
+            level: Level::One,
+        }),
+    ),
+    Told::Fault(PlayFault::Beyond),
+    Told::Fault(PlayFault::NoSuch),
+    Told::Fault(PlayFault::Stranger),
+    Told::Look(Heard::Old),
+];
+
+#[test]
+fn two_clusters(rt: HostRuntime) -> Result<(), Fail> {
+    let mut world = toggle(&rt, rt.alloc(), 2)?;
+    assert!(&rt; replies_with(&mut world, &TWO_CLUSTERS, &WANTED_OF_TWO_CLUSTERS));
+    assert!(&rt; world.promised(0).is_some());
+    assert!(&rt; world.promised(1).is_none());
+    assert!(&rt; world.posted(0).is_some());
+    assert!(&rt; world.posted(1).is_none());
+    Ok(())
+}
+
+const PROMISE_OVERTAKES: [Event; 11] = [
+    Event::Step(1),
+    Event::Post(1, 0),
+    Event::Deliver(2, 0),
+    Event::Step(0),
+    Event::Post(0, 0),
+    Event::Deliver(1, 1),
+    Event::Step(1),
+    Event::Promise(1),
+    Event::Post(1, 3),
+    Event::Look(2, 0),
+    Event::Deliver(2, 2),
+];
+
+const WANTED_OF_PROMISE_OVERTAKES: [Told; 11] = [
+    Told::Piece(
+        1,
+        0,
+        3,
+        1,
+        Some(Change {
+            tick: 0,
+            level: Level::Zero,
+        }),
+    ),
+    Told::Post(0),
+    Told::Clock(3),
+    Told::Piece(
+        0,
+        0,
+        12,
+        1,
+        Some(Change {
+            tick: 0,
+            level: Level::Zero,
+        }),
+    ),
+    Told::Post(1),
+    Told::Clock(12),
+    Told::Piece(1, 3, 12, 0, None),
+    Told::Promise(0, 1, 12),
+    Told::Post(2),
+    Told::Look(Heard::Extended),
+    Told::Fault(PlayFault::Old { clock: 12 }),
+];
+
+// A flip-flop q that samples the input a, which is 0, and y, which follows it, each in a cluster of its own.
+fn followed(rt: &impl Abort, alloc: Global) -> Result<World, Fail> {
+    let bench = b"INPUT(a) q = DFF(a) y = BUFF(q)";
+    let design = sampled(rt, alloc, bench, b"tick,net,value\n0,a,0\n")?;
+    opened(rt, alloc, &design, 3)
+}
+
+#[test]
+fn promise_overtakes(rt: HostRuntime) -> Result<(), Fail> {
+    let mut world = followed(&rt, rt.alloc())?;
+    assert!(&rt; replies_with(&mut world, &PROMISE_OVERTAKES, &WANTED_OF_PROMISE_OVERTAKES));
+    assert!(&rt; world.in_clock(2, 1) == Some(12));
+    assert!(&rt; world.out_clock(2) == Some(0));
+    assert!(&rt; world.in_clock(0, 1) == None);
+    assert!(&rt; world.out_clock(3) == None);
+    Ok(())
+}
+
+// What a world tells after a round: how far q and d are known where they are driven, and where they are read.
+#[derive(Clone, Copy, PartialEq, Eq)]
+struct After {
+    done: bool,
+    complete: bool,
+    quiet: bool,
+    driven: [Option<u32>; 2],
+    read: [Option<u32>; 2],
+}
+
+fn after_round(world: &mut World) -> Result<After, Fail> {
+    let done = world.round()?;
+    Ok(After {
+        done,
+        complete: world.complete(),
+        quiet: world.quiet(),
+        driven: [world.out_clock(0), world.out_clock(1)],
+        read: [world.in_clock(1, 0), world.in_clock(0, 1)],
+    })
+}
+
+// Each of two clusters knows what the other one drives.
+fn apart(q: u32, d: u32, done: bool) -> After {
+    After {
+        done,
+        complete: done,
+        quiet: done,
+        driven: [Some(q), Some(d)],
+        read: [Some(q), Some(d)],
+    }
+}
+
+fn together(q: u32, d: u32, done: bool) -> After {
+    After {
+        done,
+        complete: done,
+        quiet: done,
+        driven: [Some(q), Some(d)],
+        read: [None, None],
+    }
+}
+
+#[test]
+fn rounds_of_toggle(rt: HostRuntime) -> Result<(), Fail> {
+    let mut world = toggle(&rt, rt.alloc(), 2)?;
+    for (q, d) in [(3u32, 1u32), (3, 4), (7, 4), (7, 8), (11, 8), (11, 12)] {
+        assert!(&rt; after_round(&mut world)? == apart(q, d, false));
+    }
+    assert!(&rt; after_round(&mut world)? == apart(12, 12, true));
+    Ok(())
+}
+
+#[test]
+fn rounds_of_one_cluster(rt: HostRuntime) -> Result<(), Fail> {
+    let mut world = toggle(&rt, rt.alloc(), 1)?;
+    for (q, d) in [(3u32, 4u32), (7, 8), (11, 12)] {
+        assert!(&rt; after_round(&mut world)? == together(q, d, false));
+    }
+    assert!(&rt; after_round(&mut world)? == together(12, 12, true));
+    Ok(())
+}
+
+// The second cluster of two, told what is not so of q.
+fn misled(
+    rt: &impl Abort,
+    alloc: Global,
+    design: &Design,
+    clustering: &Clustering,
+) -> Result<Cluster, Fail>
+    requires nets { length clustering.now.assign ≡ nets_of design.now }
+    requires two { clustering.now.clusters ≡ 2 }
+    ensures { IfOk result (λ s. IsClusterOf design.now clustering.now 1 s) }
+{
+    let mut cluster = Cluster::open(alloc, design, clustering, 1)?;
+    let unknown = Piece::new(
+        0,
+        0,
+        3,
+        vec![in alloc;
+            Change {
+                tick: 0,
+                level: Level::X
+            },
+        ]?,
+    )?;
+    assert!(rt; cluster.deliver(&unknown) == Err(DeliverFault::Clash { tick: 0 }));
+    let wrong = Piece::new(
+        0,
+        0,
+        3,
+        vec![in alloc;
+            Change {
+                tick: 0,
+                level: Level::One
+            },
+        ]?,
+    )?;
+    assert!(rt; cluster.deliver(&wrong) == Ok(3));
+    Ok(cluster)
+}
+
+// A world of a new first cluster and of this second one.
+fn world_with(
+    alloc: Global,
+    design: &Design,
+    clustering: &Clustering,
+    second: Cluster,
+) -> Result<World, Fail>
+    requires nets { length clustering.now.assign ≡ nets_of design.now }
+    requires two { clustering.now.clusters ≡ 2 }
+    requires second { IsClusterOf design.now clustering.now 1 second }
+{
+    let first = Cluster::open(alloc, design, clustering, 0)?;
+    let mut clusters = Vec::with_capacity(alloc, 2)?;
+    clusters.push(first)?;
+    clusters.push(second)?;
+    Ok(World::of(alloc, design, clustering, clusters)?)
+}
+
+const WORLD_OF: [Event; 4] = [
+    Event::Step(1),
+    Event::Post(1, 0),
+    Event::Deliver(0, 0),
+    Event::Step(0),
+];
+
+const WANTED_OF_WORLD_OF: [Told; 4] = [
+    Told::Piece(
+        1,
+        0,
+        4,
+        1,
+        Some(Change {
+            tick: 1,
+            level: Level::Zero,
+        }),
+    ),
+    Told::Post(0),
+    Told::Clock(4),
+    Told::Piece(
+        0,
+        0,
+        7,
+        1,
+        Some(Change {
+            tick: 0,
+            level: Level::Zero,
+        }),
+    ),
+];
+
+fn misled_world(rt: &impl Abort, alloc: Global) -> Result<World, Fail> {
+    let design = sampled(rt, alloc, b"q = DFF(d) d = NOT(q)", b"")?;
+    misled_in(rt, alloc, &design)
+}
+
+// The same of this design.
+fn misled_in(rt: &impl Abort, alloc: Global, design: &Design) -> Result<World, Fail> {
+    let nets = design.netlist().len();
+    assert!(rt; nets <= 65_535);
+    let clustering = Clustering::spread(alloc, nets as u32, 2)?;
+    assert!(rt; clustering.nets() == nets);
+    assert!(rt; clustering.clusters() == 2);
+    misled_with(rt, alloc, design, &clustering)
+}
+
+// The same of this clustering.
+fn misled_with(
+    rt: &impl Abort,
+    alloc: Global,
+    design: &Design,
+    clustering: &Clustering,
+) -> Result<World, Fail>
+    requires nets { length clustering.now.assign ≡ nets_of design.now }
+    requires two { clustering.now.clusters ≡ 2 }
+{
+    let second = misled(rt, alloc, design, clustering)?;
+    world_with(alloc, design, clustering, second)
+}
+
+#[test]
+fn world_of(rt: HostRuntime) -> Result<(), Fail> {
+    let mut world = misled_world(&rt, rt.alloc())?;
+    assert!(&rt; replies_with(&mut world, &WORLD_OF, &WANTED_OF_WORLD_OF));
+    Ok(())
+}
