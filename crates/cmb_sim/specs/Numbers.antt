@@ -7,6 +7,8 @@ use Rattle.cmb_bench.specs.FirstFault.{number_of_fault}
 use Rattle.cmb_design.specs.declared.fault.DesignFault.{DesignFault}
 use Rattle.cmb_design.specs.declared.fault.DesignFault.TheVariants as design_fault
 use Rattle.cmb_design.specs.Faults.{fault_number, fault_record}
+use Rattle.cmb_run.specs.declared.run_fault.RunFault.{RunFault}
+use Rattle.cmb_run.specs.declared.run_fault.RunFault.TheVariants as run_fault
 use Rattle.cmb_sim.specs.declared.fault.Fault.{Fault}
 use Rattle.cmb_sim.specs.declared.fault.Fault.TheVariants.{Bench, Design, Clusters, Incomplete, Workers, TooLong, Read, Write, Memory}
 
@@ -47,3 +49,9 @@ bench_as_fault fault = of_kind fault.kind fault
 abbrev pub design_as_fault : DesignFault → Fault
 design_as_fault design_fault.Memory = Memory
 design_as_fault fault = Design fault
+
+-- of a run that was stopped the collector is let go
+abbrev pub run_as_fault : RunFault → Fault
+run_as_fault (run_fault.Incomplete net upto collector) = Incomplete net upto
+run_as_fault (run_fault.Write written) = Write written
+run_as_fault run_fault.Memory = Memory

@@ -1,10 +1,11 @@
 //! Why a simulation didn't write its text.
 
 ghost use Rattle.std.specs.Prelude.{◌≡◌, IfOk};
-ghost use Rattle.cmb_sim.specs.Numbers.{bench_as_fault, design_as_fault, line_of, number_of, place_of};
+ghost use Rattle.cmb_sim.specs.Numbers.{bench_as_fault, design_as_fault, line_of, number_of, place_of, run_as_fault};
 
 use cmb_bench::{BenchFault, FaultKind};
 use cmb_design::DesignFault;
+use cmb_run::RunFault;
 use std::alloc::{AllocError, Global};
 use thiserror::Error;
 
@@ -58,6 +59,18 @@ impl From<DesignFault> for Fault {
         match fault {
             DesignFault::Memory => Fault::Memory,
             _ => Fault::Design(fault),
+        }
+    }
+}
+
+impl From<RunFault> for Fault {
+    ghost from_gives = { λ fault wider. wider ≡ run_as_fault fault };
+
+    fn from(fault: RunFault) -> Fault {
+        match fault {
+            RunFault::Incomplete { net, upto, .. } => Fault::Incomplete { net, upto },
+            RunFault::Write { written } => Fault::Write { written },
+            RunFault::Memory => Fault::Memory,
         }
     }
 }

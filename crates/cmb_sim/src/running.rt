@@ -13,7 +13,7 @@ use cmb_core::{Clustering, ClusteringFault};
 use cmb_design::{Design, plain_waves};
 use cmb_links::Workers;
 use cmb_run::{
-    Collector, OpenGate, RunFault, Sink, run_free_text, run_rounds, vcd_text, write_whole,
+    Collector, OpenGate, Sink, run_free_text, run_rounds, vcd_text, write_whole,
 };
 use std::alloc::Global;
 use std::sync::Wait;
@@ -96,12 +96,8 @@ fn write_free<R: AllocGlobal + Threads + Wait + Sync, O: Sink>(
     let alloc = rt.alloc();
     let clustering = spread(alloc, design, clusters)?;
     let workers = workers_of(workers)?;
-    match run_free_text(rt, alloc, design, &clustering, workers, &OpenGate, out) {
-        Ok(written) => Ok(written),
-        Err(RunFault::Incomplete { net, upto, .. }) => Err(Fault::Incomplete { net, upto }),
-        Err(RunFault::Write { written }) => Err(Fault::Write { written }),
-        Err(RunFault::Memory) => Err(Fault::Memory),
-    }
+    let written = run_free_text(rt, alloc, design, &clustering, workers, &OpenGate, out)?;
+    Ok(written)
 }
 
 // Writes the text of a design, and gives its length.
