@@ -48,6 +48,7 @@ for folder in "$examples"/*/; do
     example "$name" plain --mode plain
     example "$name" default
     example "$name" rounds --mode rounds --workers 3 --clusters 5
+    example "$name" free --mode free --workers 3 --clusters 5
 done
 refused horizon_of_0 2 run --horizon 0
 refused no_horizon 2 run --mode rounds

@@ -3,6 +3,8 @@
 
 mod collected;
 mod free;
+#[cfg(test)]
+mod free_tests;
 mod hand;
 mod part;
 pub mod rounds;

@@ -15,8 +15,8 @@ use std::sync::Wait;
 use std::test::Fail;
 use std::thread::Threads;
 
-// A design whose flip-flops sample at ticks 2, 6, 10 and so on, and hold 0 before.
-fn design_of(alloc: Global, bench: &[u8], stimuli: &[u8], horizon: u32) -> Result<Design, Fail>
+/// A design whose flip-flops sample at ticks 2, 6, 10 and so on, and hold 0 before.
+pub fn design_of(alloc: Global, bench: &[u8], stimuli: &[u8], horizon: u32) -> Result<Design, Fail>
     requires bench { length bench.now ≤ 16777216 }
     requires stimuli { length stimuli.now ≤ 16777216 }
 {
@@ -94,7 +94,7 @@ fn inverter(rt: HostRuntime) -> Result<(), Fail> {
     all_alike(&rt, alloc, &design, INVERTER)
 }
 
-const TOGGLE: &[u8] = b"$version cmbsim 1 $end
+pub const TOGGLE: &[u8] = b"$version cmbsim 1 $end
 $timescale 1 ns $end
 $scope module top $end
 $var wire 1 ! q $end

@@ -2,3 +2,4 @@ pub mod Known
 pub mod Outcomes
 pub mod PlainRuns
 pub mod RoundRuns
+pub mod FreeTexts

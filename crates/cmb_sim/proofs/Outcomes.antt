@@ -1,5 +1,5 @@
 -- The answers of the stages as those of the whole simulation.
-use Rattle.std.proofs.Common.{◌≡◌, ℕ, ◌+◌, ◌<◌, ◌⊎◌, inl, inr, List, ◌++◌, Option, None, Some, Ok, Err, refl, sym, subst, ◌∙◌, length, take}
+use Rattle.std.proofs.Common.{◌≡◌, ℕ, ◌⊎◌, inl, inr, List, ◌++◌, Option, None, Some, Ok, Err, refl, sym, subst, ◌∙◌}
 use Rattle.std.specs.Io.KnownBytes.{Appends, Keeps}
 use Rattle.std.proofs.KnownBytes.{Keeps-refl}
 use Rattle.cmb_bench.specs.Netlist.{Netlist}
@@ -17,8 +17,8 @@ use Rattle.cmb_design.specs.declared.rows.ClockRow.{ClockRow}
 use Rattle.cmb_design.specs.declared.settings.Settings.{Settings}
 use Rattle.cmb_vcd.specs.Vcd.{vcd}
 use Rattle.cmb_sim.specs.Numbers.{design_as_fault}
-use Rattle.cmb_sim.specs.Simulation.{AreTexts, HaveDesign, Inputs, IsOutcome, Spell, SpellDesign, Texts, design_in, mode_checks, output, report_of, text_checks}
-use Rattle.cmb_sim.specs.Stages.{CanRun, FoundDesign, HaveTextFault, IsUnrun, LacksDesign, SpellAny}
+use Rattle.cmb_sim.specs.Simulation.{AreTexts, HaveDesign, Inputs, IsOutcome, Output, Spell, SpellDesign, Texts, design_in, mode_checks, output, report_of, text_checks}
+use Rattle.cmb_sim.specs.Stages.{CanRun, FoundDesign, HaveTextFault, IsUnrun, IsUnwritten, LacksDesign, SpellAny}
 use Rattle.cmb_sim.specs.declared.fault.Fault.{Fault}
 use Rattle.cmb_sim.specs.declared.fault.Fault.TheVariants as fault
 use Rattle.cmb_sim.specs.declared.mode.Mode.{Mode}
@@ -64,6 +64,7 @@ LacksDesign-of settings i texts are (fault.Design f) h = (texts, are, h)
 LacksDesign-of settings i texts are (fault.TooLong n) h = absurd h
 LacksDesign-of settings i texts are (fault.Read n) h = absurd h
 LacksDesign-of settings i texts are (fault.Write n) h = absurd h
+LacksDesign-of settings i texts are (fault.Incomplete n t) h = absurd h
 LacksDesign-of settings i texts are fault.Clusters h = absurd h
 LacksDesign-of settings i texts are fault.Workers h = absurd h
 LacksDesign-of settings i texts are fault.Memory h = tt
@@ -78,9 +79,10 @@ IsOutcome-unread settings mode i old n (fault.Bench f) h = (h, Keeps-refl old)
 IsOutcome-unread settings mode i old n (fault.Design f) h =
     ((h.0, h.1, (h.2.0, h.2.1, first_fault-some _ _ f h.2.2)), Keeps-refl old)
 IsOutcome-unread settings mode i old n (fault.Write k) h = absurd h
+IsOutcome-unread settings mode i old n (fault.Incomplete k t) h = absurd h
 IsOutcome-unread settings mode i old n fault.Clusters h = absurd h
 IsOutcome-unread settings mode i old n fault.Workers h = absurd h
-IsOutcome-unread settings mode i old n fault.Memory h = Keeps-refl old
+IsOutcome-unread settings mode i old n fault.Memory h = inl (Keeps-refl old)
 
 -- the design's checks, then those of the mode, of which one stands
 mode_fault : (texts : Texts) (settings : Settings) (mode : Mode) (netlist : Netlist) (design : Design) (e : DesignFault)
@@ -98,18 +100,6 @@ HaveDesign-of settings mode i design found fits = (
   first_fault-none _ _ found.2.checked ∙ (let P : Design → Type 0 = λ d. first_fault (mode_checks mode d) ≡ None in subst P found.2.is fits),
 )
 
-pub IsOutcome-unrun : (settings : Settings) (mode : Mode) (i : Inputs) (old : Option (List ℕ)) (n : ℕ) (design : Design)
-    → FoundDesign settings i design → (f : Fault) → IsUnrun mode design f → IsOutcome settings mode i (output old old n n) (Err f)
-IsOutcome-unrun settings mode i old n design found (fault.Design f) h =
-    ((found.0, found.1, (found.2.netlist, found.2.read, mode_fault found.0 settings mode found.2.netlist design f found.2.checked found.2.is h)), Keeps-refl old)
-IsOutcome-unrun settings mode i old n design found fault.Clusters h = ((found.0, found.1, (HaveDesign-of settings mode i design found h.0, h.1)), Keeps-refl old)
-IsOutcome-unrun settings mode i old n design found fault.Workers h = ((found.0, found.1, (HaveDesign-of settings mode i design found h.0, h.1, h.2)), Keeps-refl old)
-IsOutcome-unrun settings mode i old n design found fault.Memory h = Keeps-refl old
-IsOutcome-unrun settings mode i old n design found (fault.Bench f) h = absurd h
-IsOutcome-unrun settings mode i old n design found (fault.TooLong k) h = absurd h
-IsOutcome-unrun settings mode i old n design found (fault.Read k) h = absurd h
-IsOutcome-unrun settings mode i old n design found (fault.Write k) h = absurd h
-
 -- the design that was found can be run
 pub SpellDesign-of : (settings : Settings) (mode : Mode) (i : Inputs) (design : Design)
     → FoundDesign settings i design → CanRun mode design → SpellDesign settings mode i design
@@ -126,19 +116,34 @@ SpellDesign-of settings mode i design found runs = (
   },
 )
 
-pub IsOutcome-written : (settings : Settings) (mode : Mode) (i : Inputs) (old new : Option (List ℕ)) (before after : ℕ) (design : Design) (text : List ℕ) (report : Report)
-    → FoundDesign settings i design → CanRun mode design → text ≡ vcd design → Appends old new text → report ≡ report_of design
+pub IsOutcome-written : (settings : Settings) (mode : Mode) (i : Inputs) (old new : Option (List ℕ)) (before after : ℕ) (design : Design) (report : Report)
+    → FoundDesign settings i design → CanRun mode design → Appends old new (vcd design) → report ≡ report_of design
     → IsOutcome settings mode i (output old new before after) (Ok report)
-IsOutcome-written settings mode i old new before after design text report found fits is wrote told =
-    (design, SpellDesign-of settings mode i design found fits, subst (Appends old new) is wrote, told)
+IsOutcome-written settings mode i old new before after design report found fits wrote told =
+    (design, SpellDesign-of settings mode i design found fits, wrote, told)
 
-pub IsOutcome-unwritten : (settings : Settings) (mode : Mode) (i : Inputs) (old new : Option (List ℕ)) (before after : ℕ) (design : Design) (text : List ℕ) (n : ℕ)
-    → FoundDesign settings i design → CanRun mode design → text ≡ vcd design → n < length text → Appends old new (take n text) → after ≡ before + 1
-    → IsOutcome settings mode i (output old new before after) (Err (fault.Write n))
-IsOutcome-unwritten settings mode i old new before after design text n found fits is less wrote failed = (
-  design,
-  SpellDesign-of settings mode i design found fits,
-  (let P : List ℕ → Type 0 = λ t. n < length t in subst P is less),
-  (let P : List ℕ → Type 0 = λ t. Appends old new (take n t) in subst P is wrote),
-  failed,
-)
+-- a fault of the mode comes before anything is written
+pub IsUnwritten-unrun : (mode : Mode) (old : Option (List ℕ)) (n : ℕ) (design : Design) (f : Fault) → IsUnrun mode design f → IsUnwritten mode design (output old old n n) f
+IsUnwritten-unrun mode old n design (fault.Design f) h = (h, Keeps-refl old)
+IsUnwritten-unrun mode old n design fault.Clusters h = (h, Keeps-refl old)
+IsUnwritten-unrun mode old n design fault.Workers h = (h, Keeps-refl old)
+IsUnwritten-unrun mode old n design fault.Memory h = inl (Keeps-refl old)
+IsUnwritten-unrun mode old n design (fault.Bench f) h = absurd h
+IsUnwritten-unrun mode old n design (fault.Incomplete k t) h = absurd h
+IsUnwritten-unrun mode old n design (fault.TooLong k) h = absurd h
+IsUnwritten-unrun mode old n design (fault.Read k) h = absurd h
+IsUnwritten-unrun mode old n design (fault.Write k) h = absurd h
+
+pub IsOutcome-unwritten : (settings : Settings) (mode : Mode) (i : Inputs) (o : Output) (design : Design)
+    → FoundDesign settings i design → (f : Fault) → IsUnwritten mode design o f → IsOutcome settings mode i o (Err f)
+IsOutcome-unwritten settings mode i o design found (fault.Design f) h =
+    ((found.0, found.1, (found.2.netlist, found.2.read, mode_fault found.0 settings mode found.2.netlist design f found.2.checked found.2.is h.0)), h.1)
+IsOutcome-unwritten settings mode i o design found fault.Clusters h = ((found.0, found.1, (HaveDesign-of settings mode i design found h.0.0, h.0.1)), h.1)
+IsOutcome-unwritten settings mode i o design found fault.Workers h = ((found.0, found.1, (HaveDesign-of settings mode i design found h.0.0, h.0.1, h.0.2)), h.1)
+IsOutcome-unwritten settings mode i o design found fault.Memory (inl h) = inl h
+IsOutcome-unwritten settings mode i o design found fault.Memory (inr h) = inr (design, SpellDesign-of settings mode i design found h.0, h.1, h.2)
+IsOutcome-unwritten settings mode i o design found (fault.Write n) h = (design, SpellDesign-of settings mode i design found h.0, h.1, h.2, h.3)
+IsOutcome-unwritten settings mode i o design found (fault.Incomplete n t) h = (design, SpellDesign-of settings mode i design found h.0, h.1, h.2, h.3, h.4)
+IsOutcome-unwritten settings mode i o design found (fault.Bench f) h = absurd h.0
+IsOutcome-unwritten settings mode i o design found (fault.TooLong k) h = absurd h.0
+IsOutcome-unwritten settings mode i o design found (fault.Read k) h = absurd h.0

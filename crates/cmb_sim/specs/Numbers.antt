@@ -7,13 +7,16 @@ use Rattle.cmb_bench.specs.FirstFault.{number_of_fault}
 use Rattle.cmb_design.specs.declared.fault.DesignFault.{DesignFault}
 use Rattle.cmb_design.specs.declared.fault.DesignFault.TheVariants as design_fault
 use Rattle.cmb_design.specs.Faults.{fault_number, fault_record}
+use Rattle.cmb_run.specs.declared.run_fault.RunFault.{RunFault}
+use Rattle.cmb_run.specs.declared.run_fault.RunFault.TheVariants as run_fault
 use Rattle.cmb_sim.specs.declared.fault.Fault.{Fault}
-use Rattle.cmb_sim.specs.declared.fault.Fault.TheVariants.{Bench, Design, Clusters, Workers, TooLong, Read, Write, Memory}
+use Rattle.cmb_sim.specs.declared.fault.Fault.TheVariants.{Bench, Design, Clusters, Incomplete, Workers, TooLong, Read, Write, Memory}
 
 abbrev pub number_of : Fault → ℕ
 number_of (Bench fault) = number_of_fault fault.kind
 number_of (Design fault) = fault_number fault
 number_of Clusters = 40
+number_of (Incomplete net upto) = 53
 number_of Workers = 54
 number_of (TooLong input) = 60
 number_of (Read input) = 61
@@ -24,6 +27,7 @@ abbrev pub place_of : Fault → ℕ
 place_of (Bench fault) = fault.line
 place_of (Design fault) = fault_record fault
 place_of Clusters = 0
+place_of (Incomplete net upto) = net
 place_of Workers = 0
 place_of (TooLong input) = input
 place_of (Read input) = input
@@ -45,3 +49,9 @@ bench_as_fault fault = of_kind fault.kind fault
 abbrev pub design_as_fault : DesignFault → Fault
 design_as_fault design_fault.Memory = Memory
 design_as_fault fault = Design fault
+
+-- of a run that was stopped the collector is let go
+abbrev pub run_as_fault : RunFault → Fault
+run_as_fault (run_fault.Incomplete net upto collector) = Incomplete net upto
+run_as_fault (run_fault.Write written) = Write written
+run_as_fault run_fault.Memory = Memory

@@ -1,5 +1,5 @@
 -- What a whole simulation answers, and what it writes.
-use Rattle.std.specs.Prelude.{◌≡◌, ℕ, ◌+◌, ◌<◌, ◌≤◌, ◌⊎◌, List, [], ◌∷◌, ◌++◌, length, take, nat_lt, Option, None, Some, Result, Ok, Err}
+use Rattle.std.specs.Prelude.{◌≡◌, ℕ, ◌+◌, ◌<◌, ◌≤◌, ◌⊎◌, List, [], ◌∷◌, ◌++◌, length, take, nat_lt, Option, None, Some, Result, Ok, Err, ⊤}
 use Rattle.std.specs.Io.KnownBytes.{Appends, Keeps}
 use Rattle.cmb_bench.specs.Netlist.{Netlist}
 use Rattle.cmb_bench.specs.Meaning.{Reads}
@@ -14,11 +14,12 @@ use Rattle.cmb_design.specs.Settings.{design_checks}
 use Rattle.cmb_design.specs.declared.fault.DesignFault.TheVariants.{TableTooLarge}
 use Rattle.cmb_design.specs.declared.settings.Settings.{Settings}
 use Rattle.cmb_vcd.specs.Vcd.{vcd}
+use Rattle.cmb_run.specs.FreeRuns.{HasBegun}
 use Rattle.cmb_sim.specs.Sources.{IsTooLong, IsWhole}
 use Rattle.cmb_sim.specs.declared.fault.Fault.{Fault}
 use Rattle.cmb_sim.specs.declared.fault.Fault.TheVariants as fault
 use Rattle.cmb_sim.specs.declared.mode.Mode.{Mode}
-use Rattle.cmb_sim.specs.declared.mode.Mode.TheVariants.{Plain, Rounds}
+use Rattle.cmb_sim.specs.declared.mode.Mode.TheVariants.{Plain, Rounds, Free}
 use Rattle.cmb_sim.specs.declared.simulation.Report.{Report}
 
 -- ---- the texts
@@ -37,19 +38,27 @@ design_in texts settings netlist =
     (table_rows stimulus_row_of (table_records texts.stimuli))
     (table_rows clock_row_of (table_records texts.clocks))
 
--- what a mode can run: by a table of all levels, at most 16,777,216 of them; by rounds, all
+-- what a mode can run: by a table of all levels, at most 16,777,216 of them; by clusters, all
 abbrev pub mode_checks : Mode → Design → List Check
 mode_checks Plain design = check TableTooLarge (nat_lt 16777216 (cells_of design)) ∷ []
 mode_checks (Rounds workers clusters) design = []
+mode_checks (Free workers clusters) design = []
 
 -- how many clusters and workers a mode asks for
 abbrev pub clusters_of : Mode → ℕ
 clusters_of Plain = 1
 clusters_of (Rounds workers clusters) = clusters
+clusters_of (Free workers clusters) = clusters
 
 abbrev pub workers_of : Mode → ℕ
 workers_of Plain = 1
 workers_of (Rounds workers clusters) = workers
+workers_of (Free workers clusters) = workers
+
+-- the text is written while the run goes on
+abbrev pub IsFree : Mode → Type 0
+IsFree (Free workers clusters) = ⊤
+IsFree _ = ⊥
 
 -- there can be so many clusters, or workers
 abbrev pub IsMany : ℕ → Type 0
@@ -158,8 +167,13 @@ report_of design = record { nets = nets_of design; horizon = design.horizon; wri
 abbrev pub SpellDesign : Settings → Mode → Inputs → Design → Type 0
 SpellDesign settings mode i design = (texts : Texts) × AreTexts i texts × Spell texts settings mode design
 
+-- the run began to write the text of the design
+abbrev pub BeginsText : Settings → Mode → Inputs → Output → Type 0
+BeginsText settings mode i o = (design : Design) × SpellDesign settings mode i design × IsFree mode × HasBegun design o.old o.new
+
 -- What a simulation answers and what its sink takes. The inputs are read in order, then the texts' faults are found in order,
--- then the text of the design is written, all of it or a beginning. Before that nothing is written. Memory may run out before.
+-- then the text of the design is written, all of it or a beginning. Before that nothing is written. Memory may run out before,
+-- and where the text is written while the run goes on, also then.
 abbrev pub IsOutcome : Settings → Mode → Inputs → Output → Result Report Fault → Type 0
 IsOutcome settings mode i o (Err (fault.TooLong n)) = StopsAt HasTooMany i n × Keeps o.old o.new
 IsOutcome settings mode i o (Err (fault.Read n)) = StopsAt HasFailed i n × Keeps o.old o.new
@@ -167,7 +181,10 @@ IsOutcome settings mode i o (Err (fault.Bench f)) = ((texts : Texts) × AreTexts
 IsOutcome settings mode i o (Err (fault.Design f)) = ((texts : Texts) × AreTexts i texts × HaveFault texts settings mode (fault.Design f)) × Keeps o.old o.new
 IsOutcome settings mode i o (Err fault.Clusters) = ((texts : Texts) × AreTexts i texts × HaveFault texts settings mode fault.Clusters) × Keeps o.old o.new
 IsOutcome settings mode i o (Err fault.Workers) = ((texts : Texts) × AreTexts i texts × HaveFault texts settings mode fault.Workers) × Keeps o.old o.new
-IsOutcome settings mode i o (Err fault.Memory) = Keeps o.old o.new
+IsOutcome settings mode i o (Err fault.Memory) = Keeps o.old o.new ⊎ BeginsText settings mode i o
+IsOutcome settings mode i o (Err (fault.Incomplete net upto)) =
+    (design : Design) × SpellDesign settings mode i design × IsFree mode
+    × (net < nets_of design) × (upto < design.horizon) × HasBegun design o.old o.new
 IsOutcome settings mode i o (Err (fault.Write n)) =
     (design : Design) × SpellDesign settings mode i design
     × (n < length (vcd design)) × Appends o.old o.new (take n (vcd design)) × (o.after ≡ o.before + 1)

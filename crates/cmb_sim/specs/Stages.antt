@@ -1,12 +1,16 @@
 -- What the stages of a simulation answer, each as a part of the whole's outcome. No public contract cites these.
-use Rattle.std.specs.Prelude.{◌≡◌, ℕ, List, Some, None, ⊤}
+use Rattle.std.specs.Prelude.{◌≡◌, ℕ, ◌+◌, ◌<◌, ◌⊎◌, List, length, take, Some, None, ⊤}
+use Rattle.std.specs.Io.KnownBytes.{Appends, Keeps}
 use Rattle.cmb_bench.specs.Netlist.{Netlist}
 use Rattle.cmb_bench.specs.Meaning.{Reads}
 use Rattle.cmb_bench.specs.FirstFault.{IsFirstFault}
 use Rattle.cmb_design.specs.Checks.{first_fault}
 use Rattle.cmb_design.specs.Design.{Design}
+use Rattle.cmb_design.specs.Exact.{nets_of}
 use Rattle.cmb_design.specs.declared.settings.Settings.{Settings}
-use Rattle.cmb_sim.specs.Simulation.{AreTexts, HasFailed, HasTooMany, Input, Inputs, StopsAt, Texts, IsMany, clusters_of, design_in, mode_checks, text_checks, workers_of}
+use Rattle.cmb_vcd.specs.Vcd.{vcd}
+use Rattle.cmb_run.specs.FreeRuns.{HasBegun}
+use Rattle.cmb_sim.specs.Simulation.{AreTexts, HasFailed, HasTooMany, Input, Inputs, IsFree, Output, StopsAt, Texts, IsMany, clusters_of, design_in, mode_checks, text_checks, workers_of}
 use Rattle.cmb_sim.specs.declared.fault.Fault.{Fault}
 use Rattle.cmb_sim.specs.declared.fault.Fault.TheVariants as fault
 use Rattle.cmb_sim.specs.declared.mode.Mode.{Mode}
@@ -42,6 +46,7 @@ LacksDesign settings i (fault.Read n) = StopsAt HasFailed i n
 LacksDesign settings i (fault.Bench f) = (texts : Texts) × AreTexts i texts × HaveTextFault texts settings (fault.Bench f)
 LacksDesign settings i (fault.Design f) = (texts : Texts) × AreTexts i texts × HaveTextFault texts settings (fault.Design f)
 LacksDesign settings i (fault.Write n) = ⊥
+LacksDesign settings i (fault.Incomplete net upto) = ⊥
 LacksDesign settings i fault.Clusters = ⊥
 LacksDesign settings i fault.Workers = ⊥
 LacksDesign settings i fault.Memory = ⊤
@@ -62,6 +67,13 @@ IsUnrun mode design fault.Clusters = (first_fault (mode_checks mode design) ≡ 
 IsUnrun mode design fault.Workers = (first_fault (mode_checks mode design) ≡ None) × IsMany (clusters_of mode) × (IsMany (workers_of mode) → ⊥)
 IsUnrun mode design fault.Memory = ⊤
 IsUnrun mode design _ = ⊥
+
+-- why the text of a design wasn't written whole
+abbrev pub IsUnwritten : Mode → Design → Output → Fault → Type 0
+IsUnwritten mode design o (fault.Write n) = CanRun mode design × (n < length (vcd design)) × Appends o.old o.new (take n (vcd design)) × (o.after ≡ o.before + 1)
+IsUnwritten mode design o (fault.Incomplete net upto) = CanRun mode design × IsFree mode × (net < nets_of design) × (upto < design.horizon) × HasBegun design o.old o.new
+IsUnwritten mode design o fault.Memory = Keeps o.old o.new ⊎ (CanRun mode design × IsFree mode × HasBegun design o.old o.new)
+IsUnwritten mode design o f = IsUnrun mode design f × Keeps o.old o.new
 
 -- why there is no clustering of so many clusters
 abbrev pub IsClustersFault : ℕ → Fault → Type 0

@@ -1,10 +1,11 @@
 //! Why a simulation didn't write its text.
 
 ghost use Rattle.std.specs.Prelude.{◌≡◌, IfOk};
-ghost use Rattle.cmb_sim.specs.Numbers.{bench_as_fault, design_as_fault, line_of, number_of, place_of};
+ghost use Rattle.cmb_sim.specs.Numbers.{bench_as_fault, design_as_fault, line_of, number_of, place_of, run_as_fault};
 
 use cmb_bench::{BenchFault, FaultKind};
 use cmb_design::DesignFault;
+use cmb_run::RunFault;
 use std::alloc::{AllocError, Global};
 use thiserror::Error;
 
@@ -20,6 +21,9 @@ pub enum Fault {
     /// 40: the number of clusters isn't from 1 to 64.
     #[error("the number of clusters isn't from 1 to 64")]
     Clusters,
+    /// 53: the run was stopped, and this net is known only below a tick.
+    #[error("net {net} is known only below {upto}")]
+    Incomplete { net: u32, upto: u32 },
     /// 54: the number of workers isn't from 1 to 64.
     #[error("the number of workers isn't from 1 to 64")]
     Workers,
@@ -59,8 +63,20 @@ impl From<DesignFault> for Fault {
     }
 }
 
+impl From<RunFault> for Fault {
+    ghost from_gives = { λ fault wider. wider ≡ run_as_fault fault };
+
+    fn from(fault: RunFault) -> Fault {
+        match fault {
+            RunFault::Incomplete { net, upto, .. } => Fault::Incomplete { net, upto },
+            RunFault::Write { written } => Fault::Write { written },
+            RunFault::Memory => Fault::Memory,
+        }
+    }
+}
+
 impl Fault {
-    /// The fault's number: 1 to 8, 20 to 37, 40, 54, 60 to 62, and 70 for want of memory.
+    /// The fault's number: 1 to 8, 20 to 37, 40, 53, 54, 60 to 62, and 70 for want of memory.
     pub fn number(&self) -> u32
         ensures { result ≡ number_of self.now }
     {
@@ -68,6 +84,7 @@ impl Fault {
             Fault::Bench(fault) => fault.number(),
             Fault::Design(fault) => fault.number(),
             Fault::Clusters => 40,
+            Fault::Incomplete { .. } => 53,
             Fault::Workers => 54,
             Fault::TooLong { .. } => 60,
             Fault::Read { .. } => 61,
@@ -77,7 +94,7 @@ impl Fault {
     }
 
     /// Where the fault stands: the line of a netlist or the record of a table, both counted from 1,
-    /// the number of an input, or how many bytes were written; else 0.
+    /// the number of a net or of an input, or how many bytes were written; else 0.
     pub fn place(&self) -> u64
         ensures { result ≡ place_of self.now }
     {
@@ -85,6 +102,7 @@ impl Fault {
             Fault::Bench(fault) => u64::from(fault.line),
             Fault::Design(fault) => u64::from(fault.record()),
             Fault::Clusters | Fault::Workers => 0,
+            Fault::Incomplete { net, .. } => u64::from(*net),
             Fault::TooLong { input } => u64::from(*input),
             Fault::Read { input } => u64::from(*input),
             Fault::Write { written } => *written,

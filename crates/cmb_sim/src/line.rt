@@ -54,7 +54,7 @@ const MOST_TICKS: u32 = 1_000_000;
 
 const LEVELS: [&str; 3] = ["0", "1", "x"];
 
-const MODES: [&str; 2] = ["plain", "rounds"];
+const MODES: [&str; 3] = ["plain", "rounds", "free"];
 
 const MOST_PARTS: u32 = 64;
 
@@ -169,6 +169,7 @@ fn mode_of(matches: &ArgMatches<'_>) -> Result<Mode, LineFault>
     let clusters = parts_of(matches, "clusters")?;
     match matches.get_str("mode") {
         Some("plain") => Ok(Mode::Plain),
+        Some("free") => Ok(Mode::Free { workers, clusters }),
         _ => Ok(Mode::Rounds { workers, clusters }),
     }
 }

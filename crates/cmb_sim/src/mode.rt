@@ -8,4 +8,6 @@ pub enum Mode {
     /// By rounds: the nets are spread over this many clusters, 1 to 64, and these over this many
     /// workers, 1 to 64.
     Rounds { workers: u32, clusters: u32 },
+    /// By workers that run freely, with as many workers and clusters. The text is written while they run.
+    Free { workers: u32, clusters: u32 },
 }

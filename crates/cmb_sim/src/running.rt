@@ -1,17 +1,18 @@
 //! The text of a design, as a mode runs it.
 
-ghost use Rattle.std.specs.Prelude.{◌≡◌, length, IfOk, IfErr, OnOk};
+ghost use Rattle.std.specs.Prelude.{◌≡◌, ◌-◌, ◌^◌, ◌<◌, length, IfOk, IfErr, OnOk};
+ghost use Rattle.std.specs.Io.KnownBytes.{Appends};
 ghost use Rattle.cmb_design.specs.Exact.{nets_of};
 ghost use Rattle.cmb_vcd.specs.Vcd.{vcd};
-ghost use Rattle.cmb_sim.specs.Simulation.{IsMany};
-ghost use Rattle.cmb_sim.specs.Stages.{CanRun, IsClustersFault, IsUnrun};
+ghost use Rattle.cmb_sim.specs.Simulation.{IsMany, output};
+ghost use Rattle.cmb_sim.specs.Stages.{CanRun, IsClustersFault, IsUnrun, IsUnwritten};
 
 use crate::fault::Fault;
 use crate::mode::Mode;
 use cmb_core::{Clustering, ClusteringFault};
 use cmb_design::{Design, plain_waves};
 use cmb_links::Workers;
-use cmb_run::{Collector, run_rounds, vcd_text};
+use cmb_run::{Collector, OpenGate, Sink, run_free_text, run_rounds, vcd_text, write_whole};
 use std::alloc::Global;
 use std::sync::Wait;
 use std::thread::Threads;
@@ -76,18 +77,49 @@ fn rounds_text<R: AllocGlobal + Threads + Wait + Sync>(
     }
 }
 
-// The text of a design.
-pub(crate) fn text_by<R: AllocGlobal + Threads + Wait + Sync>(
+// Writes the text of a design while its workers run, and gives the text's length.
+fn write_free<R: AllocGlobal + Threads + Wait + Sync, O: Sink>(
+    rt: &R,
+    workers: u32,
+    clusters: u32,
+    design: &Design,
+    out: &mut O,
+) -> Result<u64, Fault>
+    requires room { O.failures out.old < 2 ^ 64 - 1 }
+    ensures length { IfOk result (λ written. written ≡ length (vcd design.now)) }
+    ensures text { OnOk result (Appends (O.taken out.old) (O.taken out.new) (vcd design.now)) }
+    ensures fits { OnOk result (CanRun (Mode.Free workers clusters) design.now) }
+    ensures fault { IfErr result (IsUnwritten (Mode.Free workers clusters) design.now (output (O.taken out.old) (O.taken out.new) (O.failures out.old) (O.failures out.new))) }
+{
+    let alloc = rt.alloc();
+    let clustering = spread(alloc, design, clusters)?;
+    let workers = workers_of(workers)?;
+    let written = run_free_text(rt, alloc, design, &clustering, workers, &OpenGate, out)?;
+    Ok(written)
+}
+
+// Writes the text of a design, and gives its length.
+pub(crate) fn write_by<R: AllocGlobal + Threads + Wait + Sync, O: Sink>(
     rt: &R,
     mode: Mode,
     design: &Design,
-) -> Result<Vec<u8>, Fault>
-    ensures text { IfOk result (λ text. text.items ≡ vcd design.now) }
+    out: &mut O,
+) -> Result<u64, Fault>
+    requires room { O.failures out.old < 2 ^ 64 - 1 }
+    ensures length { IfOk result (λ written. written ≡ length (vcd design.now)) }
+    ensures text { OnOk result (Appends (O.taken out.old) (O.taken out.new) (vcd design.now)) }
     ensures fits { OnOk result (CanRun mode design.now) }
-    ensures fault { IfErr result (IsUnrun mode design.now) }
+    ensures fault { IfErr result (IsUnwritten mode design.now (output (O.taken out.old) (O.taken out.new) (O.failures out.old) (O.failures out.new))) }
 {
-    match mode {
-        Mode::Plain => plain_text(rt.alloc(), design),
-        Mode::Rounds { workers, clusters } => rounds_text(rt, workers, clusters, design),
+    let text = match mode {
+        Mode::Plain => plain_text(rt.alloc(), design)?,
+        Mode::Rounds { workers, clusters } => rounds_text(rt, workers, clusters, design)?,
+        Mode::Free { workers, clusters } => return write_free(rt, workers, clusters, design, out),
+    };
+    match write_whole(out, text.as_slice()) {
+        Ok(()) => Ok(text.len() as u64),
+        Err(written) => Err(Fault::Write {
+            written: written as u64,
+        }),
     }
 }

@@ -9,11 +9,11 @@ ghost use Rattle.cmb_sim.specs.Stages.{FoundDesign, HaveTextFault, IsUnread, Lac
 use crate::fault::Fault;
 use crate::mode::Mode;
 use crate::reading::{ReadFault, read_whole};
-use crate::running::text_by;
+use crate::running::write_by;
 use crate::source::Source;
 use cmb_bench::read_bench;
 use cmb_design::{Design, Settings, read_clocks, read_delays, read_stimuli};
-use cmb_run::{Sink, write_whole};
+use cmb_run::Sink;
 use std::alloc::Global;
 use std::sync::Wait;
 use std::thread::Threads;
@@ -116,8 +116,9 @@ fn read_design<B: Source, D: Source, S: Source, C: Source>(
 ///
 /// The four inputs are read whole, in order, before anything else: 60 where one has more than
 /// 16,777,216 bytes, 61 where a read of it failed. Then come the faults of the netlist (1 to 8), of the
-/// tables and the design (20 to 37) and of the mode (33, 40, 54). The text is written once the run is complete:
-/// 62 where a write failed. `Memory` (70) comes where a growth was refused.
+/// tables and the design (20 to 37) and of the mode (33, 40, 54). The text is written once the run is complete, in mode
+/// free while it runs: 62 where a write failed. `Memory` (70) comes where a growth was refused, in mode free also in the
+/// middle of the text. 53 would come in mode free where a run was stopped.
 pub fn simulate<
     R: AllocGlobal + Threads + Wait + Sync,
     B: Source,
@@ -151,15 +152,10 @@ pub fn simulate<
 {
     let alloc = rt.alloc();
     let design = read_design(alloc, bench, delays, stimuli, clocks, settings)?;
-    let text = text_by(rt, mode, &design)?;
-    match write_whole(out, text.as_slice()) {
-        Ok(()) => Ok(Report {
-            nets: design.netlist().len() as u32,
-            horizon: design.horizon(),
-            written: text.len() as u64,
-        }),
-        Err(written) => Err(Fault::Write {
-            written: written as u64,
-        }),
-    }
+    let written = write_by(rt, mode, &design, out)?;
+    Ok(Report {
+        nets: design.netlist().len() as u32,
+        horizon: design.horizon(),
+        written,
+    })
 }

@@ -95,7 +95,7 @@ pub fn text_of(alloc: Global, references: &str, body: &str) -> Result<String, Al
 }
 
 /// All modes, with one worker and with more, and with each net in a cluster of its own and empty clusters besides.
-pub const MODES: [Mode; 6] = [
+pub const MODES: [Mode; 10] = [
     Mode::Plain,
     Mode::Rounds {
         workers: 1,
@@ -114,6 +114,22 @@ pub const MODES: [Mode; 6] = [
         clusters: 2,
     },
     Mode::Rounds {
+        workers: 64,
+        clusters: 64,
+    },
+    Mode::Free {
+        workers: 1,
+        clusters: 64,
+    },
+    Mode::Free {
+        workers: 2,
+        clusters: 7,
+    },
+    Mode::Free {
+        workers: 3,
+        clusters: 64,
+    },
+    Mode::Free {
         workers: 64,
         clusters: 64,
     },

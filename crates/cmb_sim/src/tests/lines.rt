@@ -23,7 +23,6 @@ fn command_line(rt: HostRuntime) -> Result<(), Fail> {
         ("run --horizon 0 --mode plain", LineFault::Wrong),
         ("run --horizon 1000001 --mode plain", LineFault::Wrong),
         ("run --horizon 10 --mode slow", LineFault::Wrong),
-        ("run --horizon 10 --mode free", LineFault::Wrong),
         ("run --horizon 10 --workers 0", LineFault::Wrong),
         ("run --horizon 10 --workers 65", LineFault::Wrong),
         ("run --horizon 10 --clusters 0", LineFault::Wrong),
@@ -101,6 +100,26 @@ fn modes_of_lines(rt: HostRuntime) -> Result<(), Fail> {
 fn message_of(alloc: Global, line: &str) -> Result<String, AllocError> {
     let words = words(alloc, line)?;
     line_message(alloc, words.as_slice())
+}
+
+#[test]
+fn line_of_mode_free(rt: HostRuntime) -> Result<(), Fail> {
+    let alloc = rt.alloc();
+    let words = words(
+        alloc,
+        "run --horizon 10 --mode free --clusters 5 --workers 3",
+    )?;
+    match read_line(alloc, words.as_slice()) {
+        Ok(line) => assert_eq!(rt;
+            line.mode,
+            Mode::Free {
+                workers: 3,
+                clusters: 5
+            }
+        ),
+        Err(_) => assert!(rt; false),
+    }
+    Ok(())
 }
 
 #[test]

@@ -1,0 +1,362 @@
+//! Free runs: that workers meet, that each goes on by its own turns, and what a stopped run hands back.
+
+ghost use Rattle.std.specs.Prelude.{Some};
+
+use crate::run_tests::{TOGGLE, design_of};
+use crate::{
+    Collector, Failed, Limited, OpenGate, Room, RunFault, Sink, Turnstile, run_free, run_free_text,
+};
+use cmb_bench::read_bench;
+use cmb_core::Clustering;
+use cmb_design::{Design, Settings, read_clocks, read_delays, read_stimuli};
+use cmb_links::Workers;
+use cmb_wave::Level;
+use std::alloc::{AllocError, Global};
+use std::process::Abort;
+use std::sync::Wait;
+use std::sync::atomic::AtomicU64;
+use std::sync::atomic::Ordering::SeqCst;
+use std::test::Fail;
+use std::thread;
+use std::thread::Threads;
+
+const LOOKS: u32 = 10_000_000;
+
+// Waits until the number is above this one, and says whether it ever was.
+fn waits_above(number: &AtomicU64, least: u64) -> bool {
+    for _ in 0..LOOKS {
+        if number.load(SeqCst) > least {
+            return true;
+        }
+        thread::yield_now();
+    }
+    false
+}
+
+// The design of a flip-flop and an inverter in a ring, which is known after twelve ticks.
+fn toggle(alloc: Global) -> Result<Design, Fail> {
+    design_of(alloc, b"q = DFF(d) d = NOT(q)", b"", 12)
+}
+
+// The toggle by two workers, one of them for each net.
+fn two_workers<G: Turnstile + Sync, R: Abort + Threads + Wait + Sync>(
+    rt: &R,
+    alloc: Global,
+    gate: &G,
+) -> Result<Result<Collector, RunFault>, Fail> {
+    let design = toggle(alloc)?;
+    let clustering = Clustering::spread(alloc, design.netlist().len() as u32, 2)?;
+    assert!(rt; clustering.nets() == design.netlist().len());
+    let workers = Workers::new(2)?;
+    Ok(run_free(rt, alloc, &design, &clustering, workers, gate))
+}
+
+// The same, with its text.
+fn two_workers_tell<G: Turnstile + Sync, S: Sink, R: Abort + Threads + Wait + Sync>(
+    rt: &R,
+    alloc: Global,
+    gate: &G,
+    sink: &mut S,
+) -> Result<Result<u64, RunFault>, Fail>
+    requires { S.failures sink.old < 2 ^ 64 - 1 }
+{
+    let design = toggle(alloc)?;
+    let clustering = Clustering::spread(alloc, design.netlist().len() as u32, 2)?;
+    assert!(rt; clustering.nets() == design.netlist().len());
+    let workers = Workers::new(2)?;
+    Ok(run_free_text(rt, alloc, &design, &clustering, workers, gate, sink))
+}
+
+// The net and the tick of a run that was stopped.
+fn stopped_at(answer: &Result<Collector, RunFault>) -> Option<(u32, u32)> {
+    match answer {
+        Err(RunFault::Incomplete { net, upto, .. }) => Some((*net, *upto)),
+        _ => None,
+    }
+}
+
+#[derive(Clone, Copy)]
+struct ClosedGate;
+
+impl Turnstile for ClosedGate {
+    fn pass(&self, _worker: u32, _turn: u32) -> bool {
+        false
+    }
+}
+
+#[test]
+fn closed_gate(rt: HostRuntime) -> Result<(), Fail> {
+    let alloc = rt.alloc();
+    let answer = two_workers(&rt, alloc, &ClosedGate)?;
+    assert!(rt; stopped_at(&answer) == Some((0, 0)));
+    assert!(rt; two_workers(&rt, alloc, &OpenGate)?.is_ok());
+    Ok(())
+}
+
+// Each of two workers sets its flag, and goes on once it sees the other's.
+#[derive(Drop)]
+struct Meeting {
+    flags: [AtomicU64; 2],
+    missed: AtomicU64,
+}
+
+impl Turnstile for Meeting {
+    fn pass(&self, worker: u32, turn: u32) -> bool {
+        if turn > 0 || worker > 1 {
+            return true;
+        }
+        let mine = worker as usize;
+        self.flags[mine].store(1, SeqCst);
+        if !waits_above(&self.flags[1 - mine], 0) {
+            self.missed.store(1, SeqCst);
+        }
+        true
+    }
+}
+
+#[test]
+fn workers_meet(rt: HostRuntime) -> Result<(), Fail> {
+    let meeting = Meeting {
+        flags: [AtomicU64::new(0), AtomicU64::new(0)],
+        missed: AtomicU64::new(0),
+    };
+    assert!(rt; two_workers(&rt, rt.alloc(), &meeting)?.is_ok());
+    assert_eq!(rt; meeting.missed.load(SeqCst), 0);
+    Ok(())
+}
+
+// One worker is stopped at one of its turns, once the other had a hundred.
+#[derive(Drop)]
+struct OneStops {
+    stopped: u32,
+    at: u32,
+    hundred: AtomicU64,
+    missed: AtomicU64,
+}
+
+impl Turnstile for OneStops {
+    fn pass(&self, worker: u32, turn: u32) -> bool {
+        if worker != self.stopped {
+            if turn == 100 {
+                self.hundred.store(1, SeqCst);
+            }
+            return true;
+        }
+        if turn != self.at {
+            return true;
+        }
+        if !waits_above(&self.hundred, 0) {
+            self.missed.store(1, SeqCst);
+        }
+        false
+    }
+}
+
+// The worker is stopped at this turn: the run is known below a tick from `least` to `most`, by net 0.
+fn stops<R: Abort + Threads + Wait + Sync>(
+    rt: &R,
+    alloc: Global,
+    stopped: u32,
+    at: u32,
+    least: u32,
+    most: u32,
+) -> Result<(), Fail> {
+    let gate = OneStops {
+        stopped,
+        at,
+        hundred: AtomicU64::new(0),
+        missed: AtomicU64::new(0),
+    };
+    let answer = two_workers(rt, alloc, &gate)?;
+    assert_eq!(rt; gate.missed.load(SeqCst), 0);
+    match stopped_at(&answer) {
+        Some((net, upto)) => {
+            assert_eq!(rt; net, 0);
+            assert!(rt;
+                least <= upto && upto <= most,
+                "worker {stopped} at {at}: {upto}"
+            );
+        }
+        None => assert!(rt; false, "worker {stopped} at {at}"),
+    }
+    Ok(())
+}
+
+#[test]
+fn one_stops(rt: HostRuntime) -> Result<(), Fail> {
+    let alloc = rt.alloc();
+    stops(&rt, alloc, 1, 0, 3, 3)?;
+    stops(&rt, alloc, 1, 1, 3, 7)?;
+    stops(&rt, alloc, 1, 2, 3, 11)?;
+    stops(&rt, alloc, 0, 0, 0, 0)?;
+    stops(&rt, alloc, 0, 1, 3, 3)?;
+    stops(&rt, alloc, 0, 2, 3, 7)?;
+    stops(&rt, alloc, 0, 3, 3, 11)
+}
+
+// Ends a run that goes on for so many turns.
+#[derive(Clone, Copy)]
+struct Patience;
+
+impl Turnstile for Patience {
+    fn pass(&self, _worker: u32, turn: u32) -> bool {
+        turn < LOOKS
+    }
+}
+
+// So many inputs, and as many buffers that read them.
+fn buffers(alloc: Global, count: u32) -> Result<(String, String), AllocError> {
+    let mut bench = String::new(alloc);
+    let mut stimuli = String::from_str(alloc, "tick,net,value\n")?;
+    for net in 0..count {
+        write!(bench, "INPUT(a{net})\n")?;
+        write!(stimuli, "0,a{net},0\n5,a{net},1\n")?;
+    }
+    for net in 0..count {
+        write!(bench, "y{net} = BUFF(a{net})\n")?;
+    }
+    Ok((bench, stimuli))
+}
+
+// The inputs in one cluster, and the buffers in another.
+fn halves(alloc: Global, count: u32) -> Result<Vec<u32>, AllocError> {
+    let mut assign = Vec::new(alloc);
+    for cluster in 0..2 {
+        for _ in 0..count {
+            assign.push(cluster)?;
+        }
+    }
+    Ok(assign)
+}
+
+// The buffers, which are slower than the run is long.
+fn slow_buffers<R: Abort>(rt: &R, alloc: Global) -> Result<Design, Fail> {
+    let (bench, stimuli) = buffers(alloc, 70)?;
+    assert!(rt; bench.len() <= 16_777_216 && stimuli.len() <= 16_777_216);
+    let netlist = read_bench(alloc, bench.as_bytes())?;
+    let delays = read_delays(alloc, b"by,name,delay\nkind,BUFF,20\n")?;
+    let rows = read_stimuli(alloc, stimuli.as_bytes())?;
+    let clocks = read_clocks(alloc, b"")?;
+    let settings = Settings {
+        horizon: 10,
+        clock: None,
+        init: Level::X,
+    };
+    Ok(Design::new(alloc, netlist, delays, rows, clocks, settings)?)
+}
+
+#[test]
+fn early_reader(rt: HostRuntime) -> Result<(), Fail> {
+    let alloc = rt.alloc();
+    let design = slow_buffers(&rt, alloc)?;
+    let clustering = Clustering::new(140, 2, halves(alloc, 70)?)?;
+    assert!(rt; clustering.nets() == design.netlist().len());
+    let workers = Workers::new(2)?;
+    let answer = run_free(&rt, alloc, &design, &clustering, workers, &Patience);
+    assert!(rt; answer.is_ok());
+    Ok(())
+}
+
+// A sink that tells another thread how much it took.
+#[derive(Drop)]
+struct Watched<'a> {
+    room: Room,
+    taken: &'a AtomicU64,
+}
+
+impl<'a> Sink for Watched<'a> {
+    ghost taken = { λ s. Some s.room.bytes.items };
+
+    ghost failures = { λ s. s.room.failures };
+
+    fn write(&mut self, text: &[u8]) -> Result<usize, Failed> {
+        let answer = self.room.write(text);
+        self.taken.store(self.room.bytes.len() as u64, SeqCst);
+        answer
+    }
+}
+
+// Worker 0 has one turn, and its second once more than the declarations is written.
+#[derive(Drop)]
+struct EarlyText<'a> {
+    taken: &'a AtomicU64,
+    missed: AtomicU64,
+}
+
+impl<'a> Turnstile for EarlyText<'a> {
+    fn pass(&self, worker: u32, turn: u32) -> bool {
+        if worker == 0 && turn == 1 && !waits_above(self.taken, 144) {
+            self.missed.store(1, SeqCst);
+        }
+        true
+    }
+}
+
+#[test]
+fn early_text(rt: HostRuntime) -> Result<(), Fail> {
+    let alloc = rt.alloc();
+    let taken = AtomicU64::new(0);
+    let gate = EarlyText {
+        taken: &taken,
+        missed: AtomicU64::new(0),
+    };
+    let mut sink = Watched {
+        room: Room::new(alloc, 1000)?,
+        taken: &taken,
+    };
+    let answer = two_workers_tell(&rt, alloc, &gate, &mut sink)?;
+    assert_eq!(rt; gate.missed.load(SeqCst), 0);
+    assert_eq!(rt; answer?, 209);
+    assert!(rt; sink.room.bytes.as_slice() == TOGGLE);
+    Ok(())
+}
+
+// One worker is refused its turn 3.
+#[derive(Clone, Copy)]
+struct ThreeTurns {
+    worker: u32,
+}
+
+impl Turnstile for ThreeTurns {
+    fn pass(&self, worker: u32, turn: u32) -> bool {
+        worker != self.worker || turn != 3
+    }
+}
+
+// The whole text with Ok, and a beginning with 53.
+fn ends_early<R: Abort + Threads + Wait + Sync>(
+    rt: &R,
+    alloc: Global,
+    worker: u32,
+) -> Result<(), Fail> {
+    let mut sink = Limited::new(alloc, 1000);
+    let answer = two_workers_tell(rt, alloc, &ThreeTurns { worker }, &mut sink)?;
+    assert!(rt; TOGGLE.starts_with(sink.bytes.as_slice()));
+    match answer {
+        Ok(written) => assert_eq!(rt; (written, sink.bytes.len()), (209, 209)),
+        Err(fault) => assert_eq!(rt; fault.number(), 53),
+    }
+    Ok(())
+}
+
+#[test]
+fn text_of_a_stopped_run(rt: HostRuntime) -> Result<(), Fail> {
+    let alloc = rt.alloc();
+    ends_early(&rt, alloc, 0)?;
+    ends_early(&rt, alloc, 1)
+}
+
+#[test]
+fn text_of_a_full_sink(rt: HostRuntime) -> Result<(), Fail> {
+    let alloc = rt.alloc();
+    for room in [0usize, 17, 144, 145, 208] {
+        let mut sink = Limited::new(alloc, room);
+        match two_workers_tell(&rt, alloc, &OpenGate, &mut sink)? {
+            Err(RunFault::Write { written }) => assert_eq!(rt; written, room as u64),
+            _ => assert!(rt; false, "{room}"),
+        }
+        assert!(rt; TOGGLE.starts_with(sink.bytes.as_slice()));
+        assert_eq!(rt; sink.bytes.len(), room);
+    }
+    Ok(())
+}
