@@ -1,6 +1,7 @@
 //! Free runs: that workers meet, that each goes on by its own turns, and what a stopped run hands back.
 
 ghost use Rattle.std.specs.Prelude.{Some};
+ghost use Rattle.std.specs.Prelude.{◌<◌, ◌-◌, ◌^◌};
 
 use crate::run_tests::{TOGGLE, design_of};
 use crate::{
