@@ -114,7 +114,7 @@ impl<T: Terms> Part<T> {
         ensures same { IsSameButWaves self.old self.new }
     {
         let rose = self.cluster.step_all()?;
-        if rose {
+        if rose && !self.cluster.inputs().is_empty() {
             self.cluster.trim();
         }
         Ok(rose)
