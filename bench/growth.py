@@ -5,7 +5,6 @@ How the program's time grows: with the changes, with the nets at equal changes, 
 equal changes, in mode rounds. Prints a table, and writes it and a plot to FOLDER, bench/out if not given. In the
 column `slope` a growth that is a straight line has 1, a quadratic one 2, and 0 means none.
 """
-import argparse
 import math
 import os
 import sys
@@ -149,24 +148,10 @@ def write_all(found, options):
     plots.panels(os.path.join(options.out, "growth.svg"), f"Wall time of a run in mode rounds, {options.workers} workers", parts)
 
 
-def read_words():
-    parser = argparse.ArgumentParser(description=__doc__, formatter_class=argparse.RawDescriptionHelpFormatter)
-    parser.add_argument("--quick", action="store_true", help="small sizes, for less than a minute in all")
-    parser.add_argument("--times", type=int, default=3)
-    parser.add_argument("--limit", type=float, help="seconds after which a run is ended; 60, or 10 with --quick")
-    parser.add_argument("--workers", type=int, default=1, help="workers and clusters")
-    parser.add_argument("--no-build", action="store_true")
-    parser.add_argument("--out", default=os.path.join(measuring.TOP, "bench", "out"))
-    options = parser.parse_args()
-    options.limit = options.limit or (10.0 if options.quick else 60.0)
-    return options
-
-
 def main():
-    options = read_words()
-    os.makedirs(options.out, exist_ok=True)
-    if not options.no_build:
-        measuring.build()
+    words = measuring.parser(__doc__, 60.0, 10.0)
+    words.add_argument("--workers", type=int, default=1, help="workers and clusters")
+    options = measuring.begin(words)
     found = [(family, [(name, line_of(family, name, makes, options)) for name, makes in lines]) for family, lines in families(options.quick)]
     write_all(found, options)
     return 0

@@ -1,4 +1,5 @@
 """measuring.py: how a command is timed, and what is told of the machine; used by run.py and growth.py."""
+import argparse
 import datetime
 import os
 import platform
@@ -95,6 +96,28 @@ def sample(command, stdin=None, times=3, limit=120.0, cwd=None):
 def build():
     """Builds the program, as `make build` at the top does."""
     subprocess.run(["make", "build"], cwd=TOP, check=True, stdout=sys.stderr)
+
+
+def parser(text, limit, quick):
+    """A parser of the words that each script takes. A run has so many seconds, or fewer with --quick."""
+    words = argparse.ArgumentParser(description=text, formatter_class=argparse.RawDescriptionHelpFormatter)
+    words.add_argument("--quick", action="store_true", help="small sizes, for less than a minute in all")
+    words.add_argument("--times", type=int, default=3, help="how often each command is timed")
+    words.add_argument("--limit", type=float, help=f"seconds after which a run is ended; {limit:.0f}, or {quick:.0f} with --quick")
+    words.add_argument("--no-build", action="store_true")
+    words.add_argument("--out", default=os.path.join(TOP, "bench", "out"))
+    words.set_defaults(limits=(limit, quick))
+    return words
+
+
+def begin(words):
+    """Reads the words, makes the folder for what is written, and builds the program."""
+    options = words.parse_args()
+    options.limit = options.limit or options.limits[options.quick]
+    os.makedirs(options.out, exist_ok=True)
+    if not options.no_build:
+        build()
+    return options
 
 
 def reference(folder):

@@ -5,7 +5,6 @@ Measures the program on the circuits of circuits.py, each in each mode, and besi
 that CREF names and Icarus Verilog, where they are there. Prints a table, and writes it and a plot to
 FOLDER, bench/out if not given. Ends with status 1 where two ways gave different texts.
 """
-import argparse
 import hashlib
 import os
 import shutil
@@ -156,16 +155,10 @@ def write_all(results, options):
 
 
 def read_words():
-    parser = argparse.ArgumentParser(description=__doc__, formatter_class=argparse.RawDescriptionHelpFormatter)
-    parser.add_argument("--quick", action="store_true", help="small sizes, for less than a minute in all")
-    parser.add_argument("--times", type=int, default=3, help="how often each way is run, after a first run")
-    parser.add_argument("--limit", type=float, help="seconds after which a run is ended; 120, or 20 with --quick")
-    parser.add_argument("--only", action="append", choices=list(circuits.ALL), help="this circuit; may be given more than once")
-    parser.add_argument("--no-build", action="store_true")
-    parser.add_argument("--no-icarus", action="store_true")
-    parser.add_argument("--out", default=os.path.join(measuring.TOP, "bench", "out"))
-    options = parser.parse_args()
-    options.limit = options.limit or (20.0 if options.quick else 120.0)
+    words = measuring.parser(__doc__, 120.0, 20.0)
+    words.add_argument("--only", action="append", choices=list(circuits.ALL), help="this circuit; may be given more than once")
+    words.add_argument("--no-icarus", action="store_true")
+    options = measuring.begin(words)
     options.icarus = not options.no_icarus and shutil.which("iverilog")
     options.no_free = False
     return options
@@ -173,9 +166,6 @@ def read_words():
 
 def main():
     options = read_words()
-    os.makedirs(options.out, exist_ok=True)
-    if not options.no_build:
-        measuring.build()
     results = []
     with tempfile.TemporaryDirectory() as top:
         reference = measuring.reference(top)
