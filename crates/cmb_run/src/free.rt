@@ -7,5 +7,6 @@ mod ends;
 pub mod run;
 mod teller;
 pub mod text_run;
+mod threads;
 pub mod turnstile;
 mod worker;

@@ -8,6 +8,7 @@ ghost use Rattle.cmb_run.specs.FreeRuns.{IsLeastBehind, IsStopped, IsStoppedAt};
 use crate::collected::Collected;
 use crate::free::collect::collect;
 use crate::free::crew::Crew;
+use crate::free::threads::start;
 use crate::free::turnstile::Turnstile;
 use crate::run_fault::RunFault;
 use crate::terms::Terms;
@@ -67,28 +68,15 @@ fn run_crew<T: Terms + Send + Sync, G: Turnstile + Sync, R: Threads + Wait + Syn
                 workers,
                 mut lookout,
             } = crew;
-            let Ok(mut threads) = Vec::with_capacity(alloc, workers.len()) else {
+            let Ok(started) = start(rt, alloc, scope, workers, gate, &mut lookout) else {
                 return (collected, true);
             };
-            let mut refused = false;
-            for worker in workers {
-                let started = match scope.spawn(move || worker.run(rt, alloc, gate)) {
-                    Ok(thread) => threads.push(thread).is_ok(),
-                    Err(_unstarted) => false,
-                };
-                if !started {
-                    refused = true;
-                    lookout.raise();
-                }
-            }
-            if collect(rt, &mut lookout, threads.len(), &mut collected).is_err() {
-                refused = true;
+            let lacking = collect(rt, &mut lookout, started.count(), &mut collected).is_err();
+            if lacking {
                 lookout.raise();
             }
-            for thread in threads {
-                refused |= thread.join(rt);
-            }
-            (collected, refused)
+            let refused = started.join(rt);
+            (collected, lacking || refused)
         },
     )
 }

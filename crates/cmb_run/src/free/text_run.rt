@@ -13,6 +13,7 @@ use crate::free::collect::take_round;
 use crate::free::crew::{Crew, Lookout};
 use crate::free::run::ended;
 use crate::free::teller::Teller;
+use crate::free::threads::start;
 use crate::free::turnstile::Turnstile;
 use crate::run_fault::RunFault;
 use crate::terms::Terms;
@@ -24,7 +25,7 @@ use std::alloc::Global;
 use std::marker::Brand;
 use std::sync::Wait;
 use std::thread;
-use std::thread::Threads;
+use std::thread::{Scope, Threads};
 
 // While pieces come in every round, the text is written once in so many rounds.
 const ROUNDS: u32 = 64;
@@ -82,6 +83,75 @@ fn take_back<T>(back: &mut T)
     ensures { back.new ≡ back.old }
 {}
 
+// Runs each worker in a thread of the scope, and tells in this one. Gives the number of bytes.
+fn tell_in<
+    's,
+    E,
+    T: Terms + Send + Sync + 's,
+    G: Turnstile + Sync,
+    S: Sink,
+    R: Threads + Wait + Sync,
+>(
+    rt: &'s R,
+    alloc: Global,
+    scope: &Scope<'s, E>,
+    crew: Crew<T>,
+    gate: &'s G,
+    collected: &mut Collected<T>,
+    teller: Teller<'_, T>,
+    sink: &mut S,
+) -> Result<u64, RunFault>
+    requires room { S.failures sink.old < 2 ^ 64 - 1 }
+    requires begin { teller ≡ None }
+    ensures given { IfOk result (λ given. IsGiven T.design (S.taken sink.old) (S.taken sink.new) (least collected.new) given) }
+    ensures fault { IfErr result (IsCutAt T.design (S.taken sink.old) (S.taken sink.new) (S.failures sink.old) (S.failures sink.new)) }
+{
+    let Crew {
+        workers,
+        mut lookout,
+    } = crew;
+    let started = start(rt, alloc, scope, workers, gate, &mut lookout)?;
+    let given = tell_all(rt, &mut lookout, started.count(), collected, teller, sink);
+    if given.is_err() {
+        lookout.raise();
+    }
+    let refused = started.join(rt);
+    decided(given, refused)
+}
+
+// Runs a crew and tells meanwhile. Gives what was collected, and the number of bytes.
+fn tell_crew<T: Terms + Send + Sync, G: Turnstile + Sync, S: Sink, R: Threads + Wait + Sync>(
+    rt: &R,
+    alloc: Global,
+    crew: Crew<T>,
+    mut collected: Collected<T>,
+    teller: Teller<'_, T>,
+    gate: &G,
+    sink: &mut S,
+) -> (Collected<T>, Result<u64, RunFault>)
+    requires room { S.failures sink.old < 2 ^ 64 - 1 }
+    requires begin { teller ≡ None }
+    ensures given { IfOk result.1 (λ given. IsGiven T.design (S.taken sink.old) (S.taken sink.new) (least result.0) given) }
+    ensures fault { IfErr result.1 (IsCutAt T.design (S.taken sink.old) (S.taken sink.new) (S.failures sink.old) (S.failures sink.new)) }
+{
+    let (back, collected, given) = thread::scope(
+        thread::scope_env(),
+        rt,
+        move |scope| -> (&mut S, Collected<T>, Result<u64, RunFault>)
+            requires room { S.failures sink.now < 2 ^ 64 - 1 }
+            requires begin { teller ≡ None }
+            ensures name { result.0.ghost_name ≡ sink.entry.ghost_name }
+            ensures given { IfOk result.2 (λ given. IsGiven T.design (S.taken sink.entry.now) (S.taken result.0.now) (least result.1) given) }
+            ensures fault { IfErr result.2 (IsCutAt T.design (S.taken sink.entry.now) (S.taken result.0.now) (S.failures sink.entry.now) (S.failures result.0.now)) }
+        {
+            let given = tell_in(rt, alloc, scope, crew, gate, &mut collected, teller, sink);
+            (sink, collected, given)
+        },
+    );
+    take_back(back);
+    (collected, given)
+}
+
 // The run of the design and the clustering that T names.
 fn run_named<T: Terms + Send + Sync, G: Turnstile + Sync, S: Sink, R: Threads + Wait + Sync>(
     rt: &R,
@@ -101,49 +171,10 @@ fn run_named<T: Terms + Send + Sync, G: Turnstile + Sync, S: Sink, R: Threads + 
     ensures fault { IfErr result (IsCutAt design.now (S.taken sink.old) (S.taken sink.new) (S.failures sink.old) (S.failures sink.new)) }
 {
     let crew = Crew::<T>::open(alloc, design, clustering, workers)?;
-    let mut collected = Collected::<T>::open(alloc, design)?;
+    let collected = Collected::<T>::open(alloc, design)?;
     let teller = Teller::<T>::open(alloc, design)?;
-    let (back, collected, given) = thread::scope(
-        thread::scope_env(),
-        rt,
-        move |scope| -> (&mut S, Collected<T>, Result<u64, RunFault>)
-            requires room { S.failures sink.now < 2 ^ 64 - 1 }
-            requires begin { teller ≡ None }
-            ensures name { result.0.ghost_name ≡ sink.entry.ghost_name }
-            ensures given { IfOk result.2 (λ given. IsGiven T.design (S.taken sink.entry.now) (S.taken result.0.now) (least result.1) given) }
-            ensures fault { IfErr result.2 (IsCutAt T.design (S.taken sink.entry.now) (S.taken result.0.now) (S.failures sink.entry.now) (S.failures result.0.now)) }
-        {
-            let Crew {
-                workers,
-                mut lookout,
-            } = crew;
-            let Ok(mut threads) = Vec::with_capacity(alloc, workers.len()) else {
-                return (sink, collected, Err(RunFault::Memory));
-            };
-            let mut refused = false;
-            for worker in workers {
-                let started = match scope.spawn(move || worker.run(rt, alloc, gate)) {
-                    Ok(thread) => threads.push(thread).is_ok(),
-                    Err(_unstarted) => false,
-                };
-                if !started {
-                    refused = true;
-                    lookout.raise();
-                }
-            }
-            let started = threads.len();
-            let given = tell_all(rt, &mut lookout, started, &mut collected, teller, sink);
-            if given.is_err() {
-                lookout.raise();
-            }
-            for thread in threads {
-                refused |= thread.join(rt);
-            }
-            (sink, collected, decided(given, refused))
-        },
-    );
-    take_back(back);
-    let given = given?;
+    let (collected, told) = tell_crew(rt, alloc, crew, collected, teller, gate, sink);
+    let given = told?;
     ended(collected.into_collector())?;
     Ok(given)
 }

@@ -1,0 +1,56 @@
+//! The threads of a free run: one for each worker.
+
+use crate::free::crew::Lookout;
+use crate::free::turnstile::Turnstile;
+use crate::free::worker::Worker;
+use crate::terms::Terms;
+use std::alloc::{AllocError, Global};
+use std::sync::Wait;
+use std::thread::{JoinHandle, Scope, Threads};
+
+/// The threads that were started, and whether memory or a thread was refused.
+#[derive(Drop)]
+pub struct Started {
+    threads: Vec<JoinHandle<bool>>,
+    refused: bool,
+}
+
+impl Started {
+    /// How many threads were started.
+    pub fn count(&self) -> usize {
+        self.threads.len()
+    }
+
+    /// Waits for the threads' ends. Says whether memory or a thread was refused, here or in one of them.
+    pub fn join<R: Threads + Wait>(self, rt: &R) -> bool {
+        let mut refused = self.refused;
+        for thread in self.threads {
+            refused |= thread.join(rt);
+        }
+        refused
+    }
+}
+
+/// Runs each worker in a thread of its own. Where one is refused the stop word is raised.
+pub fn start<'s, E, T: Terms + Send + Sync + 's, G: Turnstile + Sync, R: Threads + Wait + Sync>(
+    rt: &'s R,
+    alloc: Global,
+    scope: &Scope<'s, E>,
+    workers: Vec<Worker<T>>,
+    gate: &'s G,
+    lookout: &mut Lookout<T>,
+) -> Result<Started, AllocError> {
+    let mut threads = Vec::with_capacity(alloc, workers.len())?;
+    let mut refused = false;
+    for worker in workers {
+        let started = match scope.spawn(move || worker.run(rt, gate)) {
+            Ok(thread) => threads.push(thread).is_ok(),
+            Err(_unstarted) => false,
+        };
+        if !started {
+            refused = true;
+            lookout.raise();
+        }
+    }
+    Ok(Started { threads, refused })
+}
