@@ -109,6 +109,11 @@ fn design_of(alloc: Global, circuit: Circuit, horizon: u32) -> Option<Design> {
     Design::new(alloc, netlist, delays, stimuli, clocks, settings).ok()
 }
 
+fn clustering_of(alloc: Global, circuit: Circuit, design: &Design) -> Option<Clustering> {
+    let assign = circuit.assign.to_vec(alloc).ok()?;
+    Clustering::new(design.netlist().len() as u32, circuit.clusters, assign).ok()
+}
+
 /// A design, and the clustering of its nets.
 #[derive(Drop)]
 struct Bench {
@@ -121,13 +126,16 @@ struct Bench {
 impl Bench {
     fn new(alloc: Global, circuit: Circuit, horizon: u32) -> Option<Bench> {
         let design = design_of(alloc, circuit, horizon)?;
-        let nets = design.netlist().len() as u32;
-        let assign = circuit.assign.to_vec(alloc).ok()?;
-        let clustering = Clustering::new(nets, circuit.clusters, assign).ok()?;
-        if clustering.nets() != design.netlist().len() || clustering.clusters() == 0 {
-            return None;
+        let clustering = clustering_of(alloc, circuit, &design)?;
+        Bench::of(design, clustering)
+    }
+
+    fn of(design: Design, clustering: Clustering) -> Option<Bench> {
+        if clustering.nets() == design.netlist().len() && clustering.clusters() > 0 {
+            Some(Bench { design, clustering })
+        } else {
+            None
         }
-        Some(Bench { design, clustering })
     }
 
     // Cluster 0, of which nothing is known yet.
@@ -214,49 +222,69 @@ impl Count {
     }
 }
 
+// An AND gate that is given its two nets, and stepped if so wanted.
+fn merge_once(
+    alloc: Global,
+    bench: &Bench,
+    pieces: &[Piece],
+    steps: bool,
+    count: &mut Count,
+) -> Option<()> {
+    let mut cluster = bench.open(alloc)?;
+    for piece in pieces {
+        cluster.deliver(piece).ok()?;
+    }
+    if steps {
+        count.step(&mut cluster, 2)?;
+    }
+    count.add_changes(&cluster, 2);
+    Some(())
+}
+
 // An AND gate of two nets that change at each tick, so often.
-fn merge(alloc: Global, job: Job, steps: bool) -> Option<Count> {
-    let bench = Bench::new(alloc, GATE, job.horizon)?;
-    let pieces = [
-        busy_piece(alloc, 0, job.horizon)?,
-        busy_piece(alloc, 1, job.horizon)?,
-    ];
+fn merge(alloc: Global, bench: &Bench, job: Job, steps: bool) -> Option<Count> {
+    let first = busy_piece(alloc, 0, job.horizon)?;
+    let second = busy_piece(alloc, 1, job.horizon)?;
+    let pieces = [first, second];
     let mut count = Count::new();
     for _ in 0..job.times {
-        let mut cluster = bench.open(alloc)?;
-        for piece in &pieces {
-            cluster.deliver(piece).ok()?;
-        }
-        if steps {
-            count.step(&mut cluster, 2)?;
-        }
-        count.add_changes(&cluster, 2);
+        merge_once(alloc, bench, &pieces, steps, &mut count)?;
     }
     Some(count)
 }
 
-// A ring that is stepped by itself, so often.
-fn ring(alloc: Global, job: Job) -> Option<Count> {
-    let bench = Bench::new(alloc, RING, job.horizon)?;
+// A ring that is stepped by itself.
+fn ring_once(alloc: Global, bench: &Bench, horizon: u32, count: &mut Count) -> Option<()> {
+    let mut cluster = bench.open(alloc)?;
+    cluster.step(0).ok()?;
+    count.run(&mut cluster, 1, horizon)?;
+    count.add_changes(&cluster, 1);
+    Some(())
+}
+
+// The same, so often.
+fn ring(alloc: Global, bench: &Bench, job: Job) -> Option<Count> {
     let mut count = Count::new();
     for _ in 0..job.times {
-        let mut cluster = bench.open(alloc)?;
-        cluster.step(0).ok()?;
-        count.run(&mut cluster, 1, job.horizon)?;
-        count.add_changes(&cluster, 1);
+        ring_once(alloc, bench, job.horizon, &mut count)?;
     }
     Some(count)
 }
 
-// A ring that is stepped with its cluster, so often, where each may be kept to the end.
-fn ring_all(alloc: Global, job: Job, keeps: bool) -> Option<Count> {
-    let bench = Bench::new(alloc, RING, job.horizon)?;
+// A ring that is stepped with its cluster.
+fn ring_all_once(alloc: Global, bench: &Bench, horizon: u32, count: &mut Count) -> Option<Cluster> {
+    let mut cluster = bench.open(alloc)?;
+    count.run_all(&mut cluster, horizon)?;
+    count.add_changes(&cluster, 1);
+    Some(cluster)
+}
+
+// The same, so often, where each may be kept to the end.
+fn ring_all(alloc: Global, bench: &Bench, job: Job, keeps: bool) -> Option<Count> {
     let mut kept = Vec::new(alloc);
     let mut count = Count::new();
     for _ in 0..job.times {
-        let mut cluster = bench.open(alloc)?;
-        count.run_all(&mut cluster, job.horizon)?;
-        count.add_changes(&cluster, 1);
+        let cluster = ring_all_once(alloc, bench, job.horizon, &mut count)?;
         if keeps {
             kept.push(cluster).ok()?;
         }
@@ -265,8 +293,7 @@ fn ring_all(alloc: Global, job: Job, keeps: bool) -> Option<Count> {
 }
 
 // A gate that can't go on, stepped so often.
-fn still(alloc: Global, job: Job) -> Option<Count> {
-    let bench = Bench::new(alloc, GATE, job.horizon)?;
+fn still(alloc: Global, bench: &Bench, job: Job) -> Option<Count> {
     let mut cluster = bench.open(alloc)?;
     let mut count = Count::new();
     for _ in 0..job.times {
@@ -276,16 +303,26 @@ fn still(alloc: Global, job: Job) -> Option<Count> {
     Some(count)
 }
 
+// What a job did on its circuit.
+fn done_on(alloc: Global, bench: &Bench, job: Job) -> Option<Count> {
+    match job.kind {
+        Kind::Given => merge(alloc, bench, job, false),
+        Kind::Merge => merge(alloc, bench, job, true),
+        Kind::Ring => ring(alloc, bench, job),
+        Kind::RingAll => ring_all(alloc, bench, job, false),
+        Kind::Keep => ring_all(alloc, bench, job, true),
+        Kind::Still => still(alloc, bench, job),
+    }
+}
+
 // What a job did.
 fn done(alloc: Global, job: Job) -> Option<Count> {
-    match job.kind {
-        Kind::Given => merge(alloc, job, false),
-        Kind::Merge => merge(alloc, job, true),
-        Kind::Ring => ring(alloc, job),
-        Kind::RingAll => ring_all(alloc, job, false),
-        Kind::Keep => ring_all(alloc, job, true),
-        Kind::Still => still(alloc, job),
-    }
+    let circuit = match job.kind {
+        Kind::Given | Kind::Merge | Kind::Still => GATE,
+        Kind::Ring | Kind::RingAll | Kind::Keep => RING,
+    };
+    let bench = Bench::new(alloc, circuit, job.horizon)?;
+    done_on(alloc, &bench, job)
 }
 
 // The job of three words.

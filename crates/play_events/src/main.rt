@@ -135,21 +135,44 @@ fn push_line(out: &mut String, reply: &Result<Reply, PlayFault>) -> Result<(), A
     out.push_str("\n")
 }
 
-fn design_of(
-    alloc: Global,
-    bench: &str,
-    delays: &str,
-    stimuli: &str,
-    settings: Settings,
-) -> Option<Design> {
-    if bench.len() > LIMIT || delays.len() > LIMIT || stimuli.len() > LIMIT {
+/// The parts of a case.
+#[derive(Clone, Copy)]
+struct Case<'a> {
+    numbers: Numbers,
+    bench: &'a str,
+    delays: &'a str,
+    stimuli: &'a str,
+    events: &'a str,
+}
+
+fn case_of(text: &str) -> Option<Case<'_>> {
+    let mut parts = text.split("%\n");
+    Some(Case {
+        numbers: numbers_of(parts.next()?)?,
+        bench: parts.next()?,
+        delays: parts.next()?,
+        stimuli: parts.next()?,
+        events: parts.next()?,
+    })
+}
+
+fn design_of(alloc: Global, case: Case<'_>) -> Option<Design> {
+    if case.bench.len() > LIMIT || case.delays.len() > LIMIT || case.stimuli.len() > LIMIT {
         return None;
     }
-    let netlist = read_bench(alloc, bench.as_bytes()).ok()?;
-    let delays = read_delays(alloc, delays.as_bytes()).ok()?;
-    let stimuli = read_stimuli(alloc, stimuli.as_bytes()).ok()?;
+    let netlist = read_bench(alloc, case.bench.as_bytes()).ok()?;
+    let delays = read_delays(alloc, case.delays.as_bytes()).ok()?;
+    let stimuli = read_stimuli(alloc, case.stimuli.as_bytes()).ok()?;
     let clocks = read_clocks(alloc, b"").ok()?;
-    Design::new(alloc, netlist, delays, stimuli, clocks, settings).ok()
+    Design::new(
+        alloc,
+        netlist,
+        delays,
+        stimuli,
+        clocks,
+        case.numbers.settings,
+    )
+    .ok()
 }
 
 fn world_of(alloc: Global, design: &Design, clusters: u32) -> Option<World> {
@@ -161,20 +184,27 @@ fn world_of(alloc: Global, design: &Design, clusters: u32) -> Option<World> {
     World::open(alloc, design, &clustering).ok()
 }
 
-// Plays a case's events, and prints the replies.
-fn play(alloc: Global, case: &str, out: &mut String) -> Option<()> {
-    let mut parts = case.split("%\n");
-    let numbers = numbers_of(parts.next()?)?;
-    let bench = parts.next()?;
-    let delays = parts.next()?;
-    let stimuli = parts.next()?;
-    let events = events_of(alloc, parts.next()?)?;
-    let design = design_of(alloc, bench, delays, stimuli, numbers.settings)?;
-    let mut world = world_of(alloc, &design, numbers.clusters)?;
-    for reply in world.play_all(&events).ok()?.iter() {
+// Plays events over the clusters of a design, and prints the replies.
+fn play_on(
+    alloc: Global,
+    design: &Design,
+    clusters: u32,
+    events: &[Event],
+    out: &mut String,
+) -> Option<()> {
+    let mut world = world_of(alloc, design, clusters)?;
+    for reply in world.play_all(events).ok()?.iter() {
         push_line(out, reply).ok()?;
     }
     Some(())
+}
+
+// Plays a case's events, and prints the replies.
+fn play(alloc: Global, text: &str, out: &mut String) -> Option<()> {
+    let case = case_of(text)?;
+    let events = events_of(alloc, case.events)?;
+    let design = design_of(alloc, case)?;
+    play_on(alloc, &design, case.numbers.clusters, &events, out)
 }
 
 fn play_all(alloc: Global, text: &str, out: &mut String) -> Option<()> {
