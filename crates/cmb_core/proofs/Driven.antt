@@ -21,8 +21,15 @@ use Rattle.cmb_core.specs.Rows.{Process, delayed_levels, sampled, row, reach, ga
 use Rattle.cmb_core.specs.Reach.{pins_reach, driver_reach}
 use Rattle.cmb_core.specs.Spans.{changes_from}
 use Rattle.cmb_core.specs.Step.{wave_at, told_level, told_upto, continued, step_changes, step_reach, step_piece}
-use Rattle.cmb_core.specs.Clusters.{Cluster, process_at, slot_wave, AreOperands, IsDrivenBy, Drives, new_part, new_waves_at, reach_at, changes_at, step_answer, step_waves}
+use Rattle.cmb_core.specs.Clusters.{Cluster, process_at, slot_wave, AreOperands, IsDrivenBy, new_part, new_waves_at, reach_at, changes_at, step_answer, step_waves}
+use Rattle.cmb_core.proofs.Machine.{driver_reach-within}
 use Rattle.cmb_core.proofs.Slots.{slot_is, slot_net, set_with}
+
+-- the cluster drives the net, as the design says
+pub record Drives (design : Design) (s : Cluster) (net slot : ℕ) : Type 0 where
+  pub horizon : s.horizon ≡ design.horizon
+  pub here : slot_of s.waves net ≡ Some slot
+  pub process : IsDrivenBy design net (driver_of design.netlist net) (process_at s slot)
 
 -- ---- the levels on the pins
 
@@ -88,15 +95,6 @@ reach-same design waves net p InputNet d = rw d.0 refl
 reach-same design waves net p (GateNet kind sources) d = rw d.0 (pins_reach-same design waves net 1 sources p.operands d.1)
 reach-same design waves net p (FlopNet source) d = rw d.0 (flop_reach-same design waves net source p.operands d.1)
 
-pins_reach-within : (design : Design) (clock : ℕ → ℕ) (net pin : ℕ) (sources : List ℕ) → pins_reach design clock net design.horizon pin sources ≤ design.horizon
-pins_reach-within design clock net pin [] = omega arith
-pins_reach-within design clock net pin (source ∷ sources) = omega (arith, pins_reach-within design clock net (suc pin) sources)
-
-reach-within : (design : Design) (clock : ℕ → ℕ) (net : ℕ) (driver : Driver) → driver_reach design clock net driver ≤ design.horizon
-reach-within design clock net InputNet = omega arith
-reach-within design clock net (GateNet kind sources) = pins_reach-within design clock net 1 sources
-reach-within design clock net (FlopNet source) = omega arith
-
 -- ---- changes counted on from the level before are the changes of the waveform
 
 same_sym : (a b : Level) → same_level a b ≡ same_level b a
@@ -144,7 +142,7 @@ module _ (design : Design) (s : Cluster) (net slot : ℕ) (d : Drives design s n
   unfolding changes_between
   changes_is more =
       let drive : ℕ → Level = λ tick. driven_level design (told_level s.waves) (slot_wave s slot).net tick (driver_of design.netlist (slot_wave s slot).net) in
-      let within : step_reach design s.waves (slot_wave s slot).net ≤ design.horizon = reach-within design (told_upto s.waves) (slot_wave s slot).net (driver_of design.netlist (slot_wave s slot).net) in
+      let within : step_reach design s.waves (slot_wave s slot).net ≤ design.horizon = driver_reach-within design (told_upto s.waves) (slot_wave s slot).net (driver_of design.netlist (slot_wave s slot).net) in
       let same : (t : ℕ) → (slot_wave s slot).clock ≤ t → t < (slot_wave s slot).clock + (reach_at s slot - (slot_wave s slot).clock) → row s.waves (process_at s slot).rule (process_at s slot).operands (process_at s slot).stimulus t ≡ continued (slot_wave s slot) drive t =
       λ t low high.
       let early : t < design.horizon = omega (arith, reach_is, within) in

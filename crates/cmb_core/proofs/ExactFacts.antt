@@ -10,7 +10,7 @@ use Rattle.cmb_wave.specs.declared.wave.WaveFault.{WaveFault}
 use Rattle.cmb_wave.specs.declared.wave.WaveFault.TheVariants.{Gap as WaveGap, Old as WaveOld, Clash as WaveClash, Memory as WaveMemory}
 use Rattle.cmb_wave.specs.Waveform.{last_level, level_at, level_before, at_or_after, clash}
 use Rattle.cmb_wave.specs.Wave.{Piece, Wave, IsExactPiece, IsExactWave, IsRightPromise, new_wave, wave_with_piece, wave_from, cut_of}
-use Rattle.cmb_wave.specs.Calls.{joined, taken, heard_wave, cut, promised}
+use Rattle.cmb_wave.specs.Calls.{joined, taken, heard_wave, cut}
 use Rattle.cmb_wave.proofs.Spans.{clash-none}
 use Rattle.cmb_wave.proofs.Waves.{with_piece-exact, added-alternates, heard-exact, from-exact, cut-exact}
 use Rattle.cmb_bench.specs.declared.netlist.Driver.{Driver}
@@ -26,7 +26,7 @@ use Rattle.cmb_core.specs.declared.process.Rule.TheVariants.{Flop}
 use Rattle.cmb_core.specs.declared.delivery.DeliverFault.{DeliverFault}
 use Rattle.cmb_core.specs.declared.delivery.DeliverFault.TheVariants.{Stranger, Gap, Old, Clash, Memory}
 use Rattle.cmb_core.specs.Clustering.{Clustering, cluster_of}
-use Rattle.cmb_core.specs.Clusters.{Cluster, IsSound, IsSameButWaves, Drives, IsDrivenBy, AreOperands, process_at, slot_wave, new_waves_at, reach_at, step_answer, step_waves, as_delivery, delivered_at, delivered, RefusesDelivery}
+use Rattle.cmb_core.specs.Clusters.{Cluster, IsSound, IsSameButWaves, IsDrivenBy, AreOperands, process_at, slot_wave, new_waves_at, reach_at, step_answer, step_waves, as_delivery, delivered_at, delivered, RefusesDelivery}
 use Rattle.cmb_core.specs.Exactness.{IsExactCluster}
 use Rattle.cmb_core.specs.Opened.{IsClusterOf, held_nets}
 use Rattle.cmb_core.specs.Reach.{flop_need as net_need, AreKept, IsKept}
@@ -35,7 +35,7 @@ use Rattle.cmb_core.specs.Step.{wave_at, told_from, step_reach, step_piece}
 use Rattle.cmb_core.specs.Tables.{given_at, readers_from}
 use Rattle.cmb_core.specs.Trims.{least_need, trimmed_wave, trimmed}
 use Rattle.cmb_core.specs.World.{with_wave}
-use Rattle.cmb_core.proofs.Driven.{step_waves_are}
+use Rattle.cmb_core.proofs.Driven.{Drives, step_waves_are}
 use Rattle.cmb_core.proofs.OpenedFacts.{held_below}
 use Rattle.cmb_core.proofs.Slots.{slot_is}
 use Rattle.cmb_core.proofs.Steps.{wave_at-net, wave_at-exact, step_piece-is_exact}
@@ -292,9 +292,6 @@ sent_exact design wave exact from low high = go (eqb from wave.clock) refl
         changes = cut-exact (value design wave.net) design.horizon wave exact.exact from low high;
       };
     }
-
-pub promise_right : (design : Design) (wave : Wave) → IsExactWaveIn design wave → IsRightIn design (promised wave)
-promise_right design wave exact = record { net = exact.net; within = exact.exact.within; count = exact.exact.count }
 
 -- the wave of a net that has a place
 pub placed_exact : (design : Design) (waves : List Wave) (net slot : ℕ) → AllByRecursion (IsExactWaveIn design) waves → slot_of waves net ≡ Some slot → IsExactWaveIn design (wave_at waves net)

@@ -2,7 +2,7 @@
 use Rattle.std.proofs.Common.{◌≡◌, ℕ, zero, suc, ◌+◌, ◌<◌, ◌≤◌, Bool, true, false, ◌&&◌, ◌||◌, cond, eqb, List, [], ◌∷◌, ◌⊎◌, inl, inr, None, refl, sym, ◌∙◌, ap, arith}
 use Rattle.std.specs.Prelude.{filter, option_map, is_some}
 use Rattle.std.specs.List.{AllByRecursion, list_any, range_with_len}
-use Rattle.std.proofs.lemmas.Bool.{eqb-true, ne_eqb, cases_lt}
+use Rattle.std.proofs.lemmas.Bool.{and_parts, eqb-true, ne_eqb, cases_lt}
 use Rattle.cmb_bench.specs.Netlist.{driver_of, pins_of, IsNetlist}
 use Rattle.cmb_design.specs.Design.{Design}
 use Rattle.cmb_design.specs.Exact.{nets_of}
@@ -11,7 +11,8 @@ use Rattle.cmb_core.specs.Clusters.{Cluster, given_only, input_slot}
 use Rattle.cmb_core.specs.Opened.{IsClusterOf, is_own, held_nets}
 use Rattle.cmb_core.specs.Tables.{place_in}
 use Rattle.cmb_core.proofs.ClusterLemmas.{slot_place}
-use Rattle.cmb_core.proofs.Progress.{IsPin, pins-are, all_weaker}
+use Rattle.cmb_core.proofs.Machine.{all_weaker}
+use Rattle.cmb_core.proofs.Progress.{IsPin, pins-are}
 use Rattle.cmb_core.proofs.OwnFacts.{input_read}
 
 -- a number beyond a range has no place
@@ -43,19 +44,15 @@ some_below-is test (suc many) e = go (test many) refl (λ h. some_below-is test 
     go true q rest h = (many, q)
     go false q rest h = rest h
 
-second_of : (a b : Bool) → (a && b) ≡ true → b ≡ true
-second_of true b e = e
-second_of false b e = absurd (cc)
-
 pub input_there : (design : Design) (clustering : Clustering) (cluster net : ℕ) → IsNetlist design.netlist → has_input design clustering cluster net ≡ true → net < nets_of design
 unfolding has_input
 input_there design clustering cluster net netlist e =
     let found : (reader : ℕ) × ((eqb (cluster_of clustering reader) cluster && net_reads design reader net) ≡ true) =
-    some_below-is (λ reader. eqb (cluster_of clustering reader) cluster && net_reads design reader net) (nets_of design) (second_of _ _ e)
+    some_below-is (λ reader. eqb (cluster_of clustering reader) cluster && net_reads design reader net) (nets_of design) (and_parts _ _ e).1
     in
     pin_there (nets_of design) (pins_of (driver_of design.netlist found.0)) net
     (all_weaker (IsPin design found.0) (λ pin. pin < nets_of design) (λ pin is. is.0) (pins_of (driver_of design.netlist found.0)) (pins-are design netlist found.0))
-    (second_of _ _ found.1)
+    (and_parts _ _ found.1).1
 
 -- an input wave is there just where the cluster reads the net
 pub input_home : (design : Design) (clustering : Clustering) (cluster : ℕ) (s : Cluster) → IsClusterOf design clustering cluster s → IsNetlist design.netlist → (net : ℕ) → is_some (input_slot s net) ≡ has_input design clustering cluster net

@@ -5,7 +5,6 @@ use Rattle.cmb_wave.specs.declared.level.Change.{Change}
 use Rattle.cmb_core.specs.declared.process.Operand.{Operand}
 use Rattle.cmb_core.specs.declared.nodes.Entry.{Entry}
 use Rattle.cmb_core.specs.Nodes.{AreEntries, process_of, processes_of}
-use Rattle.cmb_core.specs.Rows.{Process}
 
 -- a part of a list is as it was where the list is longer
 part_still : {A : Type 0} (xs ys : List A) (first count : ℕ) → first + count ≤ length xs → take count (drop first (xs ++ ys)) ≡ take count (drop first xs)
@@ -45,11 +44,6 @@ entries_more os ps cs ds (x ∷ entries) a = (omega (arith, a.0, length-append o
 pub length_processes : (os : List Operand) (cs : List Change) (entries : List Entry) → length (processes_of os cs entries) ≡ length entries
 length_processes os cs [] = refl
 length_processes os cs (e ∷ entries) = ap suc (length_processes os cs entries)
-
-pub nth_entry : (os : List Operand) (cs : List Change) (entries : List Entry) (i : ℕ) (d : Entry) (p : Process) → i < length entries → get_or (processes_of os cs entries) i p ≡ process_of os cs (get_or entries i d)
-nth_entry os cs [] i d p h = absurd (omega arith)
-nth_entry os cs (e ∷ entries) zero d p h = refl
-nth_entry os cs (e ∷ entries) (suc i) d p h = nth_entry os cs entries i d p (omega arith)
 
 pub within_entry : (os : List Operand) (cs : List Change) (entries : List Entry) (i : ℕ) (d : Entry) → AreEntries os cs entries → i < length entries
     → ((get_or entries i d).operands.first + (get_or entries i d).operands.count ≤ length os) × ((get_or entries i d).stimulus.first + (get_or entries i d).stimulus.count ≤ length cs)

@@ -1,21 +1,20 @@
 -- The parts of opening a cluster.
-use Rattle.std.proofs.Common.{◌≡◌, ℕ, zero, suc, ◌+◌, ◌<◌, ◌≤◌, Bool, true, false, ◌||◌, cond, eqb, List, [], ◌∷◌, ◌++◌, ◌⊎◌, inl, inr, length, get_or, set, take, drop, Option, Some, None, IsSome, refl, sym, ◌∙◌, ap, arith, get_or-set_same, get_or-set_other}
+use Rattle.std.proofs.Common.{◌≡◌, ℕ, zero, suc, ◌+◌, ◌<◌, ◌≤◌, Bool, true, false, ◌||◌, cond, eqb, List, [], ◌∷◌, ◌++◌, ◌⊎◌, inl, inr, length, get_or, set, drop, Option, Some, None, IsSome, refl, sym, ◌∙◌, ap, arith, get_or-set_same, get_or-set_other}
 use Rattle.std.specs.Prelude.{All, filter, option_map}
-use Rattle.std.specs.List.{AllByRecursion, list_any, range_with_len}
-use Rattle.std.proofs.lemmas.Bool.{eq-eqb, ne_eqb, cases_eq, or_left, or_right}
+use Rattle.std.specs.List.{AllByRecursion, range_with_len}
+use Rattle.std.proofs.lemmas.Bool.{eq-eqb, ne_eqb, cases_eq}
 use Rattle.std.proofs.lemmas.List.{drop_more}
 use Rattle.std.proofs.lemmas.List.Elements.{All-from_recursion}
-use Rattle.std.proofs.lemmas.List.Folds.{list_any_more}
 use Rattle.cmb_wave.specs.declared.level.Level.{Level}
 use Rattle.cmb_wave.specs.declared.level.Change.{Change}
-use Rattle.cmb_wave.specs.Waveform.{Rises, changes_between}
+use Rattle.cmb_wave.specs.Waveform.{changes_between}
 use Rattle.cmb_wave.specs.Wave.{Wave}
-use Rattle.cmb_wave.proofs.Spans.{RisesWithin}
 use Rattle.cmb_wave.proofs.Waveforms.{changes_between-rises}
 use Rattle.cmb_bench.specs.declared.netlist.Kind.{Kind}
 use Rattle.cmb_bench.specs.Netlist.{MayTake}
 use Rattle.cmb_design.specs.Design.{Design}
 use Rattle.cmb_design.specs.Timing.{delay}
+use Rattle.cmb_design.proofs.AskFacts.{rises-within}
 use Rattle.cmb_core.specs.declared.process.Operand.{Operand}
 use Rattle.cmb_core.specs.declared.process.Rule.TheVariants.{Input, Gate, Flop}
 use Rattle.cmb_core.specs.Clustering.{Clustering}
@@ -30,25 +29,6 @@ use Rattle.cmb_core.specs.Tables.{place_in, driven_among, given_among}
 or_false : (a b : Bool) → ((a || false) || b) ≡ (a || b)
 or_false true b = refl
 or_false false b = refl
-
-pub mark_more : (pins : List ℕ) (read old : List Bool) (i net : ℕ) → i < length pins → get_or pins i 0 < length read
-    → get_or read net false ≡ (list_any (λ pin. eqb pin net) (take i pins) || get_or old net false)
-    → get_or (set read (get_or pins i 0) true) net false ≡ (list_any (λ pin. eqb pin net) (take (i + 1) pins) || get_or old net false)
-mark_more pins read old i net h k e = go (cases_eq net (get_or pins i 0))
-  where
-    more : list_any (λ pin. eqb pin net) (take (i + 1) pins) ≡ (list_any (λ pin. eqb pin net) (take i pins) || eqb (get_or pins i 0) net)
-    more = list_any_more (λ pin. eqb pin net) pins i 0 h
-
-    go : (net ≡ get_or pins i 0) ⊎ (net ≡ get_or pins i 0 → ⊥) → get_or (set read (get_or pins i 0) true) net false ≡ (list_any (λ pin. eqb pin net) (take (i + 1) pins) || get_or old net false)
-    go (inl same) =
-        let here : eqb (get_or pins i 0) net ≡ true = eq-eqb _ _ (sym same) in
-        let set_here : get_or (set read (get_or pins i 0) true) net false ≡ true = ap (λ n. get_or (set read (get_or pins i 0) true) n false) same ∙ get_or-set_same read (get_or pins i 0) true false k in
-        set_here ∙ sym (or_left _ _ (more ∙ or_right _ _ here))
-    go (inr ne) =
-        let other : eqb (get_or pins i 0) net ≡ false = ne_eqb _ _ (λ q. ne (sym q)) in
-        let set_other : get_or (set read (get_or pins i 0) true) net false ≡ get_or read net false = get_or-set_other read (get_or pins i 0) net true false ne in
-        set_other ∙ e ∙ sym (or_false (list_any (λ pin. eqb pin net) (take i pins)) (get_or old net false))
-        ∙ ap (λ b. (list_any (λ pin. eqb pin net) (take i pins) || b) || get_or old net false) (sym other) ∙ ap (λ b. b || get_or old net false) (sym more)
 
 -- ---- numbers that pass a test
 
@@ -118,10 +98,6 @@ shifted_more : (k : ℕ) (o : Option ℕ) → shifted (k + 1) o ≡ shifted k (o
 shifted_more k None = refl
 shifted_more k (Some place) = let e : k + 1 + place ≡ k + suc place = omega arith in ap (λ n. Some n) e
 
-pub shifted_none : (o : Option ℕ) → shifted 0 o ≡ o
-shifted_none None = refl
-shifted_none (Some place) = let e : 0 + place ≡ place = omega arith in ap (λ n. Some n) e
-
 pub place_more : (nets : List ℕ) (places : List (Option ℕ)) (k net : ℕ) → k < length nets → get_or nets k 0 < length places
     → get_or places net None ≡ shifted (k + 1) (place_in (drop (k + 1) nets) net)
     → get_or (set places (get_or nets k 0) (Some k)) net None ≡ shifted k (place_in (drop k nets) net)
@@ -183,14 +159,10 @@ pub flop_starts : (horizon : ℕ) (places : List (Option ℕ)) (first period : �
     → StartsOn horizon places (record { rule = Flop first period init; operands = os; stimulus = cs })
 flop_starts horizon places first period init os cs positive one a = record { at = a; ready = flop_ready horizon places first period init os cs positive one a }
 
-rises_within : (from to : ℕ) (cs : List Change) → RisesWithin from to cs → Rises from cs
-rises_within from to [] r = tt
-rises_within from to (c ∷ cs) r = (r.0, rises_within (suc c.tick) to cs r.2)
-
 pub input_starts : (horizon : ℕ) (places : List (Option ℕ)) (level : ℕ → Level) (cs : List Change) → cs ≡ changes_between level 0 horizon
     → StartsOn horizon places (record { rule = Input; operands = []; stimulus = cs })
 input_starts horizon places level cs e =
-    record { at = tt; ready = λ waves whole. rw e (rises_within 0 horizon (changes_between level 0 horizon) (changes_between-rises level 0 horizon (omega arith))) }
+    record { at = tt; ready = λ waves whole. rw e (rises-within 0 horizon (changes_between level 0 horizon) (changes_between-rises level 0 horizon (omega arith))) }
 
 -- ---- lists of processes
 

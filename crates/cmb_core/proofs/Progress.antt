@@ -19,7 +19,7 @@ use Rattle.cmb_core.specs.Clustering.{Clustering, IsClustering, cluster_of, has_
 use Rattle.cmb_core.specs.Reach.{pins_reach, driver_reach}
 use Rattle.cmb_core.specs.Clocks.{Span, Clocks, Outcome, replied, out_clock, in_clock, seen_clock, reach, with_in, play}
 use Rattle.cmb_core.specs.Run.{clocks_after, IsReachable, IsComplete, IsQuiet, for_each, pass_on, step_each, pass_on_each, round, rounds, NotBelow, AtLeast}
-use Rattle.cmb_core.proofs.Machine.{IsSound, NotBelow-same, NotBelow-trans, Goes, play-goes, clocks_after-goes, reachable-sound, reachable-after}
+use Rattle.cmb_core.proofs.Machine.{all_weaker, IsSound, NotBelow-same, NotBelow-trans, Goes, play-goes, clocks_after-goes, reachable-sound}
 
 -- ---- who reads what
 
@@ -37,10 +37,6 @@ has_input-from design clustering reader net there reads apart =
     and_from _ _
     (not_from_false _ (ne_eqb (cluster_of clustering net) (cluster_of clustering reader) apart))
     (some_below-from _ (nets_of design) reader there (and_from _ _ (eq-eqb (cluster_of clustering reader) (cluster_of clustering reader) refl) reads))
-
-pub all_weaker : {A : Type 0} (P Q : A → Type 0) → ((x : A) → P x → Q x) → (xs : List A) → AllByRecursion P xs → AllByRecursion Q xs
-all_weaker P Q f [] a = tt
-all_weaker P Q f (x ∷ xs) a = (f x a.0, all_weaker P Q f xs a.1)
 
 all_both : {A : Type 0} (P Q : A → Type 0) (xs : List A) → AllByRecursion P xs → AllByRecursion Q xs → AllByRecursion (λ x. P x × Q x) xs
 all_both P Q [] a b = tt
@@ -331,25 +327,4 @@ rounds-at_least design netlist clustering assigned clocks sound (suc many) = go 
         let same : min design.horizon (suc many) ≡ min design.horizon many = omega arith in
         rw same (AtLeast-after design clustering (min design.horizon many) now _ (round-goes design clustering now before).1 at)
 
--- after as many rounds as the horizon has ticks all is complete
-pub rounds-complete : (design : Design) → IsNetlist design.netlist → (clustering : Clustering) → IsClustering (nets_of design) clustering → (clocks : Clocks) → IsSound design clustering clocks → IsComplete design (rounds design clustering design.horizon clocks)
-rounds-complete design netlist clustering assigned clocks sound net there =
-    omega (arith, (rounds-at_least design netlist clustering assigned clocks sound design.horizon).outs net there, (rounds-goes design clustering clocks sound design.horizon).0.outs_within net)
-
 -- ---- rounds of what can come about
-
-pass_on-reachable : (design : Design) (clustering : Clustering) (net cluster : ℕ) (clocks : Clocks) → IsReachable design clustering clocks → IsReachable design clustering (pass_on design clustering net cluster clocks)
-pass_on-reachable design clustering net cluster clocks r =
-    cond_both (has_input design clustering cluster net && ltb (in_clock clocks cluster net) (out_clock clocks net)) _ clocks (IsReachable design clustering)
-    (λ yes. reachable-after design clustering clocks (Post net (in_clock clocks cluster net) ∷ Deliver cluster (length clocks.posts) ∷ []) r)
-    (λ no. r)
-
-pub round-reachable : (design : Design) (clustering : Clustering) (clocks : Clocks) → IsReachable design clustering clocks → IsReachable design clustering (round design clustering clocks)
-round-reachable design clustering clocks r =
-    for_each-brings _ (λ _ now. IsReachable design clustering now) (nets_of design) 0 (nets_of design) (step_each design clustering clocks) (omega arith)
-    (λ net now there p. for_each-brings _ (λ _ later. IsReachable design clustering later) clustering.clusters 0 clustering.clusters now (omega arith) (λ cluster later c q. pass_on-reachable design clustering net cluster later q) p)
-    (for_each-brings _ (λ _ now. IsReachable design clustering now) (nets_of design) 0 (nets_of design) clocks (omega arith) (λ net now there p. reachable-after design clustering now (Step net ∷ []) p) r)
-
-pub rounds-reachable : (design : Design) (clustering : Clustering) (clocks : Clocks) → IsReachable design clustering clocks → (many : ℕ) → IsReachable design clustering (rounds design clustering many clocks)
-rounds-reachable design clustering clocks r zero = r
-rounds-reachable design clustering clocks r (suc many) = round-reachable design clustering (rounds design clustering many clocks) (rounds-reachable design clustering clocks r many)

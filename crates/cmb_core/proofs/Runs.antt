@@ -12,10 +12,10 @@ use Rattle.cmb_core.specs.declared.event.PlayFault.TheVariants.{NoSuch, Beyond, 
 use Rattle.cmb_core.specs.Clustering.{Clustering, IsClustering}
 use Rattle.cmb_core.specs.Clocks.{Clocks, start, play}
 use Rattle.cmb_core.specs.Run.{clocks_after, replies_to}
-use Rattle.cmb_core.specs.World.{World, Played, HasWaves, Shows, play_world, new_world, world_after, world_replies}
+use Rattle.cmb_core.specs.World.{World, Played, Shows, play_world, new_world, world_after, world_replies}
 use Rattle.cmb_core.specs.Play.{Plays, IsReached}
 use Rattle.cmb_core.proofs.Machine.{IsSound, play-goes, start-sound}
-use Rattle.cmb_core.proofs.Worlds.{Follows, play-follows, run-follows, new_world-has, new_world-shows}
+use Rattle.cmb_core.proofs.Worlds.{HasWaves, Follows, play-follows, run-follows, new_world-has, new_world-shows}
 
 -- an event that wanted no memory
 pub plays_on : (played : Played) (before after : World) (reply : Result Reply PlayFault) → (reply ≡ Err Memory → ⊥) → Plays played before after reply → (played.world ≡ after) × (played.reply ≡ reply)
@@ -27,9 +27,6 @@ plays_on played before after (Err (Gap clock)) some p = p
 plays_on played before after (Err (Old clock)) some p = p
 plays_on played before after (Err (Clash tick)) some p = p
 plays_on played before after (Err Memory) some p = absurd (some refl)
-
-pub plays_not : (played : Played) (before after : World) (reply : Result Reply PlayFault) → reply ≡ Err Memory → Plays played before after reply → after ≡ before
-plays_not played before after reply e p = let P : Result Reply PlayFault → Type 0 = λ r. Plays played before after r in subst P e p
 
 -- one event more
 pub after_more : (design : Design) (clustering : Clustering) (world : World) (events : List Event) (event : Event)

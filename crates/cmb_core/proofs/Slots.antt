@@ -1,7 +1,7 @@
 -- Waves by their net and by their place.
-use Rattle.std.proofs.Common.{◌≡◌, ℕ, zero, suc, ◌<◌, Bool, true, false, cond, eqb, length, List, [], ◌∷◌, get_or, set, take, Option, Some, None, refl, sym, ap, arith}
+use Rattle.std.proofs.Common.{◌≡◌, ℕ, zero, suc, ◌<◌, Bool, true, false, cond, eqb, length, List, [], ◌∷◌, get_or, set, Option, Some, None, refl, ap, arith}
 use Rattle.std.specs.Prelude.{option_map}
-use Rattle.std.proofs.lemmas.Bool.{eqb-true, eq-eqb}
+use Rattle.std.proofs.lemmas.Bool.{eqb-true}
 use Rattle.cmb_wave.specs.Wave.{Wave, new_wave}
 use Rattle.cmb_core.specs.Step.{wave_at}
 use Rattle.cmb_core.specs.Rows.{slot_of}
@@ -65,35 +65,3 @@ set_with (x ∷ xs) i w e = go (eqb x.net w.net) (slot_of xs w.net) refl (λ k q
     go true r q rest h = let z : i ≡ 0 = cc in rw z refl
     go false (Some k) q rest h = let z : i ≡ suc k = cc in rw z (ap (λ ws. x ∷ ws) (rest k q))
     go false None q rest h = cc
-
--- looking through the waves one by one
-none_of_map : (r : Option ℕ) → option_map (λ i. suc i) r ≡ None → r ≡ None
-none_of_map None e = refl
-none_of_map (Some i) e = cc
-
-pub slot_found : (waves : List Wave) (net i : ℕ) (d : Wave) → i < length waves → slot_of (take i waves) net ≡ None → (get_or waves i d).net ≡ net → slot_of waves net ≡ Some i
-slot_found [] net i d h none e = absurd (omega arith)
-slot_found (w ∷ ws) net zero d h none e = let same : eqb w.net net ≡ true = eq-eqb w.net net e in rw same refl
-slot_found (w ∷ ws) net (suc i) d h none e = go (eqb w.net net) none (λ q. slot_found ws net i d (omega arith) q e)
-  where
-    go : (b : Bool) → cond b (Some 0) (option_map (λ k. suc k) (slot_of (take i ws) net)) ≡ None → (slot_of (take i ws) net ≡ None → slot_of ws net ≡ Some i) → cond b (Some 0) (option_map (λ k. suc k) (slot_of ws net)) ≡ Some (suc i)
-    go true none rest = cc
-    go false none rest = ap (λ r. option_map (λ k. suc k) r) (rest (none_of_map _ none))
-
-pub slot_missed : (waves : List Wave) (net i : ℕ) (d : Wave) → i < length waves → slot_of (take i waves) net ≡ None → eqb (get_or waves i d).net net ≡ false → slot_of (take (suc i) waves) net ≡ None
-slot_missed [] net i d h none e = absurd (omega arith)
-slot_missed (w ∷ ws) net zero d h none e = rw e refl
-slot_missed (w ∷ ws) net (suc i) d h none e = go (eqb w.net net) none (λ q. slot_missed ws net i d (omega arith) q e)
-  where
-    go : (b : Bool) → cond b (Some 0) (option_map (λ k. suc k) (slot_of (take i ws) net)) ≡ None → (slot_of (take i ws) net ≡ None → slot_of (take (suc i) ws) net ≡ None) → cond b (Some 0) (option_map (λ k. suc k) (slot_of (take (suc i) ws) net)) ≡ None
-    go true none rest = cc
-    go false none rest = ap (λ r. option_map (λ k. suc k) r) (rest (none_of_map _ none))
-
--- a wave put in its net's place changes no place
-pub with_wave_slots : (waves : List Wave) (w : Wave) (net : ℕ) → slot_of (with_wave waves w) net ≡ slot_of waves net
-with_wave_slots [] w net = refl
-with_wave_slots (x ∷ xs) w net = go (eqb x.net w.net) refl (with_wave_slots xs w net)
-  where
-    go : (b : Bool) → eqb x.net w.net ≡ b → slot_of (with_wave xs w) net ≡ slot_of xs net → slot_of (cond b (w ∷ xs) (x ∷ with_wave xs w)) net ≡ slot_of (x ∷ xs) net
-    go true e rest = ap (λ n. cond (eqb n net) (Some 0) (option_map (λ k. suc k) (slot_of xs net))) (sym (eqb-true x.net w.net e))
-    go false e rest = ap (λ r. cond (eqb x.net net) (Some 0) (option_map (λ k. suc k) r)) rest

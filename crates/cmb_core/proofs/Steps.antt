@@ -4,11 +4,9 @@ use Rattle.std.specs.Prelude.{unwrap_or}
 use Rattle.std.specs.List.{AllByRecursion}
 use Rattle.std.proofs.lemmas.Bool.{lt-ltb, le-ltb, eqb-true, cond_both, cases_lt}
 use Rattle.cmb_wave.specs.declared.level.Level.{Level}
-use Rattle.cmb_wave.specs.declared.level.Change.{Change}
 use Rattle.cmb_wave.specs.Waveform.{level_at, level_before, changes_between, count_below}
-use Rattle.cmb_wave.proofs.Spans.{RisesWithin, Alternates}
 use Rattle.cmb_wave.specs.Wave.{Wave, IsExactWave}
-use Rattle.cmb_wave.proofs.Waveforms.{changes_between-unique, changes_between-agree, changes_between-same}
+use Rattle.cmb_wave.proofs.Waveforms.{changes_between-agree, changes_between-same}
 use Rattle.cmb_wave.proofs.Waves.{level_at-exact}
 use Rattle.cmb_bench.specs.declared.netlist.Driver.{Driver}
 use Rattle.cmb_bench.specs.declared.netlist.Driver.TheVariants.{Input, Gate, Flop}
@@ -22,7 +20,7 @@ use Rattle.cmb_design.specs.Value.{delayed, pin_levels, flop_level, driven_level
 use Rattle.cmb_design.proofs.AskFacts.{clock_of-positive}
 use Rattle.cmb_design.proofs.SampleFacts.{last_sample-none, last_sample-is, next_sample-least}
 use Rattle.cmb_design.proofs.ValueFacts.{value-is}
-use Rattle.cmb_core.specs.Reach.{pins_reach, driver_reach, reach_by, flop_need, AreKept, IsKept}
+use Rattle.cmb_core.specs.Reach.{pins_reach, driver_reach, flop_need, AreKept, IsKept}
 use Rattle.cmb_core.proofs.Machine.{driver_reach-within}
 use Rattle.cmb_core.specs.Step.{told_level, told_upto, told_from, wave_at, continued, step_reach, step_piece}
 
@@ -84,12 +82,6 @@ module _ (design : Design) (f g : ℕ → ℕ → Level) (base clock : ℕ → �
   driven_level-known Input kept known = refl
   driven_level-known (Gate kind operands) kept known = ap (gate kind) (pin_levels-known design.horizon 1 operands kept known)
   driven_level-known (Flop source) kept known = flop_level-known source kept (omega arith)
-
--- a step is right: changes that tell what the driver gives from known levels, from the output clock up to the reach, are the net's own
-pub step-exact : (design : Design) (levels : ℕ → ℕ → Level) (base clock : ℕ → ℕ) → ((m t : ℕ) → base m ≤ t → t < clock m → levels m t ≡ value design m t) → (net from to : ℕ) (cs : List Change) → from ≤ to → to ≤ reach_by design clock net → IsKept design base net from (driver_of design.netlist net) → RisesWithin from to cs → Alternates (level_before (value design net) from) cs → ((tick : ℕ) → from ≤ tick → tick < to → level_at (level_before (value design net) from) cs tick ≡ driven_level design levels net tick (driver_of design.netlist net)) → cs ≡ changes design net from to
-step-exact design levels base clock known net from to cs goes_on within kept rises alternates tells =
-    changes_between-unique (value design net) from to cs goes_on rises alternates
-    (λ tick a b. tells tick a b ∙ driven_level-known design levels (value design) base clock known net from tick a (driver_of design.netlist net) kept (omega arith) ∙ sym (value-is design net tick))
 
 -- ---- a step over a cluster's own waves
 

@@ -2,6 +2,7 @@
 use Rattle.std.proofs.Common.{◌≡◌, ℕ, zero, suc, ◌+◌, ◌<◌, ◌≤◌, Bool, true, false, ◌||◌, cond, eqb, ltb, leb, List, [], ◌∷◌, ◌++◌, ◌⊎◌, inl, inr, length, get_or, take, drop, Some, refl, sym, ◌∙◌, ap, subst, arith}
 use Rattle.std.specs.Prelude.{filter, option_map}
 use Rattle.std.specs.List.{range_with_len}
+use Rattle.std.proofs.Math.Bool.{or-false, or_assoc}
 use Rattle.std.proofs.lemmas.Bool.{eq-eqb, ne_eqb, cases_eq, le-leb, le-ltb}
 use Rattle.std.proofs.lemmas.List.{append-nil, take-append-drop, take_at, take_all, get_or-map, length-map}
 use Rattle.std.proofs.lemmas.List.Elements.{filter_more, filter-append}
@@ -13,7 +14,7 @@ use Rattle.cmb_core.specs.declared.process.Operand.{Operand}
 use Rattle.cmb_core.specs.declared.process.Rule.{Rule}
 use Rattle.cmb_core.specs.declared.process.Rule.TheVariants.{Given, Input, Gate, Flop}
 use Rattle.cmb_core.specs.Clustering.{Clustering, cluster_of, has_input}
-use Rattle.cmb_core.specs.Clusters.{Cluster, Drives, IsSameButWaves, slot_wave, process_at, new_waves_at, reach_at, step_waves}
+use Rattle.cmb_core.specs.Clusters.{Cluster, IsSameButWaves, slot_wave, process_at, new_waves_at, reach_at, step_waves}
 use Rattle.cmb_core.specs.Opened.{IsProcessOf, AreProcessesOf, IsClusterOf, is_own, own_nets, held_nets}
 use Rattle.cmb_core.specs.Rows.{Process, slot_of, reach}
 use Rattle.cmb_core.specs.Step.{wave_at, step_reach}
@@ -21,7 +22,7 @@ use Rattle.cmb_core.specs.Sweep.{stepped_waves, some_rises}
 use Rattle.cmb_core.specs.Tables.{place_in}
 use Rattle.cmb_core.proofs.AdvanceLemmas.{gate_reach_le}
 use Rattle.cmb_core.proofs.ClusterLemmas.{slot_place}
-use Rattle.cmb_core.proofs.Driven.{step_waves_are, reach_is, wave_here}
+use Rattle.cmb_core.proofs.Driven.{Drives, step_waves_are, reach_is, wave_here}
 use Rattle.cmb_core.proofs.ReadFacts.{held_own}
 
 stepped_more : (design : Design) (waves : List Wave) (nets : List ℕ) (net : ℕ) → stepped_waves design waves (nets ++ net ∷ []) ≡ step_waves design (stepped_waves design waves nets) (wave_at (stepped_waves design waves nets) net)
@@ -32,19 +33,11 @@ stepped_more design waves (n ∷ nets) net = stepped_more design (step_waves des
 abbrev pub rises_at : Design → List Wave → ℕ → Bool
 rises_at design waves net = ltb (wave_at waves net).clock (step_reach design waves (wave_at waves net).net)
 
-or_none : (a : Bool) → (a || false) ≡ a
-or_none true = refl
-or_none false = refl
-
-or_assoc : (a b c : Bool) → (a || (b || c)) ≡ ((a || b) || c)
-or_assoc true b c = refl
-or_assoc false b c = refl
-
 rises_more : (design : Design) (waves : List Wave) (nets : List ℕ) (net : ℕ) → some_rises design waves (nets ++ net ∷ []) ≡ (some_rises design waves nets || rises_at design (stepped_waves design waves nets) net)
-rises_more design waves [] net = or_none (rises_at design waves net)
+rises_more design waves [] net = or-false (rises_at design waves net)
 rises_more design waves (n ∷ nets) net =
     ap (λ b. rises_at design waves n || b) (rises_more design (step_waves design waves (wave_at waves n)) nets net)
-    ∙ or_assoc (rises_at design waves n) (some_rises design (step_waves design waves (wave_at waves n)) nets) _
+    ∙ sym (or_assoc (rises_at design waves n) (some_rises design (step_waves design waves (wave_at waves n)) nets) _)
 
 -- ---- each number that passes stands in its place
 
@@ -151,7 +144,7 @@ module _ (design : Design) (clustering : Clustering) (cluster : ℕ) (s : Cluste
             let test : is_own clustering cluster (get_or (held_nets design clustering cluster) i 0) ≡ false = ne_eqb _ _ other in
             let list : own_after ≡ own_before = more ∙ ap (λ b. own_before ++ cond b (get_or (held_nets design clustering cluster) i 0 ∷ []) []) test ∙ append-nil own_before in
             let still : ltb (slot_wave s i).clock (reach_at s i) ≡ false = le-ltb _ _ (omega (arith, given_reach other)) in
-            rw still (or_none rose ∙ r ∙ sym (ap (some_rises design start) list))
+            rw still (or-false rose ∙ r ∙ sym (ap (some_rises design start) list))
 
 -- no process goes on beyond the horizon
 pub reach_within : (horizon : ℕ) (waves : List Wave) (rule : Rule) (os : List Operand) → reach horizon waves rule os ≤ horizon
@@ -179,7 +172,7 @@ module _ (design : Design) (clustering : Clustering) (cluster : ℕ) (s : Cluste
     idle_rose : (rose : Bool) → s.waves ≡ stepped_waves design start (own_to i) → rose ≡ some_rises design start (own_to i) → rose ≡ some_rises design start (own_to (i + 1))
     idle_rose rose e r =
         let still : ltb (slot_wave s i).clock (reach_at s i) ≡ false = le-ltb _ _ idle in
-        sym (or_none rose) ∙ ap (λ b. rose || b) (sym still) ∙ swept_rises design clustering cluster s of i h never start rose e r
+        sym (or-false rose) ∙ ap (λ b. rose || b) (sym still) ∙ swept_rises design clustering cluster s of i h never start rose e r
 
   module _ (rose : Bool) where
     abbrev pub Stands : ℕ → Type 0

@@ -26,16 +26,13 @@ use Rattle.cmb_core.proofs.Slots.{slot_wave as read_slot, set_slots}
 
 -- ---- the least need is below each need
 
-least_most : (ps : List Process) (ws : List Wave) (rs : List Reader) (most : ℕ) → least_need ps ws rs most ≤ most
-least_most ps ws [] most = omega arith
-least_most ps ws (r ∷ rs) most = omega (arith, least_most ps ws rs (min most (need_at ps ws r)))
-
 pub least_clock : (ps : List Process) (ws : List Wave) (rs : List Reader) (most : ℕ) → least_need ps ws rs most ≤ most
-least_clock ps ws rs most = least_most ps ws rs most
+least_clock ps ws [] most = omega arith
+least_clock ps ws (r ∷ rs) most = omega (arith, least_clock ps ws rs (min most (need_at ps ws r)))
 
 least_each : (ps : List Process) (ws : List Wave) (rs : List Reader) (most : ℕ) → AllByRecursion (λ r. least_need ps ws rs most ≤ need_at ps ws r) rs
 least_each ps ws [] most = tt
-least_each ps ws (r ∷ rs) most = (omega (arith, least_most ps ws rs (min most (need_at ps ws r))), least_each ps ws rs (min most (need_at ps ws r)))
+least_each ps ws (r ∷ rs) most = (omega (arith, least_clock ps ws rs (min most (need_at ps ws r))), least_each ps ws rs (min most (need_at ps ws r)))
 
 all_front : (P : Reader → Type 0) (xs ys : List Reader) → AllByRecursion P (xs ++ ys) → AllByRecursion P xs
 all_front P [] ys a = tt

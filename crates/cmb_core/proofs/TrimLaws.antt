@@ -18,7 +18,7 @@ use Rattle.cmb_bench.specs.Netlist.{driver_of}
 use Rattle.cmb_design.specs.Design.{Design}
 use Rattle.cmb_core.specs.declared.process.Rule.TheVariants.{Given}
 use Rattle.cmb_core.specs.Clustering.{Clustering}
-use Rattle.cmb_core.specs.Clusters.{Cluster, IsSound, Drives, process_at, slot_wave, given_only, input_slot, as_delivery, delivered_at, delivered, heard_at, step_answer, step_waves}
+use Rattle.cmb_core.specs.Clusters.{Cluster, IsSound, process_at, slot_wave, given_only, input_slot, as_delivery, delivered_at, delivered, heard_at, step_answer, step_waves}
 use Rattle.cmb_core.specs.Opened.{IsClusterOf, IsOwnNet}
 use Rattle.cmb_core.specs.Reach.{reach_by, IsKept}
 use Rattle.cmb_core.specs.Rows.{Process, slot_of, is_given}
@@ -26,7 +26,7 @@ use Rattle.cmb_core.specs.Step.{wave_at, told_level, told_upto, told_from, step_
 use Rattle.cmb_core.specs.Tables.{given_at, readers_from}
 use Rattle.cmb_core.specs.Trims.{least_need, trimmed_to, trimmed_wave, trimmed, IsTrim, AreTrims, IsTrimOf, AreAlike, AreTraces}
 use Rattle.cmb_core.specs.World.{with_wave}
-use Rattle.cmb_core.proofs.Driven.{before-continued}
+use Rattle.cmb_core.proofs.Driven.{Drives, before-continued}
 use Rattle.cmb_core.proofs.ExactFacts.{kept_here, taken_is}
 use Rattle.cmb_core.proofs.OwnFacts.{own_placed, drives_own}
 use Rattle.cmb_core.proofs.ReadFacts.{driven-not_given}

@@ -23,20 +23,26 @@ use Rattle.cmb_core.specs.declared.event.Reply.TheVariants.{Stepped, Posted, Del
 use Rattle.cmb_core.specs.declared.event.PlayFault.TheVariants.{Gap, Old}
 use Rattle.cmb_core.specs.Clocks.{Span, Bound, Clocks, Outcome, out_clock, in_clock, seen_clock, reach, replied, start, stepped, posted, delivered, promised, looked, play, with_out, with_in, piece_of, promise_of}
 use Rattle.cmb_core.specs.Step.{wave_at, told_upto, told_from, step_reach, step_piece}
-use Rattle.cmb_core.specs.World.{World, Played, waves_of, with_wave, world_with_wave, out_wave, in_wave, answered, step_in, post_in, deliver_in, taken, promise_in, look_in, play_world, world_after, world_replies, new_waves, new_clusters, new_world, HasWaves, Shows}
+use Rattle.cmb_core.specs.World.{World, Played, waves_of, with_wave, world_with_wave, out_wave, in_wave, answered, step_in, post_in, deliver_in, taken, promise_in, look_in, play_world, world_after, world_replies, new_waves, new_clusters, new_world, Shows}
 use Rattle.cmb_bench.specs.declared.netlist.Driver.{Driver}
 use Rattle.cmb_bench.specs.declared.netlist.Driver.TheVariants.{Input, Gate, Flop}
 use Rattle.cmb_bench.specs.Netlist.{driver_of, pins_of, IsNetlist}
 use Rattle.cmb_core.specs.Run.{clocks_after, replies_to}
 use Rattle.cmb_core.specs.Reach.{pins_reach, driver_reach}
-use Rattle.cmb_core.proofs.Machine.{zeros, rows_of_zeros, start-sound, play-goes, IsSound, IsPosted, IsPromised, all_at, in-cases}
-use Rattle.cmb_core.proofs.Progress.{in-set, all_weaker, IsPin, pins-are, cluster-there, has_input-from}
+use Rattle.cmb_core.proofs.Machine.{all_weaker, zeros, rows_of_zeros, start-sound, play-goes, IsSound, IsPosted, IsPromised, all_at, in-cases}
+use Rattle.cmb_core.proofs.Progress.{in-set, IsPin, pins-are, cluster-there, has_input-from}
 use Rattle.cmb_core.proofs.Steps.{wave_at-net, wave_at-exact, IsKept-at_zero, step_piece-is_exact}
 
 -- ---- a wave put in its place among waves
 
 abbrev has_wave : List Wave → ℕ → Bool
 has_wave waves net = list_any (λ wave. eqb wave.net net) waves
+
+-- the clusters have their waves
+pub record HasWaves (design : Design) (clustering : Clustering) (world : World) : Type 0 where
+  pub clusters : length world.clusters ≡ clustering.clusters
+  pub outs : (net : ℕ) → net < nets_of design → has_wave (waves_of world (cluster_of clustering net)) net ≡ true
+  pub ins : (cluster net : ℕ) → cluster < clustering.clusters → net < nets_of design → has_input design clustering cluster net ≡ true → has_wave (waves_of world cluster) net ≡ true
 
 wave_at-with_same : (waves : List Wave) (wave : Wave) → has_wave waves wave.net ≡ true → wave_at (with_wave waves wave) wave.net ≡ wave
 wave_at-with_same [] wave has = cc

@@ -6,7 +6,6 @@ use Rattle.cmb_wave.specs.Waveform.{changes_between, last_level, level_at, level
 use Rattle.cmb_wave.specs.Wave.{Wave, Piece, new_wave, grown, wave_with_piece}
 use Rattle.cmb_bench.specs.declared.netlist.Driver.{Driver}
 use Rattle.cmb_bench.specs.declared.netlist.Driver.TheVariants.{Input as InputNet, Gate as GateNet, Flop as FlopNet}
-use Rattle.cmb_bench.specs.Netlist.{driver_of}
 use Rattle.cmb_design.specs.Design.{Design}
 use Rattle.cmb_design.specs.Timing.{delay, clock_of, stimulus}
 use Rattle.cmb_core.specs.declared.process.Operand.{Operand}
@@ -95,12 +94,6 @@ IsDrivenBy design net (GateNet kind sources) process =
     (process.rule ≡ Gate kind) × AreOperands design net 1 sources process.operands
 IsDrivenBy design net (FlopNet source) process =
     (process.rule ≡ Flop (clock_of design net).first (clock_of design net).period design.init) × AreOperands design net 1 (source ∷ []) process.operands
-
--- the cluster drives the net, as the design says
-pub record Drives (design : Design) (s : Cluster) (net slot : ℕ) : Type 0 where
-  pub horizon : s.horizon ≡ design.horizon
-  pub here : slot_of s.waves net ≡ Some slot
-  pub process : IsDrivenBy design net (driver_of design.netlist net) (process_at s slot)
 
 -- up to here the process of a wave can go on, and the changes that it makes up to there
 abbrev pub reach_at : Cluster → ℕ → ℕ

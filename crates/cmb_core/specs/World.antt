@@ -1,6 +1,6 @@
 -- The world of clusters as they stand, whatever their waves hold, and what each event does to it.
 use Rattle.std.specs.Prelude.{◌≡◌, ℕ, zero, suc, ◌||◌, ◌<◌, true, nat_lt, nat_le, ◌==◌, List, [], ◌∷◌, ◌++◌, length, map, slice_index_or, slice_get, slice_set, Option, Some, None, Result, Ok, Err, if◌then◌else◌}
-use Rattle.std.specs.List.{list_any, AllByRecursion}
+use Rattle.std.specs.List.{AllByRecursion}
 use Rattle.cmb_wave.specs.declared.level.Promise.{Promise}
 use Rattle.cmb_wave.specs.declared.level.Heard.TheVariants.{Old as HeardOld, Extended, Ahead}
 use Rattle.cmb_wave.specs.Waveform.{last_level, at_or_after, clash}
@@ -106,12 +106,6 @@ play_world design clustering world (Promises net) =
     if nat_lt net (nets_of design) then promise_in world (out_wave clustering world net) else turned_down world NoSuch
 play_world design clustering world (Look cluster number) =
     if nat_lt cluster clustering.clusters then look_in design clustering world cluster (slice_get world.promises number) else turned_down world NoSuch
-
--- the clusters have their waves
-pub record HasWaves (design : Design) (clustering : Clustering) (world : World) : Type 0 where
-  pub clusters : length world.clusters ≡ clustering.clusters
-  pub outs : (net : ℕ) → net < nets_of design → list_any (λ wave. wave.net == net) (waves_of world (cluster_of clustering net)) ≡ true
-  pub ins : (cluster net : ℕ) → cluster < clustering.clusters → net < nets_of design → has_input design clustering cluster net ≡ true → list_any (λ wave. wave.net == net) (waves_of world cluster) ≡ true
 
 -- the world shows just these clocks, posts and promises, and all its waves are exact and whole
 pub record Shows (design : Design) (clustering : Clustering) (world : World) (clocks : Clocks) : Type 0 where

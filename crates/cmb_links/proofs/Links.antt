@@ -1,9 +1,9 @@
 -- Each move of a link keeps its rule.
 use Rattle.std.proofs.Common.{◌≡◌, ℕ, zero, suc, ◌+◌, ◌⊎◌, List, [], ◌∷◌, ◌++◌, length, set, inl, inr, ⊎_elim, sym, refl, ap, ◌∙◌, subst, arith, append_assoc, length-append, All, get_or-append-add}
-use Rattle.std.proofs.lemmas.List.Elements.{All-push, All-nil, All-head}
+use Rattle.std.proofs.lemmas.List.Elements.{All-push, All-head}
 use mathlib.Core.Option.{some, some-injective, some-ne-none}
 use lib.ListN.{get_elem?}
-use Rattle.crossbeam_queue.specs.Fifo.{Pushes, Pops, Forks, Learns}
+use Rattle.crossbeam_queue.specs.Fifo.{Pushes, Pops, Learns}
 use Rattle.cmb_wave.specs.Wave.{Piece}
 use Rattle.cmb_design.specs.Design.{Design}
 use Rattle.cmb_design.specs.Exact.{IsExactIn}
@@ -102,31 +102,6 @@ gets port v role x items views kept at =
       ),
       (sym (ap (λ (u : End). taking u.design (u.pieces ++ x ∷ [])) here.1), subst (λ (d : Design). IsExactIn d x) (sym (ap (λ (u : End). u.design) here.1)) exact),
     )
-
-two_ends : (port : ℕ) (v : End) (a b : End) → get_elem? (fresh ∷ []) port ≡ some v → set (fresh ∷ []) port a ++ b ∷ [] ≡ a ∷ b ∷ []
-two_ends zero v a b at = refl
-two_ends (suc port) v a b at = absurd (some-ne-none v (sym at))
-
-no_fresh : (d : Design) (sent received : List Piece) (k : ℕ) → get_elem? (Two d sent received) k ≡ some fresh → ⊥
-no_fresh d sent received zero h = fresh_not_puts (sym (ap (λ (u : End). u.role) (some-injective (putting d sent) fresh h)))
-no_fresh d sent received (suc zero) h = fresh_not_takes (sym (ap (λ (u : End). u.role) (some-injective (taking d received) fresh h)))
-no_fresh d sent received (suc (suc k)) h = some-ne-none fresh (sym h)
-
-pub forks : (port : ℕ) (v : End) (d : Design) → v ≡ fresh → Forks IsLinked port v (putting d []) (taking d [])
-forks port v d is items views kept at = ⊎_elim
-    (λ (h : (items ≡ []) × (views ≡ fresh ∷ [])). let at' = ap (λ l. get_elem? l port) (sym h.1) ∙ at in
-    inr (
-      d,
-      [],
-      [],
-      record {
-        both = ap (λ l. set l port (putting d []) ++ taking d [] ∷ []) h.1 ∙ two_ends port v (putting d []) (taking d []) at';
-        order = sym h.0;
-        exact = All-nil (IsExactIn d);
-      },
-    ))
-    (λ (h : IsOpen items views). absurd (no_fresh h.0 h.1 h.2 port (ap (λ l. get_elem? l port) (sym h.3.both) ∙ at ∙ ap some is)))
-    kept
 
 pub learns_sent : (port : ℕ) (v : End) → v ≡ putting v.design v.pieces → Learns IsLinked port v (λ held. EndsWith v.pieces held)
 learns_sent port v role items views kept at =

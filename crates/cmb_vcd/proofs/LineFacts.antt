@@ -4,10 +4,6 @@ use Rattle.std.proofs.lemmas.List.{append-nil, drop_all}
 use Rattle.cmb_wave.specs.declared.level.Level.{Level}
 use Rattle.cmb_vcd.specs.Vcd.{level_line, level_lines, var_line, var_lines}
 
--- one more piece written, with the rest still to write
-pub push_rest : {X : Type 0} (old new piece rest all : List X) → new ≡ old ++ piece → old ++ (piece ++ rest) ≡ all → new ++ rest ≡ all
-push_rest old new piece rest all e h = rw e (append_assoc old piece rest ∙ h)
-
 -- all written
 pub rest_none : {X A : Type 0} (f : List A → List X) (xs : List A) (i : ℕ) (old all : List X) → length xs ≤ i → f [] ≡ [] → old ++ f (drop i xs) ≡ all → old ≡ all
 rest_none f xs i old all h e g = sym (append-nil old) ∙ ap (λ t. old ++ t) (sym e ∙ ap f (sym (drop_all i xs h))) ∙ g

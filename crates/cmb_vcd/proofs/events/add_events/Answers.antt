@@ -4,7 +4,8 @@ use Rattle.cmb_wave.specs.declared.level.Level.TheVariants as level
 use Rattle.cmb_vcd.specs.declared.events.Event.{Event}
 use Rattle.cmb_vcd.specs.Events.{events_of}
 use Rattle.cmb_vcd.proofs.EventFacts.{events_of-next}
-use Rattle.cmb_vcd.proofs.LineFacts.{push_rest, rest_none}
+use Rattle.cmb_design.proofs.LevelFacts.{push-rest}
+use Rattle.cmb_vcd.proofs.LineFacts.{rest_none}
 use Rattle.cmb_vcd.proofs.events.add_events.Goals as goal
 
 pub loop-change-preserved : goal.loop-change-preserved
@@ -15,7 +16,7 @@ loop-change-preserved c =
     let old = c.loop-change.events.items in
     let d : Change = record { tick = 0; level = level.Zero } in
     let event : ℕ → List Event = λ n. record { tick = (get_or cs i d).tick; net = n; level = (get_or cs i d).level } ∷ [] in
-    push_rest old c.push.new.self.items (event net) (events_of net (drop (i + 1) cs)) _ (c.in_ok-push.ensures.items ∙ ap (λ n. old ++ event n) c.from.ensures)
+    push-rest old c.push.new.self.items (event net) (events_of net (drop (i + 1) cs)) _ (c.in_ok-push.ensures.items ∙ ap (λ n. old ++ event n) c.from.ensures)
     (ap (λ t. old ++ t) (sym (events_of-next net cs i d (omega arith))) ∙ c.loop-change.invariant)
 
 pub returns : goal.returns

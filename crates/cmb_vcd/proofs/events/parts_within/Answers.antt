@@ -4,7 +4,8 @@ use Rattle.cmb_wave.specs.Waveform.{IsTrace}
 use Rattle.cmb_vcd.specs.Collector.{wave_of}
 use Rattle.cmb_vcd.specs.Events.{all_events, events_of, part_events, within}
 use Rattle.cmb_vcd.proofs.EventFacts.{all_events-next, wave_here}
-use Rattle.cmb_vcd.proofs.LineFacts.{push_rest, rest_none}
+use Rattle.cmb_design.proofs.LevelFacts.{push-rest}
+use Rattle.cmb_vcd.proofs.LineFacts.{rest_none}
 use Rattle.cmb_vcd.proofs.events.parts_within.Goals as goal
 
 pub loop-net-init : goal.loop-net-init
@@ -23,7 +24,7 @@ loop-net-preserved c =
     let start : c.index-waves-net.result.base ≡ 0 = ap (λ (w : Wave). w.base) here ∙ c.requires.whole n within_list in
     let trace : IsTrace (wave_of waves n).kept 0 (wave_of waves n).changes (wave_of waves n).clock = rw (← here) (rw start at c.changes_within.ensures.trace) in
     record {
-      events = push_rest old (part_events c.add_part.new.parts.items) (events_of n (within from to (wave_of waves n).changes)) (all_events from to (n + 1) (drop (n + 1) waves)) _
+      events = push-rest old (part_events c.add_part.new.parts.items) (events_of n (within from to (wave_of waves n).changes)) (all_events from to (n + 1) (drop (n + 1) waves)) _
           (c.in_ok-add_part.ensures ∙ ap (λ cs. old ++ events_of n cs) (c.changes_within.ensures.changes ∙ ap (λ (w : Wave). within from to w.changes) here))
           (ap (λ t. old ++ t) (sym (all_events-next from to waves n within_list)) ∙ c.loop-net.invariant.events);
       traces = below_more _ _ c.loop-net.invariant.traces trace;

@@ -5,7 +5,8 @@ use Rattle.cmb_wave.specs.Waveform.{level_at}
 use Rattle.cmb_vcd.specs.Collector.{collected_level, wave_of}
 use Rattle.cmb_vcd.specs.Vcd.{level_line, level_lines}
 use Rattle.cmb_vcd.proofs.EventFacts.{wave_here}
-use Rattle.cmb_vcd.proofs.LineFacts.{level_lines-next, level_lines-none, push_rest}
+use Rattle.cmb_design.proofs.LevelFacts.{push-rest}
+use Rattle.cmb_vcd.proofs.LineFacts.{level_lines-next, level_lines-none}
 use Rattle.cmb_vcd.proofs.text.push_levels.Goals as goal
 
 pub loop-net-preserved : goal.loop-net-preserved
@@ -16,7 +17,7 @@ loop-net-preserved c =
     let old = c.loop-net.out.items in
     let within_list : n < length waves = omega arith in
     let here : c.index-waves-net.result ≡ wave_of waves n = wave_here waves n c.index-waves-net.result within_list c.index-waves-net.is in
-    push_rest old c.push_level.new.out.items (level_line (level n 0) n) (level_lines level 0 (n + 1) (length waves - (n + 1))) _
+    push-rest old c.push_level.new.out.items (level_line (level n 0) n) (level_lines level 0 (n + 1) (length waves - (n + 1))) _
     (c.in_ok-push_level.ensures ∙ ap (λ l. old ++ level_line l n) (c.first_level.ensures ∙ ap (λ (w : Wave). level_at w.kept w.changes 0) here))
     (ap (λ t. old ++ t) (sym (level_lines-next level 0 n (length waves) within_list)) ∙ c.loop-net.invariant)
 

@@ -3,10 +3,10 @@ use Rattle.std.specs.List.{AllByRecursion}
 use Rattle.cmb_wave.specs.Wave.{Wave, Piece}
 use Rattle.cmb_design.specs.Exact.{IsExactIn, IsExactWaveIn}
 use Rattle.cmb_core.specs.Rows.{slot_of}
-use Rattle.cmb_core.specs.Clusters.{Drives, new_part}
+use Rattle.cmb_core.specs.Clusters.{new_part}
 use Rattle.cmb_core.proofs.Inputs.{other_still}
 use Rattle.cmb_core.proofs.Slots.{slot_there}
-use Rattle.cmb_core.proofs.Driven.{step_part_is, step_waves_are}
+use Rattle.cmb_core.proofs.Driven.{Drives, step_part_is, step_waves_are}
 use Rattle.cmb_core.proofs.ExactFacts.{by_result, if_ok, none_some, kept_here, part_exact, moved_exact, still_exact}
 use Rattle.cmb_core.proofs.OwnFacts.{own_placed, drives_own}
 use Rattle.cmb_core.proofs.cluster.Cluster.step.Goals as goal

@@ -1,14 +1,11 @@
-use Rattle.std.proofs.Common.{◌<◌, ◌≤◌, ◌||◌, Bool, length, Result, Ok, Err, OnErr, arith, sym, ◌∙◌, ap, subst}
+use Rattle.std.proofs.Common.{◌<◌, ◌≤◌, ◌||◌, Bool, length, arith, sym, ◌∙◌, ap, subst}
 use Rattle.cmb_core.specs.Clusters.{Cluster}
 use Rattle.cmb_core.specs.Opened.{held_nets}
 use Rattle.cmb_core.specs.Sweep.{some_rises, stepped_waves}
+use Rattle.cmb_core.proofs.RoundFacts.{at_err}
 use Rattle.cmb_core.proofs.SweepFacts.{all_own, first_own, held_as_waves, same_length}
 use Rattle.cmb_core.proofs.Sweeps.{IsAdvanced, IsSwept, own_to, swept_on}
 use Rattle.cmb_core.proofs.cluster.Cluster.step_all.Goals as goal
-
-on_err : {A E : Type 0} (r : Result A E) (P : Type 0) → P → OnErr r P
-on_err (Ok x) P h = tt
-on_err (Err e) P h = h
 
 pub loop-slot-preserved : goal.loop-slot-preserved
 loop-slot-preserved c =
@@ -26,7 +23,7 @@ loop-slot-preserved c =
 
 pub returns-in_err-moved-clause-memory : goal.returns-in_err-moved-clause-memory
 returns-in_err-moved-clause-memory c = λ design clustering cluster of.
-    on_err c.from_residual.result _ (
+    at_err c.from_residual.result _ (
       length (own_to design clustering cluster c.loop-slot.slot),
       ap (λ s. s.waves) c.in_err-moved.ensures.unchanged ∙ c.loop-slot.invariant.swept.waves design clustering cluster of
           ∙ ap (stepped_waves design c.args.self.now.waves) (first_own design clustering cluster c.loop-slot.slot),

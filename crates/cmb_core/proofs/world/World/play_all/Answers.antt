@@ -1,15 +1,12 @@
-use Rattle.std.proofs.Common.{◌≡◌, ◌∷◌, ◌++◌, ◌+◌, [], take, Result, Ok, Err, OnErr, arith, sym, ◌∙◌, ap, subst}
+use Rattle.std.proofs.Common.{◌≡◌, ◌∷◌, ◌++◌, ◌+◌, [], take, arith, sym, ◌∙◌, ap, subst}
 use Rattle.std.proofs.lemmas.List.{take_all}
 use Rattle.cmb_core.specs.Clocks.{start}
 use Rattle.cmb_core.specs.Run.{clocks_after}
 use Rattle.cmb_core.specs.Play.{shown}
 use Rattle.cmb_core.specs.World.{World as Waves, Shows}
+use Rattle.cmb_core.proofs.RoundFacts.{at_err}
 use Rattle.cmb_core.proofs.Runs.{turn_world, turn_replies, run_from}
 use Rattle.cmb_core.proofs.world.World.play_all.Goals as goal
-
-on_err : {A E : Type 0} (r : Result A E) (P : Type 0) → P → OnErr r P
-on_err (Ok x) P h = tt
-on_err (Err e) P h = h
 
 pub loop-event-preserved : goal.loop-event-preserved
 loop-event-preserved c = record {
@@ -25,7 +22,7 @@ loop-event-preserved c = record {
 
 pub returns-in_err-push-clause-memory : goal.returns-in_err-push-clause-memory
 returns-in_err-push-clause-memory c = λ design clustering of.
-    on_err c.from_residual-in_err-push.result _ (
+    at_err c.from_residual-in_err-push.result _ (
       c.loop-event.event-index + 1,
       turn_world design clustering (shown c.args.self.now) (shown c.loop-event.self) (shown c.play.new.self) c.args.events.now c.loop-event.event-index c.loop-event-test.true (c.loop-event.invariant.world design clustering of)
           c.play.result c.in_ok-listed.ensures.ok.1 (c.play.ensures.played design clustering (c.loop-event.invariant.kept design clustering of)),
