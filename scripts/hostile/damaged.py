@@ -93,7 +93,7 @@ class Runs:
 
     def __init__(self):
         self.files = Files()
-        self.modes = modes(rounds=((1, 1), (2, 3)), free=((1, 1), (2, 3)))
+        self.modes = modes(rounds=((1, 1), (2, 3)), free=((1, 1), (2, 3), (3, 3)))
         self.oracle = oracle_of(ORACLE) if ORACLE else None
         self.tables = {name: self.files.write(name + ".csv", data) for name, data in CASE.tables.items()}
 

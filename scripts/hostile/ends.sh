@@ -37,7 +37,7 @@ chain=(run --horizon 3500 --stimuli "$room/stimuli.csv")
 
 modes=("--mode plain" "--mode rounds" "--mode rounds --workers 3 --clusters 5")
 if "$program" run --horizon 1 --mode free <"$room/empty" >"$room/out" 2>&1; then
-    modes+=("--mode free" "--mode free --workers 3 --clusters 5")
+    modes+=("--mode free" "--mode free --workers 2 --clusters 2" "--mode free --workers 3 --clusters 5" "--mode free --workers 64 --clusters 64")
 else
     echo "mode free isn't there"
 fi

@@ -1,6 +1,10 @@
 #!/usr/bin/env bash
 # free_load.sh [RUNS]: runs mode free RUNS times, 200 if not given, while every processor is kept busy. None may hang or write another text
 # than mode rounds with one worker. The runs take 2, 3, 7 and 64 workers in turn, and several clusterings and circuits.
+#
+# 200 runs take some seven minutes on four processors. A worker without news gives its processor away, and on a busy machine gets it back
+# only after a slice of another process, some milliseconds. So what counts is how often a change goes on from one worker to another, and
+# not how much work a circuit is. Printed at the end: the seconds of each circuit's runs, and of its longest one.
 # CMBSIM names the program, out/cmbsim if it isn't set. The last line is 'N passed, M failed'.
 set -uo pipefail
 cd "$(dirname "$0")/../.."
@@ -40,7 +44,7 @@ printf 'by,name,delay\nkind,BUFF,20\nkind,DFF,3\n' >"$room/slow.csv"
     echo "INPUT(a)"
     echo "n0 = NAND(a, n299)"
     for ((i = 1; i < 300; i++)); do echo "n$i = NOT(n$((i - 1)))"; done
-} | circuit ring --horizon 3000 --stimuli "$room/a.csv"
+} | circuit ring --horizon 2000 --stimuli "$room/a.csv"
 {
     echo "INPUT(a)"
     for ((i = 0; i < 500; i++)); do echo "n$i = BUFF(a)"; done
@@ -58,13 +62,21 @@ done
 
 passed=0
 failed=0
+declare -A count sum longest
+timed() { # timed NAME MICROSECONDS: counts a run
+    count[$1]=$((${count[$1]:-0} + 1))
+    sum[$1]=$((${sum[$1]:-0} + $2))
+    [ "$2" -le "${longest[$1]:-0}" ] || longest[$1]=$2
+}
 for ((run = 0; run < runs; run++)); do
     name=${circuits[run / 16 % 5]}
     w=${workers[run % 4]}
     k=${clusters[run / 4 % 4]}
     mapfile -t words <"$room/$name.words"
+    started=${EPOCHREALTIME/[.,]/}
     timeout 120 "$program" "${words[@]}" --mode free --workers "$w" --clusters "$k" <"$room/$name" >"$room/out" 2>"$room/err"
     status=$?
+    timed "$name" $((${EPOCHREALTIME/[.,]/} - started))
     if [ "$status" = 0 ] && cmp -s "$room/out" "$room/$name.vcd"; then
         passed=$((passed + 1))
     else
@@ -72,6 +84,9 @@ for ((run = 0; run < runs; run++)); do
         [ "$status" = 124 ] && echo "free load: $name with $w workers and $k clusters didn't end in two minutes"
         echo "FAILED: $name with $w workers and $k clusters: status $status, $(stat -c %s "$room/out") bytes, $(cat "$room/err")"
     fi
+done
+for name in "${!count[@]}"; do
+    echo "$name: ${count[$name]} runs, $((sum[$name] / 1000)) ms, the longest $((longest[$name] / 1000)) ms"
 done
 echo "$passed passed, $failed failed"
 [ "$failed" = 0 ]

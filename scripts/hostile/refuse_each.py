@@ -79,6 +79,15 @@ def is_right(answer, whole, more, early):
     return whole.out.startswith(answer.out) if early else answer.out == b""
 
 
+def kind_of(answer, whole, count):
+    """What came of a run with a request refused, for the count of them."""
+    if not count:
+        return "none refused"
+    if answer == whole:
+        return "whole"
+    return ("70, told" if answer.err else "70, silent") + (" behind a beginning" if answer.out else "")
+
+
 def sweep(tally, name, words, netlist, whole, shim, right, patience):
     """Refuses each request in turn, until this many runs in a row met no refusal."""
     outcomes = {}
@@ -92,7 +101,7 @@ def sweep(tally, name, words, netlist, whole, shim, right, patience):
                 last = at if count else last
                 what = lambda: f"{name}: request {at}{' and all later' if more else ''} refused: {answer}"
                 tally.check(right(answer, more) if count else answer == whole, what)
-                kind = "none refused" if not count else "whole" if answer == whole else f"70, {'silent' if not answer.err else 'told'}"
+                kind = kind_of(answer, whole, count)
                 outcomes[kind] = outcomes.get(kind, 0) + 1
     print(f"{name}: {last} requests; " + ", ".join(f"{kind} {n}" for kind, n in sorted(outcomes.items())), flush=True)
 
@@ -141,7 +150,7 @@ def is_right_line(answer, whole, more):
 
 def check_program(tally, files, shim):
     for case in (toggle(), clocks(), example("inverter"), example("s27"), example("c17")):
-        for mode, more_words in modes(rounds=((1, 1), (1, 2), (2, 2)), free=((1, 2), (2, 2))).items():
+        for mode, more_words in modes(rounds=((1, 1), (1, 2), (2, 2)), free=((1, 2), (2, 2), (3, 3))).items():
             words = [PROGRAM] + files.words(case) + more_words
             name = f"{case.name}, {mode}"
             whole = run(words, case.netlist)

@@ -55,7 +55,7 @@ def main():
     subprocess.run(["gcc", "-O2", "-shared", "-fPIC", "-o", shim, os.path.join(HERE, "streams.c")], check=True)
     for case in (toggle(), clocks(), example("inverter")):
         before = tally.passed
-        for mode, more in modes(rounds=((1, 1), (2, 2)), free=((2, 2),)).items():
+        for mode, more in modes(rounds=((1, 1), (2, 2)), free=((1, 1), (2, 2), (3, 3))).items():
             words, name = [PROGRAM] + files.words(case) + more, f"{case.name}, {mode}"
             for most in (1, 7):
                 check_reads(tally, name, words, case, shim, most)
