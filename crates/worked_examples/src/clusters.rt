@@ -285,14 +285,24 @@ fn overtakes(rt: &impl Abort, flop: &Cluster, gate: &mut Cluster) -> Result<(), 
     Ok(())
 }
 
+// The first two clusters of a row with the third one.
+fn row_with(
+    rt: &impl Abort,
+    alloc: Global,
+    input: &mut Cluster,
+    flop: &mut Cluster,
+) -> Result<(), Fail> {
+    let mut gate = in_a_row(rt, alloc, 2)?;
+    row_steps(rt, input, flop, &mut gate)?;
+    overtakes(rt, flop, &mut gate)
+}
+
 // A promise comes before the piece that it makes needless.
 #[test]
 fn promise_overtakes(rt: HostRuntime) -> Result<(), Fail> {
     let mut input = in_a_row(&rt, rt.alloc(), 0)?;
     let mut flop = in_a_row(&rt, rt.alloc(), 1)?;
-    let mut gate = in_a_row(&rt, rt.alloc(), 2)?;
-    row_steps(&rt, &mut input, &mut flop, &mut gate)?;
-    overtakes(&rt, &flop, &mut gate)
+    row_with(&rt, rt.alloc(), &mut input, &mut flop)
 }
 
 #[test]
