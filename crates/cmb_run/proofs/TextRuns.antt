@@ -1,5 +1,5 @@
 -- What a run with its text comes to.
-use Rattle.std.proofs.Common.{◌≡◌, ◌∙◌, ℕ, ◌≤◌, List, Option, None, Some, Result, Ok, Err, length, refl, ap, sym, subst, arith}
+use Rattle.std.proofs.Common.{◌≡◌, ◌∙◌, ℕ, ◌≤◌, List, Option, Some, Result, Ok, Err, length, refl, ap, sym, subst, arith}
 use Rattle.std.specs.Prelude.{IfOk, IfErr}
 use Rattle.std.specs.Io.KnownBytes.{Appends}
 use Rattle.std.proofs.KnownBytes.{Appends-nil}
@@ -7,7 +7,7 @@ use Rattle.cmb_design.specs.Design.{Design}
 use Rattle.cmb_vcd.specs.Collector.{Collector, IsComplete, IsExactFor, least}
 use Rattle.cmb_vcd.specs.Vcd.{vcd}
 use Rattle.cmb_run.specs.FreeRuns.{HasBegun, IsCutAt, IsStoppedAt}
-use Rattle.cmb_run.specs.Tellers.{IsDecided, IsGiven, IsToldTo, IsWithin, told}
+use Rattle.cmb_run.specs.Tellers.{IsDecided, IsGiven}
 use Rattle.cmb_run.specs.declared.run_fault.RunFault.{RunFault}
 use Rattle.cmb_run.specs.declared.run_fault.RunFault.TheVariants.{Incomplete, Write, Memory}
 use Rattle.cmb_run.proofs.TellerFacts.{HasBegun-told, told-whole}
@@ -17,14 +17,6 @@ HasBegun-none design old = (0, Appends-nil old)
 
 pub HasBegun-given : (design : Design) (old new : Option (List ℕ)) (upto given : ℕ) → IsGiven design old new upto given → HasBegun design old new
 HasBegun-given design old new upto given h = HasBegun-told design (Some h.done) old new h.within h.text
-
-pub IsWithin-told : (design : Design) (done : Option ℕ) (upto : ℕ) → IsToldTo design done upto → IsWithin design done
-IsWithin-told design None upto h = absurd h
-IsWithin-told design (Some done) upto h = h.1
-
-pub IsGiven-told : (design : Design) (done : Option ℕ) (upto given : ℕ) (old new : Option (List ℕ)) → IsToldTo design done upto → given ≡ length (told design done) → Appends old new (told design done) → IsGiven design old new upto given
-IsGiven-told design None upto given old new h count text = absurd h
-IsGiven-told design (Some done) upto given old new h count text = record { done = done; reached = h.0; within = h.1; count = count; text = text }
 
 -- want of memory may come in the place of another answer
 IsCutAt-decided : (design : Design) (old new : Option (List ℕ)) (before after upto : ℕ) (given : Result ℕ RunFault) (fault : RunFault)
