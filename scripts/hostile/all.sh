@@ -1,5 +1,5 @@
 #!/usr/bin/env bash
-# all.sh: builds the two programs and runs every script of this folder over them. It takes some ten minutes on four processors.
+# all.sh: builds the two programs and runs every script of this folder over them. It takes some twenty minutes on four processors.
 # ORACLE and REFERENCE name other simulators, as damaged.py and largest.py say. The last line is 'N passed, M failed'.
 set -uo pipefail
 cd "$(dirname "$0")/../.."
