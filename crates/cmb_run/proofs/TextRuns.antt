@@ -15,43 +15,43 @@ use Rattle.cmb_run.proofs.TellerFacts.{HasBegun-told, told-whole}
 pub HasBegun-none : (design : Design) (old : Option (List ℕ)) → HasBegun design old old
 HasBegun-none design old = (0, Appends-nil old)
 
-pub HasBegun-given : (design : Design) (old new : Option (List ℕ)) (upto given : ℕ) → IsGiven design old new upto given → HasBegun design old new
-HasBegun-given design old new upto given h = HasBegun-told design (Some h.done) old new h.within h.text
+pub HasBegun-given : (design : Design) (old new : Option (List ℕ)) (before after upto given : ℕ) → IsGiven design old new before after upto given → HasBegun design old new
+HasBegun-given design old new before after upto given h = HasBegun-told design (Some h.done) old new h.within h.text
 
 -- want of memory may come in the place of another answer
 IsCutAt-decided : (design : Design) (old new : Option (List ℕ)) (before after upto : ℕ) (given : Result ℕ RunFault) (fault : RunFault)
-    → IfOk given (λ n. IsGiven design old new upto n) → IfErr given (IsCutAt design old new before after) → IsDecided given fault → IsCutAt design old new before after fault
-IsCutAt-decided design old new before after upto (Ok n) Memory ok err d = HasBegun-given design old new upto n ok
+    → IfOk given (λ n. IsGiven design old new before after upto n) → IfErr given (IsCutAt design old new before after) → IsDecided given fault → IsCutAt design old new before after fault
+IsCutAt-decided design old new before after upto (Ok n) Memory ok err d = (HasBegun-given design old new before after upto n ok, ok.no_failure)
 IsCutAt-decided design old new before after upto (Ok n) (Write w) ok err d = absurd cc
 IsCutAt-decided design old new before after upto (Ok n) (Incomplete a b c) ok err d = absurd cc
 IsCutAt-decided design old new before after upto (Err Memory) Memory ok err d = err
 IsCutAt-decided design old new before after upto (Err (Write w)) Memory ok err d = absurd (d w refl)
-IsCutAt-decided design old new before after upto (Err (Incomplete a b c)) Memory ok err d = err.0
+IsCutAt-decided design old new before after upto (Err (Incomplete a b c)) Memory ok err d = (err.0, err.1)
 IsCutAt-decided design old new before after upto (Err f) (Write w) ok err d = let e : f ≡ Write w = cc in subst (IsCutAt design old new before after) e err
 IsCutAt-decided design old new before after upto (Err f) (Incomplete a b c) ok err d = let e : f ≡ Incomplete a b c = cc in subst (IsCutAt design old new before after) e err
 
 pub IsCutAt-all : (design : Design) (old new : Option (List ℕ)) (before after upto : ℕ) (given now : Result ℕ RunFault)
-    → IfOk given (λ n. IsGiven design old new upto n) → IfErr given (IsCutAt design old new before after) → IfErr now (IsDecided given) → IfErr now (IsCutAt design old new before after)
+    → IfOk given (λ n. IsGiven design old new before after upto n) → IfErr given (IsCutAt design old new before after) → IfErr now (IsDecided given) → IfErr now (IsCutAt design old new before after)
 IsCutAt-all design old new before after upto given (Ok n) ok err d = tt
 IsCutAt-all design old new before after upto given (Err fault) ok err d = IsCutAt-decided design old new before after upto given fault ok err d
 
-pub IsGiven-all : (design : Design) (old new : Option (List ℕ)) (upto : ℕ) (given now : Result ℕ RunFault)
-    → IfOk given (λ n. IsGiven design old new upto n) → IfOk now (λ n. given ≡ Ok n) → IfOk now (λ n. IsGiven design old new upto n)
-IsGiven-all design old new upto given (Err fault) ok e = tt
-IsGiven-all design old new upto given (Ok n) ok e = let P : Result ℕ RunFault → Type 0 = λ r. IfOk r (λ n. IsGiven design old new upto n) in subst P e ok
+pub IsGiven-all : (design : Design) (old new : Option (List ℕ)) (before after upto : ℕ) (given now : Result ℕ RunFault)
+    → IfOk given (λ n. IsGiven design old new before after upto n) → IfOk now (λ n. given ≡ Ok n) → IfOk now (λ n. IsGiven design old new before after upto n)
+IsGiven-all design old new before after upto given (Err fault) ok e = tt
+IsGiven-all design old new before after upto given (Ok n) ok e = let P : Result ℕ RunFault → Type 0 = λ r. IfOk r (λ n. IsGiven design old new before after upto n) in subst P e ok
 
 -- the run ended before all was known
 pub IsCutAt-stopped : (design : Design) (old new : Option (List ℕ)) (before after upto given : ℕ) (collector : Collector) (fault : RunFault)
-    → IsExactFor design collector → IsGiven design old new upto given → IsStoppedAt collector fault → IsCutAt design old new before after fault
+    → IsExactFor design collector → IsGiven design old new before after upto given → IsStoppedAt collector fault → IsCutAt design old new before after fault
 IsCutAt-stopped design old new before after upto given collector (Incomplete net tick known) exact h s =
-    (HasBegun-given design old new upto given h, subst (λ (c : Collector). IsExactFor design c) (sym s.0) exact, s.1)
+    (HasBegun-given design old new before after upto given h, h.no_failure, subst (λ (c : Collector). IsExactFor design c) (sym s.0) exact, s.1)
 IsCutAt-stopped design old new before after upto given collector (Write w) exact h s = absurd s
 IsCutAt-stopped design old new before after upto given collector Memory exact h s = absurd s
 
 -- all was known
-pub given-whole : (design : Design) (old new : Option (List ℕ)) (given : ℕ) (collector : Collector) → IsExactFor design collector → IsComplete collector → IsGiven design old new (least collector) given
+pub given-whole : (design : Design) (old new : Option (List ℕ)) (before after given : ℕ) (collector : Collector) → IsExactFor design collector → IsComplete collector → IsGiven design old new before after (least collector) given
     → (given ≡ length (vcd design)) × Appends old new (vcd design)
-given-whole design old new given collector exact complete h =
+given-whole design old new before after given collector exact complete h =
     let end : h.done ≡ design.horizon = omega (arith, h.reached, h.within, complete, exact.opened.horizon) in
     let whole = told-whole design h.done end in
     (h.count ∙ ap length whole, subst (Appends old new) whole h.text)

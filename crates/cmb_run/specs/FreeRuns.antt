@@ -36,8 +36,8 @@ pub record IsCutOff (design : Design) (old new : Option (List ℕ)) (before afte
   pub begun : Appends old new (take written (vcd design))
   pub failed : after ≡ before + 1
 
--- why a text isn't written whole, and that a beginning of it is
+-- why a text isn't written whole, and that a beginning of it is; where the sink failed that is the answer, before all else
 abbrev pub IsCutAt : Design → Option (List ℕ) → Option (List ℕ) → ℕ → ℕ → RunFault → Type 0
-IsCutAt design old new before after (Incomplete net upto collector) = HasBegun design old new × IsExactFor design collector × IsLeastBehind collector net upto
+IsCutAt design old new before after (Incomplete net upto collector) = HasBegun design old new × (after ≡ before) × IsExactFor design collector × IsLeastBehind collector net upto
 IsCutAt design old new before after (Write written) = IsCutOff design old new before after written
-IsCutAt design old new before after Memory = HasBegun design old new
+IsCutAt design old new before after Memory = HasBegun design old new × (after ≡ before)

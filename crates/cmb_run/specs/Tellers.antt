@@ -29,13 +29,14 @@ abbrev pub IsToldTo : Design → Option ℕ → ℕ → Type 0
 IsToldTo design None upto = ⊥
 IsToldTo design (Some done) upto = (upto ≤ done) × (done ≤ design.horizon)
 
--- so many bytes were given: the text up to this tick at least
-pub record IsGiven (design : Design) (old new : Option (List ℕ)) (upto given : ℕ) : Type 0 where
+-- so many bytes were given, the text up to this tick at least, and the sink didn't fail
+pub record IsGiven (design : Design) (old new : Option (List ℕ)) (before after upto given : ℕ) : Type 0 where
   pub done : ℕ
   pub reached : upto ≤ done
   pub within : done ≤ design.horizon
   pub count : given ≡ length (told design (Some done))
   pub text : Appends old new (told design (Some done))
+  pub no_failure : after ≡ before
 
 -- the fault of a run is that of its text; want of memory may come in the place of all but a failed write
 abbrev pub IsDecided : Result ℕ RunFault → RunFault → Type 0

@@ -17,7 +17,7 @@ use Rattle.cmb_design.specs.declared.rows.ClockRow.{ClockRow}
 use Rattle.cmb_design.specs.declared.settings.Settings.{Settings}
 use Rattle.cmb_vcd.specs.Vcd.{vcd}
 use Rattle.cmb_sim.specs.Numbers.{design_as_fault}
-use Rattle.cmb_sim.specs.Simulation.{AreTexts, HaveDesign, Inputs, IsOutcome, Output, Spell, SpellDesign, Texts, design_in, mode_checks, output, report_of, text_checks}
+use Rattle.cmb_sim.specs.Simulation.{AreTexts, HaveDesign, Inputs, IsOutcome, IsUntouched, Output, Spell, SpellDesign, Texts, design_in, mode_checks, output, report_of, text_checks}
 use Rattle.cmb_sim.specs.Stages.{CanRun, FoundDesign, HaveTextFault, IsUnrun, IsUnwritten, LacksDesign, SpellAny}
 use Rattle.cmb_sim.specs.declared.fault.Fault.{Fault}
 use Rattle.cmb_sim.specs.declared.fault.Fault.TheVariants as fault
@@ -71,18 +71,22 @@ LacksDesign-of settings i texts are fault.Memory h = tt
 
 -- ---- the whole
 
+-- before anything is written
+untouched : (old : Option (List ℕ)) (n : ℕ) → IsUntouched (output old old n n)
+untouched old n = (Keeps-refl old, refl)
+
 pub IsOutcome-unread : (settings : Settings) (mode : Mode) (i : Inputs) (old : Option (List ℕ)) (n : ℕ) (f : Fault)
     → LacksDesign settings i f → IsOutcome settings mode i (output old old n n) (Err f)
-IsOutcome-unread settings mode i old n (fault.TooLong k) h = (h, Keeps-refl old)
-IsOutcome-unread settings mode i old n (fault.Read k) h = (h, Keeps-refl old)
-IsOutcome-unread settings mode i old n (fault.Bench f) h = (h, Keeps-refl old)
+IsOutcome-unread settings mode i old n (fault.TooLong k) h = (h, untouched old n)
+IsOutcome-unread settings mode i old n (fault.Read k) h = (h, untouched old n)
+IsOutcome-unread settings mode i old n (fault.Bench f) h = (h, untouched old n)
 IsOutcome-unread settings mode i old n (fault.Design f) h =
-    ((h.0, h.1, (h.2.0, h.2.1, first_fault-some _ _ f h.2.2)), Keeps-refl old)
+    ((h.0, h.1, (h.2.0, h.2.1, first_fault-some _ _ f h.2.2)), untouched old n)
 IsOutcome-unread settings mode i old n (fault.Write k) h = absurd h
 IsOutcome-unread settings mode i old n (fault.Incomplete k t) h = absurd h
 IsOutcome-unread settings mode i old n fault.Clusters h = absurd h
 IsOutcome-unread settings mode i old n fault.Workers h = absurd h
-IsOutcome-unread settings mode i old n fault.Memory h = inl (Keeps-refl old)
+IsOutcome-unread settings mode i old n fault.Memory h = inl (untouched old n)
 
 -- the design's checks, then those of the mode, of which one stands
 mode_fault : (texts : Texts) (settings : Settings) (mode : Mode) (netlist : Netlist) (design : Design) (e : DesignFault)
@@ -117,17 +121,17 @@ SpellDesign-of settings mode i design found runs = (
 )
 
 pub IsOutcome-written : (settings : Settings) (mode : Mode) (i : Inputs) (old new : Option (List ℕ)) (before after : ℕ) (design : Design) (report : Report)
-    → FoundDesign settings i design → CanRun mode design → Appends old new (vcd design) → report ≡ report_of design
+    → FoundDesign settings i design → CanRun mode design → Appends old new (vcd design) → after ≡ before → report ≡ report_of design
     → IsOutcome settings mode i (output old new before after) (Ok report)
-IsOutcome-written settings mode i old new before after design report found fits wrote told =
-    (design, SpellDesign-of settings mode i design found fits, wrote, told)
+IsOutcome-written settings mode i old new before after design report found fits wrote quiet told =
+    (design, SpellDesign-of settings mode i design found fits, wrote, quiet, told)
 
 -- a fault of the mode comes before anything is written
 pub IsUnwritten-unrun : (mode : Mode) (old : Option (List ℕ)) (n : ℕ) (design : Design) (f : Fault) → IsUnrun mode design f → IsUnwritten mode design (output old old n n) f
-IsUnwritten-unrun mode old n design (fault.Design f) h = (h, Keeps-refl old)
-IsUnwritten-unrun mode old n design fault.Clusters h = (h, Keeps-refl old)
-IsUnwritten-unrun mode old n design fault.Workers h = (h, Keeps-refl old)
-IsUnwritten-unrun mode old n design fault.Memory h = inl (Keeps-refl old)
+IsUnwritten-unrun mode old n design (fault.Design f) h = (h, untouched old n)
+IsUnwritten-unrun mode old n design fault.Clusters h = (h, untouched old n)
+IsUnwritten-unrun mode old n design fault.Workers h = (h, untouched old n)
+IsUnwritten-unrun mode old n design fault.Memory h = inl (untouched old n)
 IsUnwritten-unrun mode old n design (fault.Bench f) h = absurd h
 IsUnwritten-unrun mode old n design (fault.Incomplete k t) h = absurd h
 IsUnwritten-unrun mode old n design (fault.TooLong k) h = absurd h
@@ -141,9 +145,9 @@ IsOutcome-unwritten settings mode i o design found (fault.Design f) h =
 IsOutcome-unwritten settings mode i o design found fault.Clusters h = ((found.0, found.1, (HaveDesign-of settings mode i design found h.0.0, h.0.1)), h.1)
 IsOutcome-unwritten settings mode i o design found fault.Workers h = ((found.0, found.1, (HaveDesign-of settings mode i design found h.0.0, h.0.1, h.0.2)), h.1)
 IsOutcome-unwritten settings mode i o design found fault.Memory (inl h) = inl h
-IsOutcome-unwritten settings mode i o design found fault.Memory (inr h) = inr (design, SpellDesign-of settings mode i design found h.0, h.1, h.2)
+IsOutcome-unwritten settings mode i o design found fault.Memory (inr h) = inr (design, SpellDesign-of settings mode i design found h.0, h.1, h.2, h.3)
 IsOutcome-unwritten settings mode i o design found (fault.Write n) h = (design, SpellDesign-of settings mode i design found h.0, h.1, h.2, h.3)
-IsOutcome-unwritten settings mode i o design found (fault.Incomplete n t) h = (design, SpellDesign-of settings mode i design found h.0, h.1, h.2, h.3, h.4)
+IsOutcome-unwritten settings mode i o design found (fault.Incomplete n t) h = (design, SpellDesign-of settings mode i design found h.0, h.1, h.2, h.3, h.4, h.5)
 IsOutcome-unwritten settings mode i o design found (fault.Bench f) h = absurd h.0
 IsOutcome-unwritten settings mode i o design found (fault.TooLong k) h = absurd h.0
 IsOutcome-unwritten settings mode i o design found (fault.Read k) h = absurd h.0

@@ -167,27 +167,31 @@ report_of design = record { nets = nets_of design; horizon = design.horizon; wri
 abbrev pub SpellDesign : Settings → Mode → Inputs → Design → Type 0
 SpellDesign settings mode i design = (texts : Texts) × AreTexts i texts × Spell texts settings mode design
 
--- the run began to write the text of the design
+-- nothing was written, and no write failed
+abbrev pub IsUntouched : Output → Type 0
+IsUntouched o = Keeps o.old o.new × (o.after ≡ o.before)
+
+-- the run began to write the text of the design, and no write failed
 abbrev pub BeginsText : Settings → Mode → Inputs → Output → Type 0
-BeginsText settings mode i o = (design : Design) × SpellDesign settings mode i design × IsFree mode × HasBegun design o.old o.new
+BeginsText settings mode i o = (design : Design) × SpellDesign settings mode i design × IsFree mode × HasBegun design o.old o.new × (o.after ≡ o.before)
 
 -- What a simulation answers and what its sink takes. The inputs are read in order, then the texts' faults are found in order,
 -- then the text of the design is written, all of it or a beginning. Before that nothing is written. Memory may run out before,
--- and where the text is written while the run goes on, also then.
+-- and where the text is written while the run goes on, also then. A write fails only where that is the answer.
 abbrev pub IsOutcome : Settings → Mode → Inputs → Output → Result Report Fault → Type 0
-IsOutcome settings mode i o (Err (fault.TooLong n)) = StopsAt HasTooMany i n × Keeps o.old o.new
-IsOutcome settings mode i o (Err (fault.Read n)) = StopsAt HasFailed i n × Keeps o.old o.new
-IsOutcome settings mode i o (Err (fault.Bench f)) = ((texts : Texts) × AreTexts i texts × HaveFault texts settings mode (fault.Bench f)) × Keeps o.old o.new
-IsOutcome settings mode i o (Err (fault.Design f)) = ((texts : Texts) × AreTexts i texts × HaveFault texts settings mode (fault.Design f)) × Keeps o.old o.new
-IsOutcome settings mode i o (Err fault.Clusters) = ((texts : Texts) × AreTexts i texts × HaveFault texts settings mode fault.Clusters) × Keeps o.old o.new
-IsOutcome settings mode i o (Err fault.Workers) = ((texts : Texts) × AreTexts i texts × HaveFault texts settings mode fault.Workers) × Keeps o.old o.new
-IsOutcome settings mode i o (Err fault.Memory) = Keeps o.old o.new ⊎ BeginsText settings mode i o
+IsOutcome settings mode i o (Err (fault.TooLong n)) = StopsAt HasTooMany i n × IsUntouched o
+IsOutcome settings mode i o (Err (fault.Read n)) = StopsAt HasFailed i n × IsUntouched o
+IsOutcome settings mode i o (Err (fault.Bench f)) = ((texts : Texts) × AreTexts i texts × HaveFault texts settings mode (fault.Bench f)) × IsUntouched o
+IsOutcome settings mode i o (Err (fault.Design f)) = ((texts : Texts) × AreTexts i texts × HaveFault texts settings mode (fault.Design f)) × IsUntouched o
+IsOutcome settings mode i o (Err fault.Clusters) = ((texts : Texts) × AreTexts i texts × HaveFault texts settings mode fault.Clusters) × IsUntouched o
+IsOutcome settings mode i o (Err fault.Workers) = ((texts : Texts) × AreTexts i texts × HaveFault texts settings mode fault.Workers) × IsUntouched o
+IsOutcome settings mode i o (Err fault.Memory) = IsUntouched o ⊎ BeginsText settings mode i o
 IsOutcome settings mode i o (Err (fault.Incomplete net upto)) =
     (design : Design) × SpellDesign settings mode i design × IsFree mode
-    × (net < nets_of design) × (upto < design.horizon) × HasBegun design o.old o.new
+    × (net < nets_of design) × (upto < design.horizon) × HasBegun design o.old o.new × (o.after ≡ o.before)
 IsOutcome settings mode i o (Err (fault.Write n)) =
     (design : Design) × SpellDesign settings mode i design
     × (n < length (vcd design)) × Appends o.old o.new (take n (vcd design)) × (o.after ≡ o.before + 1)
 IsOutcome settings mode i o (Ok report) =
     (design : Design) × SpellDesign settings mode i design
-    × Appends o.old o.new (vcd design) × (report ≡ report_of design)
+    × Appends o.old o.new (vcd design) × (o.after ≡ o.before) × (report ≡ report_of design)

@@ -1,6 +1,6 @@
 -- What the stages of a simulation answer, each as a part of the whole's outcome. No public contract cites these.
 use Rattle.std.specs.Prelude.{◌≡◌, ℕ, ◌+◌, ◌<◌, ◌⊎◌, List, length, take, Some, None, ⊤}
-use Rattle.std.specs.Io.KnownBytes.{Appends, Keeps}
+use Rattle.std.specs.Io.KnownBytes.{Appends}
 use Rattle.cmb_bench.specs.Netlist.{Netlist}
 use Rattle.cmb_bench.specs.Meaning.{Reads}
 use Rattle.cmb_bench.specs.FirstFault.{IsFirstFault}
@@ -10,7 +10,7 @@ use Rattle.cmb_design.specs.Exact.{nets_of}
 use Rattle.cmb_design.specs.declared.settings.Settings.{Settings}
 use Rattle.cmb_vcd.specs.Vcd.{vcd}
 use Rattle.cmb_run.specs.FreeRuns.{HasBegun}
-use Rattle.cmb_sim.specs.Simulation.{AreTexts, HasFailed, HasTooMany, Input, Inputs, IsFree, Output, StopsAt, Texts, IsMany, clusters_of, design_in, mode_checks, text_checks, workers_of}
+use Rattle.cmb_sim.specs.Simulation.{AreTexts, HasFailed, HasTooMany, Input, Inputs, IsFree, IsUntouched, Output, StopsAt, Texts, IsMany, clusters_of, design_in, mode_checks, text_checks, workers_of}
 use Rattle.cmb_sim.specs.declared.fault.Fault.{Fault}
 use Rattle.cmb_sim.specs.declared.fault.Fault.TheVariants as fault
 use Rattle.cmb_sim.specs.declared.mode.Mode.{Mode}
@@ -71,9 +71,9 @@ IsUnrun mode design _ = ⊥
 -- why the text of a design wasn't written whole
 abbrev pub IsUnwritten : Mode → Design → Output → Fault → Type 0
 IsUnwritten mode design o (fault.Write n) = CanRun mode design × (n < length (vcd design)) × Appends o.old o.new (take n (vcd design)) × (o.after ≡ o.before + 1)
-IsUnwritten mode design o (fault.Incomplete net upto) = CanRun mode design × IsFree mode × (net < nets_of design) × (upto < design.horizon) × HasBegun design o.old o.new
-IsUnwritten mode design o fault.Memory = Keeps o.old o.new ⊎ (CanRun mode design × IsFree mode × HasBegun design o.old o.new)
-IsUnwritten mode design o f = IsUnrun mode design f × Keeps o.old o.new
+IsUnwritten mode design o (fault.Incomplete net upto) = CanRun mode design × IsFree mode × (net < nets_of design) × (upto < design.horizon) × HasBegun design o.old o.new × (o.after ≡ o.before)
+IsUnwritten mode design o fault.Memory = IsUntouched o ⊎ (CanRun mode design × IsFree mode × HasBegun design o.old o.new × (o.after ≡ o.before))
+IsUnwritten mode design o f = IsUnrun mode design f × IsUntouched o
 
 -- why there is no clustering of so many clusters
 abbrev pub IsClustersFault : ℕ → Fault → Type 0

@@ -88,6 +88,7 @@ fn write_free<R: AllocGlobal + Threads + Wait + Sync, O: Sink>(
     requires room { O.failures out.old < 2 ^ 64 - 1 }
     ensures length { IfOk result (λ written. written ≡ length (vcd design.now)) }
     ensures text { OnOk result (Appends (O.taken out.old) (O.taken out.new) (vcd design.now)) }
+    ensures no_failure { OnOk result (O.failures out.new ≡ O.failures out.old) }
     ensures fits { OnOk result (CanRun (Mode.Free workers clusters) design.now) }
     ensures fault { IfErr result (IsUnwritten (Mode.Free workers clusters) design.now (output (O.taken out.old) (O.taken out.new) (O.failures out.old) (O.failures out.new))) }
 {
@@ -108,6 +109,7 @@ pub(crate) fn write_by<R: AllocGlobal + Threads + Wait + Sync, O: Sink>(
     requires room { O.failures out.old < 2 ^ 64 - 1 }
     ensures length { IfOk result (λ written. written ≡ length (vcd design.now)) }
     ensures text { OnOk result (Appends (O.taken out.old) (O.taken out.new) (vcd design.now)) }
+    ensures no_failure { OnOk result (O.failures out.new ≡ O.failures out.old) }
     ensures fits { OnOk result (CanRun mode design.now) }
     ensures fault { IfErr result (IsUnwritten mode design.now (output (O.taken out.old) (O.taken out.new) (O.failures out.old) (O.failures out.new))) }
 {

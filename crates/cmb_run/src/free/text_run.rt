@@ -1,6 +1,6 @@
 //! A free run whose text is written while it runs.
 
-ghost use Rattle.std.specs.Prelude.{◌≡◌, ◌-◌, ◌^◌, ◌<◌, None, Ok, length, IfOk, IfErr};
+ghost use Rattle.std.specs.Prelude.{◌≡◌, ◌-◌, ◌^◌, ◌<◌, None, Ok, length, IfOk, IfErr, OnOk};
 ghost use Rattle.std.specs.Io.KnownBytes.{Appends};
 ghost use Rattle.cmb_design.specs.Exact.{nets_of};
 ghost use Rattle.cmb_vcd.specs.Collector.{least};
@@ -41,7 +41,7 @@ fn tell_all<T: Terms, S: Sink, R: Wait>(
 ) -> Result<u64, RunFault>
     requires room { S.failures sink.old < 2 ^ 64 - 1 }
     requires begin { teller ≡ None }
-    ensures given { IfOk result (λ given. IsGiven T.design (S.taken sink.old) (S.taken sink.new) (least collected.new) given) }
+    ensures given { IfOk result (λ given. IsGiven T.design (S.taken sink.old) (S.taken sink.new) (S.failures sink.old) (S.failures sink.new) (least collected.new) given) }
     ensures fault { IfErr result (IsCutAt T.design (S.taken sink.old) (S.taken sink.new) (S.failures sink.old) (S.failures sink.new)) }
 {
     let mut fresh = 0;
@@ -103,7 +103,7 @@ fn tell_in<
 ) -> Result<u64, RunFault>
     requires room { S.failures sink.old < 2 ^ 64 - 1 }
     requires begin { teller ≡ None }
-    ensures given { IfOk result (λ given. IsGiven T.design (S.taken sink.old) (S.taken sink.new) (least collected.new) given) }
+    ensures given { IfOk result (λ given. IsGiven T.design (S.taken sink.old) (S.taken sink.new) (S.failures sink.old) (S.failures sink.new) (least collected.new) given) }
     ensures fault { IfErr result (IsCutAt T.design (S.taken sink.old) (S.taken sink.new) (S.failures sink.old) (S.failures sink.new)) }
 {
     let Crew {
@@ -131,7 +131,7 @@ fn tell_crew<T: Terms + Send + Sync, G: Turnstile + Sync, S: Sink, R: Threads + 
 ) -> (Collected<T>, Result<u64, RunFault>)
     requires room { S.failures sink.old < 2 ^ 64 - 1 }
     requires begin { teller ≡ None }
-    ensures given { IfOk result.1 (λ given. IsGiven T.design (S.taken sink.old) (S.taken sink.new) (least result.0) given) }
+    ensures given { IfOk result.1 (λ given. IsGiven T.design (S.taken sink.old) (S.taken sink.new) (S.failures sink.old) (S.failures sink.new) (least result.0) given) }
     ensures fault { IfErr result.1 (IsCutAt T.design (S.taken sink.old) (S.taken sink.new) (S.failures sink.old) (S.failures sink.new)) }
 {
     let (back, collected, given) = thread::scope(
@@ -141,7 +141,7 @@ fn tell_crew<T: Terms + Send + Sync, G: Turnstile + Sync, S: Sink, R: Threads + 
             requires room { S.failures sink.now < 2 ^ 64 - 1 }
             requires begin { teller ≡ None }
             ensures name { result.0.ghost_name ≡ sink.entry.ghost_name }
-            ensures given { IfOk result.2 (λ given. IsGiven T.design (S.taken sink.entry.now) (S.taken result.0.now) (least result.1) given) }
+            ensures given { IfOk result.2 (λ given. IsGiven T.design (S.taken sink.entry.now) (S.taken result.0.now) (S.failures sink.entry.now) (S.failures result.0.now) (least result.1) given) }
             ensures fault { IfErr result.2 (IsCutAt T.design (S.taken sink.entry.now) (S.taken result.0.now) (S.failures sink.entry.now) (S.failures result.0.now)) }
         {
             let given = tell_in(rt, alloc, scope, crew, gate, &mut collected, teller, sink);
@@ -168,6 +168,7 @@ fn run_named<T: Terms + Send + Sync, G: Turnstile + Sync, S: Sink, R: Threads + 
     requires nets { length clustering.now.assign ≡ nets_of design.now }
     requires each { clustering.now.clusters ≡ workers }
     ensures whole { IfOk result (λ given. (given ≡ length (vcd design.now)) × Appends (S.taken sink.old) (S.taken sink.new) (vcd design.now)) }
+    ensures no_failure { OnOk result (S.failures sink.new ≡ S.failures sink.old) }
     ensures fault { IfErr result (IsCutAt design.now (S.taken sink.old) (S.taken sink.new) (S.failures sink.old) (S.failures sink.new)) }
 {
     let crew = Crew::<T>::open(alloc, design, clustering, workers)?;
@@ -181,7 +182,7 @@ fn run_named<T: Terms + Send + Sync, G: Turnstile + Sync, S: Sink, R: Threads + 
 
 /// Simulates a design as `run_free` does, and writes its text while the workers run. Gives the text's
 /// length. Whatever the fault, the sink took a beginning of the text. A failed write stops the
-/// run; that is 62 then, whatever else happened. Else 70 comes where memory or a worker's thread was refused,
+/// run, and the answer is 62 then and only then, whatever else happened. Else 70 comes where memory or a worker's thread was refused,
 /// and 53 where the run was stopped before all was known.
 pub fn run_free_text<G: Turnstile + Sync, S: Sink, R: Threads + Wait + Sync>(
     rt: &R,
@@ -195,6 +196,7 @@ pub fn run_free_text<G: Turnstile + Sync, S: Sink, R: Threads + Wait + Sync>(
     requires room { S.failures sink.old < 2 ^ 64 - 1 }
     requires nets { length clustering.now.assign ≡ nets_of design.now }
     ensures whole { IfOk result (λ given. (given ≡ length (vcd design.now)) × Appends (S.taken sink.old) (S.taken sink.new) (vcd design.now)) }
+    ensures no_failure { OnOk result (S.failures sink.new ≡ S.failures sink.old) }
     ensures fault { IfErr result (IsCutAt design.now (S.taken sink.old) (S.taken sink.new) (S.failures sink.old) (S.failures sink.new)) }
 {
     let merged = clustering.merged(alloc, workers.count())?;

@@ -19,5 +19,5 @@ returns-in_err-written g c =
 pub returns : goal.returns
 returns g c =
     let nets : c.len.result ≡ nets_of c.in_ok-design.design = c.len.ensures.value ∙ ap (λ (n : Netlist). length n.names) c.netlist.ensures in
-    IsOutcome-written c.args.settings c.args.mode _ _ _ 0 0 c.in_ok-design.design _ c.in_ok-design.ensures.ok c.in_ok-written.ensures.fits c.in_ok-written.ensures.text
+    IsOutcome-written c.args.settings c.args.mode _ _ _ _ _ c.in_ok-design.design _ c.in_ok-design.ensures.ok c.in_ok-written.ensures.fits c.in_ok-written.ensures.text c.in_ok-written.ensures.no_failure
     (rw (nets, c.horizon.ensures.value, c.in_ok-written.ensures.length) refl)

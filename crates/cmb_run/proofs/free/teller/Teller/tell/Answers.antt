@@ -1,4 +1,4 @@
-use Rattle.std.proofs.Common.{rules, arith, ◌≡◌, ◌+◌, ◌^◌, ◌<◌, ◌++◌, ◌∙◌, Some, length, ap, subst, sym}
+use Rattle.std.proofs.Common.{rules, arith, ◌≡◌, ◌+◌, ◌^◌, ◌<◌, ◌++◌, ◌∙◌, Some, length, ap, refl, subst, sym}
 use Rattle.std.proofs.lemmas.Result.{err_from_is_err_and}
 use Rattle.cmb_vcd.specs.Collector.{least}
 use Rattle.cmb_run.specs.Tellers.{IsWithin, told}
@@ -8,7 +8,7 @@ use Rattle.cmb_run.proofs.free.teller.Teller.tell.Goals as goal
 pub returns-in_err-part-clause-fault : goal.returns-in_err-part-clause-fault
 returns-in_err-part-clause-fault g c start taken =
     let p = err_from_is_err_and c.from_residual.result c.from_residual.ensures.1 in
-    rw (p.1, p.2) (HasBegun-told g.T.Terms.design c.args.self.now start _ (subst (IsWithin g.T.Terms.design) c.self.view_is c.self.invariant.within) taken)
+    rw (p.1, p.2) (HasBegun-told g.T.Terms.design c.args.self.now start _ (subst (IsWithin g.T.Terms.design) c.self.view_is c.self.invariant.within) taken, refl)
 
 pub overflow_add-self : goal.overflow_add-self
 overflow_add-self g c =
