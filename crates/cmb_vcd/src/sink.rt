@@ -1,6 +1,6 @@
 //! Where the text goes.
 
-ghost use Rattle.std.specs.Prelude.{◌≡◌, ℕ, ◌+◌, ◌-◌, ◌^◌, ◌<◌, ◌≤◌, List, [], Option, Some, length, take, vec_capacity, IfOk, IfErr, OnOk, OnErr};
+ghost use Rattle.std.specs.Prelude.{◌≡◌, ℕ, ◌+◌, ◌-◌, ◌^◌, ◌<◌, ◌≤◌, List, [], Option, Some, ◌⊎◌, length, min, take, vec_capacity, vec_len, IfOk, IfErr, OnOk, OnErr};
 ghost use Rattle.std.specs.Io.KnownBytes.{Appends, WriteAppends};
 ghost use Rattle.cmb_vcd.specs.Ends.{write_failures};
 
@@ -72,7 +72,15 @@ impl Sink for Room {
 
     ghost failures = { λ s. s.failures };
 
-    fn write(&mut self, text: &[u8]) -> Result<usize, Failed> {
+    // Takes the whole text, or none of it where there is no room.
+    fn write(&mut self, text: &[u8]) -> Result<usize, Failed>
+        requires { self.old.failures < 2 ^ 64 - 1 }
+        ensures bytes { WriteAppends (Some self.old.bytes.items) (Some self.new.bytes.items) result text.now }
+        ensures failures { self.new.failures ≡ self.old.failures + write_failures result text.now }
+        ensures whole { IfOk result (λ n. n ≡ length text.now) }
+        ensures room { OnErr result (vec_capacity self.old.bytes < vec_len self.old.bytes + length text.now) }
+        ensures capacity { vec_capacity self.old.bytes ≤ vec_capacity self.new.bytes }
+    {
         match self.bytes.extend_from_slice(text) {
             Ok(()) => Ok(text.len()),
             Err(_) => {
@@ -111,7 +119,16 @@ impl Sink for Limited {
 
     ghost failures = { λ s. s.failures };
 
-    fn write(&mut self, text: &[u8]) -> Result<usize, Failed> {
+    // Takes what may still come of the text. Refuses it where none may come, or where memory has no room for that.
+    fn write(&mut self, text: &[u8]) -> Result<usize, Failed>
+        requires { self.old.failures < 2 ^ 64 - 1 }
+        ensures bytes { WriteAppends (Some self.old.bytes.items) (Some self.new.bytes.items) result text.now }
+        ensures failures { self.new.failures ≡ self.old.failures + write_failures result text.now }
+        ensures count { IfOk result (λ n. n ≡ min (length text.now) self.old.left) }
+        ensures left { IfOk result (λ n. self.new.left + n ≡ self.old.left) }
+        ensures kept { OnErr result (self.new.left ≡ self.old.left) }
+        ensures full { OnErr result ((self.old.left ≡ 0) ⊎ (vec_capacity self.old.bytes < vec_len self.old.bytes + min (length text.now) self.old.left)) }
+    {
         let count = text.len().min(self.left);
         if (count == 0 && !text.is_empty())
             || self.bytes.extend_from_slice(&text[..count]).is_err()
