@@ -1,6 +1,6 @@
 -- The answers of the stages as those of the whole simulation.
 use Rattle.std.proofs.Common.{◌≡◌, ℕ, ◌⊎◌, inl, inr, List, ◌++◌, Option, None, Some, Ok, Err, refl, sym, subst, ◌∙◌}
-use Rattle.std.specs.Io.KnownBytes.{Appends, Keeps}
+use Rattle.std.specs.Io.KnownBytes.{Appends}
 use Rattle.std.proofs.KnownBytes.{Keeps-refl}
 use Rattle.cmb_bench.specs.Netlist.{Netlist}
 use Rattle.cmb_bench.specs.Meaning.{Reads}
