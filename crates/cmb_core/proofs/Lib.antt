@@ -32,3 +32,4 @@ pub mod Opens
 pub mod TrimLaws
 pub mod TipFacts
 pub mod NodeFacts
+pub mod StretchFacts

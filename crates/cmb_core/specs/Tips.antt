@@ -1,16 +1,17 @@
 -- What the end of a wave tells of it.
-use Rattle.std.specs.Prelude.{◌≡◌, ℕ, ◌≤◌, ◌<◌, List, [], length, slice_index_or}
+use Rattle.std.specs.Prelude.{◌≡◌, ℕ, ◌≤◌, ◌<◌, List, [], ◌∷◌, length, slice_index_or}
 use Rattle.cmb_wave.specs.declared.level.Level.TheVariants.{X}
-use Rattle.cmb_wave.specs.Waveform.{Rises, last_level, level_at}
+use Rattle.cmb_wave.specs.declared.level.Change.{Change}
+use Rattle.cmb_wave.specs.Waveform.{last_level, level_at}
 use Rattle.cmb_wave.specs.Wave.{Wave, new_wave}
 use Rattle.cmb_core.specs.declared.tip.Tip.{Tip}
 
--- the wave's clock, the level that it ends with, and its levels from the tick of its last change but one on
+-- the wave's clock, the level that it ends with, its levels from the tick of its last change but one on, and from that of its last
 pub record IsTip (tip : Tip) (wave : Wave) : Type 0 where
   pub clock : tip.clock ≡ wave.clock
-  pub rises : Rises tip.before.tick tip.newest
   pub last : last_level tip.before.level tip.newest ≡ last_level wave.kept wave.changes
   pub told : (t : ℕ) → tip.before.tick ≤ t → level_at wave.kept wave.changes t ≡ level_at tip.before.level tip.newest t
+  pub steady : (c : Change) → tip.newest ≡ c ∷ [] → (t : ℕ) → c.tick ≤ t → level_at wave.kept wave.changes t ≡ c.level
 
 abbrev pub no_tip : Tip
 no_tip = record { clock = 0; before = record { tick = 0; level = X }; newest = [] }

@@ -1,6 +1,6 @@
 //! How a process goes on from the waves that it reads.
 
-ghost use Rattle.std.specs.Prelude.{◌≡◌, ℕ, ◌+◌, ◌-◌, ◌≤◌, ◌<◌, ◌&&◌, nat_lt, not, IfOk, length, min, [], take, drop};
+ghost use Rattle.std.specs.Prelude.{◌≡◌, ℕ, ◌+◌, ◌-◌, ◌≤◌, ◌<◌, ◌&&◌, ◌++◌, nat_lt, not, OnOk, length, min, take, drop};
 ghost use Rattle.cmb_wave.specs.Waveform.{below, last_level, level_at, same_level, Rises};
 ghost use Rattle.cmb_wave.specs.declared.level.Level.{Level};
 ghost use Rattle.cmb_wave.specs.declared.level.Level.TheVariants.{X};
@@ -13,10 +13,11 @@ ghost use Rattle.cmb_core.specs.Step.{wave_at};
 use crate::merge::{Lag, Pin, differ, merge};
 use crate::pins::{fill_pins, gate_pins, operand_tip, operand_wave};
 use crate::process::Operand;
+use crate::recent::left_near_end;
 use crate::settled::settled_gate;
 use crate::waves::Waves;
 use cmb_bench::netlist::Kind;
-use cmb_wave::search::{left_from, level_after};
+use cmb_wave::search::left_from;
 use cmb_wave::{Change, Level, Wave};
 use std::alloc::AllocError;
 
@@ -66,12 +67,11 @@ fn begins_anew(level: Level, span: Span) -> bool
     span.from < span.until && differ(level, span.before)
 }
 
-// The changes of an output that stays at a level, put into an empty list: one at most.
+// Adds the changes of an output that stays at a level: one at most.
 #[tactic(auto, using(crate::proofs::Changes::changes_from_held))]
-fn held_changes(mut room: Vec<Change>, level: Level, span: Span) -> Result<Vec<Change>, AllocError>
-    requires ordered { span.from ≤ span.until }
-    requires empty { room.items ≡ [] }
-    ensures { (row : ℕ → Level) → ((t : ℕ) → span.from ≤ t → row t ≡ level) → IfOk result (λ made. made.items ≡ changes_from row span.before span.from (span.until - span.from)) }
+fn held_changes(room: &mut Vec<Change>, level: Level, span: Span) -> Result<(), AllocError>
+    requires { span.from ≤ span.until }
+    ensures { (row : ℕ → Level) → ((t : ℕ) → span.from ≤ t → row t ≡ level) → OnOk result (room.new.items ≡ room.old.items ++ changes_from row span.before span.from (span.until - span.from)) }
 {
     if begins_anew(level, span) {
         room.push(Change {
@@ -79,26 +79,25 @@ fn held_changes(mut room: Vec<Change>, level: Level, span: Span) -> Result<Vec<C
             level,
         })?;
     }
-    Ok(room)
+    Ok(())
 }
 
 /// So many pins of a gate need no list of their own.
 const FEW: usize = 4;
 
-// The changes of the output of a gate with few operands.
+// Adds the changes of the output of a gate with few operands.
 fn few_changes(
-    room: Vec<Change>,
+    room: &mut Vec<Change>,
     kind: Kind,
     operands: &[Operand],
     waves: &Waves,
     span: Span,
-) -> Result<Vec<Change>, AllocError>
+) -> Result<(), AllocError>
     requires few { length operands.now ≤ 4 }
     requires ready { AreReady waves.now span.from operands.now }
     requires takes { MayTake kind (length operands.now) }
     requires ordered { span.from ≤ span.until }
-    requires empty { room.items ≡ [] }
-    ensures { IfOk result (λ made. made.items ≡ changes_from (gate_row kind waves.now operands.now) span.before span.from (span.until - span.from)) }
+    ensures { OnOk result (room.new.items ≡ room.old.items ++ changes_from (gate_row kind waves.now operands.now) span.before span.from (span.until - span.from)) }
 {
     let mut all = [held_pin(Level::X); FEW];
     let pins = &mut all[..operands.len()];
@@ -106,19 +105,18 @@ fn few_changes(
     merge(kind, pins, room, span.before, span.from, span.until)
 }
 
-/// The changes of a gate's output in a span, put into an empty list.
+/// Adds the changes of a gate's output in a span to a list.
 pub fn gate_changes(
-    room: Vec<Change>,
+    room: &mut Vec<Change>,
     kind: Kind,
     operands: &[Operand],
     waves: &Waves,
     span: Span,
-) -> Result<Vec<Change>, AllocError>
+) -> Result<(), AllocError>
     requires ready { AreReady waves.now span.from operands.now }
     requires takes { MayTake kind (length operands.now) }
     requires ordered { span.from ≤ span.until }
-    requires empty { room.items ≡ [] }
-    ensures { IfOk result (λ made. made.items ≡ changes_from (gate_row kind waves.now operands.now) span.before span.from (span.until - span.from)) }
+    ensures { OnOk result (room.new.items ≡ room.old.items ++ changes_from (gate_row kind waves.now operands.now) span.before span.from (span.until - span.from)) }
 {
     if let Some(level) = settled_gate(kind, operands, waves, span.from) {
         return held_changes(room, level, span);
@@ -149,7 +147,7 @@ fn sampled_pin(wave: &Wave, lag: Lag, seen: u32) -> Pin<'_>
     ensures rest { result.rest.now ≡ drop (below seen wave.now.changes) wave.now.changes }
     ensures lag { result.lag ≡ lag }
 {
-    let left = left_from(wave.kept(), wave.changes(), seen);
+    let left = left_near_end(wave.kept(), wave.changes(), seen);
     Pin {
         level: left.level,
         lag,
@@ -192,30 +190,67 @@ fn held_pin(level: Level) -> Pin<'static>
     }
 }
 
-/// The changes of a flip-flop's output in a span, put into an empty list.
+// Adds the changes of a flip-flop's output in a span that its first sample has reached.
+fn sampled_changes(
+    room: &mut Vec<Change>,
+    waves: &Waves,
+    operand: Operand,
+    first: u32,
+    period: u32,
+    span: Span,
+) -> Result<(), AllocError>
+    requires positive { 0 < period }
+    requires there { IsThere waves.now operand }
+    requires ordered { span.from ≤ span.until }
+    ensures { (init : Level) → (span.from < span.until → first + operand.delay ≤ span.from) → OnOk result (room.new.items ≡ room.old.items ++ changes_from (sampled (wave_at waves.now operand.net) first period init operand.delay) span.before span.from (span.until - span.from)) }
+{
+    let mut pins = [flop_pin(waves, operand, first, period, span.from)];
+    merge(
+        Kind::Buff,
+        &mut pins,
+        room,
+        span.before,
+        span.from,
+        span.until,
+    )
+}
+
+/// Adds the changes of a flip-flop's output in a span to a list.
 pub fn flop_changes(
-    room: Vec<Change>,
+    room: &mut Vec<Change>,
     waves: &Waves,
     operand: Operand,
     first: u32,
     period: u32,
     init: Level,
     span: Span,
-) -> Result<Vec<Change>, AllocError>
+) -> Result<(), AllocError>
     requires positive { 0 < period }
     requires there { IsThere waves.now operand }
     requires ordered { span.from ≤ span.until }
-    requires empty { room.items ≡ [] }
-    ensures { IfOk result (λ made. made.items ≡ changes_from (sampled (wave_at waves.now operand.net) first period init operand.delay) span.before span.from (span.until - span.from)) }
+    ensures { OnOk result (room.new.items ≡ room.old.items ++ changes_from (sampled (wave_at waves.now operand.net) first period init operand.delay) span.before span.from (span.until - span.from)) }
 {
-    let start = span
-        .from
-        .max(first.saturating_add(operand.delay).min(span.until));
-    let mut held = [held_pin(init)];
-    let changes = merge(Kind::Buff, &mut held, room, span.before, span.from, start)?;
-    let last = level_after(span.before, &changes, changes.len());
-    let mut pins = [flop_pin(waves, operand, first, period, span.from)];
-    merge(Kind::Buff, &mut pins, changes, last, start, span.until)
+    let begun = first.saturating_add(operand.delay);
+    if begun <= span.from {
+        return sampled_changes(room, waves, operand, first, period, span);
+    }
+    let middle = begun.min(span.until);
+    let head = Span {
+        until: middle,
+        ..span
+    };
+    held_changes(room, init, head)?;
+    let before = if begins_anew(init, head) {
+        init
+    } else {
+        span.before
+    };
+    let tail = Span {
+        before,
+        from: middle,
+        until: span.until,
+    };
+    sampled_changes(room, waves, operand, first, period, tail)
 }
 
 // The pin of an input's stimulus, from a tick on.
@@ -231,16 +266,15 @@ fn stimulus_pin(stimulus: &[Change], from: u32) -> Pin<'_>
     }
 }
 
-/// The changes of an input in a span, put into an empty list.
+/// Adds the changes of an input in a span to a list.
 pub fn input_changes(
-    room: Vec<Change>,
+    room: &mut Vec<Change>,
     stimulus: &[Change],
     span: Span,
-) -> Result<Vec<Change>, AllocError>
+) -> Result<(), AllocError>
     requires rises { Rises 0 stimulus.now }
     requires ordered { span.from ≤ span.until }
-    requires empty { room.items ≡ [] }
-    ensures { IfOk result (λ made. made.items ≡ changes_from (level_at X stimulus.now) span.before span.from (span.until - span.from)) }
+    ensures { OnOk result (room.new.items ≡ room.old.items ++ changes_from (level_at X stimulus.now) span.before span.from (span.until - span.from)) }
 {
     let mut pins = [stimulus_pin(stimulus, span.from)];
     merge(

@@ -147,10 +147,9 @@ impl Cluster {
         let Some(span) = self.next_span(slot) else {
             return Ok(None);
         };
-        let room = Vec::new(self.waves.allocator());
-        let changes = self
-            .processes
-            .changes(slot, room, self.horizon, &self.waves, span)?;
+        let mut changes = Vec::new(self.waves.allocator());
+        self.processes
+            .changes(slot, &mut changes, self.horizon, &self.waves, span)?;
         let piece = self.waves.grow(slot, span.until, changes)?;
         Ok(Some(piece))
     }

@@ -18,6 +18,7 @@ mod play;
 pub mod process;
 mod readers;
 mod reads;
+mod recent;
 mod rounds;
 mod settled;
 mod stepping;

@@ -1,6 +1,6 @@
 //! Merging the changes of a process's operands into those of its output.
 
-ghost use Rattle.std.specs.Prelude.{◌≡◌, ℕ, ◌+◌, ◌-◌, ◌≤◌, ◌<◌, ◌++◌, IfOk, length, map, max, not, ◌/◌, ◌*◌};
+ghost use Rattle.std.specs.Prelude.{◌≡◌, ℕ, ◌+◌, ◌-◌, ◌≤◌, ◌<◌, ◌++◌, OnOk, length, map, max, not, ◌/◌, ◌*◌};
 ghost use Rattle.cmb_wave.specs.Waveform.{last_level, same_level};
 ghost use Rattle.cmb_core.specs.Spans.{changes_from};
 ghost use Rattle.cmb_bench.specs.Netlist.{MayTake};
@@ -42,9 +42,9 @@ impl Lag {
 /// An operand: the level that has reached the output, and the changes that haven't yet.
 #[derive(Clone, Copy, Debug)]
 pub struct Pin<'a> {
-    pub level: Level,
-    pub lag: Lag,
     pub rest: &'a [Change],
+    pub lag: Lag,
+    pub level: Level,
 }
 
 impl<'a> Pin<'a> {
@@ -104,14 +104,14 @@ pub(crate) fn differ(level: Level, other: Level) -> bool
 pub fn merge(
     kind: Kind,
     pins: &mut [Pin],
-    mut changes: Vec<Change>,
+    changes: &mut Vec<Change>,
     before: Level,
     from: u32,
     until: u32,
-) -> Result<Vec<Change>, AllocError>
+) -> Result<(), AllocError>
     requires ordered { from ≤ until }
     requires takes { MayTake kind (length pins.old) }
-    ensures { IfOk result (λ more. more.items ≡ changes.items ++ changes_from (gate_at kind pins.old) before from (until - from)) }
+    ensures { OnOk result (changes.new.items ≡ changes.old.items ++ changes_from (gate_at kind pins.old) before from (until - from)) }
 {
     let mut last = before;
     let mut now = from;
@@ -126,5 +126,5 @@ pub fn merge(
         }
         now = turn.next;
     }
-    Ok(changes)
+    Ok(())
 }

@@ -166,20 +166,19 @@ impl Nodes {
         }
     }
 
-    /// The changes of the output in a place in a span, put into an empty list.
+    /// Adds the changes of the output in a place in a span to a list.
     pub fn changes(
         &self,
         slot: usize,
-        room: Vec<Change>,
+        room: &mut Vec<Change>,
         horizon: u32,
         waves: &Waves,
         span: Span,
-    ) -> Result<Vec<Change>, AllocError>
+    ) -> Result<(), AllocError>
         requires slot { slot < length self.now }
         requires ready { IsReadyFor horizon waves.now span.from (nth_process self.now slot).rule (nth_process self.now slot).operands (nth_process self.now slot).stimulus }
         requires ordered { span.from ≤ span.until }
-        requires empty { room.items ≡ [] }
-        ensures { IfOk result (λ made. made.items ≡ changes_from (row waves.now (nth_process self.now slot).rule (nth_process self.now slot).operands (nth_process self.now slot).stimulus) span.before span.from (span.until - span.from)) }
+        ensures { OnOk result (room.new.items ≡ room.old.items ++ changes_from (row waves.now (nth_process self.now slot).rule (nth_process self.now slot).operands (nth_process self.now slot).stimulus) span.before span.from (span.until - span.from)) }
     {
         match self.rule(slot) {
             Rule::Given => input_changes(room, &[], span),

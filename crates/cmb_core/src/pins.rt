@@ -11,10 +11,10 @@ ghost use Rattle.cmb_wave.specs.Wave.{Wave as WaveOf};
 
 use crate::merge::{Lag, Pin};
 use crate::process::Operand;
+use crate::recent::left_near_end;
 use crate::tip::Tip;
 use crate::waves::Waves;
 use cmb_wave::Wave;
-use cmb_wave::search::left_from;
 use std::alloc::{AllocError, Global};
 
 #[tactic(auto, using(crate::proofs::Slots::slot_there, crate::proofs::Slots::slot_wave))]
@@ -40,7 +40,7 @@ pub fn delayed_pin(wave: &Wave, delay: u32, clock: u32) -> Pin<'_>
     requires { wave.now.base ≤ clock - delay }
     ensures { (t : ℕ) → clock ≤ t → pin_at result t ≡ delayed wave.now delay t }
 {
-    let left = left_from(wave.kept(), wave.changes(), clock.saturating_sub(delay));
+    let left = left_near_end(wave.kept(), wave.changes(), clock.saturating_sub(delay));
     Pin {
         level: left.level,
         lag: Lag::Delay(delay),

@@ -13,13 +13,6 @@ use crate::cluster::Cluster;
 use cmb_wave::Change;
 use std::alloc::AllocError;
 
-/// Whether a wave went on, and an empty list for the changes of the next one.
-#[derive(Debug, Drop)]
-struct Moved {
-    rose: bool,
-    room: Vec<Change>,
-}
-
 fn either(a: bool, b: bool) -> bool
     ensures { result ≡ (a || b) }
 {
@@ -41,30 +34,27 @@ impl Cluster {
         Vec::new(self.waves.allocator())
     }
 
-    // Lets the wave in a place go on as far as its process can.
-    fn advance(&mut self, slot: usize, room: Vec<Change>) -> Result<Moved, AllocError>
+    // Lets the wave in a place go on as far as its process can, and says whether it did. The list is
+    // room for the changes.
+    fn advance(&mut self, slot: usize, room: &mut Vec<Change>) -> Result<bool, AllocError>
         requires slot { slot < length self.old.waves }
-        requires empty { room.items ≡ [] }
+        requires empty { room.old.items ≡ [] }
         ensures sound { IsSound self.old }
-        ensures rose { IfOk result (λ moved. moved.rose ≡ nat_lt (slot_wave self.old slot).clock (reach_at self.old slot)) }
-        ensures room { IfOk result (λ moved. moved.room.items ≡ []) }
+        ensures rose { IfOk result (λ rose. rose ≡ nat_lt (slot_wave self.old slot).clock (reach_at self.old slot)) }
+        ensures room { OnOk result (room.new.items ≡ []) }
         ensures waves { OnOk result (self.new.waves ≡ new_waves_at self.old slot) }
         ensures before { (slot_wave self.old slot).clock < reach_at self.old slot → last_level (slot_wave self.old slot).kept (slot_wave self.old slot).changes ≡ level_before (level_at (slot_wave self.old slot).kept (slot_wave self.old slot).changes) (slot_wave self.old slot).clock }
         ensures unchanged { OnErr result (self.new ≡ self.old) }
         ensures same { IsSameButWaves self.old self.new }
     {
         let Some(span) = self.next_span(slot) else {
-            return Ok(Moved { rose: false, room });
+            return Ok(false);
         };
-        let mut changes = self
-            .processes
+        self.processes
             .changes(slot, room, self.horizon, &self.waves, span)?;
-        self.waves.extend(slot, span.until, &changes)?;
-        changes.clear();
-        Ok(Moved {
-            rose: true,
-            room: changes,
-        })
+        self.waves.extend(slot, span.until, room)?;
+        room.clear();
+        Ok(true)
     }
 
     // A place behind this one, such that no step goes on at the places between the two.
@@ -91,9 +81,8 @@ impl Cluster {
         let mut rose = false;
         let mut slot = 0;
         while slot < self.slots() {
-            let moved = self.advance(slot, room)?;
-            rose = either(rose, moved.rose);
-            room = moved.room;
+            let moved = self.advance(slot, &mut room)?;
+            rose = either(rose, moved);
             slot = self.next_short(slot);
         }
         Ok(rose)

@@ -51,16 +51,30 @@ impl Tip {
     }
 
     /// The end of a wave that went on by these changes, from what it was before.
+    #[tactic(auto, using(crate::proofs::TipFacts::tip_still))]
     pub fn after(self, wave: &Wave, changes: &[Change]) -> Tip
         ensures { (old : WaveOf) → IsTip self old → wave.now ≡ grown old wave.now.clock changes.now → IsTip result wave.now }
     {
-        if changes.is_empty() {
-            Tip {
-                clock: wave.clock(),
-                ..self
-            }
-        } else {
-            Tip::of(wave)
+        // What this answers isn't read: its contract says that the ticks rise.
+        let _all = wave.changes();
+        let clock = wave.clock();
+        let count = changes.len();
+        if count == 0 {
+            return Tip { clock, ..self };
+        }
+        let newest = changes[count - 1];
+        if count == 1 {
+            let before = self.newest();
+            return Tip {
+                clock,
+                before,
+                newest: [newest],
+            };
+        }
+        Tip {
+            clock,
+            before: changes[count - 2],
+            newest: [newest],
         }
     }
 
@@ -73,6 +87,7 @@ impl Tip {
 
     /// The level that the wave has at an output from the output's clock on, some ticks late, None where
     /// a change is still on its way.
+    #[tactic(auto, using(crate::proofs::TipFacts::settled_tip))]
     pub fn settled(&self, delay: u32, clock: u32) -> Option<Level>
         ensures { (wave : WaveOf) → IsTip self.now wave → IfSome result (λ level. (t : ℕ) → clock ≤ t → delayed wave delay t ≡ level) }
     {

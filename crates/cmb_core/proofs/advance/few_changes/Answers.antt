@@ -13,4 +13,4 @@ returns c =
     changes_from_same _ _ c.args.span.before c.args.span.from (c.args.span.until - c.args.span.from)
     (λ t low high. ap (gate c.args.kind) (c.fill_pins.ensures.levels t low))
     in
-    rw (c.requires.empty, same) at c.merge.ensures
+    rw same at c.merge.ensures

@@ -9,8 +9,8 @@ pub extend-requires-clause-trace : goal.extend-requires-clause-trace
 extend-requires-clause-trace c =
     let there : c.args.slot < length c.self.inside.waves = omega (arith, ap (λ s. length s.waves) c.self.view_is) in
     let same : get_or c.self.inside.waves c.args.slot (new_wave 0) ≡ slot_wave c.args.self.now c.args.slot = ap (λ s. slot_wave s c.args.slot) c.self.view_is in
-    let trace = step_trace _ c.in-Some.span.before c.in-Some.span.from c.in-Some.span.until c.in_ok-changes.changes.items (omega (arith, c.in-Some.ensures.span.later)) c.in_ok-changes.ensures in
-    let P : Wave → Type 0 = λ w. IsTrace (last_level w.kept w.changes) w.clock c.in_ok-changes.changes.items c.in-Some.span.until in
+    let trace = step_trace _ c.in-Some.span.before c.in-Some.span.from c.in-Some.span.until c.changes.new.room.items (omega (arith, c.in-Some.ensures.span.later)) (rw c.requires.empty at c.in_ok-changes.ensures) in
+    let P : Wave → Type 0 = λ w. IsTrace (last_level w.kept w.changes) w.clock c.changes.new.room.items c.in-Some.span.until in
     let told : P (slot_wave c.args.self.now c.args.slot) = rw (c.in-Some.ensures.span.before, c.in-Some.ensures.span.from) at trace in
     rw c.deref.ensures.value (subst P (sym same) told)
 
