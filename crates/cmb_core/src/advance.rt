@@ -99,7 +99,7 @@ fn few_changes(
     requires ordered { span.from ≤ span.until }
     ensures { OnOk result (room.new.items ≡ room.old.items ++ changes_from (gate_row kind waves.now operands.now) span.before span.from (span.until - span.from)) }
 {
-    let mut all = [held_pin(Level::X); FEW];
+    let mut all = [Pin::held(Level::X); FEW];
     let pins = &mut all[..operands.len()];
     fill_pins(pins, operands, waves, span.from);
     merge(kind, pins, room, span.before, span.from, span.until)
@@ -141,25 +141,18 @@ fn seen_upto(first: u32, period: u32, delay: u32, clock: u32) -> u32
     }
 }
 
-// The pin of a flip-flop's data, of which what is before a tick isn't needed.
-fn sampled_pin(wave: &Wave, lag: Lag, seen: u32) -> Pin<'_>
-    ensures level { result.level ≡ last_level wave.now.kept (take (below seen wave.now.changes) wave.now.changes) }
-    ensures rest { result.rest.now ≡ drop (below seen wave.now.changes) wave.now.changes }
-    ensures lag { result.lag ≡ lag }
-{
-    let left = left_near_end(wave.kept(), wave.changes(), seen);
-    Pin {
-        level: left.level,
-        lag,
-        rest: left.changes,
-    }
-}
-
-// The pin of a flip-flop's data, from the output's clock on.
-fn flop_pin(waves: &Waves, operand: Operand, first: u32, period: u32, clock: u32) -> Pin<'_>
+// Sets the pin of a flip-flop's data, from the output's clock on.
+fn set_flop_pin<'a>(
+    pin: &mut Pin<'a>,
+    waves: &'a Waves,
+    operand: Operand,
+    first: u32,
+    period: u32,
+    clock: u32,
+)
     requires positive { 0 < period }
     requires there { IsThere waves.now operand }
-    ensures { (t : ℕ) → clock ≤ t → first + operand.delay ≤ t → pin_at result t ≡ level_at (wave_at waves.now operand.net).kept (wave_at waves.now operand.net).changes (last_sample first period (t - operand.delay)) }
+    ensures { (t : ℕ) → clock ≤ t → first + operand.delay ≤ t → pin_at pin.new t ≡ level_at (wave_at waves.now operand.net).kept (wave_at waves.now operand.net).changes (last_sample first period (t - operand.delay)) }
 {
     let lag = Lag::Sampled {
         first,
@@ -169,24 +162,11 @@ fn flop_pin(waves: &Waves, operand: Operand, first: u32, period: u32, clock: u32
     let seen = seen_upto(first, period, operand.delay, clock);
     let tip = operand_tip(waves, operand);
     if tip.before.tick <= seen {
-        Pin {
-            level: tip.before.level,
-            lag,
-            rest: &tip.newest,
-        }
+        pin.set(tip.before.level, lag, &tip.newest);
     } else {
-        sampled_pin(operand_wave(waves, operand), lag, seen)
-    }
-}
-
-// A pin that stays at its level.
-fn held_pin(level: Level) -> Pin<'static>
-    ensures { (t : ℕ) → pin_at result t ≡ level }
-{
-    Pin {
-        level,
-        lag: Lag::Delay(0),
-        rest: &[],
+        let wave = operand_wave(waves, operand);
+        let left = left_near_end(wave.kept(), wave.changes(), seen);
+        pin.set(left.level, lag, left.changes);
     }
 }
 
@@ -204,7 +184,8 @@ fn sampled_changes(
     requires ordered { span.from ≤ span.until }
     ensures { (init : Level) → (span.from < span.until → first + operand.delay ≤ span.from) → OnOk result (room.new.items ≡ room.old.items ++ changes_from (sampled (wave_at waves.now operand.net) first period init operand.delay) span.before span.from (span.until - span.from)) }
 {
-    let mut pins = [flop_pin(waves, operand, first, period, span.from)];
+    let mut pins = [Pin::held(Level::X); 1];
+    set_flop_pin(&mut pins[0], waves, operand, first, period, span.from);
     merge(
         Kind::Buff,
         &mut pins,

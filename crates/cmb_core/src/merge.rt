@@ -48,6 +48,29 @@ pub struct Pin<'a> {
 }
 
 impl<'a> Pin<'a> {
+    /// A pin that stays at its level.
+    pub fn held(level: Level) -> Pin<'static>
+        ensures { (t : ℕ) → pin_at result t ≡ level }
+    {
+        Pin {
+            rest: &[],
+            lag: Lag::Delay(0),
+            level,
+        }
+    }
+
+    /// Puts another operand in the pin's place, field by field: what lies between the fields isn't
+    /// copied.
+    pub fn set(&mut self, level: Level, lag: Lag, rest: &'a [Change])
+        ensures level { self.new.level ≡ level }
+        ensures lag { self.new.lag ≡ lag }
+        ensures rest { self.new.rest.now ≡ rest.now }
+    {
+        self.rest = rest;
+        self.lag = lag;
+        self.level = level;
+    }
+
     #[tactic(auto, using(crate::proofs::Merging::due_none))]
     // Lets the changes through that reach the output by `now`, and answers when the next one does.
     fn advance(&mut self, now: u32) -> u64

@@ -14,7 +14,7 @@ use crate::process::Operand;
 use crate::recent::left_near_end;
 use crate::tip::Tip;
 use crate::waves::Waves;
-use cmb_wave::Wave;
+use cmb_wave::{Level, Wave};
 use std::alloc::{AllocError, Global};
 
 #[tactic(auto, using(crate::proofs::Slots::slot_there, crate::proofs::Slots::slot_wave))]
@@ -35,42 +35,34 @@ pub fn operand_tip(waves: &Waves, operand: Operand) -> &Tip
     waves.tip(operand.slot as usize)
 }
 
-/// The pin of an operand that reaches the output with a delay, from the output's clock on.
-pub fn delayed_pin(wave: &Wave, delay: u32, clock: u32) -> Pin<'_>
+// Sets the pin of an operand that reaches the output with a delay, from the output's clock on.
+fn set_delayed<'a>(pin: &mut Pin<'a>, wave: &'a Wave, delay: u32, clock: u32)
     requires { wave.now.base ≤ clock - delay }
-    ensures { (t : ℕ) → clock ≤ t → pin_at result t ≡ delayed wave.now delay t }
+    ensures { (t : ℕ) → clock ≤ t → pin_at pin.new t ≡ delayed wave.now delay t }
 {
     let left = left_near_end(wave.kept(), wave.changes(), clock.saturating_sub(delay));
-    Pin {
-        level: left.level,
-        lag: Lag::Delay(delay),
-        rest: left.changes,
-    }
+    pin.set(left.level, Lag::Delay(delay), left.changes);
 }
 
-// The pin of an operand of which the end of the wave tells enough: the last change but one has reached the output.
-fn tip_pin(tip: &Tip, delay: u32, clock: u32) -> Pin<'_>
+// The same where the end of the wave tells enough: the last change but one has reached the output.
+fn set_by_tip<'a>(pin: &mut Pin<'a>, tip: &'a Tip, delay: u32, clock: u32)
     requires late { delay ≤ clock }
     requires known { tip.now.before.tick ≤ clock - delay }
-    ensures { (wave : WaveOf) → IsTip tip.now wave → (t : ℕ) → clock ≤ t → pin_at result t ≡ delayed wave delay t }
+    ensures { (wave : WaveOf) → IsTip tip.now wave → (t : ℕ) → clock ≤ t → pin_at pin.new t ≡ delayed wave delay t }
 {
-    Pin {
-        level: tip.before.level,
-        lag: Lag::Delay(delay),
-        rest: &tip.newest,
-    }
+    pin.set(tip.before.level, Lag::Delay(delay), &tip.newest);
 }
 
-/// The pin of an operand that reaches the output with a delay, from the output's clock on.
-pub fn operand_pin(waves: &Waves, operand: Operand, clock: u32) -> Pin<'_>
+/// Sets the pin of an operand that reaches the output with a delay, from the output's clock on.
+pub fn set_pin<'a>(pin: &mut Pin<'a>, waves: &'a Waves, operand: Operand, clock: u32)
     requires { IsReady waves.now clock operand }
-    ensures { (t : ℕ) → clock ≤ t → pin_at result t ≡ delayed (wave_at waves.now operand.net) operand.delay t }
+    ensures { (t : ℕ) → clock ≤ t → pin_at pin.new t ≡ delayed (wave_at waves.now operand.net) operand.delay t }
 {
     let tip = operand_tip(waves, operand);
     if operand.delay <= clock && tip.before.tick <= clock - operand.delay {
-        tip_pin(tip, operand.delay, clock)
+        set_by_tip(pin, tip, operand.delay, clock);
     } else {
-        delayed_pin(operand_wave(waves, operand), operand.delay, clock)
+        set_delayed(pin, operand_wave(waves, operand), operand.delay, clock);
     }
 }
 
@@ -85,10 +77,8 @@ pub fn gate_pins<'a>(
     ensures levels { IfOk result (λ pins. (t : ℕ) → clock ≤ t → pins_at pins.items t ≡ delayed_levels waves.now operands.now t) }
     ensures count { IfOk result (λ pins. length pins.items ≡ length operands.now) }
 {
-    let mut pins = Vec::with_capacity(alloc, operands.len())?;
-    for operand in operands {
-        pins.push(operand_pin(waves, *operand, clock))?;
-    }
+    let mut pins = Vec::from_elem(alloc, Pin::held(Level::X), operands.len())?;
+    fill_pins(&mut pins, operands, waves, clock);
     Ok(pins)
 }
 
@@ -100,6 +90,6 @@ pub fn fill_pins<'a>(pins: &mut [Pin<'a>], operands: &[Operand], waves: &'a Wave
     ensures count { length pins.new ≡ length operands.now }
 {
     for i in 0..operands.len() {
-        pins[i] = operand_pin(waves, operands[i], clock);
+        set_pin(&mut pins[i], waves, operands[i], clock);
     }
 }

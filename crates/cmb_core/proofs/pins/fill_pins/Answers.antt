@@ -10,7 +10,7 @@ loop-i-preserved c =
     let there : c.loop-i.i < length c.loop-i.pins = omega (arith, c.loop-i.invariant.count) in
     let none : Operand = record { net = 0; slot = 0; delay = 0 } in
     record {
-      late = λ t h. rw (take_more_set c.loop-i.pins c.loop-i.i c.operand_pin.result there) (late_step c.args.waves.now _ c.operand_pin.result c.args.operands.now c.loop-i.i none t here (c.loop-i.invariant.late t h) (c.operand_pin.ensures t h));
-      count = length-set c.loop-i.pins c.loop-i.i c.operand_pin.result ∙ c.loop-i.invariant.count;
+      late = λ t h. rw (take_more_set c.loop-i.pins c.loop-i.i c.set_pin.new.pin there) (late_step c.args.waves.now _ c.set_pin.new.pin c.args.operands.now c.loop-i.i none t here (c.loop-i.invariant.late t h) (c.set_pin.ensures t h));
+      count = length-set c.loop-i.pins c.loop-i.i c.set_pin.new.pin ∙ c.loop-i.invariant.count;
       ready = ready_step c.args.waves.now c.args.clock c.args.operands.now c.loop-i.i none here c.loop-i.invariant.ready;
     }

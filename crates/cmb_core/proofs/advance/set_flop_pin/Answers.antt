@@ -2,16 +2,16 @@ use Rattle.std.proofs.Common.{◌-◌, ◌≤◌, arith, sym, ◌∙◌}
 use Rattle.cmb_core.specs.Arrivals.{last_sample}
 use Rattle.cmb_core.specs.Step.{wave_at}
 use Rattle.cmb_core.proofs.Skips.{arrived_sampled, sampled_rest}
-use Rattle.cmb_core.proofs.advance.flop_pin.Goals as goal
+use Rattle.cmb_core.proofs.advance.set_flop_pin.Goals as goal
 
 pub returns-then-tip-seen : goal.returns-then-tip-seen
 returns-then-tip-seen c = λ t h k.
     let seen : c.seen_upto-seen.result ≤ last_sample c.args.first c.args.period (t - c.args.operand.delay) = c.seen_upto-seen.ensures t h k in
     let tip = c.operand_tip-tip.result.now in
     let after : tip.before.tick ≤ last_sample c.args.first c.args.period (t - c.args.operand.delay) = omega (arith, seen) in
-    arrived_sampled c.args.first c.args.period c.args.operand.delay tip.before.level tip.newest t c.requires.positive k ∙ sym (c.operand_tip-tip.ensures.told _ after)
+    rw (c.set.ensures.level, c.set.ensures.lag, c.set.ensures.rest) (arrived_sampled c.args.first c.args.period c.args.operand.delay tip.before.level tip.newest t c.requires.positive k ∙ sym (c.operand_tip-tip.ensures.told _ after))
 
 pub returns-else-tip-seen : goal.returns-else-tip-seen
 returns-else-tip-seen c = λ t h k.
-    rw (c.sampled_pin.ensures.level, c.sampled_pin.ensures.rest, c.sampled_pin.ensures.lag, c.operand_wave.ensures)
+    rw (c.set-else-tip-seen.ensures.level, c.set-else-tip-seen.ensures.lag, c.set-else-tip-seen.ensures.rest, c.left_near_end-left.ensures.level, c.left_near_end-left.ensures.changes, c.kept.ensures.kept, c.changes.ensures.changes, c.operand_wave-wave.ensures)
     (sampled_rest (wave_at c.args.waves.now c.args.operand.net).kept (wave_at c.args.waves.now c.args.operand.net).changes c.args.first c.args.period c.args.operand.delay c.seen_upto-seen.result t c.requires.positive k (c.seen_upto-seen.ensures t h k))
