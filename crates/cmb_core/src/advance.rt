@@ -10,7 +10,7 @@ ghost use Rattle.cmb_core.specs.Arrivals.{pin_at, gate_at, next_sample, last_sam
 ghost use Rattle.cmb_core.specs.Rows.{delayed, gate_row, sampled, AreReady, IsThere, gate_reach, flop_reach};
 ghost use Rattle.cmb_core.specs.Step.{wave_at};
 
-use crate::merge::{Lag, Pin, differ, merge};
+use crate::merge::{Lag, Pin, differ, follow, merge};
 use crate::pins::{fill_pins, gate_pins, operand_tip, operand_wave};
 use crate::process::Operand;
 use crate::recent::left_near_end;
@@ -184,16 +184,9 @@ fn sampled_changes(
     requires ordered { span.from ≤ span.until }
     ensures { (init : Level) → (span.from < span.until → first + operand.delay ≤ span.from) → OnOk result (room.new.items ≡ room.old.items ++ changes_from (sampled (wave_at waves.now operand.net) first period init operand.delay) span.before span.from (span.until - span.from)) }
 {
-    let mut pins = [Pin::held(Level::X); 1];
-    set_flop_pin(&mut pins[0], waves, operand, first, period, span.from);
-    merge(
-        Kind::Buff,
-        &mut pins,
-        room,
-        span.before,
-        span.from,
-        span.until,
-    )
+    let mut pin = Pin::held(Level::X);
+    set_flop_pin(&mut pin, waves, operand, first, period, span.from);
+    follow(&mut pin, room, span.before, span.from, span.until)
 }
 
 /// Adds the changes of a flip-flop's output in a span to a list.
@@ -257,13 +250,6 @@ pub fn input_changes(
     requires ordered { span.from ≤ span.until }
     ensures { OnOk result (room.new.items ≡ room.old.items ++ changes_from (level_at X stimulus.now) span.before span.from (span.until - span.from)) }
 {
-    let mut pins = [stimulus_pin(stimulus, span.from)];
-    merge(
-        Kind::Buff,
-        &mut pins,
-        room,
-        span.before,
-        span.from,
-        span.until,
-    )
+    let mut pin = stimulus_pin(stimulus, span.from);
+    follow(&mut pin, room, span.before, span.from, span.until)
 }

@@ -1,10 +1,10 @@
 //! Merging the changes of a process's operands into those of its output.
 
-ghost use Rattle.std.specs.Prelude.{◌≡◌, ℕ, ◌+◌, ◌-◌, ◌≤◌, ◌<◌, ◌++◌, OnOk, length, map, max, not, ◌/◌, ◌*◌};
+ghost use Rattle.std.specs.Prelude.{◌≡◌, ℕ, ◌+◌, ◌-◌, ◌≤◌, ◌<◌, ◌++◌, OnOk, length, map, max, min, not, ◌/◌, ◌*◌};
 ghost use Rattle.cmb_wave.specs.Waveform.{last_level, same_level};
 ghost use Rattle.cmb_core.specs.Spans.{changes_from};
 ghost use Rattle.cmb_bench.specs.Netlist.{MayTake};
-ghost use Rattle.cmb_core.specs.Arrivals.{arrives, pin_at, gate_at, Advanced, Passed};
+ghost use Rattle.cmb_core.specs.Arrivals.{arrives, due_of, pin_at, gate_at, Advanced, Passed};
 
 use crate::gate::Tally;
 use cmb_bench::netlist::Kind;
@@ -49,7 +49,7 @@ pub struct Pin<'a> {
 
 impl<'a> Pin<'a> {
     /// A pin that stays at its level.
-    pub fn held(level: Level) -> Pin<'static>
+    pub fn held(level: Level) -> Pin<'a>
         ensures { (t : ℕ) → pin_at result t ≡ level }
     {
         Pin {
@@ -71,20 +71,32 @@ impl<'a> Pin<'a> {
         self.level = level;
     }
 
+    // When the first change that hasn't reached the output does, beyond any tick where there is none.
+    fn due(&self) -> u64
+        ensures { result ≡ due_of self.now.lag self.now.rest.now }
+    {
+        match self.rest.first() {
+            Some(first) => self.lag.arrival(first.tick),
+            None => u64::MAX,
+        }
+    }
+
+    // Lets the changes through that reach the output by `now`, of which the first does so at `due`, and
+    // answers when the next one does.
     #[tactic(auto, using(crate::proofs::Merging::due_none))]
-    // Lets the changes through that reach the output by `now`, and answers when the next one does.
-    fn advance(&mut self, now: u32) -> u64
+    fn advance(&mut self, now: u32, mut due: u64) -> u64
+        requires { due ≡ due_of self.old.lag self.old.rest.now }
         ensures { Advanced self.old self.new now result }
     {
-        while let Some((first, others)) = self.rest.split_first() {
-            let arrival = self.lag.arrival(first.tick);
-            if arrival > u64::from(now) {
-                return arrival;
-            }
+        while due <= u64::from(now) {
+            let Some((first, others)) = self.rest.split_first() else {
+                return u64::MAX;
+            };
             self.level = first.level;
             self.rest = others;
+            due = self.due();
         }
-        u64::MAX
+        due
     }
 }
 
@@ -104,7 +116,7 @@ fn pass(kind: Kind, pins: &mut [Pin], now: u32, until: u32) -> Turn
     let mut tally = Tally::new();
     let mut next = until;
     for pin in pins.iter_mut() {
-        let arrival = pin.advance(now);
+        let arrival = pin.advance(now, pin.due());
         tally.add(pin.level);
         if arrival < u64::from(next) {
             next = arrival as u32;
@@ -148,6 +160,46 @@ pub fn merge(
             last = turn.level;
         }
         now = turn.next;
+    }
+    Ok(())
+}
+
+// A tick, or an end that comes before it.
+fn sooner(tick: u64, end: u32) -> u32
+    ensures { result ≡ min tick end }
+{
+    if tick < u64::from(end) {
+        tick as u32
+    } else {
+        end
+    }
+}
+
+/// Goes on with the changes of an output that shows what its only operand is, over the span from
+/// `from` to `until`.
+pub fn follow(
+    pin: &mut Pin,
+    changes: &mut Vec<Change>,
+    before: Level,
+    from: u32,
+    until: u32,
+) -> Result<(), AllocError>
+    requires { from ≤ until }
+    ensures { OnOk result (changes.new.items ≡ changes.old.items ++ changes_from (pin_at pin.old) before from (until - from)) }
+{
+    let mut last = before;
+    let mut now = from;
+    let mut due = pin.due();
+    while now < until {
+        due = pin.advance(now, due);
+        if differ(pin.level, last) {
+            changes.push(Change {
+                tick: now,
+                level: pin.level,
+            })?;
+            last = pin.level;
+        }
+        now = sooner(due, until);
     }
     Ok(())
 }

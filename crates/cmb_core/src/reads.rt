@@ -1,7 +1,7 @@
 //! What a cluster answers of its waves as they stand.
 
 ghost use Rattle.std.specs.Prelude.{◌≡◌, ◌<◌, ◌≤◌, ◌==◌, ◌&&◌, not, ℕ, IfOk, IfSome, map, length};
-ghost use Rattle.std.specs.List.{list_all};
+ghost use Rattle.std.specs.List.{AllByRecursion, list_all};
 ghost use Rattle.cmb_wave.specs.Calls.{cut, promised};
 ghost use Rattle.cmb_design.specs.Design.{Design};
 ghost use Rattle.cmb_design.specs.Exact.{IsExactIn, IsExactWaveIn, IsRightIn};
@@ -126,5 +126,14 @@ impl Cluster {
         ensures { result ≡ is_complete self.now }
     {
         all_known(&self.processes, &self.waves, self.horizon)
+    }
+
+    /// All waves of the cluster, given up: those of the nets that are driven here, and those that it was
+    /// given. Copies no change.
+    pub fn into_waves(self) -> Vec<Wave>
+        ensures waves { result.items ≡ self.waves }
+        ensures exact { (design : Design) (clustering : Clusters) (cluster : ℕ) → IsExactCluster design clustering cluster self → AllByRecursion (IsExactWaveIn design) result.items }
+    {
+        self.waves.into_list()
     }
 }

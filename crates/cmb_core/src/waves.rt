@@ -87,6 +87,13 @@ impl Waves {
         next
     }
 
+    /// The waves, given up.
+    pub fn into_list(self) -> Vec<Wave>
+        ensures { result.items ≡ self }
+    {
+        self.waves
+    }
+
     /// How many waves there are.
     pub fn len(&self) -> usize
         ensures { result ≡ length self.now }

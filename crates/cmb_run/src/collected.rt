@@ -1,12 +1,15 @@
 //! A run's collector, exact in the run's design by its type.
 
 ghost use Rattle.std.specs.Prelude.{◌≡◌};
+ghost use Rattle.std.specs.List.{AllByRecursion};
+ghost use Rattle.cmb_design.specs.Exact.{IsExactWaveIn};
 ghost use Rattle.cmb_vcd.specs.Collector.{IsExactFor};
 
 use crate::part::Posted;
 use crate::terms::Terms;
 use cmb_design::Design;
 use cmb_vcd::{CollectFault, Collector};
+use cmb_wave::Wave;
 use std::alloc::{AllocError, Global};
 use std::marker::{Model, PhantomData};
 
@@ -44,6 +47,24 @@ impl<T: Terms> Collected<T> {
         match self.collector.take(posted.piece()) {
             Err(CollectFault::Memory) => Err(AllocError),
             _ => Ok(()),
+        }
+    }
+
+    /// Takes waves over, where nothing of them was forgotten.
+    pub fn adopt_all(&mut self, mut waves: Vec<Wave>)
+        requires { AllByRecursion (IsExactWaveIn T.design) waves.items }
+    {
+        while let Some(wave) = waves.pop() {
+            self.adopt(wave);
+        }
+    }
+
+    // Takes a wave over, where nothing of it was forgotten.
+    fn adopt(&mut self, wave: Wave)
+        requires { IsExactWaveIn T.design wave }
+    {
+        if wave.base() == 0 {
+            self.collector.adopt(wave);
         }
     }
 

@@ -111,14 +111,9 @@ impl<T: Terms> Hand<T> {
         Ok(())
     }
 
-    /// Adds what is known of the nets that are driven here.
-    pub fn collect(&self, collected: &mut Collected<T>) -> Result<(), AllocError> {
-        for net in self.part.driven() {
-            if let Some(whole) = self.part.post(*net, 0)? {
-                collected.take(&whole)?;
-            }
-        }
-        Ok(())
+    /// Gives the waves of the cluster to what is collected.
+    pub fn hand_over(self, collected: &mut Collected<T>) {
+        collected.adopt_all(self.part.into_waves());
     }
 
     /// Whether every net that is driven here is known up to the horizon.

@@ -4,7 +4,8 @@ ghost use Rattle.std.specs.Prelude.{◌≡◌, ◌<◌, ℕ, length, map, IfOk, 
 ghost use Rattle.cmb_wave.specs.Calls.{heard_wave, promised};
 ghost use Rattle.cmb_wave.specs.Wave.{Wave as WaveOf, cut_of, new_wave};
 ghost use Rattle.cmb_wave.specs.declared.level.Heard.{Heard as Hearing};
-ghost use Rattle.cmb_design.specs.Exact.{IsExactIn, IsRightIn, nets_of};
+ghost use Rattle.std.specs.List.{AllByRecursion};
+ghost use Rattle.cmb_design.specs.Exact.{IsExactIn, IsExactWaveIn, IsRightIn, nets_of};
 ghost use Rattle.cmb_core.specs.Clusters.{IsSameButWaves, delivered, heard_at, input_slot, inputs_of, is_complete, outputs_of};
 ghost use Rattle.cmb_core.specs.Opened.{IsClusterOf, held_nets, own_nets};
 ghost use Rattle.cmb_core.specs.Sweep.{some_rises};
@@ -15,7 +16,7 @@ ghost use Rattle.cmb_core.specs.declared.delivery.DeliverFault.{DeliverFault as 
 use crate::terms::Terms;
 use cmb_core::{Cluster, Clustering, DeliverFault};
 use cmb_design::Design;
-use cmb_wave::{Heard, Piece, Promise};
+use cmb_wave::{Heard, Piece, Promise, Wave};
 use std::alloc::{AllocError, Global};
 use std::marker::{Model, PhantomData};
 
@@ -191,5 +192,13 @@ impl<T: Terms> Part<T> {
         ensures { result ≡ is_complete self.now }
     {
         self.cluster.complete()
+    }
+
+    /// The waves of the nets that are driven here and of the others that they read, given up.
+    pub fn into_waves(self) -> Vec<Wave>
+        ensures waves { result.items ≡ self.waves }
+        ensures exact { AllByRecursion (IsExactWaveIn T.design) result.items }
+    {
+        self.cluster.into_waves()
     }
 }

@@ -17,6 +17,7 @@ use cmb_links::Workers;
 use cmb_vcd::Collector;
 use std::alloc::{AllocError, Global};
 use std::marker::Brand;
+use std::mem::replace;
 use std::sync::Wait;
 use std::thread;
 use std::thread::Threads;
@@ -168,14 +169,14 @@ impl Routes {
 fn collect<T: Terms>(
     alloc: Global,
     design: &Design,
-    hands: &[Hand<T>],
+    hands: Vec<Hand<T>>,
 ) -> Result<Collector, AllocError>
     requires { design.now ≡ T.design }
     ensures { IfOk result (λ collector. IsExactFor design.now collector) }
 {
     let mut collected = Collected::open(alloc, design)?;
     for hand in hands {
-        hand.collect(&mut collected)?;
+        hand.hand_over(&mut collected);
     }
     Ok(collected.into_collector())
 }
@@ -202,7 +203,8 @@ fn run_named<T: Terms + Send + Sync, R: Threads + Wait + Sync>(
         hands = step(rt, alloc, hands)?;
         routes.pass_on(alloc, &mut hands)?;
         if hands.iter().all(|hand| hand.complete()) {
-            let collector = collect(alloc, design, &hands)?;
+            let whole = replace(&mut hands, Vec::new(alloc));
+            let collector = collect(alloc, design, whole)?;
             if collector.complete() {
                 return Ok(collector);
             }

@@ -1,4 +1,4 @@
-use Rattle.std.proofs.Common.{◌≡◌, ◌<◌, ◌≤◌, ◌+◌, ◌-◌, ◌++◌, ◌&&◌, cond, not, nat_lt, sym, ◌∙◌, ap, arith, append_assoc, refl}
+use Rattle.std.proofs.Common.{◌≡◌, ◌<◌, ◌≤◌, ◌+◌, ◌-◌, ◌&&◌, cond, not, nat_lt, sym, ◌∙◌, ap, arith, append_assoc, refl}
 use Rattle.cmb_wave.specs.Waveform.{same_level}
 use Rattle.cmb_core.specs.Spans.{changes_from}
 use Rattle.cmb_core.specs.Rows.{sampled}

@@ -1,7 +1,6 @@
-use Rattle.std.proofs.Common.{◌≡◌, ◌-◌, ◌∷◌, []}
-use Rattle.cmb_bench.specs.declared.netlist.Kind.TheVariants.{Buff}
+use Rattle.std.proofs.Common.{◌≡◌, ◌-◌}
 use Rattle.cmb_core.specs.Spans.{changes_from}
-use Rattle.cmb_core.specs.Arrivals.{gate_at}
+use Rattle.cmb_core.specs.Arrivals.{pin_at}
 use Rattle.cmb_core.specs.Rows.{sampled}
 use Rattle.cmb_core.specs.Step.{wave_at}
 use Rattle.cmb_core.proofs.AdvanceLemmas.{sampled_span}
@@ -10,8 +9,8 @@ use Rattle.cmb_core.proofs.advance.sampled_changes.Goals as goal
 pub returns : goal.returns
 returns c = λ init begun.
     let span = c.args.span in
-    let same : changes_from (gate_at Buff (c.set_flop_pin.new.pin ∷ [])) span.before span.from (span.until - span.from)
+    let same : changes_from (pin_at c.set_flop_pin.new.pin) span.before span.from (span.until - span.from)
     ≡ changes_from (sampled (wave_at c.args.waves.now c.args.operand.net) c.args.first c.args.period init c.args.operand.delay) span.before span.from (span.until - span.from) =
     sampled_span (wave_at c.args.waves.now c.args.operand.net) c.args.first c.args.period c.args.operand.delay init span.before c.set_flop_pin.new.pin span.from span.until c.set_flop_pin.ensures c.requires.ordered begun
     in
-    rw same at c.merge.ensures
+    rw same at c.follow.ensures
