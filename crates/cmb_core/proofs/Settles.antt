@@ -1,5 +1,5 @@
 -- Operands of which no change is on its way.
-use Rattle.std.proofs.Common.{◌≡◌, ℕ, suc, ◌+◌, ◌<◌, List, [], ◌∷◌, length, get_or, take, refl, ap}
+use Rattle.std.proofs.Common.{◌≡◌, ℕ, suc, ◌+◌, ◌<◌, List, [], ◌∷◌, length, get_or, take, refl, ap, Bool, ◌&&◌, true, false}
 use Rattle.std.proofs.lemmas.List.{take_more}
 use Rattle.cmb_wave.specs.declared.level.Level.{Level}
 use Rattle.cmb_wave.specs.Wave.{Wave}
@@ -20,3 +20,9 @@ counted_step waves tally level os i d t h counted is =
 pub length-delayed_levels : (waves : List Wave) (os : List Operand) (t : ℕ) → length (delayed_levels waves os t) ≡ length os
 length-delayed_levels waves [] t = refl
 length-delayed_levels waves (o ∷ os) t = ap suc (length-delayed_levels waves os t)
+
+-- what both tests pass each passes
+pub both_of : (a b : Bool) → (a && b) ≡ true → (a ≡ true) × (b ≡ true)
+both_of true true h = (refl, refl)
+both_of true false h = cc
+both_of false b h = cc

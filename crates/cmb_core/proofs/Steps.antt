@@ -16,7 +16,7 @@ use Rattle.cmb_design.specs.Exact.{nets_of, IsExactIn, IsExactWaveIn}
 use Rattle.cmb_design.specs.Gate.{gate}
 use Rattle.cmb_design.specs.Timing.{delay, clock_of, IsSample, last_sample, next_sample}
 use Rattle.cmb_design.specs.declared.rows.Clock.{Clock}
-use Rattle.cmb_design.specs.Value.{delayed, pin_levels, flop_level, driven_level, value, changes}
+use Rattle.cmb_design.specs.Value.{delayed, pin_levels, flop_level, driven_level, value}
 use Rattle.cmb_design.proofs.AskFacts.{clock_of-positive}
 use Rattle.cmb_design.proofs.SampleFacts.{last_sample-none, last_sample-is, next_sample-least}
 use Rattle.cmb_design.proofs.ValueFacts.{value-is}

@@ -2,6 +2,7 @@
 use Rattle.std.specs.Prelude.{◌≡◌, ℕ, suc, ◌<◌, ◌-◌, nat_lt, nat_le, List, [], ◌∷◌, if◌then◌else◌, length, map, slice_index_or, slice_set, Option, Some, None, IsSome, Result, Ok, Err, IsOk, Bool, false, ◌==◌}
 use Rattle.std.specs.List.{list_all}
 use Rattle.cmb_core.specs.declared.advance.Span.{Span}
+use Rattle.cmb_wave.specs.declared.level.Level.{Level}
 use Rattle.cmb_wave.specs.Waveform.{changes_between, last_level, level_at, level_before}
 use Rattle.cmb_wave.specs.Wave.{Wave, Piece, new_wave, grown, wave_with_piece}
 use Rattle.cmb_bench.specs.declared.netlist.Driver.{Driver}
@@ -95,13 +96,17 @@ IsDrivenBy design net (GateNet kind sources) process =
 IsDrivenBy design net (FlopNet source) process =
     (process.rule ≡ Flop (clock_of design net).first (clock_of design net).period design.init) × AreOperands design net 1 (source ∷ []) process.operands
 
+-- the level that the process of a wave has at a tick
+abbrev pub row_at : Cluster → ℕ → ℕ → Level
+row_at s i t = row s.waves (process_at s i).rule (process_at s i).operands (process_at s i).stimulus t
+
 -- up to here the process of a wave can go on, and the changes that it makes up to there
 abbrev pub reach_at : Cluster → ℕ → ℕ
 reach_at s i = reach s.horizon s.waves (process_at s i).rule (process_at s i).operands
 
 abbrev pub changes_at : Cluster → ℕ → List Change
 changes_at s i =
-    changes_from (row s.waves (process_at s i).rule (process_at s i).operands (process_at s i).stimulus) (last_level (slot_wave s i).kept (slot_wave s i).changes)
+    changes_from (row_at s i) (last_level (slot_wave s i).kept (slot_wave s i).changes)
     (slot_wave s i).clock (reach_at s i - (slot_wave s i).clock)
 
 -- the span of a wave's new ticks, and the level before it

@@ -14,7 +14,6 @@ use crate::merge::{Lag, Pin, differ, follow, merge};
 use crate::pins::{fill_pins, gate_pins, operand_tip, operand_wave};
 use crate::process::Operand;
 use crate::recent::left_near_end;
-use crate::settled::settled_gate;
 use crate::waves::Waves;
 use cmb_bench::netlist::Kind;
 use cmb_wave::search::left_from;
@@ -27,19 +26,6 @@ pub struct Span {
     pub before: Level,
     pub from: u32,
     pub until: u32,
-}
-
-/// The tick up to which a gate's operands are known at its output.
-pub fn reach_of_gate(horizon: u32, operands: &[Operand], waves: &Waves, clock: u32) -> u32
-    requires { AreReady waves.now clock operands.now }
-    ensures { result ≡ gate_reach horizon waves.now operands.now }
-{
-    let mut reach = horizon;
-    for operand in operands {
-        let known = operand_tip(waves, *operand).clock;
-        reach = reach.min(known.saturating_add(operand.delay));
-    }
-    reach
 }
 
 /// The tick up to which a flip-flop's data is known at its output.
@@ -67,9 +53,9 @@ fn begins_anew(level: Level, span: Span) -> bool
     span.from < span.until && differ(level, span.before)
 }
 
-// Adds the changes of an output that stays at a level: one at most.
+/// Adds the changes of an output that stays at a level: one at most.
 #[tactic(auto, using(crate::proofs::Changes::changes_from_held))]
-fn held_changes(room: &mut Vec<Change>, level: Level, span: Span) -> Result<(), AllocError>
+pub fn held_changes(room: &mut Vec<Change>, level: Level, span: Span) -> Result<(), AllocError>
     requires { span.from ≤ span.until }
     ensures { (row : ℕ → Level) → ((t : ℕ) → span.from ≤ t → row t ≡ level) → OnOk result (room.new.items ≡ room.old.items ++ changes_from row span.before span.from (span.until - span.from)) }
 {
@@ -118,9 +104,6 @@ pub fn gate_changes(
     requires ordered { span.from ≤ span.until }
     ensures { OnOk result (room.new.items ≡ room.old.items ++ changes_from (gate_row kind waves.now operands.now) span.before span.from (span.until - span.from)) }
 {
-    if let Some(level) = settled_gate(kind, operands, waves, span.from) {
-        return held_changes(room, level, span);
-    }
     if operands.len() <= FEW {
         return few_changes(room, kind, operands, waves, span);
     }

@@ -11,9 +11,16 @@ use crate::readers::readers_among;
 use crate::tables::{Tables, place_of};
 use crate::waves::Waves;
 use cmb_design::Design;
-use cmb_wave::{Heard, Piece, Promise, WaveFault};
+use cmb_wave::{Heard, Level, Piece, Promise, WaveFault};
 use std::alloc::{AllocError, Global};
 use std::marker::Model;
+
+// What a step adds to a wave: its span, and the level of all of it where that is plain to see.
+#[derive(Clone, Copy, Debug)]
+pub(crate) struct Next {
+    pub(crate) span: Span,
+    pub(crate) held: Option<Level>,
+}
 
 /// Processes with their waves, and the waves that they are given.
 #[derive(Debug, Drop)]
@@ -45,7 +52,7 @@ impl Cluster {
     ghost use Rattle.cmb_core.specs.Opened.{IsClusterOf, IsOwnNet, held_nets};
     ghost use Rattle.cmb_core.specs.Step.{wave_at};
     ghost use Rattle.cmb_core.specs.Rows.{slot_of};
-    ghost use Rattle.cmb_core.specs.Clusters.{slot_wave, new_part, new_waves_at, step_answer, step_waves, IsSound, input_slot, output_slot, delivered, RefusesDelivery, heard_at, IsSameButWaves, IsNextSpan, reach_at};
+    ghost use Rattle.cmb_core.specs.Clusters.{slot_wave, new_part, new_waves_at, step_answer, step_waves, IsSound, input_slot, output_slot, delivered, RefusesDelivery, heard_at, IsSameButWaves, IsNextSpan, reach_at, row_at};
     ghost use Rattle.cmb_wave.specs.Calls.{taken, RefusesAs, hears, heard_wave};
     ghost use Rattle.cmb_core.specs.World.{with_wave};
     ghost use Rattle.cmb_core.specs.declared.delivery.DeliverFault.TheVariants.{Clash};
@@ -114,21 +121,24 @@ impl Cluster {
     }
 
     // The span of a wave's new ticks, None where its process can't go on.
-    pub(crate) fn next_span(&self, slot: usize) -> Option<Span>
+    pub(crate) fn next_span(&self, slot: usize) -> Option<Next>
         requires { slot < length self.now.waves }
-        ensures span { MatchOption result (reach_at self.now slot ≤ (slot_wave self.now slot).clock) (λ span. IsNextSpan self.now slot span) }
+        ensures span { MatchOption result (reach_at self.now slot ≤ (slot_wave self.now slot).clock) (λ next. IsNextSpan self.now slot next.span) }
+        ensures held { IfSome result (λ next. IfSome next.held (λ level. (t : ℕ) → next.span.from ≤ t → row_at self.now slot t ≡ level)) }
         ensures sound { IsSound self.now }
     {
-        let tip = self.waves.tip(slot);
-        let from = tip.clock;
-        let until = self.processes.reach(slot, self.horizon, &self.waves, from);
-        if until <= from {
+        let from = self.waves.tip(slot).clock;
+        let look = self.processes.look(slot, self.horizon, &self.waves, from);
+        if look.reach <= from {
             return None;
         }
-        Some(Span {
-            before: self.waves.last_level(slot),
-            from,
-            until,
+        Some(Next {
+            span: Span {
+                before: self.waves.last_level(slot),
+                from,
+                until: look.reach,
+            },
+            held: look.held,
         })
     }
 
@@ -144,12 +154,12 @@ impl Cluster {
         ensures unchanged { OnErr result (self.new ≡ self.old) }
         ensures same { IsSameButWaves self.old self.new }
     {
-        let Some(span) = self.next_span(slot) else {
+        let Some(Next { span, held }) = self.next_span(slot) else {
             return Ok(None);
         };
         let mut changes = Vec::new(self.waves.allocator());
         self.processes
-            .changes(slot, &mut changes, self.horizon, &self.waves, span)?;
+            .changes(slot, &mut changes, self.horizon, &self.waves, span, held)?;
         let piece = self.waves.grow(slot, span.until, changes)?;
         Ok(Some(piece))
     }

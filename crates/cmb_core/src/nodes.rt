@@ -1,19 +1,20 @@
 //! The processes of a cluster, in few lists that a sweep reads from end to end.
 
-ghost use Rattle.std.specs.Prelude.{◌≡◌, ◌<◌, ◌≤◌, ◌+◌, ◌-◌, ◌++◌, ◌∷◌, IfOk, OnOk, length, [], slice_index_or, take, drop};
+ghost use Rattle.std.specs.Prelude.{◌≡◌, ◌<◌, ◌≤◌, ◌+◌, ◌-◌, ◌++◌, ◌∷◌, ℕ, IfOk, IfSome, OnOk, length, [], slice_index_or, take, drop};
 ghost use Rattle.cmb_core.specs.declared.process.Rule.TheVariants.{Given};
 ghost use Rattle.cmb_core.specs.Clusters.{nth_process};
 ghost use Rattle.cmb_core.specs.Spans.{changes_from};
 ghost use Rattle.cmb_core.specs.Rows.{IsReadyFor, is_given, row, reach};
 
 use crate::advance::{
-    Span, flop_changes, gate_changes, input_changes, reach_of_flop, reach_of_gate,
+    Span, flop_changes, gate_changes, held_changes, input_changes, reach_of_flop,
 };
+use crate::look::{Look, look_at_gate};
 use crate::node::Node;
 use crate::pins::operand_tip;
 use crate::process::{Operand, Rule};
 use crate::waves::Waves;
-use cmb_wave::Change;
+use cmb_wave::{Change, Level};
 use std::alloc::{AllocError, Global};
 use std::marker::Model;
 
@@ -148,25 +149,31 @@ impl Nodes {
         }
     }
 
-    /// The tick up to which the output in a place can go on.
-    pub fn reach(&self, slot: usize, horizon: u32, waves: &Waves, clock: u32) -> u32
+    /// The tick up to which the output in a place can go on, and the level that it keeps, where that is
+    /// plain to see.
+    pub fn look(&self, slot: usize, horizon: u32, waves: &Waves, clock: u32) -> Look
         requires slot { slot < length self.now }
         requires ready { IsReadyFor horizon waves.now clock (nth_process self.now slot).rule (nth_process self.now slot).operands (nth_process self.now slot).stimulus }
-        ensures { result ≡ reach horizon waves.now (nth_process self.now slot).rule (nth_process self.now slot).operands }
+        ensures reach { result.reach ≡ reach horizon waves.now (nth_process self.now slot).rule (nth_process self.now slot).operands }
+        ensures held { IfSome result.held (λ level. (t : ℕ) → clock ≤ t → row waves.now (nth_process self.now slot).rule (nth_process self.now slot).operands (nth_process self.now slot).stimulus t ≡ level) }
     {
-        match self.rule(slot) {
+        let reach = match self.rule(slot) {
             Rule::Given => 0,
             Rule::Input => horizon,
-            Rule::Gate(_) => reach_of_gate(horizon, self.operands(slot), waves, clock),
+            Rule::Gate(kind) => {
+                return look_at_gate(kind, horizon, self.operands(slot), waves, clock);
+            }
             Rule::Flop { first, period, .. } => {
                 let source = self.operands(slot)[0];
                 let known = operand_tip(waves, source).clock;
                 reach_of_flop(horizon, first, period, source.delay, known)
             }
-        }
+        };
+        Look { reach, held: None }
     }
 
-    /// Adds the changes of the output in a place in a span to a list.
+    /// Adds the changes of the output in a place in a span to a list. `held` is the level that it keeps,
+    /// where that is known.
     pub fn changes(
         &self,
         slot: usize,
@@ -174,12 +181,17 @@ impl Nodes {
         horizon: u32,
         waves: &Waves,
         span: Span,
+        held: Option<Level>,
     ) -> Result<(), AllocError>
         requires slot { slot < length self.now }
         requires ready { IsReadyFor horizon waves.now span.from (nth_process self.now slot).rule (nth_process self.now slot).operands (nth_process self.now slot).stimulus }
         requires ordered { span.from ≤ span.until }
+        requires held { IfSome held (λ level. (t : ℕ) → span.from ≤ t → row waves.now (nth_process self.now slot).rule (nth_process self.now slot).operands (nth_process self.now slot).stimulus t ≡ level) }
         ensures { OnOk result (room.new.items ≡ room.old.items ++ changes_from (row waves.now (nth_process self.now slot).rule (nth_process self.now slot).operands (nth_process self.now slot).stimulus) span.before span.from (span.until - span.from)) }
     {
+        if let Some(level) = held {
+            return held_changes(room, level, span);
+        }
         match self.rule(slot) {
             Rule::Given => input_changes(room, &[], span),
             Rule::Input => input_changes(room, self.stimulus(slot), span),

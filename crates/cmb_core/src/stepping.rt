@@ -9,7 +9,7 @@ ghost use Rattle.cmb_core.specs.Exactness.{IsExactCluster};
 ghost use Rattle.cmb_core.specs.Opened.{IsClusterOf, own_nets};
 ghost use Rattle.cmb_core.specs.Sweep.{some_rises, stepped_waves};
 
-use crate::cluster::Cluster;
+use crate::cluster::{Cluster, Next};
 use cmb_wave::Change;
 use std::alloc::AllocError;
 
@@ -47,11 +47,11 @@ impl Cluster {
         ensures unchanged { OnErr result (self.new ≡ self.old) }
         ensures same { IsSameButWaves self.old self.new }
     {
-        let Some(span) = self.next_span(slot) else {
+        let Some(Next { span, held }) = self.next_span(slot) else {
             return Ok(false);
         };
         self.processes
-            .changes(slot, room, self.horizon, &self.waves, span)?;
+            .changes(slot, room, self.horizon, &self.waves, span, held)?;
         self.waves.extend(slot, span.until, room)?;
         room.clear();
         Ok(true)

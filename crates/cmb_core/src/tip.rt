@@ -1,7 +1,8 @@
 //! The end of a wave: what a step mostly needs to know of it, in a few words side by side.
 
-ghost use Rattle.std.specs.Prelude.{◌≡◌, ◌≤◌, ◌+◌, ℕ, IfSome, [], ◌∷◌};
+ghost use Rattle.std.specs.Prelude.{◌≡◌, ◌≤◌, ◌+◌, ℕ, true, [], ◌∷◌};
 ghost use Rattle.cmb_wave.specs.Wave.{Wave as WaveOf, grown};
+ghost use Rattle.cmb_wave.specs.declared.level.Change.{Change as ChangeOf};
 ghost use Rattle.cmb_core.specs.Tips.{IsTip};
 ghost use Rattle.cmb_core.specs.Rows.{delayed};
 
@@ -85,17 +86,12 @@ impl Tip {
         self.newest[0]
     }
 
-    /// The level that the wave has at an output from the output's clock on, some ticks late, None where
-    /// a change is still on its way.
+    /// Whether no change is on its way any more to an output that is known up to a clock and shows the
+    /// wave some ticks late.
     #[tactic(auto, using(crate::proofs::TipFacts::settled_tip))]
-    pub fn settled(&self, delay: u32, clock: u32) -> Option<Level>
-        ensures { (wave : WaveOf) → IsTip self.now wave → IfSome result (λ level. (t : ℕ) → clock ≤ t → delayed wave delay t ≡ level) }
+    pub fn is_settled(&self, delay: u32, clock: u32) -> bool
+        ensures { (wave : WaveOf) (newest : ChangeOf) → result ≡ true → IsTip self.now wave → self.now.newest ≡ newest ∷ [] → (t : ℕ) → clock ≤ t → delayed wave delay t ≡ newest.level }
     {
-        let newest = self.newest();
-        if clock < delay || clock - delay < newest.tick {
-            None
-        } else {
-            Some(newest.level)
-        }
+        u64::from(self.newest().tick) + u64::from(delay) <= u64::from(clock)
     }
 }

@@ -9,8 +9,8 @@ pub extend-requires-clause-trace : goal.extend-requires-clause-trace
 extend-requires-clause-trace c =
     let there : c.args.slot < length c.self.inside.waves = omega (arith, ap (λ s. length s.waves) c.self.view_is) in
     let same : get_or c.self.inside.waves c.args.slot (new_wave 0) ≡ slot_wave c.args.self.now c.args.slot = ap (λ s. slot_wave s c.args.slot) c.self.view_is in
-    let trace = step_trace _ c.in-Some.span.before c.in-Some.span.from c.in-Some.span.until c.changes.new.room.items (omega (arith, c.in-Some.ensures.span.later)) (rw c.requires.empty at c.in_ok-changes.ensures) in
-    let P : Wave → Type 0 = λ w. IsTrace (last_level w.kept w.changes) w.clock c.changes.new.room.items c.in-Some.span.until in
+    let trace = step_trace _ c.in-Some.field-0.span.before c.in-Some.field-0.span.from c.in-Some.field-0.span.until c.changes.new.room.items (omega (arith, c.in-Some.ensures.span.later)) (rw c.requires.empty at c.in_ok-changes.ensures) in
+    let P : Wave → Type 0 = λ w. IsTrace (last_level w.kept w.changes) w.clock c.changes.new.room.items c.in-Some.field-0.span.until in
     let told : P (slot_wave c.args.self.now c.args.slot) = rw (c.in-Some.ensures.span.before, c.in-Some.ensures.span.from) at trace in
     rw c.deref.ensures.value (subst P (sym same) told)
 
@@ -19,7 +19,7 @@ invariant_of-self-2 c =
     let there : c.args.slot < length c.self.inside.waves = omega (arith, ap (λ s. length s.waves) c.self.view_is) in
     let same : get_or c.self.inside.waves c.args.slot (new_wave 0) ≡ slot_wave c.args.self.now c.args.slot = ap (λ s. slot_wave s c.args.slot) c.self.view_is in
     let kept : IsKept c.self.inside.horizon c.self.inside.processes c.self.inside.tables c.self.inside.waves c.extend.new.self =
-    kept_by_set c.self.inside.horizon c.self.inside.processes c.self.inside.tables c.self.inside.waves c.extend.new.self c.args.slot (grown (get_or c.self.inside.waves c.args.slot (new_wave 0)) c.in-Some.span.until c.deref.result.now) c.in_ok-extend.ensures.ok there refl refl (omega (arith, c.in-Some.ensures.span.later, c.in-Some.ensures.span.from, ap (λ w. w.clock) same)) c.self.invariant.sound c.self.invariant.tables
+    kept_by_set c.self.inside.horizon c.self.inside.processes c.self.inside.tables c.self.inside.waves c.extend.new.self c.args.slot (grown (get_or c.self.inside.waves c.args.slot (new_wave 0)) c.in-Some.field-0.span.until c.deref.result.now) c.in_ok-extend.ensures.ok there refl refl (omega (arith, c.in-Some.ensures.span.later, c.in-Some.ensures.span.from, ap (λ w. w.clock) same)) c.self.invariant.sound c.self.invariant.tables
     in
     record { sound = kept.sound; tables = kept.listed }
 
@@ -28,6 +28,6 @@ returns-clause-same c =
     let there : c.args.slot < length c.self.inside.waves = omega (arith, ap (λ s. length s.waves) c.self.view_is) in
     let same : get_or c.self.inside.waves c.args.slot (new_wave 0) ≡ slot_wave c.args.self.now c.args.slot = ap (λ s. slot_wave s c.args.slot) c.self.view_is in
     let kept : IsKept c.self.inside.horizon c.self.inside.processes c.self.inside.tables c.self.inside.waves c.extend.new.self =
-    kept_by_set c.self.inside.horizon c.self.inside.processes c.self.inside.tables c.self.inside.waves c.extend.new.self c.args.slot (grown (get_or c.self.inside.waves c.args.slot (new_wave 0)) c.in-Some.span.until c.deref.result.now) c.in_ok-extend.ensures.ok there refl refl (omega (arith, c.in-Some.ensures.span.later, c.in-Some.ensures.span.from, ap (λ w. w.clock) same)) c.self.invariant.sound c.self.invariant.tables
+    kept_by_set c.self.inside.horizon c.self.inside.processes c.self.inside.tables c.self.inside.waves c.extend.new.self c.args.slot (grown (get_or c.self.inside.waves c.args.slot (new_wave 0)) c.in-Some.field-0.span.until c.deref.result.now) c.in_ok-extend.ensures.ok there refl refl (omega (arith, c.in-Some.ensures.span.later, c.in-Some.ensures.span.from, ap (λ w. w.clock) same)) c.self.invariant.sound c.self.invariant.tables
     in
     record { horizon = ap (λ s. s.horizon) c.self.view_is; processes = ap (λ s. s.processes) c.self.view_is; nets = kept.nets ∙ ap (λ s. wave_nets s.waves) c.self.view_is }
