@@ -79,8 +79,9 @@ impl Waves {
         ensures known { (j : ℕ) → slot < j → j < result → horizon ≤ (slice_index_or self.old j (new_wave 0)).clock }
         ensures same { self.new ≡ self.old }
     {
-        if horizon != self.horizon {
-            return slot + 1;
+        let behind = self.len().min(slot + 1);
+        if horizon != self.horizon || self.is_short(behind) {
+            return behind;
         }
         let next = first_short(&self.tips, &self.skips, slot, horizon);
         self.skips[slot] = next;
@@ -92,6 +93,11 @@ impl Waves {
         ensures { result.items ≡ self }
     {
         self.waves
+    }
+
+    // Whether the wave in a place isn't known up to the horizon.
+    fn is_short(&self, slot: usize) -> bool {
+        slot < self.tips.len() && self.tips[slot].clock < self.horizon
     }
 
     /// How many waves there are.
