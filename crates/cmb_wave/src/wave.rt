@@ -85,6 +85,19 @@ fn first_clash(before: Level, changes: &[Change]) -> Option<u32>
     }
 }
 
+// Adds changes to a list. Mostly there is none, or one, which needs no copy of a stretch of memory.
+fn append(list: &mut Vec<Change>, more: &[Change]) -> Result<(), AllocError>
+    ensures ok { OnOk result (list.new.items ≡ list.old.items ++ more.now) }
+    ensures unchanged { OnErr result (list.new.items ≡ list.old.items) }
+{
+    match more.len() {
+        0 => {}
+        1 => list.push(more[0])?,
+        _ => list.extend_from_slice(more)?,
+    }
+    Ok(())
+}
+
 impl Wave {
     /// A wave of which nothing is known: base and clock 0, no changes. Takes no memory.
     pub fn new(alloc: Global, net: u32) -> Wave
@@ -207,7 +220,7 @@ impl Wave {
         ensures ok { OnOk result (self.new ≡ grown self.old to changes.now) }
         ensures unchanged { OnErr result (self.new ≡ self.old) }
     {
-        self.changes.extend_from_slice(changes)?;
+        append(&mut self.changes, changes)?;
         self.count += changes.len() as u32;
         self.clock = to;
         Ok(())
