@@ -5,7 +5,7 @@ ghost use Rattle.std.specs.Prelude.{◌≡◌};
 use crate::free::desk::{Desk, Own};
 use crate::free::ends::{PutEnd, TakeEnd};
 use crate::free::turnstile::Turnstile;
-use crate::part::Part;
+use crate::part::{Part, Posted};
 use crate::terms::Terms;
 use cmb_core::Clustering;
 use cmb_wave::Heard;
@@ -24,26 +24,20 @@ struct Outlet {
 }
 
 impl Outlet {
-    // Puts what is new of the net, less a piece without a change where those aren't taken. False where the link was full.
-    fn put<T: Terms, R: Wait>(
+    // What is new of the net, none where it has no change and such pieces aren't taken.
+    fn cut<T: Terms>(
         &mut self,
-        rt: &R,
         part: &Part<T>,
-        end: &mut PutEnd<T>,
         takes_empty: bool,
-    ) -> Result<bool, AllocError> {
+    ) -> Result<Option<Posted<T>>, AllocError> {
         let Some(posted) = part.post(self.net, self.sent)? else {
-            return Ok(true);
+            return Ok(None);
         };
         if !takes_empty && posted.piece().changes().is_empty() {
-            return Ok(true);
+            return Ok(None);
         }
-        let to = posted.piece().to();
-        if end.put(rt, posted).is_err() {
-            return Ok(false);
-        }
-        self.sent = to;
-        Ok(true)
+        self.sent = posted.piece().to();
+        Ok(Some(posted))
     }
 }
 
@@ -52,6 +46,8 @@ impl Outlet {
 struct Out<T: Terms> {
     end: PutEnd<T>,
     outlets: Vec<Outlet>,
+    /// A piece that found the link full.
+    waiting: Option<Posted<T>>,
     /// The place of the net that is put next.
     next: usize,
     /// Whether pieces without a change go there too.
@@ -75,14 +71,37 @@ impl<T: Terms> Out<T> {
         Ok(Out {
             end,
             outlets,
+            waiting: None,
             next: 0,
             takes_empty,
             is_left: false,
         })
     }
 
+    // Puts a piece, or keeps it where the link is full. Says whether it was put.
+    fn put<R: Wait>(&mut self, rt: &R, posted: Posted<T>) -> bool {
+        match self.end.put(rt, posted) {
+            Ok(()) => true,
+            Err(posted) => {
+                self.waiting = Some(posted);
+                false
+            }
+        }
+    }
+
+    // Puts the piece that waits, if there is one. Says whether none waits any more.
+    fn put_waiting<R: Wait>(&mut self, rt: &R) -> bool {
+        match self.waiting.take() {
+            Some(posted) => self.put(rt, posted),
+            None => true,
+        }
+    }
+
     // Puts what is new of each net, and begins where it last stopped. Where the link was full something is left.
     fn put_all<R: Wait>(&mut self, rt: &R, part: &Part<T>) -> Result<(), AllocError> {
+        if !self.put_waiting(rt) {
+            return Ok(());
+        }
         for _ in 0..self.outlets.len() {
             if self.next >= self.outlets.len() {
                 self.next = 0;
@@ -90,10 +109,12 @@ impl<T: Terms> Out<T> {
             let Some(outlet) = self.outlets.get_mut(self.next) else {
                 break;
             };
-            if !outlet.put(rt, part, &mut self.end, self.takes_empty)? {
-                return Ok(());
-            }
             self.next += 1;
+            if let Some(posted) = outlet.cut(part, self.takes_empty)? {
+                if !self.put(rt, posted) {
+                    return Ok(());
+                }
+            }
         }
         self.is_left = false;
         Ok(())
