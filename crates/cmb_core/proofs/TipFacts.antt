@@ -1,5 +1,5 @@
 -- The end of a wave, and lists of them.
-use Rattle.std.proofs.Common.{◌≡◌, ℕ, zero, suc, ◌-◌, ◌<◌, ◌≤◌, inl, inr, Bool, cond, true, false, nat_le, nat_lt, List, [], ◌∷◌, ◌++◌, length, get_or, set, refl, sym, ◌∙◌, ap, arith}
+use Rattle.std.proofs.Common.{◌≡◌, ℕ, zero, suc, ◌-◌, ◌<◌, ◌≤◌, inl, inr, Bool, cond, true, false, nat_le, nat_lt, List, [], ◌∷◌, ◌++◌, length, get_or, set, refl, sym, ◌∙◌, ap, arith, nat_eq, ◌+◌}
 use Rattle.std.proofs.lemmas.Bool.{cases_eq}
 use Rattle.std.proofs.lemmas.Bool.Decides.{nat_tests}
 use Rattle.std.proofs.Math.Seq.{get_or-append_seam}
@@ -8,7 +8,8 @@ use Rattle.cmb_wave.specs.declared.level.Level.{Level}
 use Rattle.cmb_wave.specs.declared.level.Level.TheVariants.{X}
 use Rattle.cmb_wave.specs.declared.level.Change.{Change}
 use Rattle.cmb_wave.specs.Waveform.{IsTrace, Rises, last_level, level_at, level_before}
-use Rattle.cmb_wave.specs.Wave.{Wave, new_wave, grown}
+use Rattle.cmb_wave.specs.Wave.{Wave, new_wave, grown, wave_up_to}
+use Rattle.cmb_wave.specs.Calls.{heard_wave}
 use Rattle.cmb_wave.proofs.Lists.{rises_get, rises_lower, last_before, last_level_append, last_level_take}
 use Rattle.cmb_core.specs.declared.tip.Tip.{Tip}
 use Rattle.cmb_core.specs.Rows.{delayed}
@@ -213,3 +214,21 @@ skips_put horizon ws skips n next a h known = λ i j k l. elim (cases_eq i n) [
   | inl e ↦ known j (omega (arith, k, e)) (rw (e, get_or-set_same skips n next 0 h) at l)
   | inr ne ↦ a i j k (rw (get_or-set_other skips n i next 0 ne) at l)
 ]
+
+-- ---- a wave that tells itself that it doesn't change
+
+grown_none : (wave : Wave) (to : ℕ) → wave_up_to wave to ≡ grown wave to []
+grown_none wave to =
+    let count : wave.count + length {A = Change} [] ≡ wave.count = omega arith in
+    rw (count, append-nil wave.changes) refl
+
+pub held_on : (wave : Wave) (to : ℕ) → wave.clock ≤ to → heard_wave wave (record { net = wave.net; count = wave.count; upto = to }) ≡ grown wave to []
+held_on wave to later = go (nat_le to wave.clock) refl
+  where
+    go : (b : Bool) → nat_le to wave.clock ≡ b → cond b wave (cond (nat_eq wave.count wave.count) (wave_up_to wave to) wave) ≡ grown wave to []
+    go true e =
+        let same : to ≡ wave.clock = grind (arith, nat_tests) in
+        rw same (grown_none wave wave.clock)
+    go false e =
+        let alike : nat_eq wave.count wave.count ≡ true = grind (arith, nat_tests) in
+        rw alike (grown_none wave to)

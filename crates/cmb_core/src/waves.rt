@@ -1,6 +1,6 @@
 //! The waves of a cluster, with the end of each beside them.
 
-ghost use Rattle.std.specs.Prelude.{◌≡◌, ◌≤◌, ◌<◌, ℕ, List, IfOk, IfErr, OnOk, OnErr, Ok, length, map, slice_index_or, slice_set};
+ghost use Rattle.std.specs.Prelude.{◌≡◌, ◌≤◌, ◌<◌, ℕ, List, IfOk, IfErr, OnOk, OnErr, Ok, [], length, map, slice_index_or, slice_set};
 ghost use Rattle.cmb_wave.specs.Waveform.{IsTrace, last_level, level_at, level_before};
 ghost use Rattle.cmb_wave.specs.Wave.{Wave as WaveOf, new_wave, grown};
 ghost use Rattle.cmb_wave.specs.Calls.{taken, hears, heard_wave, RefusesAs};
@@ -149,10 +149,29 @@ impl Waves {
         ensures ok { OnOk result (self.new ≡ slice_set self.old slot (grown (slice_index_or self.old slot (new_wave 0)) to changes.now)) }
         ensures unchanged { OnErr result (self.new ≡ self.old) }
     {
+        if changes.is_empty() {
+            self.hold(slot, to);
+            return Ok(());
+        }
         let wave = &mut self.waves[slot];
         wave.extend(to, changes)?;
         self.tips[slot] = self.tips[slot].after(wave, changes);
         Ok(())
+    }
+
+    // Lets the wave in a place go on without a change, which is what a promise of its own tells it.
+    fn hold(&mut self, slot: usize, to: u32)
+        requires slot { slot < length self.old }
+        requires later { (slice_index_or self.old slot (new_wave 0)).clock ≤ to }
+        ensures { self.new ≡ slice_set self.old slot (grown (slice_index_or self.old slot (new_wave 0)) to []) }
+    {
+        let wave = &mut self.waves[slot];
+        let still = Promise {
+            upto: to,
+            ..wave.promise()
+        };
+        wave.hear(still);
+        self.tips[slot] = self.tips[slot].after(wave, &[]);
     }
 
     /// Lets the wave in a place go on, as `Wave::grow` does.
