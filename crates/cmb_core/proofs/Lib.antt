@@ -31,5 +31,6 @@ pub mod RoundFacts
 pub mod Opens
 pub mod TrimLaws
 pub mod TipFacts
+pub mod Ends
 pub mod NodeFacts
 pub mod StretchFacts

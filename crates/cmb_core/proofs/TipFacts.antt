@@ -1,5 +1,5 @@
 -- The end of a wave, and lists of them.
-use Rattle.std.proofs.Common.{◌≡◌, ℕ, zero, suc, ◌-◌, ◌<◌, ◌≤◌, inl, inr, Bool, cond, true, false, nat_le, nat_lt, List, [], ◌∷◌, ◌++◌, length, get_or, set, refl, sym, ◌∙◌, ap, arith, nat_eq, ◌+◌}
+use Rattle.std.proofs.Common.{◌≡◌, ℕ, zero, suc, ◌-◌, ◌<◌, ◌≤◌, inl, inr, Bool, cond, true, false, nat_le, nat_lt, List, [], ◌∷◌, ◌++◌, length, get_or, set, replicate, refl, sym, ◌∙◌, ap, arith, nat_eq, ◌+◌}
 use Rattle.std.proofs.lemmas.Bool.{cases_eq}
 use Rattle.std.proofs.lemmas.Bool.Decides.{nat_tests}
 use Rattle.std.proofs.Math.Seq.{get_or-append_seam}
@@ -162,45 +162,6 @@ settled_tip tip wave newest delay clock t h e late passed k =
     let known : nat_lt t delay ≡ false = grind (arith, nat_tests) in
     rw known (h.steady newest e (t - delay) (omega arith))
 
--- ---- lists of them
-
-pub tips_set : (ws : List Wave) (ts : List Tip) (n : ℕ) (w : Wave) (t : Tip) → AreTips ws ts → n < length ws → IsTip t w → AreTips (set ws n w) (set ts n t)
-tips_set ws ts n w t a h is =
-    let there : n < length ts = omega (arith, a.count) in
-    record {
-      count = length-set ts n t ∙ a.count ∙ sym (length-set ws n w);
-      each = λ i k. elim (cases_eq i n) [
-        | inl e ↦ rw (e, get_or-set_same ts n t no_tip there, get_or-set_same ws n w (new_wave 0) h) is
-        | inr ne ↦
-            let here : i < length ws = omega (arith, k, length-set ws n w) in
-            rw (get_or-set_other ts n i t no_tip ne, get_or-set_other ws n i w (new_wave 0) ne) (a.each i here)
-      ];
-    }
-
-pub tips_still : (ws : List Wave) (ts : List Tip) (n : ℕ) (w : Wave) → AreTips ws ts → n < length ws → w ≡ get_or ws n (new_wave 0) → AreTips (set ws n w) ts
-tips_still ws ts n w a h e = record {
-  count = a.count ∙ sym (length-set ws n w);
-  each = λ i k. elim (cases_eq i n) [
-    | inl same ↦ let P : Wave → Type 0 = λ v. IsTip (get_or ts i no_tip) v in rw (same, get_or-set_same ws n w (new_wave 0) h, e) (a.each n h)
-    | inr ne ↦
-        let here : i < length ws = omega (arith, k, length-set ws n w) in
-        rw (get_or-set_other ws n i w (new_wave 0) ne) (a.each i here)
-  ];
-}
-
-pub tips_push : (ws : List Wave) (ts : List Tip) (w : Wave) (t : Tip) → AreTips ws ts → IsTip t w → AreTips (ws ++ w ∷ []) (ts ++ t ∷ [])
-tips_push ws ts w t a is = record {
-  count = omega (arith, length_push ws w, length_push ts t, a.count);
-  each = λ i k. elim (cases_eq i (length ws)) [
-    | inl e ↦
-        let ends : IsTip (get_or (ts ++ t ∷ []) (length ts) no_tip) (get_or (ws ++ w ∷ []) (length ws) (new_wave 0)) = rw (get_or-append_seam ts t [] no_tip, get_or-append_seam ws w [] (new_wave 0)) is in
-        rw e (rw a.count at ends)
-    | inr ne ↦
-        let here : i < length ws = omega (arith, k, length_push ws w, ne) in
-        rw (get_or_append_left ws (w ∷ []) (new_wave 0) i here, get_or_append_left ts (t ∷ []) no_tip i (omega (arith, here, a.count))) (a.each i here)
-  ];
-}
-
 -- ---- the places that are passed over
 
 pub skips_set : (horizon : ℕ) (ws : List Wave) (skips : List ℕ) (n : ℕ) (w : Wave) → AreSkips horizon ws skips → n < length ws → (get_or ws n (new_wave 0)).clock ≤ w.clock → AreSkips horizon (set ws n w) skips
@@ -209,26 +170,16 @@ skips_set horizon ws skips n w a h on = λ i j k l. elim (cases_eq j n) [
   | inr ne ↦ rw (get_or-set_other ws n j w (new_wave 0) ne) (a i j k l)
 ]
 
+pub skips_none : (horizon : ℕ) (ws : List Wave) (n : ℕ) → AreSkips horizon ws (replicate n 0)
+skips_none horizon ws n i j h k = absurd (omega (arith, h, k, none n i))
+  where
+    none : (n i : ℕ) → get_or (replicate {A = ℕ} n 0) i 0 ≡ 0
+    none zero i = refl
+    none (suc n) zero = refl
+    none (suc n) (suc i) = none n i
+
 pub skips_put : (horizon : ℕ) (ws : List Wave) (skips : List ℕ) (n next : ℕ) → AreSkips horizon ws skips → n < length skips → ((j : ℕ) → n < j → j < next → horizon ≤ (get_or ws j (new_wave 0)).clock) → AreSkips horizon ws (set skips n next)
 skips_put horizon ws skips n next a h known = λ i j k l. elim (cases_eq i n) [
   | inl e ↦ known j (omega (arith, k, e)) (rw (e, get_or-set_same skips n next 0 h) at l)
   | inr ne ↦ a i j k (rw (get_or-set_other skips n i next 0 ne) at l)
 ]
-
--- ---- a wave that tells itself that it doesn't change
-
-grown_none : (wave : Wave) (to : ℕ) → wave_up_to wave to ≡ grown wave to []
-grown_none wave to =
-    let count : wave.count + length {A = Change} [] ≡ wave.count = omega arith in
-    rw (count, append-nil wave.changes) refl
-
-pub held_on : (wave : Wave) (to : ℕ) → wave.clock ≤ to → heard_wave wave (record { net = wave.net; count = wave.count; upto = to }) ≡ grown wave to []
-held_on wave to later = go (nat_le to wave.clock) refl
-  where
-    go : (b : Bool) → nat_le to wave.clock ≡ b → cond b wave (cond (nat_eq wave.count wave.count) (wave_up_to wave to) wave) ≡ grown wave to []
-    go true e =
-        let same : to ≡ wave.clock = grind (arith, nat_tests) in
-        rw same (grown_none wave wave.clock)
-    go false e =
-        let alike : nat_eq wave.count wave.count ≡ true = grind (arith, nat_tests) in
-        rw alike (grown_none wave to)

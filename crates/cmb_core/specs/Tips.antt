@@ -3,7 +3,7 @@ use Rattle.std.specs.Prelude.{◌≡◌, ℕ, ◌≤◌, ◌<◌, List, [], ◌�
 use Rattle.cmb_wave.specs.declared.level.Level.TheVariants.{X}
 use Rattle.cmb_wave.specs.declared.level.Change.{Change}
 use Rattle.cmb_wave.specs.Waveform.{last_level, level_at}
-use Rattle.cmb_wave.specs.Wave.{Wave, new_wave}
+use Rattle.cmb_wave.specs.Wave.{Wave, new_wave, wave_up_to}
 use Rattle.cmb_core.specs.declared.tip.Tip.{Tip}
 
 -- the wave's clock, the level that it ends with, its levels from the tick of its last change but one on, and from that of its last
@@ -20,6 +20,21 @@ no_tip = record { clock = 0; before = record { tick = 0; level = X }; newest = [
 pub record AreTips (waves : List Wave) (tips : List Tip) : Type 0 where
   pub count : length tips ≡ length waves
   pub each : (i : ℕ) → i < length waves → IsTip (slice_index_or tips i no_tip) (slice_index_or waves i (new_wave 0))
+
+-- waves that went on without a change, each up to the clock of its tip
+abbrev pub held_waves : List Wave → List Tip → List Wave
+held_waves [] tips = []
+held_waves (wave ∷ waves) [] = wave ∷ waves
+held_waves (wave ∷ waves) (tip ∷ tips) = wave_up_to wave tip.clock ∷ held_waves waves tips
+
+-- the tip is the end of the wave once it went on without a change
+pub record IsEnd (tip : Tip) (wave : Wave) : Type 0 where
+  pub later : wave.clock ≤ tip.clock
+  pub held : IsTip tip (wave_up_to wave tip.clock)
+
+pub record AreEnds (waves : List Wave) (tips : List Tip) : Type 0 where
+  pub count : length tips ≡ length waves
+  pub each : (i : ℕ) → i < length waves → IsEnd (slice_index_or tips i no_tip) (slice_index_or waves i (new_wave 0))
 
 -- between a place and the later one that is kept for it, each wave is known up to the end
 abbrev pub AreSkips : ℕ → List Wave → List ℕ → Type 0

@@ -7,7 +7,7 @@ ghost use Rattle.cmb_core.specs.Arrivals.{pin_at, pins_at, levels, last_sample};
 ghost use Rattle.cmb_core.specs.Rows.{delayed, delayed_levels, IsReady, AreReady, IsThere};
 ghost use Rattle.cmb_core.specs.Step.{wave_at};
 ghost use Rattle.cmb_core.specs.Tips.{IsTip};
-ghost use Rattle.cmb_wave.specs.Wave.{Wave as WaveOf};
+ghost use Rattle.cmb_wave.specs.Wave.{Wave as WaveOf, wave_up_to};
 
 use crate::merge::{Lag, Pin};
 use crate::process::Operand;
@@ -18,10 +18,10 @@ use cmb_wave::{Level, Wave};
 use std::alloc::{AllocError, Global};
 
 #[tactic(auto, using(crate::proofs::Slots::slot_there, crate::proofs::Slots::slot_wave))]
-/// The wave that an operand reads.
+/// The wave that an operand reads, but for its clock.
 pub fn operand_wave(waves: &Waves, operand: Operand) -> &Wave
     requires { IsThere waves.now operand }
-    ensures { result.now ≡ wave_at waves.now operand.net }
+    ensures { wave_up_to result.now (wave_at waves.now operand.net).clock ≡ wave_at waves.now operand.net }
 {
     waves.at(operand.slot as usize)
 }

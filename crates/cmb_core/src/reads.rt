@@ -1,6 +1,6 @@
 //! What a cluster answers of its waves as they stand.
 
-ghost use Rattle.std.specs.Prelude.{◌≡◌, ◌<◌, ◌≤◌, ◌==◌, ◌&&◌, not, ℕ, IfOk, IfSome, map, length};
+ghost use Rattle.std.specs.Prelude.{◌≡◌, ◌<◌, ◌≤◌, ◌==◌, ◌&&◌, not, ℕ, IfOk, IfSome, map, length, Some};
 ghost use Rattle.std.specs.List.{AllByRecursion, list_all};
 ghost use Rattle.cmb_wave.specs.Calls.{cut, promised};
 ghost use Rattle.cmb_design.specs.Design.{Design};
@@ -41,15 +41,14 @@ fn all_known(nodes: &Nodes, waves: &Waves, upto: u32) -> bool
 }
 
 impl Cluster {
-    // The wave of a net that is driven here, of which nothing was forgotten.
-    fn driven_wave(&self, net: u32) -> &Wave
+    // The place of the wave of a net that is driven here.
+    fn driven_place(&self, net: u32) -> usize
         requires { IsDrivenHere self.now net }
-        ensures wave { result.now ≡ wave_at self.now.waves net }
-        ensures whole { (wave_at self.now.waves net).base ≡ 0 }
-        ensures exact { (design : Design) (clustering : Clusters) (cluster : ℕ) → IsExactCluster design clustering cluster self.now → IsExactWaveIn design (wave_at self.now.waves net) }
+        ensures there { result < length self.now.waves }
+        ensures place { output_slot self.now net ≡ Some result }
     {
         match self.output_place(net) {
-            Some(slot) => self.waves.at(slot),
+            Some(slot) => slot,
             None => unreachable!(),
         }
     }
@@ -62,7 +61,7 @@ impl Cluster {
         ensures cut { IfOk result (λ piece. piece ≡ cut (wave_at self.now.waves net) from) }
         ensures sent { (design : Design) (clustering : Clusters) (cluster : ℕ) → IsExactCluster design clustering cluster self.now → IfOk result (λ piece. IfSome piece (IsExactIn design)) }
     {
-        self.driven_wave(net).cut(from)
+        self.waves.cut(self.driven_place(net), from)
     }
 
     /// How far a net that is driven here is known, and how many changes it has there. Of exact waves it
@@ -72,7 +71,7 @@ impl Cluster {
         ensures promised { result ≡ promised (wave_at self.now.waves net) }
         ensures right { (design : Design) (clustering : Clusters) (cluster : ℕ) → IsExactCluster design clustering cluster self.now → IsRightIn design result }
     {
-        self.driven_wave(net).promise()
+        self.waves.promise(self.driven_place(net))
     }
 
     /// The clock of a net that is driven here, None of any other.
@@ -80,7 +79,7 @@ impl Cluster {
         ensures { result ≡ told_at (λ wave. wave.clock) self.now net (output_slot self.now net) }
     {
         match self.output_place(net) {
-            Some(slot) => Some(self.waves.at(slot).clock()),
+            Some(slot) => Some(self.waves.tip(slot).clock),
             None => None,
         }
     }
@@ -90,7 +89,7 @@ impl Cluster {
         ensures { result ≡ told_at (λ wave. wave.clock) self.now net (input_slot self.now net) }
     {
         match self.input_place(net) {
-            Some(place) => Some(self.waves.at(place).clock()),
+            Some(place) => Some(self.waves.tip(place).clock),
             None => None,
         }
     }

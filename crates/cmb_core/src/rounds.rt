@@ -22,7 +22,7 @@ impl Cluster {
         ensures { result ≡ ((wave_at self.now.waves net).clock == self.now.horizon) }
     {
         match self.output_place(net) {
-            Some(slot) => self.waves.at(slot).clock() == self.horizon,
+            Some(slot) => self.waves.tip(slot).clock == self.horizon,
             None => unreachable!(),
         }
     }

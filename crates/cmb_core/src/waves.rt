@@ -2,9 +2,9 @@
 
 ghost use Rattle.std.specs.Prelude.{◌≡◌, ◌≤◌, ◌<◌, ℕ, List, IfOk, IfErr, OnOk, OnErr, Ok, [], length, map, slice_index_or, slice_set};
 ghost use Rattle.cmb_wave.specs.Waveform.{IsTrace, last_level, level_at, level_before};
-ghost use Rattle.cmb_wave.specs.Wave.{Wave as WaveOf, new_wave, grown};
-ghost use Rattle.cmb_wave.specs.Calls.{taken, hears, heard_wave, RefusesAs};
-ghost use Rattle.cmb_core.specs.Tips.{AreSkips, AreTips, IsTip};
+ghost use Rattle.cmb_wave.specs.Wave.{Wave as WaveOf, new_wave, grown, wave_up_to};
+ghost use Rattle.cmb_wave.specs.Calls.{cut, promised, taken, hears, heard_wave, RefusesAs};
+ghost use Rattle.cmb_core.specs.Tips.{AreEnds, AreSkips, AreTips, IsTip, held_waves};
 ghost use Rattle.cmb_core.specs.Trims.{trimmed_to};
 
 use crate::tip::Tip;
@@ -27,8 +27,32 @@ fn first_short(tips: &[Tip], skips: &[usize], slot: usize, horizon: u32) -> usiz
     at.min(tips.len())
 }
 
-/// Waves, each with its end in a list of its own, so that a step that finds nothing new reads that
-/// list alone. For each place a later one is kept, so that waves between the two, which are known up
+// Tells a wave that it goes on without a change.
+fn hold(wave: &mut Wave, upto: u32)
+    requires { wave.old.clock ≤ upto }
+    ensures { wave.new ≡ wave_up_to wave.old upto }
+{
+    let still = Promise {
+        upto,
+        ..wave.promise()
+    };
+    wave.hear(still);
+}
+
+// Waves that each went on without a change up to the clock of its tip.
+fn all_held(mut waves: Vec<Wave>, tips: &[Tip]) -> Vec<Wave>
+    requires { AreEnds waves.items tips.now }
+    ensures { result.items ≡ held_waves waves.items tips.now }
+{
+    for slot in 0..waves.len() {
+        hold(&mut waves[slot], tips[slot].clock);
+    }
+    waves
+}
+
+/// Waves, each with its end in a list of its own, so that a step that finds nothing new reads and
+/// writes that list alone: a wave's clock stands there, and the wave itself is told it when a call
+/// needs it. For each place a later one is kept, so that waves between the two, which are known up
 /// to the horizon, are passed over.
 #[derive(Debug, Drop)]
 pub struct Waves {
@@ -41,13 +65,13 @@ pub struct Waves {
 impl Model for Waves {
     ghost use Rattle.std.specs.Prelude.{List, length, ◌≡◌};
     ghost use Rattle.cmb_wave.specs.Wave.{Wave};
-    ghost use Rattle.cmb_core.specs.Tips.{AreTips, AreSkips};
+    ghost use Rattle.cmb_core.specs.Tips.{AreEnds, AreSkips, held_waves};
 
     ghost Value = { List Wave };
 
-    ghost view = { λ w. w.waves.items };
+    ghost view = { λ w. held_waves w.waves.items w.tips.items };
 
-    ghost invariant = { λ w. record { tips : AreTips w.waves.items w.tips.items; count : length w.skips.items ≡ length w.waves.items; skips : AreSkips w.horizon w.waves.items w.skips.items } };
+    ghost invariant = { λ w. record { ends : AreEnds w.waves.items w.tips.items; held : length (held_waves w.waves.items w.tips.items) ≡ length w.waves.items; count : length w.skips.items ≡ length w.waves.items; skips : AreSkips w.horizon (held_waves w.waves.items w.tips.items) w.skips.items } };
 }
 
 impl Waves {
@@ -92,7 +116,7 @@ impl Waves {
     pub fn into_list(self) -> Vec<Wave>
         ensures { result.items ≡ self }
     {
-        self.waves
+        all_held(self.waves, &self.tips)
     }
 
     // Whether the wave in a place isn't known up to the horizon.
@@ -112,12 +136,33 @@ impl Waves {
         *self.waves.allocator()
     }
 
-    /// The wave in a place.
+    /// The wave in a place, but for its clock, which is its tip's.
     pub fn at(&self, slot: usize) -> &Wave
         requires { slot < length self.now }
-        ensures { result.now ≡ slice_index_or self.now slot (new_wave 0) }
+        ensures { wave_up_to result.now (slice_index_or self.now slot (new_wave 0)).clock ≡ slice_index_or self.now slot (new_wave 0) }
     {
         &self.waves[slot]
+    }
+
+    /// The piece of the wave in a place from a tick up to its clock, None where they are one.
+    pub fn cut(&self, slot: usize, from: u32) -> Result<Option<Piece>, AllocError>
+        requires slot { slot < length self.now }
+        requires known { from ≤ (slice_index_or self.now slot (new_wave 0)).clock }
+        requires kept { (slice_index_or self.now slot (new_wave 0)).base ≤ from }
+        ensures { IfOk result (λ piece. piece ≡ cut (slice_index_or self.now slot (new_wave 0)) from) }
+    {
+        self.waves[slot].cut_up_to(from, self.tips[slot].clock)
+    }
+
+    /// What the wave in a place can promise: its count and its clock.
+    pub fn promise(&self, slot: usize) -> Promise
+        requires { slot < length self.now }
+        ensures { result ≡ promised (slice_index_or self.now slot (new_wave 0)) }
+    {
+        Promise {
+            upto: self.tips[slot].clock,
+            ..self.waves[slot].promise()
+        }
     }
 
     /// The end of the wave in a place.
@@ -150,28 +195,13 @@ impl Waves {
         ensures unchanged { OnErr result (self.new ≡ self.old) }
     {
         if changes.is_empty() {
-            self.hold(slot, to);
+            self.tips[slot].clock = to;
             return Ok(());
         }
         let wave = &mut self.waves[slot];
         wave.extend(to, changes)?;
         self.tips[slot] = self.tips[slot].after(wave, changes);
         Ok(())
-    }
-
-    // Lets the wave in a place go on without a change, which is what a promise of its own tells it.
-    fn hold(&mut self, slot: usize, to: u32)
-        requires slot { slot < length self.old }
-        requires later { (slice_index_or self.old slot (new_wave 0)).clock ≤ to }
-        ensures { self.new ≡ slice_set self.old slot (grown (slice_index_or self.old slot (new_wave 0)) to []) }
-    {
-        let wave = &mut self.waves[slot];
-        let still = Promise {
-            upto: to,
-            ..wave.promise()
-        };
-        wave.hear(still);
-        self.tips[slot] = self.tips[slot].after(wave, &[]);
     }
 
     /// Lets the wave in a place go on, as `Wave::grow` does.
@@ -184,9 +214,10 @@ impl Waves {
         ensures unchanged { OnErr result (self.new ≡ self.old) }
     {
         let wave = &mut self.waves[slot];
-        let piece = wave.grow(to, changes)?;
+        hold(wave, self.tips[slot].clock);
+        let answer = wave.grow(to, changes);
         self.tips[slot] = Tip::of(wave);
-        Ok(piece)
+        answer
     }
 
     /// Gives a piece to the wave in a place, as `Wave::take` does.
@@ -202,6 +233,7 @@ impl Waves {
         ensures later { (slice_index_or self.old slot (new_wave 0)).clock ≤ (slice_index_or self.new slot (new_wave 0)).clock }
     {
         let wave = &mut self.waves[slot];
+        hold(wave, self.tips[slot].clock);
         let answer = wave.take(piece);
         self.tips[slot] = Tip::of(wave);
         answer
@@ -217,6 +249,7 @@ impl Waves {
         ensures later { (slice_index_or self.old slot (new_wave 0)).clock ≤ (heard_wave (slice_index_or self.old slot (new_wave 0)) promise).clock }
     {
         let wave = &mut self.waves[slot];
+        hold(wave, self.tips[slot].clock);
         let answer = wave.hear(promise);
         self.tips[slot] = Tip::of(wave);
         answer
@@ -228,10 +261,12 @@ impl Waves {
         requires known { least ≤ (slice_index_or self.old slot (new_wave 0)).clock }
         ensures { self.new ≡ slice_set self.old slot (trimmed_to least (slice_index_or self.old slot (new_wave 0))) }
     {
-        let wave = &mut self.waves[slot];
-        if wave.base() < least {
-            wave.forget(least);
-            self.tips[slot] = Tip::of(wave);
+        if self.waves[slot].base() >= least {
+            return;
         }
+        let wave = &mut self.waves[slot];
+        hold(wave, self.tips[slot].clock);
+        wave.forget(least);
+        self.tips[slot] = Tip::of(wave);
     }
 }

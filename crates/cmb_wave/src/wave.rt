@@ -3,7 +3,7 @@
 ghost use Rattle.std.specs.Prelude.{◌≡◌, ◌+◌, ◌≤◌, ◌<◌, IfOk, IfErr, OnOk, OnErr, length, ◌++◌};
 ghost use Rattle.cmb_wave.specs.Waveform.{level_at, level_before, last_level, clash, IsTrace, Rises};
 ghost use Rattle.cmb_wave.specs.declared.level.Level.TheVariants.{X};
-ghost use Rattle.cmb_wave.specs.Wave.{new_wave, grown, wave_from};
+ghost use Rattle.cmb_wave.specs.Wave.{new_wave, grown, wave_from, wave_up_to};
 ghost use Rattle.cmb_wave.specs.Calls.{taken, hears, heard_wave, cut, promised, RefusesAs};
 ghost use Rattle.cmb_wave.specs.Faults.{number_of_wave_fault};
 
@@ -273,17 +273,28 @@ impl Wave {
     }
 
     /// The piece from the tick `from` up to the clock, None where they are one.
-    #[tactic(auto, using(crate::proofs::Lists::trace_drop, crate::proofs::Lists::part_of_trace))]
     pub fn cut(&self, from: u32) -> Result<Option<Piece>, AllocError>
         requires known { from ≤ self.now.clock }
         requires kept { self.now.base ≤ from }
         ensures { IfOk result (λ piece. piece ≡ cut self.now from) }
     {
-        if from == self.clock {
+        self.cut_up_to(from, self.clock)
+    }
+
+    /// The piece from the tick `from` up to the tick `upto`, None where they are one, of a wave that is
+    /// known to go on without a change from its clock up to `upto`.
+    #[tactic(auto, using(crate::proofs::Lists::trace_drop, crate::proofs::Lists::trace_widen, crate::proofs::Lists::part_of_trace))]
+    pub fn cut_up_to(&self, from: u32, upto: u32) -> Result<Option<Piece>, AllocError>
+        requires later { self.now.clock ≤ upto }
+        requires known { from ≤ upto }
+        requires kept { self.now.base ≤ from }
+        ensures { IfOk result (λ piece. piece ≡ cut (wave_up_to self.now upto) from) }
+    {
+        if from == upto {
             return Ok(None);
         }
         let changes = Vec::from_slice(*self.changes.allocator(), since(self.changes(), from))?;
-        Ok(Some(Piece::of_trace(self.net, from, self.clock, changes)))
+        Ok(Some(Piece::of_trace(self.net, from, upto, changes)))
     }
 
     /// Forgets the changes below the tick `upto`, which is then the base, and keeps the level that

@@ -1,4 +1,6 @@
-use Rattle.std.proofs.Common.{◌-◌, ◌≤◌, arith, sym, ◌∙◌}
+use Rattle.std.proofs.Common.{◌≡◌, ◌-◌, ◌≤◌, ap, arith, sym, ◌∙◌}
+use Rattle.cmb_wave.specs.Wave.{Wave}
+use Rattle.cmb_wave.specs.Waveform.{level_at}
 use Rattle.cmb_core.specs.Arrivals.{last_sample}
 use Rattle.cmb_core.specs.Step.{wave_at}
 use Rattle.cmb_core.proofs.Skips.{arrived_sampled, sampled_rest}
@@ -13,5 +15,7 @@ returns-then-tip-seen c = λ t h k.
 
 pub returns-else-tip-seen : goal.returns-else-tip-seen
 returns-else-tip-seen c = λ t h k.
-    rw (c.set-else-tip-seen.ensures.level, c.set-else-tip-seen.ensures.lag, c.set-else-tip-seen.ensures.rest, c.left_near_end-left.ensures.level, c.left_near_end-left.ensures.changes, c.kept.ensures.kept, c.changes.ensures.changes, c.operand_wave-wave.ensures)
-    (sampled_rest (wave_at c.args.waves.now c.args.operand.net).kept (wave_at c.args.waves.now c.args.operand.net).changes c.args.first c.args.period c.args.operand.delay c.seen_upto-seen.result t c.requires.positive k (c.seen_upto-seen.ensures t h k))
+    let wave : Wave = c.operand_wave-wave.result.now in
+    let at : level_at wave.kept wave.changes (last_sample c.args.first c.args.period (t - c.args.operand.delay)) ≡ level_at (wave_at c.args.waves.now c.args.operand.net).kept (wave_at c.args.waves.now c.args.operand.net).changes (last_sample c.args.first c.args.period (t - c.args.operand.delay)) = ap (λ (w : Wave). level_at w.kept w.changes (last_sample c.args.first c.args.period (t - c.args.operand.delay))) c.operand_wave-wave.ensures in
+    rw (c.set-else-tip-seen.ensures.level, c.set-else-tip-seen.ensures.lag, c.set-else-tip-seen.ensures.rest, c.left_near_end-left.ensures.level, c.left_near_end-left.ensures.changes, c.kept.ensures.kept, c.changes.ensures.changes)
+    (sampled_rest wave.kept wave.changes c.args.first c.args.period c.args.operand.delay c.seen_upto-seen.result t c.requires.positive k (c.seen_upto-seen.ensures t h k) ∙ at)

@@ -7,4 +7,4 @@ pub returns-in-Some : goal.returns-in-Some
 returns-in-Some c =
     let place : input_slot c.args.self.now c.args.net ≡ Some c.in-Some.place = sym c.input_place.ensures.place ∙ c.in-Some.is in
     let same = ap (λ s. slot_wave s c.in-Some.place) c.self.view_is in
-    ap (λ t. Some t) (c.clock.ensures ∙ ap (λ w. w.clock) (c.at.ensures ∙ same ∙ input_wave c.args.self.now c.args.net c.in-Some.place place)) ∙ sym (ap (told_at (λ w. w.clock) c.args.self.now c.args.net) place)
+    ap (λ t. Some t) (c.tip.ensures.clock ∙ ap (λ w. w.clock) (same ∙ input_wave c.args.self.now c.args.net c.in-Some.place place)) ∙ sym (ap (told_at (λ w. w.clock) c.args.self.now c.args.net) place)

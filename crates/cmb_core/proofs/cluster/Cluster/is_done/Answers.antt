@@ -8,5 +8,5 @@ pub returns : goal.returns
 returns c =
     let place : output_slot c.args.self.now c.args.net ≡ Some c.in-Some.slot = sym c.output_place.ensures.place ∙ c.in-Some.is in
     let same = ap (λ s. slot_wave s c.in-Some.slot) c.self.view_is in
-    ap (λ t. eqb t c.self.inside.horizon) (c.clock.ensures ∙ ap (λ w. w.clock) (c.at.ensures ∙ same ∙ output_wave c.args.self.now c.args.net c.in-Some.slot place))
+    ap (λ t. eqb t c.self.inside.horizon) (c.tip.ensures.clock ∙ ap (λ w. w.clock) (same ∙ output_wave c.args.self.now c.args.net c.in-Some.slot place))
     ∙ ap (λ s. eqb (wave_at c.args.self.now.waves c.args.net).clock s.horizon) c.self.view_is

@@ -1,28 +1,75 @@
-use Rattle.std.proofs.Common.{◌≡◌, ◌<◌, ◌≤◌, length, get_or, length-set, arith, sym, ◌∙◌, ap, subst}
+use Rattle.std.proofs.Common.{◌≡◌, ◌<◌, ◌≤◌, [], length, get_or, length-set, set, arith, sym, ◌∙◌, ap, subst, refl}
+use Rattle.std.proofs.lemmas.Bool.Decides.{nat_tests}
 use Rattle.std.proofs.lemmas.List.{get_or_read}
-use Rattle.cmb_wave.specs.Wave.{Wave, grown, new_wave}
+use Rattle.cmb_wave.specs.Wave.{Wave, grown, new_wave, wave_up_to}
+use Rattle.cmb_wave.specs.Waveform.{IsTrace, last_level}
 use Rattle.cmb_wave.proofs.Lists.{trace_low}
 use Rattle.cmb_core.specs.declared.tip.Tip.{Tip}
-use Rattle.cmb_core.specs.Tips.{IsTip, no_tip}
-use Rattle.cmb_core.proofs.TipFacts.{skips_set, tips_set}
+use Rattle.cmb_core.specs.Tips.{IsTip, IsEnd, no_tip}
+use Rattle.cmb_core.proofs.Ends.{empty_of, end_later, end_of, ends_on, ends_set, grown_none, held_of, length_held, place_of, skips_held, skips_on, trace_sooner, view_on, view_set}
 use Rattle.cmb_core.proofs.waves.Waves.extend.Goals as goal
+
+pub invariant_of-self : goal.invariant_of-self
+invariant_of-self c =
+    let i = c.self.inside in
+    let at = place_of i.waves.items i.tips.items c.args.self.now c.args.slot c.self.invariant.ends c.self.view_is c.requires.slot in
+    let end : Tip = get_or i.tips.items c.args.slot no_tip in
+    let tip : c.index_mut.result.now ≡ end = get_or_read _ _ _ at.place c.index_mut.ensures.value no_tip in
+    let on : end.clock ≤ c.args.to = omega (arith, trace_low _ _ _ _ c.requires.trace, ap (λ (w : Wave). w.clock) at.wave) in
+    rw tip (record {
+      ends = ends_on _ _ _ _ c.self.invariant.ends at.there (end_later end _ c.args.to at.end on);
+      held = length_held _ _;
+      count = c.self.invariant.count;
+      skips = skips_on _ _ _ _ _ _ c.self.invariant.ends c.self.invariant.skips at.there on;
+    })
+
+pub returns-then-is_empty-clause-ok : goal.returns-then-is_empty-clause-ok
+returns-then-is_empty-clause-ok c =
+    let i = c.self.inside in
+    let at = place_of i.waves.items i.tips.items c.args.self.now c.args.slot c.self.invariant.ends c.self.view_is c.requires.slot in
+    let none : c.args.changes.now ≡ [] = empty_of c.args.changes.now (grind (arith, nat_tests)) in
+    view_on i.waves.items i.tips.items c.args.self.now c.args.slot _ c.self.invariant.ends c.self.view_is ∙ ap (set c.args.self.now c.args.slot) (ap (λ (w : Wave). wave_up_to w c.args.to) (sym at.wave) ∙ grown_none (get_or c.args.self.now c.args.slot (new_wave 0)) c.args.to ∙ ap (grown (get_or c.args.self.now c.args.slot (new_wave 0)) c.args.to) (sym none))
+
+pub extend-requires : goal.extend-requires
+extend-requires c =
+    let i = c.self.inside in
+    let at = place_of i.waves.items i.tips.items c.args.self.now c.args.slot c.self.invariant.ends c.self.view_is c.requires.slot in
+    let old : Wave = get_or i.waves.items c.args.slot (new_wave 0) in
+    let lent : c.index_mut-wave.result.now ≡ old = get_or_read _ _ _ at.there c.index_mut-wave.ensures.value (new_wave 0) in
+    let P : Wave → Type 0 = λ w. IsTrace (last_level w.kept w.changes) w.clock c.args.changes.now c.args.to in
+    subst P (sym lent) (trace_sooner (last_level old.kept old.changes) old.clock _ c.args.to c.args.changes.now at.end.later (subst P at.wave c.requires.trace))
+
+is : (c : goal.After-self-3-1) → IsTip c.after.result c.extend.new.self
+is c =
+    let i = c.self.inside in
+    let at = place_of i.waves.items i.tips.items c.args.self.now c.args.slot c.self.invariant.ends c.self.view_is c.requires.slot in
+    let old : Wave = get_or i.waves.items c.args.slot (new_wave 0) in
+    let end : Tip = get_or i.tips.items c.args.slot no_tip in
+    let lent : c.index_mut-wave.result.now ≡ old = get_or_read _ _ _ at.there c.index_mut-wave.ensures.value (new_wave 0) in
+    let tip : c.index.result.now ≡ end = get_or_read _ _ _ at.place c.index.ensures no_tip in
+    let went : c.extend.new.self ≡ grown old c.args.to c.args.changes.now = c.in_ok-extend.ensures.ok ∙ ap (λ w. grown w c.args.to c.args.changes.now) lent in
+    let clock : c.extend.new.self.clock ≡ c.args.to = ap (λ w. w.clock) went in
+    let P : Tip → Type 0 = λ t. IsTip t (wave_up_to old end.clock) in
+    c.after.ensures (wave_up_to old end.clock) (subst P (sym tip) at.end.held) (went ∙ ap (λ t. grown old t c.args.changes.now) (sym clock))
 
 pub invariant_of-self-2 : goal.invariant_of-self-2
 invariant_of-self-2 c =
     let i = c.self.inside in
-    let there : c.args.slot < length i.waves.items = omega (arith, c.requires.slot, ap length c.self.view_is) in
-    let place : c.args.slot < length i.tips.items = omega (arith, there, c.self.invariant.tips.count) in
-    let old : Wave = get_or i.waves.items c.args.slot (new_wave 0) in
-    let lent : c.index_mut-wave.result.now ≡ old = get_or_read _ _ _ there c.index_mut-wave.ensures.value (new_wave 0) in
-    let tip : c.index.result.now ≡ get_or i.tips.items c.args.slot no_tip = get_or_read _ _ _ place c.index.ensures no_tip in
-    let went : c.extend.new.self ≡ grown old c.args.to c.args.changes.now = c.in_ok-extend.ensures.ok ∙ ap (λ w. grown w c.args.to c.args.changes.now) lent in
-    let clock : c.extend.new.self.clock ≡ c.args.to = ap (λ w. w.clock) went in
-    let P : Tip → Type 0 = λ t. IsTip t old in
-    let is : IsTip c.after.result c.extend.new.self = c.after.ensures old (subst P (sym tip) (c.self.invariant.tips.each c.args.slot there)) (went ∙ ap (λ t. grown old t c.args.changes.now) (sym clock)) in
-    let same : get_or c.args.self.now c.args.slot (new_wave 0) ≡ old = ap (λ ws. get_or ws c.args.slot (new_wave 0)) (sym c.self.view_is) in
-    let on : old.clock ≤ c.args.to = omega (arith, trace_low _ _ _ _ c.requires.trace, ap (λ w. w.clock) same) in
+    let at = place_of i.waves.items i.tips.items c.args.self.now c.args.slot c.self.invariant.ends c.self.view_is c.requires.slot in
+    let clock : c.extend.new.self.clock ≡ c.args.to = ap (λ w. w.clock) c.in_ok-extend.ensures.ok in
+    let on : (get_or i.tips.items c.args.slot no_tip).clock ≤ c.after.result.clock = omega (arith, trace_low _ _ _ _ c.requires.trace, ap (λ (w : Wave). w.clock) at.wave, (is c).clock, clock) in
     record {
-      tips = tips_set _ _ _ _ _ c.self.invariant.tips there is;
+      ends = ends_set _ _ _ _ _ c.self.invariant.ends at.there (end_of _ _ (is c));
+      held = length_held _ _;
       count = c.self.invariant.count ∙ sym (length-set i.waves.items c.args.slot c.extend.new.self);
-      skips = skips_set _ _ _ _ _ c.self.invariant.skips there (omega (arith, on, clock));
+      skips = skips_held _ _ _ _ _ _ _ c.self.invariant.ends c.self.invariant.skips at.there on;
     }
+
+pub returns-clause-ok : goal.returns-clause-ok
+returns-clause-ok c =
+    let i = c.self.inside in
+    let at = place_of i.waves.items i.tips.items c.args.self.now c.args.slot c.self.invariant.ends c.self.view_is c.requires.slot in
+    let old : Wave = get_or i.waves.items c.args.slot (new_wave 0) in
+    let lent : c.index_mut-wave.result.now ≡ old = get_or_read _ _ _ at.there c.index_mut-wave.ensures.value (new_wave 0) in
+    let went : c.extend.new.self ≡ grown old c.args.to c.args.changes.now = c.in_ok-extend.ensures.ok ∙ ap (λ w. grown w c.args.to c.args.changes.now) lent in
+    view_set i.waves.items i.tips.items c.args.self.now c.args.slot c.extend.new.self _ c.after.result c.self.invariant.ends c.self.view_is (held_of _ _ (is c) ∙ went ∙ ap (λ (w : Wave). grown w c.args.to c.args.changes.now) (sym at.wave))

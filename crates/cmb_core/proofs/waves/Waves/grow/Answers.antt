@@ -1,18 +1,46 @@
-use Rattle.std.proofs.Common.{◌≡◌, ◌<◌, ◌≤◌, length, get_or, length-set, arith, sym, ◌∙◌, ap}
-use Rattle.std.proofs.lemmas.List.{get_or_read}
-use Rattle.cmb_wave.specs.Wave.{Wave, new_wave}
-use Rattle.cmb_core.proofs.TipFacts.{skips_set, tips_set}
+use Rattle.std.proofs.Common.{◌≡◌, ◌<◌, ◌≤◌, get_or, arith, sym, ◌∙◌, ap, subst, set}
+use Rattle.cmb_wave.specs.Waveform.{IsTrace, last_level}
+use Rattle.cmb_wave.specs.Wave.{Piece, Wave, grown, new_wave}
+use Rattle.cmb_core.proofs.AdvanceLemmas.{if_ok_map}
+use Rattle.cmb_core.proofs.Ends.{Renewed, caught_up, either_way, length_held, on_err_map, on_ok_map, place_of, renewed, unchanged}
 use Rattle.cmb_core.proofs.waves.Waves.grow.Goals as goal
 
-pub invariant_of-self-2 : goal.invariant_of-self-2
-invariant_of-self-2 c =
+before : (c : goal.After-grow-arg-1) → c.hold.new.wave ≡ get_or c.args.self.now c.args.slot (new_wave 0)
+before c =
     let i = c.self.inside in
-    let there : c.args.slot < length i.waves.items = omega (arith, ap length c.self.view_is) in
-    let lent : c.index_mut-wave.result.now ≡ get_or i.waves.items c.args.slot (new_wave 0) = get_or_read _ _ _ there c.index_mut-wave.ensures.value (new_wave 0) in
-    let same : get_or c.args.self.now c.args.slot (new_wave 0) ≡ get_or i.waves.items c.args.slot (new_wave 0) = ap (λ ws. get_or ws c.args.slot (new_wave 0)) (sym c.self.view_is) in
-    let on : (get_or i.waves.items c.args.slot (new_wave 0)).clock ≤ c.grow.new.self.clock = omega (arith, ap (λ (w : Wave). w.clock) same, c.requires.later, ap (λ (w : Wave). w.clock) c.in_ok-piece.ensures.ok) in
-    record {
-      tips = tips_set i.waves.items i.tips.items c.args.slot c.grow.new.self c.of.result c.self.invariant.tips there c.of.ensures;
-      count = c.self.invariant.count ∙ sym (length-set i.waves.items c.args.slot c.grow.new.self);
-      skips = skips_set i.horizon i.waves.items i.skips.items c.args.slot c.grow.new.self c.self.invariant.skips there on;
-    }
+    caught_up i.waves.items i.tips.items c.args.self.now c.args.slot c.index_mut-wave.result.now c.hold.new.wave c.index.result.now (place_of i.waves.items i.tips.items c.args.self.now c.args.slot c.self.invariant.ends c.self.view_is c.requires.slot) c.index_mut-wave.ensures.value c.index.ensures c.hold.ensures
+
+pub grow-answer-requires-clause-later : goal.grow-answer-requires-clause-later
+grow-answer-requires-clause-later c = rw (before c) c.requires.later
+
+pub grow-answer-requires-clause-trace : goal.grow-answer-requires-clause-trace
+grow-answer-requires-clause-trace c =
+    let P : Wave → Type 0 = λ w. IsTrace (last_level w.kept w.changes) w.clock c.args.changes.items c.args.to in
+    subst P (sym (before c)) c.requires.trace
+
+now : (c : goal.After-self-2-1) → c.hold.new.wave ≡ get_or c.args.self.now c.args.slot (new_wave 0)
+now c =
+    let i = c.self.inside in
+    caught_up i.waves.items i.tips.items c.args.self.now c.args.slot c.index_mut-wave.result.now c.hold.new.wave c.index.result.now (place_of i.waves.items i.tips.items c.args.self.now c.args.slot c.self.invariant.ends c.self.view_is c.requires.slot) c.index_mut-wave.ensures.value c.index.ensures c.hold.ensures
+
+facts : (c : goal.After-self-2-1) → Renewed c.self.inside.horizon c.self.inside.waves.items c.self.inside.tips.items c.self.inside.skips.items c.args.self.now c.args.slot c.grow-answer.new.self c.of.result
+facts c =
+    let i = c.self.inside in
+    let clock : c.hold.new.wave.clock ≡ (get_or c.args.self.now c.args.slot (new_wave 0)).clock = ap (λ (w : Wave). w.clock) (now c) in
+    let later : (get_or c.args.self.now c.args.slot (new_wave 0)).clock ≤ c.grow-answer.new.self.clock = either_way c.grow-answer.result _
+    (on_ok_map c.grow-answer.result _ _ (λ e. omega (arith, c.requires.later, ap (λ (w : Wave). w.clock) e)) c.grow-answer.ensures.ok)
+    (on_err_map c.grow-answer.result _ _ (λ e. omega (arith, clock, ap (λ (w : Wave). w.clock) e)) c.grow-answer.ensures.unchanged)
+    in
+    renewed i.horizon i.waves.items i.tips.items i.skips.items c.args.self.now c.args.slot c.grow-answer.new.self c.of.result c.self.invariant.ends c.self.view_is c.self.invariant.count c.self.invariant.skips c.requires.slot c.of.ensures later
+
+pub invariant_of-self : goal.invariant_of-self
+invariant_of-self c = let f = facts c in record { ends = f.ends; held = length_held _ _; count = f.count; skips = f.skips }
+
+pub returns-clause-ok : goal.returns-clause-ok
+returns-clause-ok c = on_ok_map c.grow-answer.result _ _ (λ e. (facts c).view ∙ ap (set c.args.self.now c.args.slot) (e ∙ ap (λ w. grown w c.args.to c.args.changes.items) (now c))) c.grow-answer.ensures.ok
+
+pub returns-clause-piece : goal.returns-clause-piece
+returns-clause-piece c = if_ok_map c.grow-answer.result _ _ (λ p e. e ∙ ap (λ (w : Wave). record { net = w.net; from = w.clock; to = c.args.to; changes = c.args.changes.items }) (now c)) c.grow-answer.ensures.piece
+
+pub returns-clause-unchanged : goal.returns-clause-unchanged
+returns-clause-unchanged c = on_err_map c.grow-answer.result _ _ (λ e. (facts c).view ∙ unchanged c.args.self.now c.args.slot _ (e ∙ now c)) c.grow-answer.ensures.unchanged
