@@ -114,7 +114,7 @@ end_of tip wave is = record {
 pub end_later : (tip : Tip) (wave : Wave) (clock : ℕ) → IsEnd tip wave → tip.clock ≤ clock → IsEnd (record { clock = clock; before = tip.before; newest = tip.newest }) wave
 end_later tip wave clock is h = record {
   later = omega (arith, is.later, h);
-  held = record { clock = refl; last = is.held.last; told = is.held.told; steady = is.held.steady };
+  held = record { middle = is.held.middle; last = is.held.last; two = is.held.two; clock = refl; within = omega (arith, h, is.held.within); ends = is.held.ends; told = is.held.told; later = is.held.later; steady = is.held.steady };
 }
 
 pub ends_set : (ws : List Wave) (ts : List Tip) (n : ℕ) (w : Wave) (t : Tip) → AreEnds ws ts → n < length ws → IsEnd t w → AreEnds (set ws n w) (set ts n t)

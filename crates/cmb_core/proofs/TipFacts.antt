@@ -3,7 +3,7 @@ use Rattle.std.proofs.Common.{◌≡◌, ℕ, zero, suc, ◌-◌, ◌<◌, ◌�
 use Rattle.std.proofs.lemmas.Bool.{cases_eq}
 use Rattle.std.proofs.lemmas.Bool.Decides.{nat_tests}
 use Rattle.std.proofs.Math.Seq.{get_or-append_seam}
-use Rattle.std.proofs.lemmas.List.{append-nil, get_or-set_same, get_or-set_other, get_or_append_left, length-set, length_push, take_all}
+use Rattle.std.proofs.lemmas.List.{append-nil, get_or-set_same, get_or-set_other, get_or_append_left, length-set, length_push, take_all, append_assoc}
 use Rattle.cmb_wave.specs.declared.level.Level.{Level}
 use Rattle.cmb_wave.specs.declared.level.Level.TheVariants.{X}
 use Rattle.cmb_wave.specs.declared.level.Change.{Change}
@@ -62,88 +62,117 @@ level_at_append low kept (c ∷ cs) ds t r = go (nat_le c.tick t) refl (level_at
         let before : t < suc c.tick = grind (arith, nat_tests) in
         sym (level_at_early (suc c.tick) kept ds t (low_rest (suc c.tick) (suc c.tick) cs (omega arith) r.1) before)
 
-pub tip_of_none : (wave : Wave) (clock : ℕ) (kept : Level) → clock ≡ wave.clock → kept ≡ wave.kept → wave.changes ≡ []
-    → IsTip (record { clock = clock; before = record { tick = 0; level = kept }; newest = record { tick = 0; level = kept } ∷ [] }) wave
-tip_of_none wave clock kept same level none = record {
-  clock = same;
-  last = rw none level;
-  told = λ t h. let start : nat_le 0 t ≡ true = grind (arith, nat_tests) in rw (none, start) (sym level);
-  steady = λ c e t h. let is : kept ≡ c.level = ap (λ (x : Change). x.level) (ap (λ xs. get_or xs 0 c) e) in rw none (sym level ∙ is);
-}
+-- its last three changes
+level_at_three : (low : ℕ) (kept : Level) (cs : List Change) (i t : ℕ) (d : Change) → Rises low cs → length cs ≡ suc (suc (suc i)) → (get_or cs i d).tick ≤ t → level_at kept cs t ≡ level_at (get_or cs i d).level (get_or cs (suc i) d ∷ get_or cs (suc (suc i)) d ∷ []) t
+level_at_three low kept [] i t d r many h = absurd (omega (arith, many))
+level_at_three low kept (a ∷ []) i t d r many h = absurd (omega (arith, many))
+level_at_three low kept (a ∷ b ∷ []) i t d r many h = absurd (omega (arith, many))
+level_at_three low kept (a ∷ b ∷ c ∷ []) zero t d r many h = let passed : nat_le a.tick t ≡ true = grind (arith, nat_tests) in rw passed refl
+level_at_three low kept (a ∷ b ∷ c ∷ []) (suc i) t d r many h = absurd (omega (arith, many))
+level_at_three low kept (a ∷ b ∷ c ∷ e ∷ cs) zero t d r many h = absurd (omega (arith, many))
+level_at_three low kept (a ∷ b ∷ c ∷ e ∷ cs) (suc i) t d r many h =
+    let rest : length (b ∷ c ∷ e ∷ cs) ≡ suc (suc (suc i)) = omega (arith, many) in
+    let later : suc a.tick ≤ (get_or (b ∷ c ∷ e ∷ cs) i d).tick = rises_get (suc a.tick) (b ∷ c ∷ e ∷ cs) i d r.1 (omega (arith, rest)) in
+    let early : a.tick ≤ t = omega (arith, later, h) in
+    let passed : nat_le a.tick t ≡ true = grind (arith, nat_tests) in
+    rw passed (level_at_three (suc a.tick) a.level (b ∷ c ∷ e ∷ cs) i t d r.1 rest h)
 
-pub tip_of_one : (wave : Wave) (clock : ℕ) (kept : Level) (one : Change) → clock ≡ wave.clock → kept ≡ wave.kept → wave.changes ≡ one ∷ []
-    → IsTip (record { clock = clock; before = record { tick = 0; level = kept }; newest = one ∷ [] }) wave
-tip_of_one wave clock kept one same level is = record {
+-- the end of a wave without a change
+pub tip_start : (wave : Wave) (clock : ℕ) (start : Change) → clock ≡ wave.clock → start.tick ≡ 0 → start.level ≡ wave.kept → wave.changes ≡ []
+    → IsTip (record { clock = clock; before = start; newest = start ∷ start ∷ [] }) wave
+tip_start wave clock start same early level none = record {
+  middle = start;
+  last = start;
+  two = refl;
   clock = same;
-  last = rw is refl;
-  told = λ t h. rw (is, level) refl;
-  steady = λ c e t h. let passed : nat_le c.tick t ≡ true = grind (arith, nat_tests) in ap (λ xs. level_at wave.kept xs t) (is ∙ e) ∙ rw passed refl;
+  within = omega (arith, early);
+  ends = rw none level;
+  told = λ t h. let passed : nat_le start.tick t ≡ true = grind (arith, nat_tests, early) in rw (none, passed) (sym level);
+  later = λ t h. let passed : nat_le start.tick t ≡ true = grind (arith, nat_tests, early) in rw (none, passed) (sym level);
+  steady = λ t h. rw none (sym level);
 }
-
-pub tip_of_more : (wave : Wave) (cs : List Change) (clock : ℕ) (d : Change) → clock ≡ wave.clock → cs ≡ wave.changes → Rises 0 cs → 1 < length cs
-    → IsTip (record { clock = clock; before = get_or cs (length cs - 2) d; newest = get_or cs (length cs - 1) d ∷ [] }) wave
-tip_of_more wave cs clock d same e r some =
-    let many : length cs ≡ suc (suc (length cs - 2)) = omega (arith, some) in
-    let last : length cs - 1 ≡ suc (length cs - 2) = omega (arith, some) in
-    rw last (record {
-      clock = same;
-      last = sym (ap (last_level wave.kept) (sym e) ∙ sym (ap (last_level wave.kept) (take_all (suc (suc (length cs - 2))) cs (omega (arith, many)))) ∙ last_level_take wave.kept cs (suc (length cs - 2)) d (omega (arith, many)));
-      told = λ t h. ap (λ xs. level_at wave.kept xs t) (sym e) ∙ level_at_two 0 wave.kept cs (length cs - 2) t d r many h;
-      steady = λ c is t h.
-          let same : get_or cs (suc (length cs - 2)) d ≡ c = ap (λ xs. get_or xs 0 c) is in
-          ap (λ xs. level_at wave.kept xs t) (sym e) ∙ level_at_end 0 wave.kept cs (suc (length cs - 2)) t d r many (omega (arith, h, ap (λ (x : Change). x.tick) same)) ∙ ap (λ (x : Change). x.level) same;
-    })
 
 -- a wave that goes on without a change
-pub tip_still : (tip : Tip) (old wave : Wave) (clock : ℕ) → IsTip tip old → clock ≡ wave.clock → wave ≡ grown old wave.clock [] → IsTip (record { clock = clock; before = tip.before; newest = tip.newest }) wave
-tip_still tip old wave clock h same e =
-    let changes : wave.changes ≡ old.changes = ap (λ w. w.changes) e ∙ append-nil old.changes in
-    let kept : wave.kept ≡ old.kept = ap (λ w. w.kept) e in
-    record {
-      clock = same;
-      last = rw (changes, kept) h.last;
-      told = λ t k. rw (changes, kept) (h.told t k);
-      steady = λ c is t k. rw (changes, kept) (h.steady c is t k);
-    }
+pub tip_still : (tip : Tip) (old wave : Wave) (clock : ℕ) → IsTip tip old → clock ≡ wave.clock → old.clock ≤ wave.clock → wave.kept ≡ old.kept → wave.changes ≡ old.changes → IsTip (record { clock = clock; before = tip.before; newest = tip.newest }) wave
+tip_still tip old wave clock h same later kept changes = record {
+  middle = h.middle;
+  last = h.last;
+  two = h.two;
+  clock = same;
+  within = omega (arith, later, h.within);
+  ends = rw (changes, kept) h.ends;
+  told = λ t k. rw (changes, kept) (h.told t k);
+  later = λ t k. rw (changes, kept) (h.later t k);
+  steady = λ t k. rw (changes, kept) (h.steady t k);
+}
+
+-- two changes in a row, the second not before the first
+level_at_pair : (kept : Level) (c d : Change) (t : ℕ) → c.tick ≤ d.tick → level_at (level_at kept (c ∷ []) t) (d ∷ []) t ≡ level_at kept (c ∷ d ∷ []) t
+level_at_pair kept c d t h = go (nat_le c.tick t) (nat_le d.tick t) refl refl
+  where
+    go : (a b : Bool) → nat_le c.tick t ≡ a → nat_le d.tick t ≡ b → cond b d.level (cond a c.level kept) ≡ cond a (cond b d.level c.level) kept
+    go true true p q = refl
+    go true false p q = refl
+    go false true p q = absurd (nonsense (grind (arith, nat_tests)))
+      where
+        nonsense : suc t ≤ t → ⊥
+        nonsense k = omega (arith, k)
+    go false false p q = refl
 
 -- one that goes on by one change
-pub tip_one : (tip : Tip) (old wave : Wave) (clock : ℕ) (newest one : Change) → IsTip tip old → clock ≡ wave.clock → tip.newest ≡ newest ∷ [] → wave ≡ grown old wave.clock (one ∷ []) → Rises 0 wave.changes
-    → IsTip (record { clock = clock; before = newest; newest = one ∷ [] }) wave
-tip_one tip old wave clock newest one h same is e r =
-    let changes : wave.changes ≡ old.changes ++ one ∷ [] = ap (λ w. w.changes) e in
-    let kept : wave.kept ≡ old.kept = ap (λ w. w.kept) e in
-    let rises : Rises 0 (old.changes ++ one ∷ []) = rw changes at r in
+pub tip_push : (tip : Tip) (old wave : Wave) (clock : ℕ) (d : Change) (h : IsTip tip old) → clock ≡ wave.clock → wave.kept ≡ old.kept → wave.changes ≡ old.changes ++ d ∷ [] → Rises 0 wave.changes → old.clock ≤ d.tick → d.tick ≤ wave.clock
+    → IsTip (record { clock = clock; before = h.middle; newest = h.last ∷ d ∷ [] }) wave
+tip_push tip old wave clock d h same kept changes r low high =
+    let rises : Rises 0 (old.changes ++ d ∷ []) = rw changes at r in
+    let order : h.last.tick ≤ d.tick = omega (arith, low, h.within) in
     record {
+      middle = h.last;
+      last = d;
+      two = refl;
       clock = same;
-      last = rw (changes, kept) (sym (last_level_append old.kept old.changes (one ∷ [])));
-      told = λ t k. rw (changes, kept) (level_at_append 0 old.kept old.changes (one ∷ []) t rises ∙ ap (λ l. level_at l (one ∷ []) t) (h.steady newest is t k));
-      steady = λ c q t k.
-          let passed : nat_le c.tick t ≡ true = grind (arith, nat_tests) in
-          rw (changes, kept) (level_at_append 0 old.kept old.changes (one ∷ []) t rises ∙ ap (λ xs. level_at (level_at old.kept old.changes t) xs t) q ∙ rw passed refl);
+      within = high;
+      ends = rw (changes, kept) (sym (last_level_append old.kept old.changes (d ∷ [])));
+      told = λ t k. rw (changes, kept) (level_at_append 0 old.kept old.changes (d ∷ []) t rises ∙ ap (λ l. level_at l (d ∷ []) t) (h.later t k) ∙ level_at_pair h.middle.level h.last d t order);
+      later = λ t k. rw (changes, kept) (level_at_append 0 old.kept old.changes (d ∷ []) t rises ∙ ap (λ l. level_at l (d ∷ []) t) (h.steady t k));
+      steady = λ t k.
+          let passed : nat_le d.tick t ≡ true = grind (arith, nat_tests) in
+          rw (changes, kept) (level_at_append 0 old.kept old.changes (d ∷ []) t rises ∙ rw passed refl);
     }
 
-pub tip_one_of : (tip : Tip) (old wave : Wave) (clock : ℕ) (newest : Change) (cs : List Change) (d : Change) → IsTip tip old → clock ≡ wave.clock → tip.newest ≡ newest ∷ [] → length cs ≡ 1 → wave ≡ grown old wave.clock cs → Rises 0 wave.changes
-    → IsTip (record { clock = clock; before = newest; newest = get_or cs (length cs - 1) d ∷ [] }) wave
-tip_one_of tip old wave clock newest [] d h same is many e r = absurd (omega (arith, many))
-tip_one_of tip old wave clock newest (one ∷ []) d h same is many e r = tip_one tip old wave clock newest one h same is e r
-tip_one_of tip old wave clock newest (one ∷ two ∷ cs) d h same is many e r = absurd (omega (arith, many))
+rises_first : (low : ℕ) (cs ds : List Change) → Rises low (cs ++ ds) → Rises low cs
+rises_first low [] ds r = tt
+rises_first low (c ∷ cs) ds r = (r.0, rises_first (suc c.tick) cs ds r.1)
 
--- one that goes on by more
-pub tip_more : (old wave : Wave) (cs : List Change) (clock : ℕ) (d : Change) → clock ≡ wave.clock → wave ≡ grown old wave.clock cs → Rises 0 wave.changes → Rises 0 cs → 1 < length cs
-    → IsTip (record { clock = clock; before = get_or cs (length cs - 2) d; newest = get_or cs (length cs - 1) d ∷ [] }) wave
-tip_more old wave cs clock d same e r rise some =
-    let changes : wave.changes ≡ old.changes ++ cs = ap (λ w. w.changes) e in
-    let kept : wave.kept ≡ old.kept = ap (λ w. w.kept) e in
+-- by two
+pub tip_push_two : (tip : Tip) (old wave : Wave) (clock : ℕ) (d e : Change) (h : IsTip tip old) → clock ≡ wave.clock → wave.kept ≡ old.kept → wave.changes ≡ old.changes ++ d ∷ e ∷ [] → Rises 0 wave.changes → old.clock ≤ d.tick → d.tick < e.tick → e.tick ≤ wave.clock
+    → IsTip (record { clock = clock; before = h.last; newest = d ∷ e ∷ [] }) wave
+unfolding tip_push
+tip_push_two tip old wave clock d e h same kept changes r low rise high =
+    let half : Wave = record { net = old.net; base = old.base; clock = suc d.tick; count = old.count; kept = old.kept; changes = old.changes ++ d ∷ [] } in
+    let both : old.changes ++ d ∷ e ∷ [] ≡ (old.changes ++ d ∷ []) ++ e ∷ [] = sym (append_assoc old.changes (d ∷ []) (e ∷ [])) in
+    let rises : Rises 0 ((old.changes ++ d ∷ []) ++ e ∷ []) = rw (changes ∙ both) at r in
+    let first = tip_push tip old half (suc d.tick) d h refl refl refl (rises_first 0 (old.changes ++ d ∷ []) (e ∷ []) rises) low (omega arith) in
+    tip_push _ half wave clock e first same kept (changes ∙ both) r (omega (arith, rise)) high
+
+-- by more
+pub tip_more : (old wave : Wave) (cs : List Change) (clock : ℕ) (d : Change) → clock ≡ wave.clock → wave.kept ≡ old.kept → wave.changes ≡ old.changes ++ cs → Rises 0 wave.changes → Rises 0 cs → 2 < length cs → (get_or cs (length cs - 1) d).tick ≤ wave.clock
+    → IsTip (record { clock = clock; before = get_or cs (length cs - 3) d; newest = get_or cs (length cs - 2) d ∷ get_or cs (length cs - 1) d ∷ [] }) wave
+tip_more old wave cs clock d same kept changes r rise some high =
     let rises : Rises 0 (old.changes ++ cs) = rw changes at r in
-    let many : length cs ≡ suc (suc (length cs - 2)) = omega (arith, some) in
-    let last : length cs - 1 ≡ suc (length cs - 2) = omega (arith, some) in
-    rw last (record {
+    let n : ℕ = length cs - 3 in
+    let many : length cs ≡ suc (suc (suc (length cs - 3))) = omega (arith, some) in
+    let middle : length cs - 2 ≡ suc (length cs - 3) = omega (arith, some) in
+    let last : length cs - 1 ≡ suc (suc (length cs - 3)) = omega (arith, some) in
+    rw (middle, last) (record {
+      middle = get_or cs (suc (length cs - 3)) d;
+      last = get_or cs (suc (suc (length cs - 3))) d;
+      two = refl;
       clock = same;
-      last = rw (changes, kept) (sym (last_level_append old.kept old.changes cs ∙ sym (ap (last_level (last_level old.kept old.changes)) (take_all (suc (suc (length cs - 2))) cs (omega (arith, many)))) ∙ last_level_take (last_level old.kept old.changes) cs (suc (length cs - 2)) d (omega (arith, many))));
-      told = λ t h. rw (changes, kept) (level_at_append 0 old.kept old.changes cs t rises ∙ level_at_two 0 (level_at old.kept old.changes t) cs (length cs - 2) t d rise many h);
-      steady = λ c is t h.
-          let same : get_or cs (suc (length cs - 2)) d ≡ c = ap (λ xs. get_or xs 0 c) is in
-          rw (changes, kept) (level_at_append 0 old.kept old.changes cs t rises ∙ level_at_end 0 (level_at old.kept old.changes t) cs (suc (length cs - 2)) t d rise many (omega (arith, h, ap (λ (x : Change). x.tick) same)) ∙ ap (λ (x : Change). x.level) same);
+      within = rw last at high;
+      ends = rw (changes, kept) (sym (last_level_append old.kept old.changes cs ∙ sym (ap (last_level (last_level old.kept old.changes)) (take_all (suc (suc (suc (length cs - 3)))) cs (omega (arith, many)))) ∙ last_level_take (last_level old.kept old.changes) cs (suc (suc (length cs - 3))) d (omega (arith, many))));
+      told = λ t h. rw (changes, kept) (level_at_append 0 old.kept old.changes cs t rises ∙ level_at_three 0 (level_at old.kept old.changes t) cs (length cs - 3) t d rise many h);
+      later = λ t h. rw (changes, kept) (level_at_append 0 old.kept old.changes cs t rises ∙ level_at_two 0 (level_at old.kept old.changes t) cs (suc (length cs - 3)) t d rise many h);
+      steady = λ t h. rw (changes, kept) (level_at_append 0 old.kept old.changes cs t rises ∙ level_at_end 0 (level_at old.kept old.changes t) cs (suc (suc (length cs - 3))) t d rise many h);
     })
 
 -- the second of two lists whose ticks rise
@@ -151,16 +180,40 @@ pub rises_second : (low : ℕ) (cs ds : List Change) → Rises low (cs ++ ds) �
 rises_second low [] ds r = rises_lower 0 low ds (omega arith) r
 rises_second low (c ∷ cs) ds r = rises_second (suc c.tick) cs ds r.1
 
+-- the same in the words of lists
+pub after_one : (tip : Tip) (old wave : Wave) (clock : ℕ) (cs : List Change) (d : Change) → IsTip tip old → clock ≡ wave.clock → wave.kept ≡ old.kept → wave.changes ≡ old.changes ++ cs → Rises 0 wave.changes → length cs ≡ 1 → IsTrace (last_level old.kept old.changes) old.clock cs wave.clock
+    → IsTip (record { clock = clock; before = get_or tip.newest 0 d; newest = get_or tip.newest 1 d ∷ get_or cs (length cs - 1) d ∷ [] }) wave
+after_one tip old wave clock [] d h same kept changes r many trace = absurd (omega (arith, many))
+after_one tip old wave clock (c ∷ []) d h same kept changes r many trace = rw h.two (tip_push tip old wave clock c h same kept changes r trace.0 (omega (arith, trace.1)))
+after_one tip old wave clock (c ∷ e ∷ cs) d h same kept changes r many trace = absurd (omega (arith, many))
+
+pub after_two : (tip : Tip) (old wave : Wave) (clock : ℕ) (cs : List Change) (d : Change) → IsTip tip old → clock ≡ wave.clock → wave.kept ≡ old.kept → wave.changes ≡ old.changes ++ cs → Rises 0 wave.changes → length cs ≡ 2 → IsTrace (last_level old.kept old.changes) old.clock cs wave.clock
+    → IsTip (record { clock = clock; before = get_or tip.newest 1 d; newest = get_or cs (length cs - 2) d ∷ get_or cs (length cs - 1) d ∷ [] }) wave
+after_two tip old wave clock [] d h same kept changes r many trace = absurd (omega (arith, many))
+after_two tip old wave clock (c ∷ []) d h same kept changes r many trace = absurd (omega (arith, many))
+after_two tip old wave clock (c ∷ e ∷ []) d h same kept changes r many trace = rw h.two (tip_push_two tip old wave clock c e h same kept changes r trace.0 trace.3.0 (omega (arith, trace.3.1)))
+after_two tip old wave clock (c ∷ e ∷ f ∷ cs) d h same kept changes r many trace = absurd (omega (arith, many))
+
+trace_last : (kept : Level) (low high : ℕ) (cs : List Change) (i : ℕ) (d : Change) → IsTrace kept low cs high → i < length cs → (get_or cs i d).tick ≤ high
+trace_last kept low high [] i d r h = absurd (omega (arith, h))
+trace_last kept low high (c ∷ cs) zero d r h = omega (arith, r.1)
+trace_last kept low high (c ∷ cs) (suc i) d r h = trace_last c.level (suc c.tick) high cs i d r.3 (omega (arith, h))
+
+pub after_more : (old wave : Wave) (cs : List Change) (clock : ℕ) (d : Change) → clock ≡ wave.clock → wave.kept ≡ old.kept → wave.changes ≡ old.changes ++ cs → Rises 0 wave.changes → 2 < length cs → IsTrace (last_level old.kept old.changes) old.clock cs wave.clock
+    → IsTip (record { clock = clock; before = get_or cs (length cs - 3) d; newest = get_or cs (length cs - 2) d ∷ get_or cs (length cs - 1) d ∷ [] }) wave
+after_more old wave cs clock d same kept changes r some trace =
+    tip_more old wave cs clock d same kept changes r (rises_second 0 old.changes cs (rw changes at r)) some (trace_last _ _ _ cs (length cs - 1) d trace (omega (arith, some)))
+
 -- the level that a tip ends with is the one before the wave's clock
-pub tip_before : (tip : Tip) (wave : Wave) (newest : Change) → IsTip tip wave → tip.newest ≡ newest ∷ [] → IsTrace wave.kept wave.base wave.changes wave.clock → (wave.base ≡ 0 → wave.kept ≡ X)
-    → newest.level ≡ level_before (level_at wave.kept wave.changes) wave.clock
-tip_before tip wave newest h e trace first = (rw e at h.last) ∙ last_before wave.kept wave.base wave.clock wave.changes trace first
+pub tip_before : (tip : Tip) (wave : Wave) (is : IsTip tip wave) → IsTrace wave.kept wave.base wave.changes wave.clock → (wave.base ≡ 0 → wave.kept ≡ X)
+    → is.last.level ≡ level_before (level_at wave.kept wave.changes) wave.clock
+tip_before tip wave is trace first = is.ends ∙ last_before wave.kept wave.base wave.clock wave.changes trace first
 
 -- from its newest change on the wave has that level
-pub settled_tip : (tip : Tip) (wave : Wave) (newest : Change) (delay clock t : ℕ) → IsTip tip wave → tip.newest ≡ newest ∷ [] → delay ≤ clock → newest.tick ≤ clock - delay → clock ≤ t → delayed wave delay t ≡ newest.level
-settled_tip tip wave newest delay clock t h e late passed k =
+pub settled_tip : (tip : Tip) (wave : Wave) (is : IsTip tip wave) (delay clock t : ℕ) → delay ≤ clock → is.last.tick ≤ clock - delay → clock ≤ t → delayed wave delay t ≡ is.last.level
+settled_tip tip wave is delay clock t late passed k =
     let known : nat_lt t delay ≡ false = grind (arith, nat_tests) in
-    rw known (h.steady newest e (t - delay) (omega arith))
+    rw known (is.steady (t - delay) (omega arith))
 
 -- ---- the places that are passed over
 

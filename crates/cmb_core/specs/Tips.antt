@@ -6,12 +6,17 @@ use Rattle.cmb_wave.specs.Waveform.{last_level, level_at}
 use Rattle.cmb_wave.specs.Wave.{Wave, new_wave, wave_up_to}
 use Rattle.cmb_core.specs.declared.tip.Tip.{Tip}
 
--- the wave's clock, the level that it ends with, its levels from the tick of its last change but one on, and from that of its last
+-- the wave's clock, its last two changes, and its levels from the tick of the change before them on, from that of the last but one, and from that of the last
 pub record IsTip (tip : Tip) (wave : Wave) : Type 0 where
+  pub middle : Change
+  pub last : Change
+  pub two : tip.newest ≡ middle ∷ last ∷ []
   pub clock : tip.clock ≡ wave.clock
-  pub last : last_level tip.before.level tip.newest ≡ last_level wave.kept wave.changes
-  pub told : (t : ℕ) → tip.before.tick ≤ t → level_at wave.kept wave.changes t ≡ level_at tip.before.level tip.newest t
-  pub steady : (c : Change) → tip.newest ≡ c ∷ [] → (t : ℕ) → c.tick ≤ t → level_at wave.kept wave.changes t ≡ c.level
+  pub within : last.tick ≤ wave.clock
+  pub ends : last.level ≡ last_level wave.kept wave.changes
+  pub told : (t : ℕ) → tip.before.tick ≤ t → level_at wave.kept wave.changes t ≡ level_at tip.before.level (middle ∷ last ∷ []) t
+  pub later : (t : ℕ) → middle.tick ≤ t → level_at wave.kept wave.changes t ≡ level_at middle.level (last ∷ []) t
+  pub steady : (t : ℕ) → last.tick ≤ t → level_at wave.kept wave.changes t ≡ last.level
 
 abbrev pub no_tip : Tip
 no_tip = record { clock = 0; before = record { tick = 0; level = X }; newest = [] }

@@ -143,9 +143,8 @@ fn set_flop_pin<'a>(
         delay: operand.delay,
     };
     let seen = seen_upto(first, period, operand.delay, clock);
-    let tip = operand_tip(waves, operand);
-    if tip.before.tick <= seen {
-        pin.set(tip.before.level, lag, &tip.newest);
+    if let Some(left) = operand_tip(waves, operand).left_from(seen) {
+        pin.set(left.level, lag, left.changes);
     } else {
         let wave = operand_wave(waves, operand);
         let left = left_near_end(wave.kept(), wave.changes(), seen);

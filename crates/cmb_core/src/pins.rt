@@ -44,26 +44,19 @@ fn set_delayed<'a>(pin: &mut Pin<'a>, wave: &'a Wave, delay: u32, clock: u32)
     pin.set(left.level, Lag::Delay(delay), left.changes);
 }
 
-// The same where the end of the wave tells enough: the last change but one has reached the output.
-fn set_by_tip<'a>(pin: &mut Pin<'a>, tip: &'a Tip, delay: u32, clock: u32)
-    requires late { delay ≤ clock }
-    requires known { tip.now.before.tick ≤ clock - delay }
-    ensures { (wave : WaveOf) → IsTip tip.now wave → (t : ℕ) → clock ≤ t → pin_at pin.new t ≡ delayed wave delay t }
-{
-    pin.set(tip.before.level, Lag::Delay(delay), &tip.newest);
-}
-
 /// Sets the pin of an operand that reaches the output with a delay, from the output's clock on.
 pub fn set_pin<'a>(pin: &mut Pin<'a>, waves: &'a Waves, operand: Operand, clock: u32)
     requires { IsReady waves.now clock operand }
     ensures { (t : ℕ) → clock ≤ t → pin_at pin.new t ≡ delayed (wave_at waves.now operand.net) operand.delay t }
 {
-    let tip = operand_tip(waves, operand);
-    if operand.delay <= clock && tip.before.tick <= clock - operand.delay {
-        set_by_tip(pin, tip, operand.delay, clock);
-    } else {
-        set_delayed(pin, operand_wave(waves, operand), operand.delay, clock);
+    if operand.delay <= clock {
+        let reached = clock - operand.delay;
+        if let Some(left) = operand_tip(waves, operand).left_from(reached) {
+            pin.set(left.level, Lag::Delay(operand.delay), left.changes);
+            return;
+        }
     }
+    set_delayed(pin, operand_wave(waves, operand), operand.delay, clock);
 }
 
 /// The pins of a gate, from the output's clock on.

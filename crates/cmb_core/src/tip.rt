@@ -1,60 +1,45 @@
 //! The end of a wave: what a step mostly needs to know of it, in a few words side by side.
 
-ghost use Rattle.std.specs.Prelude.{◌≡◌, ◌≤◌, ◌+◌, ℕ, true, [], ◌∷◌};
-ghost use Rattle.cmb_wave.specs.Wave.{Wave as WaveOf, grown};
-ghost use Rattle.cmb_wave.specs.declared.level.Change.{Change as ChangeOf};
+ghost use Rattle.std.specs.Prelude.{◌≡◌, ◌≤◌, ◌++◌, ℕ, true, IfSome};
+ghost use Rattle.cmb_wave.specs.Waveform.{IsTrace, last_level, level_at};
+ghost use Rattle.cmb_wave.specs.Wave.{Wave as WaveOf};
 ghost use Rattle.cmb_core.specs.Tips.{IsTip};
 ghost use Rattle.cmb_core.specs.Rows.{delayed};
 
-use cmb_wave::{Change, Level, Wave};
+use cmb_wave::search::Rest;
+use cmb_wave::{Change, Wave};
 
-/// A wave's clock and its two newest changes. From the tick of `before` on the wave has that level,
-/// up to the newest change. Where there is no such change its place has tick 0 and the level before
-/// the first change.
+/// A wave's clock and its three newest changes. From the tick of `before` on the wave has that level,
+/// up to the two newest changes. Where there is no such change its place has tick 0 and the level
+/// before the first change.
 #[derive(Clone, Copy, Debug)]
 pub struct Tip {
     pub clock: u32,
-    pub before: Change,
-    pub newest: [Change; 1],
+    before: Change,
+    newest: [Change; 2],
 }
 
 impl Tip {
     /// The end of a wave.
+    #[tactic(auto, using(crate::proofs::TipFacts::tip_start))]
     pub fn of(wave: &Wave) -> Tip
         ensures { IsTip result wave.now }
     {
-        let changes = wave.changes();
-        let count = changes.len();
         let start = Change {
             tick: 0,
             level: wave.kept(),
         };
-        if count == 0 {
-            return Tip {
-                clock: wave.clock(),
-                before: start,
-                newest: [start],
-            };
-        }
-        let newest = changes[count - 1];
-        if count == 1 {
-            return Tip {
-                clock: wave.clock(),
-                before: start,
-                newest: [newest],
-            };
-        }
-        Tip {
-            clock: wave.clock(),
-            before: changes[count - 2],
-            newest: [newest],
-        }
+        let none = Tip {
+            clock: wave.base(),
+            before: start,
+            newest: [start, start],
+        };
+        none.after(wave, wave.changes())
     }
 
     /// The end of a wave that went on by these changes, from what it was before.
-    #[tactic(auto, using(crate::proofs::TipFacts::tip_still))]
     pub fn after(self, wave: &Wave, changes: &[Change]) -> Tip
-        ensures { (old : WaveOf) → IsTip self old → wave.now ≡ grown old wave.now.clock changes.now → IsTip result wave.now }
+        ensures { (old : WaveOf) → IsTip self old → wave.now.kept ≡ old.kept → wave.now.changes ≡ old.changes ++ changes.now → IsTrace (last_level old.kept old.changes) old.clock changes.now wave.now.clock → IsTip result wave.now }
     {
         // What this answers isn't read: its contract says that the ticks rise.
         let _all = wave.changes();
@@ -63,34 +48,58 @@ impl Tip {
         if count == 0 {
             return Tip { clock, ..self };
         }
-        let newest = changes[count - 1];
+        let last = changes[count - 1];
         if count == 1 {
-            let before = self.newest();
             return Tip {
                 clock,
-                before,
-                newest: [newest],
+                before: self.newest[0],
+                newest: [self.newest[1], last],
             };
         }
+        let middle = changes[count - 2];
+        let before = if count == 2 {
+            self.newest[1]
+        } else {
+            changes[count - 3]
+        };
         Tip {
             clock,
-            before: changes[count - 2],
-            newest: [newest],
+            before,
+            newest: [middle, last],
         }
     }
 
     /// The newest change.
     pub fn newest(&self) -> Change
-        ensures { self.now.newest ≡ result ∷ [] }
+        ensures { (wave : WaveOf) (is : IsTip self.now wave) → result ≡ is.last }
     {
-        self.newest[0]
+        self.newest[1]
+    }
+
+    /// What is left of the wave from a tick on, None where more than its three newest changes are left.
+    pub fn left_from(&self, tick: u32) -> Option<Rest<'_>>
+        ensures { IfSome result (λ rest. (wave : WaveOf) → IsTip self.now wave → (t : ℕ) → tick ≤ t → level_at rest.level rest.changes.now t ≡ level_at wave.kept wave.changes t) }
+    {
+        if self.newest[0].tick <= tick {
+            return Some(Rest {
+                level: self.newest[0].level,
+                changes: &self.newest[1..],
+            });
+        }
+        if self.before.tick <= tick {
+            return Some(Rest {
+                level: self.before.level,
+                changes: &self.newest,
+            });
+        }
+        None
     }
 
     /// Whether no change is on its way any more to an output that is known up to a clock and shows the
     /// wave some ticks late.
     #[tactic(auto, using(crate::proofs::TipFacts::settled_tip))]
     pub fn is_settled(&self, delay: u32, clock: u32) -> bool
-        ensures { (wave : WaveOf) (newest : ChangeOf) → result ≡ true → IsTip self.now wave → self.now.newest ≡ newest ∷ [] → (t : ℕ) → clock ≤ t → delayed wave delay t ≡ newest.level }
+        ensures { (wave : WaveOf) (is : IsTip self.now wave) → result ≡ true → (t : ℕ) → clock ≤ t → delayed wave delay t ≡ is.last.level }
     {
         u64::from(self.newest().tick) + u64::from(delay) <= u64::from(clock)
     }

@@ -6,16 +6,14 @@ use Rattle.cmb_core.specs.Step.{wave_at}
 use Rattle.cmb_core.proofs.Skips.{arrived_sampled, sampled_rest}
 use Rattle.cmb_core.proofs.advance.set_flop_pin.Goals as goal
 
-pub returns-then-tip-seen : goal.returns-then-tip-seen
-returns-then-tip-seen c = λ t h k.
+pub returns-in-Some : goal.returns-in-Some
+returns-in-Some c = λ t h k.
     let seen : c.seen_upto-seen.result ≤ last_sample c.args.first c.args.period (t - c.args.operand.delay) = c.seen_upto-seen.ensures t h k in
-    let tip = c.operand_tip-tip.result.now in
-    let after : tip.before.tick ≤ last_sample c.args.first c.args.period (t - c.args.operand.delay) = omega (arith, seen) in
-    rw (c.set.ensures.level, c.set.ensures.lag, c.set.ensures.rest) (arrived_sampled c.args.first c.args.period c.args.operand.delay tip.before.level tip.newest t c.requires.positive k ∙ sym (c.operand_tip-tip.ensures.told _ after))
+    rw (c.set.ensures.level, c.set.ensures.lag, c.set.ensures.rest) (arrived_sampled c.args.first c.args.period c.args.operand.delay c.in-Some.left.level c.in-Some.left.changes.now t c.requires.positive k ∙ c.in-Some.ensures _ c.operand_tip.ensures _ seen)
 
-pub returns-else-tip-seen : goal.returns-else-tip-seen
-returns-else-tip-seen c = λ t h k.
+pub returns-in_default : goal.returns-in_default
+returns-in_default c = λ t h k.
     let wave : Wave = c.operand_wave-wave.result.now in
     let at : level_at wave.kept wave.changes (last_sample c.args.first c.args.period (t - c.args.operand.delay)) ≡ level_at (wave_at c.args.waves.now c.args.operand.net).kept (wave_at c.args.waves.now c.args.operand.net).changes (last_sample c.args.first c.args.period (t - c.args.operand.delay)) = ap (λ (w : Wave). level_at w.kept w.changes (last_sample c.args.first c.args.period (t - c.args.operand.delay))) c.operand_wave-wave.ensures in
-    rw (c.set-else-tip-seen.ensures.level, c.set-else-tip-seen.ensures.lag, c.set-else-tip-seen.ensures.rest, c.left_near_end-left.ensures.level, c.left_near_end-left.ensures.changes, c.kept.ensures.kept, c.changes.ensures.changes)
+    rw (c.set-in_default.ensures.level, c.set-in_default.ensures.lag, c.set-in_default.ensures.rest, c.left_near_end-left.ensures.level, c.left_near_end-left.ensures.changes, c.kept.ensures.kept, c.changes.ensures.changes)
     (sampled_rest wave.kept wave.changes c.args.first c.args.period c.args.operand.delay c.seen_upto-seen.result t c.requires.positive k (c.seen_upto-seen.ensures t h k) ∙ at)

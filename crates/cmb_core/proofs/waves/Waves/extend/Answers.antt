@@ -50,7 +50,8 @@ is c =
     let went : c.extend.new.self ≡ grown old c.args.to c.args.changes.now = c.in_ok-extend.ensures.ok ∙ ap (λ w. grown w c.args.to c.args.changes.now) lent in
     let clock : c.extend.new.self.clock ≡ c.args.to = ap (λ w. w.clock) went in
     let P : Tip → Type 0 = λ t. IsTip t (wave_up_to old end.clock) in
-    c.after.ensures (wave_up_to old end.clock) (subst P (sym tip) at.end.held) (went ∙ ap (λ t. grown old t c.args.changes.now) (sym clock))
+    let Q : Wave → Type 0 = λ w. IsTrace (last_level w.kept w.changes) w.clock c.args.changes.now c.args.to in
+    c.after.ensures (wave_up_to old end.clock) (subst P (sym tip) at.end.held) (ap (λ w. w.kept) went) (ap (λ w. w.changes) went) (rw clock (subst Q at.wave c.requires.trace))
 
 pub invariant_of-self-2 : goal.invariant_of-self-2
 invariant_of-self-2 c =

@@ -1,6 +1,7 @@
 use Rattle.std.proofs.Common.{◌≡◌, ◌≤◌, ap, arith, refl, sym, subst, get_or, ◌∙◌}
 use Rattle.std.proofs.lemmas.List.{get_or_read}
 use Rattle.cmb_wave.specs.declared.level.Level.TheVariants.{X}
+use Rattle.cmb_wave.specs.declared.level.Change.{Change}
 use Rattle.cmb_wave.specs.Waveform.{IsTrace}
 use Rattle.cmb_wave.specs.Wave.{Wave, new_wave, wave_up_to}
 use Rattle.cmb_wave.proofs.Lists.{trace_widen}
@@ -15,7 +16,7 @@ is c =
     rw (at.wave, get_or_read _ _ _ at.place c.index.ensures no_tip) at.end.held
 
 pub returns-clause-last : goal.returns-clause-last
-returns-clause-last c = rw c.newest.ensures at (is c).last
+returns-clause-last c = ap (λ (x : Change). x.level) (c.newest.ensures _ (is c)) ∙ (is c).ends
 
 pub returns-clause-before : goal.returns-clause-before
 returns-clause-before c =
@@ -28,4 +29,4 @@ returns-clause-before c =
     let wide : IsTrace wave.kept wave.base wave.changes tip.clock = trace_widen _ _ _ _ _ lags trace in
     let P : Wave → Type 0 = λ w. IsTrace w.kept w.base w.changes w.clock in
     let Q : Wave → Type 0 = λ w. w.base ≡ 0 → w.kept ≡ X in
-    tip_before tip (get_or c.args.self.now c.args.slot (new_wave 0)) c.newest.result (is c) c.newest.ensures (subst P now wide) (subst Q now (λ z. sym c.kept-kept.ensures.kept ∙ c.kept-kept.ensures.first z))
+    ap (λ (x : Change). x.level) (c.newest.ensures _ (is c)) ∙ tip_before tip (get_or c.args.self.now c.args.slot (new_wave 0)) (is c) (subst P now wide) (subst Q now (λ z. sym c.kept-kept.ensures.kept ∙ c.kept-kept.ensures.first z))
