@@ -6,6 +6,7 @@ pub mod below;
 pub mod cluster;
 pub mod clustering;
 pub mod delivery;
+pub mod drive;
 pub mod event;
 pub mod gate;
 pub mod laws;

@@ -6,7 +6,7 @@ use crate::process::{Operand, Rule};
 use cmb_wave::Change;
 use std::marker::Model;
 
-/// How a net is driven, and the changes of an input.
+/// How a net is driven, what it reads, and the changes of an input: no more than its rule takes.
 #[derive(Debug, Drop)]
 pub struct Node {
     rule: Rule,
@@ -15,17 +15,22 @@ pub struct Node {
 }
 
 impl Model for Node {
+    ghost use Rattle.cmb_core.specs.Nodes.{IsLean};
     ghost use Rattle.cmb_core.specs.Rows.{Process};
 
     ghost Value = { Process };
 
     ghost view = { λ n. record { rule = n.rule; operands = n.operands.items; stimulus = n.stimulus.items } };
+
+    ghost invariant = { λ n. IsLean n.rule n.operands.items n.stimulus.items };
 }
 
 impl Node {
+    ghost use Rattle.cmb_core.specs.Nodes.{IsLean};
     ghost use Rattle.cmb_core.specs.Rows.{is_given};
 
     pub fn new(rule: Rule, operands: Vec<Operand>, stimulus: Vec<Change>) -> Node
+        requires { IsLean rule operands.items stimulus.items }
         ensures { result ≡ record { rule = rule; operands = operands.items; stimulus = stimulus.items } }
     {
         Node {
@@ -37,7 +42,8 @@ impl Node {
 
     /// How the process makes its level.
     pub fn rule(&self) -> Rule
-        ensures { result ≡ self.now.rule }
+        ensures rule { result ≡ self.now.rule }
+        ensures lean { IsLean self.now.rule self.now.operands self.now.stimulus }
     {
         self.rule
     }

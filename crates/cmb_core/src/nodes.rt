@@ -1,19 +1,19 @@
 //! The processes of a cluster, in few lists that a sweep reads from end to end.
 
-ghost use Rattle.std.specs.Prelude.{◌≡◌, ◌<◌, ◌≤◌, ◌+◌, ◌-◌, ◌++◌, ◌∷◌, ℕ, IfOk, IfSome, OnOk, length, [], slice_index_or, take, drop};
-ghost use Rattle.cmb_core.specs.declared.process.Rule.TheVariants.{Given};
+ghost use Rattle.std.specs.Prelude.{◌≡◌, ◌<◌, ◌≤◌, ◌+◌, ◌-◌, ◌++◌, ◌∷◌, ℕ, IfOk, IfSome, OnOk, OnErr, length, [], slice_index_or, take, drop};
+ghost use Rattle.cmb_core.specs.declared.process.Rule.TheVariants.{Given, Input, Gate, Flop};
+ghost use Rattle.cmb_core.specs.Nodes.{process_driven};
 ghost use Rattle.cmb_core.specs.Clusters.{nth_process};
 ghost use Rattle.cmb_core.specs.Spans.{changes_from};
 ghost use Rattle.cmb_core.specs.Rows.{IsReadyFor, is_given, row, reach};
 
-use crate::advance::{
-    Span, flop_changes, gate_changes, held_changes, input_changes, reach_of_flop,
-};
-use crate::look::{Look, look_at_gate};
+use crate::advance::Span;
+use crate::drive::Drive;
+use crate::look::Look;
 use crate::node::Node;
-use crate::pins::operand_tip;
 use crate::process::{Operand, Rule};
 use crate::waves::Waves;
+use cmb_bench::netlist::Kind;
 use cmb_wave::{Change, Level};
 use std::alloc::{AllocError, Global};
 use std::marker::Model;
@@ -46,13 +46,37 @@ fn part_of<T>(list: &[T], part: Part) -> &[T]
     &list[first..first + part.count as usize]
 }
 
-/// How a net is driven, and where its operands and its stimulus stand.
-#[derive(Clone, Copy, Debug)]
-pub struct Entry {
-    pub rule: Rule,
-    pub operands: Part,
-    pub stimulus: Part,
+// Adds items to a list, and answers where they stand.
+fn append<T: Copy>(list: &mut Vec<T>, items: &[T]) -> Result<Part, AllocError>
+    ensures items { OnOk result (list.new.items ≡ list.old.items ++ items.now) }
+    ensures part { IfOk result (λ part. (part.first ≡ length list.old.items) × (part.count ≡ length items.now)) }
+    ensures unchanged { OnErr result (list.new.items ≡ list.old.items) }
+{
+    let part = Part::behind(list.len(), items.len())?;
+    list.extend_from_slice(items)?;
+    Ok(part)
 }
+
+/// When a flip-flop samples, what it has before, and where its operands stand.
+#[derive(Clone, Copy, Debug)]
+pub struct Sampler {
+    pub first: u32,
+    pub period: u32,
+    pub init: Level,
+    pub operands: Part,
+}
+
+/// How a net is driven, and where its stimulus, its operands or its sampler stand.
+#[derive(Clone, Copy, Debug)]
+pub enum Entry {
+    Given,
+    Input(Part),
+    Gate(Kind, Part),
+    Flop(u32),
+}
+
+// A sweep reads all of them, so they are kept small.
+const _: () = prove!(size_of::<Entry>() == 12);
 
 /// The processes of a cluster, by the place of their waves.
 #[derive(Debug, Drop)]
@@ -60,6 +84,7 @@ pub struct Nodes {
     entries: Vec<Entry>,
     operands: Vec<Operand>,
     stimuli: Vec<Change>,
+    samplers: Vec<Sampler>,
 }
 
 impl Model for Nodes {
@@ -69,9 +94,9 @@ impl Model for Nodes {
 
     ghost Value = { List Process };
 
-    ghost view = { λ n. processes_of n.operands.items n.stimuli.items n.entries.items };
+    ghost view = { λ n. processes_of n.operands.items n.stimuli.items n.samplers.items n.entries.items };
 
-    ghost invariant = { λ n. AreEntries n.operands.items n.stimuli.items n.entries.items };
+    ghost invariant = { λ n. AreEntries n.operands.items n.stimuli.items n.samplers.items n.entries.items };
 }
 
 impl Nodes {
@@ -83,6 +108,7 @@ impl Nodes {
             entries: Vec::new(alloc),
             operands: Vec::new(alloc),
             stimuli: Vec::new(alloc),
+            samplers: Vec::new(alloc),
         };
         for node in nodes {
             all.push(node)?;
@@ -91,18 +117,72 @@ impl Nodes {
     }
 
     // Adds a process.
-    #[tactic(auto, using(crate::proofs::NodeFacts::entries_push, crate::proofs::NodeFacts::processes_push, crate::proofs::NodeFacts::entries_more, crate::proofs::NodeFacts::entries_longer))]
     fn push(&mut self, node: &Node) -> Result<(), AllocError>
         ensures { OnOk result (self.new ≡ self.old ++ node.now ∷ []) }
     {
-        let entry = Entry {
-            rule: node.rule(),
-            operands: Part::behind(self.operands.len(), node.operands().len())?,
-            stimulus: Part::behind(self.stimuli.len(), node.stimulus().len())?,
-        };
-        self.operands.extend_from_slice(node.operands())?;
-        self.stimuli.extend_from_slice(node.stimulus())?;
-        self.entries.push(entry)?;
+        match node.rule() {
+            Rule::Given => self.push_given(),
+            Rule::Input => self.push_input(node.stimulus()),
+            Rule::Gate(kind) => self.push_gate(kind, node.operands()),
+            Rule::Flop {
+                first,
+                period,
+                init,
+            } => self.push_flop(first, period, init, node.operands()),
+        }
+    }
+
+    // Adds a net that is not driven here.
+    #[tactic(auto, using(crate::proofs::NodeFacts::entries_push, crate::proofs::NodeFacts::processes_push))]
+    fn push_given(&mut self) -> Result<(), AllocError>
+        ensures { OnOk result (self.new ≡ self.old ++ record { rule = Given; operands = []; stimulus = [] } ∷ []) }
+    {
+        self.entries.push(Entry::Given)?;
+        Ok(())
+    }
+
+    // Adds an input.
+    #[tactic(auto, using(crate::proofs::NodeFacts::stimuli_entries, crate::proofs::NodeFacts::input_entries, crate::proofs::NodeFacts::input_processes))]
+    fn push_input(&mut self, stimulus: &[Change]) -> Result<(), AllocError>
+        ensures { OnOk result (self.new ≡ self.old ++ record { rule = Input; operands = []; stimulus = stimulus.now } ∷ []) }
+    {
+        let part = append(&mut self.stimuli, stimulus)?;
+        self.entries.push(Entry::Input(part))?;
+        Ok(())
+    }
+
+    // Adds a gate.
+    #[tactic(auto, using(crate::proofs::NodeFacts::operands_entries, crate::proofs::NodeFacts::gate_entries, crate::proofs::NodeFacts::gate_processes))]
+    fn push_gate(&mut self, kind: Kind, operands: &[Operand]) -> Result<(), AllocError>
+        ensures { OnOk result (self.new ≡ self.old ++ record { rule = Gate kind; operands = operands.now; stimulus = [] } ∷ []) }
+    {
+        let part = append(&mut self.operands, operands)?;
+        self.entries.push(Entry::Gate(kind, part))?;
+        Ok(())
+    }
+
+    // Adds a flip-flop.
+    #[tactic(auto, using(crate::proofs::NodeFacts::operands_entries, crate::proofs::NodeFacts::sampled_entries, crate::proofs::NodeFacts::flop_entries, crate::proofs::NodeFacts::flop_processes))]
+    fn push_flop(
+        &mut self,
+        first: u32,
+        period: u32,
+        init: Level,
+        operands: &[Operand],
+    ) -> Result<(), AllocError>
+        ensures { OnOk result (self.new ≡ self.old ++ record { rule = Flop first period init; operands = operands.now; stimulus = [] } ∷ []) }
+    {
+        let operands = append(&mut self.operands, operands)?;
+        let sampler = append(
+            &mut self.samplers,
+            &[Sampler {
+                first,
+                period,
+                init,
+                operands,
+            }],
+        )?;
+        self.entries.push(Entry::Flop(sampler.first))?;
         Ok(())
     }
 
@@ -114,12 +194,33 @@ impl Nodes {
         self.entries.len()
     }
 
+    // How the net in a place is driven.
+    fn drive(&self, slot: usize) -> Drive<'_>
+        requires { slot < length self.now }
+        ensures { process_driven result ≡ nth_process self.now slot }
+    {
+        match self.entries[slot] {
+            Entry::Given => Drive::Given,
+            Entry::Input(part) => Drive::Input(part_of(&self.stimuli, part)),
+            Entry::Gate(kind, part) => Drive::Gate(kind, part_of(&self.operands, part)),
+            Entry::Flop(place) => {
+                let sampler = self.samplers[place as usize];
+                Drive::Flop {
+                    first: sampler.first,
+                    period: sampler.period,
+                    init: sampler.init,
+                    operands: part_of(&self.operands, sampler.operands),
+                }
+            }
+        }
+    }
+
     /// How the process in a place makes its level.
     pub fn rule(&self, slot: usize) -> Rule
         requires { slot < length self.now }
         ensures { result ≡ (nth_process self.now slot).rule }
     {
-        self.entries[slot].rule
+        self.drive(slot).rule()
     }
 
     /// What the process in a place reads.
@@ -127,7 +228,7 @@ impl Nodes {
         requires { slot < length self.now }
         ensures { result.now ≡ (nth_process self.now slot).operands }
     {
-        part_of(&self.operands, self.entries[slot].operands)
+        self.drive(slot).operands()
     }
 
     /// The changes of the input in a place.
@@ -135,7 +236,7 @@ impl Nodes {
         requires { slot < length self.now }
         ensures { result.now ≡ (nth_process self.now slot).stimulus }
     {
-        part_of(&self.stimuli, self.entries[slot].stimulus)
+        self.drive(slot).stimulus()
     }
 
     /// Whether the net in a place is not driven here.
@@ -143,8 +244,8 @@ impl Nodes {
         requires { slot < length self.now }
         ensures { result ≡ is_given (nth_process self.now slot).rule }
     {
-        match self.rule(slot) {
-            Rule::Given => true,
+        match self.entries[slot] {
+            Entry::Given => true,
             _ => false,
         }
     }
@@ -157,19 +258,7 @@ impl Nodes {
         ensures reach { result.reach ≡ reach horizon waves.now (nth_process self.now slot).rule (nth_process self.now slot).operands }
         ensures held { IfSome result.held (λ level. (t : ℕ) → clock ≤ t → row waves.now (nth_process self.now slot).rule (nth_process self.now slot).operands (nth_process self.now slot).stimulus t ≡ level) }
     {
-        let reach = match self.rule(slot) {
-            Rule::Given => 0,
-            Rule::Input => horizon,
-            Rule::Gate(kind) => {
-                return look_at_gate(kind, horizon, self.operands(slot), waves, clock);
-            }
-            Rule::Flop { first, period, .. } => {
-                let source = self.operands(slot)[0];
-                let known = operand_tip(waves, source).clock;
-                reach_of_flop(horizon, first, period, source.delay, known)
-            }
-        };
-        Look { reach, held: None }
+        self.drive(slot).look(horizon, waves, clock)
     }
 
     /// Adds the changes of the output in a place in a span to a list. `held` is the level that it keeps,
@@ -189,21 +278,6 @@ impl Nodes {
         requires held { IfSome held (λ level. (t : ℕ) → span.from ≤ t → row waves.now (nth_process self.now slot).rule (nth_process self.now slot).operands (nth_process self.now slot).stimulus t ≡ level) }
         ensures { OnOk result (room.new.items ≡ room.old.items ++ changes_from (row waves.now (nth_process self.now slot).rule (nth_process self.now slot).operands (nth_process self.now slot).stimulus) span.before span.from (span.until - span.from)) }
     {
-        if let Some(level) = held {
-            return held_changes(room, level, span);
-        }
-        match self.rule(slot) {
-            Rule::Given => input_changes(room, &[], span),
-            Rule::Input => input_changes(room, self.stimulus(slot), span),
-            Rule::Gate(kind) => gate_changes(room, kind, self.operands(slot), waves, span),
-            Rule::Flop {
-                first,
-                period,
-                init,
-            } => {
-                let source = self.operands(slot)[0];
-                flop_changes(room, waves, source, first, period, init, span)
-            }
-        }
+        self.drive(slot).changes(room, horizon, waves, span, held)
     }
 }

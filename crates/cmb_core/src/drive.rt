@@ -1,0 +1,133 @@
+//! A process as a cluster's lists tell it, and what it makes of the cluster's waves.
+
+ghost use Rattle.std.specs.Prelude.{◌≡◌, ◌≤◌, ◌-◌, ◌++◌, ℕ, IfSome, OnOk};
+ghost use Rattle.cmb_core.specs.Nodes.{process_driven};
+ghost use Rattle.cmb_core.specs.Spans.{changes_from};
+ghost use Rattle.cmb_core.specs.Rows.{IsReadyFor, row, reach};
+
+use crate::advance::{
+    Span, flop_changes, gate_changes, held_changes, input_changes, reach_of_flop,
+};
+use crate::look::{Look, look_at_gate};
+use crate::pins::operand_tip;
+use crate::process::{Operand, Rule};
+use crate::waves::Waves;
+use cmb_bench::netlist::Kind;
+use cmb_wave::{Change, Level};
+use std::alloc::AllocError;
+
+/// How a net is driven, with its stimulus or its operands.
+#[derive(Clone, Copy, Debug)]
+pub enum Drive<'a> {
+    Given,
+    Input(&'a [Change]),
+    Gate(Kind, &'a [Operand]),
+    Flop {
+        first: u32,
+        period: u32,
+        init: Level,
+        operands: &'a [Operand],
+    },
+}
+
+impl<'a> Drive<'a> {
+    /// How the process makes its level.
+    pub fn rule(self) -> Rule
+        ensures { result ≡ (process_driven self.entry).rule }
+    {
+        match self {
+            Drive::Given => Rule::Given,
+            Drive::Input(_) => Rule::Input,
+            Drive::Gate(kind, _) => Rule::Gate(kind),
+            Drive::Flop {
+                first,
+                period,
+                init,
+                ..
+            } => Rule::Flop {
+                first,
+                period,
+                init,
+            },
+        }
+    }
+
+    /// What the process reads.
+    pub fn operands(self) -> &'a [Operand]
+        ensures { result.now ≡ (process_driven self.entry).operands }
+    {
+        match self {
+            Drive::Gate(_, operands) => operands,
+            Drive::Flop { operands, .. } => operands,
+            _ => &[],
+        }
+    }
+
+    /// The changes of an input.
+    pub fn stimulus(self) -> &'a [Change]
+        ensures { result.now ≡ (process_driven self.entry).stimulus }
+    {
+        match self {
+            Drive::Input(stimulus) => stimulus,
+            _ => &[],
+        }
+    }
+
+    /// The tick up to which the output can go on, and the level that it keeps, where that is
+    /// plain to see.
+    pub fn look(self, horizon: u32, waves: &Waves, clock: u32) -> Look
+        requires ready { IsReadyFor horizon waves.now clock (process_driven self).rule (process_driven self).operands (process_driven self).stimulus }
+        ensures reach { result.reach ≡ reach horizon waves.now (process_driven self.entry).rule (process_driven self.entry).operands }
+        ensures held { IfSome result.held (λ level. (t : ℕ) → clock ≤ t → row waves.now (process_driven self.entry).rule (process_driven self.entry).operands (process_driven self.entry).stimulus t ≡ level) }
+    {
+        let reach = match self {
+            Drive::Given => 0,
+            Drive::Input(_) => horizon,
+            Drive::Gate(kind, operands) => {
+                return look_at_gate(kind, horizon, operands, waves, clock);
+            }
+            Drive::Flop {
+                first,
+                period,
+                operands,
+                ..
+            } => {
+                let source = operands[0];
+                let known = operand_tip(waves, source).clock;
+                reach_of_flop(horizon, first, period, source.delay, known)
+            }
+        };
+        Look { reach, held: None }
+    }
+
+    /// Adds the changes of the output in a span to a list. `held` is the level that it keeps,
+    /// where that is known.
+    pub fn changes(
+        self,
+        room: &mut Vec<Change>,
+        horizon: u32,
+        waves: &Waves,
+        span: Span,
+        held: Option<Level>,
+    ) -> Result<(), AllocError>
+        requires ready { IsReadyFor horizon waves.now span.from (process_driven self).rule (process_driven self).operands (process_driven self).stimulus }
+        requires ordered { span.from ≤ span.until }
+        requires held { IfSome held (λ level. (t : ℕ) → span.from ≤ t → row waves.now (process_driven self).rule (process_driven self).operands (process_driven self).stimulus t ≡ level) }
+        ensures { OnOk result (room.new.items ≡ room.old.items ++ changes_from (row waves.now (process_driven self.entry).rule (process_driven self.entry).operands (process_driven self.entry).stimulus) span.before span.from (span.until - span.from)) }
+    {
+        if let Some(level) = held {
+            return held_changes(room, level, span);
+        }
+        match self {
+            Drive::Given => input_changes(room, &[], span),
+            Drive::Input(stimulus) => input_changes(room, stimulus, span),
+            Drive::Gate(kind, operands) => gate_changes(room, kind, operands, waves, span),
+            Drive::Flop {
+                first,
+                period,
+                init,
+                operands,
+            } => flop_changes(room, waves, operands[0], first, period, init, span),
+        }
+    }
+}
