@@ -110,7 +110,7 @@ pub(crate) fn places_among(
     alloc: Global,
     nets: &[u32],
     count: usize,
-) -> Result<Vec<Option<u32>>, AllocError>
+) -> Result<Vec<Option<u16>>, AllocError>
     requires there { All (λ net. net < count) nets.now }
     requires few { length nets.now ≤ 65535 }
     ensures places { IfOk result (λ places. (net : ℕ) → slice_index_or places.items net None ≡ place_in nets.now net) }
@@ -118,7 +118,7 @@ pub(crate) fn places_among(
 {
     let mut places = vec![in alloc; None; count]?;
     for place in (0..nets.len()).rev() {
-        places[nets[place] as usize] = Some(place as u32);
+        places[nets[place] as usize] = Some(place as u16);
     }
     Ok(places)
 }
@@ -129,12 +129,13 @@ fn operands_on(
     design: &Design,
     net: u32,
     sources: &[u32],
-    places: &[Option<u32>],
+    places: &[Option<u16>],
 ) -> Result<Vec<Operand>, AllocError>
     requires net { net < nets_of design.now }
     requires pins { sources.now ≡ pins_of (driver_of design.now.netlist net) }
     requires placed { ArePlaced places.now sources.now }
     requires there { All (λ source. source < length places.now) sources.now }
+    requires few { length places.now ≤ 65535 }
     ensures operands { IfOk result (λ operands. AreOperands design.now net 1 sources.now operands.items) }
     ensures places { IfOk result (λ operands. AreAt places.now operands.items) }
     ensures count { IfOk result (λ operands. length operands.items ≡ length sources.now) }
@@ -142,7 +143,7 @@ fn operands_on(
     let mut operands = Vec::with_capacity(alloc, sources.len())?;
     for (i, source) in sources.iter().enumerate() {
         operands.push(Operand {
-            net: *source,
+            net: *source as u16,
             slot: places[*source as usize].unwrap(),
             delay: design.delay(net as usize, i + 1),
         })?;
@@ -168,13 +169,14 @@ fn gate_node(
     net: u32,
     kind: Kind,
     sources: &[u32],
-    places: &[Option<u32>],
+    places: &[Option<u16>],
 ) -> Result<Node, AllocError>
     requires net { net < nets_of design.now }
     requires driver { driver_of design.now.netlist net ≡ Gate kind sources.now }
     requires takes { MayTake kind (length sources.now) }
     requires placed { ArePlaced places.now sources.now }
     requires there { All (λ source. source < length places.now) sources.now }
+    requires few { length places.now ≤ 65535 }
     ensures driven { IfOk result (λ node. IsDrivenBy design.now net (driver_of design.now.netlist net) node) }
     ensures starts { IfOk result (λ node. StartsOn design.now.horizon places.now node) }
 {
@@ -188,12 +190,13 @@ fn flop_node(
     design: &Design,
     net: u32,
     source: u32,
-    places: &[Option<u32>],
+    places: &[Option<u16>],
 ) -> Result<Node, AllocError>
     requires net { net < nets_of design.now }
     requires driver { driver_of design.now.netlist net ≡ Flop source }
     requires placed { ArePlaced places.now (source ∷ []) }
     requires there { source < length places.now }
+    requires few { length places.now ≤ 65535 }
     ensures driven { IfOk result (λ node. IsDrivenBy design.now net (driver_of design.now.netlist net) node) }
     ensures starts { IfOk result (λ node. StartsOn design.now.horizon places.now node) }
 {
@@ -212,11 +215,12 @@ fn driven_node(
     alloc: Global,
     design: &Design,
     net: u32,
-    places: &[Option<u32>],
+    places: &[Option<u16>],
 ) -> Result<Node, AllocError>
     requires net { net < nets_of design.now }
     requires wired { IsWired (nets_of design.now) (driver_of design.now.netlist net) }
     requires places { length places.now ≡ nets_of design.now }
+    requires few { length places.now ≤ 65535 }
     requires placed { ArePlaced places.now (pins_of (driver_of design.now.netlist net)) }
     ensures driven { IfOk result (λ node. IsDrivenBy design.now net (driver_of design.now.netlist net) node) }
     ensures starts { IfOk result (λ node. StartsOn design.now.horizon places.now node) }
@@ -237,7 +241,7 @@ fn node_of(
     clustering: &Clustering,
     cluster: u32,
     net: u32,
-    places: &[Option<u32>],
+    places: &[Option<u16>],
 ) -> Result<Node, AllocError>
     requires net { net < nets_of design.now }
     requires netlist { IsNetlist design.now.netlist }
@@ -261,7 +265,7 @@ pub(crate) fn nodes_of(
     clustering: &Clustering,
     cluster: u32,
     nets: &[u32],
-    places: &[Option<u32>],
+    places: &[Option<u16>],
 ) -> Result<Vec<Node>, AllocError>
     requires there { All (λ net. net < nets_of design.now) nets.now }
     requires netlist { IsNetlist design.now.netlist }

@@ -12,14 +12,14 @@ pub struct Reader {
 /// The place of each net's wave, the nets that are driven and those that are given, and who reads each given wave.
 #[derive(Debug, Drop)]
 pub struct Tables {
-    pub places: Vec<Option<u32>>,
+    pub places: Vec<Option<u16>>,
     pub driven: Vec<u32>,
     pub inputs: Vec<u32>,
     pub readers: Vec<Vec<Reader>>,
 }
 
 /// The place of a net's wave.
-pub fn place_of(places: &[Option<u32>], net: u32) -> Option<u32>
+pub fn place_of(places: &[Option<u16>], net: u32) -> Option<u16>
     ensures { result ≡ slice_index_or places.now net None }
 {
     let net = net as usize;
