@@ -48,10 +48,6 @@ pub equals_is : (w : Word) → is_equals w ≡ true → w ≡ mark Equals
 equals_is (mark Equals) e = refl
 equals_is _ e = absurd (cc)
 
-pub end_is : (w : Word) → is_end w ≡ true → w ≡ mark End
-end_is (mark End) e = refl
-end_is _ e = absurd (cc)
-
 pub name_is : (w : Word) (n : List ℕ) → name_in w ≡ Some n → w ≡ name n
 name_is (name m) n e = ap name (cc)
 name_is (mark c) n e = absurd (cc)

@@ -56,6 +56,3 @@ feeds_of b after n run =
     let one : 1 + n ≡ suc n = omega arith in
     let none : line_feeds (take n after) ≡ 0 = ap line_feeds (sym (front_at _ after n run)) ∙ no_feeds (class_of b) after in
     rw one (rw none (add-zero _))
-
-pub class_not_end : (b : ℕ) → class_of b ≡ End → ⊥
-class_not_end b e = grind arith

@@ -1,4 +1,5 @@
 -- One round of the loop over the operands.
+use Rattle.cmb_bench.specs.Inner.Reading.{◌>>=◌}
 use Rattle.std.proofs.Common.{◌≡◌, ℕ, List, [], ◌∷◌, ◌++◌, true, false, refl, sym, ap, ◌∙◌, Result, Ok, Err, append_assoc}
 use Rattle.std.specs.Prelude.{if◌then◌else◌}
 use Rattle.cmb_bench.specs.declared.fault.BenchFault.{BenchFault}
@@ -10,7 +11,13 @@ use Rattle.cmb_bench.specs.Inner.Word.{is_comma, is_end}
 use Rattle.cmb_bench.specs.Inner.Scan.{behind}
 use Rattle.cmb_bench.specs.Kinds.{takes_one}
 use Rattle.cmb_bench.specs.Statement.{Mention}
-use Rattle.cmb_bench.specs.Inner.Reading.{short_name, operands_at, with_first, with_front, Fails}
+use Rattle.cmb_bench.specs.Inner.Reading.{short_name, operands_at, with_first, Fails}
+
+-- what is read, with these operands in front
+abbrev pub with_front : List Mention → Result (List Mention × List Lexeme) BenchFault → Result (List Mention × List Lexeme) BenchFault
+with_front ms read = do
+  more ← read
+  Ok (ms ++ more.0, more.1)
 
 front_more : (ms : List Mention) (m : Mention) (read : Result (List Mention × List Lexeme) BenchFault) → with_front (ms ++ m ∷ []) read ≡ with_front ms (with_first m read)
 front_more ms m (Ok x) = ap (λ l. Ok (l, x.1)) (append_assoc ms (m ∷ []) x.0)

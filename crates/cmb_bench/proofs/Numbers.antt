@@ -1,4 +1,5 @@
 -- One round of the loops over uses and statements.
+use Rattle.cmb_bench.specs.Inner.Reading.{◌>>=◌}
 use Rattle.std.proofs.Common.{◌≡◌, ℕ, ◌+◌, ◌<◌, List, [], ◌∷◌, ◌++◌, refl, sym, ap, ◌∙◌, Result, Ok, Err, map, drop, length, append_assoc, append-nil, get_or}
 use Rattle.std.proofs.lemmas.List.{drop_more, drop_all}
 use Rattle.cmb_bench.specs.declared.fault.BenchFault.{BenchFault}
@@ -12,7 +13,13 @@ use Rattle.cmb_bench.specs.declared.netlist.Driver.{Driver}
 use Rattle.cmb_bench.specs.declared.netlist.Driver.TheVariants.{Input}
 use Rattle.cmb_bench.specs.Meaning.{driver_from}
 use Rattle.cmb_bench.specs.Inner.Views.{mention, mentions, statement}
-use Rattle.cmb_bench.specs.Inner.Building.{number_in, numbers_in, with_numbers, built, with_drivers}
+use Rattle.cmb_bench.specs.Inner.Building.{number_in, numbers_in, built, with_drivers}
+
+-- what is found, with these numbers in front
+abbrev pub with_numbers : List ℕ → Result (List ℕ) BenchFault → Result (List ℕ) BenchFault
+with_numbers numbers read = do
+  more ← read
+  Ok (numbers ++ more)
 
 with_more : (done : List ℕ) (n : ℕ) (read : Result (List ℕ) BenchFault) → with_numbers (done ++ n ∷ []) read ≡ with_numbers done (with_numbers (n ∷ []) read)
 with_more done n (Ok x) = ap Ok (append_assoc done (n ∷ []) x)

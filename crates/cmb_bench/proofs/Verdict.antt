@@ -19,9 +19,6 @@ abbrev pub AtMost : Option FaultKind → ℕ → Type 0
 AtMost None n = ⊥
 AtMost (Some k) n = number_of_fault k ≤ n
 
-abbrev at_stand : Word → ℕ → Stand → Type 0
-at_stand w n s = AtMost (verdict s.names s.place w) n
-
 same_stand : {s t : Stand} → let o : Option Stand = Some s in o ≡ Some t → s ≡ t
 same_stand e = cc
 

@@ -16,17 +16,6 @@ use Rattle.cmb_core.proofs.TipFacts.{skips_set}
 
 -- ---- a wave that tells itself that it doesn't change
 
-pub held_on : (wave : Wave) (upto : ℕ) → wave.clock ≤ upto → heard_wave wave (record { net = wave.net; count = wave.count; upto = upto }) ≡ wave_up_to wave upto
-held_on wave upto later = go (nat_le upto wave.clock) refl
-  where
-    go : (b : Bool) → nat_le upto wave.clock ≡ b → cond b wave (cond (nat_eq wave.count wave.count) (wave_up_to wave upto) wave) ≡ wave_up_to wave upto
-    go true e =
-        let same : upto ≡ wave.clock = grind (arith, nat_tests) in
-        rw same refl
-    go false e =
-        let alike : nat_eq wave.count wave.count ≡ true = grind (arith, nat_tests) in
-        rw alike refl
-
 pub grown_none : (wave : Wave) (to : ℕ) → wave_up_to wave to ≡ grown wave to []
 grown_none wave to =
     let count : wave.count + length {A = Change} [] ≡ wave.count = omega arith in

@@ -92,20 +92,6 @@ tip_start wave clock start same early level none = record {
   steady = λ t h. rw none (sym level);
 }
 
--- a wave that goes on without a change
-pub tip_still : (tip : Tip) (old wave : Wave) (clock : ℕ) → IsTip tip old → clock ≡ wave.clock → old.clock ≤ wave.clock → wave.kept ≡ old.kept → wave.changes ≡ old.changes → IsTip (record { clock = clock; before = tip.before; newest = tip.newest }) wave
-tip_still tip old wave clock h same later kept changes = record {
-  middle = h.middle;
-  last = h.last;
-  two = h.two;
-  clock = same;
-  within = omega (arith, later, h.within);
-  ends = rw (changes, kept) h.ends;
-  told = λ t k. rw (changes, kept) (h.told t k);
-  later = λ t k. rw (changes, kept) (h.later t k);
-  steady = λ t k. rw (changes, kept) (h.steady t k);
-}
-
 -- two changes in a row, the second not before the first
 level_at_pair : (kept : Level) (c d : Change) (t : ℕ) → c.tick ≤ d.tick → level_at (level_at kept (c ∷ []) t) (d ∷ []) t ≡ level_at kept (c ∷ d ∷ []) t
 level_at_pair kept c d t h = go (nat_le c.tick t) (nat_le d.tick t) refl refl

@@ -11,29 +11,6 @@ use Rattle.std.specs.Prelude.{IfSome, IsSome, option_map, slice_get}
 use denote.Ref.{Bor}
 use Rattle.cmb_design.specs.Fields.{fields_in, is_blank, number, split_pin, trim_back, trim_front, trimmed, decimal}
 
--- the front: a blank goes, another byte stays
-pub trim_front-blank : (xs : List ℕ) (i : ℕ) → i < length xs → is_blank (get_or xs i 0) ≡ true → trim_front (drop (i + 1) xs) ≡ trim_front (drop i xs)
-trim_front-blank xs i h b = let e : drop i xs ≡ get_or xs i 0 ∷ drop (suc i) xs = drop-cons xs i 0 h in rw (add-one, e, b) refl
-
-pub trim_front-other : (xs : List ℕ) (i : ℕ) → i < length xs → is_blank (get_or xs i 0) ≡ false → trim_front (drop i xs) ≡ drop i xs
-trim_front-other xs i h b = let e : drop i xs ≡ get_or xs i 0 ∷ drop (suc i) xs = drop-cons xs i 0 h in rw (e, b) refl
-
--- the back, the same
-trim_back-push : (xs : List ℕ) (b : ℕ) → trim_back (xs ++ b ∷ []) ≡ cond (is_blank b) (trim_back xs) (xs ++ b ∷ [])
-trim_back-push xs b =
-    let e : reverse (xs ++ b ∷ []) ≡ b ∷ reverse xs = reverse-append xs (b ∷ []) in
-    rw e (by (is_blank b))
-  where
-    by : (t : Bool) → reverse (cond t (trim_front (reverse xs)) (b ∷ reverse xs)) ≡ cond t (trim_back xs) (xs ++ b ∷ [])
-    by true = refl
-    by false = ap reverse (sym (reverse-append xs (b ∷ []))) ∙ reverse-reverse (xs ++ b ∷ [])
-
-pub trim_back-blank : (xs : List ℕ) (i : ℕ) → i < length xs → is_blank (get_or xs i 0) ≡ true → trim_back (take (i + 1) xs) ≡ trim_back (take i xs)
-trim_back-blank xs i h b = let e : take (suc i) xs ≡ take i xs ++ get_or xs i 0 ∷ [] = take-suc xs i 0 h in rw (add-one, e) (trim_back-push (take i xs) (get_or xs i 0) ∙ rw b refl)
-
-pub trim_back-other : (xs : List ℕ) (i : ℕ) → i < length xs → is_blank (get_or xs i 0) ≡ false → trim_back (take (i + 1) xs) ≡ take (i + 1) xs
-trim_back-other xs i h b = let e : take (suc i) xs ≡ take i xs ++ get_or xs i 0 ∷ [] = take-suc xs i 0 h in rw (add-one, e) (trim_back-push (take i xs) (get_or xs i 0) ∙ rw b refl)
-
 -- numbers
 pub number-empty : (xs : List ℕ) → length xs ≡ 0 → number xs ≡ None
 unfolding number

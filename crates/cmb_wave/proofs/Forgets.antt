@@ -67,10 +67,6 @@ from-with_piece wave piece upto h =
       changes = sym after i;
     }
 
--- the same for a promise
-pub from-up_to : (wave : Wave) (tick upto : ℕ) → wave_up_to (wave_from wave upto) tick ≡ wave_from (wave_up_to wave tick) upto
-from-up_to wave tick upto = refl
-
 -- a wave that forgot tells the same levels from its base on
 pub level_at-from : (kept : Level) (from to upto tick : ℕ) (cs : List Change) → RisesWithin from to cs → upto ≤ tick → level_at (last_level kept (changes_below upto cs)) (at_or_after upto cs) tick ≡ level_at kept cs tick
 level_at-from kept from to upto tick [] rises h = refl

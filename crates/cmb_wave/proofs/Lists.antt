@@ -149,10 +149,6 @@ pub part_of_trace : (before : Level) (low high : ℕ) (cs : List Change) → low
 part_of_trace before low high [] h r = h
 part_of_trace before low high (c ∷ cs) h r = (r.0, r.1, r.3)
 
-pub below_none : (before : Level) (low high from : ℕ) (cs : List Change) → from ≤ low → IsTrace before low cs high → below from cs ≡ 0
-below_none before low high from [] h r = refl
-below_none before low high from (c ∷ cs) h r = let first : low ≤ c.tick = r.0 in grind (arith, nat_tests)
-
 -- there is at most one change a tick
 pub below_span : (before : Level) (low from high : ℕ) (cs : List Change) → low ≤ from → IsTrace before low cs high → below from cs + low ≤ from
 below_span before low from high [] h r = omega arith

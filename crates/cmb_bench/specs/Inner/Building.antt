@@ -69,11 +69,6 @@ abbrev pub Stops : {X : Type 0} → (X → List Statement) → Result X ReadErro
 Stops view (Ok x) ts = (line : ℕ) × Parses [] ts (view x) (record { word = mark End; line = line } ∷ [])
 Stops view (Err e) ts = Fronts e ts
 
-abbrev pub with_numbers : List ℕ → Result (List ℕ) BenchFault → Result (List ℕ) BenchFault
-with_numbers numbers read = do
-  more ← read
-  Ok (numbers ++ more)
-
 -- Going on from the old drivers and outputs with a statement and any others is going on from the new ones with these others.
 abbrev pub Adds : {X : Type 0} → List (List ℕ) → Statement → List Driver → List ℕ → List Driver → List ℕ → Result X ReadError → Type 0
 Adds names s drivers outputs more_drivers more_outputs (Ok x) = (ss : List Statement) → with_drivers more_drivers (built names more_outputs ss) ≡ with_drivers drivers (built names outputs (s ∷ ss))

@@ -90,12 +90,6 @@ operands_at f (t ∷ u ∷ ts) = do
   if is_comma u.word then (if takes_one f then Err (fault_at u faults.Operands) else with_first (record { name = name; line = t.line }) (operands_at f ts))
       else (if is_close u.word then Ok (record { name = name; line = t.line } ∷ [], ts) else Err (misplaced u))
 
--- what is read, with these operands in front
-abbrev pub with_front : List Mention → Result (List Mention × List Lexeme) BenchFault → Result (List Mention × List Lexeme) BenchFault
-with_front ms read = do
-  more ← read
-  Ok (ms ++ more.0, more.1)
-
 abbrev pub cell_in : Option Cell → Lexeme → Result Cell BenchFault
 cell_in None t = Err (fault_at t faults.Kind)
 cell_in (Some f) t = Ok f

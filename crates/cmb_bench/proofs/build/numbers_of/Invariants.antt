@@ -1,6 +1,7 @@
 use Rattle.std.proofs.Common.{◌≡◌, map, drop}
 use Rattle.cmb_bench.specs.Inner.Views.{mentions}
-use Rattle.cmb_bench.specs.Inner.Building.{numbers_in, with_numbers}
+use Rattle.cmb_bench.specs.Inner.Building.{numbers_in}
+use Rattle.cmb_bench.proofs.Numbers.{with_numbers}
 use Rattle.cmb_bench.proofs.build.numbers_of.Given as goal
 
 abbrev pub invariant-loop-used : goal.invariant-loop-used

@@ -2,8 +2,8 @@ use Rattle.std.proofs.Common.{refl, sym, ap, ◌∙◌, arith}
 use Rattle.std.proofs.lemmas.List.{map-append}
 use Rattle.std.proofs.lemmas.Result.{err_from_is_err_and}
 use Rattle.cmb_bench.specs.Inner.Views.{mention, mentions}
-use Rattle.cmb_bench.specs.Inner.Reading.{with_front, operands_at}
-use Rattle.cmb_bench.proofs.Listing.{next_round, stops_at, fails_on}
+use Rattle.cmb_bench.specs.Inner.Reading.{operands_at}
+use Rattle.cmb_bench.proofs.Listing.{with_front, next_round, stops_at, fails_on}
 use Rattle.cmb_bench.specs.Inner.Scan.{scan}
 use Rattle.cmb_bench.proofs.parser.read_operands.Goals as goal
 

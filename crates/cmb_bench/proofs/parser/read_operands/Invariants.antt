@@ -1,7 +1,8 @@
 use Rattle.std.proofs.Common.{◌≡◌, ◌+◌, ◌≤◌, length}
 use Rattle.cmb_bench.specs.Inner.Scan.{scan}
 use Rattle.cmb_bench.specs.Inner.Views.{mentions}
-use Rattle.cmb_bench.specs.Inner.Reading.{operands_at, with_front}
+use Rattle.cmb_bench.specs.Inner.Reading.{operands_at}
+use Rattle.cmb_bench.proofs.Listing.{with_front}
 use Rattle.cmb_bench.proofs.parser.read_operands.Given as goal
 
 abbrev pub invariant-loop-operands : goal.invariant-loop-operands
