@@ -3,14 +3,10 @@
 
 mod collected;
 mod free;
-#[cfg(test)]
-mod free_tests;
 mod hand;
 mod part;
 pub mod rounds;
 pub mod run_fault;
-#[cfg(test)]
-mod run_tests;
 mod terms;
 
 pub use cmb_vcd::{

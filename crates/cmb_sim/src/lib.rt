@@ -21,6 +21,3 @@ pub use mode::Mode;
 pub use reading::{ReadFault, read_whole};
 pub use simulation::{Report, simulate};
 pub use source::{FromBytes, FromReader, Source};
-
-#[cfg(test)]
-mod tests;

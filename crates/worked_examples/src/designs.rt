@@ -1,5 +1,6 @@
 //! Worked examples as tests, by topic.
 
+mod gates;
 mod plain;
 mod tables;
 

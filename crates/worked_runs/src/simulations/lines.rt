@@ -1,7 +1,7 @@
 //! The command line, and the line of a fault.
 
-use crate::tests::{bench_case, run};
-use crate::{Level, LineFault, Mode, fault_line, line_message, read_line};
+use crate::simulations::{bench_case, run};
+use cmb_sim::{Level, LineFault, Mode, fault_line, line_message, read_line};
 use std::alloc::{AllocError, Global};
 use std::test::Fail;
 

@@ -3,14 +3,13 @@
 ghost use Rattle.std.specs.Prelude.{Some};
 ghost use Rattle.std.specs.Prelude.{◌<◌, ◌-◌, ◌^◌};
 
-use crate::run_tests::{TOGGLE, design_of};
-use crate::{
+use crate::rounds::{TOGGLE, design_of, design_of_tables};
+use cmb_core::Clustering;
+use cmb_design::{Design, Settings};
+use cmb_links::Workers;
+use cmb_run::{
     Collector, Failed, Limited, OpenGate, Room, RunFault, Sink, Turnstile, run_free, run_free_text,
 };
-use cmb_bench::read_bench;
-use cmb_core::Clustering;
-use cmb_design::{Design, Settings, read_clocks, read_delays, read_stimuli};
-use cmb_links::Workers;
 use cmb_wave::Level;
 use std::alloc::{AllocError, Global};
 use std::process::Abort;
@@ -234,16 +233,18 @@ fn halves(alloc: Global, count: u32) -> Result<Vec<u32>, AllocError> {
 fn slow_buffers<R: Abort>(rt: &R, alloc: Global) -> Result<Design, Fail> {
     let (bench, stimuli) = buffers(alloc, 70)?;
     assert!(rt; bench.len() <= 16_777_216 && stimuli.len() <= 16_777_216);
-    let netlist = read_bench(alloc, bench.as_bytes())?;
-    let delays = read_delays(alloc, b"by,name,delay\nkind,BUFF,20\n")?;
-    let rows = read_stimuli(alloc, stimuli.as_bytes())?;
-    let clocks = read_clocks(alloc, b"")?;
     let settings = Settings {
         horizon: 10,
         clock: None,
         init: Level::X,
     };
-    Ok(Design::new(alloc, netlist, delays, rows, clocks, settings)?)
+    design_of_tables(
+        alloc,
+        bench.as_bytes(),
+        b"by,name,delay\nkind,BUFF,20\n",
+        stimuli.as_bytes(),
+        settings,
+    )
 }
 
 #[test]

@@ -2,9 +2,9 @@
 
 ghost use Rattle.std.specs.Prelude.{◌≡◌, Some};
 
-use crate::tests::waves::{inverter, toggle};
-use crate::tests::{Case, MODES, bench_case, clocked, refuses, table, text_of};
-use crate::{Failed, Fault, FromBytes, Limited, Mode, Report, Sink, Source, simulate};
+use crate::simulations::waves::{inverter, toggle};
+use crate::simulations::{Case, MODES, bench_case, clocked, refuses, table, text_of};
+use cmb_sim::{Failed, Fault, FromBytes, Limited, Mode, Report, Sink, Source, simulate};
 use std::alloc::{AllocError, Global};
 use std::process::Abort;
 use std::sync::Wait;

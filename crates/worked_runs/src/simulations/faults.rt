@@ -1,8 +1,8 @@
 //! Faults of the netlist and of the settings.
 
-use crate::tests::waves::{inverter, toggle};
-use crate::tests::{Case, bench_case, clocked, refuses, refuses_in, writes};
-use crate::{Mode, Settings};
+use crate::simulations::waves::{inverter, toggle};
+use crate::simulations::{Case, bench_case, clocked, refuses, refuses_in, writes};
+use cmb_sim::{Mode, Settings};
 use std::alloc::{AllocError, Global};
 use std::test::Fail;
 

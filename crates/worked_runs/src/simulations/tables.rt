@@ -1,8 +1,8 @@
 //! The tables of delays, stimuli and clocks.
 
-use crate::Settings;
-use crate::tests::waves::{inverter, pulse, two_flops};
-use crate::tests::{Case, clocked, refuses, writes};
+use crate::simulations::waves::{inverter, pulse, two_flops};
+use crate::simulations::{Case, clocked, refuses, writes};
+use cmb_sim::Settings;
 use std::test::Fail;
 
 #[test]

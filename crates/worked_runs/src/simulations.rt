@@ -6,7 +6,7 @@ mod lines;
 mod tables;
 mod waves;
 
-use crate::{Fault, FromBytes, Level, Mode, Report, Room, Settings, simulate};
+use cmb_sim::{Fault, FromBytes, Level, Mode, Report, Room, Settings, simulate};
 use std::alloc::{AllocError, Global};
 use std::process::Abort;
 use std::sync::Wait;

@@ -1,7 +1,7 @@
 //! Texts of whole runs.
 
-use crate::Mode;
-use crate::tests::{Case, bench_case, clocked, run, writes};
+use crate::simulations::{Case, bench_case, clocked, run, writes};
+use cmb_sim::Mode;
 use std::test::Fail;
 
 const INVERTER: &str = "INPUT(a) OUTPUT(y) y = NOT(a)";

@@ -2,11 +2,11 @@
 
 ghost use Rattle.std.specs.Prelude.{◌≤◌, length};
 
-use crate::{RunFault, run_rounds};
 use cmb_bench::read_bench;
 use cmb_core::Clustering;
 use cmb_design::{Design, Settings, read_clocks, read_delays, read_stimuli};
 use cmb_links::Workers;
+use cmb_run::{RunFault, run_rounds};
 use cmb_vcd::vcd_text;
 use cmb_wave::Level;
 use std::alloc::Global;
@@ -15,21 +15,36 @@ use std::sync::Wait;
 use std::test::Fail;
 use std::thread::Threads;
 
+/// The design of these texts, without clock rows.
+pub fn design_of_tables(
+    alloc: Global,
+    bench: &[u8],
+    delays: &[u8],
+    stimuli: &[u8],
+    settings: Settings,
+) -> Result<Design, Fail>
+    requires bench { length bench.now ≤ 16777216 }
+    requires delays { length delays.now ≤ 16777216 }
+    requires stimuli { length stimuli.now ≤ 16777216 }
+{
+    let delays = read_delays(alloc, delays)?;
+    let stimuli = read_stimuli(alloc, stimuli)?;
+    let clocks = read_clocks(alloc, b"")?;
+    let netlist = read_bench(alloc, bench)?;
+    Ok(Design::new(alloc, netlist, delays, stimuli, clocks, settings)?)
+}
+
 /// A design whose flip-flops sample at ticks 2, 6, 10 and so on, and hold 0 before.
 pub fn design_of(alloc: Global, bench: &[u8], stimuli: &[u8], horizon: u32) -> Result<Design, Fail>
     requires bench { length bench.now ≤ 16777216 }
     requires stimuli { length stimuli.now ≤ 16777216 }
 {
-    let netlist = read_bench(alloc, bench)?;
-    let delays = read_delays(alloc, b"")?;
-    let stimuli = read_stimuli(alloc, stimuli)?;
-    let clocks = read_clocks(alloc, b"")?;
     let settings = Settings {
         horizon,
         clock: Some((2, 4)),
         init: Level::Zero,
     };
-    Ok(Design::new(alloc, netlist, delays, stimuli, clocks, settings)?)
+    design_of_tables(alloc, bench, b"", stimuli, settings)
 }
 
 // The text of a run in which the nets are spread over so many clusters.
