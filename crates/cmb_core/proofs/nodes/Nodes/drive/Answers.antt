@@ -1,11 +1,7 @@
-use Rattle.std.proofs.Common.{◌≡◌, ◌<◌, length, arith, refl}
+use Rattle.std.proofs.Common.{◌≡◌, arith, refl}
 use Rattle.std.proofs.lemmas.List.{get_or_read}
-use Rattle.cmb_wave.specs.declared.level.Level.TheVariants.{X}
-use Rattle.cmb_core.specs.declared.process.Rule.TheVariants.{Given}
-use Rattle.cmb_core.specs.declared.nodes.Entry.{Entry}
 use Rattle.cmb_core.specs.declared.nodes.Entry.TheVariants as entry
-use Rattle.cmb_core.specs.declared.nodes.Sampler.{Sampler}
-use Rattle.cmb_core.specs.Nodes.{IsEntry, process_sampled, sampler_at}
+use Rattle.cmb_core.specs.Nodes.{sampler_at}
 use Rattle.cmb_core.proofs.NodeFacts.{entry_read, process_read}
 use Rattle.cmb_core.proofs.nodes.Nodes.drive.Goals as goal
 
