@@ -52,27 +52,6 @@ impl<'a> Drive<'a> {
         }
     }
 
-    /// What the process reads.
-    pub fn operands(self) -> &'a [Operand]
-        ensures { result.now ≡ (process_driven self.entry).operands }
-    {
-        match self {
-            Drive::Gate(_, operands) => operands,
-            Drive::Flop { operands, .. } => operands,
-            _ => &[],
-        }
-    }
-
-    /// The changes of an input.
-    pub fn stimulus(self) -> &'a [Change]
-        ensures { result.now ≡ (process_driven self.entry).stimulus }
-    {
-        match self {
-            Drive::Input(stimulus) => stimulus,
-            _ => &[],
-        }
-    }
-
     /// The tick up to which the output can go on, and the level that it keeps, where that is
     /// plain to see.
     pub fn look(self, horizon: u32, waves: &Waves, clock: u32) -> Look

@@ -1,21 +1,21 @@
 //! Processes that step, clusters of them, and the world of five events.
 #![tactic(auto)]
 
-pub mod advance;
-pub mod below;
+mod advance;
+mod below;
 pub mod cluster;
 pub mod clustering;
 pub mod delivery;
-pub mod drive;
+mod drive;
 pub mod event;
-pub mod gate;
+mod gate;
 pub mod laws;
-pub mod look;
-pub mod merge;
-pub mod node;
-pub mod nodes;
+mod look;
+mod merge;
+mod node;
+mod nodes;
 mod open;
-pub mod pins;
+mod pins;
 mod play;
 pub mod process;
 mod readers;
@@ -24,9 +24,9 @@ mod recent;
 mod rounds;
 mod stepping;
 pub mod tables;
-pub mod tip;
+mod tip;
 mod trim;
-pub mod waves;
+mod waves;
 pub mod world;
 
 pub use cluster::Cluster;

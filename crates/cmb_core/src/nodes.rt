@@ -223,22 +223,6 @@ impl Nodes {
         self.drive(slot).rule()
     }
 
-    /// What the process in a place reads.
-    pub fn operands(&self, slot: usize) -> &[Operand]
-        requires { slot < length self.now }
-        ensures { result.now ≡ (nth_process self.now slot).operands }
-    {
-        self.drive(slot).operands()
-    }
-
-    /// The changes of the input in a place.
-    pub fn stimulus(&self, slot: usize) -> &[Change]
-        requires { slot < length self.now }
-        ensures { result.now ≡ (nth_process self.now slot).stimulus }
-    {
-        self.drive(slot).stimulus()
-    }
-
     /// Whether the net in a place is not driven here.
     pub fn is_given(&self, slot: usize) -> bool
         requires { slot < length self.now }
