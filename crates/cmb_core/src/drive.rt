@@ -5,9 +5,7 @@ ghost use Rattle.cmb_core.specs.Nodes.{process_driven};
 ghost use Rattle.cmb_core.specs.Spans.{changes_from};
 ghost use Rattle.cmb_core.specs.Rows.{IsReadyFor, row, reach};
 
-use crate::advance::{
-    Span, flop_changes, gate_changes, held_changes, input_changes, reach_of_flop,
-};
+use crate::advance::{Span, flop_changes, gate_changes, input_changes, reach_of_flop};
 use crate::look::{Look, look_at_gate};
 use crate::pins::operand_tip;
 use crate::process::{Operand, Rule};
@@ -79,24 +77,18 @@ impl<'a> Drive<'a> {
         Look { reach, held: None }
     }
 
-    /// Adds the changes of the output in a span to a list. `held` is the level that it keeps,
-    /// where that is known.
+    /// Adds the changes of the output in a span to a list.
     pub fn changes(
         self,
         room: &mut Vec<Change>,
         horizon: u32,
         waves: &Waves,
         span: Span,
-        held: Option<Level>,
     ) -> Result<(), AllocError>
         requires ready { IsReadyFor horizon waves.now span.from (process_driven self).rule (process_driven self).operands (process_driven self).stimulus }
         requires ordered { span.from ≤ span.until }
-        requires held { IfSome held (λ level. (t : ℕ) → span.from ≤ t → row waves.now (process_driven self).rule (process_driven self).operands (process_driven self).stimulus t ≡ level) }
         ensures { OnOk result (room.new.items ≡ room.old.items ++ changes_from (row waves.now (process_driven self.entry).rule (process_driven self.entry).operands (process_driven self.entry).stimulus) span.before span.from (span.until - span.from)) }
     {
-        if let Some(level) = held {
-            return held_changes(room, level, span);
-        }
         match self {
             Drive::Given => input_changes(room, &[], span),
             Drive::Input(stimulus) => input_changes(room, stimulus, span),

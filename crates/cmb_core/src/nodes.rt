@@ -7,7 +7,7 @@ ghost use Rattle.cmb_core.specs.Clusters.{nth_process};
 ghost use Rattle.cmb_core.specs.Spans.{changes_from};
 ghost use Rattle.cmb_core.specs.Rows.{IsReadyFor, is_given, row, reach};
 
-use crate::advance::Span;
+use crate::advance::{Span, held_changes};
 use crate::drive::Drive;
 use crate::look::Look;
 use crate::node::Node;
@@ -262,6 +262,9 @@ impl Nodes {
         requires held { IfSome held (λ level. (t : ℕ) → span.from ≤ t → row waves.now (nth_process self.now slot).rule (nth_process self.now slot).operands (nth_process self.now slot).stimulus t ≡ level) }
         ensures { OnOk result (room.new.items ≡ room.old.items ++ changes_from (row waves.now (nth_process self.now slot).rule (nth_process self.now slot).operands (nth_process self.now slot).stimulus) span.before span.from (span.until - span.from)) }
     {
-        self.drive(slot).changes(room, horizon, waves, span, held)
+        match held {
+            Some(level) => held_changes(room, level, span),
+            None => self.drive(slot).changes(room, horizon, waves, span),
+        }
     }
 }

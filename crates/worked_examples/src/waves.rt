@@ -46,6 +46,14 @@ fn cut(rt: &impl Abort, wave: &Wave, from: u32) -> Result<Option<Piece>, Fail> {
     Ok(wave.cut(from)?)
 }
 
+// The same of a wave that is known to stay as it is from its clock up to a later tick.
+fn cut_up_to(rt: &impl Abort, wave: &Wave, from: u32, upto: u32) -> Result<Option<Piece>, Fail> {
+    assert!(rt; wave.base() <= from);
+    assert!(rt; from <= upto);
+    assert!(rt; wave.clock() <= upto);
+    Ok(wave.cut_up_to(from, upto)?)
+}
+
 // A piece of d from tick 4 up to tick 12, cut or copied.
 fn is_rest_of_data(rt: &impl Abort, piece: &Piece) {
     assert_eq!(rt; piece.net(), D);
@@ -234,6 +242,20 @@ fn toggle(rt: HostRuntime) -> Result<(), Fail> {
     assert_eq!(rt; wave.kept(), Level::Zero);
     assert_eq!(rt; wave.count(), 4);
     assert_eq!(rt; wave.changes(), [at(11, Level::One)].as_slice());
+    Ok(())
+}
+
+// A piece that ends behind the wave's own clock has the changes there are; the wave stays as it was.
+#[test]
+fn cut_beyond_the_clock(rt: HostRuntime) -> Result<(), Fail> {
+    let wave = toggle_wave(rt.alloc())?;
+    let piece = cut_up_to(&rt, &wave, 8, 15)?.ok_or("a piece")?;
+    assert_eq!(rt; piece.net(), Q);
+    assert_eq!(rt; piece.from(), 8);
+    assert_eq!(rt; piece.to(), 15);
+    assert_eq!(rt; piece.changes(), [at(11, Level::One)].as_slice());
+    assert!(rt; cut_up_to(&rt, &wave, 15, 15)?.is_none());
+    assert_eq!(rt; wave.clock(), 12);
     Ok(())
 }
 
