@@ -10,8 +10,9 @@ use Rattle.cmb_wave.specs.declared.level.Change.{Change}
 use Rattle.cmb_wave.specs.Waveform.{IsTrace}
 use Rattle.cmb_wave.specs.Wave.{Wave, grown, new_wave, wave_up_to}
 use Rattle.cmb_wave.specs.Calls.{heard_wave}
+use Rattle.cmb_core.specs.declared.tip.Tail.{Tail}
 use Rattle.cmb_core.specs.declared.tip.Tip.{Tip}
-use Rattle.cmb_core.specs.Tips.{AreEnds, AreSkips, AreTips, IsEnd, IsTip, held_waves, no_tip}
+use Rattle.cmb_core.specs.Tips.{AreEnds, AreSkips, AreTails, AreTips, IsEnd, IsTail, IsTip, held_waves, no_tail, no_tip}
 use Rattle.cmb_core.proofs.TipFacts.{skips_set}
 
 -- ---- a wave that tells itself that it doesn't change
@@ -100,10 +101,10 @@ end_of tip wave is = record {
 }
 
 -- a wave that went on is held further
-pub end_later : (tip : Tip) (wave : Wave) (clock : ℕ) → IsEnd tip wave → tip.clock ≤ clock → IsEnd (record { clock = clock; before = tip.before; newest = tip.newest }) wave
+pub end_later : (tip : Tip) (wave : Wave) (clock : ℕ) → IsEnd tip wave → tip.clock ≤ clock → IsEnd (record { clock = clock; newest = tip.newest }) wave
 end_later tip wave clock is h = record {
   later = omega (arith, is.later, h);
-  held = record { middle = is.held.middle; last = is.held.last; two = is.held.two; clock = refl; within = omega (arith, h, is.held.within); ends = is.held.ends; told = is.held.told; later = is.held.later; steady = is.held.steady };
+  held = record { clock = refl; within = omega (arith, h, is.held.clock, is.held.within); ends = is.held.ends; steady = is.held.steady };
 }
 
 pub ends_set : (ws : List Wave) (ts : List Tip) (n : ℕ) (w : Wave) (t : Tip) → AreEnds ws ts → n < length ws → IsEnd t w → AreEnds (set ws n w) (set ts n t)
@@ -129,6 +130,45 @@ ends_push ws ts w t a is = record {
     | inr ne ↦
         let here : i < length ws = omega (arith, k, length_push ws w, ne) in
         rw (get_or_append_left ws (w ∷ []) (new_wave 0) i here, get_or_append_left ts (t ∷ []) no_tip i (omega (arith, here, a.count))) (a.each i here)
+  ];
+}
+
+-- a wave that went on without a change ends as it did
+pub tail_held : (tail : Tail) (wave : Wave) (clock : ℕ) → wave.clock ≤ clock → IsTail tail wave → IsTail tail (wave_up_to wave clock)
+tail_held tail wave clock h is = record {
+  middle = is.middle;
+  last = is.last;
+  two = is.two;
+  within = omega (arith, h, is.within);
+  ends = is.ends;
+  told = is.told;
+  later = is.later;
+  steady = is.steady;
+}
+
+pub tails_set : (ws : List Wave) (ts : List Tail) (n : ℕ) (w : Wave) (t : Tail) → AreTails ws ts → n < length ws → IsTail t w → AreTails (set ws n w) (set ts n t)
+tails_set ws ts n w t a h is =
+    let there : n < length ts = omega (arith, h, a.count) in
+    record {
+      count = length-set ts n t ∙ a.count ∙ sym (length-set ws n w);
+      each = λ i k. elim (cases_eq i n) [
+        | inl e ↦ rw (e, get_or-set_same ts n t no_tail there, get_or-set_same ws n w (new_wave 0) h) is
+        | inr ne ↦
+            let here : i < length ws = omega (arith, k, length-set ws n w) in
+            rw (get_or-set_other ts n i t no_tail ne, get_or-set_other ws n i w (new_wave 0) ne) (a.each i here)
+      ];
+    }
+
+pub tails_push : (ws : List Wave) (ts : List Tail) (w : Wave) (t : Tail) → AreTails ws ts → IsTail t w → AreTails (ws ++ w ∷ []) (ts ++ t ∷ [])
+tails_push ws ts w t a is = record {
+  count = omega (arith, length_push ws w, length_push ts t, a.count);
+  each = λ i k. elim (cases_eq i (length ws)) [
+    | inl e ↦
+        let last : IsTail (get_or (ts ++ t ∷ []) (length ts) no_tail) (get_or (ws ++ w ∷ []) (length ws) (new_wave 0)) = rw (get_or-append_seam ts t [] no_tail, get_or-append_seam ws w [] (new_wave 0)) is in
+        rw e (rw a.count at last)
+    | inr ne ↦
+        let here : i < length ws = omega (arith, k, length_push ws w, ne) in
+        rw (get_or_append_left ws (w ∷ []) (new_wave 0) i here, get_or_append_left ts (t ∷ []) no_tail i (omega (arith, here, a.count))) (a.each i here)
   ];
 }
 
@@ -200,22 +240,24 @@ caught_up ws ts held slot lent now tip at was end e =
 pub unchanged : (ws : List Wave) (slot : ℕ) (wave : Wave) → wave ≡ get_or ws slot (new_wave 0) → set ws slot wave ≡ ws
 unchanged ws slot wave e = ap (set ws slot) e ∙ set-get_or ws slot (new_wave 0)
 
-pub record Renewed (horizon : ℕ) (ws : List Wave) (ts : List Tip) (places : List ℕ) (held : List Wave) (slot : ℕ) (wave : Wave) (tip : Tip) : Type 0 where
+pub record Renewed (horizon : ℕ) (ws : List Wave) (ts : List Tip) (tails : List Tail) (places : List ℕ) (held : List Wave) (slot : ℕ) (wave : Wave) (tip : Tip) (tail : Tail) : Type 0 where
   pub ends : AreEnds (set ws slot wave) (set ts slot tip)
+  pub told : AreTails (set ws slot wave) (set tails slot tail)
   pub count : length places ≡ length (set ws slot wave)
   pub skips : AreSkips horizon (held_waves (set ws slot wave) (set ts slot tip)) places
   pub view : held_waves (set ws slot wave) (set ts slot tip) ≡ set held slot wave
   pub at : get_or (held_waves (set ws slot wave) (set ts slot tip)) slot (new_wave 0) ≡ wave
 
-pub renewed : (horizon : ℕ) (ws : List Wave) (ts : List Tip) (skips : List ℕ) (held : List Wave) (slot : ℕ) (wave : Wave) (tip : Tip)
-    → AreEnds ws ts → held_waves ws ts ≡ held → length skips ≡ length ws → AreSkips horizon (held_waves ws ts) skips → slot < length held → IsTip tip wave → (get_or held slot (new_wave 0)).clock ≤ wave.clock
-    → Renewed horizon ws ts skips held slot wave tip
-renewed horizon ws ts skips held slot wave tip ends e count short h is later =
+pub renewed : (horizon : ℕ) (ws : List Wave) (ts : List Tip) (tails : List Tail) (skips : List ℕ) (held : List Wave) (slot : ℕ) (wave : Wave) (tip : Tip) (tail : Tail)
+    → AreEnds ws ts → AreTails ws tails → held_waves ws ts ≡ held → length skips ≡ length ws → AreSkips horizon (held_waves ws ts) skips → slot < length held → IsTip tip wave × IsTail tail wave → (get_or held slot (new_wave 0)).clock ≤ wave.clock
+    → Renewed horizon ws ts tails skips held slot wave tip tail
+renewed horizon ws ts tails skips held slot wave tip tail ends lasts e count short h is later =
     let at = place_of ws ts held slot ends e h in
-    let on : (get_or ts slot no_tip).clock ≤ tip.clock = omega (arith, later, ap (λ (w : Wave). w.clock) at.wave, is.clock) in
-    let view : held_waves (set ws slot wave) (set ts slot tip) ≡ set held slot wave = view_set ws ts held slot wave wave tip ends e (held_of tip wave is) in
+    let on : (get_or ts slot no_tip).clock ≤ tip.clock = omega (arith, later, ap (λ (w : Wave). w.clock) at.wave, is.0.clock) in
+    let view : held_waves (set ws slot wave) (set ts slot tip) ≡ set held slot wave = view_set ws ts held slot wave wave tip ends e (held_of tip wave is.0) in
     record {
-      ends = ends_set ws ts slot wave tip ends at.there (end_of tip wave is);
+      ends = ends_set ws ts slot wave tip ends at.there (end_of tip wave is.0);
+      told = tails_set ws tails slot wave tail lasts at.there is.1;
       count = count ∙ sym (length-set ws slot wave);
       skips = skips_held horizon ws ts skips slot wave tip ends short at.there on;
       view = view;

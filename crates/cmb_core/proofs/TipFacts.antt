@@ -11,9 +11,10 @@ use Rattle.cmb_wave.specs.Waveform.{IsTrace, Rises, last_level, level_at, level_
 use Rattle.cmb_wave.specs.Wave.{Wave, new_wave, grown, wave_up_to}
 use Rattle.cmb_wave.specs.Calls.{heard_wave}
 use Rattle.cmb_wave.proofs.Lists.{rises_get, rises_lower, last_before, last_level_append, last_level_take}
+use Rattle.cmb_core.specs.declared.tip.Tail.{Tail}
 use Rattle.cmb_core.specs.declared.tip.Tip.{Tip}
 use Rattle.cmb_core.specs.Rows.{delayed}
-use Rattle.cmb_core.specs.Tips.{AreSkips, AreTips, IsTip, no_tip}
+use Rattle.cmb_core.specs.Tips.{AreSkips, IsTail, IsTip}
 
 -- from its last change but one on a list tells what its last two changes do
 level_at_two : (low : ℕ) (kept : Level) (cs : List Change) (i t : ℕ) (d : Change) → Rises low cs → length cs ≡ suc (suc i) → (get_or cs i d).tick ≤ t → level_at kept cs t ≡ level_at (get_or cs i d).level (get_or cs (suc i) d ∷ []) t
@@ -78,13 +79,12 @@ level_at_three low kept (a ∷ b ∷ c ∷ e ∷ cs) (suc i) t d r many h =
     rw passed (level_at_three (suc a.tick) a.level (b ∷ c ∷ e ∷ cs) i t d r.1 rest h)
 
 -- the end of a wave without a change
-pub tip_start : (wave : Wave) (clock : ℕ) (start : Change) → clock ≡ wave.clock → start.tick ≡ 0 → start.level ≡ wave.kept → wave.changes ≡ []
-    → IsTip (record { clock = clock; before = start; newest = start ∷ start ∷ [] }) wave
-tip_start wave clock start same early level none = record {
+pub tail_start : (wave : Wave) (start : Change) → start.tick ≡ 0 → start.level ≡ wave.kept → wave.changes ≡ []
+    → IsTail (record { before = start; newest = start ∷ start ∷ [] }) wave
+tail_start wave start early level none = record {
   middle = start;
   last = start;
   two = refl;
-  clock = same;
   within = omega (arith, early);
   ends = rw none level;
   told = λ t h. let passed : nat_le start.tick t ≡ true = grind (arith, nat_tests, early) in rw (none, passed) (sym level);
@@ -106,16 +106,15 @@ level_at_pair kept c d t h = go (nat_le c.tick t) (nat_le d.tick t) refl refl
     go false false p q = refl
 
 -- one that goes on by one change
-pub tip_push : (tip : Tip) (old wave : Wave) (clock : ℕ) (d : Change) (h : IsTip tip old) → clock ≡ wave.clock → wave.kept ≡ old.kept → wave.changes ≡ old.changes ++ d ∷ [] → Rises 0 wave.changes → old.clock ≤ d.tick → d.tick ≤ wave.clock
-    → IsTip (record { clock = clock; before = h.middle; newest = h.last ∷ d ∷ [] }) wave
-tip_push tip old wave clock d h same kept changes r low high =
+pub tail_push : (tail : Tail) (old wave : Wave) (d : Change) (h : IsTail tail old) → wave.kept ≡ old.kept → wave.changes ≡ old.changes ++ d ∷ [] → Rises 0 wave.changes → old.clock ≤ d.tick → d.tick ≤ wave.clock
+    → IsTail (record { before = h.middle; newest = h.last ∷ d ∷ [] }) wave
+tail_push tail old wave d h kept changes r low high =
     let rises : Rises 0 (old.changes ++ d ∷ []) = rw changes at r in
     let order : h.last.tick ≤ d.tick = omega (arith, low, h.within) in
     record {
       middle = h.last;
       last = d;
       two = refl;
-      clock = same;
       within = high;
       ends = rw (changes, kept) (sym (last_level_append old.kept old.changes (d ∷ [])));
       told = λ t k. rw (changes, kept) (level_at_append 0 old.kept old.changes (d ∷ []) t rises ∙ ap (λ l. level_at l (d ∷ []) t) (h.later t k) ∙ level_at_pair h.middle.level h.last d t order);
@@ -130,20 +129,20 @@ rises_first low [] ds r = tt
 rises_first low (c ∷ cs) ds r = (r.0, rises_first (suc c.tick) cs ds r.1)
 
 -- by two
-pub tip_push_two : (tip : Tip) (old wave : Wave) (clock : ℕ) (d e : Change) (h : IsTip tip old) → clock ≡ wave.clock → wave.kept ≡ old.kept → wave.changes ≡ old.changes ++ d ∷ e ∷ [] → Rises 0 wave.changes → old.clock ≤ d.tick → d.tick < e.tick → e.tick ≤ wave.clock
-    → IsTip (record { clock = clock; before = h.last; newest = d ∷ e ∷ [] }) wave
-unfolding tip_push
-tip_push_two tip old wave clock d e h same kept changes r low rise high =
+pub tail_push_two : (tail : Tail) (old wave : Wave) (d e : Change) (h : IsTail tail old) → wave.kept ≡ old.kept → wave.changes ≡ old.changes ++ d ∷ e ∷ [] → Rises 0 wave.changes → old.clock ≤ d.tick → d.tick < e.tick → e.tick ≤ wave.clock
+    → IsTail (record { before = h.last; newest = d ∷ e ∷ [] }) wave
+unfolding tail_push
+tail_push_two tail old wave d e h kept changes r low rise high =
     let half : Wave = record { net = old.net; base = old.base; clock = suc d.tick; count = old.count; kept = old.kept; changes = old.changes ++ d ∷ [] } in
     let both : old.changes ++ d ∷ e ∷ [] ≡ (old.changes ++ d ∷ []) ++ e ∷ [] = sym (append_assoc old.changes (d ∷ []) (e ∷ [])) in
     let rises : Rises 0 ((old.changes ++ d ∷ []) ++ e ∷ []) = rw (changes ∙ both) at r in
-    let first = tip_push tip old half (suc d.tick) d h refl refl refl (rises_first 0 (old.changes ++ d ∷ []) (e ∷ []) rises) low (omega arith) in
-    tip_push _ half wave clock e first same kept (changes ∙ both) r (omega (arith, rise)) high
+    let first = tail_push tail old half d h refl refl (rises_first 0 (old.changes ++ d ∷ []) (e ∷ []) rises) low (omega arith) in
+    tail_push _ half wave e first kept (changes ∙ both) r (omega (arith, rise)) high
 
 -- by more
-pub tip_more : (old wave : Wave) (cs : List Change) (clock : ℕ) (d : Change) → clock ≡ wave.clock → wave.kept ≡ old.kept → wave.changes ≡ old.changes ++ cs → Rises 0 wave.changes → Rises 0 cs → 2 < length cs → (get_or cs (length cs - 1) d).tick ≤ wave.clock
-    → IsTip (record { clock = clock; before = get_or cs (length cs - 3) d; newest = get_or cs (length cs - 2) d ∷ get_or cs (length cs - 1) d ∷ [] }) wave
-tip_more old wave cs clock d same kept changes r rise some high =
+pub tail_more : (old wave : Wave) (cs : List Change) (d : Change) → wave.kept ≡ old.kept → wave.changes ≡ old.changes ++ cs → Rises 0 wave.changes → Rises 0 cs → 2 < length cs → (get_or cs (length cs - 1) d).tick ≤ wave.clock
+    → IsTail (record { before = get_or cs (length cs - 3) d; newest = get_or cs (length cs - 2) d ∷ get_or cs (length cs - 1) d ∷ [] }) wave
+tail_more old wave cs d kept changes r rise some high =
     let rises : Rises 0 (old.changes ++ cs) = rw changes at r in
     let n : ℕ = length cs - 3 in
     let many : length cs ≡ suc (suc (suc (length cs - 3))) = omega (arith, some) in
@@ -153,7 +152,6 @@ tip_more old wave cs clock d same kept changes r rise some high =
       middle = get_or cs (suc (length cs - 3)) d;
       last = get_or cs (suc (suc (length cs - 3))) d;
       two = refl;
-      clock = same;
       within = rw last at high;
       ends = rw (changes, kept) (sym (last_level_append old.kept old.changes cs ∙ sym (ap (last_level (last_level old.kept old.changes)) (take_all (suc (suc (suc (length cs - 3)))) cs (omega (arith, many)))) ∙ last_level_take (last_level old.kept old.changes) cs (suc (suc (length cs - 3))) d (omega (arith, many))));
       told = λ t h. rw (changes, kept) (level_at_append 0 old.kept old.changes cs t rises ∙ level_at_three 0 (level_at old.kept old.changes t) cs (length cs - 3) t d rise many h);
@@ -167,36 +165,40 @@ rises_second low [] ds r = rises_lower 0 low ds (omega arith) r
 rises_second low (c ∷ cs) ds r = rises_second (suc c.tick) cs ds r.1
 
 -- the same in the words of lists
-pub after_one : (tip : Tip) (old wave : Wave) (clock : ℕ) (cs : List Change) (d : Change) → IsTip tip old → clock ≡ wave.clock → wave.kept ≡ old.kept → wave.changes ≡ old.changes ++ cs → Rises 0 wave.changes → length cs ≡ 1 → IsTrace (last_level old.kept old.changes) old.clock cs wave.clock
-    → IsTip (record { clock = clock; before = get_or tip.newest 0 d; newest = get_or tip.newest 1 d ∷ get_or cs (length cs - 1) d ∷ [] }) wave
-after_one tip old wave clock [] d h same kept changes r many trace = absurd (omega (arith, many))
-after_one tip old wave clock (c ∷ []) d h same kept changes r many trace = rw h.two (tip_push tip old wave clock c h same kept changes r trace.0 (omega (arith, trace.1)))
-after_one tip old wave clock (c ∷ e ∷ cs) d h same kept changes r many trace = absurd (omega (arith, many))
+pub after_one : (tail : Tail) (old wave : Wave) (cs : List Change) (d : Change) → IsTail tail old → wave.kept ≡ old.kept → wave.changes ≡ old.changes ++ cs → Rises 0 wave.changes → length cs ≡ 1 → IsTrace (last_level old.kept old.changes) old.clock cs wave.clock
+    → IsTail (record { before = get_or tail.newest 0 d; newest = get_or tail.newest 1 d ∷ get_or cs (length cs - 1) d ∷ [] }) wave
+after_one tail old wave [] d h kept changes r many trace = absurd (omega (arith, many))
+after_one tail old wave (c ∷ []) d h kept changes r many trace = rw h.two (tail_push tail old wave c h kept changes r trace.0 (omega (arith, trace.1)))
+after_one tail old wave (c ∷ e ∷ cs) d h kept changes r many trace = absurd (omega (arith, many))
 
-pub after_two : (tip : Tip) (old wave : Wave) (clock : ℕ) (cs : List Change) (d : Change) → IsTip tip old → clock ≡ wave.clock → wave.kept ≡ old.kept → wave.changes ≡ old.changes ++ cs → Rises 0 wave.changes → length cs ≡ 2 → IsTrace (last_level old.kept old.changes) old.clock cs wave.clock
-    → IsTip (record { clock = clock; before = get_or tip.newest 1 d; newest = get_or cs (length cs - 2) d ∷ get_or cs (length cs - 1) d ∷ [] }) wave
-after_two tip old wave clock [] d h same kept changes r many trace = absurd (omega (arith, many))
-after_two tip old wave clock (c ∷ []) d h same kept changes r many trace = absurd (omega (arith, many))
-after_two tip old wave clock (c ∷ e ∷ []) d h same kept changes r many trace = rw h.two (tip_push_two tip old wave clock c e h same kept changes r trace.0 trace.3.0 (omega (arith, trace.3.1)))
-after_two tip old wave clock (c ∷ e ∷ f ∷ cs) d h same kept changes r many trace = absurd (omega (arith, many))
+pub after_two : (tail : Tail) (old wave : Wave) (cs : List Change) (d : Change) → IsTail tail old → wave.kept ≡ old.kept → wave.changes ≡ old.changes ++ cs → Rises 0 wave.changes → length cs ≡ 2 → IsTrace (last_level old.kept old.changes) old.clock cs wave.clock
+    → IsTail (record { before = get_or tail.newest 1 d; newest = get_or cs (length cs - 2) d ∷ get_or cs (length cs - 1) d ∷ [] }) wave
+after_two tail old wave [] d h kept changes r many trace = absurd (omega (arith, many))
+after_two tail old wave (c ∷ []) d h kept changes r many trace = absurd (omega (arith, many))
+after_two tail old wave (c ∷ e ∷ []) d h kept changes r many trace = rw h.two (tail_push_two tail old wave c e h kept changes r trace.0 trace.3.0 (omega (arith, trace.3.1)))
+after_two tail old wave (c ∷ e ∷ f ∷ cs) d h kept changes r many trace = absurd (omega (arith, many))
 
 trace_last : (kept : Level) (low high : ℕ) (cs : List Change) (i : ℕ) (d : Change) → IsTrace kept low cs high → i < length cs → (get_or cs i d).tick ≤ high
 trace_last kept low high [] i d r h = absurd (omega (arith, h))
 trace_last kept low high (c ∷ cs) zero d r h = omega (arith, r.1)
 trace_last kept low high (c ∷ cs) (suc i) d r h = trace_last c.level (suc c.tick) high cs i d r.3 (omega (arith, h))
 
-pub after_more : (old wave : Wave) (cs : List Change) (clock : ℕ) (d : Change) → clock ≡ wave.clock → wave.kept ≡ old.kept → wave.changes ≡ old.changes ++ cs → Rises 0 wave.changes → 2 < length cs → IsTrace (last_level old.kept old.changes) old.clock cs wave.clock
-    → IsTip (record { clock = clock; before = get_or cs (length cs - 3) d; newest = get_or cs (length cs - 2) d ∷ get_or cs (length cs - 1) d ∷ [] }) wave
-after_more old wave cs clock d same kept changes r some trace =
-    tip_more old wave cs clock d same kept changes r (rises_second 0 old.changes cs (rw changes at r)) some (trace_last _ _ _ cs (length cs - 1) d trace (omega (arith, some)))
+pub after_more : (old wave : Wave) (cs : List Change) (d : Change) → wave.kept ≡ old.kept → wave.changes ≡ old.changes ++ cs → Rises 0 wave.changes → 2 < length cs → IsTrace (last_level old.kept old.changes) old.clock cs wave.clock
+    → IsTail (record { before = get_or cs (length cs - 3) d; newest = get_or cs (length cs - 2) d ∷ get_or cs (length cs - 1) d ∷ [] }) wave
+after_more old wave cs d kept changes r some trace =
+    tail_more old wave cs d kept changes r (rises_second 0 old.changes cs (rw changes at r)) some (trace_last _ _ _ cs (length cs - 1) d trace (omega (arith, some)))
+
+-- the clock and the newest change of a wave with such an end
+pub tip_of_tail : (tail : Tail) (wave : Wave) (is : IsTail tail wave) (clock : ℕ) (d : Change) → clock ≡ wave.clock → IsTip (record { clock = clock; newest = get_or tail.newest 1 d }) wave
+tip_of_tail tail wave is clock d same = rw is.two (record { clock = same; within = is.within; ends = is.ends; steady = is.steady })
 
 -- the level that a tip ends with is the one before the wave's clock
-pub tip_before : (tip : Tip) (wave : Wave) (is : IsTip tip wave) → IsTrace wave.kept wave.base wave.changes wave.clock → (wave.base ≡ 0 → wave.kept ≡ X)
-    → is.last.level ≡ level_before (level_at wave.kept wave.changes) wave.clock
+pub tip_before : (tip : Tip) (wave : Wave) → IsTip tip wave → IsTrace wave.kept wave.base wave.changes wave.clock → (wave.base ≡ 0 → wave.kept ≡ X)
+    → tip.newest.level ≡ level_before (level_at wave.kept wave.changes) wave.clock
 tip_before tip wave is trace first = is.ends ∙ last_before wave.kept wave.base wave.clock wave.changes trace first
 
 -- from its newest change on the wave has that level
-pub settled_tip : (tip : Tip) (wave : Wave) (is : IsTip tip wave) (delay clock t : ℕ) → delay ≤ clock → is.last.tick ≤ clock - delay → clock ≤ t → delayed wave delay t ≡ is.last.level
+pub settled_tip : (tip : Tip) (wave : Wave) → IsTip tip wave → (delay clock t : ℕ) → delay ≤ clock → tip.newest.tick ≤ clock - delay → clock ≤ t → delayed wave delay t ≡ tip.newest.level
 settled_tip tip wave is delay clock t late passed k =
     let known : nat_lt t delay ≡ false = grind (arith, nat_tests) in
     rw known (is.steady (t - delay) (omega arith))

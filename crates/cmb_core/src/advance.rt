@@ -11,7 +11,7 @@ ghost use Rattle.cmb_core.specs.Rows.{delayed, gate_row, sampled, AreReady, IsTh
 ghost use Rattle.cmb_core.specs.Step.{wave_at};
 
 use crate::merge::{Lag, Pin, differ, follow, merge};
-use crate::pins::{fill_pins, gate_pins, operand_tip, operand_wave};
+use crate::pins::{fill_pins, gate_pins, operand_tail, operand_wave};
 use crate::process::Operand;
 use crate::recent::left_near_end;
 use crate::waves::Waves;
@@ -143,7 +143,7 @@ fn set_flop_pin<'a>(
         delay: operand.delay,
     };
     let seen = seen_upto(first, period, operand.delay, clock);
-    if let Some(left) = operand_tip(waves, operand).left_from(seen) {
+    if let Some(left) = operand_tail(waves, operand).left_from(seen) {
         pin.set(left.level, lag, left.changes);
     } else {
         let wave = operand_wave(waves, operand);

@@ -40,7 +40,7 @@ pub fn look_at_gate(
         let tip = operand_tip(waves, *operand);
         reach = reach.min(tip.clock.saturating_add(operand.delay));
         settled = both(settled, tip.is_settled(operand.delay, clock));
-        tally.add(tip.newest().level);
+        tally.add(tip.newest.level);
     }
     let held = if settled {
         Some(tally.level(kind))

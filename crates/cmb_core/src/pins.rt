@@ -6,13 +6,13 @@ ghost use Rattle.cmb_wave.specs.Waveform.{Rises, last_level, below, level_at};
 ghost use Rattle.cmb_core.specs.Arrivals.{pin_at, pins_at, levels, last_sample};
 ghost use Rattle.cmb_core.specs.Rows.{delayed, delayed_levels, IsReady, AreReady, IsThere};
 ghost use Rattle.cmb_core.specs.Step.{wave_at};
-ghost use Rattle.cmb_core.specs.Tips.{IsTip};
+ghost use Rattle.cmb_core.specs.Tips.{IsTail, IsTip};
 ghost use Rattle.cmb_wave.specs.Wave.{Wave as WaveOf, wave_up_to};
 
 use crate::merge::{Lag, Pin};
 use crate::process::Operand;
 use crate::recent::left_near_end;
-use crate::tip::Tip;
+use crate::tip::{Tail, Tip};
 use crate::waves::Waves;
 use cmb_wave::{Level, Wave};
 use std::alloc::{AllocError, Global};
@@ -27,12 +27,21 @@ pub fn operand_wave(waves: &Waves, operand: Operand) -> &Wave
 }
 
 #[tactic(auto, using(crate::proofs::Slots::slot_there, crate::proofs::Slots::slot_wave))]
-/// The end of the wave that an operand reads.
+/// The clock and the newest change of the wave that an operand reads.
 pub fn operand_tip(waves: &Waves, operand: Operand) -> &Tip
     requires { IsThere waves.now operand }
     ensures { IsTip result.now (wave_at waves.now operand.net) }
 {
     waves.tip(operand.slot as usize)
+}
+
+#[tactic(auto, using(crate::proofs::Slots::slot_there, crate::proofs::Slots::slot_wave))]
+/// The newest changes of the wave that an operand reads.
+pub fn operand_tail(waves: &Waves, operand: Operand) -> &Tail
+    requires { IsThere waves.now operand }
+    ensures { IsTail result.now (wave_at waves.now operand.net) }
+{
+    waves.tail(operand.slot as usize)
 }
 
 // Sets the pin of an operand that reaches the output with a delay, from the output's clock on.
@@ -51,7 +60,7 @@ pub fn set_pin<'a>(pin: &mut Pin<'a>, waves: &'a Waves, operand: Operand, clock:
 {
     if operand.delay <= clock {
         let reached = clock - operand.delay;
-        if let Some(left) = operand_tip(waves, operand).left_from(reached) {
+        if let Some(left) = operand_tail(waves, operand).left_from(reached) {
             pin.set(left.level, Lag::Delay(operand.delay), left.changes);
             return;
         }

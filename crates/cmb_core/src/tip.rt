@@ -3,34 +3,54 @@
 ghost use Rattle.std.specs.Prelude.{◌≡◌, ◌≤◌, ◌++◌, ℕ, true, IfSome};
 ghost use Rattle.cmb_wave.specs.Waveform.{IsTrace, last_level, level_at};
 ghost use Rattle.cmb_wave.specs.Wave.{Wave as WaveOf};
-ghost use Rattle.cmb_core.specs.Tips.{IsTip};
+ghost use Rattle.cmb_core.specs.Tips.{IsTail, IsTip};
 ghost use Rattle.cmb_core.specs.Rows.{delayed};
 
 use cmb_wave::search::Rest;
 use cmb_wave::{Change, Wave};
 
-/// A wave's clock and its three newest changes. From the tick of `before` on the wave has that level,
-/// up to the two newest changes. Where there is no such change its place has tick 0 and the level
-/// before the first change.
+/// A wave's clock and its newest change. Where there is no change, tick 0 and the level before the
+/// first change.
 #[derive(Clone, Copy, Debug)]
 pub struct Tip {
     pub clock: u32,
+    pub newest: Change,
+}
+
+// A sweep reads that of each operand, so it is kept small.
+const _: () = prove!(size_of::<Tip>() == 12);
+
+/// A wave's three newest changes. From the tick of `before` on the wave has that level, up to the two
+/// newest changes. Where there is no such change its place has tick 0 and the level before the first
+/// change.
+#[derive(Clone, Copy, Debug)]
+pub struct Tail {
     before: Change,
     newest: [Change; 2],
 }
 
 impl Tip {
+    /// Whether no change is on its way any more to an output that is known up to a clock and shows the
+    /// wave some ticks late.
+    #[tactic(auto, using(crate::proofs::TipFacts::settled_tip))]
+    pub fn is_settled(&self, delay: u32, clock: u32) -> bool
+        ensures { (wave : WaveOf) → IsTip self.now wave → result ≡ true → (t : ℕ) → clock ≤ t → delayed wave delay t ≡ self.now.newest.level }
+    {
+        u64::from(self.newest.tick) + u64::from(delay) <= u64::from(clock)
+    }
+}
+
+impl Tail {
     /// The end of a wave.
-    #[tactic(auto, using(crate::proofs::TipFacts::tip_start))]
-    pub fn of(wave: &Wave) -> Tip
-        ensures { IsTip result wave.now }
+    #[tactic(auto, using(crate::proofs::TipFacts::tail_start))]
+    pub fn of(wave: &Wave) -> Tail
+        ensures { IsTail result wave.now }
     {
         let start = Change {
             tick: 0,
             level: wave.kept(),
         };
-        let none = Tip {
-            clock: wave.base(),
+        let none = Tail {
             before: start,
             newest: [start, start],
         };
@@ -38,20 +58,18 @@ impl Tip {
     }
 
     /// The end of a wave that went on by these changes, from what it was before.
-    pub fn after(self, wave: &Wave, changes: &[Change]) -> Tip
-        ensures { (old : WaveOf) → IsTip self old → wave.now.kept ≡ old.kept → wave.now.changes ≡ old.changes ++ changes.now → IsTrace (last_level old.kept old.changes) old.clock changes.now wave.now.clock → IsTip result wave.now }
+    pub fn after(self, wave: &Wave, changes: &[Change]) -> Tail
+        ensures { (old : WaveOf) → IsTail self old → wave.now.kept ≡ old.kept → wave.now.changes ≡ old.changes ++ changes.now → IsTrace (last_level old.kept old.changes) old.clock changes.now wave.now.clock → IsTail result wave.now }
     {
         // What this answers isn't read: its contract says that the ticks rise.
         let _all = wave.changes();
-        let clock = wave.clock();
         let count = changes.len();
         if count == 0 {
-            return Tip { clock, ..self };
+            return self;
         }
         let last = changes[count - 1];
         if count == 1 {
-            return Tip {
-                clock,
+            return Tail {
                 before: self.newest[0],
                 newest: [self.newest[1], last],
             };
@@ -62,23 +80,25 @@ impl Tip {
         } else {
             changes[count - 3]
         };
-        Tip {
-            clock,
+        Tail {
             before,
             newest: [middle, last],
         }
     }
 
-    /// The newest change.
-    pub fn newest(&self) -> Change
-        ensures { (wave : WaveOf) (is : IsTip self.now wave) → result ≡ is.last }
+    /// The clock and the newest change of a wave with this end.
+    pub fn tip(&self, clock: u32) -> Tip
+        ensures { (wave : WaveOf) → IsTail self.now wave → clock ≡ wave.clock → IsTip result wave }
     {
-        self.newest[1]
+        Tip {
+            clock,
+            newest: self.newest[1],
+        }
     }
 
     /// What is left of the wave from a tick on, None where more than its three newest changes are left.
     pub fn left_from(&self, tick: u32) -> Option<Rest<'_>>
-        ensures { IfSome result (λ rest. (wave : WaveOf) → IsTip self.now wave → (t : ℕ) → tick ≤ t → level_at rest.level rest.changes.now t ≡ level_at wave.kept wave.changes t) }
+        ensures { IfSome result (λ rest. (wave : WaveOf) → IsTail self.now wave → (t : ℕ) → tick ≤ t → level_at rest.level rest.changes.now t ≡ level_at wave.kept wave.changes t) }
     {
         if self.newest[0].tick <= tick {
             return Some(Rest {
@@ -94,13 +114,12 @@ impl Tip {
         }
         None
     }
+}
 
-    /// Whether no change is on its way any more to an output that is known up to a clock and shows the
-    /// wave some ticks late.
-    #[tactic(auto, using(crate::proofs::TipFacts::settled_tip))]
-    pub fn is_settled(&self, delay: u32, clock: u32) -> bool
-        ensures { (wave : WaveOf) (is : IsTip self.now wave) → result ≡ true → (t : ℕ) → clock ≤ t → delayed wave delay t ≡ is.last.level }
-    {
-        u64::from(self.newest().tick) + u64::from(delay) <= u64::from(clock)
-    }
+/// Both ends of a wave.
+pub fn ends_of(wave: &Wave) -> (Tip, Tail)
+    ensures { IsTip result.0 wave.now × IsTail result.1 wave.now }
+{
+    let tail = Tail::of(wave);
+    (tail.tip(wave.clock()), tail)
 }

@@ -4,10 +4,10 @@ ghost use Rattle.std.specs.Prelude.{◌≡◌, ◌≤◌, ◌<◌, ℕ, List, If
 ghost use Rattle.cmb_wave.specs.Waveform.{IsTrace, last_level, level_at, level_before};
 ghost use Rattle.cmb_wave.specs.Wave.{Wave as WaveOf, new_wave, grown, wave_up_to};
 ghost use Rattle.cmb_wave.specs.Calls.{cut, promised, taken, hears, heard_wave, RefusesAs};
-ghost use Rattle.cmb_core.specs.Tips.{AreEnds, AreSkips, AreTips, IsTip, held_waves};
+ghost use Rattle.cmb_core.specs.Tips.{AreEnds, AreSkips, AreTips, IsTail, IsTip, held_waves};
 ghost use Rattle.cmb_core.specs.Trims.{trimmed_to};
 
-use crate::tip::Tip;
+use crate::tip::{Tail, Tip, ends_of};
 use cmb_wave::{Change, Heard, Level, Piece, Promise, Wave, WaveFault};
 use std::alloc::{AllocError, Global};
 use std::marker::Model;
@@ -50,28 +50,29 @@ fn all_held(mut waves: Vec<Wave>, tips: &[Tip]) -> Vec<Wave>
     waves
 }
 
-/// Waves, each with its end in a list of its own, so that a step that finds nothing new reads and
-/// writes that list alone: a wave's clock stands there, and the wave itself is told it when a call
-/// needs it. For each place a later one is kept, so that waves between the two, which are known up
+/// Waves, each with its clock and its newest change in a list of its own, so that a step that finds
+/// nothing new reads and writes that list alone: the wave itself is told its clock when a call needs
+/// it. The newest few changes of each stand in another list. For each place a later one is kept, so that waves between the two, which are known up
 /// to the horizon, are passed over.
 #[derive(Debug, Drop)]
 pub struct Waves {
     horizon: u32,
     waves: Vec<Wave>,
     tips: Vec<Tip>,
+    tails: Vec<Tail>,
     skips: Vec<usize>,
 }
 
 impl Model for Waves {
     ghost use Rattle.std.specs.Prelude.{List, length, ◌≡◌};
     ghost use Rattle.cmb_wave.specs.Wave.{Wave};
-    ghost use Rattle.cmb_core.specs.Tips.{AreEnds, AreSkips, held_waves};
+    ghost use Rattle.cmb_core.specs.Tips.{AreEnds, AreSkips, AreTails, held_waves};
 
     ghost Value = { List Wave };
 
     ghost view = { λ w. held_waves w.waves.items w.tips.items };
 
-    ghost invariant = { λ w. record { ends : AreEnds w.waves.items w.tips.items; held : length (held_waves w.waves.items w.tips.items) ≡ length w.waves.items; count : length w.skips.items ≡ length w.waves.items; skips : AreSkips w.horizon (held_waves w.waves.items w.tips.items) w.skips.items } };
+    ghost invariant = { λ w. record { ends : AreEnds w.waves.items w.tips.items; tails : AreTails w.waves.items w.tails.items; held : length (held_waves w.waves.items w.tips.items) ≡ length w.waves.items; count : length w.skips.items ≡ length w.waves.items; skips : AreSkips w.horizon (held_waves w.waves.items w.tips.items) w.skips.items } };
 }
 
 impl Waves {
@@ -82,15 +83,19 @@ impl Waves {
         let skips = Vec::from_elem(alloc, 0usize, nets.len())?;
         let mut waves = Vec::with_capacity(alloc, nets.len())?;
         let mut tips = Vec::with_capacity(alloc, nets.len())?;
+        let mut tails = Vec::with_capacity(alloc, nets.len())?;
         for net in nets {
             let wave = Wave::new(alloc, *net);
-            tips.push(Tip::of(&wave))?;
+            let (tip, tail) = ends_of(&wave);
+            tips.push(tip)?;
+            tails.push(tail)?;
             waves.push(wave)?;
         }
         Ok(Waves {
             horizon,
             waves,
             tips,
+            tails,
             skips,
         })
     }
@@ -165,12 +170,20 @@ impl Waves {
         }
     }
 
-    /// The end of the wave in a place.
+    /// The clock and the newest change of the wave in a place.
     pub fn tip(&self, slot: usize) -> &Tip
         requires { slot < length self.now }
         ensures { IsTip result.now (slice_index_or self.now slot (new_wave 0)) }
     {
         &self.tips[slot]
+    }
+
+    /// The newest changes of the wave in a place.
+    pub fn tail(&self, slot: usize) -> &Tail
+        requires { slot < length self.now }
+        ensures { IsTail result.now (slice_index_or self.now slot (new_wave 0)) }
+    {
+        &self.tails[slot]
     }
 
     /// The level one tick below the clock of the wave in a place, x at clock 0.
@@ -184,7 +197,7 @@ impl Waves {
         let wave = &self.waves[slot];
         let _kept = wave.kept();
         let _changes = wave.changes();
-        self.tips[slot].newest().level
+        self.tips[slot].newest.level
     }
 
     /// Lets the wave in a place go on, as `Wave::extend` does.
@@ -200,7 +213,9 @@ impl Waves {
         }
         let wave = &mut self.waves[slot];
         wave.extend(to, changes)?;
-        self.tips[slot] = self.tips[slot].after(wave, changes);
+        let tail = self.tails[slot].after(wave, changes);
+        self.tips[slot] = tail.tip(to);
+        self.tails[slot] = tail;
         Ok(())
     }
 
@@ -216,7 +231,9 @@ impl Waves {
         let wave = &mut self.waves[slot];
         hold(wave, self.tips[slot].clock);
         let answer = wave.grow(to, changes);
-        self.tips[slot] = Tip::of(wave);
+        let (tip, tail) = ends_of(wave);
+        self.tips[slot] = tip;
+        self.tails[slot] = tail;
         answer
     }
 
@@ -235,7 +252,9 @@ impl Waves {
         let wave = &mut self.waves[slot];
         hold(wave, self.tips[slot].clock);
         let answer = wave.take(piece);
-        self.tips[slot] = Tip::of(wave);
+        let (tip, tail) = ends_of(wave);
+        self.tips[slot] = tip;
+        self.tails[slot] = tail;
         answer
     }
 
@@ -251,7 +270,9 @@ impl Waves {
         let wave = &mut self.waves[slot];
         hold(wave, self.tips[slot].clock);
         let answer = wave.hear(promise);
-        self.tips[slot] = Tip::of(wave);
+        let (tip, tail) = ends_of(wave);
+        self.tips[slot] = tip;
+        self.tails[slot] = tail;
         answer
     }
 
@@ -267,6 +288,8 @@ impl Waves {
         let wave = &mut self.waves[slot];
         hold(wave, self.tips[slot].clock);
         wave.forget(least);
-        self.tips[slot] = Tip::of(wave);
+        let (tip, tail) = ends_of(wave);
+        self.tips[slot] = tip;
+        self.tails[slot] = tail;
     }
 }

@@ -9,7 +9,7 @@ use Rattle.cmb_core.proofs.advance.set_flop_pin.Goals as goal
 pub returns-in-Some : goal.returns-in-Some
 returns-in-Some c = λ t h k.
     let seen : c.seen_upto-seen.result ≤ last_sample c.args.first c.args.period (t - c.args.operand.delay) = c.seen_upto-seen.ensures t h k in
-    rw (c.set.ensures.level, c.set.ensures.lag, c.set.ensures.rest) (arrived_sampled c.args.first c.args.period c.args.operand.delay c.in-Some.left.level c.in-Some.left.changes.now t c.requires.positive k ∙ c.in-Some.ensures _ c.operand_tip.ensures _ seen)
+    rw (c.set.ensures.level, c.set.ensures.lag, c.set.ensures.rest) (arrived_sampled c.args.first c.args.period c.args.operand.delay c.in-Some.left.level c.in-Some.left.changes.now t c.requires.positive k ∙ c.in-Some.ensures _ c.operand_tail.ensures _ seen)
 
 pub returns-in_default : goal.returns-in_default
 returns-in_default c = λ t h k.

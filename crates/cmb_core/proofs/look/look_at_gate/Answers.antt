@@ -1,6 +1,5 @@
-use Rattle.std.proofs.Common.{◌≡◌, ◌<◌, ◌+◌, [], min, arith, length, get_or, sym, ap, take, drop, ◌∙◌}
+use Rattle.std.proofs.Common.{◌≡◌, ◌<◌, ◌+◌, [], min, arith, length, get_or, sym, take, drop, ◌∙◌}
 use Rattle.std.proofs.lemmas.List.{drop_all, take_all}
-use Rattle.cmb_wave.specs.declared.level.Change.{Change}
 use Rattle.cmb_bench.specs.Netlist.{MayTake}
 use Rattle.cmb_core.specs.declared.process.Operand.{Operand}
 use Rattle.cmb_core.specs.Rows.{delayed_levels, gate_reach}
@@ -34,7 +33,7 @@ loop-operand-preserved c =
       below = omega (arith, c.min-reach.ensures, c.loop-operand.invariant.below);
       counted = λ settled t h.
           let each = both_of c.loop-operand.settled c.is_settled.result (sym c.both-settled.ensures ∙ settled) in
-          counted_step c.args.waves.now _ _ os i none t here (c.loop-operand.invariant.counted each.0 t h) (c.is_settled.ensures _ c.operand_tip-tip.ensures each.1 t h ∙ sym (ap (λ (x : Change). x.level) (c.newest.ensures _ c.operand_tip-tip.ensures)));
+          counted_step c.args.waves.now _ _ os i none t here (c.loop-operand.invariant.counted each.0 t h) (c.is_settled.ensures _ c.operand_tip-tip.ensures each.1 t h);
       ready = ready_step c.args.waves.now c.args.clock os i none here c.loop-operand.invariant.ready;
     })
 

@@ -18,12 +18,12 @@ grow-answer-requires-clause-trace c =
     let P : Wave → Type 0 = λ w. IsTrace (last_level w.kept w.changes) w.clock c.args.changes.items c.args.to in
     subst P (sym (before c)) c.requires.trace
 
-now : (c : goal.After-self-2-1) → c.hold.new.wave ≡ get_or c.args.self.now c.args.slot (new_wave 0)
+now : (c : goal.After-self-3-1) → c.hold.new.wave ≡ get_or c.args.self.now c.args.slot (new_wave 0)
 now c =
     let i = c.self.inside in
     caught_up i.waves.items i.tips.items c.args.self.now c.args.slot c.index_mut-wave.result.now c.hold.new.wave c.index.result.now (place_of i.waves.items i.tips.items c.args.self.now c.args.slot c.self.invariant.ends c.self.view_is c.requires.slot) c.index_mut-wave.ensures.value c.index.ensures c.hold.ensures
 
-facts : (c : goal.After-self-2-1) → Renewed c.self.inside.horizon c.self.inside.waves.items c.self.inside.tips.items c.self.inside.skips.items c.args.self.now c.args.slot c.grow-answer.new.self c.of.result
+facts : (c : goal.After-self-3-1) → Renewed c.self.inside.horizon c.self.inside.waves.items c.self.inside.tips.items c.self.inside.tails.items c.self.inside.skips.items c.args.self.now c.args.slot c.grow-answer.new.self c.ends_of.result.0 c.ends_of.result.1
 facts c =
     let i = c.self.inside in
     let clock : c.hold.new.wave.clock ≡ (get_or c.args.self.now c.args.slot (new_wave 0)).clock = ap (λ (w : Wave). w.clock) (now c) in
@@ -31,10 +31,10 @@ facts c =
     (on_ok_map c.grow-answer.result _ _ (λ e. omega (arith, c.requires.later, ap (λ (w : Wave). w.clock) e)) c.grow-answer.ensures.ok)
     (on_err_map c.grow-answer.result _ _ (λ e. omega (arith, clock, ap (λ (w : Wave). w.clock) e)) c.grow-answer.ensures.unchanged)
     in
-    renewed i.horizon i.waves.items i.tips.items i.skips.items c.args.self.now c.args.slot c.grow-answer.new.self c.of.result c.self.invariant.ends c.self.view_is c.self.invariant.count c.self.invariant.skips c.requires.slot c.of.ensures later
+    renewed i.horizon i.waves.items i.tips.items i.tails.items i.skips.items c.args.self.now c.args.slot c.grow-answer.new.self c.ends_of.result.0 c.ends_of.result.1 c.self.invariant.ends c.self.invariant.tails c.self.view_is c.self.invariant.count c.self.invariant.skips c.requires.slot c.ends_of.ensures later
 
 pub invariant_of-self : goal.invariant_of-self
-invariant_of-self c = let f = facts c in record { ends = f.ends; held = length_held _ _; count = f.count; skips = f.skips }
+invariant_of-self c = let f = facts c in record { ends = f.ends; tails = f.told; held = length_held _ _; count = f.count; skips = f.skips }
 
 pub returns-clause-ok : goal.returns-clause-ok
 returns-clause-ok c = on_ok_map c.grow-answer.result _ _ (λ e. (facts c).view ∙ ap (set c.args.self.now c.args.slot) (e ∙ ap (λ w. grown w c.args.to c.args.changes.items) (now c))) c.grow-answer.ensures.ok

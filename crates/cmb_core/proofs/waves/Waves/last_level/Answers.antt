@@ -10,13 +10,13 @@ use Rattle.cmb_core.proofs.Ends.{caught_up, place_of}
 use Rattle.cmb_core.proofs.TipFacts.{tip_before}
 use Rattle.cmb_core.proofs.waves.Waves.last_level.Goals as goal
 
-is : (c : goal.After-newest) → IsTip c.index.result.now (get_or c.args.self.now c.args.slot (new_wave 0))
+is : (c : goal.After-result-1) → IsTip c.index.result.now (get_or c.args.self.now c.args.slot (new_wave 0))
 is c =
     let at = place_of c.self.inside.waves.items c.self.inside.tips.items c.args.self.now c.args.slot c.self.invariant.ends c.self.view_is c.requires in
     rw (at.wave, get_or_read _ _ _ at.place c.index.ensures no_tip) at.end.held
 
 pub returns-clause-last : goal.returns-clause-last
-returns-clause-last c = ap (λ (x : Change). x.level) (c.newest.ensures _ (is c)) ∙ (is c).ends
+returns-clause-last c = (is c).ends
 
 pub returns-clause-before : goal.returns-clause-before
 returns-clause-before c =
@@ -29,4 +29,4 @@ returns-clause-before c =
     let wide : IsTrace wave.kept wave.base wave.changes tip.clock = trace_widen _ _ _ _ _ lags trace in
     let P : Wave → Type 0 = λ w. IsTrace w.kept w.base w.changes w.clock in
     let Q : Wave → Type 0 = λ w. w.base ≡ 0 → w.kept ≡ X in
-    ap (λ (x : Change). x.level) (c.newest.ensures _ (is c)) ∙ tip_before tip (get_or c.args.self.now c.args.slot (new_wave 0)) (is c) (subst P now wide) (subst Q now (λ z. sym c.kept-kept.ensures.kept ∙ c.kept-kept.ensures.first z))
+    tip_before tip (get_or c.args.self.now c.args.slot (new_wave 0)) (is c) (subst P now wide) (subst Q now (λ z. sym c.kept-kept.ensures.kept ∙ c.kept-kept.ensures.first z))

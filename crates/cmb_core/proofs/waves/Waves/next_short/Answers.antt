@@ -22,6 +22,7 @@ invariant_of-self c =
     let there : c.args.slot < length i.skips.items = omega (arith, c.self.invariant.count, c.self.invariant.held) in
     record {
       ends = c.self.invariant.ends;
+      tails = c.self.invariant.tails;
       held = c.self.invariant.held;
       count = length-set i.skips.items c.args.slot c.first_short-next.result ∙ c.self.invariant.count;
       skips = skips_put i.horizon (held_waves i.waves.items i.tips.items) i.skips.items c.args.slot c.first_short-next.result c.self.invariant.skips there (rw (sym (same c)) (known c));

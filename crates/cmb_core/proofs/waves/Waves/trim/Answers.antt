@@ -12,18 +12,18 @@ forget-requires-clause-known c =
     let now : c.hold.new.wave ≡ get_or c.args.self.now c.args.slot (new_wave 0) = caught_up i.waves.items i.tips.items c.args.self.now c.args.slot c.index_mut-wave.result.now c.hold.new.wave c.index-2.result.now (place_of i.waves.items i.tips.items c.args.self.now c.args.slot c.self.invariant.ends c.self.view_is c.requires.slot) c.index_mut-wave.ensures.value c.index-2.ensures c.hold.ensures in
     rw now c.requires.known
 
-now : (c : goal.After-self-2-1) → c.hold.new.wave ≡ get_or c.args.self.now c.args.slot (new_wave 0)
+now : (c : goal.After-self-3-1) → c.hold.new.wave ≡ get_or c.args.self.now c.args.slot (new_wave 0)
 now c =
     let i = c.self.inside in
     caught_up i.waves.items i.tips.items c.args.self.now c.args.slot c.index_mut-wave.result.now c.hold.new.wave c.index-2.result.now (place_of i.waves.items i.tips.items c.args.self.now c.args.slot c.self.invariant.ends c.self.view_is c.requires.slot) c.index_mut-wave.ensures.value c.index-2.ensures c.hold.ensures
 
-facts : (c : goal.After-self-2-1) → Renewed c.self.inside.horizon c.self.inside.waves.items c.self.inside.tips.items c.self.inside.skips.items c.args.self.now c.args.slot c.forget.new.self c.of.result
+facts : (c : goal.After-self-3-1) → Renewed c.self.inside.horizon c.self.inside.waves.items c.self.inside.tips.items c.self.inside.tails.items c.self.inside.skips.items c.args.self.now c.args.slot c.forget.new.self c.ends_of.result.0 c.ends_of.result.1
 facts c =
     let i = c.self.inside in
-    renewed i.horizon i.waves.items i.tips.items i.skips.items c.args.self.now c.args.slot c.forget.new.self c.of.result c.self.invariant.ends c.self.view_is c.self.invariant.count c.self.invariant.skips c.requires.slot c.of.ensures (omega (arith, ap (λ (w : Wave). w.clock) (now c), ap (λ (w : Wave). w.clock) c.forget.ensures))
+    renewed i.horizon i.waves.items i.tips.items i.tails.items i.skips.items c.args.self.now c.args.slot c.forget.new.self c.ends_of.result.0 c.ends_of.result.1 c.self.invariant.ends c.self.invariant.tails c.self.view_is c.self.invariant.count c.self.invariant.skips c.requires.slot c.ends_of.ensures (omega (arith, ap (λ (w : Wave). w.clock) (now c), ap (λ (w : Wave). w.clock) c.forget.ensures))
 
 pub invariant_of-self : goal.invariant_of-self
-invariant_of-self c = let f = facts c in record { ends = f.ends; held = length_held _ _; count = f.count; skips = f.skips }
+invariant_of-self c = let f = facts c in record { ends = f.ends; tails = f.told; held = length_held _ _; count = f.count; skips = f.skips }
 
 pub returns : goal.returns
 returns c =
