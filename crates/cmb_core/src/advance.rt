@@ -124,18 +124,17 @@ fn seen_upto(first: u32, period: u32, delay: u32, clock: u32) -> u32
     }
 }
 
-// Sets the pin of a flip-flop's data, from the output's clock on.
-fn set_flop_pin<'a>(
-    pin: &mut Pin<'a>,
-    waves: &'a Waves,
+// The pin of a flip-flop's data, from the output's clock on.
+fn flop_pin(
+    waves: &Waves,
     operand: Operand,
     first: u32,
     period: u32,
     clock: u32,
-)
+) -> Pin<'_>
     requires positive { 0 < period }
     requires there { IsThere waves.now operand }
-    ensures { (t : ℕ) → clock ≤ t → first + operand.delay ≤ t → pin_at pin.new t ≡ level_at (wave_at waves.now operand.net).kept (wave_at waves.now operand.net).changes (last_sample first period (t - operand.delay)) }
+    ensures { (t : ℕ) → clock ≤ t → first + operand.delay ≤ t → pin_at result t ≡ level_at (wave_at waves.now operand.net).kept (wave_at waves.now operand.net).changes (last_sample first period (t - operand.delay)) }
 {
     let lag = Lag::Sampled {
         first,
@@ -144,11 +143,18 @@ fn set_flop_pin<'a>(
     };
     let seen = seen_upto(first, period, operand.delay, clock);
     if let Some(left) = operand_tail(waves, operand).left_from(seen) {
-        pin.set(left.level, lag, left.changes);
-    } else {
-        let wave = operand_wave(waves, operand);
-        let left = left_near_end(wave.kept(), wave.changes(), seen);
-        pin.set(left.level, lag, left.changes);
+        return Pin {
+            level: left.level,
+            lag,
+            rest: left.changes,
+        };
+    }
+    let wave = operand_wave(waves, operand);
+    let left = left_near_end(wave.kept(), wave.changes(), seen);
+    Pin {
+        level: left.level,
+        lag,
+        rest: left.changes,
     }
 }
 
@@ -166,9 +172,8 @@ fn sampled_changes(
     requires ordered { span.from ≤ span.until }
     ensures { (init : Level) → (span.from < span.until → first + operand.delay ≤ span.from) → OnOk result (room.new.items ≡ room.old.items ++ changes_from (sampled (wave_at waves.now operand.net) first period init operand.delay) span.before span.from (span.until - span.from)) }
 {
-    let mut pin = Pin::held(Level::X);
-    set_flop_pin(&mut pin, waves, operand, first, period, span.from);
-    follow(&mut pin, room, span.before, span.from, span.until)
+    let pin = flop_pin(waves, operand, first, period, span.from);
+    follow(pin, room, span.before, span.from, span.until)
 }
 
 /// Adds the changes of a flip-flop's output in a span to a list.
@@ -232,6 +237,6 @@ pub fn input_changes(
     requires ordered { span.from ≤ span.until }
     ensures { OnOk result (room.new.items ≡ room.old.items ++ changes_from (level_at X stimulus.now) span.before span.from (span.until - span.from)) }
 {
-    let mut pin = stimulus_pin(stimulus, span.from);
-    follow(&mut pin, room, span.before, span.from, span.until)
+    let pin = stimulus_pin(stimulus, span.from);
+    follow(pin, room, span.before, span.from, span.until)
 }

@@ -178,14 +178,14 @@ fn sooner(tick: u64, end: u32) -> u32
 /// Goes on with the changes of an output that shows what its only operand is, over the span from
 /// `from` to `until`.
 pub fn follow(
-    pin: &mut Pin,
+    mut pin: Pin,
     changes: &mut Vec<Change>,
     before: Level,
     from: u32,
     until: u32,
 ) -> Result<(), AllocError>
     requires { from ≤ until }
-    ensures { OnOk result (changes.new.items ≡ changes.old.items ++ changes_from (pin_at pin.old) before from (until - from)) }
+    ensures { OnOk result (changes.new.items ≡ changes.old.items ++ changes_from (pin_at pin.entry) before from (until - from)) }
 {
     let mut last = before;
     let mut now = from;

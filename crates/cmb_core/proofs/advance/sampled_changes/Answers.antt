@@ -9,8 +9,8 @@ use Rattle.cmb_core.proofs.advance.sampled_changes.Goals as goal
 pub returns : goal.returns
 returns c = λ init begun.
     let span = c.args.span in
-    let same : changes_from (pin_at c.set_flop_pin.new.pin) span.before span.from (span.until - span.from)
+    let same : changes_from (pin_at c.flop_pin-pin.result) span.before span.from (span.until - span.from)
     ≡ changes_from (sampled (wave_at c.args.waves.now c.args.operand.net) c.args.first c.args.period init c.args.operand.delay) span.before span.from (span.until - span.from) =
-    sampled_span (wave_at c.args.waves.now c.args.operand.net) c.args.first c.args.period c.args.operand.delay init span.before c.set_flop_pin.new.pin span.from span.until c.set_flop_pin.ensures c.requires.ordered begun
+    sampled_span (wave_at c.args.waves.now c.args.operand.net) c.args.first c.args.period c.args.operand.delay init span.before c.flop_pin-pin.result span.from span.until c.flop_pin-pin.ensures c.requires.ordered begun
     in
     rw same at c.follow.ensures

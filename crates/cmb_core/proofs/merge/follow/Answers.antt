@@ -9,7 +9,7 @@ pub loop-now-preserved : goal.loop-now-preserved
 loop-now-preserved c =
     let next = c.sooner-now.result in
     let pin = c.advance-due.new.self in
-    let f : ℕ → _ = pin_at c.args.pin.now in
+    let f : ℕ → _ = pin_at c.args.pin in
     let later : c.loop-now.now < next = omega (arith, c.advance-due.ensures.later, c.sooner-now.ensures, c.loop-now-test.true) in
     let within : next ≤ c.args.until = omega (arith, c.sooner-now.ensures) in
     let sooner : next ≤ c.advance-due.result = omega (arith, c.sooner-now.ensures) in
