@@ -34,3 +34,4 @@ pub mod TipFacts
 pub mod Ends
 pub mod NodeFacts
 pub mod StretchFacts
+pub mod Steady

@@ -11,6 +11,7 @@ pub mod Nodes
 pub mod Opened
 pub mod Opening
 pub mod Spans
+pub mod Steady
 pub mod Tables
 pub mod Reach
 pub mod Step

@@ -125,13 +125,7 @@ fn seen_upto(first: u32, period: u32, delay: u32, clock: u32) -> u32
 }
 
 // The pin of a flip-flop's data, from the output's clock on.
-fn flop_pin(
-    waves: &Waves,
-    operand: Operand,
-    first: u32,
-    period: u32,
-    clock: u32,
-) -> Pin<'_>
+fn flop_pin(waves: &Waves, operand: Operand, first: u32, period: u32, clock: u32) -> Pin<'_>
     requires positive { 0 < period }
     requires there { IsThere waves.now operand }
     ensures { (t : ℕ) → clock ≤ t → first + operand.delay ≤ t → pin_at result t ≡ level_at (wave_at waves.now operand.net).kept (wave_at waves.now operand.net).changes (last_sample first period (t - operand.delay)) }

@@ -29,17 +29,22 @@ pub struct Cluster {
     pub(crate) processes: Nodes,
     pub(crate) waves: Waves,
     pub(crate) tables: Tables,
+    // Nothing was delivered, promised or forgotten: each gate's wave ends with what the gate makes of
+    // its operands there.
+    pub(crate) is_closed: bool,
 }
 
 impl Model for Cluster {
     ghost use Rattle.cmb_core.specs.Clusters.{Cluster, IsSound, wave_nets};
+    ghost use Rattle.cmb_core.specs.Steady.{AreSteady};
     ghost use Rattle.cmb_core.specs.Tables.{AreTables};
+    ghost use Rattle.std.specs.Prelude.{◌≡◌, true};
 
     ghost Value = { Cluster };
 
     ghost view = { λ c. record { horizon = c.horizon; processes = c.processes; waves = c.waves } };
 
-    ghost invariant = { λ c. record { sound : IsSound (record { horizon = c.horizon; processes = c.processes; waves = c.waves }); tables : AreTables c.processes (wave_nets c.waves) c.tables } };
+    ghost invariant = { λ c. record { sound : IsSound (record { horizon = c.horizon; processes = c.processes; waves = c.waves }); tables : AreTables c.processes (wave_nets c.waves) c.tables; steady : c.is_closed ≡ true → AreSteady c.processes c.waves } };
 }
 
 impl Cluster {
@@ -87,6 +92,7 @@ impl Cluster {
                 inputs,
                 readers,
             },
+            is_closed: true,
         })
     }
 
@@ -128,13 +134,17 @@ impl Cluster {
         ensures sound { IsSound self.now }
     {
         let from = self.waves.tip(slot).clock;
-        let look = self.processes.look(slot, self.horizon, &self.waves, from);
+        let before = self.waves.last_level(slot);
+        let own = if self.is_closed { Some(before) } else { None };
+        let look = self
+            .processes
+            .look(slot, self.horizon, &self.waves, from, own);
         if look.reach <= from {
             return None;
         }
         Some(Next {
             span: Span {
-                before: self.waves.last_level(slot),
+                before,
                 from,
                 until: look.reach,
             },
@@ -231,6 +241,7 @@ impl Cluster {
         ensures unchanged { OnErr result (self.new ≡ self.old) }
         ensures same { IsSameButWaves self.old self.new }
     {
+        self.is_closed = false;
         self.waves.take(slot, piece)
     }
 
@@ -255,6 +266,7 @@ impl Cluster {
         ensures waves { self.new.waves ≡ slice_set self.old.waves slot (heard_wave (slot_wave self.old slot) promise) }
         ensures same { IsSameButWaves self.old self.new }
     {
+        self.is_closed = false;
         self.waves.hear(slot, promise)
     }
 }

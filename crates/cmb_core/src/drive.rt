@@ -4,6 +4,7 @@ ghost use Rattle.std.specs.Prelude.{◌≡◌, ◌≤◌, ◌-◌, ◌++◌, ℕ
 ghost use Rattle.cmb_core.specs.Nodes.{process_driven};
 ghost use Rattle.cmb_core.specs.Spans.{changes_from};
 ghost use Rattle.cmb_core.specs.Rows.{IsReadyFor, row, reach};
+ghost use Rattle.cmb_core.specs.Steady.{IsLastOf};
 
 use crate::advance::{Span, flop_changes, gate_changes, input_changes, reach_of_flop};
 use crate::look::{Look, look_at_gate};
@@ -51,9 +52,10 @@ impl<'a> Drive<'a> {
     }
 
     /// The tick up to which the output can go on, and the level that it keeps, where that is
-    /// plain to see.
-    pub fn look(self, horizon: u32, waves: &Waves, clock: u32) -> Look
+    /// plain to see. `own` is the level that it ends with, where a gate's operands make the same there.
+    pub fn look(self, horizon: u32, waves: &Waves, clock: u32, own: Option<Level>) -> Look
         requires ready { IsReadyFor horizon waves.now clock (process_driven self).rule (process_driven self).operands (process_driven self).stimulus }
+        requires own { IfSome own (λ level. IsLastOf waves.now clock (process_driven self).rule (process_driven self).operands level) }
         ensures reach { result.reach ≡ reach horizon waves.now (process_driven self.entry).rule (process_driven self.entry).operands }
         ensures held { IfSome result.held (λ level. (t : ℕ) → clock ≤ t → row waves.now (process_driven self.entry).rule (process_driven self.entry).operands (process_driven self.entry).stimulus t ≡ level) }
     {
@@ -61,7 +63,7 @@ impl<'a> Drive<'a> {
             Drive::Given => 0,
             Drive::Input(_) => horizon,
             Drive::Gate(kind, operands) => {
-                return look_at_gate(kind, horizon, operands, waves, clock);
+                return look_at_gate(kind, horizon, operands, waves, clock, own);
             }
             Drive::Flop {
                 first,

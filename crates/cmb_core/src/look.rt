@@ -20,34 +20,58 @@ pub struct Look {
     pub held: Option<Level>,
 }
 
-/// Looks at a gate whose output is known up to a clock.
+/// Looks at a gate whose output is known up to a clock. `own` is the output's level one tick before
+/// it, where that is what the gate makes of its operands: where no change of them came since, that
+/// level stays.
 pub fn look_at_gate(
     kind: Kind,
     horizon: u32,
     operands: &[Operand],
     waves: &Waves,
     clock: u32,
+    own: Option<Level>,
 ) -> Look
     requires ready { AreReady waves.now clock operands.now }
     requires takes { MayTake kind (length operands.now) }
+    requires own { IfSome own (λ level. 0 < clock → level ≡ gate_row kind waves.now operands.now (clock - 1)) }
     ensures reach { result.reach ≡ gate_reach horizon waves.now operands.now }
     ensures held { IfSome result.held (λ level. (t : ℕ) → clock ≤ t → gate_row kind waves.now operands.now t ≡ level) }
 {
+    let end = clock.saturating_sub(1);
     let mut reach = horizon;
+    let mut quiet = clock > 0;
+    for operand in operands {
+        let tip = operand_tip(waves, *operand);
+        reach = reach.min(tip.clock.saturating_add(operand.delay));
+        quiet = both(quiet, tip.is_settled(operand.delay, end));
+    }
+    if quiet && own.is_some() {
+        return Look { reach, held: own };
+    }
+    Look {
+        reach,
+        held: settled_level(kind, operands, waves, clock),
+    }
+}
+
+// The level of a gate from its clock on, None where a change of an operand is still on its way.
+fn settled_level(kind: Kind, operands: &[Operand], waves: &Waves, clock: u32) -> Option<Level>
+    requires ready { AreReady waves.now clock operands.now }
+    requires takes { MayTake kind (length operands.now) }
+    ensures { IfSome result (λ level. (t : ℕ) → clock ≤ t → gate_row kind waves.now operands.now t ≡ level) }
+{
     let mut tally = Tally::new();
     let mut settled = true;
     for operand in operands {
         let tip = operand_tip(waves, *operand);
-        reach = reach.min(tip.clock.saturating_add(operand.delay));
         settled = both(settled, tip.is_settled(operand.delay, clock));
         tally.add(tip.newest.level);
     }
-    let held = if settled {
+    if settled {
         Some(tally.level(kind))
     } else {
         None
-    };
-    Look { reach, held }
+    }
 }
 
 // Whether both are so. No branch: see `Tally::add`.

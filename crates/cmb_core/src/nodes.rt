@@ -6,6 +6,7 @@ ghost use Rattle.cmb_core.specs.Nodes.{process_driven};
 ghost use Rattle.cmb_core.specs.Clusters.{nth_process};
 ghost use Rattle.cmb_core.specs.Spans.{changes_from};
 ghost use Rattle.cmb_core.specs.Rows.{IsReadyFor, is_given, row, reach};
+ghost use Rattle.cmb_core.specs.Steady.{IsLastOf};
 
 use crate::advance::{Span, held_changes};
 use crate::drive::Drive;
@@ -235,14 +236,22 @@ impl Nodes {
     }
 
     /// The tick up to which the output in a place can go on, and the level that it keeps, where that is
-    /// plain to see.
-    pub fn look(&self, slot: usize, horizon: u32, waves: &Waves, clock: u32) -> Look
+    /// plain to see. `own` is the level that it ends with, where a gate's operands make the same there.
+    pub fn look(
+        &self,
+        slot: usize,
+        horizon: u32,
+        waves: &Waves,
+        clock: u32,
+        own: Option<Level>,
+    ) -> Look
         requires slot { slot < length self.now }
         requires ready { IsReadyFor horizon waves.now clock (nth_process self.now slot).rule (nth_process self.now slot).operands (nth_process self.now slot).stimulus }
+        requires own { IfSome own (λ level. IsLastOf waves.now clock (nth_process self.now slot).rule (nth_process self.now slot).operands level) }
         ensures reach { result.reach ≡ reach horizon waves.now (nth_process self.now slot).rule (nth_process self.now slot).operands }
         ensures held { IfSome result.held (λ level. (t : ℕ) → clock ≤ t → row waves.now (nth_process self.now slot).rule (nth_process self.now slot).operands (nth_process self.now slot).stimulus t ≡ level) }
     {
-        self.drive(slot).look(horizon, waves, clock)
+        self.drive(slot).look(horizon, waves, clock, own)
     }
 
     /// Adds the changes of the output in a place in a span to a list. `held` is the level that it keeps,

@@ -68,6 +68,7 @@ impl Cluster {
         let most = self.waves.tip(slot).clock;
         let readers = self.tables.readers[slot].as_slice();
         let least = least_need_of(&self.processes, &self.waves, readers, most);
+        self.is_closed = false;
         self.waves.trim(slot, least);
     }
 

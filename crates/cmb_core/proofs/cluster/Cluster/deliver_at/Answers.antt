@@ -10,7 +10,7 @@ invariant_of-self c =
     let kept : IsKept c.self.inside.horizon c.self.inside.processes c.self.inside.tables c.self.inside.waves c.take.new.self =
     kept_by_set c.self.inside.horizon c.self.inside.processes c.self.inside.tables c.self.inside.waves c.take.new.self c.args.slot (get_or c.take.new.self c.args.slot (new_wave 0)) c.take.ensures.waves there c.take.ensures.net c.take.ensures.base c.take.ensures.later c.self.invariant.sound c.self.invariant.tables
     in
-    record { sound = kept.sound; tables = kept.listed }
+    record { sound = kept.sound; tables = kept.listed; steady = λ closed. cc }
 
 pub returns-clause-same : goal.returns-clause-same
 returns-clause-same c =

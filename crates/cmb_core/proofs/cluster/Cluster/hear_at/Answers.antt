@@ -11,7 +11,7 @@ invariant_of-self c =
     let kept : IsKept c.self.inside.horizon c.self.inside.processes c.self.inside.tables c.self.inside.waves c.hear.new.self =
     kept_by_set c.self.inside.horizon c.self.inside.processes c.self.inside.tables c.self.inside.waves c.hear.new.self c.args.slot (heard_wave (get_or c.self.inside.waves c.args.slot (new_wave 0)) c.args.promise) c.hear.ensures.waves there c.hear.ensures.net c.hear.ensures.base c.hear.ensures.later c.self.invariant.sound c.self.invariant.tables
     in
-    record { sound = kept.sound; tables = kept.listed }
+    record { sound = kept.sound; tables = kept.listed; steady = λ closed. cc }
 
 pub returns-clause-same : goal.returns-clause-same
 returns-clause-same c =

@@ -11,6 +11,8 @@ use Rattle.cmb_core.specs.Rows.{Process}
 use Rattle.cmb_core.specs.Tables.{place_in, driven_among, given_among, listed_readers}
 use Rattle.cmb_core.proofs.ExactFacts.{new_exact}
 use Rattle.cmb_core.proofs.OpenedFacts.{held_below, held_length, pins_placed, slots_below, new_nets, opened_sound}
+use Rattle.cmb_core.specs.Steady.{AreSteady}
+use Rattle.cmb_core.proofs.Steady.{steady_new}
 use Rattle.cmb_core.proofs.cluster.Cluster.open.Goals as goal
 
 pub places_among-requires-clause-there : goal.places_among-requires-clause-there
@@ -61,7 +63,9 @@ invariant_of-result c =
     let S : List Wave → Type 0 = λ ws. IsSound (record { horizon = c.horizon-2.result; processes = c.in_ok-nodes.nodes.items; waves = ws }) in
     let start = rw (sym c.horizon-2.ensures.value) at c.in_ok-nodes.ensures.start in
     let R : List Process → Type 0 = λ ps. IsSound (record { horizon = c.horizon-2.result; processes = ps; waves = c.in_ok-waves.waves }) in
+    let S2 : List Wave → Type 0 = λ ws. AreSteady c.in_ok-processes.processes ws in
     record {
+      steady = λ closed. subst S2 (sym waves) (steady_new c.in_ok-processes.processes c.in_ok-nets.nets.items);
       sound = subst R (sym same) (subst S (sym waves) (opened_sound c.horizon-2.result c.deref-3.result.now c.in_ok-nets.nets.items c.in_ok-nodes.nodes.items at start count));
       tables = record {
         places = λ net. c.in_ok-places.ensures.places net ∙ ap (λ ns. place_in ns net) (c.deref.ensures.value ∙ sym nets);

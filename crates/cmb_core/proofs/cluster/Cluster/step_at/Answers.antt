@@ -1,8 +1,11 @@
-use Rattle.std.proofs.Common.{◌≡◌, ◌<◌, length, get_or, refl, arith, sym, ◌∙◌, ap, subst}
+use Rattle.std.proofs.Common.{◌≡◌, ◌-◌, ◌<◌, length, get_or, refl, arith, sym, ◌∙◌, ap, subst}
 use Rattle.cmb_wave.specs.Waveform.{IsTrace, last_level}
 use Rattle.cmb_wave.specs.Wave.{Wave, new_wave, grown}
-use Rattle.cmb_core.specs.Clusters.{slot_wave, wave_nets}
+use Rattle.cmb_core.specs.Clusters.{nth_process, reach_at, slot_wave, wave_nets}
+use Rattle.cmb_core.specs.Rows.{row}
+use Rattle.cmb_core.specs.Spans.{changes_from}
 use Rattle.cmb_core.proofs.ClusterLemmas.{IsKept, kept_by_set, step_trace}
+use Rattle.cmb_core.proofs.Steady.{steady_set}
 use Rattle.cmb_core.proofs.cluster.Cluster.step_at.Goals as goal
 
 pub grow-requires-clause-trace : goal.grow-requires-clause-trace
@@ -21,7 +24,15 @@ invariant_of-self-2 c =
     let kept : IsKept c.self.inside.horizon c.self.inside.processes c.self.inside.tables c.self.inside.waves c.grow.new.self =
     kept_by_set c.self.inside.horizon c.self.inside.processes c.self.inside.tables c.self.inside.waves c.grow.new.self c.args.slot (grown (get_or c.self.inside.waves c.args.slot (new_wave 0)) c.in-Some.field-0.span.until c.changes.new.room.items) c.in_ok-piece.ensures.ok there refl refl (omega (arith, c.in-Some.ensures.span.later, c.in-Some.ensures.span.from, ap (λ w. w.clock) same)) c.self.invariant.sound c.self.invariant.tables
     in
-    record { sound = kept.sound; tables = kept.listed }
+    let made : c.changes.new.room.items ≡ changes_from (row c.self.inside.waves (nth_process c.self.inside.processes c.args.slot).rule (nth_process c.self.inside.processes c.args.slot).operands (nth_process c.self.inside.processes c.args.slot).stimulus) (last_level (get_or c.self.inside.waves c.args.slot (new_wave 0)).kept (get_or c.self.inside.waves c.args.slot (new_wave 0)).changes) (get_or c.self.inside.waves c.args.slot (new_wave 0)).clock (c.in-Some.field-0.span.until - (get_or c.self.inside.waves c.args.slot (new_wave 0)).clock) =
+    rw (c.new-changes.ensures.items, c.in-Some.ensures.span.before, c.in-Some.ensures.span.from, sym c.self.view_is) at c.in_ok-changes.ensures
+    in
+    record {
+      sound = kept.sound;
+      tables = kept.listed;
+      steady = λ closed. rw c.in_ok-piece.ensures.ok (steady_set c.self.inside.horizon c.self.inside.processes c.self.inside.waves c.args.slot c.in-Some.field-0.span.until c.changes.new.room.items there
+      (c.in-Some.ensures.span.until ∙ ap (λ s. reach_at s c.args.slot) (sym c.self.view_is)) (omega (arith, c.in-Some.ensures.span.later, c.in-Some.ensures.span.from, ap (λ w. w.clock) same)) made (c.self.invariant.steady closed));
+    }
 
 pub returns-clause-same : goal.returns-clause-same
 returns-clause-same c =

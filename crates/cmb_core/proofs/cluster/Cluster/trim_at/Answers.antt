@@ -72,6 +72,7 @@ invariant_of-self c =
     record {
       sound = subst P (sym made) (trim_sound s c.self.invariant.sound c.args.slot there given);
       tables = tables_still _ _ _ _ nets c.self.invariant.tables;
+      steady = λ closed. cc;
     }
 
 pub returns-clause-waves : goal.returns-clause-waves
