@@ -11,13 +11,12 @@ ghost use Rattle.cmb_core.specs.Rows.{delayed, gate_row, sampled, AreReady, IsTh
 ghost use Rattle.cmb_core.specs.Step.{wave_at};
 
 use crate::merge::{Lag, Pin, differ, follow, merge};
-use crate::pins::{fill_pins, gate_pins, operand_tail, operand_wave};
+use crate::pins::{fill_pins, gate_pins, operand_left, operand_tip};
 use crate::process::Operand;
-use crate::recent::left_near_end;
 use crate::waves::Waves;
 use cmb_bench::netlist::Kind;
-use cmb_wave::search::left_from;
-use cmb_wave::{Change, Level, Wave};
+use cmb_wave::search::{Rest, left_from};
+use cmb_wave::{Change, Level};
 use std::alloc::AllocError;
 
 /// The span of an output's new ticks, and the level before it.
@@ -124,34 +123,6 @@ fn seen_upto(first: u32, period: u32, delay: u32, clock: u32) -> u32
     }
 }
 
-// The pin of a flip-flop's data, from the output's clock on.
-fn flop_pin(waves: &Waves, operand: Operand, first: u32, period: u32, clock: u32) -> Pin<'_>
-    requires positive { 0 < period }
-    requires there { IsThere waves.now operand }
-    ensures { (t : ℕ) → clock ≤ t → first + operand.delay ≤ t → pin_at result t ≡ level_at (wave_at waves.now operand.net).kept (wave_at waves.now operand.net).changes (last_sample first period (t - operand.delay)) }
-{
-    let lag = Lag::Sampled {
-        first,
-        period,
-        delay: operand.delay,
-    };
-    let seen = seen_upto(first, period, operand.delay, clock);
-    if let Some(left) = operand_tail(waves, operand).left_from(seen) {
-        return Pin {
-            level: left.level,
-            lag,
-            rest: left.changes,
-        };
-    }
-    let wave = operand_wave(waves, operand);
-    let left = left_near_end(wave.kept(), wave.changes(), seen);
-    Pin {
-        level: left.level,
-        lag,
-        rest: left.changes,
-    }
-}
-
 // Adds the changes of a flip-flop's output in a span that its first sample has reached.
 fn sampled_changes(
     room: &mut Vec<Change>,
@@ -166,8 +137,22 @@ fn sampled_changes(
     requires ordered { span.from ≤ span.until }
     ensures { (init : Level) → (span.from < span.until → first + operand.delay ≤ span.from) → OnOk result (room.new.items ≡ room.old.items ++ changes_from (sampled (wave_at waves.now operand.net) first period init operand.delay) span.before span.from (span.until - span.from)) }
 {
-    let pin = flop_pin(waves, operand, first, period, span.from);
-    follow(pin, room, span.before, span.from, span.until)
+    let lag = Lag::Sampled {
+        first,
+        period,
+        delay: operand.delay,
+    };
+    let seen = seen_upto(first, period, operand.delay, span.from);
+    let Rest { level, changes } = operand_left(waves, operand, seen);
+    follow(
+        lag,
+        level,
+        changes,
+        room,
+        span.before,
+        span.from,
+        span.until,
+    )
 }
 
 /// Adds the changes of a flip-flop's output in a span to a list.
@@ -208,19 +193,6 @@ pub fn flop_changes(
     sampled_changes(room, waves, operand, first, period, tail)
 }
 
-// The pin of an input's stimulus, from a tick on.
-fn stimulus_pin(stimulus: &[Change], from: u32) -> Pin<'_>
-    requires { Rises 0 stimulus.now }
-    ensures { (t : ℕ) → from ≤ t → pin_at result t ≡ level_at X stimulus.now t }
-{
-    let left = left_from(Level::X, stimulus, from);
-    Pin {
-        level: left.level,
-        lag: Lag::Delay(0),
-        rest: left.changes,
-    }
-}
-
 /// Adds the changes of an input in a span to a list.
 pub fn input_changes(
     room: &mut Vec<Change>,
@@ -231,6 +203,14 @@ pub fn input_changes(
     requires ordered { span.from ≤ span.until }
     ensures { OnOk result (room.new.items ≡ room.old.items ++ changes_from (level_at X stimulus.now) span.before span.from (span.until - span.from)) }
 {
-    let pin = stimulus_pin(stimulus, span.from);
-    follow(pin, room, span.before, span.from, span.until)
+    let Rest { level, changes } = left_from(Level::X, stimulus, span.from);
+    follow(
+        Lag::Delay(0),
+        level,
+        changes,
+        room,
+        span.before,
+        span.from,
+        span.until,
+    )
 }

@@ -4,7 +4,7 @@ ghost use Rattle.std.specs.Prelude.{◌≡◌, ℕ, ◌+◌, ◌-◌, ◌≤◌,
 ghost use Rattle.cmb_wave.specs.Waveform.{last_level, same_level};
 ghost use Rattle.cmb_core.specs.Spans.{changes_from};
 ghost use Rattle.cmb_bench.specs.Netlist.{MayTake};
-ghost use Rattle.cmb_core.specs.Arrivals.{arrives, due_of, pin_at, gate_at, Advanced, Passed};
+ghost use Rattle.cmb_core.specs.Arrivals.{arrived, arrives, due_of, pin_at, gate_at, Advanced, Passed};
 
 use crate::gate::Tally;
 use cmb_bench::netlist::Kind;
@@ -176,17 +176,21 @@ fn sooner(tick: u64, end: u32) -> u32
 }
 
 /// Goes on with the changes of an output that shows what its only operand is, over the span from
-/// `from` to `until`.
+/// `from` to `until`: `level` has reached it, and `rest` hasn't yet. The pin is made here, and not
+/// handed over, so that it stands in registers alone.
 pub fn follow(
-    mut pin: Pin,
+    lag: Lag,
+    level: Level,
+    rest: &[Change],
     changes: &mut Vec<Change>,
     before: Level,
     from: u32,
     until: u32,
 ) -> Result<(), AllocError>
     requires { from ≤ until }
-    ensures { OnOk result (changes.new.items ≡ changes.old.items ++ changes_from (pin_at pin.entry) before from (until - from)) }
+    ensures { OnOk result (changes.new.items ≡ changes.old.items ++ changes_from (arrived lag level rest.now) before from (until - from)) }
 {
+    let mut pin = Pin { rest, lag, level };
     let mut last = before;
     let mut now = from;
     let mut due = pin.due();

@@ -14,6 +14,7 @@ use crate::process::Operand;
 use crate::recent::left_near_end;
 use crate::tip::{Tail, Tip};
 use crate::waves::Waves;
+use cmb_wave::search::Rest;
 use cmb_wave::{Level, Wave};
 use std::alloc::{AllocError, Global};
 
@@ -42,6 +43,18 @@ pub fn operand_tail(waves: &Waves, operand: Operand) -> &Tail
     ensures { IsTail result.now (wave_at waves.now operand.net) }
 {
     waves.tail(operand.slot as usize)
+}
+
+/// What is left from a tick on of the wave that an operand reads.
+pub fn operand_left(waves: &Waves, operand: Operand, tick: u32) -> Rest<'_>
+    requires { IsThere waves.now operand }
+    ensures { (t : ℕ) → tick ≤ t → level_at result.level result.changes.now t ≡ level_at (wave_at waves.now operand.net).kept (wave_at waves.now operand.net).changes t }
+{
+    if let Some(left) = operand_tail(waves, operand).left_from(tick) {
+        return left;
+    }
+    let wave = operand_wave(waves, operand);
+    left_near_end(wave.kept(), wave.changes(), tick)
 }
 
 // Sets the pin of an operand that reaches the output with a delay, from the output's clock on.

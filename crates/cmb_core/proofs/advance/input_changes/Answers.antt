@@ -1,15 +1,20 @@
-use Rattle.std.proofs.Common.{◌≡◌, ◌-◌}
+use Rattle.std.proofs.Common.{◌≡◌, ◌-◌, ℕ}
+use Rattle.cmb_wave.specs.declared.level.Level.{Level}
 use Rattle.cmb_wave.specs.Waveform.{level_at}
 use Rattle.cmb_wave.specs.declared.level.Level.TheVariants.{X}
+use Rattle.cmb_core.specs.declared.merge.Lag.TheVariants.{Delay}
 use Rattle.cmb_core.specs.Spans.{changes_from}
-use Rattle.cmb_core.specs.Arrivals.{pin_at}
+use Rattle.cmb_core.specs.Arrivals.{arrived}
 use Rattle.cmb_core.proofs.Changes.{changes_from_same}
+use Rattle.cmb_core.proofs.Skips.{stimulus_rest}
 use Rattle.cmb_core.proofs.advance.input_changes.Goals as goal
 
 pub returns : goal.returns
 returns c =
-    let same : changes_from (pin_at c.stimulus_pin-pin.result) c.args.span.before c.args.span.from (c.args.span.until - c.args.span.from)
-    ≡ changes_from (level_at X c.args.stimulus.now) c.args.span.before c.args.span.from (c.args.span.until - c.args.span.from) =
-    changes_from_same _ _ c.args.span.before c.args.span.from (c.args.span.until - c.args.span.from) (λ t low high. c.stimulus_pin-pin.ensures t low)
+    let span = c.args.span in
+    let left = c.left_from-level.result in
+    let shown : ℕ → Level = arrived (Delay 0) left.level left.changes.now in
+    let same : changes_from shown span.before span.from (span.until - span.from) ≡ changes_from (level_at X c.args.stimulus.now) span.before span.from (span.until - span.from) =
+    changes_from_same _ _ span.before span.from (span.until - span.from) (λ t low high. rw (c.left_from-level.ensures.level, c.left_from-level.ensures.changes) (stimulus_rest c.args.stimulus.now span.from t low))
     in
     rw same at c.follow.ensures

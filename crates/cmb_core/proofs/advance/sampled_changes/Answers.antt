@@ -1,16 +1,26 @@
-use Rattle.std.proofs.Common.{◌≡◌, ◌-◌}
+use Rattle.std.proofs.Common.{◌≡◌, ◌-◌, ◌+◌, ◌≤◌, ℕ, ◌∙◌}
+use Rattle.cmb_wave.specs.declared.level.Level.{Level}
+use Rattle.cmb_wave.specs.Waveform.{level_at}
+use Rattle.cmb_core.specs.declared.merge.Lag.TheVariants.{Sampled}
 use Rattle.cmb_core.specs.Spans.{changes_from}
-use Rattle.cmb_core.specs.Arrivals.{pin_at}
+use Rattle.cmb_core.specs.Arrivals.{arrived, last_sample}
 use Rattle.cmb_core.specs.Rows.{sampled}
 use Rattle.cmb_core.specs.Step.{wave_at}
 use Rattle.cmb_core.proofs.AdvanceLemmas.{sampled_span}
+use Rattle.cmb_core.proofs.Skips.{arrived_sampled}
 use Rattle.cmb_core.proofs.advance.sampled_changes.Goals as goal
 
 pub returns : goal.returns
 returns c = λ init begun.
     let span = c.args.span in
-    let same : changes_from (pin_at c.flop_pin-pin.result) span.before span.from (span.until - span.from)
-    ≡ changes_from (sampled (wave_at c.args.waves.now c.args.operand.net) c.args.first c.args.period init c.args.operand.delay) span.before span.from (span.until - span.from) =
-    sampled_span (wave_at c.args.waves.now c.args.operand.net) c.args.first c.args.period c.args.operand.delay init span.before c.flop_pin-pin.result span.from span.until c.flop_pin-pin.ensures c.requires.ordered begun
+    let delay = c.args.operand.delay in
+    let left = c.operand_left-level.result in
+    let shown : ℕ → Level = arrived (Sampled c.args.first c.args.period delay) left.level left.changes.now in
+    let levels : (t : ℕ) → span.from ≤ t → c.args.first + delay ≤ t → shown t ≡ level_at (wave_at c.args.waves.now c.args.operand.net).kept (wave_at c.args.waves.now c.args.operand.net).changes (last_sample c.args.first c.args.period (t - delay)) =
+    λ t h k. arrived_sampled c.args.first c.args.period delay left.level left.changes.now t c.requires.positive k ∙ c.operand_left-level.ensures _ (c.seen_upto-seen.ensures t h k)
+    in
+    let same : changes_from shown span.before span.from (span.until - span.from)
+    ≡ changes_from (sampled (wave_at c.args.waves.now c.args.operand.net) c.args.first c.args.period init delay) span.before span.from (span.until - span.from) =
+    sampled_span (wave_at c.args.waves.now c.args.operand.net) c.args.first c.args.period delay init span.before shown span.from span.until levels c.requires.ordered begun
     in
     rw same at c.follow.ensures

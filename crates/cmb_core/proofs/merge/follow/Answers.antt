@@ -1,6 +1,6 @@
 use Rattle.std.proofs.Common.{◌≡◌, ℕ, ◌≤◌, ◌<◌, true, false, arith, sym, ◌∙◌, refl, append_assoc}
 use Rattle.cmb_wave.specs.Waveform.{same_level}
-use Rattle.cmb_core.specs.Arrivals.{pin_at}
+use Rattle.cmb_core.specs.Arrivals.{arrived, pin_at}
 use Rattle.cmb_core.proofs.Changes.{push_turn, skip_turn, left_push}
 use Rattle.cmb_core.proofs.merge.follow.Goals as goal
 use Rattle.cmb_core.proofs.merge.follow.Goals.{then-differ+in_ok-push, else-differ}
@@ -9,7 +9,7 @@ pub loop-now-preserved : goal.loop-now-preserved
 loop-now-preserved c =
     let next = c.sooner-now.result in
     let pin = c.advance-due.new.self in
-    let f : ℕ → _ = pin_at c.args.pin in
+    let f : ℕ → _ = arrived c.args.lag c.args.level c.args.rest.now in
     let later : c.loop-now.now < next = omega (arith, c.advance-due.ensures.later, c.sooner-now.ensures, c.loop-now-test.true) in
     let within : next ≤ c.args.until = omega (arith, c.sooner-now.ensures) in
     let sooner : next ≤ c.advance-due.result = omega (arith, c.sooner-now.ensures) in

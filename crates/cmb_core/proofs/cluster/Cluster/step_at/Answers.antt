@@ -31,7 +31,7 @@ invariant_of-self-2 c =
       sound = kept.sound;
       tables = kept.listed;
       steady = λ closed. rw c.in_ok-piece.ensures.ok (steady_set c.self.inside.horizon c.self.inside.processes c.self.inside.waves c.args.slot c.in-Some.field-0.span.until c.changes.new.room.items there
-      (c.in-Some.ensures.span.until ∙ ap (λ s. reach_at s c.args.slot) (sym c.self.view_is)) (omega (arith, c.in-Some.ensures.span.later, c.in-Some.ensures.span.from, ap (λ w. w.clock) same)) made (c.self.invariant.steady closed));
+          (c.in-Some.ensures.span.until ∙ ap (λ s. reach_at s c.args.slot) (sym c.self.view_is)) (omega (arith, c.in-Some.ensures.span.later, c.in-Some.ensures.span.from, ap (λ w. w.clock) same)) made (c.self.invariant.steady closed));
     }
 
 pub returns-clause-same : goal.returns-clause-same
