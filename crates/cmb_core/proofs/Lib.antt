@@ -5,6 +5,7 @@ pub mod GateLemmas
 pub mod Merging
 pub mod PinLists
 pub mod Settles
+pub mod Samples
 pub mod Skips
 pub mod Slots
 pub mod Machine

@@ -4,7 +4,7 @@ ghost use Rattle.std.specs.Prelude.{◌≡◌, ℕ, ◌+◌, ◌-◌, ◌≤◌,
 ghost use Rattle.cmb_wave.specs.Waveform.{last_level, same_level};
 ghost use Rattle.cmb_core.specs.Spans.{changes_from};
 ghost use Rattle.cmb_bench.specs.Netlist.{MayTake};
-ghost use Rattle.cmb_core.specs.Arrivals.{arrived, arrives, due_of, pin_at, gate_at, Advanced, Passed};
+ghost use Rattle.cmb_core.specs.Arrivals.{arrived, arrives, IsArrival, due_of, pin_at, gate_at, Advanced, Passed};
 
 use crate::gate::Tally;
 use cmb_bench::netlist::Kind;
@@ -34,6 +34,27 @@ impl Lag {
                 let period = u64::from(*period).max(1);
                 let periods = (tick.saturating_sub(first) + (period - 1)) / period;
                 first + periods * period + u64::from(*delay)
+            }
+        }
+    }
+
+    // When a change at `tick` arrives, where another one does so at `due`. Of two changes that follow
+    // each other nearly all are sampled together or one period apart, which takes no division.
+    #[tactic(auto, using(crate::proofs::Samples::same_sample, crate::proofs::Samples::sample_after))]
+    fn arrival_after(&self, due: u64, tick: u32) -> u64
+        requires { IsArrival self.now due }
+        ensures { result ≡ arrives self.now tick }
+    {
+        match self {
+            Lag::Delay(_) => self.arrival(tick),
+            Lag::Sampled { period, delay, .. } => {
+                let period = u64::from(*period).max(1);
+                let sample = due - u64::from(*delay);
+                let at = u64::from(tick);
+                if at + period <= sample || sample + period < at {
+                    return self.arrival(tick);
+                }
+                if at <= sample { due } else { due + period }
             }
         }
     }
@@ -94,7 +115,10 @@ impl<'a> Pin<'a> {
             };
             self.level = first.level;
             self.rest = others;
-            due = self.due();
+            due = match others.first() {
+                Some(next) => self.lag.arrival_after(due, next.tick),
+                None => u64::MAX,
+            };
         }
         due
     }
