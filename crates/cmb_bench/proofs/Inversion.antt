@@ -4,7 +4,7 @@ use Rattle.std.specs.Prelude.{if◌then◌else◌, Option, Some, None, nat_le}
 use Rattle.cmb_bench.specs.declared.text.Class.TheVariants.{White, Comment, Open, Close, Comma, Equals, Name, Bad, End}
 use Rattle.cmb_bench.specs.declared.fault.BenchFault.{BenchFault}
 use Rattle.cmb_bench.specs.Text.{Lexeme, Word, name, mark}
-use Rattle.cmb_bench.specs.Inner.Word.{is_open, is_close, is_comma, is_equals, is_end, name_in}
+use Rattle.cmb_bench.specs.Inner.Word.{is_open, is_close, is_comma, is_equals, name_in}
 use Rattle.cmb_bench.specs.Grammar.{at, IsNew, IsShort}
 use Rattle.cmb_bench.specs.Statement.{is_member}
 use Rattle.cmb_bench.specs.Inner.Reading.{◌>>=◌, next_in, named, short_name, short, opened, closed, with_net}

@@ -1,6 +1,6 @@
 -- Names and their numbers.
 use Rattle.std.proofs.Common.{◌≡◌, ◌<◌, ◌+◌, ℕ, suc, List, [], ◌∷◌, Vec, Global, Bool, true, false, map, refl, sym, ap, ◌∙◌, arith, get_or}
-use Rattle.std.specs.Prelude.{nat_eq, Ok, Err, ◌||◌, if◌then◌else◌, ◌++◌, cond, not, length, nat_lt, Some, None, position, bytes_eq}
+use Rattle.std.specs.Prelude.{Ok, Err, ◌||◌, if◌then◌else◌, ◌++◌, cond, not, length, nat_lt, Some, None, position, bytes_eq}
 use Rattle.std.specs.List.{position_or_len, list_any}
 use Rattle.std.proofs.lemmas.List.{length-map, map-append}
 use Rattle.std.proofs.lemmas.Bool.Decides.{nat_tests}

@@ -1,15 +1,13 @@
 -- Waves that lag behind their ends.
-use Rattle.std.proofs.Common.{◌≡◌, ℕ, zero, suc, ◌-◌, ◌<◌, ◌≤◌, inl, inr, Bool, cond, true, false, nat_le, nat_lt, List, [], ◌∷◌, ◌++◌, length, get_or, set, take, refl, sym, ◌∙◌, ap, arith, nat_eq, ◌+◌, subst}
+use Rattle.std.proofs.Common.{◌≡◌, ℕ, zero, suc, ◌<◌, ◌≤◌, inl, inr, List, [], ◌∷◌, ◌++◌, length, get_or, set, take, refl, sym, ◌∙◌, ap, arith, ◌+◌, subst}
 use Rattle.std.specs.Prelude.{Result, Ok, Err, OnOk, OnErr}
 use Rattle.std.proofs.lemmas.Bool.{cases_eq}
-use Rattle.std.proofs.lemmas.Bool.Decides.{nat_tests}
 use Rattle.std.proofs.Math.Seq.{get_or-append_seam}
 use Rattle.std.proofs.lemmas.List.{append-nil, get_or_read, set-get_or, get_or-set_same, get_or-set_other, get_or_append_left, length-set, length_push}
 use Rattle.cmb_wave.specs.declared.level.Level.{Level}
 use Rattle.cmb_wave.specs.declared.level.Change.{Change}
 use Rattle.cmb_wave.specs.Waveform.{IsTrace}
 use Rattle.cmb_wave.specs.Wave.{Wave, grown, new_wave, wave_up_to}
-use Rattle.cmb_wave.specs.Calls.{heard_wave}
 use Rattle.cmb_core.specs.declared.tip.Tail.{Tail}
 use Rattle.cmb_core.specs.declared.tip.Tip.{Tip}
 use Rattle.cmb_core.specs.Tips.{AreEnds, AreSkips, AreTails, AreTips, IsEnd, IsTail, IsTip, held_waves, no_tail, no_tip}

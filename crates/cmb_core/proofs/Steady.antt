@@ -1,5 +1,5 @@
 -- Gates keep what they ended with as the waves go on.
-use Rattle.std.proofs.Common.{◌≡◌, ℕ, zero, suc, ◌+◌, ◌-◌, ◌<◌, ◌≤◌, inl, inr, ◌⊎◌, Bool, cond, true, false, eqb, nat_le, nat_lt, List, [], ◌∷◌, ◌++◌, length, get_or, set, map, take, refl, sym, ◌∙◌, ap, subst, arith, get_or-set_same, get_or-set_other}
+use Rattle.std.proofs.Common.{◌≡◌, ℕ, zero, suc, ◌+◌, ◌-◌, ◌<◌, ◌≤◌, inl, inr, ◌⊎◌, Bool, cond, true, false, eqb, nat_le, nat_lt, List, [], ◌∷◌, ◌++◌, length, get_or, set, map, take, refl, sym, ◌∙◌, ap, arith, get_or-set_same, get_or-set_other}
 use Rattle.std.proofs.lemmas.Bool.{cases_eq}
 use Rattle.std.proofs.lemmas.Bool.Decides.{nat_tests}
 use Rattle.std.proofs.lemmas.List.{take_more}
@@ -8,7 +8,6 @@ use Rattle.cmb_wave.specs.declared.level.Change.{Change}
 use Rattle.cmb_wave.specs.Waveform.{IsTrace, last_level, level_at, same_level}
 use Rattle.cmb_wave.specs.Wave.{Wave, grown, new_wave}
 use Rattle.cmb_wave.proofs.Lists.{last_level_append, test_of_same}
-use Rattle.cmb_bench.specs.declared.netlist.Kind.{Kind}
 use Rattle.cmb_design.specs.Gate.{gate}
 use Rattle.cmb_core.specs.declared.process.Operand.{Operand}
 use Rattle.cmb_core.specs.declared.process.Rule.{Rule}
@@ -16,7 +15,7 @@ use Rattle.cmb_core.specs.declared.process.Rule.TheVariants.{Given, Input, Gate,
 use Rattle.cmb_core.specs.Clusters.{nth_process}
 use Rattle.cmb_core.specs.Rows.{Process, delayed, delayed_levels, gate_reach, gate_row, reach, row}
 use Rattle.cmb_core.specs.Spans.{changes_from}
-use Rattle.cmb_core.specs.Steady.{AreBehind, AreSteady, IsBehind, IsLastOf, IsSteady}
+use Rattle.cmb_core.specs.Steady.{AreBehind, AreSteady, IsSteady}
 use Rattle.cmb_core.specs.Step.{wave_at}
 use Rattle.cmb_core.proofs.Changes.{changes_from_add, trace_of_changes}
 use Rattle.cmb_core.proofs.PinLists.{delayed_levels_append}

@@ -1,15 +1,13 @@
 -- The end of a wave, and lists of them.
-use Rattle.std.proofs.Common.{◌≡◌, ℕ, zero, suc, ◌-◌, ◌<◌, ◌≤◌, inl, inr, Bool, cond, true, false, nat_le, nat_lt, List, [], ◌∷◌, ◌++◌, length, get_or, set, replicate, refl, sym, ◌∙◌, ap, arith, nat_eq, ◌+◌}
+use Rattle.std.proofs.Common.{◌≡◌, ℕ, zero, suc, ◌-◌, ◌<◌, ◌≤◌, inl, inr, Bool, cond, true, false, nat_le, nat_lt, List, [], ◌∷◌, ◌++◌, length, get_or, set, replicate, refl, sym, ◌∙◌, ap, arith}
 use Rattle.std.proofs.lemmas.Bool.{cases_eq}
 use Rattle.std.proofs.lemmas.Bool.Decides.{nat_tests}
-use Rattle.std.proofs.Math.Seq.{get_or-append_seam}
-use Rattle.std.proofs.lemmas.List.{append-nil, get_or-set_same, get_or-set_other, get_or_append_left, length-set, length_push, take_all, append_assoc}
+use Rattle.std.proofs.lemmas.List.{get_or-set_same, get_or-set_other, take_all, append_assoc}
 use Rattle.cmb_wave.specs.declared.level.Level.{Level}
 use Rattle.cmb_wave.specs.declared.level.Level.TheVariants.{X}
 use Rattle.cmb_wave.specs.declared.level.Change.{Change}
 use Rattle.cmb_wave.specs.Waveform.{IsTrace, Rises, last_level, level_at, level_before}
-use Rattle.cmb_wave.specs.Wave.{Wave, new_wave, grown, wave_up_to}
-use Rattle.cmb_wave.specs.Calls.{heard_wave}
+use Rattle.cmb_wave.specs.Wave.{Wave, new_wave}
 use Rattle.cmb_wave.proofs.Lists.{rises_get, rises_lower, last_before, last_level_append, last_level_take}
 use Rattle.cmb_core.specs.declared.tip.Tail.{Tail}
 use Rattle.cmb_core.specs.declared.tip.Tip.{Tip}

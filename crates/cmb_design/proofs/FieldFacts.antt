@@ -1,15 +1,13 @@
 -- The blanks at a field's ends, numbers and pins.
-use Rattle.std.proofs.Common.{◌≡◌, ◌≤◌, ◌<◌, ◌+◌, ℕ, zero, suc, List, [], ◌∷◌, ◌++◌, length, take, drop, get_or, Option, Some, None, true, false, Bool, refl, sym, ap, arith, ◌∙◌, cond, reverse, add-one, drop-cons}
+use Rattle.std.proofs.Common.{◌≡◌, ◌≤◌, ◌<◌, ◌+◌, ℕ, zero, suc, List, [], ◌∷◌, length, take, drop, get_or, Option, Some, None, true, false, Bool, refl, arith, add-one, drop-cons}
 use Rattle.std.specs.Prelude.{◌&&◌, ◌==◌, nat_le}
 use Rattle.std.specs.Char.{is_ascii_digit}
 use Rattle.std.specs.List.{list_all}
 use Rattle.std.proofs.lemmas.Bool.Decides.{nat_tests}
-use Rattle.std.proofs.Math.Seq.{take-suc}
-use Rattle.std.proofs.lemmas.List.{reverse-append, reverse-reverse}
 use Rattle.csv.specs.Records.{field_at}
 use Rattle.std.specs.Prelude.{IfSome, IsSome, option_map, slice_get}
 use denote.Ref.{Bor}
-use Rattle.cmb_design.specs.Fields.{fields_in, is_blank, number, split_pin, trim_back, trim_front, trimmed, decimal}
+use Rattle.cmb_design.specs.Fields.{fields_in, number, split_pin, trimmed, decimal}
 
 -- numbers
 pub number-empty : (xs : List ℕ) → length xs ≡ 0 → number xs ≡ None

@@ -1,9 +1,7 @@
-use Rattle.std.proofs.Common.{◌≡◌, ◌<◌, ◌≤◌, ◌+◌, ◌-◌, [], min, arith, length, get_or, sym, ap, take, drop, refl, ◌∙◌}
+use Rattle.std.proofs.Common.{◌≡◌, ◌<◌, ◌+◌, min, arith, length, get_or, sym, drop, refl, ◌∙◌}
 use Rattle.std.proofs.lemmas.Bool.Decides.{nat_tests}
-use Rattle.std.proofs.lemmas.List.{drop_all, take_all}
-use Rattle.cmb_design.specs.Gate.{gate}
 use Rattle.cmb_core.specs.declared.process.Operand.{Operand}
-use Rattle.cmb_core.specs.Rows.{delayed_levels, gate_reach}
+use Rattle.cmb_core.specs.Rows.{gate_reach}
 use Rattle.cmb_core.specs.Step.{wave_at}
 use Rattle.cmb_core.proofs.AdvanceLemmas.{gate_reach_le}
 use Rattle.cmb_core.proofs.PinLists.{reach_step, ready_step}

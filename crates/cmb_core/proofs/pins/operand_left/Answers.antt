@@ -1,4 +1,4 @@
-use Rattle.std.proofs.Common.{◌≡◌, ◌≤◌, suc, ap, arith, sym, ◌∙◌}
+use Rattle.std.proofs.Common.{◌≡◌, ap, arith, ◌∙◌}
 use Rattle.cmb_wave.specs.Wave.{Wave}
 use Rattle.cmb_wave.specs.Waveform.{level_at}
 use Rattle.cmb_core.specs.Step.{wave_at}

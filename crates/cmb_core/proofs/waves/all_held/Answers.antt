@@ -1,7 +1,6 @@
-use Rattle.std.proofs.Common.{◌≡◌, ◌<◌, ◌≤◌, ◌+◌, suc, length, get_or, set, take, arith, sym, ap, ◌∙◌}
+use Rattle.std.proofs.Common.{◌≡◌, ◌<◌, ◌+◌, suc, length, get_or, set, take, arith, ap, ◌∙◌}
 use Rattle.std.proofs.lemmas.List.{get_or_default, get_or_read}
-use Rattle.cmb_wave.specs.Wave.{Wave, new_wave, wave_up_to}
-use Rattle.cmb_core.specs.declared.tip.Tip.{Tip}
+use Rattle.cmb_wave.specs.Wave.{new_wave, wave_up_to}
 use Rattle.cmb_core.specs.Tips.{held_waves, no_tip}
 use Rattle.cmb_core.proofs.Ends.{held_more, held_rest, length_held}
 use Rattle.cmb_core.proofs.waves.all_held.Goals as goal

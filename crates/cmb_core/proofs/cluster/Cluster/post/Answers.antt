@@ -7,7 +7,7 @@ use Rattle.cmb_core.specs.Rows.{is_given}
 use Rattle.cmb_core.specs.Step.{wave_at}
 use Rattle.cmb_core.proofs.AdvanceLemmas.{if_ok_map}
 use Rattle.cmb_core.proofs.ExactFacts.{if_ok, placed_exact, sent_exact}
-use Rattle.cmb_core.proofs.Inputs.{output_driven, output_slot_is, output_there, output_wave}
+use Rattle.cmb_core.proofs.Inputs.{output_driven, output_slot_is, output_wave}
 use Rattle.cmb_core.proofs.cluster.Cluster.post.Goals as goal
 
 at : (c : goal.After-driven_place) → get_or c.self.inside.waves c.driven_place.result (new_wave 0) ≡ wave_at c.args.self.now.waves c.args.net

@@ -1,5 +1,4 @@
 use Rattle.std.proofs.Common.{◌≡◌, ap, sym, ◌∙◌, subst}
-use Rattle.cmb_wave.specs.declared.level.Promise.{Promise}
 use Rattle.cmb_wave.specs.Calls.{promised}
 use Rattle.cmb_design.specs.Exact.{IsRightIn}
 use Rattle.cmb_core.specs.Clusters.{slot_wave}

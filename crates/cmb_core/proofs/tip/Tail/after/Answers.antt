@@ -1,8 +1,7 @@
-use Rattle.std.proofs.Common.{◌≡◌, ◌<◌, ◌≤◌, ◌-◌, ◌++◌, ◌∷◌, [], ℕ, suc, List, length, get_or, arith, subst, ap, refl, sym, ◌∙◌}
+use Rattle.std.proofs.Common.{List, arith, subst}
 use Rattle.cmb_wave.specs.declared.level.Level.TheVariants.{Zero}
 use Rattle.cmb_wave.specs.declared.level.Change.{Change}
-use Rattle.cmb_wave.specs.Waveform.{IsTrace, Rises, last_level}
-use Rattle.cmb_wave.specs.Wave.{Wave}
+use Rattle.cmb_wave.specs.Waveform.{Rises}
 use Rattle.cmb_core.proofs.TipFacts.{after_one, after_two, after_more}
 use Rattle.cmb_core.proofs.tip.Tail.after.Goals as goal
 use Rattle.cmb_core.proofs.tip.Tail.after.Goals.{then-count-eq2, else-count-eq2}

@@ -1,4 +1,4 @@
-use Rattle.std.proofs.Common.{◌≡◌, ◌≤◌, arith, ap, refl, sym}
+use Rattle.std.proofs.Common.{◌≡◌, arith, ap, refl, sym}
 use Rattle.cmb_wave.specs.Wave.{Wave, new_wave, wave_up_to}
 use Rattle.std.proofs.Common.{get_or}
 use Rattle.cmb_core.proofs.Ends.{caught_up, place_of}

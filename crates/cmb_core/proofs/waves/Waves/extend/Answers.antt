@@ -1,4 +1,4 @@
-use Rattle.std.proofs.Common.{◌≡◌, ◌<◌, ◌≤◌, [], length, get_or, length-set, set, arith, sym, ◌∙◌, ap, subst, refl}
+use Rattle.std.proofs.Common.{◌≡◌, ◌<◌, ◌≤◌, [], length, get_or, length-set, set, arith, sym, ◌∙◌, ap, subst}
 use Rattle.std.proofs.lemmas.Bool.Decides.{nat_tests}
 use Rattle.std.proofs.lemmas.List.{get_or_read}
 use Rattle.cmb_wave.specs.Wave.{Wave, grown, new_wave, wave_up_to}
@@ -6,7 +6,7 @@ use Rattle.cmb_wave.specs.Waveform.{IsTrace, last_level}
 use Rattle.cmb_wave.proofs.Lists.{trace_low}
 use Rattle.cmb_core.specs.declared.tip.Tail.{Tail}
 use Rattle.cmb_core.specs.declared.tip.Tip.{Tip}
-use Rattle.cmb_core.specs.Tips.{IsTail, IsTip, IsEnd, no_tail, no_tip}
+use Rattle.cmb_core.specs.Tips.{IsTail, IsTip, no_tail, no_tip}
 use Rattle.cmb_core.proofs.Ends.{empty_of, end_later, end_of, ends_on, ends_set, grown_none, held_of, length_held, place_of, skips_held, skips_on, tails_set, trace_sooner, view_on, view_set}
 use Rattle.cmb_core.proofs.waves.Waves.extend.Goals as goal
 

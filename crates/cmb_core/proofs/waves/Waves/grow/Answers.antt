@@ -1,6 +1,6 @@
-use Rattle.std.proofs.Common.{◌≡◌, ◌<◌, ◌≤◌, get_or, arith, sym, ◌∙◌, ap, subst, set}
+use Rattle.std.proofs.Common.{◌≡◌, ◌≤◌, get_or, arith, sym, ◌∙◌, ap, subst, set}
 use Rattle.cmb_wave.specs.Waveform.{IsTrace, last_level}
-use Rattle.cmb_wave.specs.Wave.{Piece, Wave, grown, new_wave}
+use Rattle.cmb_wave.specs.Wave.{Wave, grown, new_wave}
 use Rattle.cmb_core.proofs.AdvanceLemmas.{if_ok_map}
 use Rattle.cmb_core.proofs.Ends.{Renewed, caught_up, either_way, length_held, on_err_map, on_ok_map, place_of, renewed, unchanged}
 use Rattle.cmb_core.proofs.waves.Waves.grow.Goals as goal

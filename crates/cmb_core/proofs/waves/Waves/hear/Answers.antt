@@ -1,4 +1,4 @@
-use Rattle.std.proofs.Common.{◌≡◌, ◌<◌, ◌≤◌, [], length, get_or, arith, sym, ◌∙◌, ap, subst, set}
+use Rattle.std.proofs.Common.{◌≡◌, get_or, arith, ◌∙◌, ap, set}
 use Rattle.cmb_wave.specs.Wave.{Wave, new_wave}
 use Rattle.cmb_core.proofs.Ends.{Renewed, caught_up, length_held, place_of, renewed}
 use Rattle.cmb_wave.specs.Calls.{hears, heard_wave}

@@ -1,4 +1,4 @@
-use Rattle.std.proofs.Common.{◌≡◌, ◌<◌, ◌++◌, ◌∷◌, [], List, length, get_or, arith, sym, ap, ◌∙◌, map, replicate}
+use Rattle.std.proofs.Common.{◌≡◌, ◌<◌, ◌++◌, ◌∷◌, [], List, length, arith, sym, ap, ◌∙◌, map, replicate}
 use Rattle.std.proofs.lemmas.List.{length-map, length-replicate, take_all, take_more, map-append}
 use Rattle.cmb_wave.specs.Wave.{Wave, new_wave}
 use Rattle.cmb_core.specs.Tips.{held_waves}

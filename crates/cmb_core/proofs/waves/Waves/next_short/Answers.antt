@@ -1,8 +1,8 @@
-use Rattle.std.proofs.Common.{◌≡◌, ◌<◌, ◌≤◌, ℕ, length, length-set, get_or, arith, sym, ◌∙◌, subst}
+use Rattle.std.proofs.Common.{◌≡◌, ◌<◌, ◌≤◌, ℕ, length, length-set, get_or, arith, sym, ◌∙◌}
 use Rattle.std.proofs.lemmas.Bool.Decides.{nat_tests}
 use Rattle.cmb_wave.specs.Wave.{new_wave}
 use Rattle.cmb_core.specs.Tips.{AreSkips, AreTips, held_waves}
-use Rattle.cmb_core.proofs.Ends.{length_held, tips_of_ends}
+use Rattle.cmb_core.proofs.Ends.{tips_of_ends}
 use Rattle.cmb_core.proofs.TipFacts.{skips_put}
 use Rattle.cmb_core.proofs.waves.Waves.next_short.Goals as goal
 

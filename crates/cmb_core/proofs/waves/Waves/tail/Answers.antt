@@ -1,4 +1,4 @@
-use Rattle.std.proofs.Common.{◌≡◌, ◌<◌, length, arith}
+use Rattle.std.proofs.Common.{◌<◌, length, arith}
 use Rattle.std.proofs.lemmas.List.{get_or_read}
 use Rattle.cmb_core.specs.Tips.{no_tail}
 use Rattle.cmb_core.proofs.Ends.{place_of, tail_held}

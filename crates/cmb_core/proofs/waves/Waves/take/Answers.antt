@@ -1,8 +1,6 @@
-use Rattle.std.proofs.Common.{◌≡◌, ◌<◌, ◌≤◌, [], length, get_or, arith, sym, ◌∙◌, ap, subst, set, Ok}
+use Rattle.std.proofs.Common.{◌≡◌, get_or, arith, sym, ◌∙◌, ap}
 use Rattle.cmb_wave.specs.Wave.{Wave, new_wave}
 use Rattle.cmb_core.proofs.Ends.{Renewed, caught_up, length_held, on_err_map, place_of, renewed, unchanged}
-use Rattle.cmb_wave.specs.Calls.{taken}
-use Rattle.cmb_wave.specs.Wave.{Piece}
 use Rattle.cmb_core.proofs.waves.Waves.take.Goals as goal
 
 now : (c : goal.After-self-3-1) → c.hold.new.wave ≡ get_or c.args.self.now c.args.slot (new_wave 0)

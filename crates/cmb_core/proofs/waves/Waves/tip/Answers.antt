@@ -1,4 +1,3 @@
-use Rattle.std.proofs.Common.{◌≡◌}
 use Rattle.std.proofs.lemmas.List.{get_or_read}
 use Rattle.cmb_core.specs.Tips.{no_tip}
 use Rattle.cmb_core.proofs.Ends.{place_of}

@@ -1,4 +1,4 @@
-use Rattle.std.proofs.Common.{◌≡◌, ◌<◌, ◌≤◌, refl, true, false, nat_lt, get_or, arith, sym, ◌∙◌, ap, set}
+use Rattle.std.proofs.Common.{◌≡◌, refl, true, false, nat_lt, get_or, arith, sym, ◌∙◌, ap, set}
 use Rattle.std.proofs.lemmas.Bool.Decides.{nat_tests}
 use Rattle.std.proofs.lemmas.List.{get_or_read}
 use Rattle.cmb_wave.specs.Wave.{Wave, new_wave, wave_from}
