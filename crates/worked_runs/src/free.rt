@@ -1,7 +1,8 @@
 //! Free runs: that workers meet, that each goes on by its own turns, and what a stopped run hands back.
 
-ghost use Rattle.std.specs.Prelude.{Some};
+ghost use Rattle.std.specs.Prelude.{◌≡◌, IfOk, Some, length};
 ghost use Rattle.std.specs.Prelude.{◌<◌, ◌-◌, ◌^◌};
+ghost use Rattle.cmb_design.specs.Exact.{nets_of};
 
 use crate::rounds::{TOGGLE, design_of, design_of_tables};
 use cmb_core::Clustering;
@@ -38,17 +39,49 @@ fn toggle(alloc: Global) -> Result<Design, Fail> {
     design_of(alloc, b"q = DFF(d) d = NOT(q)", b"", 12)
 }
 
+// The nets of a design over two clusters.
+fn spread_over_two(rt: &impl Abort, alloc: Global, design: &Design) -> Result<Clustering, Fail>
+    ensures { IfOk result (λ clustering. length clustering.assign ≡ nets_of design.now) }
+{
+    let clustering = Clustering::spread(alloc, design.netlist().len() as u32, 2)?;
+    assert!(rt; clustering.nets() == design.netlist().len());
+    Ok(clustering)
+}
+
+// A design with a clustering of it.
+#[derive(Drop)]
+struct Spread {
+    design: Design,
+    clustering: Clustering,
+    ghost each: { length clustering.assign ≡ nets_of design },
+}
+
+// The toggle with each of its two nets in a cluster of its own.
+fn spread_toggle(rt: &impl Abort, alloc: Global) -> Result<Spread, Fail> {
+    let design = toggle(alloc)?;
+    let clustering = spread_over_two(rt, alloc, &design)?;
+    Ok(Spread { design, clustering })
+}
+
+// A run by two workers.
+fn run_by_two<G: Turnstile + Sync, R: Threads + Wait + Sync>(
+    rt: &R,
+    alloc: Global,
+    spread: &Spread,
+    gate: &G,
+) -> Result<Result<Collector, RunFault>, Fail> {
+    let workers = Workers::new(2)?;
+    Ok(run_free(rt, alloc, &spread.design, &spread.clustering, workers, gate))
+}
+
 // The toggle by two workers, one of them for each net.
 fn two_workers<G: Turnstile + Sync, R: Abort + Threads + Wait + Sync>(
     rt: &R,
     alloc: Global,
     gate: &G,
 ) -> Result<Result<Collector, RunFault>, Fail> {
-    let design = toggle(alloc)?;
-    let clustering = Clustering::spread(alloc, design.netlist().len() as u32, 2)?;
-    assert!(rt; clustering.nets() == design.netlist().len());
-    let workers = Workers::new(2)?;
-    Ok(run_free(rt, alloc, &design, &clustering, workers, gate))
+    let toggle = spread_toggle(rt, alloc)?;
+    run_by_two(rt, alloc, &toggle, gate)
 }
 
 // The same, with its text.
@@ -60,11 +93,17 @@ fn two_workers_tell<G: Turnstile + Sync, S: Sink, R: Abort + Threads + Wait + Sy
 ) -> Result<Result<u64, RunFault>, Fail>
     requires { S.failures sink.old < 2 ^ 64 - 1 }
 {
-    let design = toggle(alloc)?;
-    let clustering = Clustering::spread(alloc, design.netlist().len() as u32, 2)?;
-    assert!(rt; clustering.nets() == design.netlist().len());
     let workers = Workers::new(2)?;
-    Ok(run_free_text(rt, alloc, &design, &clustering, workers, gate, sink))
+    let toggle = spread_toggle(rt, alloc)?;
+    Ok(run_free_text(
+        rt,
+        alloc,
+        &toggle.design,
+        &toggle.clustering,
+        workers,
+        gate,
+        sink,
+    ))
 }
 
 // The net and the tick of a run that was stopped.
@@ -230,7 +269,7 @@ fn halves(alloc: Global, count: u32) -> Result<Vec<u32>, AllocError> {
 }
 
 // The buffers, which are slower than the run is long.
-fn slow_buffers<R: Abort>(rt: &R, alloc: Global) -> Result<Design, Fail> {
+fn slow_buffers(rt: &impl Abort, alloc: Global) -> Result<Design, Fail> {
     let (bench, stimuli) = buffers(alloc, 70)?;
     assert!(rt; bench.len() <= 16_777_216 && stimuli.len() <= 16_777_216);
     let settings = Settings {
@@ -247,14 +286,26 @@ fn slow_buffers<R: Abort>(rt: &R, alloc: Global) -> Result<Design, Fail> {
     )
 }
 
+// The inputs of these buffers in one cluster, and the buffers in another.
+fn halved(rt: &impl Abort, alloc: Global, design: &Design) -> Result<Clustering, Fail>
+    ensures { IfOk result (λ clustering. length clustering.assign ≡ nets_of design.now) }
+{
+    let clustering = Clustering::new(140, 2, halves(alloc, 70)?)?;
+    assert!(rt; clustering.nets() == design.netlist().len());
+    Ok(clustering)
+}
+
+fn halved_buffers(rt: &impl Abort, alloc: Global) -> Result<Spread, Fail> {
+    let design = slow_buffers(rt, alloc)?;
+    let clustering = halved(rt, alloc, &design)?;
+    Ok(Spread { design, clustering })
+}
+
 #[test]
 fn early_reader(rt: HostRuntime) -> Result<(), Fail> {
     let alloc = rt.alloc();
-    let design = slow_buffers(&rt, alloc)?;
-    let clustering = Clustering::new(140, 2, halves(alloc, 70)?)?;
-    assert!(rt; clustering.nets() == design.netlist().len());
-    let workers = Workers::new(2)?;
-    let answer = run_free(&rt, alloc, &design, &clustering, workers, &Patience);
+    let buffers = halved_buffers(&rt, alloc)?;
+    let answer = run_by_two(&rt, alloc, &buffers, &Patience)?;
     assert!(rt; answer.is_ok());
     Ok(())
 }
