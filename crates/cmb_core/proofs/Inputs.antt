@@ -98,9 +98,6 @@ output_slot_is s net slot e = (driven_only_is s (slot_of s.waves net) slot e).0
 pub output_driven : (s : Cluster) (net slot : ℕ) → output_slot s net ≡ Some slot → is_given (process_at s slot).rule ≡ false
 output_driven s net slot e = (driven_only_is s (slot_of s.waves net) slot e).1
 
-pub output_there : (s : Cluster) (net slot : ℕ) → output_slot s net ≡ Some slot → slot < length s.waves
-output_there s net slot e = slot_there s.waves net slot (output_slot_is s net slot e)
-
 pub output_wave : (s : Cluster) (net slot : ℕ) → output_slot s net ≡ Some slot → slot_wave s slot ≡ wave_at s.waves net
 output_wave s net slot e = (slot_is s.waves net slot (new_wave 0) (output_slot_is s net slot e)).1
 

@@ -186,10 +186,6 @@ pub after_more : (old wave : Wave) (cs : List Change) (d : Change) → wave.kept
 after_more old wave cs d kept changes r some trace =
     tail_more old wave cs d kept changes r (rises_second 0 old.changes cs (rw changes at r)) some (trace_last _ _ _ cs (length cs - 1) d trace (omega (arith, some)))
 
--- the clock and the newest change of a wave with such an end
-pub tip_of_tail : (tail : Tail) (wave : Wave) (is : IsTail tail wave) (clock : ℕ) (d : Change) → clock ≡ wave.clock → IsTip (record { clock = clock; newest = get_or tail.newest 1 d }) wave
-tip_of_tail tail wave is clock d same = rw is.two (record { clock = same; within = is.within; ends = is.ends; steady = is.steady })
-
 -- the level that a tip ends with is the one before the wave's clock
 pub tip_before : (tip : Tip) (wave : Wave) → IsTip tip wave → IsTrace wave.kept wave.base wave.changes wave.clock → (wave.base ≡ 0 → wave.kept ≡ X)
     → tip.newest.level ≡ level_before (level_at wave.kept wave.changes) wave.clock
