@@ -1,12 +1,14 @@
 //! A circuit that threads work on, and the plain program's waves of it, with which everything is compared.
 
-ghost use Rattle.std.specs.Prelude.{◌≡◌, ◌≤◌, length};
+ghost use Rattle.std.specs.Prelude.{◌≡◌, ◌≤◌, IfOk, length};
 ghost use Rattle.cmb_design.specs.Exact.{nets_of};
 
 use crate::trouble::Trouble;
-use cmb_bench::read_bench;
+use cmb_bench::{Netlist, read_bench};
 use cmb_core::Clustering;
-use cmb_design::{Design, Settings, plain_waves, read_clocks, read_delays, read_stimuli};
+use cmb_design::{
+    Design, DesignFault, Settings, plain_waves, read_clocks, read_delays, read_stimuli,
+};
 use cmb_wave::{Change, Level, Piece, Promise, Wave};
 use std::alloc::Global;
 
@@ -30,21 +32,45 @@ fn settings(horizon: u32) -> Settings {
 }
 
 /// The design of a netlist without rows.
-fn design_of(alloc: Global, netlist: &[u8], horizon: u32) -> Result<Design, Trouble>
+fn design_of(alloc: Global, netlist: Netlist, horizon: u32) -> Result<Design, DesignFault> {
+    let delays = read_delays(alloc, b"")?;
+    let stimuli = read_stimuli(alloc, b"")?;
+    let clocks = read_clocks(alloc, b"")?;
+    Design::new(alloc, netlist, delays, stimuli, clocks, settings(horizon))
+}
+
+/// The same of the text of a netlist.
+fn read_design(alloc: Global, netlist: &[u8], horizon: u32) -> Result<Design, Trouble>
     requires { length netlist.now ≤ 16777216 }
 {
     let Ok(netlist) = read_bench(alloc, netlist) else {
         return Err(Trouble::Circuit);
     };
-    let (Ok(delays), Ok(stimuli), Ok(clocks)) = (
-        read_delays(alloc, b""),
-        read_stimuli(alloc, b""),
-        read_clocks(alloc, b""),
-    ) else {
+    match design_of(alloc, netlist, horizon) {
+        Ok(design) => Ok(design),
+        Err(_) => Err(Trouble::Circuit),
+    }
+}
+
+/// A clustering of the design. `clusters` has the cluster of each net.
+fn clustering_of(alloc: Global, design: &Design, clusters: &[u32]) -> Result<Clustering, Trouble>
+    ensures each { IfOk result (λ clustering. length clustering.assign ≡ nets_of design.now) }
+    ensures two { IfOk result (λ clustering. clustering.clusters ≡ 2) }
+{
+    let assign = clusters.to_vec(alloc)?;
+    let Ok(clustering) = Clustering::new(design.netlist().len() as u32, 2, assign) else {
         return Err(Trouble::Circuit);
     };
-    match Design::new(alloc, netlist, delays, stimuli, clocks, settings(horizon)) {
-        Ok(design) => Ok(design),
+    if clustering.nets() != design.netlist().len() || clustering.clusters() != 2 {
+        return Err(Trouble::Circuit);
+    }
+    Ok(clustering)
+}
+
+/// The plain program's waves of the design.
+fn waves_of(alloc: Global, design: &Design) -> Result<Vec<Wave>, Trouble> {
+    match plain_waves(alloc, design) {
+        Ok(waves) => Ok(waves),
         Err(_) => Err(Trouble::Circuit),
     }
 }
@@ -66,17 +92,9 @@ impl Circuit {
     ) -> Result<Circuit, Trouble>
         requires { length netlist.now ≤ 16777216 }
     {
-        let design = design_of(alloc, netlist, horizon)?;
-        let assign = clusters.to_vec(alloc)?;
-        let Ok(clustering) = Clustering::new(design.netlist().len() as u32, 2, assign) else {
-            return Err(Trouble::Circuit);
-        };
-        let Ok(waves) = plain_waves(alloc, &design) else {
-            return Err(Trouble::Circuit);
-        };
-        if clustering.nets() != design.netlist().len() || clustering.clusters() != 2 {
-            return Err(Trouble::Circuit);
-        }
+        let design = read_design(alloc, netlist, horizon)?;
+        let clustering = clustering_of(alloc, &design, clusters)?;
+        let waves = waves_of(alloc, &design)?;
         Ok(Circuit {
             design,
             clustering,

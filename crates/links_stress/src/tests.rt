@@ -1,13 +1,14 @@
 //! The worked examples of boards and links, over a flip-flop q (net 0) that samples its own inverse d (net 1) at ticks 2, 6 and
 //! 10: q changes at 0, 3, 7 and 11.
 
-ghost use Rattle.std.specs.Prelude.{◌≡◌, IfOk};
+ghost use Rattle.std.specs.Prelude.{◌≡◌, false, IfOk};
 ghost use Rattle.cmb_design.specs.Exact.{IsExactIn};
+ghost use Rattle.cmb_links.specs.Seats.{new_seat, terms};
 
 use crate::circuit::Circuit;
 use crate::ends::{In, Out};
 use crate::exact::ExactCluster;
-use crate::run::open_board;
+use crate::run::{Table, open_board};
 use crate::trouble::Trouble;
 use crate::watch::Watch;
 use crate::worker::TURNS;
@@ -94,19 +95,51 @@ fn second_seat(watch: &mut Watch<'_>) -> Result<bool, Trouble> {
     Ok(!before && after && read_back == promise(1, 3))
 }
 
+// A new board for this circuit with its seats, and a cluster that goes on.
+#[derive(Drop)]
+struct Setting<'a> {
+    circuit: &'a Circuit,
+    workers: Workers,
+    table: Table,
+    cluster: ExactCluster,
+    ghost two: { workers ≡ 2 },
+    ghost first: { table.first ≡ new_seat table.board (terms circuit.now.design circuit.now.clustering 2) false 0 },
+    ghost second: { table.second ≡ new_seat table.board (terms circuit.now.design circuit.now.clustering 2) false 1 },
+    ghost same: { cluster ≡ circuit.now.design },
+}
+
+fn open_setting(alloc: Global, circuit: &Circuit) -> Result<Setting<'_>, Fail> {
+    let workers = Workers::new(2)?;
+    let cluster = source(alloc, circuit)?;
+    let table = open_board(alloc, circuit, workers)?;
+    Ok(Setting {
+        circuit,
+        workers,
+        table,
+        cluster,
+    })
+}
+
 // board_words, and then board_read_back.
+fn words_of(rt: &impl Abort, alloc: Global, setting: Setting<'_>) {
+    let Setting {
+        circuit,
+        workers,
+        table,
+        mut cluster,
+    } = setting;
+    let board = table.board;
+    let mut first = Watch::new(alloc, &board, circuit, table.first, workers, 0);
+    assert!(rt; first_seat(&mut first, &mut cluster) == Ok(true));
+    let mut second = Watch::new(alloc, &board, circuit, table.second, workers, 1);
+    assert!(rt; second_seat(&mut second) == Ok(true));
+}
+
 #[test]
 fn board_words(rt: HostRuntime) -> Result<(), Fail> {
     let alloc = rt.alloc();
-    let workers = Workers::new(2)?;
     let circuit = toggle(alloc)?;
-    let mut cluster = source(alloc, &circuit)?;
-    let table = open_board(alloc, &circuit, workers)?;
-    let board = table.board;
-    let mut first = Watch::new(alloc, &board, &circuit, table.first, workers, 0);
-    assert!(rt; first_seat(&mut first, &mut cluster) == Ok(true));
-    let mut second = Watch::new(alloc, &board, &circuit, table.second, workers, 1);
-    assert!(rt; second_seat(&mut second) == Ok(true));
+    words_of(&rt, alloc, open_setting(alloc, &circuit)?);
     Ok(())
 }
 
@@ -149,17 +182,29 @@ fn look_all(mut watch: Watch<'_>) -> Result<bool, Trouble> {
     Err(Trouble::TooLong)
 }
 
+// The first seat publishes in one thread, and the second looks in another.
+fn in_two_threads<R: Threads>(
+    rt: &R,
+    alloc: Global,
+    setting: Setting<'_>,
+) -> (Result<bool, Trouble>, Result<bool, Trouble>) {
+    let Setting {
+        circuit,
+        workers,
+        table,
+        cluster,
+    } = setting;
+    let board = table.board;
+    let first = Watch::new(alloc, &board, circuit, table.first, workers, 0);
+    let second = Watch::new(alloc, &board, circuit, table.second, workers, 1);
+    thread::join(rt, || publish_all(first, cluster), || look_all(second))
+}
+
 #[test]
 fn board_threads(rt: HostRuntime) -> Result<(), Fail> {
     let alloc = rt.alloc();
     let circuit = toggle(alloc)?;
-    let workers = Workers::new(2)?;
-    let table = open_board(alloc, &circuit, workers)?;
-    let cluster = source(alloc, &circuit)?;
-    let board = table.board;
-    let first = Watch::new(alloc, &board, &circuit, table.first, workers, 0);
-    let second = Watch::new(alloc, &board, &circuit, table.second, workers, 1);
-    let (published, found) = thread::join(&rt, || publish_all(first, cluster), || look_all(second));
+    let (published, found) = in_two_threads(&rt, alloc, open_setting(alloc, &circuit)?);
     assert!(rt; published?);
     assert!(rt; found?);
     Ok(())
@@ -251,9 +296,13 @@ fn put_again<R: Wait + Abort>(
     out.put(rt, last).is_ok()
 }
 
-fn full_link_by<R: Wait + Abort>(rt: &R, alloc: Global, is_longer: bool) -> Result<(), Fail> {
-    let circuit = toggle(alloc)?;
-    let pieces = pieces_of_q(alloc, &circuit)?;
+fn full_link_by<R: Wait + Abort>(
+    rt: &R,
+    alloc: Global,
+    circuit: &Circuit,
+    is_longer: bool,
+) -> Result<(), Fail> {
+    let pieces = pieces_of_q(alloc, circuit)?;
     let (link, put, take) = Link::open(alloc, &circuit.design, 1)?;
     let (mut out, mut into) = (Out::new(&link, put), In::new(&link, take));
     assert!(rt; put_again(rt, &mut out, &mut into, pieces, is_longer));
@@ -262,8 +311,10 @@ fn full_link_by<R: Wait + Abort>(rt: &R, alloc: Global, is_longer: bool) -> Resu
 
 #[test]
 fn full_link(rt: HostRuntime) -> Result<(), Fail> {
-    full_link_by(&rt, rt.alloc(), false)?;
-    full_link_by(&rt, rt.alloc(), true)
+    let alloc = rt.alloc();
+    let circuit = toggle(alloc)?;
+    full_link_by(&rt, alloc, &circuit, false)?;
+    full_link_by(&rt, alloc, &circuit, true)
 }
 
 #[test]
@@ -340,18 +391,34 @@ fn take_all<R: Wait>(rt: &R, alloc: Global, mut into: In<'_>) -> Result<Wave, Tr
     Err(Trouble::TooLong)
 }
 
-fn link_threads_by<R: Threads + Wait + Abort + Sync>(rt: &R, alloc: Global) -> Result<(), Fail> {
-    let circuit = toggle(alloc)?;
-    let cluster = source(alloc, &circuit)?;
-    let (link, put, take) = Link::open(alloc, &circuit.design, 1)?;
-    let (out, into) = (Out::new(&link, put), In::new(&link, take));
+// Sends q in one thread and takes it in another.
+fn sent<R: Threads + Wait + Sync>(
+    rt: &R,
+    alloc: Global,
+    out: Out<'_>,
+    into: In<'_>,
+    cluster: ExactCluster,
+) -> Result<Wave, Trouble>
+    requires { out.pass.design ≡ cluster }
+{
     let (sent, taken) = thread::join(
         rt,
         || put_all(rt, out, cluster),
         || take_all(rt, alloc, into),
     );
     sent?;
-    let wave = taken?;
+    taken
+}
+
+fn link_threads_by<R: Threads + Wait + Abort + Sync>(
+    rt: &R,
+    alloc: Global,
+    circuit: &Circuit,
+) -> Result<(), Fail> {
+    let cluster = source(alloc, circuit)?;
+    let (link, put, take) = Link::open(alloc, &circuit.design, 1)?;
+    let (out, into) = (Out::new(&link, put), In::new(&link, take));
+    let wave = sent(rt, alloc, out, into, cluster)?;
     assert_eq!(rt; wave.count(), 4);
     assert!(rt; circuit.is_right(wave.promise()));
     Ok(())
@@ -359,5 +426,7 @@ fn link_threads_by<R: Threads + Wait + Abort + Sync>(rt: &R, alloc: Global) -> R
 
 #[test]
 fn link_threads(rt: HostRuntime) -> Result<(), Fail> {
-    link_threads_by(&rt, rt.alloc())
+    let alloc = rt.alloc();
+    let circuit = toggle(alloc)?;
+    link_threads_by(&rt, alloc, &circuit)
 }
