@@ -8,7 +8,6 @@ use Rattle.cmb_bench.specs.declared.netlist.Kind.{Kind}
 use Rattle.cmb_bench.specs.declared.netlist.Kind.TheVariants.{And, Nand, Or, Nor, Xor, Xnor, Not, Buff}
 use Rattle.cmb_design.specs.Gate.{inverse_of}
 use Rattle.cmb_core.specs.declared.gate.Tally.{Tally}
-use Rattle.cmb_core.specs.declared.gate.Shape.{Shape}
 
 -- a tally says these things of a list of levels
 pub record Counts (t : Tally) (levels : List Level) : Type 0 where
@@ -33,13 +32,3 @@ tally_level Xor t = if t.unknown then X else if t.odd then One else Zero
 tally_level Xnor t = inverse_of (if t.unknown then X else if t.odd then One else Zero)
 tally_level Not t = inverse_of (if t.zero then Zero else if t.unknown then X else One)
 tally_level Buff t = if t.zero then Zero else if t.unknown then X else One
-
--- the level that a tally gives a gate of a shape
-abbrev pub shaped_level : Shape → Tally → Level
-shaped_level s t =
-    let level : Level =
-    if s.parity then if t.unknown then X else if t.odd then One else Zero
-    else if s.conjunction then if t.zero then Zero else if t.unknown then X else One
-    else if t.one then One else if t.unknown then X else Zero
-    in
-    if s.inverting then inverse_of level else level
