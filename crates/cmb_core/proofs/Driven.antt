@@ -128,15 +128,25 @@ before-continued w f (suc tick) e = let below : ltb tick w.clock ≡ true = lt-l
 
 -- ---- a step
 
+module _ (design : Design) (s : Cluster) (net slot : ℕ) (d : Drives design s net slot) where
+  pub driven_wave : slot_wave s slot ≡ wave_at s.waves net
+  driven_wave = (slot_is s.waves net slot (new_wave 0) d.here).1
+
+  driven_net : (slot_wave s slot).net ≡ net
+  driven_net = ap (λ v. v.net) driven_wave ∙ slot_net s.waves net slot d.here
+
+  pub driven_reach : reach_at s slot ≡ step_reach design s.waves (slot_wave s slot).net
+  driven_reach = rw (driven_net, d.horizon) (reach-same design s.waves net (process_at s slot) (driver_of design.netlist net) d.process)
+
 module _ (design : Design) (s : Cluster) (net slot : ℕ) (d : Drives design s net slot) (before : (slot_wave s slot).clock < reach_at s slot → last_level (slot_wave s slot).kept (slot_wave s slot).changes ≡ level_before (level_at (slot_wave s slot).kept (slot_wave s slot).changes) (slot_wave s slot).clock) where
   pub wave_here : slot_wave s slot ≡ wave_at s.waves net
-  wave_here = (slot_is s.waves net slot (new_wave 0) d.here).1
+  wave_here = driven_wave design s net slot d
 
   pub net_here : (slot_wave s slot).net ≡ net
-  net_here = ap (λ v. v.net) wave_here ∙ slot_net s.waves net slot d.here
+  net_here = driven_net design s net slot d
 
   pub reach_is : reach_at s slot ≡ step_reach design s.waves (slot_wave s slot).net
-  reach_is = rw (net_here, d.horizon) (reach-same design s.waves net (process_at s slot) (driver_of design.netlist net) d.process)
+  reach_is = driven_reach design s net slot d
 
   changes_is : (slot_wave s slot).clock < reach_at s slot → changes_at s slot ≡ step_changes design s.waves (slot_wave s slot) (reach_at s slot)
   unfolding changes_between

@@ -33,7 +33,7 @@ stepped_more design waves (n ∷ nets) net = stepped_more design (step_waves des
 abbrev pub rises_at : Design → List Wave → ℕ → Bool
 rises_at design waves net = ltb (wave_at waves net).clock (step_reach design waves (wave_at waves net).net)
 
-rises_more : (design : Design) (waves : List Wave) (nets : List ℕ) (net : ℕ) → some_rises design waves (nets ++ net ∷ []) ≡ (some_rises design waves nets || rises_at design (stepped_waves design waves nets) net)
+pub rises_more : (design : Design) (waves : List Wave) (nets : List ℕ) (net : ℕ) → some_rises design waves (nets ++ net ∷ []) ≡ (some_rises design waves nets || rises_at design (stepped_waves design waves nets) net)
 rises_more design waves [] net = or-false (rises_at design waves net)
 rises_more design waves (n ∷ nets) net =
     ap (λ b. rises_at design waves n || b) (rises_more design (step_waves design waves (wave_at waves n)) nets net)

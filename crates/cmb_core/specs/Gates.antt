@@ -1,4 +1,4 @@
--- What a gate needs to know of its operands' levels.
+-- What a gate needs to know of its operands' levels. Only contracts inside the crate cite this.
 use Rattle.std.specs.Prelude.{◌≡◌, ◌%◌, true, not, nat_eq, List, if◌then◌else◌, count_by}
 use Rattle.std.specs.List.{list_any}
 use Rattle.cmb_wave.specs.declared.level.Level.{Level}

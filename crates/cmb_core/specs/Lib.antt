@@ -16,6 +16,7 @@ pub mod Tables
 pub mod Reach
 pub mod Step
 pub mod Sweep
+pub mod Passes
 pub mod Clocks
 pub mod Run
 pub mod Tips

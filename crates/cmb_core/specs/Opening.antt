@@ -1,4 +1,4 @@
--- What the parts of opening a cluster find.
+-- What the parts of opening a cluster find. Only contracts inside the crate cite this.
 use Rattle.std.specs.Prelude.{◌≡◌, ℕ, ◌<◌, Bool, false, ◌&&◌, ◌==◌, List, [], ◌∷◌, length, slice_index_or, Option, Some, None, IsSome}
 use Rattle.cmb_wave.specs.Wave.{Wave}
 use Rattle.cmb_design.specs.Design.{Design}

@@ -1,4 +1,4 @@
--- Gates whose waves end with what they make of their operands.
+-- Gates whose waves end with what they make of their operands. Only contracts inside the crate cite this.
 use Rattle.std.specs.Prelude.{◌≡◌, ℕ, ◌+◌, ◌-◌, ◌<◌, ◌≤◌, List, [], ◌∷◌, length, slice_index_or}
 use Rattle.cmb_wave.specs.declared.level.Level.{Level}
 use Rattle.cmb_wave.specs.Waveform.{last_level}

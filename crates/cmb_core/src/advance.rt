@@ -1,13 +1,13 @@
 //! How a process goes on from the waves that it reads.
 
-ghost use Rattle.std.specs.Prelude.{◌≡◌, ℕ, ◌+◌, ◌-◌, ◌≤◌, ◌<◌, ◌&&◌, ◌++◌, nat_lt, not, OnOk, length, min, take, drop};
-ghost use Rattle.cmb_wave.specs.Waveform.{below, last_level, level_at, same_level, Rises};
+ghost use Rattle.std.specs.Prelude.{◌≡◌, ℕ, ◌+◌, ◌-◌, ◌≤◌, ◌<◌, ◌&&◌, ◌++◌, nat_lt, not, OnOk, length};
+ghost use Rattle.cmb_wave.specs.Waveform.{level_at, same_level, Rises};
 ghost use Rattle.cmb_wave.specs.declared.level.Level.{Level};
 ghost use Rattle.cmb_wave.specs.declared.level.Level.TheVariants.{X};
 ghost use Rattle.cmb_core.specs.Spans.{changes_from};
 ghost use Rattle.cmb_bench.specs.Netlist.{MayTake};
-ghost use Rattle.cmb_core.specs.Arrivals.{pin_at, gate_at, next_sample, last_sample};
-ghost use Rattle.cmb_core.specs.Rows.{delayed, gate_row, sampled, AreReady, IsThere, gate_reach, flop_reach};
+ghost use Rattle.cmb_core.specs.Arrivals.{last_sample};
+ghost use Rattle.cmb_core.specs.Rows.{gate_row, sampled, AreReady, IsThere, flop_reach};
 ghost use Rattle.cmb_core.specs.Step.{wave_at};
 
 use crate::merge::{Lag, Pin, differ, follow, merge};

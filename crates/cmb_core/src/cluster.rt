@@ -1,10 +1,11 @@
 //! A part of a design that is simulated by itself.
 
-ghost use Rattle.std.specs.Prelude.{◌≡◌, ◌≢◌, ◌<◌, ◌≤◌, ℕ, false, IfOk, OnOk, OnErr, IfErr, IsSome, IfSome, MatchOption, Ok, Err, None, slice_set, length, map};
+ghost use Rattle.std.specs.Prelude.{◌≡◌, ◌≢◌, ◌<◌, ◌≤◌, ℕ, false, IfOk, OnOk, OnErr, IfErr, IfSome, MatchOption, Ok, Err, None, slice_set, length, map};
 
 use crate::advance::Span;
 use crate::clustering::Clustering;
 use crate::delivery::{DeliverFault, Stranger, refusal};
+use crate::loops::stretches_of;
 use crate::nodes::Nodes;
 use crate::open::{nets_held, nodes_of, places_among, sides_of};
 use crate::readers::readers_among;
@@ -82,6 +83,7 @@ impl Cluster {
         let readers = readers_among(alloc, &nodes)?;
         let processes = Nodes::of(alloc, &nodes)?;
         let waves = Waves::new(alloc, &nets, design.horizon())?;
+        let stretches = stretches_of(alloc, &nodes)?;
         Ok(Cluster {
             horizon: design.horizon(),
             processes,
@@ -91,6 +93,7 @@ impl Cluster {
                 driven,
                 inputs,
                 readers,
+                stretches,
             },
             is_closed: true,
         })

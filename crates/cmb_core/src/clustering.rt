@@ -83,7 +83,7 @@ impl Model for Clustering {
 }
 
 impl Clustering {
-    ghost use Rattle.std.specs.Prelude.{◌≡◌, ◌<◌, ◌≤◌, Ok, IfOk, IfErr, length, slice_index};
+    ghost use Rattle.std.specs.Prelude.{◌≡◌, ◌<◌, ◌≤◌, Ok, IfOk, IfErr, length};
     ghost use Rattle.cmb_core.specs.Assigns.{checked_clustering, merged_clustering, spread_clustering, RefusesClustering};
     ghost use Rattle.cmb_core.specs.Clustering.{cluster_of, IsClustering};
 

@@ -11,6 +11,7 @@ pub mod event;
 mod gate;
 pub mod laws;
 mod look;
+mod loops;
 mod merge;
 mod node;
 mod nodes;

@@ -1,9 +1,9 @@
 //! What the ends of its operands' waves tell of a gate: how far it can go on, and whether a change is
 //! still on its way.
 
-ghost use Rattle.std.specs.Prelude.{◌≡◌, ◌&&◌, ℕ, ◌+◌, ◌-◌, ◌≤◌, ◌<◌, IfSome, length, min};
+ghost use Rattle.std.specs.Prelude.{◌≡◌, ◌&&◌, ℕ, ◌-◌, ◌≤◌, ◌<◌, IfSome, length};
 ghost use Rattle.cmb_bench.specs.Netlist.{MayTake};
-ghost use Rattle.cmb_core.specs.Rows.{AreReady, delayed, gate_reach, gate_row};
+ghost use Rattle.cmb_core.specs.Rows.{AreReady, gate_reach, gate_row};
 
 use crate::gate::Tally;
 use crate::pins::operand_tip;

@@ -1,7 +1,7 @@
 //! Merging the changes of a process's operands into those of its output.
 
-ghost use Rattle.std.specs.Prelude.{◌≡◌, ℕ, ◌+◌, ◌-◌, ◌≤◌, ◌<◌, ◌++◌, OnOk, length, map, max, min, not, ◌/◌, ◌*◌};
-ghost use Rattle.cmb_wave.specs.Waveform.{last_level, same_level};
+ghost use Rattle.std.specs.Prelude.{◌≡◌, ℕ, ◌+◌, ◌-◌, ◌≤◌, ◌<◌, ◌++◌, OnOk, length, min, not, ◌/◌, ◌*◌};
+ghost use Rattle.cmb_wave.specs.Waveform.{same_level};
 ghost use Rattle.cmb_core.specs.Spans.{changes_from};
 ghost use Rattle.cmb_bench.specs.Netlist.{MayTake};
 ghost use Rattle.cmb_core.specs.Arrivals.{arrived, arrives, IsArrival, due_of, pin_at, gate_at, Advanced, Passed};

@@ -1,6 +1,6 @@
 //! The processes of a cluster, in few lists that a sweep reads from end to end.
 
-ghost use Rattle.std.specs.Prelude.{◌≡◌, ◌<◌, ◌≤◌, ◌+◌, ◌-◌, ◌++◌, ◌∷◌, ℕ, IfOk, IfSome, OnOk, OnErr, length, [], slice_index_or, take, drop};
+ghost use Rattle.std.specs.Prelude.{◌≡◌, ◌<◌, ◌≤◌, ◌+◌, ◌-◌, ◌++◌, ◌∷◌, ℕ, IfOk, IfSome, OnOk, OnErr, length, [], take, drop};
 ghost use Rattle.cmb_core.specs.declared.process.Rule.TheVariants.{Given, Input, Gate, Flop};
 ghost use Rattle.cmb_core.specs.Nodes.{process_driven};
 ghost use Rattle.cmb_core.specs.Clusters.{nth_process};

@@ -1,8 +1,7 @@
 //! The parts of opening a cluster: its nets, its processes and its tables.
 
-ghost use Rattle.std.specs.Prelude.{◌≡◌, ◌≢◌, ◌<◌, ◌≤◌, ◌==◌, ◌||◌, ◌∷◌, [], ℕ, false, None, Bool, List, Option, IfOk, length, map, filter, slice_index_or, All, if◌then◌else◌};
+ghost use Rattle.std.specs.Prelude.{◌≡◌, ◌<◌, ◌≤◌, ◌==◌, ◌||◌, ◌∷◌, [], ℕ, false, None, List, Option, IfOk, length, filter, slice_index_or, All};
 ghost use Rattle.std.specs.List.{list_any, range_with_len};
-ghost use Rattle.cmb_wave.specs.Wave.{new_wave};
 ghost use Rattle.cmb_bench.specs.declared.netlist.Driver.TheVariants.{Input, Gate, Flop};
 ghost use Rattle.cmb_bench.specs.Netlist.{driver_of, pins_of, MayTake, IsWired, IsNetlist};
 ghost use Rattle.cmb_design.specs.Exact.{nets_of};

@@ -1,13 +1,13 @@
 //! The pins of a process as its step begins.
 
-ghost use Rattle.std.specs.Prelude.{◌≡◌, ℕ, ◌+◌, ◌-◌, ◌≤◌, ◌<◌, IfOk, length};
+ghost use Rattle.std.specs.Prelude.{◌≡◌, ℕ, ◌-◌, ◌≤◌, ◌<◌, IfOk, length};
 ghost use Rattle.cmb_wave.specs.declared.level.Level.TheVariants.{X};
-ghost use Rattle.cmb_wave.specs.Waveform.{Rises, last_level, below, level_at};
-ghost use Rattle.cmb_core.specs.Arrivals.{pin_at, pins_at, levels, last_sample};
+ghost use Rattle.cmb_wave.specs.Waveform.{level_at};
+ghost use Rattle.cmb_core.specs.Arrivals.{pin_at, pins_at, levels};
 ghost use Rattle.cmb_core.specs.Rows.{delayed, delayed_levels, IsReady, AreReady, IsThere};
 ghost use Rattle.cmb_core.specs.Step.{wave_at};
 ghost use Rattle.cmb_core.specs.Tips.{IsTail, IsTip};
-ghost use Rattle.cmb_wave.specs.Wave.{Wave as WaveOf, wave_up_to};
+ghost use Rattle.cmb_wave.specs.Wave.{wave_up_to};
 
 use crate::merge::{Lag, Pin};
 use crate::process::Operand;

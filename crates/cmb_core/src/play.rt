@@ -23,7 +23,7 @@ pub(crate) fn listed(
 }
 
 impl World {
-    ghost use Rattle.std.specs.Prelude.{◌≡◌, ◌<◌, ◌≤◌, ℕ, List, [], ◌∷◌, ◌++◌, length, take, nat_lt, slice_get, Some, None, Ok, OnOk, OnErr, IfOk, IfErr, if◌then◌else◌};
+    ghost use Rattle.std.specs.Prelude.{◌≡◌, ◌<◌, ◌≤◌, ℕ, List, [], ◌∷◌, ◌++◌, length, take, nat_lt, Some, None, Ok, OnOk, OnErr, IfOk, IfErr, if◌then◌else◌};
     ghost use Rattle.cmb_wave.specs.Calls.{cut, promised, heard_wave};
     ghost use Rattle.cmb_design.specs.Design.{Design};
     ghost use Rattle.cmb_core.specs.declared.event.Event.{Event};

@@ -40,9 +40,8 @@ impl Cluster {
 }
 
 impl World {
-    ghost use Rattle.std.specs.Prelude.{◌≡◌, ◌==◌, ◌<◌, ◌≤◌, ℕ, List, [], ◌++◌, true, ◌&&◌, not, IsTrue, ◌↔◌, length, nat_lt, Some, None, OnOk, OnErr, IfOk, if◌then◌else◌};
+    ghost use Rattle.std.specs.Prelude.{◌≡◌, ◌==◌, ◌<◌, ℕ, List, ◌++◌, true, ◌&&◌, not, IsTrue, ◌↔◌, length, nat_lt, Some, None, OnOk, OnErr, IfOk, if◌then◌else◌};
     ghost use Rattle.cmb_design.specs.Design.{Design};
-    ghost use Rattle.cmb_design.specs.Exact.{nets_of};
     ghost use Rattle.cmb_core.specs.declared.event.Event.{Event};
     ghost use Rattle.cmb_core.specs.Clustering.{Clustering, cluster_of, has_input};
     ghost use Rattle.cmb_core.specs.Clocks.{start};

@@ -2,6 +2,8 @@
 
 ghost use Rattle.std.specs.Prelude.{◌≡◌, None, slice_index_or};
 
+use crate::loops::Stretch;
+
 /// A pin that reads a wave: the place of its process, and its delay.
 #[derive(Clone, Copy, Debug, PartialEq, Eq)]
 pub struct Reader {
@@ -9,13 +11,15 @@ pub struct Reader {
     pub delay: u32,
 }
 
-/// The place of each net's wave, the nets that are driven and those that are given, and who reads each given wave.
+/// The place of each net's wave, the nets that are driven and those that are given, who reads each given
+/// wave, and the stretches that a sweep takes one after the other.
 #[derive(Debug, Drop)]
 pub struct Tables {
     pub places: Vec<Option<u16>>,
     pub driven: Vec<u32>,
     pub inputs: Vec<u32>,
     pub readers: Vec<Vec<Reader>>,
+    pub stretches: Vec<Stretch>,
 }
 
 /// The place of a net's wave.

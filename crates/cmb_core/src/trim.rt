@@ -1,12 +1,12 @@
 //! Letting input waves forget what no pin needs any more.
 
-ghost use Rattle.std.specs.Prelude.{◌≡◌, ◌<◌, ◌≤◌, ℕ, length, slice_set, All};
+ghost use Rattle.std.specs.Prelude.{◌≡◌, ◌<◌, ℕ, length, slice_set, All};
 ghost use Rattle.cmb_design.specs.Design.{Design};
 ghost use Rattle.cmb_core.specs.Clustering.{Clustering};
-ghost use Rattle.cmb_core.specs.Clusters.{IsSameButWaves, slot_wave};
+ghost use Rattle.cmb_core.specs.Clusters.{IsSameButWaves};
 ghost use Rattle.cmb_core.specs.Exactness.{IsExactCluster};
 ghost use Rattle.cmb_core.specs.Rows.{flop_need};
-ghost use Rattle.cmb_core.specs.Trims.{least_need, need, trimmed, trimmed_to, trimmed_wave};
+ghost use Rattle.cmb_core.specs.Trims.{least_need, need, trimmed, trimmed_wave};
 
 use crate::cluster::Cluster;
 use crate::nodes::Nodes;

@@ -1,6 +1,6 @@
 //! The waves of a cluster, with the end of each beside them.
 
-ghost use Rattle.std.specs.Prelude.{◌≡◌, ◌≤◌, ◌<◌, ℕ, List, IfOk, IfErr, OnOk, OnErr, Ok, [], length, map, slice_index_or, slice_set};
+ghost use Rattle.std.specs.Prelude.{◌≡◌, ◌≤◌, ◌<◌, ℕ, List, IfOk, IfErr, OnOk, OnErr, Ok, length, map, slice_index_or, slice_set};
 ghost use Rattle.cmb_wave.specs.Waveform.{IsTrace, last_level, level_at, level_before};
 ghost use Rattle.cmb_wave.specs.Wave.{Wave as WaveOf, new_wave, grown, wave_up_to};
 ghost use Rattle.cmb_wave.specs.Calls.{cut, promised, taken, hears, heard_wave, RefusesAs};
@@ -52,8 +52,8 @@ fn all_held(mut waves: Vec<Wave>, tips: &[Tip]) -> Vec<Wave>
 
 /// Waves, each with its clock and its newest change in a list of its own, so that a step that finds
 /// nothing new reads and writes that list alone: the wave itself is told its clock when a call needs
-/// it. The newest few changes of each stand in another list. For each place a later one is kept, so that waves between the two, which are known up
-/// to the horizon, are passed over.
+/// it. The newest few changes of each stand in another list. For each place a later one is kept, so that
+/// waves between the two, which are known up to the horizon, are passed over.
 #[derive(Debug, Drop)]
 pub struct Waves {
     horizon: u32,

@@ -1,6 +1,6 @@
 //! All clusters of a design, in one thread.
 
-ghost use Rattle.std.specs.Prelude.{◌≡◌, ◌<◌, ◌≤◌, ℕ, List, min, [], length, map, slice_get, slice_index_or, nat_lt, IfOk, IfSome, MatchOption, Some, None, if◌then◌else◌};
+ghost use Rattle.std.specs.Prelude.{◌≡◌, ◌<◌, ℕ, List, min, [], length, map, slice_get, slice_index_or, nat_lt, IfOk, IfSome, MatchOption, Some, None, if◌then◌else◌};
 ghost use Rattle.cmb_design.specs.Design.{Design};
 ghost use Rattle.cmb_design.specs.Exact.{nets_of};
 ghost use Rattle.cmb_bench.specs.Netlist.{IsNetlist};
@@ -58,7 +58,7 @@ fn opened_clusters(
 }
 
 impl World {
-    ghost use Rattle.std.specs.Prelude.{◌≡◌, ◌<◌, ◌≤◌, ℕ, [], length, slice_get, slice_index_or, nat_lt, IfOk, IfSome, MatchOption, Some, None, if◌then◌else◌};
+    ghost use Rattle.std.specs.Prelude.{◌≡◌, ◌<◌, ℕ, [], length, slice_get, slice_index_or, nat_lt, IfOk, IfSome, MatchOption, Some, None, if◌then◌else◌};
     ghost use Rattle.cmb_design.specs.Design.{Design};
     ghost use Rattle.cmb_design.specs.Exact.{nets_of};
     ghost use Rattle.cmb_core.specs.Clustering.{Clustering};
