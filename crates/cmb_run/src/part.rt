@@ -108,9 +108,8 @@ impl<T: Terms> Part<T> {
         })
     }
 
-    /// Steps each net that is driven here, in order, those of a feedback loop some times in a row, and says
-    /// whether one is known further now.
-    /// Then what nobody needs any more is forgotten.
+    /// Steps each net that is driven here, in order, and those of a feedback loop some times in a row, and
+    /// says whether one is known further now. Then what nobody needs any more is forgotten.
     pub fn step(&mut self) -> Result<bool, AllocError>
         ensures rose { (cluster : ℕ) → IsClusterOf T.design T.clustering cluster self.old → IfOk result (λ rose. rose ≡ some_rises T.design self.old.waves (own_nets T.design T.clustering cluster)) }
         ensures same { IsSameButWaves self.old self.new }
