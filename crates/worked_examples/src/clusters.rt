@@ -5,7 +5,7 @@ ghost use Rattle.std.specs.Prelude.{◌≤◌, length};
 use crate::inputs::{Inputs, bare, design_of};
 use cmb_core::{Cluster, Clustering, ClusteringFault, DeliverFault};
 use cmb_design::{Design, Settings};
-use cmb_wave::{Change, Heard, Level, Piece, Promise};
+use cmb_wave::{Change, Heard, Level, Piece, Promise, Wave};
 use std::alloc::Global;
 use std::process::Abort;
 use std::test::Fail;
@@ -236,6 +236,34 @@ fn goes_to(
 fn loop_of_one_cluster(rt: HostRuntime) -> Result<(), Fail> {
     let mut all = toggle(&rt, rt.alloc(), 1, 0)?;
     goes_to(&rt, &mut all, (Some(12), Some(12)), false)
+}
+
+fn is_wave(rt: &impl Abort, wave: &Wave, net: u32, changes: &[Change]) {
+    assert_eq!(rt; wave.net(), net);
+    assert_eq!(rt; wave.clock(), 12);
+    assert!(rt; wave.changes() == changes);
+}
+
+// q shows at ticks 3, 7 and 11 what d was at 2, 6 and 10, and d is the inverse of q a tick before.
+fn are_toggling(rt: &impl Abort, waves: &[Wave]) {
+    assert_eq!(rt; waves.len(), 2);
+    let q = [
+        at(0, Level::Zero),
+        at(3, Level::One),
+        at(7, Level::Zero),
+        at(11, Level::One),
+    ];
+    is_wave(rt, &waves[0], 0, &q);
+    let d = [at(1, Level::One), at(4, Level::Zero), at(8, Level::One)];
+    is_wave(rt, &waves[1], 1, &d);
+}
+
+#[test]
+fn waves_given_up(rt: HostRuntime) -> Result<(), Fail> {
+    let mut all = toggle(&rt, rt.alloc(), 1, 0)?;
+    goes_to(&rt, &mut all, (Some(12), Some(12)), false)?;
+    are_toggling(&rt, &all.into_waves());
+    Ok(())
 }
 
 // Half of it waits for the other half.
