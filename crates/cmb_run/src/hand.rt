@@ -61,15 +61,22 @@ impl<T: Terms> Hand<T> {
 
     // Steps the cluster, and posts what is new to those that read it.
     fn step(&mut self) -> Result<(), AllocError> {
-        if !self.part.step()? {
-            return Ok(());
+        if self.part.step()? {
+            self.post_all()?;
         }
+        Ok(())
+    }
+
+    // Posts what is new. Nothing comes of a net any more once it is known to its end.
+    fn post_all(&mut self) -> Result<(), AllocError> {
         for outlet in self.outlets.iter_mut() {
             if let Some(new) = self.part.post(outlet.net, outlet.sent)? {
                 outlet.sent = new.piece().to();
                 self.posted.push(new)?;
             }
         }
+        let horizon = self.part.horizon();
+        self.outlets.retain(|outlet| outlet.sent < horizon);
         Ok(())
     }
 

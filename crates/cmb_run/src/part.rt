@@ -72,6 +72,9 @@ impl<T: Terms> Posted<T> {
 pub struct Part<T: Terms> {
     number: u32,
     cluster: Cluster,
+    horizon: u32,
+    // So many pieces were given since the cluster last forgot what nobody needs.
+    given: usize,
     of: PhantomData<T>,
 }
 
@@ -104,19 +107,28 @@ impl<T: Terms> Part<T> {
         Ok(Part {
             number,
             cluster,
+            horizon: design.horizon(),
+            given: 0,
             of: PhantomData,
         })
     }
 
+    /// The tick at which a net is known to its end.
+    pub fn horizon(&self) -> u32 {
+        self.horizon
+    }
+
     /// Steps each net that is driven here, in order, and those of a feedback loop some times in a row, and
-    /// says whether one is known further now. Then what nobody needs any more is forgotten.
+    /// says whether one is known further now. Once as many pieces were given as nets are read, what nobody
+    /// needs any more is forgotten, so that forgetting costs no more than the pieces did.
     pub fn step(&mut self) -> Result<bool, AllocError>
         ensures rose { (cluster : ℕ) → IsClusterOf T.design T.clustering cluster self.old → IfOk result (λ rose. rose ≡ some_rises T.design self.old.waves (own_nets T.design T.clustering cluster)) }
         ensures same { IsSameButWaves self.old self.new }
     {
         let rose = self.cluster.step_loops()?;
-        if rose && !self.cluster.inputs().is_empty() {
+        if rose && self.given > 0 && self.given >= self.cluster.inputs().len() {
             self.cluster.trim();
+            self.given = 0;
         }
         Ok(rose)
     }
@@ -143,6 +155,7 @@ impl<T: Terms> Part<T> {
         ensures refused { (fault : Refusal) → delivered self.old posted.now ≡ Err fault → self.new ≡ self.old }
         ensures same { IsSameButWaves self.old self.new }
     {
+        self.given = self.given.saturating_add(1);
         match self.cluster.deliver(posted.piece()) {
             Err(DeliverFault::Memory) => Err(AllocError),
             _ => Ok(()),

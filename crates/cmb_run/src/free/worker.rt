@@ -24,7 +24,8 @@ struct Outlet {
 }
 
 impl Outlet {
-    // What is new of the net, none where it has no change and such pieces aren't taken.
+    // What is new of the net, none where it has no change and such pieces aren't taken: then the next
+    // piece begins where this one did, but for one up to the horizon, behind which none comes.
     fn cut<T: Terms>(
         &mut self,
         part: &Part<T>,
@@ -33,10 +34,14 @@ impl Outlet {
         let Some(posted) = part.post(self.net, self.sent)? else {
             return Ok(None);
         };
+        let to = posted.piece().to();
         if !takes_empty && posted.piece().changes().is_empty() {
+            if to >= part.horizon() {
+                self.sent = to;
+            }
             return Ok(None);
         }
-        self.sent = posted.piece().to();
+        self.sent = to;
         Ok(Some(posted))
     }
 }
@@ -97,7 +102,8 @@ impl<T: Terms> Out<T> {
         }
     }
 
-    // Puts what is new of each net, and begins where it last stopped. Where the link was full something is left.
+    // Puts what is new of each net, and begins where it last stopped. Where the link was full something
+    // is left. A net that was put up to the horizon is done.
     fn put_all<R: Wait>(&mut self, rt: &R, part: &Part<T>) -> Result<(), AllocError> {
         if !self.put_waiting(rt) {
             return Ok(());
@@ -116,6 +122,8 @@ impl<T: Terms> Out<T> {
                 }
             }
         }
+        let horizon = part.horizon();
+        self.outlets.retain(|outlet| outlet.sent < horizon);
         self.is_left = false;
         Ok(())
     }
@@ -272,7 +280,7 @@ impl<T: Terms> Worker<T> {
         Ok(())
     }
 
-    // Looks at each net that is read here, and hears what is new of it.
+    // Looks at each net that is read here and not known to its end, and hears what is new of it.
     fn look_all(&mut self) {
         for inlet in self.inlets.iter_mut() {
             let Some(promise) = self.desk.look(inlet.net) else {
@@ -289,6 +297,8 @@ impl<T: Terms> Worker<T> {
                 self.is_new = true;
             }
         }
+        let horizon = self.part.horizon();
+        self.inlets.retain(|inlet| inlet.known < horizon);
     }
 
     // Steps the cluster. Where nothing goes on there, a further step is of no use before something is taken or heard.
@@ -313,12 +323,14 @@ impl<T: Terms> Worker<T> {
         Ok(())
     }
 
-    // Tells the board how far the nets that others read are known.
+    // Tells the board how far the nets that others read are known, until that is up to the horizon.
     fn publish_all(&mut self) {
         for own in self.own.iter_mut() {
             if let Some(promise) = self.part.promise(own.net) {
                 self.desk.publish(own, promise);
             }
         }
+        let horizon = self.part.horizon();
+        self.own.retain(|own| own.told < horizon);
     }
 }
