@@ -219,7 +219,8 @@ fn run_named<T: Terms + Send + Sync, R: Threads + Wait + Sync>(
 /// every net is stepped, and those of a feedback loop in one worker several times in a row; then what is
 /// new is posted to the workers that read it. Where there are several, each steps its nets in a thread of
 /// its own, but the last one in the calling thread, and all are joined before pieces are passed on. What
-/// comes out is the same for any clustering and any number of workers. The only refusal is 70, where memory or a worker's thread was refused.
+/// comes out is the same for any clustering and any number of workers. The only refusal is 70, where
+/// memory or a worker's thread was refused.
 pub fn run_rounds<R: Threads + Wait + Sync>(
     rt: &R,
     alloc: Global,
