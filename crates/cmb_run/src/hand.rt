@@ -24,6 +24,8 @@ pub struct Hand<T: Terms> {
     part: Part<T>,
     outlets: Vec<Outlet>,
     posted: Vec<Posted<T>>,
+    // About how many looks at a net the next round takes, by what the last one posted.
+    load: usize,
     refused: bool,
 }
 
@@ -44,6 +46,7 @@ impl<T: Terms> Hand<T> {
             part: Part::open(alloc, design, clustering, worker)?,
             outlets: Vec::new(alloc),
             posted: Vec::new(alloc),
+            load: usize::MAX,
             refused: false,
         })
     }
@@ -59,30 +62,44 @@ impl<T: Terms> Hand<T> {
         self.refused = self.step().is_err();
     }
 
-    // Steps the cluster, and posts what is new to those that read it.
+    // Steps the cluster, and posts what is new to those that read it. Each net is looked at once, and
+    // each may have changed as often as that of the posted ones which changed most.
     fn step(&mut self) -> Result<(), AllocError> {
-        if self.part.step()? {
-            self.post_all()?;
-        }
+        let most = if self.part.step()? {
+            self.post_all()?
+        } else {
+            0
+        };
+        let nets = self.part.driven().len();
+        self.load = nets.saturating_mul(most.saturating_add(1));
         Ok(())
     }
 
-    // Posts what is new. Nothing comes of a net any more once it is known to its end.
-    fn post_all(&mut self) -> Result<(), AllocError> {
+    // Posts what is new, and says how many changes there are at most of one net. Nothing comes of a net
+    // any more once it is known to its end.
+    fn post_all(&mut self) -> Result<usize, AllocError> {
+        let mut most = 0;
         for outlet in self.outlets.iter_mut() {
             if let Some(new) = self.part.post(outlet.net, outlet.sent)? {
                 outlet.sent = new.piece().to();
+                most = most.max(new.piece().changes().len());
                 self.posted.push(new)?;
             }
         }
         let horizon = self.part.horizon();
         self.outlets.retain(|outlet| outlet.sent < horizon);
-        Ok(())
+        Ok(most)
     }
 
     /// Whether the worker met want of memory.
     pub fn refused(&self) -> bool {
         self.refused
+    }
+
+    /// About how many looks at a net the worker's next round takes. Before the first round there is no
+    /// telling, and it is the greatest number.
+    pub fn load(&self) -> usize {
+        self.load
     }
 
     /// What was posted and not yet taken.

@@ -1,5 +1,5 @@
-//! A run in rounds: the workers step their clusters, each in a thread of its own, and between two
-//! rounds what they posted is passed on.
+//! A run in rounds: the workers step their clusters, each in a thread of its own where that is worth it,
+//! and between two rounds what they posted is passed on.
 
 ghost use Rattle.std.specs.Prelude.{◌≡◌, length, IfOk, IfErr};
 ghost use Rattle.cmb_design.specs.Exact.{nets_of};
@@ -21,6 +21,9 @@ use std::mem::replace;
 use std::sync::Wait;
 use std::thread;
 use std::thread::Threads;
+
+// A thread is started and joined in about the time of so many looks at a net.
+const THREAD: usize = 4_000;
 
 // Where a piece of a net goes: the workers that read the net.
 #[derive(Drop)]
@@ -46,7 +49,19 @@ fn deal<T: Terms>(
     Ok(hands)
 }
 
-// The round's steps where there is one worker.
+// Whether a round in threads is done sooner: what the workers but the busiest would do is then done beside it.
+fn is_worth_threads<T: Terms>(hands: &[Hand<T>]) -> bool {
+    let mut beside = 0_usize;
+    let mut most = 0;
+    for hand in hands {
+        let load = hand.load();
+        beside = beside.saturating_add(load.min(most));
+        most = most.max(load);
+    }
+    beside >= THREAD
+}
+
+// The round's steps, one worker's after the other's.
 fn here<T: Terms>(mut hands: Vec<Hand<T>>) -> Vec<Hand<T>> {
     for hand in hands.iter_mut() {
         hand.work();
@@ -93,7 +108,7 @@ fn step<T: Terms + Send + Sync, R: Threads + Wait + Sync>(
     alloc: Global,
     hands: Vec<Hand<T>>,
 ) -> Result<Vec<Hand<T>>, AllocError> {
-    let back = if hands.len() > 1 {
+    let back = if is_worth_threads(&hands) {
         in_threads(rt, alloc, hands)?
     } else {
         here(hands)
@@ -217,8 +232,9 @@ fn run_named<T: Terms + Send + Sync, R: Threads + Wait + Sync>(
 /// of cluster c belong to worker `c mod workers`, which treats all its nets as one cluster; a worker
 /// whose number isn't below that of the clusters has none, and no part in the run. In each round
 /// every net is stepped, and those of a feedback loop in one worker several times in a row; then what is
-/// new is posted to the workers that read it. Where there are several, each steps its nets in a thread of
-/// its own, but the last one in the calling thread, and all are joined before pieces are passed on. What
+/// new is posted to the workers that read it. Where there are several, and a round has enough to do that
+/// threads are worth their start, each steps its nets in a thread of its own, but the last one in the
+/// calling thread, and all are joined before pieces are passed on; else they step one after the other. What
 /// comes out is the same for any clustering and any number of workers. The only refusal is 70, where
 /// memory or a worker's thread was refused.
 pub fn run_rounds<R: Threads + Wait + Sync>(
