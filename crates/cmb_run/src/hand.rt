@@ -4,6 +4,7 @@ ghost use Rattle.std.specs.Prelude.{◌≡◌, ◌<◌, length};
 ghost use Rattle.cmb_design.specs.Exact.{nets_of};
 
 use crate::collected::Collected;
+use crate::gauge::Gauge;
 use crate::part::{Part, Posted};
 use crate::terms::Terms;
 use cmb_core::Clustering;
@@ -18,14 +19,15 @@ struct Outlet {
     sent: u32,
 }
 
-/// A worker's cluster, what was posted of it and whether memory was refused to the worker.
+/// A worker's cluster, what was posted of it, and how the worker stands.
 #[derive(Drop)]
 pub struct Hand<T: Terms> {
     part: Part<T>,
     outlets: Vec<Outlet>,
     posted: Vec<Posted<T>>,
-    // About how many looks at a net the next round takes, by what the last one posted.
+    gauge: Gauge,
     load: usize,
+    complete: bool,
     refused: bool,
 }
 
@@ -42,11 +44,15 @@ impl<T: Terms> Hand<T> {
         requires nets { length clustering.now.assign ≡ nets_of design.now }
         requires worker { worker < clustering.now.clusters }
     {
+        let part = Part::open(alloc, design, clustering, worker)?;
+        let gauge = Gauge::open(alloc, &part)?;
         Ok(Hand {
-            part: Part::open(alloc, design, clustering, worker)?,
+            part,
             outlets: Vec::new(alloc),
             posted: Vec::new(alloc),
+            gauge,
             load: usize::MAX,
+            complete: false,
             refused: false,
         })
     }
@@ -62,33 +68,32 @@ impl<T: Terms> Hand<T> {
         self.refused = self.step().is_err();
     }
 
-    // Steps the cluster, and posts what is new to those that read it. Each net is looked at once, and
-    // each may have changed as often as that of the posted ones which changed most.
+    // Steps the cluster, and posts what is new to those that read it.
     fn step(&mut self) -> Result<(), AllocError> {
-        let most = if self.part.step()? {
-            self.post_all()?
+        if self.complete {
+            return Ok(());
+        }
+        if self.part.step()? {
+            self.post_all()?;
+            self.load = self.gauge.read(&self.part);
         } else {
-            0
-        };
-        let nets = self.part.driven().len();
-        self.load = nets.saturating_mul(most.saturating_add(1));
+            self.load = 0;
+            self.complete = self.part.complete();
+        }
         Ok(())
     }
 
-    // Posts what is new, and says how many changes there are at most of one net. Nothing comes of a net
-    // any more once it is known to its end.
-    fn post_all(&mut self) -> Result<usize, AllocError> {
-        let mut most = 0;
+    // Posts what is new. Nothing comes of a net any more once it is known to its end.
+    fn post_all(&mut self) -> Result<(), AllocError> {
         for outlet in self.outlets.iter_mut() {
             if let Some(new) = self.part.post(outlet.net, outlet.sent)? {
                 outlet.sent = new.piece().to();
-                most = most.max(new.piece().changes().len());
                 self.posted.push(new)?;
             }
         }
         let horizon = self.part.horizon();
         self.outlets.retain(|outlet| outlet.sent < horizon);
-        Ok(most)
+        Ok(())
     }
 
     /// Whether the worker met want of memory.
@@ -140,8 +145,9 @@ impl<T: Terms> Hand<T> {
         collected.adopt_all(self.part.into_waves());
     }
 
-    /// Whether every net that is driven here is known up to the horizon.
+    /// Whether every net that is driven here is known up to the horizon. It is asked in a round in which
+    /// none goes on, and then has nothing more to do.
     pub fn complete(&self) -> bool {
-        self.part.complete()
+        self.complete
     }
 }

@@ -3,6 +3,7 @@
 
 mod collected;
 mod free;
+mod gauge;
 mod hand;
 mod part;
 pub mod rounds;

@@ -20,10 +20,10 @@ use std::marker::Brand;
 use std::mem::replace;
 use std::sync::Wait;
 use std::thread;
-use std::thread::Threads;
+use std::thread::{JoinHandle, Scope, Threads};
 
 // A thread is started and joined in about the time of so many looks at a net.
-const THREAD: usize = 4_000;
+const THREAD: usize = 1_000;
 
 // Where a piece of a net goes: the workers that read the net.
 #[derive(Drop)]
@@ -49,7 +49,8 @@ fn deal<T: Terms>(
     Ok(hands)
 }
 
-// Whether a round in threads is done sooner: what the workers but the busiest would do is then done beside it.
+// Whether a round in threads is done sooner: what the workers but the busiest have to do is then done beside it,
+// and that outweighs their threads.
 fn is_worth_threads<T: Terms>(hands: &[Hand<T>]) -> bool {
     let mut beside = 0_usize;
     let mut most = 0;
@@ -58,7 +59,7 @@ fn is_worth_threads<T: Terms>(hands: &[Hand<T>]) -> bool {
         beside = beside.saturating_add(load.min(most));
         most = most.max(load);
     }
-    beside >= THREAD
+    beside >= hands.len().saturating_sub(1).saturating_mul(THREAD)
 }
 
 // The round's steps, one worker's after the other's.
@@ -67,6 +68,48 @@ fn here<T: Terms>(mut hands: Vec<Hand<T>>) -> Vec<Hand<T>> {
         hand.work();
     }
     hands
+}
+
+// The workers' threads of a round, and whether one was refused.
+#[derive(Drop)]
+struct Started<T: Terms> {
+    threads: Vec<JoinHandle<Hand<T>>>,
+    refused: bool,
+}
+
+// Steps each worker's cluster in a thread of its own.
+fn start<'s, E, T: Terms + Send + Sync + 's>(
+    alloc: Global,
+    scope: &Scope<'s, E>,
+    hands: Vec<Hand<T>>,
+) -> Result<Started<T>, AllocError> {
+    let mut threads = Vec::with_capacity(alloc, hands.len())?;
+    let mut refused = false;
+    for hand in hands {
+        refused |= match scope.spawn(move || hand.worked()) {
+            Ok(thread) => threads.push(thread).is_err(),
+            Err(_unstarted) => true,
+        };
+    }
+    Ok(Started { threads, refused })
+}
+
+impl<T: Terms> Started<T> {
+    // Waits for the threads, and gives what they and the calling thread worked on.
+    fn join<R: Threads + Wait>(
+        self,
+        rt: &R,
+        alloc: Global,
+        last: Hand<T>,
+    ) -> Result<Vec<Hand<T>>, AllocError> {
+        let mut back = Vec::with_capacity(alloc, self.threads.len() + 1)?;
+        let mut refused = self.refused;
+        for thread in self.threads {
+            refused |= back.push(thread.join(rt)).is_err();
+        }
+        refused |= back.push(last).is_err();
+        if refused { Err(AllocError) } else { Ok(back) }
+    }
 }
 
 // The round's steps, each worker's in a thread of its own but for the last one's, which are made
@@ -83,21 +126,9 @@ fn in_threads<T: Terms + Send + Sync, R: Threads + Wait + Sync>(
         thread::scope_env(),
         rt,
         move |scope| -> Result<Vec<Hand<T>>, AllocError> {
-            let mut threads = Vec::with_capacity(alloc, hands.len())?;
-            let mut back = Vec::with_capacity(alloc, hands.len() + 1)?;
-            let mut refused = false;
-            for hand in hands {
-                match scope.spawn(move || hand.worked()) {
-                    Ok(thread) => threads.push(thread)?,
-                    Err(_unstarted) => refused = true,
-                }
-            }
+            let started = start(alloc, scope, hands)?;
             let last = last.worked();
-            for thread in threads {
-                back.push(thread.join(rt))?;
-            }
-            back.push(last)?;
-            if refused { Err(AllocError) } else { Ok(back) }
+            started.join(rt, alloc, last)
         },
     )
 }

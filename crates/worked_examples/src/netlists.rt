@@ -30,6 +30,21 @@ fn is_gate(driver: &Driver, kind: Kind, operands: &[u32]) -> bool {
     }
 }
 
+// Whether the net of this number has this name.
+fn has_name(netlist: &Netlist, net: usize, name: &[u8]) -> bool {
+    net < netlist.len() && netlist.name(net) == name
+}
+
+// Whether the net of this number is driven by a gate of this kind over these nets.
+fn has_gate(netlist: &Netlist, net: usize, kind: Kind, operands: &[u32]) -> bool {
+    net < netlist.len() && is_gate(netlist.driver(net), kind, operands)
+}
+
+// Whether the net of this number is an input.
+fn has_input(netlist: &Netlist, net: usize) -> bool {
+    net < netlist.len() && matches!(netlist.driver(net), Driver::Input)
+}
+
 #[test]
 fn spelling(rt: HostRuntime) {
     let netlist = netlist_of(
@@ -39,16 +54,16 @@ fn spelling(rt: HostRuntime) {
     );
     assert!(&rt; netlist.len() == 4);
     assert!(&rt; !netlist.is_empty());
-    assert!(&rt; netlist.outputs() == &[2u32][..]);
-    assert!(&rt; netlist.name(0) == &b"a"[..]);
-    assert!(&rt; netlist.name(1) == &b"b"[..]);
-    assert!(&rt; netlist.name(2) == &b"y"[..]);
-    assert!(&rt; netlist.name(3) == &b"z"[..]);
-    assert!(&rt; netlist.number(&b"z"[..]) == Some(3));
-    assert!(&rt; netlist.number(&b"Z"[..]) == None);
-    assert!(&rt; matches!(netlist.driver(0), Driver::Input));
-    assert!(&rt; is_gate(netlist.driver(2), Kind::Nand, &[0u32, 1][..]));
-    assert!(&rt; is_gate(netlist.driver(3), Kind::Buff, &[2u32][..]));
+    assert!(&rt; netlist.outputs() == [2].as_slice());
+    assert!(&rt; has_name(&netlist, 0, b"a"));
+    assert!(&rt; has_name(&netlist, 1, b"b"));
+    assert!(&rt; has_name(&netlist, 2, b"y"));
+    assert!(&rt; has_name(&netlist, 3, b"z"));
+    assert!(&rt; netlist.number(b"z") == Some(3));
+    assert!(&rt; netlist.number(b"Z") == None);
+    assert!(&rt; has_input(&netlist, 0));
+    assert!(&rt; has_gate(&netlist, 2, Kind::Nand, &[0, 1]));
+    assert!(&rt; has_gate(&netlist, 3, Kind::Buff, &[2]));
 }
 
 #[test]
@@ -56,7 +71,7 @@ fn flip_flops(rt: HostRuntime) {
     let netlist = netlist_of(&rt, rt.alloc(), b"q = DFF(d)\nd = NOT(q)\n");
     assert!(&rt; netlist.len() == 2);
     assert!(&rt; matches!(netlist.driver(0), Driver::Flop(1)));
-    assert!(&rt; is_gate(netlist.driver(1), Kind::Not, &[0u32][..]));
+    assert!(&rt; has_gate(&netlist, 1, Kind::Not, &[0]));
 }
 
 #[test]
@@ -79,7 +94,7 @@ fn driven_twice(rt: HostRuntime) {
     assert!(&rt; outcome(rt.alloc(), b"INPUT(a)\na = NOT(a)\n") == (5, 2));
     let netlist = netlist_of(&rt, rt.alloc(), b"n = NOT(n)\n");
     assert!(&rt; netlist.len() == 1);
-    assert!(&rt; is_gate(netlist.driver(0), Kind::Not, &[0u32][..]));
+    assert!(&rt; has_gate(&netlist, 0, Kind::Not, &[0]));
 }
 
 #[test]
@@ -113,7 +128,7 @@ fn names_and_operands(rt: HostRuntime) -> Result<(), AllocError> {
     assert!(&rt; outcome(rt.alloc(), b"\xe9") == (1, 1));
     let netlist = netlist_of(&rt, rt.alloc(), b"INPUT(a)\nINPUT(b)\nINPUT = AND(a, b)\n");
     assert!(&rt; netlist.len() == 3);
-    assert!(&rt; netlist.name(2) == &b"INPUT"[..]);
+    assert!(&rt; has_name(&netlist, 2, b"INPUT"));
     assert!(&rt; outcome(rt.alloc(), b"y = FOO(") == (3, 1));
     Ok(())
 }
@@ -132,14 +147,21 @@ fn of_prefix(n: usize) -> (u32, u32) {
     }
 }
 
+// How many nets the first n bytes of the small netlist have, where they are a netlist.
+fn nets_of_prefix(rt: &impl Abort, alloc: Global, n: usize) -> usize
+    requires { n ≤ 30 }
+{
+    netlist_of(rt, alloc, &SMALL[..n]).len()
+}
+
 #[test]
 fn truncated_netlist(rt: HostRuntime) {
     for n in 0..31 {
         assert!(&rt; outcome(rt.alloc(), &SMALL[..n]) == of_prefix(n));
     }
     assert!(&rt; netlist_of(&rt, rt.alloc(), b"").is_empty());
-    assert!(&rt; netlist_of(&rt, rt.alloc(), &SMALL[..9]).len() == 1);
-    assert!(&rt; netlist_of(&rt, rt.alloc(), &SMALL).len() == 2);
+    assert!(&rt; nets_of_prefix(&rt, rt.alloc(), 9) == 1);
+    assert!(&rt; nets_of_prefix(&rt, rt.alloc(), 30) == 2);
 }
 
 // The small netlist with another byte at a place.
