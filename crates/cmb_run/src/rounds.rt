@@ -22,7 +22,7 @@ use std::sync::Wait;
 use std::thread;
 use std::thread::{JoinHandle, Scope, Threads};
 
-// A thread is started and joined in about the time of so many looks at a net.
+// A thread is started and joined in about the time of so many looks at a net. This is an estimate.
 const THREAD: usize = 1_000;
 
 // Where a piece of a net goes: the workers that read the net.
@@ -59,7 +59,7 @@ fn is_worth_threads<T: Terms>(hands: &[Hand<T>]) -> bool {
         beside = beside.saturating_add(load.min(most));
         most = most.max(load);
     }
-    beside >= hands.len().saturating_sub(1).saturating_mul(THREAD)
+    beside > hands.len().saturating_sub(1).saturating_mul(THREAD)
 }
 
 // The round's steps, one worker's after the other's.
