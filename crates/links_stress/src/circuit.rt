@@ -75,6 +75,20 @@ fn waves_of(alloc: Global, design: &Design) -> Result<Vec<Wave>, Trouble> {
     }
 }
 
+/// The plain program's waves of the design, and a clustering of it.
+fn parts_of(
+    alloc: Global,
+    design: &Design,
+    clusters: &[u32],
+) -> Result<(Vec<Wave>, Clustering), Trouble>
+    ensures each { IfOk result (λ parts. length parts.1.assign ≡ nets_of design.now) }
+    ensures two { IfOk result (λ parts. parts.1.clusters ≡ 2) }
+{
+    let waves = waves_of(alloc, design)?;
+    let clustering = clustering_of(alloc, design, clusters)?;
+    Ok((waves, clustering))
+}
+
 /// How many of the changes are below a tick.
 fn below(changes: &[Change], tick: u32) -> usize
     ensures { result ≤ length changes.now }
@@ -93,8 +107,7 @@ impl Circuit {
         requires { length netlist.now ≤ 16777216 }
     {
         let design = read_design(alloc, netlist, horizon)?;
-        let clustering = clustering_of(alloc, &design, clusters)?;
-        let waves = waves_of(alloc, &design)?;
+        let (waves, clustering) = parts_of(alloc, &design, clusters)?;
         Ok(Circuit {
             design,
             clustering,

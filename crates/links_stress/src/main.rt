@@ -1,18 +1,19 @@
-//! Threads that publish, look, put and take over one circuit, and check what the contracts of boards and links say: each promise
-//! that is found is right, was published, and is not below an earlier one; each piece that is taken is exact and begins where
-//! the one before it ended; the stop word and the number of finished workers never go back.
+//! First the worked examples of boards and links. Then threads that publish, look, put and take over one circuit, and check what
+//! the contracts of boards and links say: each promise that is found is right, was published, and is not below an earlier one;
+//! each piece that is taken is exact and begins where the one before it ended; the stop word and the number of finished workers
+//! never go back.
 #![tactic(auto)]
 
 mod circuit;
 mod ends;
 mod exact;
+mod examples;
 mod run;
-#[cfg(test)]
-mod tests;
 mod trouble;
 mod watch;
 mod worker;
 
+use examples::run_examples;
 use run::run;
 use std::process::ExitCode;
 
@@ -23,6 +24,9 @@ const HORIZON: u32 = 4_000;
 const CAPACITIES: [usize; 4] = [1, 2, 8, 64];
 
 fn main(rt: HostRuntime) -> ExitCode {
+    if !run_examples(&rt, rt.alloc()) {
+        return ExitCode::from(1);
+    }
     for capacity in CAPACITIES {
         let told = match run(&rt, rt.alloc(), HORIZON, capacity) {
             Ok(()) => println!(rt; "links of {capacity}: all is right, exact and in order"),

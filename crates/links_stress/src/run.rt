@@ -253,6 +253,21 @@ fn run_at<R: Threads + Wait + Sync>(
     run_all(rt, alloc, first, second, last)
 }
 
+// Runs this circuit with links that hold so many pieces.
+fn run_over<R: Threads + Wait + Sync>(
+    rt: &R,
+    alloc: Global,
+    circuit: &Circuit,
+    workers: Workers,
+    capacity: usize,
+) -> Result<(), Trouble>
+    requires { workers ≡ 2 }
+{
+    let table = open_board(alloc, circuit, workers)?;
+    let links = open_links(alloc, &circuit.design, capacity)?;
+    run_at(rt, alloc, circuit, workers, table, links)
+}
+
 /// Runs the circuit up to a horizon with links that hold so many pieces.
 pub fn run<R: Threads + Wait + Sync>(
     rt: &R,
@@ -264,7 +279,5 @@ pub fn run<R: Threads + Wait + Sync>(
         return Err(Trouble::Circuit);
     };
     let circuit = Circuit::read(alloc, NETLIST, &CLUSTERS, horizon)?;
-    let table = open_board(alloc, &circuit, workers)?;
-    let links = open_links(alloc, &circuit.design, capacity)?;
-    run_at(rt, alloc, &circuit, workers, table, links)
+    run_over(rt, alloc, &circuit, workers, capacity)
 }

@@ -1,4 +1,4 @@
-//! What a run can find wrong.
+//! What an example or a run can find wrong.
 
 use std::alloc::AllocError;
 use thiserror::Error;
@@ -34,6 +34,28 @@ pub enum Trouble {
     Stopped,
     #[error("a thread made all its turns and didn't come to an end")]
     TooLong,
+    #[error("the first seat doesn't find what was worked out")]
+    FirstSeat,
+    #[error("the second seat doesn't find what was worked out")]
+    SecondSeat,
+    #[error("what was published isn't what was worked out")]
+    Published,
+    #[error("a piece isn't the one that was worked out")]
+    Span,
+    #[error("a link refuses a piece though it has room")]
+    NoRoom,
+    #[error("a link takes a piece though it is full")]
+    NotFull,
+    #[error("a link gives no piece though it holds one")]
+    Empty,
+    #[error("a link gives a piece though it is empty")]
+    NotEmpty,
+    #[error("a link's capacity isn't judged as worked out")]
+    Capacity,
+    #[error("a number of workers isn't judged as worked out")]
+    Workers,
+    #[error("the wave that was taken isn't the one that was worked out")]
+    Wave,
 }
 
 impl From<AllocError> for Trouble {

@@ -1,6 +1,6 @@
 use Rattle.std.proofs.Common.{◌≡◌}
 use Rattle.cmb_design.specs.Exact.{IsExactIn}
-use Rattle.links_stress.proofs.tests.put_at_last.Given as goal
+use Rattle.links_stress.proofs.examples.links.put_at_last.Given as goal
 
 abbrev pub invariant-loop : goal.invariant-loop
 invariant-loop g l = record {

@@ -1,0 +1,205 @@
+//! What two seats of a board find of one another's words, in one thread and in two.
+
+ghost use Rattle.std.specs.Prelude.{◌≡◌, false};
+ghost use Rattle.cmb_links.specs.Seats.{new_seat, terms};
+
+use super::{expect, source};
+use crate::circuit::Circuit;
+use crate::exact::ExactCluster;
+use crate::run::{Table, open_board};
+use crate::trouble::Trouble;
+use crate::watch::Watch;
+use crate::worker::TURNS;
+use cmb_links::Workers;
+use cmb_wave::Promise;
+use std::alloc::Global;
+use std::thread;
+use std::thread::Threads;
+
+fn promise(count: u32, upto: u32) -> Promise
+    ensures { result ≡ record { net = 0; count = count; upto = upto } }
+{
+    Promise {
+        net: 0,
+        count,
+        upto,
+    }
+}
+
+// Lets the flip-flop go on, and publishes how far it is known.
+fn publish_next(watch: &mut Watch<'_>, cluster: &mut ExactCluster) -> Result<Promise, Trouble>
+    requires { cluster.old ≡ watch.old.circuit.now.design }
+    ensures watch { watch.new.circuit ≡ watch.old.circuit }
+    ensures cluster { cluster.new ≡ cluster.old }
+{
+    cluster.step()?;
+    match cluster.promise(0) {
+        Some(promise) => {
+            watch.publish(promise)?;
+            Ok(promise)
+        }
+        None => Err(Trouble::NotDriven),
+    }
+}
+
+// What the first seat does in the example, and what it finds.
+fn first_seat(watch: &mut Watch<'_>, cluster: &mut ExactCluster) -> Result<(), Trouble>
+    requires { cluster.old ≡ watch.old.circuit.now.design }
+{
+    let before = watch.look(0)?;
+    let told = publish_next(watch, cluster)?;
+    let after = watch.look(0)?;
+    let none = watch.finished()?;
+    watch.finish();
+    let one = watch.finished()?;
+    let is_told = told == promise(1, 3) && after == promise(1, 3) && told.word() == 4_294_967_299;
+    expect(
+        before == promise(0, 0) && is_told && none == 0 && one == 1,
+        Trouble::FirstSeat,
+    )
+}
+
+// What the second seat does after it, in the same thread. At last it reads back what the first one published.
+fn second_seat(watch: &mut Watch<'_>) -> Result<(), Trouble> {
+    let before = watch.raised()?;
+    watch.raise();
+    let after = watch.raised()?;
+    let read_back = watch.look(0)?;
+    expect(
+        !before && after && read_back == promise(1, 3),
+        Trouble::SecondSeat,
+    )
+}
+
+// A new board for this circuit with its seats, and a cluster that goes on.
+#[derive(Drop)]
+struct Setting<'a> {
+    circuit: &'a Circuit,
+    workers: Workers,
+    table: Table,
+    cluster: ExactCluster,
+    ghost two: { workers ≡ 2 },
+    ghost first: { table.first ≡ new_seat table.board (terms circuit.now.design circuit.now.clustering 2) false 0 },
+    ghost second: { table.second ≡ new_seat table.board (terms circuit.now.design circuit.now.clustering 2) false 1 },
+    ghost same: { cluster ≡ circuit.now.design },
+}
+
+fn open_setting(alloc: Global, circuit: &Circuit) -> Result<Setting<'_>, Trouble> {
+    let Ok(workers) = Workers::new(2) else {
+        return Err(Trouble::Workers);
+    };
+    let cluster = source(alloc, circuit)?;
+    let table = open_board(alloc, circuit, workers)?;
+    Ok(Setting {
+        circuit,
+        workers,
+        table,
+        cluster,
+    })
+}
+
+// The first seat's part, and then the second one's.
+fn both_seats(
+    first: &mut Watch<'_>,
+    cluster: &mut ExactCluster,
+    second: &mut Watch<'_>,
+) -> Result<(), Trouble>
+    requires { cluster.old ≡ first.old.circuit.now.design }
+{
+    first_seat(first, cluster)?;
+    second_seat(second)
+}
+
+// Both seats work in this thread.
+fn in_one_thread(alloc: Global, setting: Setting<'_>) -> Result<(), Trouble> {
+    let Setting {
+        circuit,
+        workers,
+        table,
+        mut cluster,
+    } = setting;
+    let board = table.board;
+    let mut first = Watch::new(alloc, &board, circuit, table.first, workers, 0);
+    let mut second = Watch::new(alloc, &board, circuit, table.second, workers, 1);
+    both_seats(&mut first, &mut cluster, &mut second)
+}
+
+/// A promise is one word of the board: seats find it there once it is published, and not before. The stop word and the
+/// number of finished workers are found likewise.
+pub fn board_words(alloc: Global, circuit: &Circuit) -> Result<(), Trouble> {
+    let setting = open_setting(alloc, circuit)?;
+    in_one_thread(alloc, setting)
+}
+
+// Publishes four promises, the last of them up to the horizon.
+fn publish_four(watch: &mut Watch<'_>, cluster: &mut ExactCluster) -> Result<(), Trouble>
+    requires { cluster.old ≡ watch.old.circuit.now.design }
+{
+    let first = publish_next(watch, cluster)?;
+    let second = publish_next(watch, cluster)?;
+    let third = publish_next(watch, cluster)?;
+    let fourth = publish_next(watch, cluster)?;
+    expect(
+        first == promise(1, 3)
+            && second == promise(2, 7)
+            && third == promise(3, 11)
+            && fourth == promise(4, 12),
+        Trouble::Published,
+    )
+}
+
+fn publish_all(mut watch: Watch<'_>, mut cluster: ExactCluster) -> Result<(), Trouble>
+    requires { cluster ≡ watch.circuit.now.design }
+{
+    publish_four(&mut watch, &mut cluster)
+}
+
+fn is_known(found: Promise) -> bool {
+    found == promise(0, 0)
+        || found == promise(1, 3)
+        || found == promise(2, 7)
+        || found == promise(3, 11)
+        || found == promise(4, 12)
+}
+
+// Looks until the horizon is found. The watch compares each answer with the earlier ones, and all have to be of those that
+// are published.
+fn look_all(mut watch: Watch<'_>) -> Result<(), Trouble> {
+    for _ in 0..TURNS {
+        let found = watch.look(0)?;
+        if !is_known(found) {
+            return Err(Trouble::Unknown);
+        }
+        if found.upto == 12 {
+            return Ok(());
+        }
+        thread::yield_now();
+    }
+    Err(Trouble::TooLong)
+}
+
+// The first seat publishes in one thread, and the second looks in another.
+fn in_two_threads<R: Threads>(
+    rt: &R,
+    alloc: Global,
+    setting: Setting<'_>,
+) -> (Result<(), Trouble>, Result<(), Trouble>) {
+    let Setting {
+        circuit,
+        workers,
+        table,
+        cluster,
+    } = setting;
+    let board = table.board;
+    let first = Watch::new(alloc, &board, circuit, table.first, workers, 0);
+    let second = Watch::new(alloc, &board, circuit, table.second, workers, 1);
+    thread::join(rt, || publish_all(first, cluster), || look_all(second))
+}
+
+/// What one seat publishes up to the horizon, another finds in a thread of its own.
+pub fn board_threads<R: Threads>(rt: &R, alloc: Global, circuit: &Circuit) -> Result<(), Trouble> {
+    let setting = open_setting(alloc, circuit)?;
+    let (published, found) = in_two_threads(rt, alloc, setting);
+    published?;
+    found
+}
