@@ -5,7 +5,7 @@ ghost use Rattle.cmb_bench.specs.Text.{class_of, continues, is_token, line_feeds
 ghost use Rattle.cmb_bench.specs.Inner.Part.{parts_of};
 
 /// What a byte is at the front of a part of the text. A token has the class of its first byte, and `End` stands at the end of input.
-#[derive(Clone, Copy, Debug, PartialEq, Eq)]
+#[derive(Clone, Copy)]
 pub enum Class {
     White,
     Comment,
@@ -19,7 +19,7 @@ pub enum Class {
 }
 
 /// A token, with the number of the line on which it begins.
-#[derive(Clone, Copy, Debug)]
+#[derive(Clone, Copy)]
 pub struct Token<'a> {
     pub class: Class,
     pub text: &'a [u8],

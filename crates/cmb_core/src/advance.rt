@@ -20,7 +20,7 @@ use cmb_wave::{Change, Level};
 use std::alloc::AllocError;
 
 /// The span of an output's new ticks, and the level before it.
-#[derive(Clone, Copy, Debug)]
+#[derive(Clone, Copy)]
 pub struct Span {
     pub before: Level,
     pub from: u32,

@@ -17,14 +17,14 @@ use std::alloc::{AllocError, Global};
 use std::marker::Model;
 
 // What a step adds to a wave: its span, and the level of all of it where that is plain to see.
-#[derive(Clone, Copy, Debug)]
+#[derive(Clone, Copy)]
 pub(crate) struct Next {
     pub(crate) span: Span,
     pub(crate) held: Option<Level>,
 }
 
 /// Processes with their waves, and the waves that they are given.
-#[derive(Debug, Drop)]
+#[derive(Drop)]
 pub struct Cluster {
     pub(crate) horizon: u32,
     pub(crate) processes: Nodes,

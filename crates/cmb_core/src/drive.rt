@@ -16,7 +16,7 @@ use cmb_wave::{Change, Level};
 use std::alloc::AllocError;
 
 /// How a net is driven, with its stimulus or its operands.
-#[derive(Clone, Copy, Debug)]
+#[derive(Clone, Copy)]
 pub enum Drive<'a> {
     Given,
     Input(&'a [Change]),

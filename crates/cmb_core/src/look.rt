@@ -14,7 +14,7 @@ use cmb_wave::Level;
 
 /// The tick up to which an output can go on, and the level that it keeps from its clock on, None where
 /// the ends of the waves don't tell it.
-#[derive(Clone, Copy, Debug)]
+#[derive(Clone, Copy)]
 pub struct Look {
     pub reach: u32,
     pub held: Option<Level>,

@@ -8,7 +8,7 @@ use crate::process::Operand;
 use std::alloc::{AllocError, Global};
 
 /// Places up to an end, and whether their processes make a loop that waits for no given wave.
-#[derive(Clone, Copy, Debug)]
+#[derive(Clone, Copy)]
 pub struct Stretch {
     pub end: usize,
     pub is_loop: bool,

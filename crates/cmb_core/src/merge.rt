@@ -12,7 +12,7 @@ use cmb_wave::{Change, Level};
 use std::alloc::AllocError;
 
 /// When a change of an operand reaches the output.
-#[derive(Clone, Copy, Debug)]
+#[derive(Clone, Copy)]
 pub enum Lag {
     Delay(u32),
     Sampled { first: u32, period: u32, delay: u32 },
@@ -61,7 +61,7 @@ impl Lag {
 }
 
 /// An operand: the level that has reached the output, and the changes that haven't yet.
-#[derive(Clone, Copy, Debug)]
+#[derive(Clone, Copy)]
 pub struct Pin<'a> {
     pub rest: &'a [Change],
     pub lag: Lag,
@@ -125,7 +125,7 @@ impl<'a> Pin<'a> {
 }
 
 /// What the output does next.
-#[derive(Clone, Copy, Debug)]
+#[derive(Clone, Copy)]
 struct Turn {
     level: Level,
     next: u32,

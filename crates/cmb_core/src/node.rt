@@ -7,7 +7,7 @@ use cmb_wave::Change;
 use std::marker::Model;
 
 /// How a net is driven, what it reads, and the changes of an input: no more than its rule takes.
-#[derive(Debug, Drop)]
+#[derive(Drop)]
 pub struct Node {
     rule: Rule,
     operands: Vec<Operand>,

@@ -20,7 +20,7 @@ use std::alloc::{AllocError, Global};
 use std::marker::Model;
 
 /// Where a part of a list stands.
-#[derive(Clone, Copy, Debug)]
+#[derive(Clone, Copy)]
 pub struct Part {
     pub first: u32,
     pub count: u32,
@@ -59,7 +59,7 @@ fn append<T: Copy>(list: &mut Vec<T>, items: &[T]) -> Result<Part, AllocError>
 }
 
 /// When a flip-flop samples, what it has before, and where its operands stand.
-#[derive(Clone, Copy, Debug)]
+#[derive(Clone, Copy)]
 pub struct Sampler {
     pub first: u32,
     pub period: u32,
@@ -68,7 +68,7 @@ pub struct Sampler {
 }
 
 /// How a net is driven, and where its stimulus, its operands or its sampler stand.
-#[derive(Clone, Copy, Debug)]
+#[derive(Clone, Copy)]
 pub enum Entry {
     Given,
     Input(Part),
@@ -80,7 +80,7 @@ pub enum Entry {
 const _: () = prove!(size_of::<Entry>() == 12);
 
 /// The processes of a cluster, by the place of their waves.
-#[derive(Debug, Drop)]
+#[derive(Drop)]
 pub struct Nodes {
     entries: Vec<Entry>,
     operands: Vec<Operand>,

@@ -5,7 +5,7 @@ use cmb_wave::Level;
 
 /// A pin of a gate or flip-flop: the net on it, the place of the net's wave in the cluster, and the pin's delay. A design
 /// has at most 65,535 nets.
-#[derive(Clone, Copy, Debug, PartialEq, Eq)]
+#[derive(Clone, Copy)]
 pub struct Operand {
     pub net: u16,
     pub slot: u16,
@@ -16,7 +16,7 @@ pub struct Operand {
 const _: () = prove!(size_of::<Operand>() == 8);
 
 /// How a process makes its level.
-#[derive(Clone, Copy, Debug, PartialEq, Eq)]
+#[derive(Clone, Copy)]
 pub enum Rule {
     /// The net is not driven here: its wave is given to the cluster.
     Given,

@@ -5,7 +5,7 @@ ghost use Rattle.std.specs.Prelude.{◌≡◌, None, slice_index_or};
 use crate::loops::Stretch;
 
 /// A pin that reads a wave: the place of its process, and its delay.
-#[derive(Clone, Copy, Debug, PartialEq, Eq)]
+#[derive(Clone, Copy)]
 pub struct Reader {
     pub slot: u32,
     pub delay: u32,
@@ -13,7 +13,7 @@ pub struct Reader {
 
 /// The place of each net's wave, the nets that are driven and those that are given, who reads each given
 /// wave, and the stretches that a sweep takes one after the other.
-#[derive(Debug, Drop)]
+#[derive(Drop)]
 pub struct Tables {
     pub places: Vec<Option<u16>>,
     pub driven: Vec<u32>,

@@ -11,7 +11,7 @@ use cmb_wave::{Change, Wave};
 
 /// A wave's clock and its newest change. Where there is no change, tick 0 and the level before the
 /// first change.
-#[derive(Clone, Copy, Debug)]
+#[derive(Clone, Copy)]
 pub struct Tip {
     pub clock: u32,
     pub newest: Change,
@@ -23,7 +23,7 @@ const _: () = prove!(size_of::<Tip>() == 12);
 /// A wave's three newest changes. From the tick of `before` on the wave has that level, up to the two
 /// newest changes. Where there is no such change its place has tick 0 and the level before the first
 /// change.
-#[derive(Clone, Copy, Debug)]
+#[derive(Clone, Copy)]
 pub struct Tail {
     before: Change,
     newest: [Change; 2],

@@ -54,7 +54,7 @@ fn all_held(mut waves: Vec<Wave>, tips: &[Tip]) -> Vec<Wave>
 /// nothing new reads and writes that list alone: the wave itself is told its clock when a call needs
 /// it. The newest few changes of each stand in another list. For each place a later one is kept, so that
 /// waves between the two, which are known up to the horizon, are passed over.
-#[derive(Debug, Drop)]
+#[derive(Drop)]
 pub struct Waves {
     horizon: u32,
     waves: Vec<Wave>,

@@ -20,7 +20,7 @@ use std::alloc::{AllocError, Global};
 use std::marker::Model;
 
 /// Clusters, with the pieces that were posted and the promises that were made.
-#[derive(Debug, Drop)]
+#[derive(Drop)]
 pub struct World {
     pub(crate) assign: Vec<u32>,
     pub(crate) clusters: Vec<Cluster>,

@@ -211,6 +211,36 @@ impl Routes {
     }
 }
 
+// A worker for each cluster, connected to the others, and the routes between them.
+fn connected<T: Terms>(
+    alloc: Global,
+    design: &Design,
+    clustering: &Clustering,
+) -> Result<(Vec<Hand<T>>, Routes), AllocError>
+    requires design { design.now ≡ T.design }
+    requires clustering { clustering.now ≡ T.clustering }
+    requires nets { length clustering.now.assign ≡ nets_of design.now }
+{
+    let mut hands = deal::<T>(alloc, design, clustering)?;
+    let routes = Routes::open(alloc, design.netlist().len(), &hands)?;
+    for hand in hands.iter_mut() {
+        hand.connect(&routes.readers)?;
+    }
+    Ok((hands, routes))
+}
+
+// A round: the steps, and then what was posted is passed on.
+fn round<T: Terms + Send + Sync, R: Threads + Wait + Sync>(
+    rt: &R,
+    alloc: Global,
+    routes: &Routes,
+    hands: Vec<Hand<T>>,
+) -> Result<Vec<Hand<T>>, AllocError> {
+    let mut hands = step(rt, alloc, hands)?;
+    routes.pass_on(alloc, &mut hands)?;
+    Ok(hands)
+}
+
 // What the clusters know of all nets.
 fn collect<T: Terms>(
     alloc: Global,
@@ -240,14 +270,9 @@ fn run_named<T: Terms + Send + Sync, R: Threads + Wait + Sync>(
     ensures exact { IfOk result (λ collector. IsExactFor design.now collector) }
     ensures complete { IfOk result (λ collector. IsComplete collector) }
 {
-    let mut hands = deal::<T>(alloc, design, clustering)?;
-    let routes = Routes::open(alloc, design.netlist().len(), &hands)?;
-    for hand in hands.iter_mut() {
-        hand.connect(&routes.readers)?;
-    }
+    let (mut hands, routes) = connected::<T>(alloc, design, clustering)?;
     for _ in rt.forever() {
-        hands = step(rt, alloc, hands)?;
-        routes.pass_on(alloc, &mut hands)?;
+        hands = round(rt, alloc, &routes, hands)?;
         if hands.iter().all(|hand| hand.complete()) {
             let whole = replace(&mut hands, Vec::new(alloc));
             let collector = collect(alloc, design, whole)?;

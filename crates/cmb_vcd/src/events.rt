@@ -11,14 +11,14 @@ use cmb_wave::{Change, Level, Wave};
 use std::alloc::{AllocError, Global};
 
 /// The changes of a net in a span of ticks.
-#[derive(Clone, Copy, Debug)]
+#[derive(Clone, Copy)]
 pub struct Part<'a> {
     pub net: u16,
     pub changes: &'a [Change],
 }
 
 /// From its tick on a net has this level.
-#[derive(Debug, Clone, Copy, PartialEq, Eq)]
+#[derive(Clone, Copy)]
 pub struct Event {
     pub tick: u32,
     pub net: u32,

@@ -10,7 +10,7 @@ use std::alloc::{AllocError, Global};
 use std::marker::Model;
 
 /// A net's identifier code: a byte for each digit.
-#[derive(Debug, Clone, Copy, PartialEq, Eq)]
+#[derive(Clone, Copy)]
 pub enum Code {
     One(u8),
     Two(u8, u8),
@@ -18,7 +18,7 @@ pub enum Code {
 }
 
 /// The codes of nets, by their numbers.
-#[derive(Debug, Drop)]
+#[derive(Drop)]
 pub struct Codes {
     codes: Vec<Code>,
 }

@@ -38,7 +38,7 @@ pub(crate) fn since(changes: &[Change], tick: u32) -> &[Change]
 }
 
 /// The changes of a list at or after some tick, and the level before the first of them.
-#[derive(Clone, Copy, Debug)]
+#[derive(Clone, Copy)]
 pub struct Rest<'a> {
     pub level: Level,
     pub changes: &'a [Change],

@@ -7,7 +7,7 @@ pub trait Turnstile {
 }
 
 /// Lets everyone in.
-#[derive(Clone, Copy, Debug)]
+#[derive(Clone, Copy)]
 pub struct OpenGate;
 
 impl Turnstile for OpenGate {

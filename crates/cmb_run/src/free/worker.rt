@@ -17,10 +17,19 @@ use std::thread;
 const AT_ONCE: u32 = 64;
 
 /// A net that goes through a link, and the tick up to which it was put.
-#[derive(Clone, Copy, Debug)]
+#[derive(Clone, Copy)]
 struct Outlet {
     net: u32,
     sent: u32,
+}
+
+// Outlets of these nets, of which nothing was put.
+fn outlets_of(alloc: Global, nets: &[u32]) -> Result<Vec<Outlet>, AllocError> {
+    let mut outlets = Vec::with_capacity(alloc, nets.len())?;
+    for net in nets {
+        outlets.push(Outlet { net: *net, sent: 0 })?;
+    }
+    Ok(outlets)
 }
 
 impl Outlet {
@@ -69,10 +78,7 @@ impl<T: Terms> Out<T> {
         nets: &[u32],
         takes_empty: bool,
     ) -> Result<Out<T>, AllocError> {
-        let mut outlets = Vec::with_capacity(alloc, nets.len())?;
-        for net in nets {
-            outlets.push(Outlet { net: *net, sent: 0 })?;
-        }
+        let outlets = outlets_of(alloc, nets)?;
         Ok(Out {
             end,
             outlets,
@@ -130,10 +136,22 @@ impl<T: Terms> Out<T> {
 }
 
 /// A net that another worker drives, and the tick up to which it is known here at least.
-#[derive(Clone, Copy, Debug)]
+#[derive(Clone, Copy)]
 struct Inlet {
     net: u32,
     known: u32,
+}
+
+// Inlets of these nets, of which nothing is known.
+fn inlets_of(alloc: Global, nets: &[u32]) -> Result<Vec<Inlet>, AllocError> {
+    let mut inlets = Vec::with_capacity(alloc, nets.len())?;
+    for net in nets {
+        inlets.push(Inlet {
+            net: *net,
+            known: 0,
+        })?;
+    }
+    Ok(inlets)
 }
 
 /// A worker before and between its turns.
@@ -159,13 +177,7 @@ impl<T: Terms> Worker<T> {
         part: Part<T>,
         collector: PutEnd<T>,
     ) -> Result<Worker<T>, AllocError> {
-        let mut inlets = Vec::with_capacity(alloc, part.inputs().len())?;
-        for net in part.inputs() {
-            inlets.push(Inlet {
-                net: *net,
-                known: 0,
-            })?;
-        }
+        let inlets = inlets_of(alloc, part.inputs())?;
         let mut outs = Vec::new(alloc);
         outs.push(Out::open(alloc, collector, part.driven(), true)?)?;
         Ok(Worker {
