@@ -21,7 +21,7 @@ Numbers names (used ∷ others) [] = ⊥
 Numbers names (used ∷ others) (number ∷ numbers) = (position (bytes_eq used.name) names ≡ Some number) × Numbers names others numbers
 
 -- what drives the net of a driver statement, by what its KIND names and the numbers of its operands; a flip-flop's one operand
--- is its data
+-- is its data (no lawful statement has none)
 abbrev pub driver_from : Cell → List ℕ → Driver
 driver_from (cells.Gate kind) operands = Gate kind operands
 driver_from cells.Flop [] = Flop 0

@@ -41,6 +41,7 @@ fn numbers_of(alloc: Global, names: &IndexSet<Vec<u8>>, uses: &[Use]) -> Result<
     Ok(numbers)
 }
 
+// A flip-flop of a statement that was read has one operand; a list without any, which none has, gives net 0.
 fn driver_from(cell: Cell, numbers: Vec<u32>) -> Driver
     ensures { result ≡ driver_from cell numbers.items }
 {
@@ -83,7 +84,7 @@ fn add_item(
     }
 }
 
-/// Copies of the names. They lie side by side in memory, so that each of many look-ups is fast.
+/// Copies of the names, which the netlist owns once the text is gone.
 pub(crate) fn own_names(
     alloc: Global,
     names: &IndexSet<&[u8]>,

@@ -11,7 +11,7 @@ pub enum FaultKind {
     /// 1: a byte that stands in no token, outside a comment.
     #[error("a byte that no netlist has")]
     Byte,
-    /// 2: a token with which the tokens so far begin no list of statements.
+    /// 2: the tokens up to this one, with it, begin no list of statements.
     #[error("not a statement")]
     Statement,
     /// 3: the name in the place of a kind is none.
@@ -38,7 +38,7 @@ pub enum FaultKind {
 }
 
 impl FaultKind {
-    /// The fault's number: 1 to 8, and 70 for want of memory.
+    /// The fault's number: 1 to 8, or 70 where memory ran out.
     pub fn number(self) -> u32
         ensures { result ≡ number_of_fault self }
     {
@@ -56,7 +56,7 @@ impl FaultKind {
     }
 }
 
-/// Why a text has no netlist, and on which line, counted from 1. Want of memory has line 0.
+/// Why a text has no netlist, and on which line, counted from 1; line 0 where memory ran out.
 #[derive(Clone, Copy, Debug, PartialEq, Eq, Error)]
 #[error("line {line}: {kind}")]
 pub struct BenchFault {

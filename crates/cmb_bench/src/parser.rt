@@ -1,5 +1,5 @@
 //! From tokens to statements.
-ghost use Rattle.std.specs.Prelude.{◌≡◌, ℕ, ◌+◌, ◌^◌, ◌<◌, ◌≤◌, ◌++◌, [], ◌∷◌, length, map, if◌then◌else◌, IfOk, IfErr, OnOk, IsOk, not, false};
+ghost use Rattle.std.specs.Prelude.{◌≡◌, ◌+◌, ◌^◌, ◌<◌, ◌≤◌, ◌++◌, [], ◌∷◌, length, map, if◌then◌else◌, IfOk, IfErr, OnOk, IsOk, not, false};
 ghost use Rattle.cmb_bench.specs.Inner.Word.{is_end};
 ghost use Rattle.cmb_bench.specs.declared.fault.ReadError.TheVariants.{Fault, Memory};
 ghost use Rattle.cmb_bench.specs.Inner.Scan.{scan, lexeme, behind};

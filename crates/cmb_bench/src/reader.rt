@@ -1,5 +1,5 @@
 //! The reader of a text.
-ghost use Rattle.std.specs.Prelude.{◌≡◌, ℕ, ◌≤◌, length, IfOk, IfErr, MatchResult, List, ◌⊎◌};
+ghost use Rattle.std.specs.Prelude.{◌≡◌, ◌≤◌, length, IfOk, IfErr, MatchResult, ◌⊎◌};
 ghost use Rattle.cmb_bench.specs.declared.fault.BenchFault.{BenchFault};
 ghost use Rattle.cmb_bench.specs.FirstFault.{IsFirstFault, out_of_memory};
 ghost use Rattle.cmb_bench.specs.Netlist.{Netlist};

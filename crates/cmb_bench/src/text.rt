@@ -56,7 +56,7 @@ fn class_of(byte: u8) -> Class
     }
 }
 
-/// Whether a byte belongs to the part of this class that ends before it.
+/// Whether a part of this class goes on with this byte.
 fn continues(class: Class, byte: u8) -> bool
     ensures { result ≡ continues class byte }
 {
@@ -67,7 +67,7 @@ fn continues(class: Class, byte: u8) -> bool
     }
 }
 
-/// How many bytes at the front belong to the part of this class that ends before them.
+/// With how many bytes from the front a part of this class goes on.
 fn run_len(bytes: &[u8], class: Class) -> usize
     ensures within { result ≤ length bytes.now }
     ensures before { (k : ℕ) → k < result → continues class (slice_index bytes.now k) ≡ true }

@@ -12,7 +12,7 @@ pub record Design : Type 0 where
   pub netlist : Netlist
   -- the ticks below it are simulated
   pub horizon : ℕ
-  -- what a flip-flop has before it sampled
+  -- what a flip-flop shows until its first sample has passed its delay
   pub init : Level
   pub clock : Option Clock
   pub delays : List DelayRow

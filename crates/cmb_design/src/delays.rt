@@ -1,14 +1,13 @@
 //! The delays that delay rows give to kinds, nets and pins.
 
-ghost use Rattle.std.specs.Prelude.{◌≡◌, ◌+◌, ◌++◌, ◌<◌, ◌≤◌, ◌^◌, ◌⊎◌, length, take, map, true, false, slice_index_or, IfOk, IfErr, OnOk, MatchOption};
-ghost use Rattle.std.specs.List.{range_with_len};
+ghost use Rattle.std.specs.Prelude.{◌≡◌, ◌+◌, ◌++◌, ◌<◌, ◌≤◌, ◌^◌, ◌⊎◌, length, take, true, false, IfOk, IfErr, OnOk};
 ghost use Rattle.cmb_design.specs.Checks.{checks_at, first_fault, rows_checks};
 ghost use Rattle.cmb_design.specs.declared.fault.DesignFault.TheVariants as fault;
 ghost use Rattle.cmb_design.specs.Nets.{driver_cell, pins_at};
 ghost use Rattle.cmb_design.specs.Timing.{delay_by, delay_in, flat_delays, is_of_kind, net_delays};
 ghost use Rattle.cmb_bench.specs.Netlist.{driver_of, IsNetlist};
 ghost use Rattle.cmb_design.specs.Rows.{delay_row_checks, delayed_checks, is_about_input};
-ghost use Rattle.cmb_design.specs.Tables.{all_placed, delay_place, delay_places, pin_place, place_at, row_place, start, starts_of, table_size};
+ghost use Rattle.cmb_design.specs.Tables.{all_placed, delay_place, delay_places, pin_place, place_at, row_place, starts_of, table_size};
 
 use crate::fault::DesignFault;
 use crate::nets::{is_input_driver, number_of_cell, number_of_driver, pin_count};
@@ -141,7 +140,7 @@ pub(crate) fn take_delays(
     Ok(table)
 }
 
-/// Where the pins of each net start in the table, and the table's size.
+/// Where the pins of each net start among all pins, and the size of the table of kinds, nets and pins.
 #[derive(Drop)]
 pub(crate) struct Layout {
     pub(crate) starts: Vec<usize>,

@@ -132,7 +132,7 @@ impl Design {
         self.horizon
     }
 
-    /// The level of a flip-flop before it first sampled.
+    /// The level that a flip-flop shows at the ticks below its first sample tick plus its delay.
     pub fn init(&self) -> Level
         ensures { result ≡ self.now.init }
     {
@@ -167,7 +167,7 @@ impl Design {
         self.tables.changes[net].as_slice()
     }
 
-    /// The changes below the horizon of an input net by its stimulus.
+    /// The changes below the horizon of an input net by its stimulus; none for any other net.
     pub fn stim_changes(&self, net: usize) -> &[Change]
         requires { net < length self.now.netlist.names }
         ensures { result.now ≡ changes_between (stimulus self.now net) 0 self.now.horizon }
@@ -175,7 +175,8 @@ impl Design {
         told_before(self.told(net), self.horizon())
     }
 
-    /// The level of an input net at a tick by its stimulus.
+    /// The level of an input net at a tick by its stimulus: that of its row with the greatest tick that is at most this
+    /// one, else x.
     pub fn stim(&self, net: usize, tick: u32) -> Level
         requires { net < length self.now.netlist.names }
         ensures { result ≡ stimulus self.now net tick }
@@ -183,7 +184,8 @@ impl Design {
         level_told(self.told(net), tick)
     }
 
-    /// The sampling clock of a net.
+    /// The sampling clock of a net: that of its clock row, else the common clock, else first 0 and period 1, which no
+    /// flip-flop of a design has to take.
     pub fn clock(&self, net: usize) -> Clock
         requires { net < length self.now.netlist.names }
         ensures value { result ≡ clock_of self.now net }
@@ -195,7 +197,7 @@ impl Design {
         }
     }
 
-    /// The greatest sample tick of a flip-flop's net that is at most this tick.
+    /// The greatest sample tick of a flip-flop's net that is at most this tick; none below its first sample tick.
     pub fn last(&self, net: usize, tick: u32) -> Option<u32>
         requires { net < length self.now.netlist.names }
         ensures value { result ≡ last_sample (clock_of self.now net) tick }
@@ -204,7 +206,8 @@ impl Design {
         last_at(self.clock(net), tick)
     }
 
-    /// The least sample tick of a flip-flop's net that is at least this tick, which is at most the horizon.
+    /// The least sample tick of a flip-flop's net that is at least `tick`. `tick` is at most the horizon; the answer may lie
+    /// beyond it.
     pub fn next(&self, net: usize, tick: u32) -> u32
         requires net { net < length self.now.netlist.names }
         requires tick { tick ≤ self.now.horizon }

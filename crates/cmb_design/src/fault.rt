@@ -8,42 +8,61 @@ use thiserror::Error;
 /// which it stands; the header is record 1.
 #[derive(Clone, Copy, Debug, PartialEq, Eq, Error)]
 pub enum DesignFault {
+    /// 20: the horizon isn't 1 to 1,000,000 ticks.
     #[error("the horizon isn't 1 to 1,000,000")]
     Horizon,
+    /// 21: the common clock's first tick is above 1,000,000, or its period isn't 1 to 1,000,000 ticks.
     #[error("the common clock's first tick is above 1,000,000, or its period isn't 1 to 1,000,000")]
     Clock,
+    /// 22: a flip-flop has no clock row, and no common clock is given.
     #[error("a flip-flop has no clock row, and there is no common clock")]
     NoClock,
+    /// 23: the first record isn't the table's header.
     #[error("record {0}: not the table's header")]
     Header(u32),
+    /// 24: a record hasn't three fields.
     #[error("record {0}: not three fields")]
     Fields(u32),
+    /// 25: a number isn't 1 to 10 digits.
     #[error("record {0}: a number is 1 to 10 digits")]
     Number(u32),
+    /// 26: the netlist hasn't the net.
     #[error("record {0}: the netlist hasn't this net")]
     UnknownNet(u32),
+    /// 27: a delay row is by none of `kind`, `net` and `pin`, or its kind is none.
     #[error("record {0}: no such kind")]
     UnknownKind(u32),
+    /// 28: the delay isn't 1 to 1,000,000 ticks.
     #[error("record {0}: the delay isn't 1 to 1,000,000")]
     DelayRange(u32),
+    /// 29: an earlier row is about the same kind, net, pin, or net and tick.
     #[error("record {0}: an earlier row is about the same")]
     RepeatedRow(u32),
+    /// 30: a stimulus is of a net that is no input.
     #[error("record {0}: the net isn't an input")]
     NotInput(u32),
+    /// 31: a value isn't 0, 1, x or X.
     #[error("record {0}: a value is 0, 1, x or X")]
     Level(u32),
+    /// 32: an input has no delay.
     #[error("record {0}: an input has no delay")]
     DelayOfInput(u32),
+    /// 33: the table of all levels would have more than 16,777,216 cells.
     #[error("the table of all levels would have more than 16,777,216 cells")]
     TableTooLarge,
+    /// 34: the name of a pin isn't a net's name, `:` and a number.
     #[error("record {0}: a pin's name is a net's name, a colon and a number")]
     PinName(u32),
+    /// 35: the net has no such pin.
     #[error("record {0}: the net has no such pin")]
     NoPin(u32),
+    /// 36: the first tick is above 1,000,000, or the period isn't 1 to 1,000,000 ticks.
     #[error("record {0}: the first tick is above 1,000,000, or the period isn't 1 to 1,000,000")]
     ClockRange(u32),
+    /// 37: a clock is of a net that no flip-flop drives.
     #[error("record {0}: the net isn't driven by a flip-flop")]
     NotFlop(u32),
+    /// 70: memory ran out. This is no fault of the inputs.
     #[error("out of memory")]
     Memory,
 }
@@ -51,7 +70,7 @@ pub enum DesignFault {
 impl DesignFault {
     ghost use Rattle.cmb_design.specs.Faults.{fault_number, fault_record};
 
-    /// The fault's number: 20 to 32, 33 to 37, or 70 where a growth was refused.
+    /// The fault's number: 20 to 37, or 70 where memory ran out.
     pub fn number(&self) -> u32
         ensures { result ≡ fault_number self.now }
     {

@@ -1,10 +1,10 @@
 //! The gate functions: Verilog's tables, restricted to 0, 1 and x.
 
-ghost use Rattle.std.specs.Prelude.{◌≡◌, ◌%◌, ◌==◌, ◌<◌, ◌^◌, length, count_by};
+ghost use Rattle.std.specs.Prelude.{◌≡◌, ◌%◌, ◌==◌, length, count_by};
 ghost use Rattle.std.specs.List.{list_any, list_all};
 ghost use Rattle.cmb_wave.specs.Waveform.{same_level};
 ghost use Rattle.cmb_bench.specs.Netlist.{MayTake};
-ghost use Rattle.cmb_design.specs.Gate.{gate as gate_level, conjunction, disjunction, parity, inverse_of, single};
+ghost use Rattle.cmb_design.specs.Gate.{gate as gate_level, conjunction, disjunction, parity, inverse_of};
 
 use cmb_bench::Kind;
 use cmb_wave::Level;

@@ -1,6 +1,6 @@
 //! The plain program: every net's wave by the levels of all nets at all ticks.
 
-ghost use Rattle.std.specs.Prelude.{◌≡◌, ◌++◌, ◌∷◌, [], if◌then◌else◌, ◌⊎◌, ◌↔◌, ◌*◌, ◌+◌, ◌<◌, ◌≤◌, All, IfOk, IfErr, OnOk, length};
+ghost use Rattle.std.specs.Prelude.{◌≡◌, ◌++◌, ◌∷◌, [], if◌then◌else◌, ◌⊎◌, ◌↔◌, ◌*◌, ◌+◌, ◌<◌, ◌≤◌, All, IfOk, IfErr, OnOk};
 ghost use Rattle.cmb_wave.specs.Waveform.{same_level};
 ghost use Rattle.cmb_bench.specs.Netlist.{IsNetlist};
 ghost use Rattle.cmb_design.specs.Exact.{nets_of, IsExactWaveIn};

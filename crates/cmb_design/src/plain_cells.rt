@@ -62,7 +62,7 @@ fn collect_levels(
     Ok(())
 }
 
-// What a flip-flop has that sampled its data.
+// The level of a flip-flop at a tick, by what it sampled.
 fn level_of_flop(design: &Design, table: &Table, net: usize, source: usize, tick: u32) -> Level
     requires filled { HoldsTicks design.now table.now tick }
     requires net { net < nets_of design.now }

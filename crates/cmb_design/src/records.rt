@@ -1,6 +1,6 @@
 //! The records of a text, one after the other, as `csv` reads them.
 
-ghost use Rattle.std.specs.Prelude.{◌≡◌, ◌∷◌, [], ◌≤◌, length, IfOk, MatchBool};
+ghost use Rattle.std.specs.Prelude.{◌≡◌, ◌∷◌, [], IfOk, MatchBool};
 ghost use Rattle.csv.specs.Records.{fields_of};
 ghost use Rattle.cmb_design.specs.Records.{IsReading, records_left, records_of};
 

@@ -28,6 +28,7 @@ pub struct DelayRow {
 /// A row of the stimulus table.
 #[derive(Drop)]
 pub struct StimulusRow {
+    /// The tick from which on the net has the level; it may lie beyond the horizon, and beyond 32 bits.
     pub tick: u64,
     pub net: Name,
     pub level: Level,
@@ -37,14 +38,18 @@ pub struct StimulusRow {
 #[derive(Drop)]
 pub struct ClockRow {
     pub net: Name,
+    /// The first sample tick.
     pub first: u32,
+    /// In ticks.
     pub period: u32,
 }
 
 /// A sampling clock: its ticks are `first`, `first + period`, `first + 2 * period` and so on.
 #[derive(Clone, Copy, Debug, PartialEq, Eq)]
 pub struct Clock {
+    /// The first sample tick.
     pub first: u32,
+    /// In ticks.
     pub period: u32,
 }
 

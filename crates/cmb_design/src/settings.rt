@@ -21,7 +21,7 @@ pub struct Settings {
     pub horizon: u32,
     /// The first sample tick, at most 1,000,000, and the period, 1 to 1,000,000, of each flip-flop without a clock row.
     pub clock: Option<(u32, u32)>,
-    /// The level that a flip-flop has before it first sampled.
+    /// The level that a flip-flop shows at the ticks below its first sample tick plus its delay.
     pub init: Level,
 }
 

@@ -45,7 +45,7 @@ fn changes_told(alloc: Global, rows: &BTreeMap<u64, Level>) -> Result<Vec<Change
     Ok(list)
 }
 
-// The level that stood at the tick before, if any.
+// Sets the level at a tick, and gives the one that was set there before, if any.
 fn add_level(
     levels: &mut BTreeMap<u64, Level>,
     tick: u64,

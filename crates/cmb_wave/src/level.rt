@@ -45,7 +45,7 @@ pub enum Heard {
 }
 
 impl Promise {
-    ghost use Rattle.std.specs.Prelude.{◌≡◌, ◌/◌, ◌%◌, ◌^◌, ◌<◌, ℕ};
+    ghost use Rattle.std.specs.Prelude.{◌≡◌, ◌/◌, ◌%◌, ◌^◌, ◌<◌};
     ghost use Rattle.cmb_wave.specs.Calls.{word_of};
     ghost use Rattle.cmb_wave.specs.declared.level.Promise.{Promise};
 

@@ -1,6 +1,6 @@
 //! Pieces: parts of a net's waveform, as they travel from the cluster that drives the net to those that read it.
 
-ghost use Rattle.std.specs.Prelude.{◌≡◌, ◌+◌, ◌≤◌, ◌<◌, IfOk, OnErr, ⊤};
+ghost use Rattle.std.specs.Prelude.{◌≡◌, ◌<◌, IfOk};
 ghost use Rattle.cmb_wave.specs.Waveform.{IsPart};
 ghost use Rattle.cmb_wave.specs.Calls.{rises, inside, differs, checked_piece};
 

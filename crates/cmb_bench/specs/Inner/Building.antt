@@ -64,7 +64,7 @@ abbrev pub Fronts : ReadError → List Lexeme → Type 0
 Fronts errors.Memory ts = Unit {0}
 Fronts (errors.Fault f) ts = (ss : List Statement) × (mid : List Lexeme) × Parses [] ts ss mid × begins_more mid × (statement_at (driven ss) mid ≡ Err f)
 
--- What a cell returned: statements that are all of the tokens, or the fault behind such as are the front of them, unless memory ran out.
+-- What a call returned: statements that are all of the tokens, or the fault behind such as are the front of them, unless memory ran out.
 abbrev pub Stops : {X : Type 0} → (X → List Statement) → Result X ReadError → List Lexeme → Type 0
 Stops view (Ok x) ts = (line : ℕ) × Parses [] ts (view x) (record { word = mark End; line = line } ∷ [])
 Stops view (Err e) ts = Fronts e ts

@@ -16,7 +16,7 @@ abbrev pub ◌>>=◌ : {A B : Type 0} → Result A BenchFault → (A → Result 
 (Ok x) >>= f = f x
 (Err e) >>= f = Err e
 
--- What a cell returned, seen by view, is what reading gives, unless memory ran out.
+-- a call's error is the fault that reading gives, unless memory ran out
 abbrev pub Fails : {Y : Type 0} → ReadError → Result Y BenchFault → Type 0
 Fails errors.Memory read = Unit {0}
 Fails (errors.Fault f) read = read ≡ Err f
