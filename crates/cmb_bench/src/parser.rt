@@ -110,12 +110,7 @@ fn used_name<'a>(cursor: &mut Cursor<'a>) -> Result<Use<'a>, ReadError>
     ensures shorter { length cursor.new.rest.now ≤ length cursor.old.rest.now }
 {
     let token = cursor.next();
-    let Some(name) = token.name() else {
-        return Err(misplaced(token));
-    };
-    if name.len() > MAX_NAME {
-        return Err(fault_at(token, FaultKind::Name));
-    }
+    let name = short_name(token)?;
     Ok(Use {
         name,
         line: token.line,
@@ -260,7 +255,6 @@ fn read_output<'a>(cursor: &mut Cursor<'a>) -> Result<Item<'a>, ReadError>
 /// Reads a statement with this keyword behind its opening mark.
 #[tactic(auto, unfolding(crate::specs::Inner::Reading::keyword_at))]
 fn read_keyword<'a>(
-    alloc: Global,
     cursor: &mut Cursor<'a>,
     names: &mut IndexSet<&'a [u8]>,
     keyword: &[u8],
@@ -284,7 +278,7 @@ fn read_keyword<'a>(
 
 /// Reads the statement that begins with the token `first`.
 #[tactic(auto, unfolding(crate::specs::Inner::Reading::statement_at))]
-pub fn read_statement<'a>(
+fn read_statement<'a>(
     alloc: Global,
     cursor: &mut Cursor<'a>,
     names: &mut IndexSet<&'a [u8]>,
@@ -302,7 +296,7 @@ pub fn read_statement<'a>(
     if second.is_equals() {
         read_driver(alloc, cursor, names, name, second)
     } else if second.is_open() {
-        read_keyword(alloc, cursor, names, name, second)
+        read_keyword(cursor, names, name, second)
     } else {
         Err(misplaced(second))
     }
