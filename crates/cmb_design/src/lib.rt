@@ -1,15 +1,15 @@
 //! A design: a netlist with its delays, its stimuli and its sampling clocks.
 #![tactic(auto)]
 
-pub mod clocks;
-pub mod delays;
+mod clocks;
+mod delays;
 pub mod design;
 pub mod examples;
 pub mod fault;
 mod fields;
 pub mod gates;
 pub mod laws;
-pub mod nets;
+mod nets;
 pub mod plain;
 mod plain_cells;
 mod plain_table;
@@ -18,7 +18,7 @@ mod records;
 pub mod rows;
 mod samples;
 pub mod settings;
-pub mod stimuli;
+mod stimuli;
 mod table;
 
 pub use design::Design;
