@@ -91,7 +91,7 @@ impl Collector {
     }
 
     /// Takes a wave over in the place of its net's, where it is known further. Copies no change and takes no memory.
-    /// Both waves must tell the same as far as both are known; exact ones do.
+    /// It isn't checked that both waves tell the same as far as both are known; exact ones do.
     pub fn adopt(&mut self, wave: Wave)
         requires net { wave.net < length self.old.waves }
         requires whole { wave.base ≡ 0 }
