@@ -1,6 +1,6 @@
 //! The changes of all nets in a span of ticks, net by net, and in one list by ticks and nets.
 
-ghost use Rattle.std.specs.Prelude.{◌≡◌, ◌+◌, ◌++◌, ◌≤◌, ◌<◌, ℕ, drop, filter, length, IfOk, OnOk};
+ghost use Rattle.std.specs.Prelude.{◌≡◌, ◌++◌, ◌≤◌, ℕ, drop, filter, length, IfOk, OnOk};
 ghost use Rattle.std.specs.List.Sorted.{IsNonDecreasingBy, IsPermutation};
 ghost use Rattle.cmb_wave.specs.Waveform.{IsTrace, Rises, below};
 ghost use Rattle.cmb_vcd.specs.Events.{AreFromStart, AreTraces, all_events, event_text, events_of, events_text, is_at, part_events, tick_of, within};
