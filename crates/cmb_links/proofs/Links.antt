@@ -1,5 +1,5 @@
 -- Each move of a link keeps its rule.
-use Rattle.std.proofs.Common.{◌≡◌, ℕ, zero, suc, ◌+◌, ◌⊎◌, List, [], ◌∷◌, ◌++◌, length, set, inl, inr, ⊎_elim, sym, refl, ap, ◌∙◌, subst, arith, append_assoc, length-append, All, get_or-append-add}
+use Rattle.std.proofs.Common.{◌≡◌, ℕ, zero, suc, ◌+◌, List, [], ◌∷◌, ◌++◌, length, set, inl, inr, ⊎_elim, sym, refl, ap, ◌∙◌, subst, arith, append_assoc, length-append, All, get_or-append-add}
 use Rattle.std.proofs.lemmas.List.Elements.{All-push, All-head}
 use mathlib.Core.Option.{some, some-injective, some-ne-none}
 use lib.ListN.{get_elem?}
@@ -9,7 +9,6 @@ use Rattle.cmb_design.specs.Design.{Design}
 use Rattle.cmb_design.specs.Exact.{IsExactIn}
 use Rattle.cmb_links.specs.Links.{fresh, putting, taking, IsBetween, IsLinked, Sends, Receives, EndsWith, GoesOn}
 use Rattle.cmb_links.specs.declared.end.End.{End}
-use Rattle.cmb_links.specs.declared.end.Role.{Role}
 use Rattle.cmb_links.specs.declared.end.Role.TheVariants.{Fresh, Puts, Takes}
 
 All-behind : {X : Type 0} (P : X → Type 0) (xs ys : List X) → All P (xs ++ ys) → All P ys

@@ -1,5 +1,5 @@
 -- Each step on a word of a board keeps the board's rule.
-use Rattle.std.proofs.Common.{◌≡◌, ◌≢◌, ℕ, ◌+◌, ◌%◌, ◌^◌, ◌<◌, ◌≤◌, ◌==◌, ⊎_elim, Bool, false, List, [], ◌∷◌, ◌++◌, map, length, slice_index, slice_index_or, set, sym, refl, ap, ◌∙◌, subst, arith, get_or-set_same, get_or-set_other, length-set, mod-eq_of_lt, All}
+use Rattle.std.proofs.Common.{◌≡◌, ◌≢◌, ℕ, ◌+◌, ◌%◌, ◌^◌, ◌<◌, ◌≤◌, ◌==◌, ⊎_elim, false, List, [], ◌∷◌, ◌++◌, map, length, slice_index, slice_index_or, set, sym, refl, ap, ◌∙◌, subst, arith, get_or-set_same, get_or-set_other, length-set, mod-eq_of_lt, All}
 use Rattle.std.proofs.lemmas.List.{map-set, set-get_or, length-map}
 use Rattle.std.proofs.lemmas.List.Elements.{All-push}
 use mathlib.Core.Logic.{dite}

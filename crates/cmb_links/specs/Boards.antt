@@ -89,11 +89,11 @@ pub record IsBoard (t : Terms) (s : State (Unit {0}) View) : Type 0 where
 
 -- ---- steps
 
--- there was a moment at which the board was as above, this was the seat's view, and P held of all words and views
+-- some state of words and views that the board's rule allows has this view at the seat's place, and P holds of it
 abbrev pub Moment : View → (State (Unit {0}) View → Type 0) → Type 0
 Moment v P = (s : State (Unit {0}) View) × IsBoard v.terms s × (get_elem? s.views v.place ≡ some v) × P s
 
--- after its step on a word the seat has the view w, and there was a moment with that view at which the word was x
+-- after its step on a word the seat has the view w, and some state that the rule allows has that view and x in the word
 abbrev pub Leaves : ℕ → ℕ → View → Me (Unit {0}) View → Me (Unit {0}) View → Type 0
 Leaves word x w m m' = (m' ≡ (w, m.1)) × Moment w (λ s. slice_index s.words word ≡ x)
 

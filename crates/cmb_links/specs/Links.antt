@@ -1,5 +1,5 @@
 -- What holds of a link at every moment, and what each step does to an end of it.
-use Rattle.std.specs.Prelude.{◌≡◌, ℕ, ◌≤◌, List, [], ◌∷◌, ◌++◌, ◌⊎◌, length, All, None}
+use Rattle.std.specs.Prelude.{◌≡◌, ℕ, List, [], ◌∷◌, ◌++◌, ◌⊎◌, length, All, None}
 use Rattle.atomic_table.specs.Seated.{TableId}
 use Rattle.cmb_wave.specs.Wave.{Piece}
 use Rattle.cmb_wave.specs.declared.level.Level.TheVariants.{X}
@@ -55,13 +55,13 @@ EndsWith sent held = (received : List Piece) × (sent ≡ received ++ held)
 abbrev pub GoesOn : Design → List Piece → List Piece → Type 0
 GoesOn design received held = (sent : List Piece) × (sent ≡ received ++ held) × All (IsExactIn design) sent
 
--- at one moment the link held as many pieces as it can
-abbrev pub WasFull : ℕ → List Piece → Type 0
-WasFull capacity sent = (held : List Piece) × (length held ≡ capacity) × EndsWith sent held
+-- the putting end can tell no more than that it put as many pieces as the link holds: the last of them may be what it holds
+abbrev pub MayBeFull : ℕ → List Piece → Type 0
+MayBeFull capacity sent = (held : List Piece) × (length held ≡ capacity) × EndsWith sent held
 
--- at one moment the link held none
-abbrev pub WasEmpty : Design → List Piece → Type 0
-WasEmpty design received = (held : List Piece) × (length held ≡ 0) × GoesOn design received held
+-- the taking end can tell no more than that what it took is exact: that may be all that was put
+abbrev pub MayBeEmpty : Design → List Piece → Type 0
+MayBeEmpty design received = (held : List Piece) × (length held ≡ 0) × GoesOn design received held
 
 pub record LinkData : Type 0 where
   pub link : TableId

@@ -198,7 +198,7 @@ impl Board {
         ensures rising { All (λ p. p.net ≡ net → p.upto ≤ result.upto) seat.old.view.promised.loads }
         ensures own { driver seat.old.view.terms net ≡ seat.old.view.place → result ≡ newest net seat.old.view.promised.published }
 
-        // In the step the word held the answer, which is (0, 0) or was published by the net's driving seat.
+        // Some state that the rule allows, with the seat's new view, has the answer in the word; it is (0, 0), or the net's driving seat published it.
         ensures moment { Moment seat.new.view (λ s. (slice_index s.words net ≡ word_of result) × IsKnown net (published_at s.views (driver seat.old.view.terms net)) result) }
     {
         let found = self

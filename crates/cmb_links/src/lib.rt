@@ -9,7 +9,6 @@ mod view;
 mod workers;
 
 pub use board::{Board, Seat};
-pub use end::Naming;
 pub use fault::{LinkFault, WorkersFault};
 pub use link::{Full, Link, PutPass, TakePass};
 pub use workers::Workers;

@@ -90,9 +90,10 @@ impl fmt::Debug for TakePass {
 impl Link {
     ghost use Rattle.std.specs.Prelude.{◌≡◌, ◌<◌, ◌↔◌, ◌⊎◌, IfOk, OnOk, IfErr, IfSome, IfNone, Err};
     ghost use Rattle.cmb_design.specs.Exact.{IsExactIn};
-    ghost use Rattle.cmb_links.specs.Links.{IsNewLink, after_put, after_take, WasFull, WasEmpty};
+    ghost use Rattle.cmb_links.specs.Links.{IsNewLink, MayBeEmpty, MayBeFull, after_put, after_take};
 
-    /// A link with nothing in it, the end that puts and the end that takes. Fault 48 where the capacity isn't 1 to 65,536 pieces.
+    /// A link with nothing in it, the end that puts and the end that takes. Fault 48 where the capacity isn't 1 to 65,536 pieces, 70
+    /// where memory was refused.
     pub fn open(
         alloc: Global,
         design: &Design,
@@ -127,13 +128,15 @@ impl Link {
         ))
     }
 
-    /// Puts a piece, exact in the pass's design, behind the others. Gives it back where the link was full at one moment of the call.
+    /// Puts a piece, exact in the pass's design, behind the others. Gives it back where the queue was full. The contract says that
+    /// the piece comes back unchanged and that at least as many were put before as the link holds; that it comes back only from a
+    /// full queue is tested, not proved.
     pub fn put<R: Wait>(&self, rt: &R, pass: &mut PutPass, piece: Piece) -> Result<(), Full>
         requires link { pass.old.link ≡ self.now.link }
         requires exact { IsExactIn pass.old.design piece }
         ensures ok { OnOk result (pass.new ≡ after_put pass.old piece) }
         ensures back { IfErr result (λ full. full.0 ≡ piece) }
-        ensures full { IfErr result (λ full. (pass.new ≡ pass.old) × WasFull self.now.capacity pass.old.sent) }
+        ensures full { IfErr result (λ full. (pass.new ≡ pass.old) × MayBeFull self.now.capacity pass.old.sent) }
     {
         match self.queue.push_as::<Sent, R>(rt, &mut pass.pass, piece) {
             Ok(()) => Ok(()),
@@ -141,12 +144,13 @@ impl Link {
         }
     }
 
-    /// Takes the piece that was put first of those held, if the link wasn't empty at one moment of the call.
+    /// Takes the piece that was put first of those held. Gives none where the queue was empty; that it gives none only then is
+    /// tested, not proved.
     pub fn take<R: Wait>(&self, rt: &R, pass: &mut TakePass) -> Option<Piece>
         requires link { pass.old.link ≡ self.now.link }
         ensures some { IfSome result (λ piece. pass.new ≡ after_take pass.old piece) }
         ensures exact { IfSome result (λ piece. IsExactIn pass.old.design piece) }
-        ensures none { IfNone result ((pass.new ≡ pass.old) × WasEmpty pass.old.design pass.old.received) }
+        ensures none { IfNone result ((pass.new ≡ pass.old) × MayBeEmpty pass.old.design pass.old.received) }
     {
         self.queue.pop_as::<Received, R>(rt, &mut pass.pass)
     }

@@ -39,14 +39,14 @@ abbrev pub is_identifier : List ℕ → Bool
 is_identifier [] = false
 is_identifier (byte ∷ bytes) = begins_identifier byte && list_all continues_identifier bytes
 
--- a name as Verilog writes it: where it is no simple identifier it is escaped by a backslash before it (clause 3.7.1)
+-- a name as Verilog writes it: where it is no simple identifier it is escaped by a backslash before it (clause 3.7.1). A keyword isn't escaped, since readers of such a text take it as a name
 unfoldable pub reference : List ℕ → List ℕ
 reference name = if is_identifier name then name else 92 ∷ name
 
 unfoldable pub var_line : ℕ → List ℕ → List ℕ
 var_line net name = line (codes "$var wire 1 " ++ code net ++ codes " " ++ reference name ++ codes " $end")
 
--- the declarations of the nets with these names, numbered from one on
+-- the declarations of the nets with these names, the first of which is net `net`
 unfoldable pub var_lines : ℕ → List (List ℕ) → List ℕ
 var_lines net [] = []
 var_lines net (name ∷ names) = var_line net name ++ var_lines (suc net) names
@@ -71,12 +71,12 @@ level_byte X = 120
 unfoldable pub level_line : Level → ℕ → List ℕ
 level_line level net = line (level_byte level ∷ code net)
 
--- the levels at a tick of so many nets, from one on
+-- the levels at a tick of so many nets, the first of which is net `net`
 unfoldable pub level_lines : (ℕ → ℕ → Level) → ℕ → ℕ → ℕ → List ℕ
 level_lines level tick net zero = []
 level_lines level tick net (suc nets) = level_line (level net tick) net ++ level_lines level tick (suc net) nets
 
--- the levels one tick later of those of so many nets, from one on, whose level is another then
+-- the levels one tick later of those of so many nets, the first of which is net `net`, whose level is another then
 unfoldable pub change_lines : (ℕ → ℕ → Level) → ℕ → ℕ → ℕ → List ℕ
 change_lines level tick net zero = []
 change_lines level tick net (suc nets) =

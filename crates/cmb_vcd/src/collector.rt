@@ -1,12 +1,11 @@
 //! The waves of all nets, put together from pieces.
 
-ghost use Rattle.std.specs.Prelude.{◌≡◌, ◌≤◌, ◌<◌, ◌↔◌, ℕ, length, slice_set, IsTrue, IfOk, IfErr, OnOk, OnErr, Ok};
-ghost use Rattle.cmb_wave.specs.Calls.{taken};
-ghost use Rattle.cmb_vcd.specs.Collector.{AreCollected, IsComplete, RefusesAs, adopted, collected, least, least_clock, new_collector, new_waves, wave_of};
+ghost use Rattle.std.specs.Prelude.{◌≡◌, ◌≤◌, ◌<◌, ◌↔◌, length, IsTrue, IfOk, IfErr, OnOk, OnErr, Ok};
+ghost use Rattle.cmb_vcd.specs.Collector.{AreCollected, IsComplete, RefusesAs, adopted, collected, least, least_clock, new_collector, new_waves};
 
 use crate::fault::CollectFault;
 use cmb_design::Design;
-use cmb_wave::{Piece, Wave, WaveFault};
+use cmb_wave::{Piece, Wave};
 use std::alloc::{AllocError, Global};
 use std::marker::Model;
 
@@ -91,7 +90,7 @@ impl Collector {
     }
 
     /// Takes a wave over in the place of its net's, where it is known further. Copies no change and takes no memory.
-    /// Both waves must tell the same as far as both are known; exact ones do.
+    /// It isn't checked that both waves tell the same as far as both are known; exact ones do.
     pub fn adopt(&mut self, wave: Wave)
         requires net { wave.net < length self.old.waves }
         requires whole { wave.base ≡ 0 }

@@ -1,11 +1,12 @@
 //! The changes of all nets in a span of ticks, net by net, and in one list by ticks and nets.
 
-ghost use Rattle.std.specs.Prelude.{◌≡◌, ◌+◌, ◌++◌, ◌≤◌, ◌<◌, ℕ, drop, filter, length, IfOk, OnOk};
+ghost use Rattle.std.specs.Prelude.{◌≡◌, ◌++◌, ◌≤◌, ℕ, drop, filter, length, IfOk, OnOk};
 ghost use Rattle.std.specs.List.Sorted.{IsNonDecreasingBy, IsPermutation};
 ghost use Rattle.cmb_wave.specs.Waveform.{IsTrace, Rises, below};
 ghost use Rattle.cmb_vcd.specs.Events.{AreFromStart, AreTraces, all_events, event_text, events_of, events_text, is_at, part_events, tick_of, within};
 
-use crate::lines::{push_level, push_tick};
+use crate::lines::push_tick;
+use crate::ready_codes::Codes;
 use cmb_wave::search::left_from;
 use cmb_wave::{Change, Level, Wave};
 use std::alloc::{AllocError, Global};
@@ -21,7 +22,7 @@ pub struct Part<'a> {
 #[derive(Clone, Copy)]
 pub struct Event {
     pub tick: u32,
-    pub net: u32,
+    pub net: u16,
     pub level: Level,
 }
 
@@ -90,7 +91,7 @@ fn add_events(events: &mut Vec<Event>, part: Part) -> Result<(), AllocError>
     for change in part.changes {
         events.push(Event {
             tick: change.tick,
-            net: u32::from(part.net),
+            net: part.net,
             level: change.level,
         })?;
     }
@@ -118,23 +119,28 @@ pub fn sort_events(events: &mut Vec<Event>) -> Result<(), AllocError>
     Ok(())
 }
 
-fn push_event(out: &mut Vec<u8>, last: u32, event: Event) -> Result<(), AllocError>
+fn push_event(out: &mut Vec<u8>, codes: &Codes, last: u32, event: Event) -> Result<(), AllocError>
     ensures { OnOk result (out.new.items ≡ out.old.items ++ event_text last event) }
 {
     if event.tick != last {
         push_tick(out, event.tick)?;
     }
-    push_level(out, event.level, event.net)?;
+    codes.push(out, event.level, event.net)?;
     Ok(())
 }
 
-/// The text of changes by rising tick, below the line of the tick `last`.
-pub fn push_events(out: &mut Vec<u8>, first: u32, events: &[Event]) -> Result<(), AllocError>
+/// The text of changes by rising tick, where the line of the tick `first` is written already.
+pub fn push_events(
+    out: &mut Vec<u8>,
+    codes: &Codes,
+    first: u32,
+    events: &[Event],
+) -> Result<(), AllocError>
     ensures { OnOk result (out.new.items ≡ out.old.items ++ events_text first events.now) }
 {
     let mut last = first;
     for event in events {
-        push_event(out, last, *event)?;
+        push_event(out, codes, last, *event)?;
         last = event.tick;
     }
     Ok(())

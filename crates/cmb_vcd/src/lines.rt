@@ -1,9 +1,8 @@
 //! The lines of the text.
 
-ghost use Rattle.std.specs.Prelude.{◌≡◌, ◌++◌, length, OnOk};
+ghost use Rattle.std.specs.Prelude.{◌≡◌, ◌++◌, OnOk};
 ghost use Rattle.std.specs.List.{list_all};
-ghost use Rattle.cmb_bench.specs.Netlist.{name_of};
-ghost use Rattle.cmb_vcd.specs.Vcd.{begins_identifier, code, continues_identifier, header, is_identifier, level_byte, level_line, reference, tick_line, var_line, var_lines};
+ghost use Rattle.cmb_vcd.specs.Vcd.{begins_identifier, code, continues_identifier, header, is_identifier, level_byte, reference, tick_line, var_line, var_lines};
 
 use cmb_bench::Netlist;
 use cmb_wave::Level;
@@ -31,17 +30,6 @@ pub fn byte_of(level: Level) -> u8
         Level::One => b'1',
         Level::X => b'x',
     }
-}
-
-/// The line of a net's level.
-#[tactic(auto, unfolding(crate::specs::Vcd::level_line))]
-pub fn push_level(out: &mut Vec<u8>, level: Level, net: u32) -> Result<(), AllocError>
-    ensures { OnOk result (out.new.items ≡ out.old.items ++ level_line level net) }
-{
-    out.push(byte_of(level))?;
-    push_code(out, net)?;
-    out.push(b'\n')?;
-    Ok(())
 }
 
 /// The line of a tick.

@@ -4,7 +4,7 @@ ghost use Rattle.std.specs.Prelude.{◌≡◌, ◌+◌, ◌%◌, ◌++◌, ◌�
 ghost use Rattle.cmb_vcd.specs.ReadyCodes.{code_bytes};
 ghost use Rattle.cmb_vcd.specs.Vcd.{code, level_line};
 
-use crate::lines::{byte_of, push_level};
+use crate::lines::byte_of;
 use cmb_wave::Level;
 use std::alloc::{AllocError, Global};
 use std::marker::Model;
@@ -79,15 +79,23 @@ impl Codes {
         Ok(Codes { codes })
     }
 
-    /// The line of a net's level; of a net beyond the codes its code is made anew.
-    pub fn push(&self, out: &mut Vec<u8>, level: Level, net: u16) -> Result<(), AllocError>
-        ensures { OnOk result (out.new.items ≡ out.old.items ++ level_line level net) }
+    // The code of a net; that of a net beyond the codes is made anew.
+    fn of(&self, net: u16) -> Code
+        ensures { code_bytes result ≡ code net }
     {
         let place = net as usize;
         if place >= self.codes.len() {
-            return push_level(out, level, u32::from(net));
+            return code_of(net);
         }
-        push_line(out, byte_of(level), self.codes[place])?;
+        self.codes[place]
+    }
+
+    /// The line of a net's level.
+    #[tactic(auto, unfolding(crate::specs::Vcd::level_line))]
+    pub fn push(&self, out: &mut Vec<u8>, level: Level, net: u16) -> Result<(), AllocError>
+        ensures { OnOk result (out.new.items ≡ out.old.items ++ level_line level net) }
+    {
+        push_line(out, byte_of(level), self.of(net))?;
         Ok(())
     }
 }

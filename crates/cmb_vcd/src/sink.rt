@@ -7,7 +7,7 @@ ghost use Rattle.cmb_vcd.specs.Ends.{write_failures};
 use std::alloc::{AllocError, Global};
 use std::io::Write;
 
-/// A write failed. Nothing more is known.
+/// A read or a write failed. Nothing more is known.
 #[derive(Clone, Copy, Debug, PartialEq, Eq)]
 pub struct Failed;
 
@@ -16,7 +16,7 @@ pub trait Sink {
     /// The bytes that were taken, where they are known.
     ghost taken: { Self → Option (List ℕ) };
 
-    /// How many writes have failed. A write that takes none of a text that isn't empty is one.
+    /// How many writes have failed. A write that takes none of a text that isn't empty is one, and so is one that was interrupted.
     ghost failures: { Self → ℕ };
 
     /// Takes some bytes from the front of the text, and says how many.
@@ -49,12 +49,14 @@ pub fn write_whole<S: Sink>(sink: &mut S, text: &[u8]) -> Result<(), usize>
 /// A list in memory with room that was made beforehand. A text that memory has no more room for is refused whole.
 #[derive(Drop)]
 pub struct Room {
+    /// What was taken.
     pub bytes: Vec<u8>,
+    /// How many writes have failed.
     pub failures: u64,
 }
 
 impl Room {
-    /// No bytes yet, and room for so many.
+    /// No bytes yet, and room for `capacity` bytes.
     pub fn new(alloc: Global, capacity: usize) -> Result<Room, AllocError>
         ensures empty { IfOk result (λ room. room.bytes.items ≡ []) }
         ensures room { IfOk result (λ room. vec_capacity room.bytes ≡ capacity) }
@@ -94,13 +96,16 @@ impl Sink for Room {
 /// A list in memory that takes a number of bytes and then fails.
 #[derive(Drop)]
 pub struct Limited {
+    /// What was taken.
     pub bytes: Vec<u8>,
+    /// How many bytes it still takes.
     pub left: usize,
+    /// How many writes have failed.
     pub failures: u64,
 }
 
 impl Limited {
-    /// No bytes yet, of which it will take so many.
+    /// No bytes yet; it takes `left` bytes.
     pub fn new(alloc: Global, left: usize) -> Limited
         ensures empty { result.bytes.items ≡ [] }
         ensures left { result.left ≡ left }
@@ -141,14 +146,18 @@ impl Sink for Limited {
     }
 }
 
-/// A writer of std, with a count of its errors.
+/// A writer of std, with a count of its writes that failed: those that gave an error, of which an interrupted call is one, and
+/// those that took none of a text that isn't empty.
 #[derive(Drop)]
 pub struct ToWriter<W> {
+    /// Where the bytes go.
     pub writer: W,
+    /// How many writes have failed.
     pub failures: u64,
 }
 
 impl<W> ToWriter<W> {
+    /// Takes a writer over, with no failure counted yet.
     pub fn new(writer: W) -> ToWriter<W>
         ensures writer { result.writer ≡ writer }
         ensures no_failure { result.failures ≡ 0 }

@@ -10,7 +10,7 @@ ghost use Rattle.cmb_vcd.specs.Vcd.{level_lines, text_of, tick_text, vcd};
 
 use crate::collector::Collector;
 use crate::events::{Part, gather, parts_within, push_events, sort_events};
-use crate::lines::{push_header, push_level, push_tick};
+use crate::lines::{push_header, push_tick};
 use crate::ready_codes::Codes;
 use crate::ticks::{by_ticks, count_of, push_by_ticks};
 use cmb_design::Design;
@@ -19,6 +19,9 @@ use std::alloc::{AllocError, Global};
 
 // The bytes of a level, a code of three digits, and the line's end.
 const LONGEST_LINE: usize = 5;
+
+// A count clears a place for each tick of a span, so it pays from one change in so many ticks on.
+const TICKS_A_CHANGE: u32 = 8;
 
 // The level of a wave at tick 0.
 fn first_level(wave: &Wave) -> Level
@@ -31,38 +34,38 @@ fn first_level(wave: &Wave) -> Level
     }
 }
 
-fn push_levels(out: &mut Vec<u8>, waves: &[Wave]) -> Result<(), AllocError>
+fn push_levels(out: &mut Vec<u8>, codes: &Codes, waves: &[Wave]) -> Result<(), AllocError>
     requires few { length waves.now ≤ 65535 }
     requires whole { AreFromStart waves.now }
     ensures { OnOk result (out.new.items ≡ out.old.items ++ level_lines (collected_level waves.now) 0 0 (length waves.now)) }
 {
     for net in 0..waves.len() {
-        push_level(out, first_level(&waves[net]), net as u32)?;
+        codes.push(out, first_level(&waves[net]), net as u16)?;
     }
     Ok(())
 }
 
 // The lines of tick 0.
 #[tactic(auto, unfolding(crate::specs::Vcd::tick_text))]
-fn push_first(out: &mut Vec<u8>, waves: &[Wave]) -> Result<(), AllocError>
+fn push_first(out: &mut Vec<u8>, codes: &Codes, waves: &[Wave]) -> Result<(), AllocError>
     requires few { length waves.now ≤ 65535 }
     requires whole { AreFromStart waves.now }
     ensures { OnOk result (out.new.items ≡ out.old.items ++ tick_text (length waves.now) (collected_level waves.now) 0) }
 {
     push_tick(out, 0)?;
     out.extend_from_slice(b"$dumpvars\n")?;
-    push_levels(out, waves)?;
+    push_levels(out, codes, waves)?;
     out.extend_from_slice(b"$end\n")?;
     Ok(())
 }
 
 // The lines of changes, which are sorted by comparison: for few changes in a long span of ticks.
-fn push_compared(out: &mut Vec<u8>, parts: &[Part]) -> Result<(), AllocError>
+fn push_compared(out: &mut Vec<u8>, codes: &Codes, parts: &[Part]) -> Result<(), AllocError>
     ensures { (from to : ℕ) → 0 < from → from ≤ to → All (IsWithin from to) (part_events parts.now) → OnOk result (out.new.items ≡ out.old.items ++ span_lines (part_events parts.now) from to) }
 {
     let mut events = gather(*out.allocator(), parts)?;
     sort_events(&mut events)?;
-    push_events(out, 0, events.as_slice())?;
+    push_events(out, codes, 0, events.as_slice())?;
     Ok(())
 }
 
@@ -100,8 +103,10 @@ fn push_parts(
     ensures { OnOk result (out.new.items ≡ out.old.items ++ span_lines (part_events parts.now) from to) }
 {
     match count_of(parts) {
-        Some(count) if count >= (to - from) / 8 => push_counted(out, codes, parts, from, to, count),
-        _ => push_compared(out, parts),
+        Some(count) if count >= (to - from) / TICKS_A_CHANGE => push_counted(
+            out, codes, parts, from, to, count,
+        ),
+        _ => push_compared(out, codes, parts),
     }
 }
 
@@ -143,7 +148,7 @@ fn push_ticks(
     if from != 0 {
         return push_later(out, codes, waves, from, to);
     }
-    push_first(out, waves)?;
+    push_first(out, codes, waves)?;
     push_later(out, codes, waves, 1, to)?;
     Ok(())
 }

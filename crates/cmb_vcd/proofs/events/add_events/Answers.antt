@@ -1,4 +1,4 @@
-use Rattle.std.proofs.Common.{◌∙◌, ◌++◌, ◌+◌, ℕ, List, [], ◌∷◌, sym, ap, arith, refl, drop, get_or}
+use Rattle.std.proofs.Common.{◌∙◌, ◌++◌, ◌+◌, List, [], ◌∷◌, sym, ap, arith, refl, drop, get_or}
 use Rattle.cmb_wave.specs.declared.level.Change.{Change}
 use Rattle.cmb_wave.specs.declared.level.Level.TheVariants as level
 use Rattle.cmb_vcd.specs.declared.events.Event.{Event}
@@ -15,8 +15,8 @@ loop-change-preserved c =
     let i = c.loop-change.change-index in
     let old = c.loop-change.events.items in
     let d : Change = record { tick = 0; level = level.Zero } in
-    let event : ℕ → List Event = λ n. record { tick = (get_or cs i d).tick; net = n; level = (get_or cs i d).level } ∷ [] in
-    push-rest old c.push.new.self.items (event net) (events_of net (drop (i + 1) cs)) _ (c.in_ok-push.ensures.items ∙ ap (λ n. old ++ event n) c.from.ensures)
+    let event : List Event = record { tick = (get_or cs i d).tick; net = net; level = (get_or cs i d).level } ∷ [] in
+    push-rest old c.push.new.self.items event (events_of net (drop (i + 1) cs)) _ c.in_ok-push.ensures.items
     (ap (λ t. old ++ t) (sym (events_of-next net cs i d (omega arith))) ∙ c.loop-change.invariant)
 
 pub returns : goal.returns

@@ -17,8 +17,8 @@ loop-net-preserved c =
     let old = c.loop-net.out.items in
     let within_list : n < length waves = omega arith in
     let here : c.index-waves-net.result ≡ wave_of waves n = wave_here waves n c.index-waves-net.result within_list c.index-waves-net.is in
-    push-rest old c.push_level.new.out.items (level_line (level n 0) n) (level_lines level 0 (n + 1) (length waves - (n + 1))) _
-    (c.in_ok-push_level.ensures ∙ ap (λ l. old ++ level_line l n) (c.first_level.ensures ∙ ap (λ (w : Wave). level_at w.kept w.changes 0) here))
+    push-rest old c.push.new.out.items (level_line (level n 0) n) (level_lines level 0 (n + 1) (length waves - (n + 1))) _
+    (c.in_ok-push.ensures ∙ ap (λ l. old ++ level_line l n) (c.first_level.ensures ∙ ap (λ (w : Wave). level_at w.kept w.changes 0) here))
     (ap (λ t. old ++ t) (sym (level_lines-next level 0 n (length waves) within_list)) ∙ c.loop-net.invariant)
 
 pub returns : goal.returns

@@ -1,4 +1,4 @@
-use Rattle.std.proofs.Common.{◌≡◌, ◌<◌, ◌≤◌, rules, arith, ap, sym, ◌∙◌}
+use Rattle.std.proofs.Common.{◌≡◌, ◌≤◌, rules, arith, ap, sym, ◌∙◌}
 use Rattle.cmb_design.specs.Exact.{IsRightIn}
 use Rattle.cmb_links.specs.Promises.{newest}
 use Rattle.cmb_links.specs.Seats.{driver}

@@ -2,15 +2,12 @@ use Rattle.std.proofs.Common.{◌≡◌, ◌<◌, ◌∙◌, ap, arith, get_or, 
 use Rattle.std.proofs.lemmas.List.{get_or_default}
 use Rattle.cmb_vcd.specs.declared.ready_codes.Code.TheVariants.{One}
 use Rattle.cmb_vcd.specs.ReadyCodes.{code_bytes}
-use Rattle.cmb_vcd.specs.Vcd.{code, level_line}
-use Rattle.cmb_vcd.proofs.ready_codes.Codes.push.Goals as goal
+use Rattle.cmb_vcd.proofs.ready_codes.Codes.of.Goals as goal
 
 pub returns : goal.returns
-unfolding level_line
 returns c =
     let codes = c.self.inside.codes.items in
     let net = c.args.net in
     let within : net < length codes = omega (arith, c.if-place-len.false, c.len.ensures, c.self.inside.codes.ok) in
     let here : c.index.result.now ≡ get_or codes net (One 0) = c.index.ensures ∙ get_or_default codes net c.index.result.now (One 0) within in
-    let right : code_bytes c.index.result.now ≡ code net = ap code_bytes here ∙ c.self.invariant net within in
-    rw (← right, ← c.byte_of.ensures) c.in_ok-push_line.ensures
+    ap code_bytes here ∙ c.self.invariant net within
