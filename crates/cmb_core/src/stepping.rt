@@ -7,8 +7,8 @@ ghost use Rattle.cmb_core.specs.Clustering.{Clustering as Clusters};
 ghost use Rattle.cmb_core.specs.Clusters.{IsSameButWaves, IsSound, new_waves_at, reach_at, slot_wave};
 ghost use Rattle.cmb_core.specs.Exactness.{IsExactCluster};
 ghost use Rattle.cmb_core.specs.Opened.{IsClusterOf, own_nets};
-ghost use Rattle.cmb_core.specs.Passes.{IsPass};
-ghost use Rattle.cmb_core.specs.Sweep.{some_rises, stepped_waves, AreReached};
+ghost use Rattle.cmb_core.specs.Passes.{AreSweptBetween, IsPass};
+ghost use Rattle.cmb_core.specs.Sweep.{some_rises, stepped_waves, AreReached, AreSwept};
 
 use crate::cluster::{Cluster, Next};
 use crate::loops::stretch_within;
@@ -101,6 +101,7 @@ impl Cluster {
         ensures pass { IfOk result (λ rose. IsPass self.old self.new begin end rose) }
         ensures room { OnOk result (room.new.items ≡ []) }
         ensures waves { (design : Design) (clustering : Clusters) (cluster : ℕ) → IsClusterOf design clustering cluster self.old → AreReached design clustering cluster self.old.waves self.new.waves }
+        ensures swept { (design : Design) (clustering : Clusters) (cluster : ℕ) → IsClusterOf design clustering cluster self.old → OnOk result (AreSweptBetween design clustering cluster begin end self.old.waves self.new.waves) }
         ensures same { IsSameButWaves self.old self.new }
         ensures exact { (design : Design) (clustering : Clusters) (cluster : ℕ) → IsExactCluster design clustering cluster self.old → IsExactCluster design clustering cluster self.new }
     {
@@ -128,6 +129,7 @@ impl Cluster {
         ensures pass { IfOk result (λ rose. IsPass self.old self.new begin end rose) }
         ensures room { OnOk result (room.new.items ≡ []) }
         ensures waves { (design : Design) (clustering : Clusters) (cluster : ℕ) → IsClusterOf design clustering cluster self.old → AreReached design clustering cluster self.old.waves self.new.waves }
+        ensures swept { (design : Design) (clustering : Clusters) (cluster : ℕ) → IsClusterOf design clustering cluster self.old → OnOk result (AreSweptBetween design clustering cluster begin end self.old.waves self.new.waves) }
         ensures same { IsSameButWaves self.old self.new }
         ensures exact { (design : Design) (clustering : Clusters) (cluster : ℕ) → IsExactCluster design clustering cluster self.old → IsExactCluster design clustering cluster self.new }
     {
@@ -147,6 +149,7 @@ impl Cluster {
     pub fn step_loops(&mut self) -> Result<bool, AllocError>
         ensures rose { (design : Design) (clustering : Clusters) (cluster : ℕ) → IsClusterOf design clustering cluster self.old → IfOk result (λ rose. rose ≡ some_rises design self.old.waves (own_nets design clustering cluster)) }
         ensures waves { (design : Design) (clustering : Clusters) (cluster : ℕ) → IsClusterOf design clustering cluster self.old → AreReached design clustering cluster self.old.waves self.new.waves }
+        ensures swept { (design : Design) (clustering : Clusters) (cluster : ℕ) → IsClusterOf design clustering cluster self.old → OnOk result (AreSwept design clustering cluster self.old.waves self.new.waves) }
         ensures same { IsSameButWaves self.old self.new }
         ensures exact { (design : Design) (clustering : Clusters) (cluster : ℕ) → IsExactCluster design clustering cluster self.old → IsExactCluster design clustering cluster self.new }
     {
