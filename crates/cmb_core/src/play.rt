@@ -32,7 +32,7 @@ impl World {
     ghost use Rattle.cmb_core.specs.Clusters.{step_answer, step_waves, delivered, RefusesDelivery, heard_at, input_slot};
     ghost use Rattle.cmb_core.specs.Opened.{IsClusterOf, IsOwnNet};
     ghost use Rattle.cmb_core.specs.Play.{IsReached, IsWorldOf, IsSameBut, IsSameSize, Plays, cluster_at, home_wave, post_at, shown};
-    ghost use Rattle.cmb_core.specs.Clocks.{start};
+    ghost use Rattle.cmb_core.specs.Clocks.{start, play as play_clocks};
     ghost use Rattle.cmb_core.specs.Run.{clocks_after, replies_to};
     ghost use Rattle.cmb_core.specs.Step.{wave_at};
     ghost use Rattle.cmb_core.specs.World.{Shows, play_world, with_wave, world_after, world_replies};
@@ -45,6 +45,8 @@ impl World {
         ensures kept { (design : Design) (clustering : Clustering) → IsWorldOf design clustering self.old → IsWorldOf design clustering self.new }
         ensures unchanged { OnErr result (self.new ≡ self.old) }
         ensures size { IsSameSize self.old self.new }
+        ensures sequential { (design : Design) (clustering : Clustering) (past : List Event) → IsWorldOf design clustering self.old → IsReached design clustering (shown self.old) past → result ≢ Err Memory → result ≡ (play_clocks design clustering (clocks_after design clustering (start design clustering) past) event).reply }
+        ensures exact { (design : Design) (clustering : Clustering) (past : List Event) → IsWorldOf design clustering self.old → IsReached design clustering (shown self.old) past → result ≢ Err Memory → Shows design clustering (shown self.new) (play_clocks design clustering (clocks_after design clustering (start design clustering) past) event).clocks }
     {
         match event {
             Event::Step(net) => self.step(net),
