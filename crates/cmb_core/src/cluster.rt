@@ -172,7 +172,7 @@ impl Cluster {
         };
         let mut changes = Vec::new(self.waves.allocator());
         self.processes
-            .changes(slot, &mut changes, self.horizon, &self.waves, span, held)?;
+            .changes(slot, &mut changes, &self.waves, span, held)?;
         let piece = self.waves.grow(slot, span.until, changes)?;
         Ok(Some(piece))
     }

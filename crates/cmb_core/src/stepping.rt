@@ -55,8 +55,7 @@ impl Cluster {
         let Some(Next { span, held }) = self.next_span(slot) else {
             return Ok(false);
         };
-        self.processes
-            .changes(slot, room, self.horizon, &self.waves, span, held)?;
+        self.processes.changes(slot, room, &self.waves, span, held)?;
         self.waves.extend(slot, span.until, room)?;
         room.clear();
         Ok(true)
