@@ -39,7 +39,9 @@ impl World {
 
     /// What an event does: the call on its cluster, over that cluster's own waves as they stand. 45 where the net, the
     /// cluster or the number isn't there, 46 where a piece would begin beyond the clock, and then as the cluster
-    /// refuses: 44, 42, 43, and 47, which doesn't come over exact waves. A refusal changes nothing.
+    /// refuses: 44, 42, 43, and 47, which doesn't come over exact waves. 70 where there is no memory. A refusal
+    /// changes nothing. Over a world that came about from newly opened clusters, the reply and the clocks after the
+    /// event are those of the machine of clocks, and every wave is exact.
     pub fn play(&mut self, event: Event) -> Result<Reply, PlayFault>
         ensures played { (design : Design) (clustering : Clustering) → IsWorldOf design clustering self.old → Plays (play_world design clustering (shown self.old) event) (shown self.old) (shown self.new) result }
         ensures kept { (design : Design) (clustering : Clustering) → IsWorldOf design clustering self.old → IsWorldOf design clustering self.new }

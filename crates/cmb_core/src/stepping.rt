@@ -15,7 +15,8 @@ use crate::loops::stretch_within;
 use cmb_wave::Change;
 use std::alloc::AllocError;
 
-// So often a loop is gone over again at once: its waves are near then, and others don't wait long for it.
+// So often at most a loop, as `loops` cuts it out, is gone over again at once, which makes 64 times in all:
+// its waves are near then, and others don't wait long for it. Only speed depends on the number.
 const AGAIN: usize = 63;
 
 fn either(a: bool, b: bool) -> bool
@@ -142,9 +143,11 @@ impl Cluster {
         Ok(rose)
     }
 
-    /// Steps each net that is driven here, in order, and those of a feedback loop some times in a row,
-    /// and says whether a clock rose. Where there is no memory the cluster stands as after some of these
-    /// steps.
+    /// Steps each net that is driven here at least once, and says whether a clock rose. It goes by the
+    /// nets' numbers, and over a stretch of them whose processes read forward within it, as those of a
+    /// feedback loop do, up to 64 times in a row while a clock rises there, unless they wait for an input
+    /// wave. Only speed depends on that. Where there is no memory the cluster stands as after some of
+    /// these steps.
     pub fn step_loops(&mut self) -> Result<bool, AllocError>
         ensures rose { (design : Design) (clustering : Clusters) (cluster : ℕ) → IsClusterOf design clustering cluster self.old → IfOk result (λ rose. rose ≡ some_rises design self.old.waves (own_nets design clustering cluster)) }
         ensures waves { (design : Design) (clustering : Clusters) (cluster : ℕ) → IsClusterOf design clustering cluster self.old → AreReached design clustering cluster self.old.waves self.new.waves }
