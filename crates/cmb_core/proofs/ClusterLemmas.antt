@@ -63,16 +63,16 @@ flop_need_le first period delay clock later pos h =
     let samples : last_sample first period (clock - delay) ≤ last_sample first period (later - delay) = last_sample_le first period (clock - delay) (later - delay) pos (omega arith) in
     grind (arith, nat_tests)
 
-pub ready_still : (horizon : ℕ) (old new : List Wave) (clock later : ℕ) (rule : Rule) (os : List Operand) (cs : List Change) → GoneOn old new → clock ≤ later → IsReadyFor horizon old clock rule os cs → IsReadyFor horizon new later rule os cs
-ready_still horizon old new clock later Given os cs g h r = tt
-ready_still horizon old new clock later Input os cs g h r = r
-ready_still horizon old new clock later (Gate kind) os cs g h r = (r.0, are_ready_still old new clock later os g h r.1)
-ready_still horizon old new clock later (Flop first period init) [] cs g h r = absurd r
-ready_still horizon old new clock later (Flop first period init) (o ∷ []) cs g h r =
+pub ready_still : (old new : List Wave) (clock later : ℕ) (rule : Rule) (os : List Operand) (cs : List Change) → GoneOn old new → clock ≤ later → IsReadyFor old clock rule os cs → IsReadyFor new later rule os cs
+ready_still old new clock later Given os cs g h r = tt
+ready_still old new clock later Input os cs g h r = r
+ready_still old new clock later (Gate kind) os cs g h r = (r.0, are_ready_still old new clock later os g h r.1)
+ready_still old new clock later (Flop first period init) [] cs g h r = absurd r
+ready_still old new clock later (Flop first period init) (o ∷ []) cs g h r =
     let more : flop_need first period o.delay clock ≤ flop_need first period o.delay later = flop_need_le first period o.delay clock later r.0 h in
     let kept : (wave_at old o.net).base ≤ flop_need first period o.delay clock = r.2 in
     (r.0, g.slots o.net ∙ r.1, omega (arith, g.base o.net))
-ready_still horizon old new clock later (Flop first period init) (o ∷ p ∷ os) cs g h r = absurd r
+ready_still old new clock later (Flop first period init) (o ∷ p ∷ os) cs g h r = absurd r
 
 -- the place of a net's wave is that of its net
 pub slot_place : (waves : List Wave) (net : ℕ) → slot_of waves net ≡ place_in (wave_nets waves) net
@@ -87,7 +87,7 @@ pub sound_still : (horizon : ℕ) (processes : List Process) (old new : List Wav
 sound_still horizon processes old new g s = record {
   paired = g.count ∙ s.paired;
   whole = λ i h driven. g.bases i ∙ s.whole i h driven;
-  ready = λ i h. ready_still horizon old new _ _ _ _ _ g (g.clock i) (s.ready i h);
+  ready = λ i h. ready_still old new _ _ _ _ _ g (g.clock i) (s.ready i h);
 }
 
 -- and where one of them is put in its place anew

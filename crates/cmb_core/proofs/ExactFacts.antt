@@ -83,9 +83,9 @@ module _ (design : Design) (waves : List Wave) (net clock : ℕ) where
   gate_kept pin [] (o ∷ os) a r = absurd a
   gate_kept pin (source ∷ sources) [] a r = absurd a
 
-  flop_kept : (horizon source : ℕ) (os : List Operand) (cs : List Change) → AreOperands design net 1 (source ∷ []) os → IsReadyFor horizon waves clock (Flop (clock_of design net).first (clock_of design net).period design.init) os cs → told_from waves source ≤ net_need design net clock
-  flop_kept horizon source [] cs a r = absurd a
-  flop_kept horizon source (o ∷ []) cs a r =
+  flop_kept : (source : ℕ) (os : List Operand) (cs : List Change) → AreOperands design net 1 (source ∷ []) os → IsReadyFor waves clock (Flop (clock_of design net).first (clock_of design net).period design.init) os cs → told_from waves source ≤ net_need design net clock
+  flop_kept source [] cs a r = absurd a
+  flop_kept source (o ∷ []) cs a r =
       let same : (wave_at waves o.net).base ≡ (wave_at waves source).base = ap (λ n. (wave_at waves n).base) a.0 in
       let kept : (wave_at waves o.net).base ≤ flop_need (clock_of design net).first (clock_of design net).period o.delay clock = r.2 in
       let late : flop_need (clock_of design net).first (clock_of design net).period o.delay clock ≡ flop_need (clock_of design net).first (clock_of design net).period (delay design net 1) clock = ap (λ d. flop_need (clock_of design net).first (clock_of design net).period d clock) a.1 in
@@ -96,23 +96,23 @@ module _ (design : Design) (waves : List Wave) (net clock : ℕ) where
     where
       at_most : (a b c : ℕ) → a ≤ b → b ≤ c → a ≤ c
       at_most a b c h k = omega (arith, h, k)
-  flop_kept horizon source (o ∷ q ∷ os) cs a r = absurd a.2
+  flop_kept source (o ∷ q ∷ os) cs a r = absurd a.2
 
-  kept_by : (horizon : ℕ) (driver : Driver) (p : Process) → IsDrivenBy design net driver p → IsReadyFor horizon waves clock p.rule p.operands p.stimulus → IsKept design (told_from waves) net clock driver
-  kept_by horizon InputNet p d r = tt
-  kept_by horizon (GateNet kind sources) p d r =
-      let R : Rule → Type 0 = λ rule. IsReadyFor horizon waves clock rule p.operands p.stimulus in
+  kept_by : (driver : Driver) (p : Process) → IsDrivenBy design net driver p → IsReadyFor waves clock p.rule p.operands p.stimulus → IsKept design (told_from waves) net clock driver
+  kept_by InputNet p d r = tt
+  kept_by (GateNet kind sources) p d r =
+      let R : Rule → Type 0 = λ rule. IsReadyFor waves clock rule p.operands p.stimulus in
       gate_kept 1 sources p.operands d.1 (subst R d.0 r).1
-  kept_by horizon (FlopNet source) p d r =
-      let R : Rule → Type 0 = λ rule. IsReadyFor horizon waves clock rule p.operands p.stimulus in
-      flop_kept horizon source p.operands p.stimulus d.1 (subst R d.0 r)
+  kept_by (FlopNet source) p d r =
+      let R : Rule → Type 0 = λ rule. IsReadyFor waves clock rule p.operands p.stimulus in
+      flop_kept source p.operands p.stimulus d.1 (subst R d.0 r)
 
 pub kept_here : (design : Design) (s : Cluster) (net slot : ℕ) → Drives design s net slot → IsSound s → IsKept design (told_from s.waves) net (wave_at s.waves net).clock (driver_of design.netlist net)
 kept_here design s net slot d sound =
     let wave : (slot < length s.waves) × (get_or s.waves slot (new_wave 0) ≡ wave_at s.waves net) = slot_is s.waves net slot (new_wave 0) d.here in
     let here : slot < length s.processes = omega (arith, wave.0, sound.paired) in
     let K : ℕ → Type 0 = λ clock. IsKept design (told_from s.waves) net clock (driver_of design.netlist net) in
-    subst K (ap (λ w. w.clock) wave.1) (kept_by design s.waves net (slot_wave s slot).clock s.horizon (driver_of design.netlist net) (process_at s slot) d.process (sound.ready slot here))
+    subst K (ap (λ w. w.clock) wave.1) (kept_by design s.waves net (slot_wave s slot).clock (driver_of design.netlist net) (process_at s slot) d.process (sound.ready slot here))
 
 -- ---- a step
 

@@ -144,23 +144,23 @@ pub ready_at : (places : List (Option ℕ)) (waves : List Wave) (os : List Opera
 ready_at places waves [] whole a = tt
 ready_at places waves (o ∷ os) whole a = ((whole.slots o.net ∙ a.0, omega (arith, whole.bases o.net)), ready_at places waves os whole a.1)
 
-pub gate_starts : (horizon : ℕ) (places : List (Option ℕ)) (kind : Kind) (os : List Operand) (cs : List Change) → MayTake kind (length os) → AreAt places os
-    → StartsOn horizon places (record { rule = Gate kind; operands = os; stimulus = cs })
-gate_starts horizon places kind os cs takes a = record { at = a; ready = λ waves whole. (takes, ready_at places waves os whole a) }
+pub gate_starts : (places : List (Option ℕ)) (kind : Kind) (os : List Operand) (cs : List Change) → MayTake kind (length os) → AreAt places os
+    → StartsOn places (record { rule = Gate kind; operands = os; stimulus = cs })
+gate_starts places kind os cs takes a = record { at = a; ready = λ waves whole. (takes, ready_at places waves os whole a) }
 
-flop_ready : (horizon : ℕ) (places : List (Option ℕ)) (first period : ℕ) (init : Level) (os : List Operand) (cs : List Change) → 0 < period → length os ≡ 1 → AreAt places os
-    → (waves : List Wave) → AreWhole places waves → IsReadyFor horizon waves 0 (Flop first period init) os cs
-flop_ready horizon places first period init [] cs positive one a waves whole = absurd (omega arith)
-flop_ready horizon places first period init (o ∷ []) cs positive one a waves whole =
+flop_ready : (places : List (Option ℕ)) (first period : ℕ) (init : Level) (os : List Operand) (cs : List Change) → 0 < period → length os ≡ 1 → AreAt places os
+    → (waves : List Wave) → AreWhole places waves → IsReadyFor waves 0 (Flop first period init) os cs
+flop_ready places first period init [] cs positive one a waves whole = absurd (omega arith)
+flop_ready places first period init (o ∷ []) cs positive one a waves whole =
     (positive, whole.slots o.net ∙ a.0, omega (arith, whole.bases o.net))
-flop_ready horizon places first period init (o ∷ q ∷ os) cs positive one a waves whole = absurd (omega arith)
+flop_ready places first period init (o ∷ q ∷ os) cs positive one a waves whole = absurd (omega arith)
 
-pub flop_starts : (horizon : ℕ) (places : List (Option ℕ)) (first period : ℕ) (init : Level) (os : List Operand) (cs : List Change) → 0 < period → length os ≡ 1 → AreAt places os
-    → StartsOn horizon places (record { rule = Flop first period init; operands = os; stimulus = cs })
-flop_starts horizon places first period init os cs positive one a = record { at = a; ready = flop_ready horizon places first period init os cs positive one a }
+pub flop_starts : (places : List (Option ℕ)) (first period : ℕ) (init : Level) (os : List Operand) (cs : List Change) → 0 < period → length os ≡ 1 → AreAt places os
+    → StartsOn places (record { rule = Flop first period init; operands = os; stimulus = cs })
+flop_starts places first period init os cs positive one a = record { at = a; ready = flop_ready places first period init os cs positive one a }
 
 pub input_starts : (horizon : ℕ) (places : List (Option ℕ)) (level : ℕ → Level) (cs : List Change) → cs ≡ changes_between level 0 horizon
-    → StartsOn horizon places (record { rule = Input; operands = []; stimulus = cs })
+    → StartsOn places (record { rule = Input; operands = []; stimulus = cs })
 input_starts horizon places level cs e =
     record { at = tt; ready = λ waves whole. rw e (rises-within 0 horizon (changes_between level 0 horizon) (changes_between-rises level 0 horizon (omega arith))) }
 
@@ -174,10 +174,10 @@ processes_more design clustering cluster net process (n ∷ nets) (p ∷ process
 processes_more design clustering cluster net process [] (p ∷ processes) a is = absurd a
 processes_more design clustering cluster net process (n ∷ nets) [] a is = absurd a
 
-pub starts_more : (horizon : ℕ) (places : List (Option ℕ)) (process : Process) (processes : List Process) → AllStartOn horizon places processes → StartsOn horizon places process
-    → AllStartOn horizon places (processes ++ process ∷ [])
-starts_more horizon places process [] a s = (s, tt)
-starts_more horizon places process (p ∷ processes) a s = (a.0, starts_more horizon places process processes a.1 s)
+pub starts_more : (places : List (Option ℕ)) (process : Process) (processes : List Process) → AllStartOn places processes → StartsOn places process
+    → AllStartOn places (processes ++ process ∷ [])
+starts_more places process [] a s = (s, tt)
+starts_more places process (p ∷ processes) a s = (a.0, starts_more places process processes a.1 s)
 
 pub driven_more : (process : Process) (net : ℕ) (processes : List Process) (nets : List ℕ) → length processes ≡ length nets
     → driven_among (processes ++ process ∷ []) (nets ++ net ∷ []) ≡ driven_among processes nets ++ cond (is_given process.rule) [] (net ∷ [])

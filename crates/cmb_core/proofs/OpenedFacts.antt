@@ -88,10 +88,10 @@ at_below : (places : List (Option ℕ)) (nets : List ℕ) → ((net : ℕ) → g
 at_below places nets at [] a = tt
 at_below places nets at (o ∷ os) a = (place_below nets o.net o.slot (sym (at o.net) ∙ a.0), at_below places nets at os a.1)
 
-pub slots_below : (horizon : ℕ) (places : List (Option ℕ)) (nets : List ℕ) → ((net : ℕ) → get_or places net None ≡ place_in nets net) → (processes : List Process) → AllStartOn horizon places processes
+pub slots_below : (places : List (Option ℕ)) (nets : List ℕ) → ((net : ℕ) → get_or places net None ≡ place_in nets net) → (processes : List Process) → AllStartOn places processes
     → AllByRecursion (λ process. All (λ o. o.slot < length nets) process.operands) processes
-slots_below horizon places nets at [] a = tt
-slots_below horizon places nets at (p ∷ processes) a = (All-from_recursion (λ o. o.slot < length nets) p.operands (at_below places nets at p.operands a.0.at), slots_below horizon places nets at processes a.1)
+slots_below places nets at [] a = tt
+slots_below places nets at (p ∷ processes) a = (All-from_recursion (λ o. o.slot < length nets) p.operands (at_below places nets at p.operands a.0.at), slots_below places nets at processes a.1)
 
 -- new waves
 pub new_nets : (nets : List ℕ) → wave_nets (map new_wave nets) ≡ nets
@@ -115,20 +115,20 @@ length_new : (nets : List ℕ) → length (map new_wave nets) ≡ length nets
 length_new [] = refl
 length_new (n ∷ nets) = ap (λ k. suc k) (length_new nets)
 
-starts_at : (horizon : ℕ) (places : List (Option ℕ)) (processes : List Process) (i : ℕ) (d : Process) → AllStartOn horizon places processes → i < length processes → StartsOn horizon places (get_or processes i d)
-starts_at horizon places [] i d a h = absurd (omega arith)
-starts_at horizon places (p ∷ processes) zero d a h = a.0
-starts_at horizon places (p ∷ processes) (suc i) d a h = starts_at horizon places processes i d a.1 (omega arith)
+starts_at : (places : List (Option ℕ)) (processes : List Process) (i : ℕ) (d : Process) → AllStartOn places processes → i < length processes → StartsOn places (get_or processes i d)
+starts_at places [] i d a h = absurd (omega arith)
+starts_at places (p ∷ processes) zero d a h = a.0
+starts_at places (p ∷ processes) (suc i) d a h = starts_at places processes i d a.1 (omega arith)
 
-pub opened_sound : (horizon : ℕ) (places : List (Option ℕ)) (nets : List ℕ) (processes : List Process) → ((net : ℕ) → get_or places net None ≡ place_in nets net) → AllStartOn horizon places processes → length processes ≡ length nets
+pub opened_sound : (horizon : ℕ) (places : List (Option ℕ)) (nets : List ℕ) (processes : List Process) → ((net : ℕ) → get_or places net None ≡ place_in nets net) → AllStartOn places processes → length processes ≡ length nets
     → IsSound (record { horizon = horizon; processes = processes; waves = map new_wave nets })
 opened_sound horizon places nets processes at starts count = record {
   paired = length_new nets ∙ sym count;
   whole = λ i h driven. (new_at nets i).0;
   ready = λ i h.
       let none : Process = record { rule = Given; operands = []; stimulus = [] } in
-      let s : StartsOn horizon places (get_or processes i none) = starts_at horizon places processes i none starts h in
-      let P : ℕ → Type 0 = λ clock. IsReadyFor horizon (map new_wave nets) clock (get_or processes i none).rule (get_or processes i none).operands (get_or processes i none).stimulus in
+      let s : StartsOn places (get_or processes i none) = starts_at places processes i none starts h in
+      let P : ℕ → Type 0 = λ clock. IsReadyFor (map new_wave nets) clock (get_or processes i none).rule (get_or processes i none).operands (get_or processes i none).stimulus in
       subst P (sym (new_at nets i).1) (s.ready (map new_wave nets) whole);
 }
   where

@@ -67,6 +67,14 @@ module _ (design : Design) (clustering : Clustering) (cluster : ℕ) (s : Cluste
   pub own_placed : IsOwnNet design clustering cluster net → IsSome (slot_of s.waves net)
   own_placed own = some_place own.there (or_left _ _ (own_test own))
 
+  -- the cluster's own nets are among the nets held
+  pub own_held : IsOwnNet design clustering cluster net → (place : ℕ) × (place < length (held_nets design clustering cluster)) × (get_or (held_nets design clustering cluster) place 0 ≡ net)
+  own_held own = go (slot_of s.waves net) refl (own_placed own)
+    where
+      go : (o : Option ℕ) → slot_of s.waves net ≡ o → IsSome o → (place : ℕ) × (place < length (held_nets design clustering cluster)) × (get_or (held_nets design clustering cluster) place 0 ≡ net)
+      go None e h = cc
+      go (Some slot) e h = let there = at slot e in (slot, there.0, there.1)
+
   -- the cluster's own nets are driven there
   pub own_driven : IsOwnNet design clustering cluster net → IsDrivenHere s net
   own_driven own = go (slot_of s.waves net) refl (own_placed own)

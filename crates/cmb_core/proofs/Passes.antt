@@ -1,9 +1,10 @@
 -- Going over some places of a cluster, once or several times in a row.
-use Rattle.std.proofs.Common.{◌≡◌, ℕ, zero, suc, ◌+◌, ◌<◌, ◌≤◌, Bool, true, false, ◌||◌, cond, ltb, leb, List, [], ◌∷◌, ◌++◌, ◌⊎◌, inl, inr, length, get_or, refl, sym, ◌∙◌, ap, subst, arith}
-use Rattle.std.specs.List.{AllByRecursion}
+use Rattle.std.proofs.Common.{◌≡◌, ℕ, zero, suc, ◌+◌, ◌-◌, ◌<◌, ◌≤◌, Bool, true, false, ◌||◌, cond, ltb, leb, List, [], ◌∷◌, ◌++◌, ◌⊎◌, inl, inr, length, get_or, refl, sym, ◌∙◌, ap, subst, arith}
+use Rattle.std.specs.List.{AllByRecursion, Contains}
 use Rattle.std.proofs.lemmas.Bool.{eq-eqb, cases_eq, lt-ltb, le-leb, ltb-true, ltb-false}
-use Rattle.std.proofs.lemmas.List.Elements.{All-append, All-from_recursion, filter_more}
+use Rattle.std.proofs.lemmas.List.Elements.{All-append, All-from_recursion, Contains-append_left, Contains-append_right, Contains-push, filter_more}
 use Rattle.std.proofs.lemmas.List.{append-nil}
+use Rattle.cmb_wave.specs.Waveform.{last_level, level_at, level_before}
 use Rattle.cmb_wave.specs.Wave.{Wave}
 use Rattle.cmb_design.specs.Design.{Design}
 use Rattle.cmb_design.specs.Exact.{IsExactWaveIn}
@@ -12,17 +13,25 @@ use Rattle.cmb_core.specs.Clusters.{Cluster, IsSameButWaves, new_waves_at, reach
 use Rattle.cmb_core.specs.Exactness.{IsExactCluster}
 use Rattle.cmb_core.specs.Opened.{IsClusterOf, IsOwnNet, is_own, held_nets, own_nets}
 use Rattle.cmb_core.specs.Step.{wave_at, step_reach}
-use Rattle.cmb_core.specs.Passes.{IsPass}
-use Rattle.cmb_core.specs.Sweep.{stepped_waves, some_rises, AreReached}
+use Rattle.cmb_core.specs.Passes.{AreSweptBetween, IsPass}
+use Rattle.cmb_core.specs.Sweep.{stepped_waves, some_rises, AreReached, AreSwept}
 use Rattle.cmb_core.proofs.Driven.{Drives, driven_wave, driven_reach, step_waves_are}
 use Rattle.cmb_core.proofs.ExactFacts.{moved_exact, still_exact}
 use Rattle.cmb_core.proofs.OpenedFacts.{held_below}
+use Rattle.cmb_core.proofs.OwnFacts.{own_held}
 use Rattle.cmb_core.proofs.Sweeps.{IsAdvanced, own_to}
 use Rattle.cmb_core.proofs.SweepFacts.{rises_at, rises_more, drives_here, given_reach, long, skipped, still_of, same_again, all_own, held_as_waves}
 
 or_more : (a b : Bool) → b ≡ true → (a || b) ≡ true
 or_more true b e = refl
 or_more false b e = e
+
+side : (j mid : ℕ) → (j < mid) ⊎ (mid ≤ j)
+side j mid = go (ltb j mid) refl
+  where
+    go : (c : Bool) → ltb j mid ≡ c → (j < mid) ⊎ (mid ≤ j)
+    go true e = inl (ltb-true _ _ e)
+    go false e = inr (ltb-false _ _ e)
 
 -- ---- steps in a row
 
@@ -31,10 +40,10 @@ stepped_append design waves [] b = refl
 stepped_append design waves (n ∷ a) b = stepped_append design (step_waves design waves (wave_at waves n)) a b
 
 module _ (design : Design) (clustering : Clustering) (cluster : ℕ) where
-  reached_none : (waves : List Wave) → AreReached design clustering cluster waves waves
+  abbrev reached_none : (waves : List Wave) → AreReached design clustering cluster waves waves
   reached_none waves = record { nets = []; own = All-from_recursion (IsOwnNet design clustering cluster) [] tt; steps = refl }
 
-  reached_on : (first mid last : List Wave) → AreReached design clustering cluster first mid → AreReached design clustering cluster mid last → AreReached design clustering cluster first last
+  abbrev reached_on : (first mid last : List Wave) → AreReached design clustering cluster first mid → AreReached design clustering cluster mid last → AreReached design clustering cluster first last
   reached_on first mid last a b = record {
     nets = a.nets ++ b.nets;
     own = All-append (IsOwnNet design clustering cluster) a.nets b.nets a.own b.own;
@@ -42,22 +51,60 @@ module _ (design : Design) (clustering : Clustering) (cluster : ℕ) where
   }
 
   -- a step in a place
-  reached_at : (s t : Cluster) (slot : ℕ) → IsClusterOf design clustering cluster s → slot < length s.waves → IsAdvanced s t slot → AreReached design clustering cluster s.waves t.waves
-  reached_at s t slot of here step = go (cases_eq (cluster_of clustering net) cluster)
+  swept_at : (s : Cluster) (later : List Wave) (slot : ℕ) → IsClusterOf design clustering cluster s → slot < length s.waves → later ≡ new_waves_at s slot
+      → ((slot_wave s slot).clock < reach_at s slot → last_level (slot_wave s slot).kept (slot_wave s slot).changes ≡ level_before (level_at (slot_wave s slot).kept (slot_wave s slot).changes) (slot_wave s slot).clock)
+      → AreSweptBetween design clustering cluster slot (slot + 1) s.waves later
+  swept_at s later slot of here e before = go (cases_eq (cluster_of clustering (get_or (held_nets design clustering cluster) slot 0)) cluster)
     where
-      net : ℕ
-      net = get_or (held_nets design clustering cluster) slot 0
-
-      go : (cluster_of clustering net ≡ cluster) ⊎ (cluster_of clustering net ≡ cluster → ⊥) → AreReached design clustering cluster s.waves t.waves
-      go (inl own) = record {
-        nets = net ∷ [];
-        own = All-from_recursion (IsOwnNet design clustering cluster) (net ∷ []) (record { there = held_below design clustering cluster slot 0 (long design clustering cluster s of slot here); own = own }, tt);
-        steps = step.waves ∙ step_waves_are design s net slot (drives_here design clustering cluster s of slot here own) step.before;
-      }
+      go : (cluster_of clustering (get_or (held_nets design clustering cluster) slot 0) ≡ cluster) ⊎ (cluster_of clustering (get_or (held_nets design clustering cluster) slot 0) ≡ cluster → ⊥) → AreSweptBetween design clustering cluster slot (slot + 1) s.waves later
+      go (inl own) =
+          let net : ℕ = get_or (held_nets design clustering cluster) slot 0 in
+          let P : ℕ → Type 0 = λ k. Contains (net ∷ []) (get_or (held_nets design clustering cluster) k 0) in
+          record {
+            reached = record {
+              nets = net ∷ [];
+              own = All-from_recursion (IsOwnNet design clustering cluster) (net ∷ []) (record { there = held_below design clustering cluster slot 0 (long design clustering cluster s of slot here); own = own }, tt);
+              steps = e ∙ step_waves_are design s net slot (drives_here design clustering cluster s of slot here own) before;
+            };
+            each = λ j low high also. let at : slot ≡ j = omega (arith, low, high) in subst P at (Contains-push [] net);
+          }
       go (inr other) =
           let still : leb (reach_at s slot) (slot_wave s slot).clock ≡ true = le-leb _ _ (omega (arith, given_reach design clustering cluster s of slot here other)) in
           let same : new_waves_at s slot ≡ s.waves = rw still refl in
-          subst (AreReached design clustering cluster s.waves) (sym (step.waves ∙ same)) (reached_none s.waves)
+          let P : ℕ → Type 0 = λ k. cluster_of clustering (get_or (held_nets design clustering cluster) k 0) ≡ cluster in
+          record {
+            reached = subst (AreReached design clustering cluster s.waves) (sym (e ∙ same)) (reached_none s.waves);
+            each = λ j low high own. let at : j ≡ slot = omega (arith, low, high) in absurd (other (subst P at own));
+          }
+
+  -- some places, and then those behind them
+  swept_on : (begin mid end : ℕ) (first between last : List Wave) → AreSweptBetween design clustering cluster begin mid first between → AreSweptBetween design clustering cluster mid end between last
+      → AreSweptBetween design clustering cluster begin end first last
+  swept_on begin mid end first between last a b = record {
+    reached = reached_on first between last a.reached b.reached;
+    each = λ j low high own. go j low high own (side j mid);
+  }
+    where
+      go : (j : ℕ) → begin ≤ j → j < end → cluster_of clustering (get_or (held_nets design clustering cluster) j 0) ≡ cluster → (j < mid) ⊎ (mid ≤ j) → Contains (a.reached.nets ++ b.reached.nets) (get_or (held_nets design clustering cluster) j 0)
+      go j low high own (inl before) = Contains-append_left a.reached.nets b.reached.nets _ (a.each j low before own)
+      go j low high own (inr behind) = Contains-append_right a.reached.nets b.reached.nets _ (b.each j behind high own)
+
+  -- places where no step goes on
+  swept_idle : (s : Cluster) (from count : ℕ) → IsClusterOf design clustering cluster s → from + count ≤ length s.waves → ((j : ℕ) → from ≤ j → j < from + count → reach_at s j ≤ (slot_wave s j).clock)
+      → AreSweptBetween design clustering cluster from (from + count) s.waves s.waves
+  swept_idle s from zero of within idle = record { reached = reached_none s.waves; each = λ j low high own. absurd (omega (arith, low, high)) }
+  swept_idle s from (suc count) of within idle =
+      let more : AreSweptBetween design clustering cluster from (from + count) s.waves s.waves = swept_idle s from count of (omega (arith, within)) (λ j low high. idle j low (omega (arith, high))) in
+      let here : reach_at s (from + count) ≤ (slot_wave s (from + count)).clock = idle (from + count) (omega arith) (omega arith) in
+      let still : leb (reach_at s (from + count)) (slot_wave s (from + count)).clock ≡ true = le-leb _ _ here in
+      let same : new_waves_at s (from + count) ≡ s.waves = rw still refl in
+      let one : AreSweptBetween design clustering cluster (from + count) (from + count + 1) s.waves s.waves = swept_at s s.waves (from + count) of (omega (arith, within)) (sym same) (λ goes. absurd (omega (arith, goes, here))) in
+      let P : ℕ → Type 0 = λ n. AreSweptBetween design clustering cluster from n s.waves s.waves in
+      let end : from + count + 1 ≡ from + suc count = omega arith in
+      subst P end (swept_on from (from + count) (from + count + 1) s.waves s.waves s.waves more one)
+
+  reached_at : (s t : Cluster) (slot : ℕ) → IsClusterOf design clustering cluster s → slot < length s.waves → IsAdvanced s t slot → AreReached design clustering cluster s.waves t.waves
+  reached_at s t slot of here step = (swept_at s t.waves slot of here step.waves step.before).reached
 
 -- what any number of steps keeps
 pub record HasStepped (first now : Cluster) : Type 0 where
@@ -88,6 +135,67 @@ stepped_at s t slot here step = record {
       let P : List Wave → Type 0 = λ ws. AllByRecursion (IsExactWaveIn design) ws in
       still_exact design clustering cluster s t step.same exact (subst P (sym step.waves) (moved_exact design clustering cluster s exact.of step.sound exact.waves slot here step.before));
 }
+
+-- ---- each own net is stepped
+
+-- each own net whose wave stands in a place from one up to another was stepped
+pub record HasSwept (first now : Cluster) (begin end : ℕ) : Type 0 where
+  pub waves : (design : Design) (clustering : Clustering) (cluster : ℕ) → IsClusterOf design clustering cluster first → AreSweptBetween design clustering cluster begin end first.waves now.waves
+
+pub swept_none : (s : Cluster) (at : ℕ) → HasSwept s s at at
+swept_none s at = record {
+  waves = λ design clustering cluster of. record { reached = reached_none design clustering cluster s.waves; each = λ j low high own. absurd (omega (arith, low, high)) };
+}
+
+pub swept_more : (first s t : Cluster) (begin mid end : ℕ) → IsSameButWaves first s → HasSwept first s begin mid → HasSwept s t mid end → HasSwept first t begin end
+swept_more first s t begin mid end same a b = record {
+  waves = λ design clustering cluster of.
+      swept_on design clustering cluster begin mid end first.waves s.waves t.waves (a.waves design clustering cluster of) (b.waves design clustering cluster (still_of design clustering cluster first s same of));
+}
+
+-- a step in the place, and then none where no process goes on
+pub swept_here : (s t : Cluster) (slot next : ℕ) → slot < length s.waves → IsAdvanced s t slot → slot < next → next ≤ length t.waves → ((j : ℕ) → slot < j → j < next → reach_at t j ≤ (slot_wave t j).clock) → HasSwept s t slot next
+swept_here s t slot next here step later within idle = record {
+  waves = λ design clustering cluster of.
+      let end : slot + 1 + (next - (slot + 1)) ≡ next = omega (arith, later) in
+      let P : ℕ → Type 0 = λ n. AreSweptBetween design clustering cluster (slot + 1) n t.waves t.waves in
+      let rest : AreSweptBetween design clustering cluster (slot + 1) (slot + 1 + (next - (slot + 1))) t.waves t.waves =
+      swept_idle design clustering cluster t (slot + 1) (next - (slot + 1)) (still_of design clustering cluster s t step.same of) (omega (arith, end, within)) (λ j low high. idle j (omega (arith, low)) (omega (arith, high, end)))
+      in
+      swept_on design clustering cluster slot (slot + 1) next s.waves t.waves t.waves (swept_at design clustering cluster s t.waves slot of here step.waves step.before) (subst P end rest);
+}
+
+-- steps that come after
+pub swept_again : (first s t : Cluster) (begin end : ℕ) → IsSameButWaves first s → HasSwept first s begin end → HasStepped s t → HasSwept first t begin end
+swept_again first s t begin end same a b = record {
+  waves = λ design clustering cluster of.
+      let done = a.waves design clustering cluster of in
+      let more = b.waves design clustering cluster (still_of design clustering cluster first s same of) in
+      record {
+        reached = reached_on design clustering cluster first.waves s.waves t.waves done.reached more;
+        each = λ j low high own. Contains-append_left done.reached.nets more.nets _ (done.each j low high own);
+      };
+}
+
+pub swept_within : (s t : Cluster) (begin end far : ℕ) → end ≤ far → HasSwept s t begin far → HasSwept s t begin end
+swept_within s t begin end far h a = record {
+  waves = λ design clustering cluster of.
+      let done = a.waves design clustering cluster of in
+      record { reached = done.reached; each = λ j low high own. done.each j low (omega (arith, h, high)) own };
+}
+
+-- where all places were gone over, each of the cluster's own nets was stepped
+pub swept_all : (s t : Cluster) (end : ℕ) → length s.waves ≤ end → HasSwept s t 0 end → (design : Design) (clustering : Clustering) (cluster : ℕ) → IsClusterOf design clustering cluster s → AreSwept design clustering cluster s.waves t.waves
+swept_all s t end all a design clustering cluster of =
+    let done : AreSweptBetween design clustering cluster 0 end s.waves t.waves = a.waves design clustering cluster of in
+    record {
+      reached = done.reached;
+      each = λ net own.
+          let place = own_held design clustering cluster s of net own in
+          let P : ℕ → Type 0 = λ n. Contains done.reached.nets n in
+          let Q : ℕ → Type 0 = λ n. cluster_of clustering n ≡ cluster in
+          subst P place.2 (done.each place.0 (omega arith) (omega (arith, all, place.1, held_as_waves design clustering cluster s of)) (subst Q (sym place.2) own.own));
+    }
 
 -- ---- whether a clock rose
 
@@ -128,19 +236,12 @@ pub pass_on : (first s t : Cluster) (begin mid end : ℕ) (rose moved : Bool) �
 pass_on first s t begin mid end true moved a b = record { still = λ e. cc; idle = λ e. cc; able = λ e. a.able refl }
 pass_on first s t begin mid end false moved a b = record {
   still = λ e. b.still e ∙ a.still refl;
-  idle = λ e j low high. go e j low high (split j);
+  idle = λ e j low high. go e j low high (side j mid);
   able = λ e.
       let P : Cluster → Type 0 = λ c. (j : ℕ) × (j < length c.waves) × ((slot_wave c j).clock < reach_at c j) in
       subst P (a.still refl) (b.able e);
 }
   where
-    split : (j : ℕ) → (j < mid) ⊎ (mid ≤ j)
-    split j = go (ltb j mid) refl
-      where
-        go : (c : Bool) → ltb j mid ≡ c → (j < mid) ⊎ (mid ≤ j)
-        go true e = inl (ltb-true _ _ e)
-        go false e = inr (ltb-false _ _ e)
-
     go : moved ≡ false → (j : ℕ) → begin ≤ j → j < end → (j < mid) ⊎ (mid ≤ j) → reach_at first j ≤ (slot_wave first j).clock
     go e j low high (inl before) = a.idle refl j low before
     go e j low high (inr behind) =

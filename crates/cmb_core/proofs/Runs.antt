@@ -68,6 +68,27 @@ module _ (design : Design) (netlist : IsNetlist design.netlist) (clustering : Cl
       let t = together_reached world past reached in
       run-follows design netlist clustering lawful events world (clocks_after design clustering (start design clustering) past) t.has t.sound t.shows
 
+-- ---- one event
+
+-- what an event came to over a world that came about from newly opened clusters
+module _ (design : Design) (clustering : Clustering) (now after : World) (past : List Event) (event at : Event) (reply : Result Reply PlayFault) (netlist : IsNetlist design.netlist) (lawful : IsClustering (nets_of design) clustering) (reached : IsReached design clustering now past) (is : event ≡ at)
+    (played : Plays (play_world design clustering now at) now after reply) (some : reply ≡ Err Memory → ⊥) where
+  went : ((play_world design clustering now event).world ≡ after) × ((play_world design clustering now event).reply ≡ reply)
+  went =
+      let P : Event → Type 0 = λ e. Plays (play_world design clustering now e) now after reply in
+      plays_on (play_world design clustering now event) now after reply some (subst P (sym is) played)
+
+  pub play_shows : Shows design clustering after (play design clustering (clocks_after design clustering (start design clustering) past) event).clocks
+  play_shows =
+      let P : World → Type 0 = λ w. Shows design clustering w (play design clustering (clocks_after design clustering (start design clustering) past) event).clocks in
+      subst P went.0 (run_from design netlist clustering lawful now past (event ∷ []) reached).0
+
+  pub play_replies : reply ≡ (play design clustering (clocks_after design clustering (start design clustering) past) event).reply
+  play_replies =
+      let one : (play_world design clustering now event).reply ∷ [] ≡ (play design clustering (clocks_after design clustering (start design clustering) past) event).reply ∷ [] = (run_from design netlist clustering lawful now past (event ∷ []) reached).1 in
+      let same : (play_world design clustering now event).reply ≡ (play design clustering (clocks_after design clustering (start design clustering) past) event).reply = cc one in
+      sym went.1 ∙ same
+
 -- ---- one turn of a list of events
 
 module _ (design : Design) (clustering : Clustering) (start now after : World) (events : List Event) (i : ℕ) (listed : i < length events) (so_far : now ≡ world_after design clustering start (take i events)) (reply : Result Reply PlayFault) (some : reply ≡ Err Memory → ⊥) (played : Plays (play_world design clustering now (get_or events i (Step 0))) now after reply) where

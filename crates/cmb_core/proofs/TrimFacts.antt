@@ -86,11 +86,11 @@ module _ (ws : List Wave) (i least : ℕ) (w : Wave) (h : i < length ws) (net : 
           let kept : (wave_at ws o.net).base ≤ clock - o.delay = r.0.1 in
           ((there_still o r.0.0, omega (arith, base_other o r.0.0 ne)), rest b)
 
-  flop_still : (horizon slot clock first period : ℕ) (init : Level) (os : List Operand) (cs : List Change) → IsReadyFor horizon ws clock (Flop first period init) os cs → AllByRecursion (λ r. least ≤ flop_need first period r.delay clock) (pins_on i slot os) → IsReadyFor horizon after clock (Flop first period init) os cs
-  flop_still horizon slot clock first period init [] cs r a = absurd r
-  flop_still horizon slot clock first period init (o ∷ []) cs r a = go (cases_eq o.slot i)
+  flop_still : (slot clock first period : ℕ) (init : Level) (os : List Operand) (cs : List Change) → IsReadyFor ws clock (Flop first period init) os cs → AllByRecursion (λ r. least ≤ flop_need first period r.delay clock) (pins_on i slot os) → IsReadyFor after clock (Flop first period init) os cs
+  flop_still slot clock first period init [] cs r a = absurd r
+  flop_still slot clock first period init (o ∷ []) cs r a = go (cases_eq o.slot i)
     where
-      go : (o.slot ≡ i) ⊎ (o.slot ≡ i → ⊥) → IsReadyFor horizon after clock (Flop first period init) (o ∷ []) cs
+      go : (o.slot ≡ i) ⊎ (o.slot ≡ i → ⊥) → IsReadyFor after clock (Flop first period init) (o ∷ []) cs
       go (inl same) =
           let e : eqb o.slot i ≡ true = eq-eqb _ _ same in
           let b = rw e at a in
@@ -98,13 +98,13 @@ module _ (ws : List Wave) (i least : ℕ) (w : Wave) (h : i < length ws) (net : 
       go (inr ne) =
           let kept : (wave_at ws o.net).base ≤ flop_need first period o.delay clock = r.2 in
           (r.0, there_still o r.1, omega (arith, base_other o r.1 ne))
-  flop_still horizon slot clock first period init (o ∷ q ∷ os) cs r a = absurd r
+  flop_still slot clock first period init (o ∷ q ∷ os) cs r a = absurd r
 
-  pub ready_trimmed : (horizon slot clock : ℕ) (rule : Rule) (os : List Operand) (cs : List Change) → IsReadyFor horizon ws clock rule os cs → AllByRecursion (λ r. least ≤ need rule r.delay clock) (pins_on i slot os) → IsReadyFor horizon after clock rule os cs
-  ready_trimmed horizon slot clock Given os cs r a = tt
-  ready_trimmed horizon slot clock Input os cs r a = r
-  ready_trimmed horizon slot clock (Gate kind) os cs r a = (r.0, gate_still slot clock os r.1 a)
-  ready_trimmed horizon slot clock (Flop first period init) os cs r a = flop_still horizon slot clock first period init os cs r a
+  pub ready_trimmed : (slot clock : ℕ) (rule : Rule) (os : List Operand) (cs : List Change) → IsReadyFor ws clock rule os cs → AllByRecursion (λ r. least ≤ need rule r.delay clock) (pins_on i slot os) → IsReadyFor after clock rule os cs
+  ready_trimmed slot clock Given os cs r a = tt
+  ready_trimmed slot clock Input os cs r a = r
+  ready_trimmed slot clock (Gate kind) os cs r a = (r.0, gate_still slot clock os r.1 a)
+  ready_trimmed slot clock (Flop first period init) os cs r a = flop_still slot clock first period init os cs r a
 
 -- the needs of the pins of one process
 needs_of : (ps : List Process) (ws : List Wave) (least place slot : ℕ) (os : List Operand) → AllByRecursion (λ r. least ≤ need_at ps ws r) (pins_on place slot os)
@@ -155,9 +155,9 @@ trim_sound s sound i h given = go (cases_lt (slot_wave s i).base least)
               let here : 0 + k ≡ k = omega arith in
               let Q : ℕ → Type 0 = λ n. AllByRecursion (λ r. least ≤ need_at s.processes s.waves r) (pins_on i n (process_at s k).operands) in
               let own : Q k = subst Q here (pins_among (λ r. least ≤ need_at s.processes s.waves r) i 0 k s.processes _ below needs) in
-              let R : ℕ → Type 0 = λ clock. IsReadyFor s.horizon (set s.waves i (wave_from (slot_wave s i) least)) clock (process_at s k).rule (process_at s k).operands (process_at s k).stimulus in
+              let R : ℕ → Type 0 = λ clock. IsReadyFor (set s.waves i (wave_from (slot_wave s i) least)) clock (process_at s k).rule (process_at s k).operands (process_at s k).stimulus in
               subst R (sym (clock_at k (cases_eq k i)))
-              (ready_trimmed s.waves i least (wave_from (slot_wave s i) least) h refl refl s.horizon k (slot_wave s k).clock (process_at s k).rule (process_at s k).operands (process_at s k).stimulus (sound.ready k below)
+              (ready_trimmed s.waves i least (wave_from (slot_wave s i) least) h refl refl k (slot_wave s k).clock (process_at s k).rule (process_at s k).operands (process_at s k).stimulus (sound.ready k below)
               (needs_of s.processes s.waves least i k (process_at s k).operands own));
         })
       where

@@ -78,7 +78,7 @@ pub record IsSameButWaves (old new : Cluster) : Type 0 where
 pub record IsSound (s : Cluster) : Type 0 where
   pub paired : length s.waves ≡ length s.processes
   pub whole : (i : ℕ) → i < length s.processes → is_given (process_at s i).rule ≡ false → (slot_wave s i).base ≡ 0
-  pub ready : (i : ℕ) → i < length s.processes → IsReadyFor s.horizon s.waves (slot_wave s i).clock (process_at s i).rule (process_at s i).operands (process_at s i).stimulus
+  pub ready : (i : ℕ) → i < length s.processes → IsReadyFor s.waves (slot_wave s i).clock (process_at s i).rule (process_at s i).operands (process_at s i).stimulus
 
 -- the operands are the nets on a net's pins, from a pin on, with their delays
 abbrev pub AreOperands : Design → ℕ → ℕ → List ℕ → List Operand → Type 0

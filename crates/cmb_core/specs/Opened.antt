@@ -17,7 +17,7 @@ pub record IsOwnNet (design : Design) (clustering : Clustering) (cluster net : �
   pub there : net < nets_of design
   pub own : cluster_of clustering net ≡ cluster
 
--- the nets of a cluster, those that they read, and both, by rising number
+-- the nets of a cluster, the other nets that they read, and both, by rising number
 abbrev pub own_nets : Design → Clustering → ℕ → List ℕ
 own_nets design clustering cluster = filter (is_own clustering cluster) (range_with_len 0 (nets_of design))
 

@@ -29,10 +29,10 @@ pub record AreWhole (places : List (Option ℕ)) (waves : List Wave) : Type 0 wh
   pub bases : (net : ℕ) → (wave_at waves net).base ≡ 0
 
 -- a process is ready to start over any such waves
-pub record StartsOn (horizon : ℕ) (places : List (Option ℕ)) (process : Process) : Type 0 where
+pub record StartsOn (places : List (Option ℕ)) (process : Process) : Type 0 where
   pub at : AreAt places process.operands
-  pub ready : (waves : List Wave) → AreWhole places waves → IsReadyFor horizon waves 0 process.rule process.operands process.stimulus
+  pub ready : (waves : List Wave) → AreWhole places waves → IsReadyFor waves 0 process.rule process.operands process.stimulus
 
-abbrev pub AllStartOn : ℕ → List (Option ℕ) → List Process → Type 0
-AllStartOn horizon places [] = Unit {0}
-AllStartOn horizon places (process ∷ processes) = StartsOn horizon places process × AllStartOn horizon places processes
+abbrev pub AllStartOn : List (Option ℕ) → List Process → Type 0
+AllStartOn places [] = Unit {0}
+AllStartOn places (process ∷ processes) = StartsOn places process × AllStartOn places processes

@@ -71,13 +71,13 @@ abbrev pub flop_need : ℕ → ℕ → ℕ → ℕ → ℕ
 flop_need first period delay clock = if nat_lt clock (first + delay) then 0 else last_sample first period (clock - delay)
 
 -- a process has the operands that it takes, and their waves keep what it still needs
-abbrev pub IsReadyFor : ℕ → List Wave → ℕ → Rule → List Operand → List Change → Type 0
-IsReadyFor horizon waves clock Given os cs = Unit {0}
-IsReadyFor horizon waves clock Input os cs = Rises 0 cs
-IsReadyFor horizon waves clock (Gate kind) os cs = MayTake kind (length os) × AreReady waves clock os
-IsReadyFor horizon waves clock (Flop first period init) (o ∷ []) cs =
+abbrev pub IsReadyFor : List Wave → ℕ → Rule → List Operand → List Change → Type 0
+IsReadyFor waves clock Given os cs = Unit {0}
+IsReadyFor waves clock Input os cs = Rises 0 cs
+IsReadyFor waves clock (Gate kind) os cs = MayTake kind (length os) × AreReady waves clock os
+IsReadyFor waves clock (Flop first period init) (o ∷ []) cs =
     (0 < period) × IsThere waves o × ((wave_at waves o.net).base ≤ flop_need first period o.delay clock)
-IsReadyFor horizon waves clock (Flop first period init) _ cs = ⊥
+IsReadyFor waves clock (Flop first period init) _ cs = ⊥
 
 -- the level that a process has at tick `t`
 abbrev pub row : List Wave → Rule → List Operand → List Change → ℕ → Level

@@ -1,5 +1,6 @@
 -- Steps of several nets, one after the other, each over the waves that the ones before it left.
 use Rattle.std.specs.Prelude.{◌≡◌, ℕ, Bool, false, ◌||◌, nat_lt, List, [], ◌∷◌, All}
+use Rattle.std.specs.List.{Contains}
 use Rattle.cmb_wave.specs.Wave.{Wave}
 use Rattle.cmb_design.specs.Design.{Design}
 use Rattle.cmb_core.specs.Clustering.{Clustering}
@@ -23,3 +24,8 @@ pub record AreReached (design : Design) (clustering : Clustering) (cluster : ℕ
   pub nets : List ℕ
   pub own : All (IsOwnNet design clustering cluster) nets
   pub steps : later ≡ stepped_waves design waves nets
+
+-- the same, and each of the cluster's own nets is stepped at least once
+pub record AreSwept (design : Design) (clustering : Clustering) (cluster : ℕ) (waves later : List Wave) : Type 0 where
+  pub reached : AreReached design clustering cluster waves later
+  pub each : (net : ℕ) → IsOwnNet design clustering cluster net → Contains reached.nets net

@@ -110,7 +110,8 @@ pub fn gate_changes(
     merge(kind, &mut pins, room, span.before, span.from, span.until)
 }
 
-// What a flip-flop sampled by its clock shows from there on: no later sample is before this tick.
+// The sample tick that a flip-flop's output shows at its clock, or a tick below that one: no sample that it
+// shows from there on is taken before.
 fn seen_upto(first: u32, period: u32, delay: u32, clock: u32) -> u32
     requires { 0 < period }
     ensures { (t : ℕ) → clock ≤ t → first + delay ≤ t → result ≤ last_sample first period (t - delay) }

@@ -1,6 +1,6 @@
 //! A part of a design that is simulated by itself.
 
-ghost use Rattle.std.specs.Prelude.{◌≡◌, ◌≢◌, ◌<◌, ◌≤◌, ℕ, false, IfOk, OnOk, OnErr, IfErr, IfSome, MatchOption, Ok, Err, None, slice_set, length, map};
+ghost use Rattle.std.specs.Prelude.{◌≡◌, ◌≢◌, ◌<◌, ◌≤◌, ℕ, IfOk, OnOk, OnErr, IfErr, IfSome, MatchOption, Ok, Err, None, slice_set, length, map};
 
 use crate::advance::Span;
 use crate::clustering::Clustering;
@@ -172,7 +172,7 @@ impl Cluster {
         };
         let mut changes = Vec::new(self.waves.allocator());
         self.processes
-            .changes(slot, &mut changes, self.horizon, &self.waves, span, held)?;
+            .changes(slot, &mut changes, &self.waves, span, held)?;
         let piece = self.waves.grow(slot, span.until, changes)?;
         Ok(Some(piece))
     }
@@ -248,7 +248,8 @@ impl Cluster {
         self.waves.take(slot, piece)
     }
 
-    /// Tells a promise to the input wave of its net. Exact waves stay exact by right promises.
+    /// Tells a promise to the input wave of its net. Refused by 44 where the cluster has no such wave, and
+    /// then nothing changes. Exact waves stay exact by right promises.
     pub fn hear(&mut self, promise: Promise) -> Result<Heard, Stranger>
         ensures answer { result ≡ heard_at self.old promise (input_slot self.old promise.net) }
         ensures waves { OnOk result (self.new.waves ≡ with_wave self.old.waves (heard_wave (wave_at self.old.waves promise.net) promise)) }

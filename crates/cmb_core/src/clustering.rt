@@ -12,10 +12,13 @@ use thiserror::Error;
 /// Why an assignment of nets to clusters is refused.
 #[derive(Clone, Copy, Debug, PartialEq, Eq, Error)]
 pub enum ClusteringFault {
+    /// 40: there are fewer than 1 or more than 64 clusters.
     #[error("the number of clusters is not from 1 to 64")]
     Clusters,
+    /// 41: there is not one number for each net, or one that no cluster has.
     #[error("not one cluster for each net")]
     Assign,
+    /// 70: out of memory.
     #[error("out of memory")]
     Memory,
 }
@@ -87,7 +90,8 @@ impl Clustering {
     ghost use Rattle.cmb_core.specs.Assigns.{checked_clustering, merged_clustering, spread_clustering, RefusesClustering};
     ghost use Rattle.cmb_core.specs.Clustering.{cluster_of, IsClustering};
 
-    /// A clustering of these assignments.
+    /// The clustering of so many nets in which net n goes to cluster `assign[n]`. 40 where the number of
+    /// clusters is not from 1 to 64, and else 41 where there is not one number below it for each net.
     pub fn new(nets: u32, clusters: u32, assign: Vec<u32>) -> Result<Clustering, ClusteringFault>
         ensures { result ≡ checked_clustering nets clusters assign.items }
     {
@@ -100,7 +104,8 @@ impl Clustering {
         Ok(Clustering { clusters, assign })
     }
 
-    /// Net n goes to cluster `n mod clusters`.
+    /// Net n goes to cluster `n mod clusters`. 40 where the number of clusters is not from 1 to 64, and 70
+    /// where there is no memory.
     pub fn spread(alloc: Global, nets: u32, clusters: u32) -> Result<Clustering, ClusteringFault>
         ensures ok { IfOk result (λ spread. spread_clustering nets clusters ≡ Ok spread) }
         ensures fault { IfErr result (λ fault. RefusesClustering fault (spread_clustering nets clusters)) }

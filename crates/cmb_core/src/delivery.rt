@@ -11,14 +11,19 @@ use thiserror::Error;
 /// Why a cluster refuses a piece.
 #[derive(Clone, Copy, Debug, PartialEq, Eq, Error)]
 pub enum DeliverFault {
+    /// 44: the cluster has no input wave of the net.
     #[error("the cluster has no input wave of the net")]
     Stranger,
+    /// 42: the piece begins above the wave's clock, so the changes between them are missing.
     #[error("the piece begins after {clock}")]
     Gap { clock: u32 },
+    /// 43: the piece ends at or below the wave's clock, so it has nothing new.
     #[error("the piece ends by {clock}")]
     Old { clock: u32 },
+    /// 47: the first new change, at this tick, is to the level that the wave ends with.
     #[error("no change at {tick}")]
     Clash { tick: u32 },
+    /// 70: out of memory.
     #[error("out of memory")]
     Memory,
 }

@@ -54,7 +54,7 @@ impl<'a> Drive<'a> {
     /// The tick up to which the output can go on, and the level that it keeps, where that is
     /// plain to see. `own` is the level that it ends with, where a gate's operands make the same there.
     pub fn look(self, horizon: u32, waves: &Waves, clock: u32, own: Option<Level>) -> Look
-        requires ready { IsReadyFor horizon waves.now clock (process_driven self).rule (process_driven self).operands (process_driven self).stimulus }
+        requires ready { IsReadyFor waves.now clock (process_driven self).rule (process_driven self).operands (process_driven self).stimulus }
         requires own { IfSome own (λ level. IsLastOf waves.now clock (process_driven self).rule (process_driven self).operands level) }
         ensures reach { result.reach ≡ reach horizon waves.now (process_driven self.entry).rule (process_driven self.entry).operands }
         ensures held { IfSome result.held (λ level. (t : ℕ) → clock ≤ t → row waves.now (process_driven self.entry).rule (process_driven self.entry).operands (process_driven self.entry).stimulus t ≡ level) }
@@ -83,11 +83,10 @@ impl<'a> Drive<'a> {
     pub fn changes(
         self,
         room: &mut Vec<Change>,
-        horizon: u32,
         waves: &Waves,
         span: Span,
     ) -> Result<(), AllocError>
-        requires ready { IsReadyFor horizon waves.now span.from (process_driven self).rule (process_driven self).operands (process_driven self).stimulus }
+        requires ready { IsReadyFor waves.now span.from (process_driven self).rule (process_driven self).operands (process_driven self).stimulus }
         requires ordered { span.from ≤ span.until }
         ensures { OnOk result (room.new.items ≡ room.old.items ++ changes_from (row waves.now (process_driven self.entry).rule (process_driven self.entry).operands (process_driven self.entry).stimulus) span.before span.from (span.until - span.from)) }
     {

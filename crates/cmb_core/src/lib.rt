@@ -1,4 +1,5 @@
-//! Processes that step, clusters of them, and the world of five events.
+//! Conservative parallel simulation after Chandy and Misra (1979) and Bryant (1977): logical processes,
+//! one for each net's driver, clusters of them, and worlds of clusters, in which five events can happen.
 #![tactic(auto)]
 
 mod advance;

@@ -1,7 +1,12 @@
-//! Feedback loops: places next to each other whose processes read each other, so that a sweep goes over
-//! them several times.
+//! Stretches of places that a sweep goes over several times in a row.
+//!
+//! What is called a loop here is a stretch of places in which no process reads a place behind the
+//! stretch, whose first process reads its own place or a later one, and in which none waits for a given
+//! wave. So each feedback loop is in one, and each forward reference, unless it waits for another
+//! cluster. A loop is swept up to 64 times in a row. Only speed depends on it: own nets may be stepped in
+//! any order, and as often as one likes.
 
-ghost use Rattle.std.specs.Prelude.{◌≡◌, ◌<◌, ◌≤◌, ◌&&◌, false, slice_index_or, length};
+ghost use Rattle.std.specs.Prelude.{◌≡◌, ◌<◌, ◌≤◌, false, slice_index_or, length};
 
 use crate::node::Node;
 use crate::process::Operand;

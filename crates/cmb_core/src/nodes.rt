@@ -246,7 +246,7 @@ impl Nodes {
         own: Option<Level>,
     ) -> Look
         requires slot { slot < length self.now }
-        requires ready { IsReadyFor horizon waves.now clock (nth_process self.now slot).rule (nth_process self.now slot).operands (nth_process self.now slot).stimulus }
+        requires ready { IsReadyFor waves.now clock (nth_process self.now slot).rule (nth_process self.now slot).operands (nth_process self.now slot).stimulus }
         requires own { IfSome own (λ level. IsLastOf waves.now clock (nth_process self.now slot).rule (nth_process self.now slot).operands level) }
         ensures reach { result.reach ≡ reach horizon waves.now (nth_process self.now slot).rule (nth_process self.now slot).operands }
         ensures held { IfSome result.held (λ level. (t : ℕ) → clock ≤ t → row waves.now (nth_process self.now slot).rule (nth_process self.now slot).operands (nth_process self.now slot).stimulus t ≡ level) }
@@ -260,20 +260,19 @@ impl Nodes {
         &self,
         slot: usize,
         room: &mut Vec<Change>,
-        horizon: u32,
         waves: &Waves,
         span: Span,
         held: Option<Level>,
     ) -> Result<(), AllocError>
         requires slot { slot < length self.now }
-        requires ready { IsReadyFor horizon waves.now span.from (nth_process self.now slot).rule (nth_process self.now slot).operands (nth_process self.now slot).stimulus }
+        requires ready { IsReadyFor waves.now span.from (nth_process self.now slot).rule (nth_process self.now slot).operands (nth_process self.now slot).stimulus }
         requires ordered { span.from ≤ span.until }
         requires held { IfSome held (λ level. (t : ℕ) → span.from ≤ t → row waves.now (nth_process self.now slot).rule (nth_process self.now slot).operands (nth_process self.now slot).stimulus t ≡ level) }
         ensures { OnOk result (room.new.items ≡ room.old.items ++ changes_from (row waves.now (nth_process self.now slot).rule (nth_process self.now slot).operands (nth_process self.now slot).stimulus) span.before span.from (span.until - span.from)) }
     {
         match held {
             Some(level) => held_changes(room, level, span),
-            None => self.drive(slot).changes(room, horizon, waves, span),
+            None => self.drive(slot).changes(room, waves, span),
         }
     }
 }

@@ -155,7 +155,7 @@ fn input_node(alloc: Global, design: &Design, net: u32) -> Result<Node, AllocErr
     requires net { net < nets_of design.now }
     requires driver { driver_of design.now.netlist net ≡ Input }
     ensures driven { IfOk result (λ node. IsDrivenBy design.now net (driver_of design.now.netlist net) node) }
-    ensures starts { IfOk result (λ node. (places : List (Option ℕ)) → StartsOn design.now.horizon places node) }
+    ensures starts { IfOk result (λ node. (places : List (Option ℕ)) → StartsOn places node) }
 {
     let stimulus = Vec::from_slice(alloc, design.stim_changes(net as usize))?;
     Ok(Node::new(Rule::Input, Vec::new(alloc), stimulus))
@@ -177,7 +177,7 @@ fn gate_node(
     requires there { All (λ source. source < length places.now) sources.now }
     requires few { length places.now ≤ 65535 }
     ensures driven { IfOk result (λ node. IsDrivenBy design.now net (driver_of design.now.netlist net) node) }
-    ensures starts { IfOk result (λ node. StartsOn design.now.horizon places.now node) }
+    ensures starts { IfOk result (λ node. StartsOn places.now node) }
 {
     let operands = operands_on(alloc, design, net, sources, places)?;
     Ok(Node::new(Rule::Gate(kind), operands, Vec::new(alloc)))
@@ -197,7 +197,7 @@ fn flop_node(
     requires there { source < length places.now }
     requires few { length places.now ≤ 65535 }
     ensures driven { IfOk result (λ node. IsDrivenBy design.now net (driver_of design.now.netlist net) node) }
-    ensures starts { IfOk result (λ node. StartsOn design.now.horizon places.now node) }
+    ensures starts { IfOk result (λ node. StartsOn places.now node) }
 {
     let clock = design.clock(net as usize);
     let operands = operands_on(alloc, design, net, &[source], places)?;
@@ -222,7 +222,7 @@ fn driven_node(
     requires few { length places.now ≤ 65535 }
     requires placed { ArePlaced places.now (pins_of (driver_of design.now.netlist net)) }
     ensures driven { IfOk result (λ node. IsDrivenBy design.now net (driver_of design.now.netlist net) node) }
-    ensures starts { IfOk result (λ node. StartsOn design.now.horizon places.now node) }
+    ensures starts { IfOk result (λ node. StartsOn places.now node) }
 {
     match design.netlist().driver(net as usize) {
         Driver::Input => input_node(alloc, design, net),
@@ -248,7 +248,7 @@ fn node_of(
     requires places { length places.now ≡ nets_of design.now }
     requires placed { cluster_of clustering.now net ≡ cluster → ArePlaced places.now (pins_of (driver_of design.now.netlist net)) }
     ensures process { IfOk result (λ node. IsProcessOf design.now clustering.now cluster net node) }
-    ensures starts { IfOk result (λ node. StartsOn design.now.horizon places.now node) }
+    ensures starts { IfOk result (λ node. StartsOn places.now node) }
 {
     if clustering.of(net) == cluster {
         driven_node(alloc, design, net, places)
@@ -272,7 +272,7 @@ pub(crate) fn nodes_of(
     requires places { length places.now ≡ nets_of design.now }
     requires placed { All (λ net. cluster_of clustering.now net ≡ cluster → ArePlaced places.now (pins_of (driver_of design.now.netlist net))) nets.now }
     ensures processes { IfOk result (λ nodes. AreProcessesOf design.now clustering.now cluster nets.now nodes.items) }
-    ensures start { IfOk result (λ nodes. AllStartOn design.now.horizon places.now nodes.items) }
+    ensures start { IfOk result (λ nodes. AllStartOn places.now nodes.items) }
     ensures count { IfOk result (λ nodes. length nodes.items ≡ length nets.now) }
 {
     let mut nodes = Vec::with_capacity(alloc, nets.len())?;

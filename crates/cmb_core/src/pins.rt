@@ -1,9 +1,8 @@
 //! The pins of a process as its step begins.
 
-ghost use Rattle.std.specs.Prelude.{◌≡◌, ℕ, ◌-◌, ◌≤◌, ◌<◌, IfOk, length};
-ghost use Rattle.cmb_wave.specs.declared.level.Level.TheVariants.{X};
+ghost use Rattle.std.specs.Prelude.{◌≡◌, ℕ, ◌-◌, ◌≤◌, IfOk, length};
 ghost use Rattle.cmb_wave.specs.Waveform.{level_at};
-ghost use Rattle.cmb_core.specs.Arrivals.{pin_at, pins_at, levels};
+ghost use Rattle.cmb_core.specs.Arrivals.{pin_at, pins_at};
 ghost use Rattle.cmb_core.specs.Rows.{delayed, delayed_levels, IsReady, AreReady, IsThere};
 ghost use Rattle.cmb_core.specs.Step.{wave_at};
 ghost use Rattle.cmb_core.specs.Tips.{IsTail, IsTip};
@@ -18,8 +17,8 @@ use cmb_wave::search::Rest;
 use cmb_wave::{Level, Wave};
 use std::alloc::{AllocError, Global};
 
-#[tactic(auto, using(crate::proofs::Slots::slot_there, crate::proofs::Slots::slot_wave))]
 /// The wave that an operand reads, but for its clock.
+#[tactic(auto, using(crate::proofs::Slots::slot_there, crate::proofs::Slots::slot_wave))]
 pub fn operand_wave(waves: &Waves, operand: Operand) -> &Wave
     requires { IsThere waves.now operand }
     ensures { wave_up_to result.now (wave_at waves.now operand.net).clock ≡ wave_at waves.now operand.net }
@@ -27,8 +26,8 @@ pub fn operand_wave(waves: &Waves, operand: Operand) -> &Wave
     waves.at(operand.slot as usize)
 }
 
-#[tactic(auto, using(crate::proofs::Slots::slot_there, crate::proofs::Slots::slot_wave))]
 /// The clock and the newest change of the wave that an operand reads.
+#[tactic(auto, using(crate::proofs::Slots::slot_there, crate::proofs::Slots::slot_wave))]
 pub fn operand_tip(waves: &Waves, operand: Operand) -> &Tip
     requires { IsThere waves.now operand }
     ensures { IsTip result.now (wave_at waves.now operand.net) }
@@ -36,8 +35,8 @@ pub fn operand_tip(waves: &Waves, operand: Operand) -> &Tip
     waves.tip(operand.slot as usize)
 }
 
-#[tactic(auto, using(crate::proofs::Slots::slot_there, crate::proofs::Slots::slot_wave))]
 /// The newest changes of the wave that an operand reads.
+#[tactic(auto, using(crate::proofs::Slots::slot_there, crate::proofs::Slots::slot_wave))]
 pub fn operand_tail(waves: &Waves, operand: Operand) -> &Tail
     requires { IsThere waves.now operand }
     ensures { IsTail result.now (wave_at waves.now operand.net) }

@@ -32,19 +32,23 @@ impl World {
     ghost use Rattle.cmb_core.specs.Clusters.{step_answer, step_waves, delivered, RefusesDelivery, heard_at, input_slot};
     ghost use Rattle.cmb_core.specs.Opened.{IsClusterOf, IsOwnNet};
     ghost use Rattle.cmb_core.specs.Play.{IsReached, IsWorldOf, IsSameBut, IsSameSize, Plays, cluster_at, home_wave, post_at, shown};
-    ghost use Rattle.cmb_core.specs.Clocks.{start};
+    ghost use Rattle.cmb_core.specs.Clocks.{start, play as play_clocks};
     ghost use Rattle.cmb_core.specs.Run.{clocks_after, replies_to};
     ghost use Rattle.cmb_core.specs.Step.{wave_at};
     ghost use Rattle.cmb_core.specs.World.{Shows, play_world, with_wave, world_after, world_replies};
 
     /// What an event does: the call on its cluster, over that cluster's own waves as they stand. 45 where the net, the
     /// cluster or the number isn't there, 46 where a piece would begin beyond the clock, and then as the cluster
-    /// refuses: 44, 42, 43, and 47, which doesn't come over exact waves. A refusal changes nothing.
+    /// refuses: 44, 42, 43, and 47, which doesn't come over exact waves. 70 where there is no memory. A refusal
+    /// changes nothing. Over a world that came about from newly opened clusters, the reply and the clocks after the
+    /// event are those of the machine of clocks, and every wave is exact.
     pub fn play(&mut self, event: Event) -> Result<Reply, PlayFault>
         ensures played { (design : Design) (clustering : Clustering) → IsWorldOf design clustering self.old → Plays (play_world design clustering (shown self.old) event) (shown self.old) (shown self.new) result }
         ensures kept { (design : Design) (clustering : Clustering) → IsWorldOf design clustering self.old → IsWorldOf design clustering self.new }
         ensures unchanged { OnErr result (self.new ≡ self.old) }
         ensures size { IsSameSize self.old self.new }
+        ensures sequential { (design : Design) (clustering : Clustering) (past : List Event) → IsWorldOf design clustering self.old → IsReached design clustering (shown self.old) past → result ≢ Err Memory → result ≡ (play_clocks design clustering (clocks_after design clustering (start design clustering) past) event).reply }
+        ensures exact { (design : Design) (clustering : Clustering) (past : List Event) → IsWorldOf design clustering self.old → IsReached design clustering (shown self.old) past → result ≢ Err Memory → Shows design clustering (shown self.new) (play_clocks design clustering (clocks_after design clustering (start design clustering) past) event).clocks }
     {
         match event {
             Event::Step(net) => self.step(net),

@@ -1,7 +1,5 @@
 //! When a world is complete or quiet, and rounds of all its nets.
 
-ghost use Rattle.std.specs.Prelude.{◌≡◌, ◌<◌, ℕ};
-
 use crate::cluster::Cluster;
 use crate::event::Event;
 use crate::play::listed;

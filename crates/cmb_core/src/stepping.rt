@@ -7,15 +7,16 @@ ghost use Rattle.cmb_core.specs.Clustering.{Clustering as Clusters};
 ghost use Rattle.cmb_core.specs.Clusters.{IsSameButWaves, IsSound, new_waves_at, reach_at, slot_wave};
 ghost use Rattle.cmb_core.specs.Exactness.{IsExactCluster};
 ghost use Rattle.cmb_core.specs.Opened.{IsClusterOf, own_nets};
-ghost use Rattle.cmb_core.specs.Passes.{IsPass};
-ghost use Rattle.cmb_core.specs.Sweep.{some_rises, stepped_waves, AreReached};
+ghost use Rattle.cmb_core.specs.Passes.{AreSweptBetween, IsPass};
+ghost use Rattle.cmb_core.specs.Sweep.{some_rises, stepped_waves, AreReached, AreSwept};
 
 use crate::cluster::{Cluster, Next};
 use crate::loops::stretch_within;
 use cmb_wave::Change;
 use std::alloc::AllocError;
 
-// So often a loop is gone over again at once: its waves are near then, and others don't wait long for it.
+// So often at most a loop, as `loops` cuts it out, is gone over again at once, which makes 64 times in all:
+// its waves are near then, and others don't wait long for it. Only speed depends on the number.
 const AGAIN: usize = 63;
 
 fn either(a: bool, b: bool) -> bool
@@ -55,8 +56,7 @@ impl Cluster {
         let Some(Next { span, held }) = self.next_span(slot) else {
             return Ok(false);
         };
-        self.processes
-            .changes(slot, room, self.horizon, &self.waves, span, held)?;
+        self.processes.changes(slot, room, &self.waves, span, held)?;
         self.waves.extend(slot, span.until, room)?;
         room.clear();
         Ok(true)
@@ -101,6 +101,7 @@ impl Cluster {
         ensures pass { IfOk result (λ rose. IsPass self.old self.new begin end rose) }
         ensures room { OnOk result (room.new.items ≡ []) }
         ensures waves { (design : Design) (clustering : Clusters) (cluster : ℕ) → IsClusterOf design clustering cluster self.old → AreReached design clustering cluster self.old.waves self.new.waves }
+        ensures swept { (design : Design) (clustering : Clusters) (cluster : ℕ) → IsClusterOf design clustering cluster self.old → OnOk result (AreSweptBetween design clustering cluster begin end self.old.waves self.new.waves) }
         ensures same { IsSameButWaves self.old self.new }
         ensures exact { (design : Design) (clustering : Clusters) (cluster : ℕ) → IsExactCluster design clustering cluster self.old → IsExactCluster design clustering cluster self.new }
     {
@@ -128,6 +129,7 @@ impl Cluster {
         ensures pass { IfOk result (λ rose. IsPass self.old self.new begin end rose) }
         ensures room { OnOk result (room.new.items ≡ []) }
         ensures waves { (design : Design) (clustering : Clusters) (cluster : ℕ) → IsClusterOf design clustering cluster self.old → AreReached design clustering cluster self.old.waves self.new.waves }
+        ensures swept { (design : Design) (clustering : Clusters) (cluster : ℕ) → IsClusterOf design clustering cluster self.old → OnOk result (AreSweptBetween design clustering cluster begin end self.old.waves self.new.waves) }
         ensures same { IsSameButWaves self.old self.new }
         ensures exact { (design : Design) (clustering : Clusters) (cluster : ℕ) → IsExactCluster design clustering cluster self.old → IsExactCluster design clustering cluster self.new }
     {
@@ -141,12 +143,15 @@ impl Cluster {
         Ok(rose)
     }
 
-    /// Steps each net that is driven here, in order, and those of a feedback loop some times in a row,
-    /// and says whether a clock rose. Where there is no memory the cluster stands as after some of these
-    /// steps.
+    /// Steps each net that is driven here at least once, and says whether a clock rose. It goes by the
+    /// nets' numbers, and over a stretch of them whose processes read forward within it, as those of a
+    /// feedback loop do, up to 64 times in a row while a clock rises there, unless they wait for an input
+    /// wave. Only speed depends on that. Where there is no memory the cluster stands as after some of
+    /// these steps.
     pub fn step_loops(&mut self) -> Result<bool, AllocError>
         ensures rose { (design : Design) (clustering : Clusters) (cluster : ℕ) → IsClusterOf design clustering cluster self.old → IfOk result (λ rose. rose ≡ some_rises design self.old.waves (own_nets design clustering cluster)) }
         ensures waves { (design : Design) (clustering : Clusters) (cluster : ℕ) → IsClusterOf design clustering cluster self.old → AreReached design clustering cluster self.old.waves self.new.waves }
+        ensures swept { (design : Design) (clustering : Clusters) (cluster : ℕ) → IsClusterOf design clustering cluster self.old → OnOk result (AreSwept design clustering cluster self.old.waves self.new.waves) }
         ensures same { IsSameButWaves self.old self.new }
         ensures exact { (design : Design) (clustering : Clusters) (cluster : ℕ) → IsExactCluster design clustering cluster self.old → IsExactCluster design clustering cluster self.new }
     {

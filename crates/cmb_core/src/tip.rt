@@ -96,7 +96,7 @@ impl Tail {
         }
     }
 
-    /// What is left of the wave from a tick on, None where more than its three newest changes are left.
+    /// What is left of the wave from a tick on, None where more than its two newest changes come after it.
     pub fn left_from(&self, tick: u32) -> Option<Rest<'_>>
         ensures { IfSome result (λ rest. (wave : WaveOf) → IsTail self.now wave → (t : ℕ) → tick ≤ t → level_at rest.level rest.changes.now t ≡ level_at wave.kept wave.changes t) }
     {

@@ -76,7 +76,8 @@ impl Model for Waves {
 }
 
 impl Waves {
-    /// New waves of these nets, which are known once they are known up to the horizon.
+    /// New waves of these nets, of which nothing is known yet. A wave counts as complete once its clock is the
+    /// horizon.
     pub fn new(alloc: Global, nets: &[u32], horizon: u32) -> Result<Waves, AllocError>
         ensures { IfOk result (λ waves. waves ≡ map new_wave nets.now) }
     {

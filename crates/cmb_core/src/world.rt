@@ -58,12 +58,6 @@ fn opened_clusters(
 }
 
 impl World {
-    ghost use Rattle.std.specs.Prelude.{◌≡◌, ◌<◌, ℕ, [], length, slice_get, slice_index_or, nat_lt, IfOk, IfSome, MatchOption, Some, None, if◌then◌else◌};
-    ghost use Rattle.cmb_design.specs.Design.{Design};
-    ghost use Rattle.cmb_design.specs.Exact.{nets_of};
-    ghost use Rattle.cmb_core.specs.Clustering.{Clustering};
-    ghost use Rattle.cmb_core.specs.Clusters.{IsDrivenHere};
-    ghost use Rattle.cmb_core.specs.Opened.{IsClusterOf};
     ghost use Rattle.cmb_core.specs.Play.{IsWorldOf, cluster_at, home_wave, known_in, known_out, shown};
     ghost use Rattle.cmb_core.specs.World.{new_world};
 

@@ -99,15 +99,13 @@ fn push_heard(out: &mut String, heard: Heard) -> Result<(), AllocError> {
     }
 }
 
+// The fault's number, and the tick that it tells.
 fn push_fault(out: &mut String, fault: PlayFault) -> Result<(), AllocError> {
+    write!(out, "{}", fault.number())?;
     match fault {
-        PlayFault::NoSuch => out.push_str("45"),
-        PlayFault::Beyond => out.push_str("46"),
-        PlayFault::Stranger => out.push_str("44"),
-        PlayFault::Gap { clock } => write!(out, "42 {clock}"),
-        PlayFault::Old { clock } => write!(out, "43 {clock}"),
-        PlayFault::Clash { tick } => write!(out, "47 {tick}"),
-        PlayFault::Memory => out.push_str("70"),
+        PlayFault::Gap { clock } | PlayFault::Old { clock } => write!(out, " {clock}"),
+        PlayFault::Clash { tick } => write!(out, " {tick}"),
+        _ => Ok(()),
     }
 }
 

@@ -7,6 +7,6 @@ use Rattle.cmb_core.proofs.open.driven_node.Goals as goal
 pub returns-in-Input-clause-starts : goal.returns-in-Input-clause-starts
 returns-in-Input-clause-starts c = go c.input_node.result c.input_node.ensures.starts
   where
-    go : (r : Result Process AllocError) → IfOk r (λ node. (places : List (Option ℕ)) → StartsOn c.args.design.now.horizon places node) → IfOk r (λ node. StartsOn c.args.design.now.horizon c.args.places.now node)
+    go : (r : Result Process AllocError) → IfOk r (λ node. (places : List (Option ℕ)) → StartsOn places node) → IfOk r (λ node. StartsOn c.args.places.now node)
     go (Ok node) h = h c.args.places.now
     go (Err e) h = h

@@ -9,5 +9,5 @@ loop-net-preserved c =
     rw (one, c.in_ok-push.ensures.items) (record {
       processes = processes_more c.args.design.now c.args.clustering.now c.args.cluster (get_or c.args.nets.now c.loop-net.net-index 0) c.in_ok-node_of.field-0 (take c.loop-net.net-index c.args.nets.now) c.loop-net.nodes.items c.loop-net.invariant.processes c.in_ok-node_of.ensures.process;
       count = length_push c.loop-net.nodes.items c.in_ok-node_of.field-0 ∙ ap (λ n. n + 1) c.loop-net.invariant.count;
-      start = starts_more c.args.design.now.horizon c.args.places.now c.in_ok-node_of.field-0 c.loop-net.nodes.items c.loop-net.invariant.start c.in_ok-node_of.ensures.starts;
+      start = starts_more c.args.places.now c.in_ok-node_of.field-0 c.loop-net.nodes.items c.loop-net.invariant.start c.in_ok-node_of.ensures.starts;
     })

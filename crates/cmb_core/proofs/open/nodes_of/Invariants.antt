@@ -7,5 +7,5 @@ abbrev pub invariant-loop-net : goal.invariant-loop-net
 invariant-loop-net l = record {
   processes : AreProcessesOf l.design l.clustering l.cluster (take l.net-index l.nets) l.nodes.items;
   count : length l.nodes.items ≡ l.net-index;
-  start : AllStartOn l.design.horizon l.places l.nodes.items;
+  start : AllStartOn l.places l.nodes.items;
 }

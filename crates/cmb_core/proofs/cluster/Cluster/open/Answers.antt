@@ -44,7 +44,7 @@ pub readers_among-requires-clause-within : goal.readers_among-requires-clause-wi
 readers_among-requires-clause-within c =
     let at : (net : ℕ) → get_or c.deref-3.result.now net None ≡ place_in c.in_ok-nets.nets.items net = λ net. ap (λ ps. get_or ps net None) c.deref-3.ensures.value ∙ c.in_ok-places.ensures.places net ∙ ap (λ nets. place_in nets net) c.deref.ensures.value in
     let count : length c.in_ok-nets.nets.items ≡ length c.in_ok-nodes.nodes.items = sym (c.in_ok-nodes.ensures.count ∙ ap length c.deref-2.ensures.value) in
-    let below : AllByRecursion (λ process. All (λ o. o.slot < length c.in_ok-nets.nets.items) process.operands) c.in_ok-nodes.nodes.items = slots_below c.args.design.now.horizon c.deref-3.result.now c.in_ok-nets.nets.items at c.in_ok-nodes.nodes.items c.in_ok-nodes.ensures.start in
+    let below : AllByRecursion (λ process. All (λ o. o.slot < length c.in_ok-nets.nets.items) process.operands) c.in_ok-nodes.nodes.items = slots_below c.deref-3.result.now c.in_ok-nets.nets.items at c.in_ok-nodes.nodes.items c.in_ok-nodes.ensures.start in
     let P : ℕ → Type 0 = λ n. All (λ (process : Process). All (λ o. o.slot < n) process.operands) c.in_ok-nodes.nodes.items in
     let Q : List Process → Type 0 = λ ps. All (λ process. All (λ o. o.slot < length ps) process.operands) ps in
     subst Q (sym c.deref-6.ensures.value) (subst P count (All-from_recursion (λ process. All (λ o. o.slot < length c.in_ok-nets.nets.items) process.operands) c.in_ok-nodes.nodes.items below))
@@ -61,12 +61,11 @@ invariant_of-result c =
     let count : length c.in_ok-nodes.nodes.items ≡ length c.in_ok-nets.nets.items = c.in_ok-nodes.ensures.count ∙ ap length c.deref-2.ensures.value in
     let same : c.in_ok-processes.processes ≡ c.in_ok-nodes.nodes.items = c.in_ok-processes.ensures ∙ c.deref-7.ensures.value in
     let S : List Wave → Type 0 = λ ws. IsSound (record { horizon = c.horizon-2.result; processes = c.in_ok-nodes.nodes.items; waves = ws }) in
-    let start = rw (sym c.horizon-2.ensures.value) at c.in_ok-nodes.ensures.start in
     let R : List Process → Type 0 = λ ps. IsSound (record { horizon = c.horizon-2.result; processes = ps; waves = c.in_ok-waves.waves }) in
     let S2 : List Wave → Type 0 = λ ws. AreSteady c.in_ok-processes.processes ws in
     record {
       steady = λ closed. subst S2 (sym waves) (steady_new c.in_ok-processes.processes c.in_ok-nets.nets.items);
-      sound = subst R (sym same) (subst S (sym waves) (opened_sound c.horizon-2.result c.deref-3.result.now c.in_ok-nets.nets.items c.in_ok-nodes.nodes.items at start count));
+      sound = subst R (sym same) (subst S (sym waves) (opened_sound c.horizon-2.result c.deref-3.result.now c.in_ok-nets.nets.items c.in_ok-nodes.nodes.items at c.in_ok-nodes.ensures.start count));
       tables = record {
         places = λ net. c.in_ok-places.ensures.places net ∙ ap (λ ns. place_in ns net) (c.deref.ensures.value ∙ sym nets);
         driven = (rw (c.deref-4.ensures.value, c.deref-5.ensures.value, sym nets) at c.in_ok-driven.ensures.0) ∙ ap (λ ps. driven_among ps (wave_nets c.in_ok-waves.waves)) (sym same);

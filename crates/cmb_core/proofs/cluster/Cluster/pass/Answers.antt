@@ -1,10 +1,18 @@
 use Rattle.std.proofs.Common.{◌<◌, ◌||◌, Bool, length, arith, sym, ◌∙◌, ap, subst}
 use Rattle.cmb_core.specs.Clusters.{Cluster}
 use Rattle.cmb_core.specs.Passes.{IsPass}
-use Rattle.cmb_core.proofs.Passes.{HasStepped, stepped_at, stepped_on, pass_at, pass_on}
+use Rattle.cmb_core.proofs.Passes.{HasStepped, HasSwept, stepped_none, stepped_at, stepped_on, swept_none, swept_here, swept_more, swept_within, pass_none, pass_at, pass_on}
 use Rattle.cmb_core.proofs.SweepFacts.{same_length}
 use Rattle.cmb_core.proofs.Sweeps.{IsAdvanced}
 use Rattle.cmb_core.proofs.cluster.Cluster.pass.Goals as goal
+
+pub loop-slot-init : goal.loop-slot-init
+loop-slot-init c = record {
+  empty = c.requires.empty;
+  stepped = stepped_none c.args.self.now;
+  swept = swept_none c.args.self.now c.args.begin;
+  gone = pass_none c.args.self.now c.args.begin;
+}
 
 pub loop-slot-preserved : goal.loop-slot-preserved
 loop-slot-preserved c =
@@ -24,5 +32,10 @@ loop-slot-preserved c =
     record {
       empty = c.in_ok-went.ensures.room;
       stepped = subst (HasStepped first) (sym next.unchanged) (stepped_on first s t inv.stepped (stepped_at s t c.loop-slot.slot here step));
+      swept = let R : Cluster → Type 0 = λ u. HasSwept first u c.args.begin c.next_short-slot.result in
+          subst R (sym next.unchanged) (swept_more first s t c.args.begin c.loop-slot.slot c.next_short-slot.result inv.stepped.same inv.swept (swept_here s t c.loop-slot.slot c.next_short-slot.result here step next.later next.within next.idle));
       gone = subst P (sym next.unchanged) (subst Q (sym rose) gone);
     }
+
+pub returns-clause-swept : goal.returns-clause-swept
+returns-clause-swept c = (swept_within c.args.self.now c.loop-slot.self c.args.begin c.args.end c.loop-slot.slot (omega (arith, c.loop-slot-test.false)) c.loop-slot.invariant.swept).waves
