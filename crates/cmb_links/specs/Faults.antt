@@ -7,7 +7,6 @@ use Rattle.cmb_links.specs.declared.fault.LinkFault.TheVariants as link
 
 abbrev pub number_of_workers_fault : WorkersFault → ℕ
 number_of_workers_fault workers.Workers = 54
-number_of_workers_fault workers.Memory = 70
 
 abbrev pub number_of_link_fault : LinkFault → ℕ
 number_of_link_fault link.Capacity = 48

@@ -8,21 +8,18 @@ use thiserror::Error;
 pub enum WorkersFault {
     #[error("the number of workers is not from 1 to 64")]
     Workers,
-    #[error("out of memory")]
-    Memory,
 }
 
 impl WorkersFault {
     ghost use Rattle.std.specs.Prelude.{◌≡◌};
     ghost use Rattle.cmb_links.specs.Faults.{number_of_workers_fault};
 
-    /// The fault's number: 54, and 70 for want of memory.
+    /// The fault's number: 54.
     pub fn number(&self) -> u32
         ensures { result ≡ number_of_workers_fault self.now }
     {
         match self {
             WorkersFault::Workers => 54,
-            WorkersFault::Memory => 70,
         }
     }
 }

@@ -22,7 +22,7 @@ impl Model for Workers {
 }
 
 impl Workers {
-    ghost use Rattle.std.specs.Prelude.{◌≡◌, ◌≤◌, ◌<◌, ◌↔◌, IsOk, IfOk, IfErr};
+    ghost use Rattle.std.specs.Prelude.{◌≡◌, ◌≤◌, ◌<◌, ◌↔◌, IsOk, IfOk, IfErr, min};
     ghost use Rattle.cmb_links.specs.Workers.{worker_of};
 
     /// So many workers, or fault 54 where the number isn't from 1 to 64.
@@ -44,6 +44,16 @@ impl Workers {
         ensures few { self ≤ 64 }
     {
         self.count
+    }
+
+    /// No more workers than `most`, which is at least 1.
+    pub fn at_most(self, most: u32) -> Workers
+        requires { 1 ≤ most }
+        ensures { result ≡ min self most }
+    {
+        Workers {
+            count: self.count.min(most),
+        }
     }
 
     /// The worker that a cluster belongs to.

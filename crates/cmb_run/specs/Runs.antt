@@ -1,4 +1,4 @@
--- What a run is of, where there is none.
+-- Stands for the clustering of a run where none is named.
 use Rattle.std.specs.Prelude.{[]}
 use Rattle.cmb_core.specs.Clustering.{Clustering}
 

@@ -1,9 +1,10 @@
 //! A run's collector, exact in the run's design by its type.
 
-ghost use Rattle.std.specs.Prelude.{◌≡◌};
+ghost use Rattle.std.specs.Prelude.{◌≡◌, Ok, Err, OnOk};
 ghost use Rattle.std.specs.List.{AllByRecursion};
 ghost use Rattle.cmb_design.specs.Exact.{IsExactWaveIn};
-ghost use Rattle.cmb_vcd.specs.Collector.{IsExactFor};
+ghost use Rattle.cmb_vcd.specs.Collector.{Collector as CollectorOf, IsExactFor, collected};
+ghost use Rattle.cmb_vcd.specs.declared.fault.CollectFault.{CollectFault as Refusal};
 
 use crate::part::Posted;
 use crate::terms::Terms;
@@ -42,8 +43,12 @@ impl<T: Terms> Collected<T> {
         })
     }
 
-    /// Goes on by a piece of a net.
-    pub fn take(&mut self, posted: &Posted<T>) -> Result<(), AllocError> {
+    /// Goes on by a piece of a net. What the collector refuses (49 to 52) changes nothing and isn't told;
+    /// of the pieces of a run none is.
+    pub fn take(&mut self, posted: &Posted<T>) -> Result<(), AllocError>
+        ensures taken { (collector : CollectorOf) → collected self.old posted.now ≡ Ok collector → OnOk result (self.new ≡ collector) }
+        ensures refused { (fault : Refusal) → collected self.old posted.now ≡ Err fault → self.new ≡ self.old }
+    {
         match self.collector.take(posted.piece()) {
             Err(CollectFault::Memory) => Err(AllocError),
             _ => Ok(()),

@@ -5,19 +5,13 @@ ghost use Rattle.cmb_design.specs.Exact.{nets_of};
 
 use crate::collected::Collected;
 use crate::gauge::Gauge;
+use crate::outlet::Outlet;
 use crate::part::{Part, Posted};
 use crate::terms::Terms;
 use cmb_core::Clustering;
 use cmb_design::Design;
 use std::alloc::{AllocError, Global};
 use std::mem::replace;
-
-/// A net that other workers read, and the tick up to which it was posted to them.
-#[derive(Drop)]
-struct Outlet {
-    net: u32,
-    sent: u32,
-}
 
 /// A worker's cluster, what was posted of it, and how the worker stands.
 #[derive(Drop)]
@@ -63,7 +57,7 @@ impl<T: Terms> Hand<T> {
         self
     }
 
-    /// The same in place.
+    /// A worker's part of a round, made in place. Where it meets want of memory it notes so, and stops.
     pub fn work(&mut self) {
         self.refused = self.step().is_err();
     }
@@ -145,8 +139,8 @@ impl<T: Terms> Hand<T> {
         collected.adopt_all(self.part.into_waves());
     }
 
-    /// Whether every net that is driven here is known up to the horizon. It is asked in a round in which
-    /// none goes on, and then has nothing more to do.
+    /// Whether the worker has nothing more to do: in its last round no clock rose, and all its nets were
+    /// known up to the horizon.
     pub fn complete(&self) -> bool {
         self.complete
     }

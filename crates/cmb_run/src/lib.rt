@@ -5,6 +5,7 @@ mod collected;
 mod free;
 mod gauge;
 mod hand;
+mod outlet;
 mod part;
 pub mod rounds;
 pub mod run_fault;

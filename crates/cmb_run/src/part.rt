@@ -1,12 +1,12 @@
 //! What a run's workers hold and hand on: all of it is exact in the run's design, by its type.
 
-ghost use Rattle.std.specs.Prelude.{◌≡◌, ◌<◌, ℕ, length, map, IfOk, IfSome, OnOk, Ok, Err};
+ghost use Rattle.std.specs.Prelude.{◌≡◌, ◌<◌, ◌↔◌, ℕ, length, map, IfOk, IfSome, IsSome, OnOk, Ok, Err};
 ghost use Rattle.cmb_wave.specs.Calls.{heard_wave, promised};
 ghost use Rattle.cmb_wave.specs.Wave.{Wave as WaveOf, cut_of, new_wave};
 ghost use Rattle.cmb_wave.specs.declared.level.Heard.{Heard as Hearing};
 ghost use Rattle.std.specs.List.{AllByRecursion};
 ghost use Rattle.cmb_design.specs.Exact.{IsExactIn, IsExactWaveIn, IsRightIn, nets_of};
-ghost use Rattle.cmb_core.specs.Clusters.{IsSameButWaves, delivered, heard_at, input_slot, inputs_of, is_complete, outputs_of};
+ghost use Rattle.cmb_core.specs.Clusters.{IsDrivenHere, IsSameButWaves, delivered, heard_at, input_slot, inputs_of, is_complete, outputs_of};
 ghost use Rattle.cmb_core.specs.Opened.{IsClusterOf, held_nets, own_nets};
 ghost use Rattle.cmb_core.specs.Sweep.{some_rises};
 ghost use Rattle.cmb_core.specs.Step.{wave_at};
@@ -135,7 +135,8 @@ impl<T: Terms> Part<T> {
 
     /// The piece of a net from a tick up to its clock, none where it isn't known further or isn't driven here.
     pub fn post(&self, net: u32, from: u32) -> Result<Option<Posted<T>>, AllocError>
-        ensures { IfOk result (λ posted. IfSome posted (λ piece. piece ≡ cut_of (wave_at self.now.waves net) from)) }
+        ensures cut { IfOk result (λ posted. IfSome posted (λ piece. piece ≡ cut_of (wave_at self.now.waves net) from)) }
+        ensures new { IfOk result (λ posted. IsSome posted ↔ (IsDrivenHere self.now net × (from < (wave_at self.now.waves net).clock))) }
     {
         let Some(clock) = self.cluster.out_clock(net) else {
             return Ok(None);
@@ -156,6 +157,8 @@ impl<T: Terms> Part<T> {
         ensures same { IsSameButWaves self.old self.new }
     {
         self.given = self.given.saturating_add(1);
+        // A piece that a promise overtook is refused as old, and tells nothing new. Of the pieces of a run
+        // none is refused for another reason but memory.
         match self.cluster.deliver(posted.piece()) {
             Err(DeliverFault::Memory) => Err(AllocError),
             _ => Ok(()),
@@ -164,6 +167,7 @@ impl<T: Terms> Part<T> {
 
     /// How far a net is known, and how many changes it has there. None where it isn't driven here.
     pub fn promise(&self, net: u32) -> Option<Promise>
+        ensures driven { IsSome result ↔ IsDrivenHere self.now net }
         ensures promised { IfSome result (λ promise. promise ≡ promised (wave_at self.now.waves net)) }
         ensures right { IfSome result (λ promise. IsRightIn T.design promise) }
     {

@@ -276,6 +276,8 @@ fn run_named<T: Terms + Send + Sync, R: Threads + Wait + Sync>(
         if hands.iter().all(|hand| hand.complete()) {
             let whole = replace(&mut hands, Vec::new(alloc));
             let collector = collect(alloc, design, whole)?;
+            // Every net is driven in one of the clusters, so the collector is complete; no contract says so,
+            // and a run for which it failed would never return.
             if collector.complete() {
                 return Ok(collector);
             }
@@ -305,8 +307,8 @@ pub fn run_rounds<R: Threads + Wait + Sync>(
     ensures complete { IfOk result (λ collector. IsComplete collector) }
     ensures fault { IfErr result (λ fault. fault ≡ Memory) }
 {
-    let count = workers.count().min(clustering.clusters());
-    let merged = clustering.merged(alloc, count)?;
+    let workers = workers.at_most(clustering.clusters());
+    let merged = clustering.merged(alloc, workers.count())?;
     let collector = run_named::<Brand, R>(rt, alloc, design, &merged)?;
     Ok(collector)
 }

@@ -1,5 +1,5 @@
 -- The faults of a free run as those of a simulation.
-use Rattle.std.proofs.Common.{◌≡◌, ℕ, ◌⊎◌, inr, List, Option, arith}
+use Rattle.std.proofs.Common.{ℕ, inr, List, Option, arith}
 use Rattle.cmb_design.specs.Design.{Design}
 use Rattle.cmb_run.specs.FreeRuns.{IsCutAt}
 use Rattle.cmb_run.specs.declared.run_fault.RunFault.{RunFault}

@@ -1,5 +1,5 @@
 -- The answers of the stages as those of the whole simulation.
-use Rattle.std.proofs.Common.{◌≡◌, ℕ, ◌⊎◌, inl, inr, List, ◌++◌, Option, None, Some, Ok, Err, refl, sym, subst, ◌∙◌}
+use Rattle.std.proofs.Common.{◌≡◌, ℕ, ◌⊎◌, inl, inr, List, ◌++◌, Option, None, Some, Ok, Err, refl, sym, subst, ◌∙◌, arith}
 use Rattle.std.specs.Io.KnownBytes.{Appends}
 use Rattle.std.proofs.KnownBytes.{Keeps-refl}
 use Rattle.cmb_bench.specs.Netlist.{Netlist}
@@ -17,8 +17,8 @@ use Rattle.cmb_design.specs.declared.rows.ClockRow.{ClockRow}
 use Rattle.cmb_design.specs.declared.settings.Settings.{Settings}
 use Rattle.cmb_vcd.specs.Vcd.{vcd}
 use Rattle.cmb_sim.specs.Numbers.{design_as_fault}
-use Rattle.cmb_sim.specs.Simulation.{AreTexts, HaveDesign, Inputs, IsOutcome, IsUntouched, Output, Spell, SpellDesign, Texts, design_in, mode_checks, output, report_of, text_checks}
-use Rattle.cmb_sim.specs.Stages.{CanRun, FoundDesign, HaveTextFault, IsUnrun, IsUnwritten, LacksDesign, SpellAny}
+use Rattle.cmb_sim.specs.Simulation.{AreTexts, HaveDesign, Inputs, IsAnswer, IsOutcome, IsUntouched, NoneFailedBut, Output, SpellDesign, Texts, design_in, failed_input, mode_checks, output, report_of, text_checks}
+use Rattle.cmb_sim.specs.Stages.{CanRun, FoundDesign, HaveTextFault, IsUnrun, IsUnwritten, LacksDesign}
 use Rattle.cmb_sim.specs.declared.fault.Fault.{Fault}
 use Rattle.cmb_sim.specs.declared.fault.Fault.TheVariants as fault
 use Rattle.cmb_sim.specs.declared.mode.Mode.{Mode}
@@ -75,18 +75,27 @@ LacksDesign-of settings i texts are fault.Memory h = tt
 untouched : (old : Option (List ℕ)) (n : ℕ) → IsUntouched (output old old n n)
 untouched old n = (Keeps-refl old, refl)
 
+-- where no read failed, none failed but of any one input
+pub NoneFailedBut-any : (i : Inputs) (n : ℕ) → NoneFailedBut 0 i → NoneFailedBut n i
+NoneFailedBut-any i n h = record {
+  bench = λ _. h.bench (λ e. omega arith);
+  delays = λ _. h.delays (λ e. omega arith);
+  stimuli = λ _. h.stimuli (λ e. omega arith);
+  clocks = λ _. h.clocks (λ e. omega arith);
+}
+
 pub IsOutcome-unread : (settings : Settings) (mode : Mode) (i : Inputs) (old : Option (List ℕ)) (n : ℕ) (f : Fault)
-    → LacksDesign settings i f → IsOutcome settings mode i (output old old n n) (Err f)
-IsOutcome-unread settings mode i old n (fault.TooLong k) h = (h, untouched old n)
-IsOutcome-unread settings mode i old n (fault.Read k) h = (h, untouched old n)
-IsOutcome-unread settings mode i old n (fault.Bench f) h = (h, untouched old n)
-IsOutcome-unread settings mode i old n (fault.Design f) h =
-    ((h.0, h.1, (h.2.0, h.2.1, first_fault-some _ _ f h.2.2)), untouched old n)
-IsOutcome-unread settings mode i old n (fault.Write k) h = absurd h
-IsOutcome-unread settings mode i old n (fault.Incomplete k t) h = absurd h
-IsOutcome-unread settings mode i old n fault.Clusters h = absurd h
-IsOutcome-unread settings mode i old n fault.Workers h = absurd h
-IsOutcome-unread settings mode i old n fault.Memory h = inl (untouched old n)
+    → NoneFailedBut (failed_input {A = Design} (Err f)) i → LacksDesign settings i f → IsOutcome settings mode i (output old old n n) (Err f)
+IsOutcome-unread settings mode i old n (fault.TooLong k) r h = (r, (h, untouched old n))
+IsOutcome-unread settings mode i old n (fault.Read k) r h = (r, (h, untouched old n))
+IsOutcome-unread settings mode i old n (fault.Bench f) r h = (r, (h, untouched old n))
+IsOutcome-unread settings mode i old n (fault.Design f) r h =
+    (r, ((h.0, h.1, (h.2.0, h.2.1, first_fault-some _ _ f h.2.2)), untouched old n))
+IsOutcome-unread settings mode i old n (fault.Write k) r h = absurd h
+IsOutcome-unread settings mode i old n (fault.Incomplete k t) r h = absurd h
+IsOutcome-unread settings mode i old n fault.Clusters r h = absurd h
+IsOutcome-unread settings mode i old n fault.Workers r h = absurd h
+IsOutcome-unread settings mode i old n fault.Memory r h = (r, inl (untouched old n))
 
 -- the design's checks, then those of the mode, of which one stands
 mode_fault : (texts : Texts) (settings : Settings) (mode : Mode) (netlist : Netlist) (design : Design) (e : DesignFault)
@@ -121,10 +130,10 @@ SpellDesign-of settings mode i design found runs = (
 )
 
 pub IsOutcome-written : (settings : Settings) (mode : Mode) (i : Inputs) (old new : Option (List ℕ)) (before after : ℕ) (design : Design) (report : Report)
-    → FoundDesign settings i design → CanRun mode design → Appends old new (vcd design) → after ≡ before → report ≡ report_of design
+    → NoneFailedBut 0 i → FoundDesign settings i design → CanRun mode design → Appends old new (vcd design) → after ≡ before → report ≡ report_of design
     → IsOutcome settings mode i (output old new before after) (Ok report)
-IsOutcome-written settings mode i old new before after design report found fits wrote quiet told =
-    (design, SpellDesign-of settings mode i design found fits, wrote, quiet, told)
+IsOutcome-written settings mode i old new before after design report read found fits wrote quiet told =
+    (read, (design, SpellDesign-of settings mode i design found fits, wrote, quiet, told))
 
 -- a fault of the mode comes before anything is written
 pub IsUnwritten-unrun : (mode : Mode) (old : Option (List ℕ)) (n : ℕ) (design : Design) (f : Fault) → IsUnrun mode design f → IsUnwritten mode design (output old old n n) f
@@ -138,16 +147,21 @@ IsUnwritten-unrun mode old n design (fault.TooLong k) h = absurd h
 IsUnwritten-unrun mode old n design (fault.Read k) h = absurd h
 IsUnwritten-unrun mode old n design (fault.Write k) h = absurd h
 
-pub IsOutcome-unwritten : (settings : Settings) (mode : Mode) (i : Inputs) (o : Output) (design : Design)
-    → FoundDesign settings i design → (f : Fault) → IsUnwritten mode design o f → IsOutcome settings mode i o (Err f)
-IsOutcome-unwritten settings mode i o design found (fault.Design f) h =
+IsAnswer-unwritten : (settings : Settings) (mode : Mode) (i : Inputs) (o : Output) (design : Design)
+    → FoundDesign settings i design → (f : Fault) → IsUnwritten mode design o f → IsAnswer settings mode i o (Err f)
+IsAnswer-unwritten settings mode i o design found (fault.Design f) h =
     ((found.0, found.1, (found.2.netlist, found.2.read, mode_fault found.0 settings mode found.2.netlist design f found.2.checked found.2.is h.0)), h.1)
-IsOutcome-unwritten settings mode i o design found fault.Clusters h = ((found.0, found.1, (HaveDesign-of settings mode i design found h.0.0, h.0.1)), h.1)
-IsOutcome-unwritten settings mode i o design found fault.Workers h = ((found.0, found.1, (HaveDesign-of settings mode i design found h.0.0, h.0.1, h.0.2)), h.1)
-IsOutcome-unwritten settings mode i o design found fault.Memory (inl h) = inl h
-IsOutcome-unwritten settings mode i o design found fault.Memory (inr h) = inr (design, SpellDesign-of settings mode i design found h.0, h.1, h.2, h.3)
-IsOutcome-unwritten settings mode i o design found (fault.Write n) h = (design, SpellDesign-of settings mode i design found h.0, h.1, h.2, h.3)
-IsOutcome-unwritten settings mode i o design found (fault.Incomplete n t) h = (design, SpellDesign-of settings mode i design found h.0, h.1, h.2, h.3, h.4, h.5)
-IsOutcome-unwritten settings mode i o design found (fault.Bench f) h = absurd h.0
-IsOutcome-unwritten settings mode i o design found (fault.TooLong k) h = absurd h.0
-IsOutcome-unwritten settings mode i o design found (fault.Read k) h = absurd h.0
+IsAnswer-unwritten settings mode i o design found fault.Clusters h = ((found.0, found.1, (HaveDesign-of settings mode i design found h.0.0, h.0.1)), h.1)
+IsAnswer-unwritten settings mode i o design found fault.Workers h = ((found.0, found.1, (HaveDesign-of settings mode i design found h.0.0, h.0.1, h.0.2)), h.1)
+IsAnswer-unwritten settings mode i o design found fault.Memory (inl h) = inl h
+IsAnswer-unwritten settings mode i o design found fault.Memory (inr h) = inr (design, SpellDesign-of settings mode i design found h.0, h.1, h.2, h.3)
+IsAnswer-unwritten settings mode i o design found (fault.Write n) h = (design, SpellDesign-of settings mode i design found h.0, h.1, h.2, h.3)
+IsAnswer-unwritten settings mode i o design found (fault.Incomplete n t) h = (design, SpellDesign-of settings mode i design found h.0, h.1, h.2, h.3, h.4, h.5)
+IsAnswer-unwritten settings mode i o design found (fault.Bench f) h = absurd h.0
+IsAnswer-unwritten settings mode i o design found (fault.TooLong k) h = absurd h.0
+IsAnswer-unwritten settings mode i o design found (fault.Read k) h = absurd h.0
+
+pub IsOutcome-unwritten : (settings : Settings) (mode : Mode) (i : Inputs) (o : Output) (design : Design)
+    → NoneFailedBut 0 i → FoundDesign settings i design → (f : Fault) → IsUnwritten mode design o f → IsOutcome settings mode i o (Err f)
+IsOutcome-unwritten settings mode i o design read found f h =
+    (NoneFailedBut-any i (failed_input {A = Report} (Err f)) read, IsAnswer-unwritten settings mode i o design found f h)

@@ -1,5 +1,5 @@
 -- The whole waves of a design as a collector's.
-use Rattle.std.proofs.Common.{◌≡◌, ℕ, ◌<◌, ◌≤◌, List, [], ◌∷◌, length, map, refl, sym, subst, arith, true, false, None, Some, ◌⊎◌, inl, inr, ◌∙◌, nat_lt}
+use Rattle.std.proofs.Common.{◌≡◌, ℕ, ◌<◌, List, [], ◌∷◌, length, map, refl, sym, subst, arith, true, false, None, Some, ◌⊎◌, inl, inr, ◌∙◌, nat_lt}
 use Rattle.std.specs.List.{range_with_len}
 use Rattle.std.proofs.lemmas.List.FromFn.{length-map-range_with_len, get_or-map-range_with_len}
 use Rattle.cmb_wave.specs.Wave.{Wave, new_wave}

@@ -1,5 +1,5 @@
 -- The nets of a design spread over clusters.
-use Rattle.std.proofs.Common.{◌≡◌, ℕ, ◌+◌, ◌<◌, ◌≤◌, Bool, true, false, List, [], length, map, refl, subst, arith, None, Ok, Err, ltb-false}
+use Rattle.std.proofs.Common.{◌≡◌, ℕ, ◌≤◌, Bool, true, false, [], length, map, refl, subst, None, Ok, Err, ltb-false}
 use Rattle.std.specs.Prelude.{◌%◌, ◌||◌, nat_lt, Result}
 use Rattle.std.specs.List.{range_with_len}
 use Rattle.std.proofs.lemmas.Bool.{or_parts}
@@ -10,7 +10,7 @@ use Rattle.cmb_core.specs.declared.clustering.ClusteringFault.{ClusteringFault}
 use Rattle.cmb_core.specs.declared.clustering.ClusteringFault.TheVariants.{Clusters}
 use Rattle.cmb_design.specs.Checks.{first_fault}
 use Rattle.cmb_design.specs.Design.{Design}
-use Rattle.cmb_sim.specs.Simulation.{IsMany, clusters_of, mode_checks, workers_of}
+use Rattle.cmb_sim.specs.Simulation.{IsLawfulCount, clusters_of, mode_checks, workers_of}
 use Rattle.cmb_sim.specs.Stages.{IsClustersFault, IsUnrun}
 use Rattle.cmb_sim.specs.declared.fault.Fault.{Fault}
 use Rattle.cmb_sim.specs.declared.fault.Fault.TheVariants as fault
@@ -47,6 +47,6 @@ IsUnrun-clusters mode design (fault.TooLong n) none h = absurd h
 IsUnrun-clusters mode design (fault.Read n) none h = absurd h
 IsUnrun-clusters mode design (fault.Write n) none h = absurd h
 
-pub IsUnrun-workers : (mode : Mode) (design : Design) (f : Fault) → first_fault (mode_checks mode design) ≡ None → IsMany (clusters_of mode)
-    → (f ≡ fault.Workers) × (IsMany (workers_of mode) → ⊥) → IsUnrun mode design f
+pub IsUnrun-workers : (mode : Mode) (design : Design) (f : Fault) → first_fault (mode_checks mode design) ≡ None → IsLawfulCount (clusters_of mode)
+    → (f ≡ fault.Workers) × (IsLawfulCount (workers_of mode) → ⊥) → IsUnrun mode design f
 IsUnrun-workers mode design f none many h = rw h.0 (none, many, h.1)

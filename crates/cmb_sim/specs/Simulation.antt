@@ -61,8 +61,8 @@ IsFree (Free workers clusters) = ⊤
 IsFree _ = ⊥
 
 -- there can be so many clusters, or workers
-abbrev pub IsMany : ℕ → Type 0
-IsMany n = (1 ≤ n) × (n ≤ 64)
+abbrev pub IsLawfulCount : ℕ → Type 0
+IsLawfulCount n = (1 ≤ n) × (n ≤ 64)
 
 -- all checks of texts with a netlist, in their order: each table, then the design
 abbrev pub text_checks : Texts → Settings → Netlist → List Check
@@ -81,8 +81,8 @@ pub record Spell (texts : Texts) (settings : Settings) (mode : Mode) (design : D
   pub netlist : Netlist
   pub read : Reads texts.bench netlist
   pub checked : first_fault (all_checks texts settings mode netlist) ≡ None
-  pub clusters : IsMany (clusters_of mode)
-  pub workers : IsMany (workers_of mode)
+  pub clusters : IsLawfulCount (clusters_of mode)
+  pub workers : IsLawfulCount (workers_of mode)
   pub is : design ≡ design_in texts settings netlist
 
 -- the texts spell a design that no check refuses
@@ -94,13 +94,13 @@ HaveDesign texts settings mode = (netlist : Netlist) × Reads texts.bench netlis
 abbrev pub HaveFault : Texts → Settings → Mode → Fault → Type 0
 HaveFault texts settings mode (fault.Bench f) = IsFirstFault texts.bench f
 HaveFault texts settings mode (fault.Design f) = (netlist : Netlist) × Reads texts.bench netlist × (first_fault (all_checks texts settings mode netlist) ≡ Some f)
-HaveFault texts settings mode fault.Clusters = HaveDesign texts settings mode × (IsMany (clusters_of mode) → ⊥)
-HaveFault texts settings mode fault.Workers = HaveDesign texts settings mode × IsMany (clusters_of mode) × (IsMany (workers_of mode) → ⊥)
+HaveFault texts settings mode fault.Clusters = HaveDesign texts settings mode × (IsLawfulCount (clusters_of mode) → ⊥)
+HaveFault texts settings mode fault.Workers = HaveDesign texts settings mode × IsLawfulCount (clusters_of mode) × (IsLawfulCount (workers_of mode) → ⊥)
 HaveFault texts settings mode _ = ⊥
 
 -- a mode that is never refused for its numbers
 abbrev pub IsLawful : Mode → Type 0
-IsLawful mode = IsMany (clusters_of mode) × IsMany (workers_of mode)
+IsLawful mode = IsLawfulCount (clusters_of mode) × IsLawfulCount (workers_of mode)
 
 -- ---- the sources
 
@@ -137,6 +137,10 @@ CanBeRead i = (text : List ℕ) × IsWhole i.bytes text
 abbrev pub HasFailed : Input → Type 0
 HasFailed i = i.after ≡ i.before + 1
 
+-- no read of it failed during the call
+abbrev pub HasNotFailed : Input → Type 0
+HasNotFailed i = i.after ≡ i.before
+
 abbrev pub HasTooMany : Input → Type 0
 HasTooMany i = IsTooLong i.bytes
 
@@ -147,6 +151,18 @@ StopsAt P i n =
     ⊎ (((n ≡ 2) × CanBeRead i.bench × P i.delays)
     ⊎ (((n ≡ 3) × CanBeRead i.bench × CanBeRead i.delays × P i.stimuli)
     ⊎ ((n ≡ 4) × CanBeRead i.bench × CanBeRead i.delays × CanBeRead i.stimuli × P i.clocks)))
+
+-- the number of the input that couldn't be read, where that is the answer, and else 0
+abbrev pub failed_input : {A : Type 0} → Result A Fault → ℕ
+failed_input (Err (fault.Read n)) = n
+failed_input _ = 0
+
+-- no read failed, but of the input with this number
+pub record NoneFailedBut (n : ℕ) (inputs : Inputs) : Type 0 where
+  pub bench : (n ≡ 1 → ⊥) → HasNotFailed inputs.bench
+  pub delays : (n ≡ 2 → ⊥) → HasNotFailed inputs.delays
+  pub stimuli : (n ≡ 3 → ⊥) → HasNotFailed inputs.stimuli
+  pub clocks : (n ≡ 4 → ⊥) → HasNotFailed inputs.clocks
 
 -- ---- the whole
 
@@ -175,23 +191,24 @@ IsUntouched o = Keeps o.old o.new × (o.after ≡ o.before)
 abbrev pub BeginsText : Settings → Mode → Inputs → Output → Type 0
 BeginsText settings mode i o = (design : Design) × SpellDesign settings mode i design × IsFree mode × HasBegun design o.old o.new × (o.after ≡ o.before)
 
--- What a simulation answers and what its sink takes. The inputs are read in order, then the texts' faults are found in order,
--- then the text of the design is written, all of it or a beginning. Before that nothing is written. Memory may run out before,
--- and where the text is written while the run goes on, also then. A write fails only where that is the answer.
-abbrev pub IsOutcome : Settings → Mode → Inputs → Output → Result Report Fault → Type 0
-IsOutcome settings mode i o (Err (fault.TooLong n)) = StopsAt HasTooMany i n × IsUntouched o
-IsOutcome settings mode i o (Err (fault.Read n)) = StopsAt HasFailed i n × IsUntouched o
-IsOutcome settings mode i o (Err (fault.Bench f)) = ((texts : Texts) × AreTexts i texts × HaveFault texts settings mode (fault.Bench f)) × IsUntouched o
-IsOutcome settings mode i o (Err (fault.Design f)) = ((texts : Texts) × AreTexts i texts × HaveFault texts settings mode (fault.Design f)) × IsUntouched o
-IsOutcome settings mode i o (Err fault.Clusters) = ((texts : Texts) × AreTexts i texts × HaveFault texts settings mode fault.Clusters) × IsUntouched o
-IsOutcome settings mode i o (Err fault.Workers) = ((texts : Texts) × AreTexts i texts × HaveFault texts settings mode fault.Workers) × IsUntouched o
-IsOutcome settings mode i o (Err fault.Memory) = IsUntouched o ⊎ BeginsText settings mode i o
-IsOutcome settings mode i o (Err (fault.Incomplete net upto)) =
-    (design : Design) × SpellDesign settings mode i design × IsFree mode
-    × (net < nets_of design) × (upto < design.horizon) × HasBegun design o.old o.new × (o.after ≡ o.before)
-IsOutcome settings mode i o (Err (fault.Write n)) =
-    (design : Design) × SpellDesign settings mode i design
-    × (n < length (vcd design)) × Appends o.old o.new (take n (vcd design)) × (o.after ≡ o.before + 1)
-IsOutcome settings mode i o (Ok report) =
+-- what holds with each answer
+abbrev pub IsAnswer : Settings → Mode → Inputs → Output → Result Report Fault → Type 0
+IsAnswer settings mode i o (Ok report) =
     (design : Design) × SpellDesign settings mode i design
     × Appends o.old o.new (vcd design) × (o.after ≡ o.before) × (report ≡ report_of design)
+IsAnswer settings mode i o (Err (fault.TooLong n)) = StopsAt HasTooMany i n × IsUntouched o
+IsAnswer settings mode i o (Err (fault.Read n)) = StopsAt HasFailed i n × IsUntouched o
+IsAnswer settings mode i o (Err (fault.Write n)) =
+    (design : Design) × SpellDesign settings mode i design
+    × (n < length (vcd design)) × Appends o.old o.new (take n (vcd design)) × (o.after ≡ o.before + 1)
+IsAnswer settings mode i o (Err (fault.Incomplete net upto)) =
+    (design : Design) × SpellDesign settings mode i design × IsFree mode
+    × (net < nets_of design) × (upto < design.horizon) × HasBegun design o.old o.new × (o.after ≡ o.before)
+IsAnswer settings mode i o (Err fault.Memory) = IsUntouched o ⊎ BeginsText settings mode i o
+IsAnswer settings mode i o (Err f) = ((texts : Texts) × AreTexts i texts × HaveFault texts settings mode f) × IsUntouched o
+
+-- What a simulation answers, and what its sink takes. The inputs are read in order, then the texts' faults are found in order,
+-- then the text of the design is written, all of it or a beginning. Before that nothing is written. Memory may run out before,
+-- and where the text is written while the run goes on, also then. A read or a write fails only where that is the answer.
+abbrev pub IsOutcome : Settings → Mode → Inputs → Output → Result Report Fault → Type 0
+IsOutcome settings mode i o answer = NoneFailedBut (failed_input answer) i × IsAnswer settings mode i o answer

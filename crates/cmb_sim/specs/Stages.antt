@@ -10,7 +10,7 @@ use Rattle.cmb_design.specs.Exact.{nets_of}
 use Rattle.cmb_design.specs.declared.settings.Settings.{Settings}
 use Rattle.cmb_vcd.specs.Vcd.{vcd}
 use Rattle.cmb_run.specs.FreeRuns.{HasBegun}
-use Rattle.cmb_sim.specs.Simulation.{AreTexts, HasFailed, HasTooMany, Input, Inputs, IsFree, IsUntouched, Output, StopsAt, Texts, IsMany, clusters_of, design_in, mode_checks, text_checks, workers_of}
+use Rattle.cmb_sim.specs.Simulation.{AreTexts, HasFailed, HasTooMany, Input, Inputs, IsFree, IsUntouched, Output, StopsAt, Texts, IsLawfulCount, clusters_of, design_in, mode_checks, text_checks, workers_of}
 use Rattle.cmb_sim.specs.declared.fault.Fault.{Fault}
 use Rattle.cmb_sim.specs.declared.fault.Fault.TheVariants as fault
 use Rattle.cmb_sim.specs.declared.mode.Mode.{Mode}
@@ -57,14 +57,14 @@ FoundDesign settings i design = (texts : Texts) × AreTexts i texts × SpellAny 
 -- the mode can run the design
 pub record CanRun (mode : Mode) (design : Design) : Type 0 where
   pub fits : first_fault (mode_checks mode design) ≡ None
-  pub clusters : IsMany (clusters_of mode)
-  pub workers : IsMany (workers_of mode)
+  pub clusters : IsLawfulCount (clusters_of mode)
+  pub workers : IsLawfulCount (workers_of mode)
 
 -- why a design wasn't run
 abbrev pub IsUnrun : Mode → Design → Fault → Type 0
 IsUnrun mode design (fault.Design f) = first_fault (mode_checks mode design) ≡ Some f
-IsUnrun mode design fault.Clusters = (first_fault (mode_checks mode design) ≡ None) × (IsMany (clusters_of mode) → ⊥)
-IsUnrun mode design fault.Workers = (first_fault (mode_checks mode design) ≡ None) × IsMany (clusters_of mode) × (IsMany (workers_of mode) → ⊥)
+IsUnrun mode design fault.Clusters = (first_fault (mode_checks mode design) ≡ None) × (IsLawfulCount (clusters_of mode) → ⊥)
+IsUnrun mode design fault.Workers = (first_fault (mode_checks mode design) ≡ None) × IsLawfulCount (clusters_of mode) × (IsLawfulCount (workers_of mode) → ⊥)
 IsUnrun mode design fault.Memory = ⊤
 IsUnrun mode design _ = ⊥
 
@@ -77,6 +77,6 @@ IsUnwritten mode design o f = IsUnrun mode design f × IsUntouched o
 
 -- why there is no clustering of so many clusters
 abbrev pub IsClustersFault : ℕ → Fault → Type 0
-IsClustersFault clusters fault.Clusters = IsMany clusters → ⊥
+IsClustersFault clusters fault.Clusters = IsLawfulCount clusters → ⊥
 IsClustersFault clusters fault.Memory = ⊤
 IsClustersFault clusters _ = ⊥

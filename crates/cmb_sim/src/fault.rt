@@ -36,7 +36,7 @@ pub enum Fault {
     /// 62: the output failed after it took so many bytes.
     #[error("the output failed after {written} bytes")]
     Write { written: u64 },
-    /// 70: a growth was refused.
+    /// 70: memory or a worker's thread was refused.
     #[error("out of memory")]
     Memory,
 }
@@ -60,6 +60,16 @@ impl From<DesignFault> for Fault {
             DesignFault::Memory => Fault::Memory,
             _ => Fault::Design(fault),
         }
+    }
+}
+
+impl From<AllocError> for Fault {
+    ghost use Rattle.cmb_sim.specs.declared.fault.Fault.TheVariants.{Memory};
+
+    ghost from_gives = { λ _ wider. wider ≡ Memory };
+
+    fn from(_: AllocError) -> Fault {
+        Fault::Memory
     }
 }
 

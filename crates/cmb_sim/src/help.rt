@@ -8,7 +8,7 @@ pub const RUN: &str =
 pub const HORIZON: &str = "Simulates the ticks 0 to N-1, N from 1 to 1,000,000";
 
 pub const CLOCK: &str =
-    "Flip-flops sample at ticks F, F+P, F+2P ..; at most 1,000,000, P at least 1";
+    "Flip-flops sample at ticks F, F+P ..; F is at most 1,000,000, P 1 to 1,000,000";
 
 pub const INIT: &str = "What a flip-flop has before its first sample: 0, 1 or x [default: x]";
 
@@ -52,7 +52,7 @@ Modes; each writes the same text:
     rounds  threads carry their clusters on by changes, and hand over what is new after each round
     free    threads run freely, and promise one another up to which tick a net doesn't change
     plain   one thread fills a table with a place for each net and tick, at most 16,777,216
-A thread without a cluster has nothing to do: give at least as many --clusters as --workers.
+A worker without a cluster gets no thread: give at least as many --clusters as --workers.
 
 Status 0: the text was written. Status 2: the command line is wrong.
 Status 1: a fault, told by one line on standard error, `cmbsim: fault N at P`. By N, P is

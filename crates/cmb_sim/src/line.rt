@@ -20,11 +20,11 @@ use std::alloc::{AllocError, Global};
 pub struct Line {
     pub settings: Settings,
     pub mode: Mode,
-    /// The file of the delay table. No file is an empty text.
+    /// The file of the delay table. The table is empty where no file is given.
     pub delays: Option<String>,
-    /// The file of the stimuli.
+    /// The file of the stimuli. The table is empty where no file is given.
     pub stimuli: Option<String>,
-    /// The file of the clock table.
+    /// The file of the clock table. The table is empty where no file is given.
     pub clocks: Option<String>,
 }
 
@@ -225,7 +225,8 @@ fn line_of(alloc: Global, matches: &ArgMatches<'_>) -> Result<Line, LineFault>
 }
 
 /// Reads the words after the program's name: `run` and its options. The horizon of a line is 1 to 1,000,000 ticks,
-/// and it has 1 to 64 workers and clusters.
+/// and it has 1 to 64 workers and clusters. Errors: `Help` where the words ask for help, `Wrong` where they
+/// aren't a line of the program, `Clock` where only the value of `--clock` has another form, and `Memory`.
 pub fn read_line(alloc: Global, words: &[String]) -> Result<Line, LineFault>
     ensures horizon { IfOk result (λ line. (1 ≤ line.settings.horizon) × (line.settings.horizon ≤ 1000000)) }
     ensures mode { IfOk result (λ line. IsLawful line.mode) }

@@ -8,6 +8,7 @@ pub enum Mode {
     /// By rounds: the nets are spread over this many clusters, 1 to 64, and these over this many
     /// workers, 1 to 64.
     Rounds { workers: u32, clusters: u32 },
-    /// By workers that run freely, with as many workers and clusters. The text is written while they run.
+    /// By workers that run freely, over 1 to 64 clusters and by 1 to 64 workers. The text is written while
+    /// they run.
     Free { workers: u32, clusters: u32 },
 }

@@ -1,6 +1,6 @@
 //! Reading a source to its end.
 
-ghost use Rattle.std.specs.Prelude.{◌≡◌, ℕ, ◌+◌, ◌-◌, ◌^◌, ◌<◌, ◌≤◌, length, IfOk, OnOk, vec_len};
+ghost use Rattle.std.specs.Prelude.{◌≡◌, ◌+◌, ◌-◌, ◌^◌, ◌<◌, IfOk, OnOk, vec_len};
 ghost use Rattle.std.specs.Io.KnownBytes.{IsAtEnd};
 ghost use Rattle.cmb_sim.specs.Sources.{IsWhole, IsTooLong};
 
@@ -10,10 +10,11 @@ use std::alloc::{AllocError, Global};
 /// Why a source wasn't read whole.
 #[derive(Clone, Copy, Debug, PartialEq, Eq)]
 pub enum ReadFault {
-    /// It has more bytes than an input may have.
+    /// 60: it has more bytes than an input may have.
     TooLong,
-    /// A read failed.
+    /// 61: a read failed.
     Failed,
+    /// 70: memory was refused.
     Memory,
 }
 

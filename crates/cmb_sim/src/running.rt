@@ -4,7 +4,7 @@ ghost use Rattle.std.specs.Prelude.{◌≡◌, ◌-◌, ◌^◌, ◌<◌, length
 ghost use Rattle.std.specs.Io.KnownBytes.{Appends};
 ghost use Rattle.cmb_design.specs.Exact.{nets_of};
 ghost use Rattle.cmb_vcd.specs.Vcd.{vcd};
-ghost use Rattle.cmb_sim.specs.Simulation.{IsMany, output};
+ghost use Rattle.cmb_sim.specs.Simulation.{IsLawfulCount, output};
 ghost use Rattle.cmb_sim.specs.Stages.{CanRun, IsClustersFault, IsUnrun, IsUnwritten};
 
 use crate::fault::Fault;
@@ -25,16 +25,14 @@ fn plain_text(alloc: Global, design: &Design) -> Result<Vec<u8>, Fault>
 {
     let waves = plain_waves(alloc, design)?;
     let collector = Collector::of_waves(waves, design.horizon());
-    match vcd_text(alloc, design, &collector) {
-        Ok(text) => Ok(text),
-        Err(_) => Err(Fault::Memory),
-    }
+    let text = vcd_text(alloc, design, &collector)?;
+    Ok(text)
 }
 
 // Net n in cluster `n mod clusters`.
 fn spread(alloc: Global, design: &Design, clusters: u32) -> Result<Clustering, Fault>
     ensures nets { IfOk result (λ clustering. length clustering.assign ≡ nets_of design.now) }
-    ensures many { OnOk result (IsMany clusters) }
+    ensures many { OnOk result (IsLawfulCount clusters) }
     ensures fault { IfErr result (λ fault. IsClustersFault clusters fault) }
 {
     match Clustering::spread(alloc, design.netlist().len() as u32, clusters) {
@@ -46,8 +44,8 @@ fn spread(alloc: Global, design: &Design, clusters: u32) -> Result<Clustering, F
 
 // So many workers.
 fn workers_of(workers: u32) -> Result<Workers, Fault>
-    ensures many { OnOk result (IsMany workers) }
-    ensures fault { IfErr result (λ fault. (fault ≡ Fault.Workers) × (IsMany workers → ⊥)) }
+    ensures many { OnOk result (IsLawfulCount workers) }
+    ensures fault { IfErr result (λ fault. (fault ≡ Fault.Workers) × (IsLawfulCount workers → ⊥)) }
 {
     match Workers::new(workers) {
         Ok(workers) => Ok(workers),
@@ -68,13 +66,9 @@ fn rounds_text<R: AllocGlobal + Threads + Wait + Sync>(
 {
     let clustering = spread(rt.alloc(), design, clusters)?;
     let workers = workers_of(workers)?;
-    let Ok(collector) = run_rounds(rt, rt.alloc(), design, &clustering, workers) else {
-        return Err(Fault::Memory);
-    };
-    match vcd_text(rt.alloc(), design, &collector) {
-        Ok(text) => Ok(text),
-        Err(_) => Err(Fault::Memory),
-    }
+    let collector = run_rounds(rt, rt.alloc(), design, &clustering, workers)?;
+    let text = vcd_text(rt.alloc(), design, &collector)?;
+    Ok(text)
 }
 
 // Writes the text of a design while its workers run, and gives the text's length.

@@ -1,8 +1,7 @@
 //! A whole simulation.
 
 ghost use Rattle.std.specs.Prelude.{◌≡◌, ◌-◌, ◌^◌, ◌<◌, ◌≤◌, length, IfOk, IfErr};
-ghost use Rattle.cmb_vcd.specs.Vcd.{vcd};
-ghost use Rattle.cmb_sim.specs.Simulation.{IsOutcome, input, inputs_of, output};
+ghost use Rattle.cmb_sim.specs.Simulation.{IsOutcome, NoneFailedBut, failed_input, input, inputs_of, output};
 ghost use Rattle.cmb_sim.specs.Sources.{IsWhole, input_limit};
 ghost use Rattle.cmb_sim.specs.Stages.{FoundDesign, HaveTextFault, IsUnread, LacksDesign, SpellAny, texts_of};
 
@@ -34,6 +33,7 @@ fn read_input<S: Source>(alloc: Global, source: &mut S, number: u32) -> Result<V
     requires { S.failures source.old < 2 ^ 64 - 1 }
     ensures whole { IfOk result (λ text. IsWhole (S.remaining source.old) text.items) }
     ensures fault { IfErr result (IsUnread number (input (S.remaining source.old) (S.failures source.old) (S.failures source.new))) }
+    ensures failures { (failed_input result ≡ number → ⊥) → S.failures source.new ≡ S.failures source.old }
 {
     match read_whole(alloc, source) {
         Ok(text) => Ok(text),
@@ -97,6 +97,11 @@ fn read_design<B: Source, D: Source, S: Source, C: Source>(
         (input (D.remaining delays.old) (D.failures delays.old) (D.failures delays.new))
         (input (S.remaining stimuli.old) (S.failures stimuli.old) (S.failures stimuli.new))
         (input (C.remaining clocks.old) (C.failures clocks.old) (C.failures clocks.new)))) }
+    ensures failures { NoneFailedBut (failed_input result) (inputs_of
+        (input (B.remaining bench.old) (B.failures bench.old) (B.failures bench.new))
+        (input (D.remaining delays.old) (D.failures delays.old) (D.failures delays.new))
+        (input (S.remaining stimuli.old) (S.failures stimuli.old) (S.failures stimuli.new))
+        (input (C.remaining clocks.old) (C.failures clocks.old) (C.failures clocks.new))) }
 {
     let first = read_input(alloc, bench, 1)?;
     let second = read_input(alloc, delays, 2)?;
@@ -117,8 +122,8 @@ fn read_design<B: Source, D: Source, S: Source, C: Source>(
 /// The four inputs are read whole, in order, before anything else: 60 where one has more than
 /// 16,777,216 bytes, 61 where a read of it failed. Then come the faults of the netlist (1 to 8), of the
 /// tables and the design (20 to 37) and of the mode (33, 40, 54). The text is written once the run is complete, in mode
-/// free while it runs: 62 where a write failed. `Memory` (70) comes where a growth was refused, in mode free also in the
-/// middle of the text. 53 would come in mode free where a run was stopped.
+/// free while it runs: 62 where a write failed. `Memory` (70) comes where memory or a worker's thread was refused, in mode
+/// free also in the middle of the text. 53 would come in mode free where a run was stopped.
 pub fn simulate<
     R: AllocGlobal + Threads + Wait + Sync,
     B: Source,

@@ -14,8 +14,8 @@ pub trait Source {
     /// How many reads have failed.
     ghost failures: { Self → ℕ };
 
-    /// Reads some bytes into the front of the buffer, and says how many. None where the buffer has
-    /// room means the end.
+    /// Reads some bytes into the front of the buffer, and says how many. 0 bytes into a buffer that
+    /// isn't empty mean the end. `Failed`: the read failed. An interrupted call counts as a failure.
     fn read(&mut self, buffer: &mut [u8]) -> Result<usize, Failed>
         requires room { failures self.old < 2 ^ 64 - 1 }
         ensures bound { IfOk result (λ n. n ≤ length buffer.new) }
@@ -88,7 +88,7 @@ impl<R: Read> Source for FromReader<R> {
     }
 }
 
-/// No source is an empty text.
+/// `None` is a source without bytes.
 impl<S: Source> Source for Option<S> {
     ghost remaining = { elim [ None ↦ Some [] | Some s ↦ S.remaining s ] };
 

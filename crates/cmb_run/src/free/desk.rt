@@ -102,6 +102,7 @@ impl<T: Terms> Desk<T> {
         if promise.upto <= own.told || !self.drives(own, promise.net) {
             return;
         }
+        // The proof learns here that nothing later was published of the net, as `publish` asks.
         if self.board.look(&mut self.seat, promise.net).upto <= promise.upto {
             self.board.publish(&mut self.seat, promise);
             own.told = promise.upto;

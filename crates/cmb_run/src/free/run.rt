@@ -108,7 +108,8 @@ fn run_named<T: Terms + Send + Sync, G: Turnstile + Sync, R: Threads + Wait + Sy
 }
 
 /// Simulates a design by workers that run freely, and collects the waves of all its nets, up to the
-/// horizon. Cluster c belongs to worker `c mod workers`. Each worker has a thread of its own, in which
+/// horizon. Cluster c belongs to worker `c mod workers`; a worker whose number isn't below that of the
+/// clusters has none, and no part in the run. Each other worker has a thread of its own, in which
 /// it takes turn after turn; the calling thread collects what they put. Before each of its turns a worker
 /// asks the turnstile, and where that refuses, the run is stopped. What comes out doesn't change with clustering,
 /// workers or turns. It may wait without end. Faults: 70 where memory or a worker's thread was
@@ -126,6 +127,7 @@ pub fn run_free<G: Turnstile + Sync, R: Threads + Wait + Sync>(
     ensures complete { IfOk result (λ collector. IsComplete collector) }
     ensures fault { IfErr result (IsStopped design.now) }
 {
+    let workers = workers.at_most(clustering.clusters());
     let merged = clustering.merged(alloc, workers.count())?;
     run_named::<Brand, G, R>(rt, alloc, design, &merged, workers, gate)
 }

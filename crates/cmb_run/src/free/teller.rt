@@ -39,6 +39,7 @@ impl<'a, T: Terms> Teller<'a, T> {
         requires { design.now ≡ T.design }
         ensures { IfOk result (λ teller. teller ≡ None) }
     {
+        // The proof learns here that the design is lawful.
         let _horizon = design.horizon();
         let writer = VcdWriter::open(alloc, design)?;
         Ok(Teller {
@@ -48,14 +49,15 @@ impl<'a, T: Terms> Teller<'a, T> {
         })
     }
 
-    /// How many bytes are written.
+    /// How many bytes of the text were handed to the sink.
     pub fn given(&self) -> u64
         ensures { result ≡ length (told T.design self.now) }
     {
         self.given
     }
 
-    /// Writes what is new of the text, now that so much is collected.
+    /// Writes what is new of the text, now that so much is collected. After an Err the teller isn't to be
+    /// used again.
     pub fn tell<S: Sink>(&mut self, collected: &Collected<T>, sink: &mut S) -> Result<(), RunFault>
         requires room { S.failures sink.old < 2 ^ 64 - 1 }
         ensures ok { (start : Option (List ℕ)) → Appends start (S.taken sink.old) (told T.design self.old) → OnOk result (Appends start (S.taken sink.new) (told T.design self.new)) }

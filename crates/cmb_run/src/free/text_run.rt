@@ -199,6 +199,7 @@ pub fn run_free_text<G: Turnstile + Sync, S: Sink, R: Threads + Wait + Sync>(
     ensures no_failure { OnOk result (S.failures sink.new ≡ S.failures sink.old) }
     ensures fault { IfErr result (IsCutAt design.now (S.taken sink.old) (S.taken sink.new) (S.failures sink.old) (S.failures sink.new)) }
 {
+    let workers = workers.at_most(clustering.clusters());
     let merged = clustering.merged(alloc, workers.count())?;
     run_named::<Brand, G, S, R>(rt, alloc, design, &merged, workers, gate, sink)
 }

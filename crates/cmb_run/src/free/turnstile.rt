@@ -2,7 +2,8 @@
 
 /// Asked by a worker before each of its turns. It may wait.
 pub trait Turnstile {
-    /// Lets the worker into its turn with this number, or ends the run. Turns are counted from 0.
+    /// True lets the worker into its turn; false stops the whole run, which ends once every worker has
+    /// come back from `pass`. Turns are counted from 0 and stay at 2^32 - 1.
     fn pass(&self, worker: u32, turn: u32) -> bool;
 }
 

@@ -5,6 +5,7 @@ ghost use Rattle.std.specs.Prelude.{◌≡◌};
 use crate::free::desk::{Desk, Own};
 use crate::free::ends::{PutEnd, TakeEnd};
 use crate::free::turnstile::Turnstile;
+use crate::outlet::Outlet;
 use crate::part::{Part, Posted};
 use crate::terms::Terms;
 use cmb_core::Clustering;
@@ -16,13 +17,6 @@ use std::thread;
 /// How many pieces a worker takes from a link in one turn.
 const AT_ONCE: u32 = 64;
 
-/// A net that goes through a link, and the tick up to which it was put.
-#[derive(Clone, Copy)]
-struct Outlet {
-    net: u32,
-    sent: u32,
-}
-
 // Outlets of these nets, of which nothing was put.
 fn outlets_of(alloc: Global, nets: &[u32]) -> Result<Vec<Outlet>, AllocError> {
     let mut outlets = Vec::with_capacity(alloc, nets.len())?;
@@ -33,8 +27,8 @@ fn outlets_of(alloc: Global, nets: &[u32]) -> Result<Vec<Outlet>, AllocError> {
 }
 
 impl Outlet {
-    // What is new of the net, none where it has no change and such pieces aren't taken: then the next
-    // piece begins where this one did, but for one up to the horizon, behind which none comes.
+    // What is new of the net. A piece without changes isn't put where the board tells the reader as much;
+    // the next piece then begins at the same tick. Up to the horizon no piece follows, so the net is done.
     fn cut<T: Terms>(
         &mut self,
         part: &Part<T>,

@@ -1,4 +1,4 @@
-use Rattle.std.proofs.Common.{◌≡◌, Ok, Err, ap, arith}
+use Rattle.std.proofs.Common.{Err, ap, arith}
 use Rattle.std.proofs.lemmas.Result.{err_from_is_err_and}
 use Rattle.cmb_sim.proofs.PlainRuns.{AreCollected-whole, IsComplete-whole, IsExactFor-whole, IsFor-whole, IsUnrun-plain, small_enough, whole_collector-is}
 use Rattle.cmb_sim.proofs.running.plain_text.Goals as goal
@@ -19,12 +19,12 @@ pub vcd_text-requires-clause-complete : goal.vcd_text-requires-clause-complete
 vcd_text-requires-clause-complete c =
     IsComplete-whole c.args.design.now _ (whole_collector-is c.args.design.now _ _ _ c.of_waves-collector.ensures c.in_ok-waves.ensures.waves c.horizon.ensures.value)
 
-pub returns-in-Ok-clause-text : goal.returns-in-Ok-clause-text
-returns-in-Ok-clause-text c =
-    c.in-Ok.ensures.exact (IsExactFor-whole c.args.design.now _ (whole_collector-is c.args.design.now _ _ _ c.of_waves-collector.ensures c.in_ok-waves.ensures.waves c.horizon.ensures.value))
+pub returns-clause-text : goal.returns-clause-text
+returns-clause-text c =
+    c.in_ok-text.ensures.exact (IsExactFor-whole c.args.design.now _ (whole_collector-is c.args.design.now _ _ _ c.of_waves-collector.ensures c.in_ok-waves.ensures.waves c.horizon.ensures.value))
 
-pub returns-in-Ok-clause-fits : goal.returns-in-Ok-clause-fits
-returns-in-Ok-clause-fits c = record {
+pub returns-clause-fits : goal.returns-clause-fits
+returns-clause-fits c = record {
   fits = small_enough c.args.design.now (λ h. let bad = c.in_ok-waves.ensures.too_large.1 h in cc);
   clusters = (omega arith, omega arith);
   workers = (omega arith, omega arith);

@@ -1,4 +1,3 @@
-use Rattle.std.proofs.Common.{rules}
 use Rattle.std.proofs.lemmas.Result.{IfErr-weaker}
 use Rattle.cmb_sim.proofs.Outcomes.{LacksDesign-of}
 use Rattle.cmb_sim.proofs.simulation.read_design.Goals as goal

@@ -1,4 +1,4 @@
-use Rattle.std.proofs.Common.{rules, ◌∙◌, sym, subst, refl, Option, None, Some, ◌≡◌}
+use Rattle.std.proofs.Common.{◌∙◌, subst, None, ◌≡◌}
 use Rattle.cmb_design.specs.Checks.{first_fault}
 use Rattle.cmb_design.specs.Settings.{design_checks}
 use Rattle.cmb_design.specs.Design.{Design}
