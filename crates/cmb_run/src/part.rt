@@ -118,9 +118,8 @@ impl<T: Terms> Part<T> {
         self.horizon
     }
 
-    /// Steps each net that is driven here, in order, and those of a feedback loop some times in a row, and
-    /// says whether one is known further now. Once as many pieces were given as nets are read, what nobody
-    /// needs any more is forgotten, so that forgetting costs no more than the pieces did.
+    /// Steps each net that is driven here at least once, as `Cluster::step_loops` does, and says whether a
+    /// clock rose. Once as many pieces were given as nets are read, what nobody needs any more is forgotten.
     pub fn step(&mut self) -> Result<bool, AllocError>
         ensures rose { (cluster : ℕ) → IsClusterOf T.design T.clustering cluster self.old → IfOk result (λ rose. rose ≡ some_rises T.design self.old.waves (own_nets T.design T.clustering cluster)) }
         ensures same { IsSameButWaves self.old self.new }
