@@ -39,7 +39,7 @@ fn design_of(alloc: Global, netlist: Netlist, horizon: u32) -> Result<Design, De
     Design::new(alloc, netlist, delays, stimuli, clocks, settings(horizon))
 }
 
-/// The same of the text of a netlist.
+/// The design of a netlist's text, without rows.
 fn read_design(alloc: Global, netlist: &[u8], horizon: u32) -> Result<Design, Trouble>
     requires { length netlist.now ≤ 16777216 }
 {

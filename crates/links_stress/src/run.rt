@@ -137,7 +137,7 @@ fn open_links(alloc: Global, design: &Design, capacity: usize) -> Result<Links, 
     })
 }
 
-// The trouble of a thread. That it was stopped tells the least.
+// The trouble of a thread.
 fn trouble_of(outcome: &Result<Watch<'_>, Trouble>) -> Option<Trouble> {
     match outcome {
         Ok(_) => None,
@@ -145,7 +145,7 @@ fn trouble_of(outcome: &Result<Watch<'_>, Trouble>) -> Option<Trouble> {
     }
 }
 
-// Which of two tells more.
+// Which of two tells more. That a thread was stopped tells the least.
 fn worse(one: Option<Trouble>, other: Option<Trouble>) -> Option<Trouble> {
     match one {
         None => other,

@@ -20,7 +20,7 @@ pub enum Trouble {
     NotOwn,
     #[error("a seat publishes of a net that it doesn't drive")]
     NotDriven,
-    #[error("the stop word went back, or was 1 before a seat raised it")]
+    #[error("the stop word went back, or isn't found after it was raised")]
     Stop,
     #[error("the number of finished workers fell, or is wrong")]
     Finished,

@@ -1,7 +1,5 @@
 //! The worked examples of clusters. Their values follow by hand from the netlists, delays and stimuli.
 
-ghost use Rattle.std.specs.Prelude.{◌≤◌, length};
-
 use crate::inputs::{Inputs, bare, design_of};
 use cmb_core::{Cluster, Clustering, ClusteringFault, DeliverFault};
 use cmb_design::{Design, Settings};

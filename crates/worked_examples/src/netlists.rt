@@ -1,3 +1,5 @@
+//! Netlists as texts: what they spell, and the first fault of damaged ones.
+
 ghost use Rattle.std.specs.Prelude.{◌<◌, ◌≤◌, length};
 
 use cmb_bench::{Cell, Driver, Kind, Netlist, Operands, cell_named, read_bench};

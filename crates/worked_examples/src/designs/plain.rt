@@ -1,8 +1,6 @@
 //! The plain program on worked examples.
 
-ghost use Rattle.std.specs.Prelude.{◌≤◌, length};
-
-use crate::designs::design_of;
+use crate::inputs::{Inputs, bare, design_of};
 use cmb_design::{DesignFault, Settings, plain_waves};
 use cmb_wave::{Change, Level, Wave};
 use std::alloc::Global;
@@ -11,16 +9,13 @@ use std::test::Fail;
 
 // The waves of the design of these texts.
 fn waves_of(
+    rt: &impl Abort,
     alloc: Global,
-    bench: &[u8],
-    stimuli: &[u8],
+    inputs: Inputs<'_>,
     settings: Settings,
-) -> Result<Vec<Wave>, DesignFault>
-    requires bench { length bench.now ≤ 16777216 }
-    requires stimuli { length stimuli.now ≤ 16777216 }
-{
-    let design = design_of(alloc, bench, b"", stimuli, settings)?;
-    plain_waves(alloc, &design)
+) -> Result<Vec<Wave>, Fail> {
+    let design = design_of(rt, alloc, inputs, settings)?;
+    Ok(plain_waves(alloc, &design)?)
 }
 
 // The wave of a net is whole, and has these changes.
@@ -75,7 +70,8 @@ fn toggle(rt: HostRuntime) -> Result<(), Fail> {
         clock: Some((2, 4)),
         init: Level::Zero,
     };
-    let waves = waves_of(rt.alloc(), b"q = DFF(d)\nd = NOT(q)\n", b"", settings)?;
+    let texts = bare(b"q = DFF(d)\nd = NOT(q)\n");
+    let waves = waves_of(&rt, rt.alloc(), texts, settings)?;
     shows(&rt, &waves, 0, 12, TOGGLE_Q);
     shows(&rt, &waves, 1, 12, TOGGLE_D);
     assert_eq!(rt; waves.len(), 2);
@@ -127,9 +123,11 @@ const UNCLOCKED: Settings = Settings {
 
 #[test]
 fn pulse(rt: HostRuntime) -> Result<(), Fail> {
-    let bench = b"INPUT(a)\nb = NOT(a)\ny = AND(a, b)\n";
-    let stimuli = b"tick,net,value\n0,a,0\n5,a,1\n";
-    let waves = waves_of(rt.alloc(), bench, stimuli, UNCLOCKED)?;
+    let texts = Inputs {
+        stimuli: b"tick,net,value\n0,a,0\n5,a,1\n",
+        ..bare(b"INPUT(a)\nb = NOT(a)\ny = AND(a, b)\n")
+    };
+    let waves = waves_of(&rt, rt.alloc(), texts, UNCLOCKED)?;
     shows(&rt, &waves, 0, 10, PULSE_A);
     shows(&rt, &waves, 1, 10, PULSE_B);
     shows(&rt, &waves, 2, 10, PULSE_Y);
@@ -138,14 +136,17 @@ fn pulse(rt: HostRuntime) -> Result<(), Fail> {
 
 #[test]
 fn far_ticks(rt: HostRuntime) -> Result<(), Fail> {
-    let stimuli = b"tick,net,value\n4294967298,a,1\n5,a,1\n9999999999,a,x\n0,a,0\n";
-    let waves = waves_of(rt.alloc(), b"INPUT(a)", stimuli, UNCLOCKED)?;
+    let texts = Inputs {
+        stimuli: b"tick,net,value\n4294967298,a,1\n5,a,1\n9999999999,a,x\n0,a,0\n",
+        ..bare(b"INPUT(a)")
+    };
+    let waves = waves_of(&rt, rt.alloc(), texts, UNCLOCKED)?;
     shows(&rt, &waves, 0, 10, PULSE_A);
     Ok(())
 }
 
 #[test]
-fn too_large(rt: HostRuntime) {
+fn too_large(rt: HostRuntime) -> Result<(), Fail> {
     let settings = Settings {
         horizon: 1_000_000,
         ..UNCLOCKED
@@ -153,6 +154,8 @@ fn too_large(rt: HostRuntime) {
     let bench =
         b"INPUT(a1) INPUT(a2) INPUT(a3) INPUT(a4) INPUT(a5) INPUT(a6) INPUT(a7) INPUT(a8) INPUT(a9) \
         INPUT(a10) INPUT(a11) INPUT(a12) INPUT(a13) INPUT(a14) INPUT(a15) INPUT(a16) INPUT(a17)";
-    let fault = waves_of(rt.alloc(), bench, b"", settings).err();
+    let design = design_of(&rt, rt.alloc(), bare(bench), settings)?;
+    let fault = plain_waves(rt.alloc(), &design).err();
     assert_eq!(rt; fault, Some(DesignFault::TableTooLarge));
+    Ok(())
 }

@@ -1,11 +1,10 @@
 //! Tables as texts: laid out in odd ways, with far ticks, cut short and damaged at every byte.
 
-ghost use Rattle.std.specs.Prelude.{◌≤◌, length, IfOk};
-
-use crate::designs::design_of;
+use crate::inputs::{Inputs, judged_design};
 use cmb_design::Settings;
 use cmb_wave::Level;
 use std::alloc::{AllocError, Global};
+use std::process::Abort;
 use std::test::Fail;
 
 const BENCH: &[u8] = b"INPUT(G0)\nG1 = DFF(G2)\nG2 = NOR(G0, G1)\nG3 = NOT(G1)\n";
@@ -21,13 +20,21 @@ const SETTINGS: Settings = Settings {
 };
 
 // The number and the record of the fault, or 0 and 0 where there is a design.
-fn outcome(alloc: Global, delays: &[u8], stimuli: &[u8]) -> (u32, u32)
-    requires delays { length delays.now ≤ 16777216 }
-    requires stimuli { length stimuli.now ≤ 16777216 }
-{
-    match design_of(alloc, BENCH, delays, stimuli, SETTINGS) {
-        Ok(_) => (0, 0),
-        Err(fault) => (fault.number(), fault.record()),
+fn outcome(
+    rt: &impl Abort,
+    alloc: Global,
+    delays: &[u8],
+    stimuli: &[u8],
+) -> Result<(u32, u32), Fail> {
+    let texts = Inputs {
+        netlist: BENCH,
+        delays,
+        stimuli,
+        clocks: b"",
+    };
+    match judged_design(rt, alloc, texts, SETTINGS)? {
+        Ok(_) => Ok((0, 0)),
+        Err(fault) => Ok((fault.number(), fault.record())),
     }
 }
 
@@ -54,15 +61,16 @@ fn of_stimuli(n: usize) -> (u32, u32) {
 }
 
 #[test]
-fn cut_tables(rt: HostRuntime) {
+fn cut_tables(rt: HostRuntime) -> Result<(), Fail> {
     for n in 0..=DELAYS.len() {
-        let found = outcome(rt.alloc(), &DELAYS[..n], STIMULI);
+        let found = outcome(&rt, rt.alloc(), &DELAYS[..n], STIMULI)?;
         assert_eq!(rt; found, of_delays(n), "{n} bytes of delays");
     }
     for n in 0..=STIMULI.len() {
-        let found = outcome(rt.alloc(), DELAYS, &STIMULI[..n]);
+        let found = outcome(&rt, rt.alloc(), DELAYS, &STIMULI[..n])?;
         assert_eq!(rt; found, of_stimuli(n), "{n} bytes of stimuli");
     }
+    Ok(())
 }
 
 // A design, or a fault of a record of a table.
@@ -71,10 +79,7 @@ fn is_of_record((number, record): (u32, u32)) -> bool {
 }
 
 // The text with another byte at a place.
-fn damaged(alloc: Global, text: &[u8], at: usize, value: u8) -> Result<Vec<u8>, AllocError>
-    requires { length text.now ≤ 16777216 }
-    ensures { IfOk result (λ v. length v.items ≤ 16777216) }
-{
+fn damaged(alloc: Global, text: &[u8], at: usize, value: u8) -> Result<Vec<u8>, AllocError> {
     let mut text = Vec::from_slice(alloc, text)?;
     if at < text.len() {
         text[at] = value;
@@ -95,7 +100,7 @@ fn damaged_delays(rt: HostRuntime) -> Result<(), Fail> {
     ] {
         let text = damaged(rt.alloc(), DELAYS, at, value)?;
         assert_eq!(rt;
-            outcome(rt.alloc(), &text, STIMULI),
+            outcome(&rt, rt.alloc(), &text, STIMULI)?,
             want,
             "byte {at} to {value}"
         );
@@ -103,7 +108,7 @@ fn damaged_delays(rt: HostRuntime) -> Result<(), Fail> {
     for at in 0..DELAYS.len() {
         for value in 0..=255 {
             let text = damaged(rt.alloc(), DELAYS, at, value)?;
-            let found = outcome(rt.alloc(), &text, STIMULI);
+            let found = outcome(&rt, rt.alloc(), &text, STIMULI)?;
             assert!(rt; is_of_record(found), "byte {at} to {value}");
         }
     }
@@ -122,7 +127,7 @@ fn damaged_stimuli(rt: HostRuntime) -> Result<(), Fail> {
     ] {
         let text = damaged(rt.alloc(), STIMULI, at, value)?;
         assert_eq!(rt;
-            outcome(rt.alloc(), DELAYS, &text),
+            outcome(&rt, rt.alloc(), DELAYS, &text)?,
             want,
             "byte {at} to {value}"
         );
@@ -130,7 +135,7 @@ fn damaged_stimuli(rt: HostRuntime) -> Result<(), Fail> {
     for at in 0..STIMULI.len() {
         for value in 0..=255 {
             let text = damaged(rt.alloc(), STIMULI, at, value)?;
-            let found = outcome(rt.alloc(), DELAYS, &text);
+            let found = outcome(&rt, rt.alloc(), DELAYS, &text)?;
             assert!(rt; is_of_record(found), "byte {at} to {value}");
         }
     }
@@ -138,7 +143,7 @@ fn damaged_stimuli(rt: HostRuntime) -> Result<(), Fail> {
 }
 
 #[test]
-fn layouts(rt: HostRuntime) {
+fn layouts(rt: HostRuntime) -> Result<(), Fail> {
     for (delays, want) in [
         ("\r\n\n", (0, 0)),
         ("\"\"", (23, 1)),
@@ -151,21 +156,21 @@ fn layouts(rt: HostRuntime) {
         ("by,name,delay\npin,G2:1:2,3", (26, 2)),
         ("by,name,delay\nnet,G9,3\nnet,G3,1000001", (28, 3)),
     ] {
-        assert!(rt; delays.len() < 100);
-        let found = outcome(rt.alloc(), delays.as_bytes(), b"");
+        let found = outcome(&rt, rt.alloc(), delays.as_bytes(), b"")?;
         assert_eq!(rt; found, want, "{delays}");
     }
+    Ok(())
 }
 
 #[test]
-fn ticks_of_10_digits(rt: HostRuntime) {
+fn ticks_of_10_digits(rt: HostRuntime) -> Result<(), Fail> {
     for (stimuli, want) in [
         ("tick,net,value\n1,G0,0\n4294967297,G0,1", (0, 0)),
         ("tick,net,value\n9999999999,G0,0\n9999999999,G0,1", (29, 3)),
         ("tick,net,value\n10000000000,G0,0", (25, 2)),
     ] {
-        assert!(rt; stimuli.len() < 100);
-        let found = outcome(rt.alloc(), b"", stimuli.as_bytes());
+        let found = outcome(&rt, rt.alloc(), b"", stimuli.as_bytes())?;
         assert_eq!(rt; found, want, "{stimuli}");
     }
+    Ok(())
 }
