@@ -1,0 +1,129 @@
+#!/usr/bin/env python3
+"""gate.py: the gate. It runs `rt ci` (every proof from nothing, the must-fail edits, the tests, the programs) and
+then the program on whole files, and says at the end what each part came to and what it took. The last line is
+'N passed, M failed' over both; the status is 0 where nothing failed.
+
+Processor seconds are read from /proc once a second, of each of the toolchain's processes by its own command line,
+so a process that ends between two readings lacks what it did after the last one."""
+import os
+import re
+import subprocess
+import sys
+import threading
+import time
+
+TOP = os.path.dirname(os.path.dirname(os.path.abspath(__file__)))
+TICKS = os.sysconf("SC_CLK_TCK")
+CLOSING = re.compile(r"(\d+) passed, (\d+) failed")
+
+
+class Meter:
+    """What the checks below this process took so far, by crate and part, in seconds of a processor."""
+
+    def __init__(self, programs):
+        self.programs = programs
+        self.seconds = {}
+        self.stopped = threading.Event()
+        self.thread = threading.Thread(target=self.read_on, daemon=True)
+
+    def read_on(self):
+        while not self.stopped.wait(1):
+            for pid in filter(str.isdigit, os.listdir("/proc")):
+                try:
+                    self.read(pid)
+                except (OSError, IndexError):
+                    pass  # it has ended
+
+    def read(self, pid):
+        with open(f"/proc/{pid}/cmdline", encoding="utf-8", errors="replace") as file:
+            words = file.read().split("\0")
+        if os.path.basename(words[0]) != "rattle" or "--crate-name" not in words:
+            return
+        with open(f"/proc/{pid}/stat", encoding="utf-8", errors="replace") as file:
+            fields = file.read().rpartition(")")[2].split()
+        crate = words[words.index("--crate-name") + 1]
+        part = self.part(crate, words, os.readlink(f"/proc/{pid}/cwd"))
+        self.seconds[pid, fields[19]] = crate, part, (int(fields[11]) + int(fields[12])) / TICKS
+
+    def part(self, crate, words, folder):
+        if os.path.basename(folder).startswith("rt-edit"):
+            return "edits"
+        if "--test" in words:
+            return "tests"
+        return "programs" if crate in self.programs else "proofs"
+
+    def table(self):
+        """The seconds by crate, then by part."""
+        rows = {}
+        for crate, part, seconds in self.seconds.values():
+            row = rows.setdefault(crate, {})
+            row[part] = row.get(part, 0) + seconds
+        return rows
+
+
+def run(command, counts):
+    """Runs a command at the top of the repository, hands its lines on, and gives its status and its closing line's numbers."""
+    passed = failed = 0
+    child = subprocess.Popen(command, cwd=TOP, stdin=subprocess.DEVNULL, stdout=subprocess.PIPE, text=True, errors="replace")
+    for line in child.stdout:
+        print(line, end="", flush=True)
+        count(line, counts)
+        closing = CLOSING.fullmatch(line.strip())
+        if closing:
+            passed, failed = int(closing[1]), int(closing[2])
+    status = child.wait()
+    return passed, failed + (status != 0 and failed == 0)
+
+
+KINDS = [
+    ("tests", re.compile(r"rt: \w+: its tests (passed|FAILED)")),
+    ("programs", re.compile(r"rt: \w+ ran.*, and wrote what")),
+    ("edits", re.compile(r"rt: must-fail \w+/\S+: refused, as it must be")),
+    ("proofs", re.compile(r"rt: \w+(: its tests are)? proved")),
+]
+
+
+def count(line, counts):
+    for part, said in KINDS:
+        if said.match(line):
+            counts[part] = counts.get(part, 0) + 1
+            return
+
+
+def programs():
+    crates = os.path.join(TOP, "crates")
+    return {name for name in os.listdir(crates) if os.path.isfile(f"{crates}/{name}/src/main.rt")}
+
+
+def show(meter, counts, minutes):
+    parts = ["proofs", "edits", "tests", "programs"]
+    rows = meter.table()
+    print("\nseconds of a processor, as read once a second:")
+    print(f"{'crate':<18}" + "".join(f"{part:>10}" for part in parts))
+    for crate in sorted(rows):
+        print(f"{crate:<18}" + "".join(f"{rows[crate].get(part, 0):>10.0f}" for part in parts))
+    total = [sum(row.get(part, 0) for row in rows.values()) for part in parts]
+    print(f"{'in all':<18}" + "".join(f"{it:>10.0f}" for it in total))
+    for part in parts:
+        print(f"{part}: {counts.get(part, 0)} passed")
+    for part, took in minutes:
+        print(f"{part}: {took / 60:.1f} minutes on {len(os.sched_getaffinity(0))} processors")
+
+
+def main():
+    meter, counts = Meter(programs()), {}
+    meter.thread.start()
+    began = time.monotonic()
+    proved, unproved = run(["rt", "ci"], counts)
+    between = time.monotonic()
+    ran, wrong = run(["scripts/end_to_end.sh"], {})
+    meter.stopped.set()
+    counts["end to end"] = ran
+    show(meter, counts, [("rt ci", between - began), ("end to end", time.monotonic() - between)])
+    print(f"end to end: {ran} passed")
+    print(f"{proved + ran} passed, {unproved + wrong} failed")
+    return 1 if unproved or wrong else 0
+
+
+if __name__ == "__main__":
+    sys.exit(main())
