@@ -14,7 +14,7 @@ example: build
 
 # Proves whatever isn't proved yet, and builds the program.
 build:
-	@scripts/build.sh $(PROGRAM)
+	@scripts/build.py cmbsim
 
 # The gate: every proof, test and must-fail edit from nothing, and then the program on whole files.
 test:

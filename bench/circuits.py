@@ -10,6 +10,7 @@ there are) and netlist.v, the same circuit as Verilog.
 """
 import os
 import random
+import shutil
 import sys
 
 
@@ -269,6 +270,63 @@ def ring(horizon, idle):
     return c
 
 
+class Hierarchy:
+    """Places of nets in a binary tree of blocks. A net's operands come from the least block that holds both with a
+    chance that falls by level, so that a block of n nets has about n ** RENT connections to the outside (B. S. Landman
+    and R. L. Russo, On a pin versus block relationship, 1971)."""
+
+    RENT, DEPTH, STEP = 0.65, 18, 4
+
+    def __init__(self, nets, seed):
+        self.random, self.nets = random.Random(seed), nets
+        self.levels = (nets - 1).bit_length()
+        self.depth = [0] * nets
+
+    def near(self, net, below):
+        """Another net, near in the tree; where a depth is given, one of a depth below it, a register's or not far below."""
+        level = 1
+        while level < self.levels and self.random.random() < 2 ** (self.RENT - 1):
+            level += 1
+        while True:
+            for _ in range(12):
+                other = (net >> level << level) + self.random.randrange(1 << level)
+                if other < self.nets and other != net and self.fits(other, below):
+                    return other
+            level = min(level + 1, self.levels)
+
+    def fits(self, other, below):
+        return below is None or self.depth[other] == 0 or below - self.STEP <= self.depth[other] < below
+
+
+KINDS = (["NAND", "NOR", "AND", "OR", "XOR", "NOT", "XNOR"], [24, 16, 14, 10, 18, 10, 8])
+
+
+def local(nets, cycles, inputs=64, period=60, seed=7):
+    """A clocked circuit with the locality of real ones: one net in seven is a flip-flop, and gates are 18 deep."""
+    c, tree = Circuit(cycles * period, (period - 1, period), "0"), Hierarchy(nets, seed)
+    r = tree.random
+    kinds = ["DFF" if r.random() < 0.14 else r.choices(*KINDS)[0] for _ in range(nets)]
+    for net in r.sample(range(nets), inputs):
+        kinds[net] = "INPUT"
+    tree.depth = [0 if kind in ("DFF", "INPUT") else r.randint(1, tree.DEPTH) for kind in kinds]
+    names = [f"n{net}" for net in range(nets)]
+    buses = [c.input(names[net]) for net in range(nets) if kinds[net] == "INPUT"]
+    order = [net for net in range(nets) if kinds[net] != "INPUT"]
+    r.shuffle(order)
+    for net in order:
+        kind = kinds[net]
+        if kind == "DFF":
+            c.gate(kind, names[tree.near(net, None)], name=names[net])
+            continue
+        count = 1 if kind == "NOT" else 2 if kind in ("XOR", "XNOR") else r.choices([2, 3, 4], [75, 18, 7])[0]
+        read = sorted({tree.near(net, tree.depth[net]) for _ in range(count)})
+        c.gate(kind if len(read) > 1 or kind == "NOT" else "BUFF", *(names[other] for other in read), name=names[net])
+    last = {}
+    for cycle in range(cycles):
+        c.drive(cycle * period, buses, r.getrandbits(len(buses)), last)
+    return c
+
+
 # Each with its measured and its quick size.
 ALL = {
     "multiplier 64": (lambda: multiplier(64, 6, UNIT), lambda: multiplier(16, 6, UNIT)),
@@ -277,11 +335,28 @@ ALL = {
     "600 LFSRs of 16": (lambda: lfsrs(16, 600, 600), lambda: lfsrs(16, 60, 60)),
     "1900 LFSRs of 32": (lambda: lfsrs(32, 120, 1900), lambda: lfsrs(32, 12, 190)),
     "random, s38417": (lambda: random_sequential(22179, 1636, 28, 300), lambda: random_sequential(2217, 163, 28, 30)),
+    "clocked, local": (lambda: local(30_000, 300), lambda: local(3_000, 30)),
     "40 pipelines": (lambda: pipelines(16, 8, 60, 40), lambda: pipelines(16, 8, 10, 4)),
     "adder 4000": (lambda: adder(4000, 4), lambda: adder(200, 4)),
     "ring": (lambda: ring(1_000_000, 0), lambda: ring(2_000, 0)),
     "ring, 20000 idle": (lambda: ring(1_000_000, 20_000), lambda: ring(1_000, 2_000)),
 }
+
+
+def given():
+    """Circuits of one's own: by name the folders that the environment variable CIRCUITS names, with a colon between
+    them, each with netlist.bench, options and the tables that it has."""
+    folders = [it for it in os.environ.get("CIRCUITS", "").split(":") if it]
+    return {os.path.basename(os.path.normpath(it)): it for it in folders}
+
+
+def copy(source, folder):
+    """A circuit of one's own, with how many nets it drives."""
+    shutil.copytree(source, folder)
+    with open(os.path.join(folder, "netlist.bench"), encoding="latin-1") as file:
+        nets = sum("=" in line or line.lstrip().upper().startswith("INPUT") for line in (it.partition("#")[0] for it in file))
+    with open(os.path.join(folder, "nets"), "w") as file:
+        file.write(f"{nets}\n")
 
 
 def make(name, quick=False):

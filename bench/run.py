@@ -1,8 +1,8 @@
 #!/usr/bin/env python3
 """run.py [--quick] [--times N] [--limit SECONDS] [--only NAME]... [--no-build] [--no-icarus] [--out FOLDER]
 
-Measures the program on the circuits of circuits.py, each in each mode, and beside it the C simulator
-that CREF names and Icarus Verilog, where they are there. Prints a table, and writes it and a plot to
+Measures the program on the circuits of circuits.py and those in the folders that CIRCUITS names (with a colon
+between them), each in each mode, and beside it the C simulator that CREF names and Icarus Verilog, where they are there. Prints a table, and writes it and a plot to
 FOLDER, bench/out if not given. Ends with status 1 where two ways gave different texts.
 """
 import hashlib
@@ -84,7 +84,10 @@ def icarus(circuit, text, options, folder):
 
 def measure_circuit(name, options, reference, folder):
     """The program's ways, then the other simulators'."""
-    measuring.apart(lambda: circuits.make(name, options.quick).write(folder))
+    if name in circuits.given():
+        circuits.copy(circuits.given()[name], folder)
+    else:
+        measuring.apart(lambda: circuits.make(name, options.quick).write(folder))
     words, netlist = measuring.words_of(folder)
     with open(os.path.join(folder, "nets")) as file:
         nets = int(file.read())
@@ -105,7 +108,7 @@ def measure_circuit(name, options, reference, folder):
         results.append(measure(name, "cref", [reference] + words, netlist, nets, options, folder))
         tell(results[-1])
     text = next((result.text for result in results if result.text), None)
-    if text and options.icarus:
+    if text and options.icarus and os.path.exists(os.path.join(folder, "netlist.v")):
         results.append(icarus(name, text, options, folder))
         tell(results[-1])
     return results
@@ -156,7 +159,7 @@ def write_all(results, options):
 
 def read_words():
     words = measuring.parser(__doc__, 120.0, 20.0)
-    words.add_argument("--only", action="append", choices=list(circuits.ALL), help="this circuit; may be given more than once")
+    words.add_argument("--only", action="append", choices=[*circuits.ALL, *circuits.given()], help="this circuit; may be given more than once")
     words.add_argument("--no-icarus", action="store_true")
     options = measuring.begin(words)
     options.icarus = not options.no_icarus and shutil.which("iverilog")
@@ -169,7 +172,7 @@ def main():
     results = []
     with tempfile.TemporaryDirectory() as top:
         reference = measuring.reference(top)
-        for number, name in enumerate(options.only or circuits.ALL):
+        for number, name in enumerate(options.only or [*circuits.ALL, *circuits.given()]):
             folder = os.path.join(top, str(number))
             results += measure_circuit(name, options, reference, folder)
             shutil.rmtree(folder)
