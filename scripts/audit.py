@@ -45,27 +45,27 @@ class Edit:
                     self.pairs.append((file, old, text[1:]))
 
     def changed(self, folder):
-        """The texts of the files that the edit changes, and the function changed; None where a text isn't there once."""
-        texts, function = {}, None
+        """The texts of the files that the edit changes, and the functions; None where a text isn't there once."""
+        texts, functions = {}, []
         for file, old, new in self.pairs:
             if file not in texts:
                 with open(f"{folder}/{file}", encoding="utf-8") as it:
                     texts[file] = it.read()
             if texts[file].count(old) != 1:
-                return None, None
-            function = function or function_at(file, texts[file], texts[file].index(old))
+                return None, []
+            functions.append(function_at(file, texts[file], texts[file].index(old)))
             texts[file] = texts[file].replace(old, new)
-        return texts, function
+        return texts, [it for it in functions if it]
 
 
 def function_at(file, text, at):
     """The path of the function that a place of a file stands in, as the prover names it, or None outside of all."""
     owner = function = None
     for line in text[:at].split("\n"):
-        impl = re.match(r"impl(?:<.*?>)? (?:(\w+)(?:<.*?>)? for )?(\w+)", line)
+        impl = re.match(r"impl(?:<.*?>)? (?:(\w+)(?:<(\w+).*?>)? for )?(\w+)", line)
         found = re.match(r"(?:    )?(?:pub(?:\(\w+\))? )?fn (\w+)", line)
         if impl:
-            owner = impl[2] + (impl[1] or "")
+            owner = impl[3] + (impl[1] or "") + (impl[2] or "")
         elif found:
             function = found[1]
         elif line == "}":
@@ -88,17 +88,23 @@ def is_open(said):
     return bool(OPEN.search(said)) or any(not NAMES.search(it) for it in ERROR.findall(said))
 
 
+def own(functions, left):
+    """The first of the functions left that is one of the changed ones, or the impl of one, or None."""
+    ends = [f"::{it}" for function in functions for it in (function, function.rpartition("::")[0])]
+    return next((it for it in left if it.endswith(tuple(ends))), None)
+
+
 def verdict(edit, folder):
     """Whether the prover refuses the edit by a goal, and the words for it."""
-    texts, function = edit.changed(folder)
+    texts, functions = edit.changed(folder)
     if texts is None:
         return False, "FAILED: one of its old texts doesn't stand in the file exactly once"
     kept = {file: open(f"{folder}/{file}", encoding="utf-8").read() for file in texts}
     try:
         write(folder, texts)
-        status, said = checked(folder, function) if function else (0, "")
-        if status == 1 and "only=" in said and is_open(said) and any(it.endswith(function) for it in LEFT.findall(said)):
-            return True, f"refused by a goal of {function}"
+        status, said = checked(folder, functions[-1]) if functions else (0, "")
+        if status == 1 and "only=" in said and is_open(said) and own(functions, LEFT.findall(said)):
+            return True, f"refused by a goal of {functions[-1]}"
         status, said = checked(folder)
     finally:
         write(folder, kept)
@@ -109,9 +115,9 @@ def verdict(edit, folder):
         return False, "FAILED: the edited text isn't read: " + " / ".join(said.strip().split("\n")[:3])[:300]
     if not is_open(said):
         return False, f"FAILED: no goal is open, and only a proof of {left[0]} names what the edit took away"
-    if function and any(it.endswith(function) for it in left):
-        return True, f"refused by a goal of {function}"
-    return True, f"refused by a goal of {'its caller ' if function else ''}{left[0].partition('::')[2]}"
+    if own(functions, left):
+        return True, f"refused by a goal of {own(functions, left).partition('::')[2]}"
+    return True, f"refused by a goal of {'its caller ' if functions else ''}{left[0].partition('::')[2]}"
 
 
 def write(folder, texts):
