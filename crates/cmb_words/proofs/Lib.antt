@@ -1,6 +1,6 @@
 pub mod BitFacts
-pub mod Planes
-pub mod Holding
-pub mod Joining
-pub mod Places
-pub mod Periods
+pub mod GateFacts
+pub mod HoldFacts
+pub mod LevelFacts
+pub mod MaskFacts
+pub mod PeriodFacts

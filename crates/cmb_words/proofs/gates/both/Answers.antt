@@ -1,4 +1,4 @@
-use Rattle.cmb_words.proofs.Planes.{and_level, and_apart}
+use Rattle.cmb_words.proofs.LevelFacts.{and_level, and_apart}
 use Rattle.cmb_words.proofs.gates.both.Goals as goal
 
 pub invariant_of-result : goal.invariant_of-result

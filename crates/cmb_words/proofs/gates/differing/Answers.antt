@@ -1,4 +1,4 @@
-use Rattle.cmb_words.proofs.Planes.{xor_level, xor_apart}
+use Rattle.cmb_words.proofs.LevelFacts.{xor_level, xor_apart}
 use Rattle.cmb_words.proofs.gates.differing.Goals as goal
 
 pub invariant_of-result : goal.invariant_of-result

@@ -1,4 +1,4 @@
-use Rattle.cmb_words.proofs.Planes.{or_level, or_apart}
+use Rattle.cmb_words.proofs.LevelFacts.{or_level, or_apart}
 use Rattle.cmb_words.proofs.gates.either.Goals as goal
 
 pub invariant_of-result : goal.invariant_of-result

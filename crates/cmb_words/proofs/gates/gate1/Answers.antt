@@ -1,6 +1,6 @@
 use Rattle.std.proofs.Common.{[], ◌∷◌}
 use Rattle.cmb_words.specs.Word.{level_at_place}
-use Rattle.cmb_words.proofs.Joining.{joint-first}
+use Rattle.cmb_words.proofs.GateFacts.{joint-first}
 use Rattle.cmb_words.proofs.gates.gate1.Goals as goal
 
 pub returns : goal.returns

@@ -1,4 +1,4 @@
-use Rattle.cmb_words.proofs.Planes.{not_level, not_apart}
+use Rattle.cmb_words.proofs.LevelFacts.{not_level, not_apart}
 use Rattle.cmb_words.proofs.gates.inverted.Goals as goal
 
 pub invariant_of-result : goal.invariant_of-result

@@ -3,8 +3,8 @@ use Rattle.std.specs.Prelude.{bit_and}
 use Rattle.std.specs.Int.{trailing_zeros}
 use Rattle.cmb_words.specs.Bits.{is_set_at}
 use Rattle.cmb_words.specs.Word.{level_at_place}
-use Rattle.cmb_words.proofs.Holding.{held-init, held-more, held-all, held-delayed}
-use Rattle.cmb_words.proofs.Places.{is_lowest, none_set, cut_none, cut_same}
+use Rattle.cmb_words.proofs.HoldFacts.{held-init, held-more, held-all, held-delayed}
+use Rattle.cmb_words.proofs.MaskFacts.{is_lowest, none_set, cut_none, cut_same}
 use Rattle.cmb_words.proofs.hold.held.Goals as goal
 
 pub samples-init : goal.samples-init

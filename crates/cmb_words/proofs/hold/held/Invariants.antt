@@ -1,6 +1,6 @@
 use Rattle.cmb_words.specs.Bits.{is_set_at}
 use Rattle.cmb_words.specs.Word.{level_at_place}
-use Rattle.cmb_words.proofs.Holding.{IsHeldBut}
+use Rattle.cmb_words.proofs.HoldFacts.{IsHeldBut}
 use Rattle.cmb_words.proofs.hold.held.Given as goal
 
 abbrev pub invariant-samples : goal.invariant-samples

@@ -1,4 +1,4 @@
-use Rattle.cmb_words.proofs.Periods.{first_at, none_at}
+use Rattle.cmb_words.proofs.PeriodFacts.{first_at, none_at}
 use Rattle.cmb_words.proofs.masks.every.Goals as goal
 
 pub returns-then-first-lt64 : goal.returns-then-first-lt64

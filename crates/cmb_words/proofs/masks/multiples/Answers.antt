@@ -1,4 +1,4 @@
-use Rattle.cmb_words.proofs.Periods.{periodic-init, periodic-twice, periodic-all}
+use Rattle.cmb_words.proofs.PeriodFacts.{periodic-init, periodic-twice, periodic-all}
 use Rattle.cmb_words.proofs.masks.multiples.Goals as goal
 
 pub doubled-init : goal.doubled-init

@@ -1,5 +1,5 @@
 use Rattle.std.proofs.Common.{◌-◌}
-use Rattle.cmb_words.proofs.Periods.{IsPeriodic}
+use Rattle.cmb_words.proofs.PeriodFacts.{IsPeriodic}
 use Rattle.cmb_words.proofs.masks.multiples.Given as goal
 
 abbrev pub invariant-doubled : goal.invariant-doubled

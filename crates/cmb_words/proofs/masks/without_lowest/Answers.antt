@@ -1,5 +1,5 @@
 use Rattle.std.proofs.Common.{arith}
-use Rattle.cmb_words.proofs.Places.{places_set-none, next_place}
+use Rattle.cmb_words.proofs.MaskFacts.{places_set-none, next_place}
 use Rattle.cmb_words.proofs.masks.without_lowest.Goals as goal
 
 pub returns-then-mask-eq0-clause-rest : goal.returns-then-mask-eq0-clause-rest

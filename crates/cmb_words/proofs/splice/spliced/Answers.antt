@@ -1,4 +1,4 @@
-use Rattle.cmb_words.proofs.Planes.{level_by_bits}
+use Rattle.cmb_words.proofs.LevelFacts.{level_by_bits}
 use Rattle.cmb_words.proofs.splice.spliced.Goals as goal
 
 pub returns-clause-below : goal.returns-clause-below

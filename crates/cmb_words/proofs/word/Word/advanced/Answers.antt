@@ -1,4 +1,4 @@
-use Rattle.cmb_words.proofs.Planes.{level_by_bits}
+use Rattle.cmb_words.proofs.LevelFacts.{level_by_bits}
 use Rattle.cmb_words.proofs.word.Word.advanced.Goals as goal
 
 pub returns : goal.returns

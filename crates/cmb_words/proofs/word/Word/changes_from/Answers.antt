@@ -1,4 +1,4 @@
-use Rattle.cmb_words.proofs.Planes.{changes_below, changes_at}
+use Rattle.cmb_words.proofs.LevelFacts.{changes_below, changes_at}
 use Rattle.cmb_words.proofs.word.Word.changes_from.Goals as goal
 
 pub returns-clause-below : goal.returns-clause-below

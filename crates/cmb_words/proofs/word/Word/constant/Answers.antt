@@ -1,4 +1,4 @@
-use Rattle.cmb_words.proofs.Planes.{all_zero, all_one, all_x}
+use Rattle.cmb_words.proofs.LevelFacts.{all_zero, all_one, all_x}
 use Rattle.cmb_words.proofs.word.Word.constant.Goals as goal
 use Rattle.cmb_words.proofs.word.Word.constant.Goals.{in-Zero, in-One, in-X}
 

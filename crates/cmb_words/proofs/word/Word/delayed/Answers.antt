@@ -1,4 +1,4 @@
-use Rattle.cmb_words.proofs.Planes.{delayed_level, delayed_apart}
+use Rattle.cmb_words.proofs.LevelFacts.{delayed_level, delayed_apart}
 use Rattle.cmb_words.proofs.word.Word.delayed.Goals as goal
 
 pub invariant_of-result : goal.invariant_of-result

@@ -1,5 +1,5 @@
 use Rattle.std.proofs.Common.{rules}
-use Rattle.cmb_words.proofs.Planes.{same_from_test, test_from_same}
+use Rattle.cmb_words.proofs.LevelFacts.{same_from_test, test_from_same}
 use Rattle.cmb_words.proofs.word.Word.differs_from.Goals as goal
 
 pub returns-clause-same : goal.returns-clause-same

@@ -1,4 +1,4 @@
-use Rattle.cmb_words.proofs.Planes.{tests_x, tests_one, tests_zero}
+use Rattle.cmb_words.proofs.LevelFacts.{tests_x, tests_one, tests_zero}
 use Rattle.cmb_words.proofs.word.Word.level.Goals as goal
 
 pub returns-then-self-place-eq1 : goal.returns-then-self-place-eq1
