@@ -32,11 +32,11 @@ pub mask_from : (place i : ℕ) → place ≤ i → i < 64 → bit_at ((2 ^ 64 -
 mask_from place i from small = ap (λ m. bit_at m i) (ones_shl 64 place (omega arith)) ∙ bit_at_mask_inside place 64 i from small
 
 -- a number cut over to another where a mask is set
-keeps : (b a m i : ℕ) → bit_at m i ≡ 0 → bit_at (bit_xor b (bit_and (bit_xor b a) m)) i ≡ bit_at b i
+pub keeps : (b a m i : ℕ) → bit_at m i ≡ 0 → bit_at (bit_xor b (bit_and (bit_xor b a) m)) i ≡ bit_at b i
 keeps b a m i none =
     omega (arith, bit_at_xor b (bit_and (bit_xor b a) m) i, bit_at_and (bit_xor b a) m i, none, bit_at-lt b i)
 
-takes : (b a m i : ℕ) → bit_at m i ≡ 1 → bit_at (bit_xor b (bit_and (bit_xor b a) m)) i ≡ bit_at a i
+pub takes : (b a m i : ℕ) → bit_at m i ≡ 1 → bit_at (bit_xor b (bit_and (bit_xor b a) m)) i ≡ bit_at a i
 takes b a m i one =
     omega (arith, bit_at_xor b (bit_and (bit_xor b a) m) i, bit_at_and (bit_xor b a) m i, bit_at_xor b a i, one, bit_at-lt b i, bit_at-lt a i)
 

@@ -3,14 +3,17 @@ use Rattle.std.proofs.Common.{◌≡◌, ℕ, zero, suc, ◌+◌, ◌-◌, ◌*�
 use Rattle.std.proofs.lemmas.Bool.{cases_lt}
 use Rattle.std.proofs.lemmas.Bool.Decides.{eqb_tells}
 use Rattle.std.proofs.lemmas.Nat.{or_lt, xor_lt}
-use Rattle.std.specs.Prelude.{bit_and, bit_or, bit_xor, ◌==◌}
+use Rattle.std.specs.Prelude.{if◌then◌else◌, bit_and, bit_or, bit_xor, ◌==◌}
 use Rattle.std.specs.Int.{bit_at}
 use Rattle.std.proofs.lemmas.Nat.Bits.{bit_at_and, bit_at_or, bit_at_xor, bit_at_ones, bit_at-zero, shr_and_one}
 use Rattle.cmb_wave.specs.declared.level.Level.TheVariants.{Zero, One, X}
 use Rattle.cmb_wave.specs.Waveform.{same_level}
 use Rattle.cmb_design.specs.Gate.{conjunction, disjunction, parity, inverse_of}
+use Rattle.cmb_words.specs.Masked.{inverse_if}
 use Rattle.cmb_words.specs.Bits.{level_of_bits, level_in, is_set_at}
-use Rattle.cmb_words.proofs.BitFacts.{shl_high, shl_low, masked_below, masked_from, none_from, all_from}
+use Rattle.cmb_words.proofs.BitFacts.{shl_high, shl_low, masked_below, masked_from, none_from, all_from, keeps, takes}
+use Rattle.std.proofs.Common.{Bool, true}
+use Rattle.std.proofs.lemmas.Nat.Bits.{bit_at-lt}
 
 -- ---- one level
 
@@ -136,6 +139,95 @@ not_level a b i small h = ap (λ p. level_of_bits p (bit_at b i)) (not_bit a b i
 pub not_apart : (a b i : ℕ) → i < 64 → bit_at a i + bit_at b i < 2
     → bit_at (bit_xor (bit_or a b) (2 ^ 64 - 1)) i + bit_at b i < 2
 not_apart a b i small h = omega (arith, not_bit a b i small)
+
+-- ---- masks over levels
+
+-- a bit that is 0 or 1, by cases
+pub by_bit : (P : ℕ → Type 0) → P 0 → P 1 → (k : ℕ) → k < 2 → P k
+by_bit P a b zero h = a
+by_bit P a b (suc zero) h = b
+by_bit P a b (suc (suc k)) h = absurd (omega arith)
+
+inverse_bits : (p q : ℕ) → p + q < 2 → (k : ℕ) → k < 2
+    → level_of_bits (min ((p + k) % 2) ((q + 1) % 2)) q ≡ inverse_if (k == 1) (level_of_bits p q)
+inverse_bits =
+    by_bits (λ p q. (k : ℕ) → k < 2 → level_of_bits (min ((p + k) % 2) ((q + 1) % 2)) q ≡ inverse_if (k == 1) (level_of_bits p q))
+    (by_bit (λ k. level_of_bits (min ((0 + k) % 2) 1) 0 ≡ inverse_if (k == 1) Zero) refl refl)
+    (by_bit (λ k. level_of_bits (min ((1 + k) % 2) 1) 0 ≡ inverse_if (k == 1) One) refl refl)
+    (by_bit (λ k. level_of_bits (min ((0 + k) % 2) 0) 1 ≡ inverse_if (k == 1) X) refl refl)
+
+inverse_bit : (a b m i : ℕ) → i < 64
+    → bit_at (bit_and (bit_xor a m) (bit_xor b (2 ^ 64 - 1))) i ≡ min ((bit_at a i + bit_at m i) % 2) ((bit_at b i + 1) % 2)
+inverse_bit a b m i small =
+    bit_at_and _ _ i ∙ ap₂ min (bit_at_xor a m i) (bit_at_xor b (2 ^ 64 - 1) i ∙ ap (λ k. (bit_at b i + k) % 2) (bit_at_ones 64 i small))
+
+pub inverse_level : (a b m i : ℕ) → i < 64 → bit_at a i + bit_at b i < 2
+    → level_in (bit_and (bit_xor a m) (bit_xor b (2 ^ 64 - 1))) b i ≡ inverse_if (is_set_at m i) (level_in a b i)
+unfolding level_in is_set_at
+inverse_level a b m i small h =
+    ap (λ p. level_of_bits p (bit_at b i)) (inverse_bit a b m i small) ∙ inverse_bits _ _ h (bit_at m i) (bit_at-lt m i)
+
+pub inverse_apart : (a b m i : ℕ) → i < 64 → bit_at (bit_and (bit_xor a m) (bit_xor b (2 ^ 64 - 1))) i + bit_at b i < 2
+inverse_apart a b m i small = omega (arith, inverse_bit a b m i small, bit_at-lt b i)
+
+one_bits : (p q : ℕ) → p + q < 2 → (k : ℕ) → k < 2
+    → level_of_bits (max p k) (min q ((k + 1) % 2)) ≡ (if k == 1 then One else level_of_bits p q)
+one_bits =
+    by_bits (λ p q. (k : ℕ) → k < 2 → level_of_bits (max p k) (min q ((k + 1) % 2)) ≡ (if k == 1 then One else level_of_bits p q))
+    (by_bit (λ k. level_of_bits (max 0 k) (min 0 ((k + 1) % 2)) ≡ (if k == 1 then One else Zero)) refl refl)
+    (by_bit (λ k. level_of_bits (max 1 k) (min 0 ((k + 1) % 2)) ≡ (if k == 1 then One else One)) refl refl)
+    (by_bit (λ k. level_of_bits (max 0 k) (min 1 ((k + 1) % 2)) ≡ (if k == 1 then One else X)) refl refl)
+
+one_bit : (b m i : ℕ) → i < 64 → bit_at (bit_and b (bit_xor m (2 ^ 64 - 1))) i ≡ min (bit_at b i) ((bit_at m i + 1) % 2)
+one_bit b m i small =
+    bit_at_and _ _ i ∙ ap (min (bit_at b i)) (bit_at_xor m (2 ^ 64 - 1) i ∙ ap (λ k. (bit_at m i + k) % 2) (bit_at_ones 64 i small))
+
+pub one_level : (a b m i : ℕ) → i < 64 → bit_at a i + bit_at b i < 2
+    → level_in (bit_or a m) (bit_and b (bit_xor m (2 ^ 64 - 1))) i ≡ (if is_set_at m i then One else level_in a b i)
+unfolding level_in is_set_at
+one_level a b m i small h =
+    ap₂ level_of_bits (bit_at_or a m i) (one_bit b m i small) ∙ one_bits _ _ h (bit_at m i) (bit_at-lt m i)
+
+pub one_apart : (a b m i : ℕ) → i < 64 → bit_at a i + bit_at b i < 2
+    → bit_at (bit_or a m) i + bit_at (bit_and b (bit_xor m (2 ^ 64 - 1))) i < 2
+one_apart a b m i small h = omega (arith, bit_at_or a m i, one_bit b m i small, bit_at-lt m i, h)
+
+chosen_bit : (a c m i : ℕ) → bit_at (bit_xor a (bit_and (bit_xor a c) m)) i ≡ (if is_set_at m i then bit_at c i else bit_at a i)
+unfolding is_set_at
+chosen_bit a c m i =
+    ⊎_elim
+    (λ yes. rw yes.0 (takes a c m i yes.1))
+    (λ other. rw other.0 (keeps a c m i (let e : bit_at m i ≡ 0 = omega (arith, bit_at-lt m i, other.1) in e)))
+    (eqb_tells (bit_at m i) 1)
+
+chosen_of : (b : Bool) (p q r s : ℕ)
+    → level_of_bits (if b then r else p) (if b then s else q) ≡ (if b then level_of_bits r s else level_of_bits p q)
+chosen_of true p q r s = refl
+chosen_of false p q r s = refl
+
+pub chosen_level : (a b c d m i : ℕ)
+    → level_in (bit_xor a (bit_and (bit_xor a c) m)) (bit_xor b (bit_and (bit_xor b d) m)) i
+    ≡ (if is_set_at m i then level_in c d i else level_in a b i)
+unfolding level_in
+chosen_level a b c d m i =
+    ap₂ level_of_bits (chosen_bit a c m i) (chosen_bit b d m i) ∙ chosen_of (is_set_at m i) _ _ _ _
+
+chosen_sum : (b : Bool) (p q r s : ℕ) → p + q < 2 → r + s < 2 → (if b then r else p) + (if b then s else q) < 2
+chosen_sum true p q r s h k = k
+chosen_sum false p q r s h k = h
+
+pub chosen_apart : (a b c d m i : ℕ) → bit_at a i + bit_at b i < 2 → bit_at c i + bit_at d i < 2
+    → bit_at (bit_xor a (bit_and (bit_xor a c) m)) i + bit_at (bit_xor b (bit_and (bit_xor b d) m)) i < 2
+chosen_apart a b c d m i h k =
+    rw (chosen_bit a c m i, chosen_bit b d m i) (chosen_sum (is_set_at m i) _ _ _ _ h k)
+
+pub all_set : (i : ℕ) → i < 64 → is_set_at (2 ^ 64 - 1) i ≡ true
+unfolding is_set_at
+all_set i small = ap (λ b. b == 1) (bit_at_ones 64 i small)
+
+pub none_set : (i : ℕ) → is_set_at 0 i ≡ false
+unfolding is_set_at
+none_set i = ap (λ b. b == 1) (bit_at-zero i)
 
 -- ---- delays
 

@@ -7,11 +7,8 @@ use Rattle.std.proofs.lemmas.Nat.{and_le_r}
 use Rattle.std.proofs.lemmas.Nat.Bits.{bit_at_and, bit_at_cat_low, bit_at_cat_high, bit_at_above, bit_at-zero, bit_at_ones_above, bit_at-pow_same, bit_at-pow_other, bit_at-trailing_zeros, same_from_bits}
 use Rattle.std.proofs.Math.Nat.{two-pow-succ}
 use Rattle.cmb_words.specs.Bits.{is_set_at, places_in, places_set}
+use Rattle.cmb_words.proofs.LevelFacts.{none_set}
 use Rattle.cmb_words.proofs.BitFacts.{mod_bit, masked_below, masked_from}
-
-pub none_set : (i : ℕ) → is_set_at 0 i ≡ false
-unfolding is_set_at
-none_set i = rw bit_at-zero
 
 -- a mask cut at a place
 pub cut_none : (n place i : ℕ) → place < 64 → i < place → is_set_at (bit_and n ((2 ^ 64 - 1) * 2 ^ place % 2 ^ 64)) i ≡ false

@@ -1,9 +1,12 @@
 //! Gates over words: the gate functions of the model, at each place.
 
-ghost use Rattle.std.specs.Prelude.{◌≡◌, ℕ, ◌<◌, List, [], ◌∷◌, ◌++◌};
+ghost use Rattle.std.specs.Prelude.{◌≡◌, ℕ, ◌<◌, List, [], ◌∷◌, ◌++◌, if◌then◌else◌};
 ghost use Rattle.cmb_wave.specs.declared.level.Level.{Level};
 ghost use Rattle.cmb_design.specs.Gate.{gate, conjunction, disjunction, parity, inverse_of};
+ghost use Rattle.cmb_wave.specs.declared.level.Level.TheVariants.{One};
+ghost use Rattle.cmb_words.specs.Bits.{is_set_at};
 ghost use Rattle.cmb_words.specs.Joint.{joint};
+ghost use Rattle.cmb_words.specs.Masked.{inverse_if, inverts_operands, ignores_second, is_parity, inverts_result};
 ghost use Rattle.cmb_words.specs.Word.{level_at_place};
 
 use crate::word::Word;
@@ -95,10 +98,88 @@ pub fn gate1(kind: Kind, operand: Word) -> Word
     completed(kind, operand)
 }
 
-/// What a gate with two operands gives, at each place.
+// The levels of a word, inverted where a mask is set.
+#[inline]
+fn inverted_where(a: Word, mask: u64) -> Word
+    ensures { (i : ℕ) → i < 64 → level_at_place result i ≡ inverse_if (is_set_at mask i) (level_at_place a i) }
+{
+    Word {
+        ones: (a.ones ^ mask) & (a.unknown ^ u64::MAX),
+        unknown: a.unknown,
+    }
+}
+
+// The levels of a word, and 1 where a mask is set.
+#[inline]
+fn ones_where(a: Word, mask: u64) -> Word
+    ensures { (i : ℕ) → i < 64 → level_at_place result i ≡ (if is_set_at mask i then One else level_at_place a i) }
+{
+    Word {
+        ones: a.ones | mask,
+        unknown: a.unknown & (mask ^ u64::MAX),
+    }
+}
+
+// The levels of one word, and those of another where a mask is set.
+#[inline]
+fn chosen(a: Word, b: Word, mask: u64) -> Word
+    ensures { (i : ℕ) → i < 64 → level_at_place result i ≡ (if is_set_at mask i then level_at_place b i else level_at_place a i) }
+{
+    Word {
+        ones: a.ones ^ ((a.ones ^ b.ones) & mask),
+        unknown: a.unknown ^ ((a.unknown ^ b.unknown) & mask),
+    }
+}
+
+// The masks, each of all places or of none, by which a gate of a kind is made without a branch.
+struct GateMasks {
+    operands: u64,
+    second: u64,
+    parity: u64,
+    inverse: u64,
+}
+
+#[inline]
+#[tactic(auto, using(crate::proofs::LevelFacts::all_set, crate::proofs::LevelFacts::none_set))]
+fn masks_of(kind: Kind) -> GateMasks
+    ensures operands { (i : ℕ) → i < 64 → is_set_at result.operands i ≡ inverts_operands kind }
+    ensures second { (i : ℕ) → i < 64 → is_set_at result.second i ≡ ignores_second kind }
+    ensures parity { (i : ℕ) → i < 64 → is_set_at result.parity i ≡ is_parity kind }
+    ensures inverse { (i : ℕ) → i < 64 → is_set_at result.inverse i ≡ inverts_result kind }
+{
+    let all = u64::MAX;
+    let (operands, second, parity, inverse) = match kind {
+        Kind::And => (0, 0, 0, 0),
+        Kind::Nand => (0, 0, 0, all),
+        Kind::Or => (all, 0, 0, all),
+        Kind::Nor => (all, 0, 0, 0),
+        Kind::Xor => (0, 0, all, 0),
+        Kind::Xnor => (0, 0, all, all),
+        Kind::Not => (0, all, 0, all),
+        Kind::Buff => (0, all, 0, 0),
+    };
+    GateMasks {
+        operands,
+        second,
+        parity,
+        inverse,
+    }
+}
+
+/// What a gate with two operands gives, at each place. There is no branch on the kind in it, as the kinds of gates that are
+/// met one after the other can't be foreseen.
 #[inline]
 pub fn gate2(kind: Kind, a: Word, b: Word) -> Word
     ensures { (i : ℕ) → i < 64 → level_at_place result i ≡ gate kind (level_at_place a i ∷ level_at_place b i ∷ []) }
 {
-    completed(kind, join(kind, a, b))
+    let GateMasks {
+        operands,
+        second,
+        parity,
+        inverse,
+    } = masks_of(kind);
+    let first = inverted_where(a, operands);
+    let other = ones_where(inverted_where(b, operands), second);
+    let joined = chosen(both(first, other), differing(a, b), parity);
+    inverted_where(joined, inverse)
 }

@@ -4,7 +4,8 @@ use Rattle.std.specs.Int.{trailing_zeros}
 use Rattle.cmb_words.specs.Bits.{is_set_at}
 use Rattle.cmb_words.specs.Word.{level_at_place}
 use Rattle.cmb_words.proofs.HoldFacts.{held-init, held-more, held-all, held-delayed}
-use Rattle.cmb_words.proofs.MaskFacts.{is_lowest, none_set, cut_none, cut_same}
+use Rattle.cmb_words.proofs.LevelFacts.{none_set}
+use Rattle.cmb_words.proofs.MaskFacts.{is_lowest, cut_none, cut_same}
 use Rattle.cmb_words.proofs.hold.held.Goals as goal
 
 pub samples-init : goal.samples-init

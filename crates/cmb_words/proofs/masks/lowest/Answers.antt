@@ -1,5 +1,6 @@
 use Rattle.std.proofs.Common.{◌<◌, arith}
-use Rattle.cmb_words.proofs.MaskFacts.{places_set-none, none_set, next_place, is_lowest}
+use Rattle.cmb_words.proofs.LevelFacts.{none_set}
+use Rattle.cmb_words.proofs.MaskFacts.{places_set-none, next_place, is_lowest}
 use Rattle.cmb_words.proofs.masks.lowest.Goals as goal
 
 pub returns-then-mask-eq0-clause-first : goal.returns-then-mask-eq0-clause-first
