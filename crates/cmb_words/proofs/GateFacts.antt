@@ -8,6 +8,11 @@ use Rattle.cmb_design.specs.Gate.{gate, conjunction, disjunction, parity, invers
 use Rattle.cmb_words.specs.Joint.{joint}
 use Rattle.cmb_words.specs.Masked.{inverse_if, inverts_operands, ignores_second, is_parity, inverts_result}
 use Rattle.std.proofs.Common.{if◌then◌else◌, ap, ap₂, ◌∙◌}
+use Rattle.std.proofs.Common.{ℕ, ◌+◌, ◌<◌, Bool, true, false, true≢false, sym}
+use Rattle.std.specs.Int.{bit_at}
+use Rattle.std.proofs.lemmas.Nat.Bits.{bit_at-zero, bit_at-lt}
+use Rattle.cmb_words.specs.Bits.{level_of_bits, level_in}
+use Rattle.cmb_words.proofs.LevelFacts.{by_bits, by_bit}
 
 -- ---- one operand: what a gate makes of it, before it inverts, is its level
 
@@ -88,3 +93,44 @@ gate-made kind a b first inverted other joined odd chosen level e f g h j k l =
     (k ∙ ap₂ (λ x y. if is_parity kind then x else y) j
     (h ∙ ap₂ (λ x y. conjunction (x ∷ y ∷ [])) e (g ∙ ap (λ x. if ignores_second kind then One else x) f)))
     ∙ made kind a b
+
+-- ---- operands that are known
+
+-- whether a level is 0 or 1
+abbrev pub is_known : Level → Bool
+is_known X = false
+is_known _ = true
+
+by_known : (P : Level → Level → Type 0) → P Zero Zero → P Zero One → P One Zero → P One One
+    → (a b : Level) → is_known a ≡ true → is_known b ≡ true → P a b
+by_known P e f g h Zero Zero j k = e
+by_known P e f g h Zero One j k = f
+by_known P e f g h Zero X j k = absurd (true≢false (sym k))
+by_known P e f g h One Zero j k = g
+by_known P e f g h One One j k = h
+by_known P e f g h One X j k = absurd (true≢false (sym k))
+by_known P e f g h X b j k = absurd (true≢false (sym j))
+
+pub gate-known : (kind : Kind) (a b : Level) → is_known a ≡ true → is_known b ≡ true → is_known (gate kind (a ∷ b ∷ [])) ≡ true
+gate-known And = by_known (λ a b. is_known (gate And (a ∷ b ∷ [])) ≡ true) refl refl refl refl
+gate-known Nand = by_known (λ a b. is_known (gate Nand (a ∷ b ∷ [])) ≡ true) refl refl refl refl
+gate-known Or = by_known (λ a b. is_known (gate Or (a ∷ b ∷ [])) ≡ true) refl refl refl refl
+gate-known Nor = by_known (λ a b. is_known (gate Nor (a ∷ b ∷ [])) ≡ true) refl refl refl refl
+gate-known Xor = by_known (λ a b. is_known (gate Xor (a ∷ b ∷ [])) ≡ true) refl refl refl refl
+gate-known Xnor = by_known (λ a b. is_known (gate Xnor (a ∷ b ∷ [])) ≡ true) refl refl refl refl
+gate-known Not = by_known (λ a b. is_known (gate Not (a ∷ b ∷ [])) ≡ true) refl refl refl refl
+gate-known Buff = by_known (λ a b. is_known (gate Buff (a ∷ b ∷ [])) ≡ true) refl refl refl refl
+
+known_plane : (p q : ℕ) → p + q < 2 → is_known (level_of_bits p q) ≡ true → level_of_bits p 0 ≡ level_of_bits p q
+known_plane =
+    by_bits (λ p q. is_known (level_of_bits p q) ≡ true → level_of_bits p 0 ≡ level_of_bits p q)
+    (λ h. refl) (λ h. refl) (λ h. absurd (true≢false (sym h)))
+
+-- a known level is told by its first plane
+pub level-known : (v x i : ℕ) → bit_at v i + bit_at x i < 2 → is_known (level_in v x i) ≡ true → level_in v 0 i ≡ level_in v x i
+unfolding level_in
+level-known v x i apart known = rw bit_at-zero (known_plane (bit_at v i) (bit_at x i) apart known)
+
+pub known-level : (v i : ℕ) → is_known (level_in v 0 i) ≡ true
+unfolding level_in
+known-level v i = rw bit_at-zero (by_bit (λ k. is_known (level_of_bits k 0) ≡ true) refl refl (bit_at v i) (bit_at-lt v i))

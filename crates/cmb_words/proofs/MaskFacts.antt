@@ -4,11 +4,16 @@ use Rattle.std.specs.Prelude.{bit_and, ◌==◌}
 use Rattle.std.specs.Int.{bit_at, trailing_zeros}
 use Rattle.std.proofs.lemmas.Bool.{cases_lt}
 use Rattle.std.proofs.lemmas.Nat.{and_le_r}
-use Rattle.std.proofs.lemmas.Nat.Bits.{bit_at_and, bit_at_cat_low, bit_at_cat_high, bit_at_above, bit_at-zero, bit_at_ones_above, bit_at-pow_same, bit_at-pow_other, bit_at-trailing_zeros, same_from_bits}
+use Rattle.std.proofs.lemmas.Nat.Bits.{bit_at_and, bit_at_cat_low, bit_at_cat_high, bit_at_above, bit_at_ones_above, bit_at-pow_same, bit_at-pow_other, bit_at-trailing_zeros, same_from_bits}
 use Rattle.std.proofs.Math.Nat.{two-pow-succ}
 use Rattle.cmb_words.specs.Bits.{is_set_at, places_in, places_set}
 use Rattle.cmb_words.proofs.LevelFacts.{none_set}
 use Rattle.cmb_words.proofs.BitFacts.{mod_bit, masked_below, masked_from}
+use Rattle.std.proofs.Common.{true≢false}
+use Rattle.cmb_words.specs.Bits.{IsLowestSet}
+use Rattle.std.proofs.Common.{List, All, Contains, Bool, if◌then◌else◌}
+use Rattle.std.specs.List.{AllByRecursion}
+use Rattle.std.proofs.lemmas.List.Elements.{All-from_recursion, Contains-append_left, Contains-append_right, Contains-push}
 
 -- a mask cut at a place
 pub cut_none : (n place i : ℕ) → place < 64 → i < place → is_set_at (bit_and n ((2 ^ 64 - 1) * 2 ^ place % 2 ^ 64)) i ≡ false
@@ -125,3 +130,69 @@ next_place n some fits =
 
 pub rest_smaller : (n : ℕ) → 0 < n → bit_and n (n - 1) < n
 rest_smaller n some = omega (arith, and_le_r n (n - 1))
+
+-- there is one lowest place
+same_lowest : (n t rest place : ℕ) → IsLowest n t rest → IsLowestSet n place → place ≡ t
+same_lowest n t rest place h k =
+    ⊎_elim
+    (λ below. absurd (true≢false (sym k.1 ∙ h.low place below)))
+    (λ from.
+    ⊎_elim
+    (λ above. absurd (true≢false (sym h.one ∙ k.2 t above)))
+    (λ at. let e : place ≡ t = omega arith in e)
+    (cases_lt t place))
+    (cases_lt place t)
+
+module _ (n place : ℕ) (some : 0 < n) (fits : n < 2 ^ 64) (lowest : IsLowestSet n place) where
+  h : IsLowest n (trailing_zeros w64 n) (bit_and n (n - 1))
+  h = is_lowest n some fits
+
+  at : place ≡ trailing_zeros w64 n
+  at = same_lowest n (trailing_zeros w64 n) (bit_and n (n - 1)) place h lowest
+
+  pub lowest_gone : is_set_at (bit_and n (n - 1)) place ≡ false
+  unfolding h
+  lowest_gone = ap (is_set_at (bit_and n (n - 1))) at ∙ h.gone
+
+  pub others_stay : (i : ℕ) → i ≢ place → is_set_at (bit_and n (n - 1)) i ≡ is_set_at n i
+  others_stay i apart = h.other i (λ e. apart (e ∙ sym at))
+
+-- ---- what the list of places holds
+
+module _ (n : ℕ) where
+  IsSetPlace : ℕ → Type 0
+  IsSetPlace place = (place < 64) × (is_set_at n place ≡ true)
+
+  each_with : (from : ℕ) (rest : List ℕ) (b : Bool) → from < 64 → is_set_at n from ≡ b → AllByRecursion IsSetPlace rest
+      → AllByRecursion IsSetPlace (if b then from ∷ rest else rest)
+  unfolding IsSetPlace
+  each_with from rest true small e r = ((small, e), r)
+  each_with from rest false small e r = r
+
+  each_in : (from count : ℕ) → from + count ≤ 64 → AllByRecursion IsSetPlace (places_in n from count)
+  unfolding places_in
+  each_in from zero fits = tt
+  each_in from (suc count) fits =
+      each_with from (places_in n (suc from) count) (is_set_at n from) (omega arith) refl (each_in (suc from) count (omega arith))
+
+  pub places-each : All (λ place. (place < 64) × (is_set_at n place ≡ true)) (places_set n)
+  unfolding places_set IsSetPlace
+  places-each = All-from_recursion IsSetPlace (places_in n 0 64) (each_in 0 64 (omega arith))
+
+  tail_with : (from place : ℕ) (rest : List ℕ) (b : Bool) → Contains rest place → Contains (if b then from ∷ rest else rest) place
+  tail_with from place rest true h = Contains-append_right (from ∷ []) rest place h
+  tail_with from place rest false h = h
+
+  all_in : (from count place : ℕ) → from ≤ place → place < from + count → is_set_at n place ≡ true → Contains (places_in n from count) place
+  unfolding places_in
+  all_in from zero place le lt one = absurd (omega arith)
+  all_in from (suc count) place le lt one =
+      ⊎_elim
+      (λ below. tail_with from place (places_in n (suc from) count) (is_set_at n from) (all_in (suc from) count place (omega arith) (omega arith) one))
+      (λ at. let e : from ≡ place = omega arith in
+      rw (e, one) (Contains-append_left (place ∷ []) (places_in n (suc place) count) place (Contains-push [] place)))
+      (cases_lt from place)
+
+  pub places-all : (place : ℕ) → place < 64 → is_set_at n place ≡ true → Contains (places_set n) place
+  unfolding places_set
+  places-all place small one = all_in 0 64 place (omega arith) (omega arith) one

@@ -1,5 +1,5 @@
 -- What machine words of 64 bits say: masks of places, and the levels that two words hold.
-use Rattle.std.specs.Prelude.{ℕ, zero, suc, ◌+◌, ◌<◌, ◌==◌, Bool, List, [], ◌∷◌, if◌then◌else◌}
+use Rattle.std.specs.Prelude.{◌≡◌, true, false, ℕ, zero, suc, ◌+◌, ◌<◌, ◌==◌, Bool, List, [], ◌∷◌, if◌then◌else◌}
 use Rattle.std.specs.Int.{bit_at}
 use Rattle.cmb_wave.specs.declared.level.Level.{Level}
 use Rattle.cmb_wave.specs.declared.level.Level.TheVariants.{Zero, One, X}
@@ -9,6 +9,10 @@ use Rattle.cmb_wave.specs.declared.level.Level.TheVariants.{Zero, One, X}
 -- whether a place is set in a mask
 unfoldable pub is_set_at : ℕ → ℕ → Bool
 is_set_at mask place = bit_at mask place == 1
+
+-- a place is the lowest one that is set in a mask
+abbrev pub IsLowestSet : ℕ → ℕ → Type 0
+IsLowestSet mask place = (place < 64) × (is_set_at mask place ≡ true) × ((lower : ℕ) → lower < place → is_set_at mask lower ≡ false)
 
 -- the set places of a mask, of so many from one on, by rising place
 unfoldable pub places_in : ℕ → ℕ → ℕ → List ℕ

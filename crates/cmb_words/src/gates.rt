@@ -4,7 +4,7 @@ ghost use Rattle.std.specs.Prelude.{◌≡◌, ℕ, ◌<◌, List, [], ◌∷◌
 ghost use Rattle.cmb_wave.specs.declared.level.Level.{Level};
 ghost use Rattle.cmb_design.specs.Gate.{gate, conjunction, disjunction, parity, inverse_of};
 ghost use Rattle.cmb_wave.specs.declared.level.Level.TheVariants.{One};
-ghost use Rattle.cmb_words.specs.Bits.{is_set_at};
+ghost use Rattle.cmb_words.specs.Bits.{is_set_at, level_in};
 ghost use Rattle.cmb_words.specs.Joint.{joint};
 ghost use Rattle.cmb_words.specs.Masked.{inverse_if, inverts_operands, ignores_second, is_parity, inverts_result};
 ghost use Rattle.cmb_words.specs.Word.{level_at_place};
@@ -182,4 +182,20 @@ pub fn gate2(kind: Kind, a: Word, b: Word) -> Word
     let other = ones_where(inverted_where(b, operands), second);
     let joined = chosen(both(first, other), differing(a, b), parity);
     inverted_where(joined, inverse)
+}
+
+/// What a gate with two operands gives that are x nowhere: of them and of the result, the places that are 1.
+#[inline]
+pub fn gate2_known(kind: Kind, a: u64, b: u64) -> u64
+    ensures { (i : ℕ) → i < 64 → level_in result 0 i ≡ gate kind (level_in a 0 i ∷ level_in b 0 i ∷ []) }
+{
+    let first = Word {
+        ones: a,
+        unknown: 0,
+    };
+    let second = Word {
+        ones: b,
+        unknown: 0,
+    };
+    gate2(kind, first, second).ones
 }

@@ -11,12 +11,13 @@
 mod bits;
 pub mod gates;
 pub mod hold;
+pub mod laws;
 pub mod masks;
 pub mod places;
 pub mod splice;
 pub mod word;
 
-pub use gates::{completed, gate1, gate2, join};
+pub use gates::{completed, gate1, gate2, gate2_known, join};
 pub use hold::held;
 pub use masks::{every, lowest, without_lowest};
 pub use places::Places;

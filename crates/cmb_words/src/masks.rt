@@ -1,7 +1,7 @@
 //! Masks: sets of places, as the bits of a machine word.
 
 ghost use Rattle.std.specs.Prelude.{◌≡◌, ◌≢◌, ℕ, ◌+◌, ◌-◌, ◌%◌, ◌<◌, ◌≤◌, ◌==◌, ◌&&◌, nat_le, true, false, List, [], ◌∷◌, drop, slice_get, MatchOption};
-ghost use Rattle.cmb_words.specs.Bits.{is_set_at, places_set};
+ghost use Rattle.cmb_words.specs.Bits.{IsLowestSet, is_set_at, places_set};
 
 /// The lowest place of a mask, none where no place is set.
 #[inline]
@@ -9,7 +9,7 @@ pub fn lowest(mask: u64) -> Option<u32>
     ensures first { result ≡ slice_get (places_set mask) 0 }
     ensures lowest { MatchOption result
         ((i : ℕ) → i < 64 → is_set_at mask i ≡ false)
-        (λ place. (place < 64) × (is_set_at mask place ≡ true) × ((i : ℕ) → i < place → is_set_at mask i ≡ false)) }
+        (λ place. IsLowestSet mask place) }
 {
     if mask == 0 {
         None
@@ -22,6 +22,8 @@ pub fn lowest(mask: u64) -> Option<u32>
 #[inline]
 pub fn without_lowest(mask: u64) -> u64
     ensures rest { places_set result ≡ drop 1 (places_set mask) }
+    ensures gone { (place : ℕ) → IsLowestSet mask place → is_set_at result place ≡ false }
+    ensures others { (place i : ℕ) → IsLowestSet mask place → i ≢ place → is_set_at result i ≡ is_set_at mask i }
     ensures less { mask ≢ 0 → result < mask }
 {
     if mask == 0 { 0 } else { mask & (mask - 1) }

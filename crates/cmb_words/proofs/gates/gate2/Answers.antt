@@ -1,4 +1,4 @@
-use Rattle.std.proofs.Common.{◌≡◌, ◌∙◌, ap, if◌then◌else◌}
+use Rattle.std.proofs.Common.{◌∙◌, ap, if◌then◌else◌}
 use Rattle.cmb_wave.specs.declared.level.Level.TheVariants.{One}
 use Rattle.cmb_words.specs.Masked.{inverse_if}
 use Rattle.cmb_words.specs.Word.{level_at_place}
