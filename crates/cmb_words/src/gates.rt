@@ -123,7 +123,8 @@ fn ones_where(a: Word, mask: u64) -> Word
 // The levels of one word, and those of another where a mask is set.
 #[inline]
 fn chosen(a: Word, b: Word, mask: u64) -> Word
-    ensures { (i : ℕ) → i < 64 → level_at_place result i ≡ (if is_set_at mask i then level_at_place b i else level_at_place a i) }
+    ensures { (i : ℕ) → i < 64
+        → level_at_place result i ≡ (if is_set_at mask i then level_at_place b i else level_at_place a i) }
 {
     Word {
         ones: a.ones ^ ((a.ones ^ b.ones) & mask),
@@ -166,8 +167,9 @@ fn masks_of(kind: Kind) -> GateMasks
     }
 }
 
-/// What a gate with two operands gives, at each place. There is no branch on the kind in it, as the kinds of gates that are
-/// met one after the other can't be foreseen.
+/// What a gate with two operands gives, at each place.
+///
+/// There is no branch on the kind in it, since a processor can't foresee the kinds of gates that follow one another.
 #[inline]
 pub fn gate2(kind: Kind, a: Word, b: Word) -> Word
     ensures { (i : ℕ) → i < 64 → level_at_place result i ≡ gate kind (level_at_place a i ∷ level_at_place b i ∷ []) }

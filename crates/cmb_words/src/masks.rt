@@ -1,6 +1,7 @@
 //! Masks: sets of places, as the bits of a machine word.
 
-ghost use Rattle.std.specs.Prelude.{◌≡◌, ◌≢◌, ℕ, ◌+◌, ◌-◌, ◌%◌, ◌<◌, ◌≤◌, ◌==◌, ◌&&◌, nat_le, true, false, List, [], ◌∷◌, drop, slice_get, MatchOption};
+ghost use Rattle.std.specs.Prelude.{◌≡◌, ◌≢◌, ℕ, ◌-◌, ◌%◌, ◌<◌, ◌≤◌, ◌==◌, ◌&&◌, nat_le, false};
+ghost use Rattle.std.specs.Prelude.{drop, slice_get, MatchOption};
 ghost use Rattle.cmb_words.specs.Bits.{IsLowestSet, is_set_at, places_set};
 
 /// The lowest place of a mask, none where no place is set.

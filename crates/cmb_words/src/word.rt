@@ -158,8 +158,10 @@ impl Word {
     pub fn is_steady_from(self, place: u32) -> bool
         requires least { 1 ≤ place }
         requires most { place < 64 }
-        ensures steady { result ≡ true → (i : ℕ) → place ≤ i → i < 64 → level_at_place self i ≡ level_at_place self (place - 1) }
-        ensures changes { ((i : ℕ) → place ≤ i → i < 64 → level_at_place self i ≡ level_at_place self (place - 1)) → result ≡ true }
+        ensures steady { result ≡ true
+            → (i : ℕ) → place ≤ i → i < 64 → level_at_place self i ≡ level_at_place self (place - 1) }
+        ensures changes { ((i : ℕ) → place ≤ i → i < 64 → level_at_place self i ≡ level_at_place self (place - 1))
+            → result ≡ true }
     {
         !self.differs_from(self.everywhere(place - 1), place)
     }
