@@ -7,8 +7,8 @@ ghost use Rattle.cmb_words.specs.Word.{level_at_place};
 use crate::splice::spliced;
 use crate::word::Word;
 
-/// The word of a flip-flop of which `own` is known below `from`. From there on it has, where a sample arrives, the level
-/// that its data, `input`, had the delay before, and elsewhere the level of the place before.
+/// The word of a flip-flop of which `own` is known below `from`. From there on it has, where a sample arrives, the
+/// level that its data, `input`, had the delay before, and elsewhere the level of the place before.
 ///
 /// `samples` is the mask of the places at which samples arrive; those below `from` don't count.
 #[inline]
