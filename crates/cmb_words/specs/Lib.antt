@@ -1,0 +1,4 @@
+pub mod Bits
+pub mod Joint
+pub mod Masked
+pub mod Word
