@@ -1,0 +1,2 @@
+pub mod ArrivalFacts
+pub mod RowFacts

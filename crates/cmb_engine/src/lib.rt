@@ -1,0 +1,4 @@
+//! The engine of a simulation: it goes on window by window, on words of 64 ticks.
+#![tactic(auto)]
+
+pub mod laws;
