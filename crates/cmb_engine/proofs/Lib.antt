@@ -1,2 +1,5 @@
 pub mod ArrivalFacts
+pub mod BitFacts
+pub mod CellFacts
+pub mod MarkFacts
 pub mod RowFacts
