@@ -3,3 +3,5 @@ pub mod BitFacts
 pub mod CellFacts
 pub mod MarkFacts
 pub mod RowFacts
+pub mod SampleFacts
+pub mod TruthFacts

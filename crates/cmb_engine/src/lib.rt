@@ -1,6 +1,7 @@
 //! The engine of a simulation: it goes on window by window, on words of 64 ticks.
 #![tactic(auto)]
 
+mod arrivals;
 mod bits;
 mod cell;
 pub mod laws;
