@@ -5,3 +5,4 @@ pub mod MarkFacts
 pub mod RowFacts
 pub mod SampleFacts
 pub mod TruthFacts
+pub mod WordFacts

@@ -6,3 +6,4 @@ mod bits;
 mod cell;
 pub mod laws;
 mod marks;
+mod visit;
