@@ -4,5 +4,6 @@ pub mod CellFacts
 pub mod MarkFacts
 pub mod RowFacts
 pub mod SampleFacts
+pub mod TableFacts
 pub mod TruthFacts
 pub mod WordFacts

@@ -49,7 +49,7 @@ module _ (design : Design) (to first : ℕ) (begun : 1 ≤ first) (late : 65 ≤
   flop-true : (net place source : ℕ) → first ≤ place → delay design net 1 ≤ first
       → (arrives design net (to + place - 64) ≡ true) ⊎ (arrives design net (to + place - 64) ≡ false)
       → row design (value design) net (to + place - 64) (driver.Flop source)
-      ≡ cell_level (true_words design to) to net (Flop (clock_of design net) (record { net = source; delay = delay design net 1 })) place
+      ≡ cell_level (true_words design to) (true_words design to net) to (Flop (clock_of design net) (record { net = source; delay = delay design net 1 })) place
   flop-true net place source from within (inl a) =
       let parts = arrives_parts _ _ (to + place - 64) a in
       let at : to + (place - delay design net 1) - 64 ≡ to + place - 64 - delay design net 1 = omega arith in
@@ -65,7 +65,7 @@ module _ (design : Design) (to first : ℕ) (begun : 1 ≤ first) (late : 65 ≤
       in_place-tick (value design net) to place (omega arith) ∙ value-meets_row design net (to + place - 64) ∙ by_driver (driver_of design.netlist net) within made
     where
       by_driver : (driver : Driver) → IsWithin first (cell_by design net driver) → is_made (cell_by design net driver) ≡ true
-          → row design (value design) net (to + place - 64) driver ≡ cell_level (true_words design to) to net (cell_by design net driver) place
+          → row design (value design) net (to + place - 64) driver ≡ cell_level (true_words design to) (true_words design to net) to (cell_by design net driver) place
       by_driver driver.Input within made = cc
       by_driver (driver.Gate kind operands) within made = ap (gate kind) (sym (pins-true net place 1 operands from within))
       by_driver (driver.Flop source) within made = flop-true net place source from within (cases_Bool (arrives design net (to + place - 64)))

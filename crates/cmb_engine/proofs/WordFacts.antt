@@ -15,6 +15,10 @@ levels_of-get_or [] net word place h = absurd (omega arith)
 levels_of-get_or (w ∷ words) zero word place h = refl
 levels_of-get_or (w ∷ words) (suc net) word place h = levels_of-get_or words net word place (omega arith)
 
+-- what a read of a word tells
+pub levels_of-read : (words : List Word) (net : ℕ) (word : Word) (place : ℕ) → net < length words → word ≡ get_or words net word → levels_of words net place ≡ level_at_place word place
+levels_of-read words net word place h is = levels_of-get_or words net word place h ∙ sym (ap (λ w. level_at_place w place) is)
+
 pub levels_of-set_same : (words : List Word) (net : ℕ) (word : Word) (place : ℕ) → net < length words → levels_of (set words net word) net place ≡ level_at_place word place
 levels_of-set_same [] net word place h = absurd (omega arith)
 levels_of-set_same (w ∷ words) zero word place h = refl

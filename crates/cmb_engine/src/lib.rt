@@ -4,6 +4,7 @@
 mod arrivals;
 mod bits;
 mod cell;
+mod cells;
 pub mod laws;
 mod marks;
 mod visit;
