@@ -6,4 +6,5 @@ pub mod RowFacts
 pub mod SampleFacts
 pub mod TableFacts
 pub mod TruthFacts
+pub mod VisitFacts
 pub mod WordFacts

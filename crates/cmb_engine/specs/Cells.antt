@@ -1,7 +1,7 @@
 -- How the word of a net comes about, said in places of words: 64 levels a net, of which place i stands for tick to + i - 64.
 -- Only contracts inside this crate cite these.
-use Rattle.std.specs.Prelude.{◌≡◌, ℕ, ◌+◌, ◌-◌, ◌<◌, ◌≤◌, Bool, true, false, IsTrue, List, All, map, length, if◌then◌else◌}
-use Rattle.std.specs.List.{AllByRecursion}
+use Rattle.std.specs.Prelude.{◌≡◌, ℕ, ◌+◌, ◌-◌, ◌<◌, ◌≤◌, Bool, true, false, IsTrue, List, [], ◌∷◌, ◌==◌, slice_index, slice_index_or, All, map, length, if◌then◌else◌}
+use Rattle.std.specs.List.{AllByRecursion, list_any}
 use Rattle.cmb_wave.specs.declared.level.Level.{Level}
 use Rattle.cmb_bench.specs.declared.netlist.Kind.{Kind}
 use Rattle.cmb_design.specs.declared.rows.Clock.{Clock}
@@ -76,3 +76,18 @@ IsSteady words to first net (Gate kind pins) =
     × ((place : ℕ) → first ≤ place → place < 64 → AllByRecursion (λ pin. seen words place pin ≡ seen words (first - 1) pin) pins)
 IsSteady words to first net (Flop clock pin) =
     (place : ℕ) → first ≤ place → place < 64 → IsTrue (arrives_by clock pin.delay (to + place - 64)) → seen words place pin ≡ words net (first - 1)
+
+-- the pins of a cell
+abbrev pub pins_of : Cell → List Pin
+pins_of Told = []
+pins_of (Gate kind pins) = pins
+pins_of (Flop clock pin) = pin ∷ []
+
+-- whether a cell reads a net
+abbrev pub reads : Cell → ℕ → Bool
+reads cell net = list_any (λ pin. pin.net == net) (pins_of cell)
+
+-- each net whose cell reads this one is among the readers
+abbrev pub AreReaders : List Cell → ℕ → List ℕ → Type 0
+AreReaders cells net readers =
+    (m : ℕ) → IsTrue (reads (slice_index_or cells m Told) net) → (k : ℕ) × (k < length readers) × (slice_index readers k ≡ m)

@@ -7,4 +7,5 @@ mod cell;
 mod cells;
 pub mod laws;
 mod marks;
+mod settle;
 mod visit;

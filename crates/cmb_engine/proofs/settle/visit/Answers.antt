@@ -1,0 +1,31 @@
+use Rattle.std.proofs.Common.{set, slice_index_or, sym, ◌∙◌}
+use Rattle.cmb_words.specs.Word.{level_at_place}
+use Rattle.cmb_engine.specs.Cells.{Told}
+use Rattle.cmb_engine.specs.Words.{levels_of}
+use Rattle.cmb_engine.proofs.VisitFacts.{made-same, same-both}
+use Rattle.cmb_engine.proofs.WordFacts.{levels_of-read, levels_of-set_same, levels_of-set_other}
+use Rattle.cmb_engine.proofs.settle.visit.Goals as goal
+
+pub returns-then-not-differs_from-clause-made : goal.returns-then-not-differs_from-clause-made
+returns-then-not-differs_from-clause-made c =
+    made-same (levels_of c.args.words.now) (level_at_place c.word-made.result) (levels_of c.args.words.now c.args.net) c.args.to c.args.first
+        (slice_index_or c.args.cells.now c.args.net Told) c.requires.begun
+        (same-both (level_at_place c.word-made.result) (levels_of c.args.words.now c.args.net) c.args.first c.word-made.ensures.below
+            (λ place from small.
+                c.differs_from.ensures.same c.if-not-differs_from.true place from small
+                ∙ sym (levels_of-read c.args.words.now c.args.net c.index-words-net.result place c.requires.net c.index-words-net.is)))
+        c.word-made.ensures.made
+
+pub returns-clause-others : goal.returns-clause-others
+returns-clause-others c = λ m place other. levels_of-set_other c.args.words.now c.args.net m c.word-made.result place other
+
+pub returns-clause-past : goal.returns-clause-past
+returns-clause-past c = λ place below.
+    levels_of-set_same c.args.words.now c.args.net c.word-made.result place c.requires.net ∙ c.word-made.ensures.below place below
+
+pub returns-clause-made : goal.returns-clause-made
+returns-clause-made c =
+    made-same (levels_of c.args.words.now) (level_at_place c.word-made.result) (levels_of (set c.args.words.now c.args.net c.word-made.result) c.args.net) c.args.to c.args.first
+        (slice_index_or c.args.cells.now c.args.net Told) c.requires.begun
+        (λ place small. sym (levels_of-set_same c.args.words.now c.args.net c.word-made.result place c.requires.net))
+        c.word-made.ensures.made
