@@ -2,7 +2,7 @@
 
 ghost use Rattle.std.specs.Prelude.{◌≡◌, ◌≢◌, ℕ, ◌+◌, ◌*◌, ◌<◌, ◌≤◌, true, false, All, length, slice_index, slice_index_or};
 ghost use Rattle.cmb_engine.specs.Bits.{has};
-ghost use Rattle.cmb_engine.specs.Cells.{Told, IsMade, IsLawful, AreReaders, reads};
+ghost use Rattle.cmb_engine.specs.Cells.{Told, IsMade, IsLawful, IsSettled, AreReaders, is_made, reads};
 ghost use Rattle.cmb_engine.specs.Words.{levels_of};
 
 use crate::cells::Cells;
@@ -51,6 +51,12 @@ pub(crate) fn visit(
     // A net that reads this one and isn't marked sees the word that it saw.
     ensures news { (m place : ℕ) → has marks.new m ≡ false → reads (slice_index_or cells.now m Told) net ≡ true → place < 64
         → levels_of words.new net place ≡ levels_of words.old net place }
+
+    // So where every made net that isn't marked was settled, it is.
+    ensures settled { ((m : ℕ) → is_made (slice_index_or cells.now m Told) ≡ true → has marks.old m ≡ false
+            → IsSettled (levels_of words.old) to first m (slice_index_or cells.now m Told))
+        → (m : ℕ) → is_made (slice_index_or cells.now m Told) ≡ true → has marks.new m ≡ false
+        → IsSettled (levels_of words.new) to first m (slice_index_or cells.now m Told) }
 {
     marks.remove(net);
     let made = cells.word(net, words, to, first);
