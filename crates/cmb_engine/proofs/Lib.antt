@@ -1,0 +1,10 @@
+pub mod ArrivalFacts
+pub mod BitFacts
+pub mod CellFacts
+pub mod MarkFacts
+pub mod RowFacts
+pub mod SampleFacts
+pub mod TableFacts
+pub mod TruthFacts
+pub mod VisitFacts
+pub mod WordFacts

@@ -1,0 +1,99 @@
+-- A set of numbers and the set of its words that aren't empty.
+use Rattle.std.proofs.Common.{◌≡◌, ◌≢◌, ℕ, ◌+◌, ◌*◌, ◌/◌, ◌%◌, ◌<◌, ◌≤◌, ◌⊎◌, inl, inr, Bool, true, false, not, Option, Some, None, MatchOption, ◌&&◌, ◌||◌, ◌==◌, List, length, get_or, refl, sym, ap, ◌∙◌, arith}
+use Rattle.std.proofs.lemmas.Bool.{cases_eq, cases_lt, eqb-true, eq-eqb, ne_eqb, false≢true, true≢false, not-false, eqb-false}
+use Rattle.std.proofs.lemmas.List.{get_or_past}
+use Rattle.std.proofs.lemmas.Nat.Bits.{bit_at-zero}
+use Rattle.std.specs.Prelude.{IfNone}
+use Rattle.std.specs.Int.{bit_at}
+use Rattle.cmb_engine.specs.Bits.{has, HasNone, IsNext, Inserts, Removes, IsSummary}
+
+-- a word that is zero has no number
+pub has-zero_word : (words : List ℕ) (m : ℕ) → get_or words (m / 64) 0 ≡ 0 → has words m ≡ false
+unfolding has
+has-zero_word words m none = rw (none, bit_at-zero (m % 64)) refl
+
+pub summary-insert : (low new high sums : List ℕ) (n : ℕ) → IsSummary low high → Inserts low new n → Inserts high sums (n / 64) → IsSummary new sums
+summary-insert low new high sums n old insert above =
+    record { room = omega (arith, old.room, insert.len, above.len); summed = λ k. at k (cases_eq k (n / 64)) }
+  where
+    at : (k : ℕ) → (k ≡ n / 64) ⊎ (k ≡ n / 64 → ⊥) → has sums k ≡ not (get_or new k 0 == 0)
+    at k (inl e) =
+        let here : (k == n / 64) ≡ true = eq-eqb _ _ e in
+        let some : (get_or new k 0 == 0) ≡ false = ne_eqb _ _ (λ z. insert.some (ap (λ i. get_or new i 0) (sym e) ∙ z)) in
+        rw (above.members k, here, some) refl
+    at k (inr e) =
+        let here : (k == n / 64) ≡ false = ne_eqb _ _ e in
+        rw (above.members k, here, insert.others k e) (old.summed k)
+
+-- where a word still has numbers its bit stays
+pub summary-stays : (low new high : List ℕ) (n : ℕ) → IsSummary low high → Removes low new n → (get_or new (n / 64) 0 == 0) ≡ false → IsSummary new high
+summary-stays low new high n old remove some =
+    record { room = omega (arith, old.room, remove.len); summed = λ k. at k (cases_eq k (n / 64)) }
+  where
+    at : (k : ℕ) → (k ≡ n / 64) ⊎ (k ≡ n / 64 → ⊥) → has high k ≡ not (get_or new k 0 == 0)
+    at k (inl e) =
+        let left : (get_or low (n / 64) 0 == 0) ≡ false = ne_eqb _ _ (λ z. eqb-false _ _ some (omega (arith, remove.less, z))) in
+        let now : has high k ≡ true = old.summed k ∙ ap (λ i. not (get_or low i 0 == 0)) e ∙ ap not left in
+        now ∙ sym (ap (λ i. not (get_or new i 0 == 0)) e ∙ ap not some)
+    at k (inr e) = rw (remove.others k e) (old.summed k)
+
+-- and where it has none left its bit goes
+pub summary-remove : (low new high sums : List ℕ) (n : ℕ) → IsSummary low high → Removes low new n → Removes high sums (n / 64) → (get_or new (n / 64) 0 == 0) ≡ true → IsSummary new sums
+summary-remove low new high sums n old remove above none =
+    record { room = omega (arith, old.room, remove.len, above.len); summed = λ k. at k (cases_eq k (n / 64)) }
+  where
+    at : (k : ℕ) → (k ≡ n / 64) ⊎ (k ≡ n / 64 → ⊥) → has sums k ≡ not (get_or new k 0 == 0)
+    at k (inl e) =
+        let here : (k == n / 64) ≡ true = eq-eqb _ _ e in
+        let gone : has sums k ≡ false = rw here at (above.members k) in
+        gone ∙ sym (ap (λ i. not (get_or new i 0 == 0)) e ∙ ap not none)
+    at k (inr e) =
+        let here : (k == n / 64) ≡ false = ne_eqb _ _ e in
+        let same : has sums k ≡ has high k = rw here at (above.members k) in
+        same ∙ rw (remove.others k e) (old.summed k)
+
+pub summary-new : (low high : List ℕ) → length low ≤ 64 * length high → ((k : ℕ) → get_or low k 0 ≡ 0) → ((m : ℕ) → has high m ≡ false) → IsSummary low high
+summary-new low high room zeros none =
+    record { room = room; summed = λ k. none k ∙ sym (ap not (eq-eqb (get_or low k 0) 0 (zeros k))) }
+
+module _ (low high : List ℕ) (sum : IsSummary low high) where
+  -- a word whose bit is clear has no number
+  no_word : (m : ℕ) → has high (m / 64) ≡ false → has low m ≡ false
+  no_word m none = has-zero_word low m (eqb-true _ _ (not-false _ (sym (sum.summed (m / 64)) ∙ none)))
+
+  pub marks-none : (n : ℕ) → HasNone low n (n / 64 * 64 + 64) → HasNone high (n / 64 + 1) (64 * length high) → HasNone low n (64 * length low)
+  marks-none n here above m from below = go (cases_lt m (n / 64 * 64 + 64))
+    where
+      go : (m < n / 64 * 64 + 64) ⊎ (n / 64 * 64 + 64 ≤ m) → has low m ≡ false
+      go (inl l) = here m from l
+      go (inr l) = no_word m (above (m / 64) (omega arith) (omega (arith, sum.room)))
+
+  pub marks-next : (n k found : ℕ) → HasNone low n (n / 64 * 64 + 64) → IsNext high (n / 64 + 1) k → IsNext low (64 * k) found → IsNext low n found
+  marks-next n k found here above next =
+      record { from = omega (arith, above.from, next.from); member = next.member; least = λ m from below. go m from below (cases_lt m (n / 64 * 64 + 64)) (cases_lt m (64 * k)) }
+    where
+      go : (m : ℕ) → n ≤ m → m < found → (m < n / 64 * 64 + 64) ⊎ (n / 64 * 64 + 64 ≤ m) → (m < 64 * k) ⊎ (64 * k ≤ m) → has low m ≡ false
+      go m from below (inl l) _ = here m from l
+      go m from below (inr l) (inl j) = no_word m (above.least (m / 64) (omega arith) (omega arith))
+      go m from below (inr l) (inr j) = next.least m j below
+
+  -- a word whose bit is set isn't zero, and is there
+  pub marks-word : (n k : ℕ) → IsNext high n k → get_or low k 0 ≢ 0
+  marks-word n k next none = false≢true (sym (ap not (eq-eqb (get_or low k 0) 0 none)) ∙ sym (sum.summed k) ∙ next.member)
+
+  pub marks-room : (n k : ℕ) → IsNext high n k → k < length low
+  marks-room n k next = go (cases_lt k (length low))
+    where
+      go : (k < length low) ⊎ (length low ≤ k) → k < length low
+      go (inl l) = l
+      go (inr l) = absurd (marks-word n k next (get_or_past low k 0 l))
+
+  -- what the word tells whose bit is the next one
+  pub marks-in_word : (n k : ℕ) → HasNone low n (n / 64 * 64 + 64) → IsNext high (n / 64 + 1) k → (found : Option ℕ)
+      → MatchOption found (HasNone low (64 * k) (64 * k / 64 * 64 + 64)) (λ m. IsNext low (64 * k) m × (m / 64 ≡ 64 * k / 64))
+      → ((64 * k) % 64 ≡ 0 → IfNone found (get_or low (64 * k / 64) 0 ≡ 0))
+      → MatchOption found (HasNone low n (64 * length low)) (IsNext low n)
+  marks-in_word n k here above (Some m) next empty = marks-next n k m here above next.0
+  marks-in_word n k here above None next empty =
+      let at : 64 * k / 64 ≡ k = omega arith in
+      absurd (marks-word (n / 64 + 1) k above (ap (λ i. get_or low i 0) (sym at) ∙ empty (omega arith)))

@@ -1,0 +1,100 @@
+-- Cells kept in two lists.
+use Rattle.std.proofs.Common.{◌≡◌, ℕ, zero, suc, ◌+◌, ◌<◌, ◌≤◌, List, [], ◌∷◌, ◌++◌, length, map, take, drop, get_or, refl, sym, ◌∙◌, ap, subst, arith}
+use Rattle.std.proofs.lemmas.List.{length-append, length-take, take_more}
+use Rattle.cmb_bench.specs.declared.netlist.Kind.{Kind}
+use Rattle.cmb_design.specs.Design.{Design}
+use Rattle.cmb_design.specs.Timing.{delay}
+use Rattle.cmb_engine.specs.Plans.{pins_from}
+use Rattle.cmb_engine.specs.Cells.{Cell, Told, Gate, Flop}
+use Rattle.cmb_engine.specs.Tables.{cell_of, cells_of, pins_at, IsInside, AreInside}
+use Rattle.cmb_engine.specs.declared.cell.Pin.{Pin}
+use Rattle.cmb_engine.specs.declared.cells.Part.{Part}
+use Rattle.cmb_engine.specs.declared.cells.Rule.{Rule}
+use Rattle.cmb_engine.specs.declared.cells.Rule.TheVariants as rule
+
+-- one more rule
+pub inside_push : (pins : List Pin) (rules : List Rule) (r : Rule) → AreInside pins rules → IsInside pins r → AreInside pins (rules ++ r ∷ [])
+inside_push pins [] r all one = (one, tt)
+inside_push pins (s ∷ rules) r all one = (all.0, inside_push pins rules r all.1 one)
+
+pub cells_push : (pins : List Pin) (rules : List Rule) (r : Rule) → cells_of pins (rules ++ r ∷ []) ≡ cells_of pins rules ++ cell_of pins r ∷ []
+cells_push pins [] r = refl
+cells_push pins (s ∷ rules) r = ap (λ cells. cell_of pins s ∷ cells) (cells_push pins rules r)
+
+-- ---- more pins
+
+still : (xs ys : List Pin) (first count : ℕ) → first + count ≤ length xs → take count (drop first (xs ++ ys)) ≡ take count (drop first xs)
+still [] ys zero zero h = refl
+still [] ys zero (suc count) h = absurd (omega arith)
+still [] ys (suc first) count h = absurd (omega arith)
+still (x ∷ xs) ys zero zero h = refl
+still (x ∷ xs) ys zero (suc count) h = ap (λ l. x ∷ l) (still xs ys zero count (omega arith))
+still (x ∷ xs) ys (suc first) count h = still xs ys first count (omega arith)
+
+behind : (xs ys : List Pin) → take (length ys) (drop (length xs) (xs ++ ys)) ≡ ys
+behind [] [] = refl
+behind [] (y ∷ ys) = ap (λ l. y ∷ l) (behind [] ys)
+behind (x ∷ xs) ys = behind xs ys
+
+pub pins_at-behind : (xs ys : List Pin) (part : Part) → part.first ≡ length xs → part.count ≡ length ys → pins_at (xs ++ ys) part ≡ ys
+pins_at-behind xs ys part first count = rw (first, count) (behind xs ys)
+
+inside_more : (xs ys : List Pin) (r : Rule) → IsInside xs r → IsInside (xs ++ ys) r
+inside_more xs ys rule.Told h = tt
+inside_more xs ys (rule.Gate kind part) h = omega (arith, h, length-append xs ys)
+inside_more xs ys (rule.Flop clock pin) h = tt
+
+pub all_inside_more : (xs ys : List Pin) (rules : List Rule) → AreInside xs rules → AreInside (xs ++ ys) rules
+all_inside_more xs ys [] h = tt
+all_inside_more xs ys (r ∷ rules) h = (inside_more xs ys r h.0, all_inside_more xs ys rules h.1)
+
+cell_more : (xs ys : List Pin) (r : Rule) → IsInside xs r → cell_of (xs ++ ys) r ≡ cell_of xs r
+cell_more xs ys rule.Told h = refl
+cell_more xs ys (rule.Gate kind part) h = ap (Gate kind) (still xs ys part.first part.count h)
+cell_more xs ys (rule.Flop clock pin) h = refl
+
+pub cells_more : (xs ys : List Pin) (rules : List Rule) → AreInside xs rules → cells_of (xs ++ ys) rules ≡ cells_of xs rules
+cells_more xs ys [] h = refl
+cells_more xs ys (r ∷ rules) h = rw (cell_more xs ys r h.0, cells_more xs ys rules h.1) refl
+
+-- ---- reading
+
+pub inside-get_or : (pins : List Pin) (rules : List Rule) (net : ℕ) (d : Rule) → AreInside pins rules → net < length rules → IsInside pins (get_or rules net d)
+inside-get_or pins [] net d h b = absurd (omega arith)
+inside-get_or pins (r ∷ rules) zero d h b = h.0
+inside-get_or pins (r ∷ rules) (suc net) d h b = inside-get_or pins rules net d h.1 (omega arith)
+
+pub cells_of-get_or : (pins : List Pin) (rules : List Rule) (net : ℕ) (d : Rule) → net < length rules → get_or (cells_of pins rules) net Told ≡ cell_of pins (get_or rules net d)
+cells_of-get_or pins [] net d b = absurd (omega arith)
+cells_of-get_or pins (r ∷ rules) zero d b = refl
+cells_of-get_or pins (r ∷ rules) (suc net) d b = cells_of-get_or pins rules net d (omega arith)
+
+-- one more gate, whose pins are behind the others
+pub gate_cells : (xs ys : List Pin) (rules : List Rule) (kind : Kind) (part : Part) → AreInside xs rules → part.first ≡ length xs → part.count ≡ length ys
+    → cells_of (xs ++ ys) (rules ++ rule.Gate kind part ∷ []) ≡ cells_of xs rules ++ Gate kind ys ∷ []
+gate_cells xs ys rules kind part all first count =
+    cells_push (xs ++ ys) rules (rule.Gate kind part)
+    ∙ ap (λ cells. cells ++ Gate kind (pins_at (xs ++ ys) part) ∷ []) (cells_more xs ys rules all)
+    ∙ ap (λ pins. cells_of xs rules ++ Gate kind pins ∷ []) (pins_at-behind xs ys part first count)
+
+pub gate_inside : (xs ys : List Pin) (rules : List Rule) (kind : Kind) (part : Part) → AreInside xs rules → part.first ≡ length xs → part.count ≡ length ys
+    → AreInside (xs ++ ys) (rules ++ rule.Gate kind part ∷ [])
+gate_inside xs ys rules kind part all first count =
+    inside_push (xs ++ ys) rules (rule.Gate kind part) (all_inside_more xs ys rules all) (omega (arith, first, count, length-append xs ys))
+
+-- ---- the cells of a design
+
+pins_from-append : (design : Design) (net pin : ℕ) (operands : List ℕ) (operand : ℕ)
+    → pins_from design net pin (operands ++ operand ∷ []) ≡ pins_from design net pin operands ++ record { net = operand; delay = delay design net (pin + length operands) } ∷ []
+pins_from-append design net pin [] operand = let e : pin + 0 ≡ pin = omega arith in rw e refl
+pins_from-append design net pin (x ∷ xs) operand =
+    let e : pin + suc (length xs) ≡ suc pin + length xs = omega arith in
+    rw e (ap (λ pins. record { net = x; delay = delay design net pin } ∷ pins) (pins_from-append design net (suc pin) xs operand))
+
+pub pins_from-more : (design : Design) (net : ℕ) (operands : List ℕ) (i d : ℕ) → i < length operands
+    → pins_from design net 1 (take (i + 1) operands) ≡ pins_from design net 1 (take i operands) ++ record { net = get_or operands i d; delay = delay design net (i + 1) } ∷ []
+pins_from-more design net operands i d h =
+    let n : length (take i operands) ≡ i = simp length-take (omega arith) in
+    let pin : 1 + length (take i operands) ≡ i + 1 = omega arith in
+    ap (pins_from design net 1) (take_more operands i d h) ∙ pins_from-append design net 1 (take i operands) (get_or operands i d) ∙ rw pin refl
+

@@ -1,0 +1,18 @@
+use Rattle.std.proofs.Common.{◌≡◌, ◌<◌, ℕ, List, length, get_or, sym, ap, ◌∙◌}
+use Rattle.cmb_words.specs.declared.word.Word.{Word}
+use Rattle.cmb_words.specs.Word.{level_at_place}
+use Rattle.cmb_engine.specs.Words.{levels_of}
+use Rattle.cmb_engine.proofs.WordFacts.{levels_of-read}
+use Rattle.cmb_engine.proofs.cells.Cells.word.Goals as goal
+
+pub returns-in-Told-clause-below : goal.returns-in-Told-clause-below
+returns-in-Told-clause-below c = λ place below.
+    sym (levels_of-read c.args.words.now c.args.net c.index-words-net.result place c.requires.net c.index-words-net.is)
+
+pub returns-in-Gate-clause-below : goal.returns-in-Gate-clause-below
+returns-in-Gate-clause-below c = λ place below.
+    c.spliced.ensures.below place below ∙ sym (levels_of-read c.args.words.now c.args.net c.index-words-net.result place c.requires.net c.index-words-net.is)
+
+pub returns-in-Flop-clause-below : goal.returns-in-Flop-clause-below
+returns-in-Flop-clause-below c = λ place below.
+    c.flop_word.ensures.below place below ∙ sym (levels_of-read c.args.words.now c.args.net c.index-words-net.result place c.requires.net c.index-words-net.is)

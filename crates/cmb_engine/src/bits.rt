@@ -1,0 +1,100 @@
+//! Sets of numbers by bits.
+
+ghost use Rattle.std.specs.Prelude.{◌≡◌, ℕ, ◌+◌, ◌*◌, ◌/◌, ◌%◌, ◌^◌, ◌<◌, ◌≤◌, ◌||◌, ◌&&◌, ◌==◌, false, not, length, slice_index, IfOk, IfNone, MatchOption};
+ghost use Rattle.cmb_engine.specs.Bits.{has, HasNone, IsNext, Inserts, Removes};
+
+use std::alloc::{AllocError, Global};
+use std::marker::Model;
+
+/// A set of numbers below 64 times the count of its words.
+#[derive(Drop)]
+pub(crate) struct Bits {
+    words: Vec<u64>,
+}
+
+impl Model for Bits {
+    ghost use Rattle.std.specs.Prelude.{List, ℕ, length, ◌≤◌, ◌^◌};
+
+    ghost Value = { List ℕ };
+
+    ghost view = { λ set. set.words.items };
+
+    ghost invariant = { λ set. length set.words.items ≤ 2 ^ 58 };
+}
+
+impl Bits {
+    /// The empty set, with room for the numbers below `count`.
+    pub(crate) fn new(alloc: Global, count: usize) -> Result<Bits, AllocError>
+        ensures room { IfOk result (λ set. length set ≡ count / 64 + 1) }
+        ensures none { IfOk result (λ set. (m : ℕ) → has set m ≡ false) }
+        ensures empty { IfOk result (λ set. (k : ℕ) → slice_index set k ≡ 0) }
+    {
+        Ok(Bits {
+            words: vec![in alloc; 0; count / 64 + 1]?,
+        })
+    }
+
+    /// How many words there are.
+    pub(crate) fn len(&self) -> usize
+        ensures value { result ≡ length self.now }
+        ensures small { result ≤ 2 ^ 58 }
+    {
+        self.words.len()
+    }
+
+    /// Puts a number in.
+    pub(crate) fn insert(&mut self, n: usize)
+        requires { n < 64 * length self.old }
+        ensures { Inserts self.old self.new n }
+    {
+        self.words[n / 64] |= 1 << (n % 64);
+    }
+
+    /// Takes a number out.
+    pub(crate) fn remove(&mut self, n: usize)
+        requires { n < 64 * length self.old }
+        ensures { Removes self.old self.new n }
+    {
+        self.words[n / 64] &= !(1 << (n % 64));
+    }
+
+    /// Whether none of a word's numbers is in.
+    pub(crate) fn is_empty_word(&self, k: usize) -> bool
+        requires { k < length self.now }
+        ensures { result ≡ (slice_index self.now k == 0) }
+    {
+        self.words[k] == 0
+    }
+
+    /// The least one at or after n in n's word.
+    pub(crate) fn next_in_word(&self, n: usize) -> Option<usize>
+        requires { n < 64 * length self.now }
+        ensures next { MatchOption result (HasNone self.now n (n / 64 * 64 + 64)) (λ found. IsNext self.now n found × (found / 64 ≡ n / 64)) }
+        ensures empty { n % 64 ≡ 0 → IfNone result (slice_index self.now (n / 64) ≡ 0) }
+    {
+        let word = self.words[n / 64] & (u64::MAX << (n % 64));
+        if word == 0 {
+            None
+        } else {
+            Some(n / 64 * 64 + word.trailing_zeros() as usize)
+        }
+    }
+
+    /// The least one at or after n.
+    pub(crate) fn next_from(&self, n: usize) -> Option<usize>
+        ensures { MatchOption result (HasNone self.now n (64 * length self.now)) (IsNext self.now n) }
+    {
+        if n / 64 >= self.words.len() {
+            return None;
+        }
+        if let Some(found) = self.next_in_word(n) {
+            return Some(found);
+        }
+        for k in n / 64 + 1..self.len() {
+            if let Some(found) = self.next_in_word(64 * k) {
+                return Some(found);
+            }
+        }
+        None
+    }
+}

@@ -1,0 +1,180 @@
+//! The cells of a design's nets, in two lists.
+
+ghost use Rattle.std.specs.Prelude.{◌≡◌, ℕ, ◌+◌, ◌<◌, ◌≤◌, ◌++◌, ◌∷◌, [], IfOk, OnOk, length, map, take, slice_index_or};
+ghost use Rattle.cmb_bench.specs.Netlist.{driver_of, pins_of};
+ghost use Rattle.cmb_bench.specs.declared.netlist.Driver.TheVariants as driver;
+ghost use Rattle.cmb_design.specs.Exact.{nets_of};
+ghost use Rattle.cmb_words.specs.Word.{level_at_place};
+ghost use Rattle.cmb_engine.specs.Cells.{Told, Gate, Flop, IsMade, IsLawful};
+ghost use Rattle.cmb_engine.specs.Plans.{cell_in, cells_in, pins_from};
+ghost use Rattle.cmb_engine.specs.Words.{levels_of};
+
+use crate::cell::Pin;
+use crate::visit::{flop_word, gate_word};
+use cmb_bench::{Driver, Kind};
+use cmb_design::{Clock, Design};
+use cmb_words::{Word, spliced};
+use std::alloc::{AllocError, Global};
+use std::marker::Model;
+
+/// Where the pins of a gate stand among those of all.
+#[derive(Clone, Copy)]
+pub(crate) struct Part {
+    pub first: u32,
+    pub count: u32,
+}
+
+impl Part {
+    // The part at the end of a list to which so many items are about to be added.
+    fn behind(length: usize, count: usize) -> Result<Part, AllocError>
+        ensures { IfOk result (λ part. (part.first ≡ length) × (part.count ≡ count)) }
+    {
+        match (u32::try_from(length), u32::try_from(count)) {
+            (Ok(first), Ok(count)) => Ok(Part { first, count }),
+            _ => Err(AllocError),
+        }
+    }
+}
+
+// The pins of a gate, in place of what `pins` had.
+fn collect_pins(
+    design: &Design,
+    net: usize,
+    operands: &[u32],
+    pins: &mut Vec<Pin>,
+) -> Result<(), AllocError>
+    requires net { net < nets_of design.now }
+    requires operands { operands.now ≡ pins_of (driver_of design.now.netlist net) }
+    ensures { OnOk result (pins.new.items ≡ pins_from design.now net 1 operands.now) }
+{
+    pins.clear();
+    for (i, operand) in operands.iter().enumerate() {
+        pins.push(Pin {
+            net: *operand,
+            delay: design.delay(net, i + 1),
+        })?;
+    }
+    Ok(())
+}
+
+/// How the word of a net comes about, and where its pins stand.
+#[derive(Clone, Copy)]
+pub(crate) enum Rule {
+    Told,
+    Gate(Kind, Part),
+    Flop(Clock, Pin),
+}
+
+/// The cells of nets, by their numbers.
+#[derive(Drop)]
+pub(crate) struct Cells {
+    rules: Vec<Rule>,
+    pins: Vec<Pin>,
+}
+
+impl Model for Cells {
+    ghost use Rattle.std.specs.Prelude.{List};
+    ghost use Rattle.cmb_engine.specs.Cells.{Cell};
+    ghost use Rattle.cmb_engine.specs.Tables.{cells_of, AreInside};
+
+    ghost Value = { List Cell };
+
+    ghost view = { λ cells. cells_of cells.pins.items cells.rules.items };
+
+    ghost invariant = { λ cells. AreInside cells.pins.items cells.rules.items };
+}
+
+impl Cells {
+    // No cells.
+    fn new(alloc: Global) -> Cells
+        ensures { result ≡ [] }
+    {
+        Cells {
+            rules: Vec::new(alloc),
+            pins: Vec::new(alloc),
+        }
+    }
+
+    // Adds a net whose word is told.
+    #[tactic(auto, using(crate::proofs::TableFacts::inside_push, crate::proofs::TableFacts::cells_push))]
+    fn push_told(&mut self) -> Result<(), AllocError>
+        ensures { OnOk result (self.new ≡ self.old ++ Told ∷ []) }
+    {
+        self.rules.push(Rule::Told)?;
+        Ok(())
+    }
+
+    // Adds a flip-flop.
+    #[tactic(auto, using(crate::proofs::TableFacts::inside_push, crate::proofs::TableFacts::cells_push))]
+    fn push_flop(&mut self, clock: Clock, pin: Pin) -> Result<(), AllocError>
+        ensures { OnOk result (self.new ≡ self.old ++ Flop clock pin ∷ []) }
+    {
+        self.rules.push(Rule::Flop(clock, pin))?;
+        Ok(())
+    }
+
+    // Adds a gate.
+    #[tactic(auto, using(crate::proofs::TableFacts::inside_push, crate::proofs::TableFacts::all_inside_more, crate::proofs::TableFacts::gate_cells))]
+    fn push_gate(&mut self, kind: Kind, pins: &[Pin]) -> Result<(), AllocError>
+        ensures { OnOk result (self.new ≡ self.old ++ Gate kind pins.now ∷ []) }
+    {
+        let part = Part::behind(self.pins.len(), pins.len())?;
+        self.pins.extend_from_slice(pins)?;
+        self.rules.push(Rule::Gate(kind, part))?;
+        Ok(())
+    }
+
+    // Adds the cell of a net; `pins` is room for its pins.
+    fn push_net(&mut self, design: &Design, net: usize, pins: &mut Vec<Pin>) -> Result<(), AllocError>
+        requires { net < nets_of design.now }
+        ensures { OnOk result (self.new ≡ self.old ++ cell_in design.now net ∷ []) }
+    {
+        match design.netlist().driver(net) {
+            Driver::Input => self.push_told(),
+            Driver::Gate(kind, operands) => {
+                collect_pins(design, net, operands.as_slice(), pins)?;
+                self.push_gate(*kind, pins.as_slice())
+            }
+            Driver::Flop(source) => {
+                let delay = design.delay(net, 1);
+                self.push_flop(design.clock(net), Pin { net: *source, delay })
+            }
+        }
+    }
+
+    /// The cells of all nets of a design.
+    pub(crate) fn of(alloc: Global, design: &Design) -> Result<Cells, AllocError>
+        ensures { IfOk result (λ cells. cells ≡ cells_in design.now) }
+    {
+        let mut cells = Cells::new(alloc);
+        let mut pins = Vec::new(alloc);
+        for net in 0..design.netlist().len() {
+            cells.push_net(design, net, &mut pins)?;
+        }
+        Ok(cells)
+    }
+
+    /// What the cell of a net makes of the words from a place on, with what stands below it.
+    pub(crate) fn word(&self, net: usize, words: &[Word], to: u32, first: u32) -> Word
+        requires net { net < length words.now }
+        requires cell { IsLawful (length words.now) first (slice_index_or self.now net Told) }
+        requires nets { length self.now ≡ length words.now }
+        requires to { to ≤ 1000000 }
+        requires begun { 1 ≤ first }
+        requires first { first < 64 }
+        requires inside { 64 ≤ to + first }
+        ensures below { (place : ℕ) → place < first → level_at_place result place ≡ levels_of words.now net place }
+        ensures made { IsMade (levels_of words.now) (level_at_place result) to first (slice_index_or self.now net Told) }
+    {
+        let own = words[net];
+        match self.rules[net] {
+            Rule::Told => own,
+            Rule::Gate(kind, part) => {
+                let begin = part.first as usize;
+                let pins = &self.pins[begin..begin + part.count as usize];
+                spliced(own, gate_word(kind, pins, words, first), first)
+            }
+            Rule::Flop(clock, pin) => flop_word(clock, pin, own, words, to, first),
+        }
+    }
+}

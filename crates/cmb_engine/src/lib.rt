@@ -1,0 +1,11 @@
+//! The engine of a simulation: it goes on window by window, on words of 64 ticks.
+#![tactic(auto)]
+
+mod arrivals;
+mod bits;
+mod cell;
+mod cells;
+pub mod laws;
+mod marks;
+mod settle;
+mod visit;

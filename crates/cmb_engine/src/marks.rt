@@ -1,0 +1,74 @@
+//! The nets with news: a set of numbers, of which the next one is found quickly.
+
+ghost use Rattle.std.specs.Prelude.{◌≡◌, ℕ, ◌+◌, ◌*◌, ◌<◌, ◌||◌, ◌&&◌, ◌==◌, false, not, length, IfOk, MatchOption};
+ghost use Rattle.cmb_engine.specs.Bits.{has, HasNone, IsNext};
+
+use crate::bits::Bits;
+use std::alloc::{AllocError, Global};
+use std::marker::Model;
+
+/// A set of numbers, with the set of those of its words that aren't empty.
+#[derive(Drop)]
+pub(crate) struct Marks {
+    low: Bits,
+    high: Bits,
+}
+
+impl Model for Marks {
+    ghost use Rattle.std.specs.Prelude.{List, ℕ};
+    ghost use Rattle.cmb_engine.specs.Bits.{IsSummary};
+
+    ghost Value = { List ℕ };
+
+    ghost view = { λ marks. marks.low };
+
+    ghost invariant = { λ marks. IsSummary marks.low marks.high };
+}
+
+impl Marks {
+    /// No marks, with room for the numbers below `count`.
+    pub(crate) fn new(alloc: Global, count: usize) -> Result<Marks, AllocError>
+        ensures room { IfOk result (λ marks. count < 64 * length marks) }
+        ensures none { IfOk result (λ marks. (m : ℕ) → has marks m ≡ false) }
+    {
+        let low = Bits::new(alloc, count)?;
+        let high = Bits::new(alloc, low.len())?;
+        Ok(Marks { low, high })
+    }
+
+    /// Marks a number.
+    pub(crate) fn insert(&mut self, n: usize)
+        requires { n < 64 * length self.old }
+        ensures len { length self.new ≡ length self.old }
+        ensures has { (m : ℕ) → has self.new m ≡ (m == n || has self.old m) }
+    {
+        self.low.insert(n);
+        self.high.insert(n / 64);
+    }
+
+    /// Takes a mark away.
+    pub(crate) fn remove(&mut self, n: usize)
+        requires { n < 64 * length self.old }
+        ensures len { length self.new ≡ length self.old }
+        ensures has { (m : ℕ) → has self.new m ≡ (not (m == n) && has self.old m) }
+    {
+        self.low.remove(n);
+        if self.low.is_empty_word(n / 64) {
+            self.high.remove(n / 64);
+        }
+    }
+
+    /// The least marked number at or after n.
+    pub(crate) fn next_from(&self, n: usize) -> Option<usize>
+        ensures { MatchOption result (HasNone self.now n (64 * length self.now)) (IsNext self.now n) }
+    {
+        if n / 64 >= self.low.len() {
+            return None;
+        }
+        if let Some(found) = self.low.next_in_word(n) {
+            return Some(found);
+        }
+        let k = self.high.next_from(n / 64 + 1)?;
+        self.low.next_in_word(64 * k)
+    }
+}

@@ -1,0 +1,69 @@
+//! Visits of nets with news.
+
+ghost use Rattle.std.specs.Prelude.{◌≡◌, ◌≢◌, ℕ, ◌+◌, ◌*◌, ◌<◌, ◌≤◌, true, false, All, length, slice_index, slice_index_or};
+ghost use Rattle.cmb_engine.specs.Bits.{has};
+ghost use Rattle.cmb_engine.specs.Cells.{Told, IsMade, IsLawful, IsSettled, AreReaders, is_made, reads};
+ghost use Rattle.cmb_engine.specs.Words.{levels_of};
+
+use crate::cells::Cells;
+use crate::marks::Marks;
+use cmb_words::Word;
+
+// Marks some nets.
+fn mark_all(marks: &mut Marks, nets: &[u32])
+    requires { All (λ net. net < 64 * length marks.old) nets.now }
+    ensures len { length marks.new ≡ length marks.old }
+    ensures kept { (m : ℕ) → has marks.old m ≡ true → has marks.new m ≡ true }
+    ensures marked { (k : ℕ) → k < length nets.now → has marks.new (slice_index nets.now k) ≡ true }
+{
+    for net in nets {
+        marks.insert(*net as usize);
+    }
+}
+
+/// Makes the word of a net from a place on, and takes its mark away; where the word is another one than before, the nets
+/// that read it are marked. Whether it is another one.
+pub(crate) fn visit(
+    cells: &Cells,
+    readers: &[u32],
+    words: &mut [Word],
+    marks: &mut Marks,
+    net: usize,
+    to: u32,
+    first: u32,
+) -> bool
+    requires net { net < length words.old }
+    requires cell { IsLawful (length words.old) first (slice_index_or cells.now net Told) }
+    requires nets { length cells.now ≡ length words.old }
+    requires room { length words.old ≤ 64 * length marks.old }
+    requires readers { AreReaders cells.now net readers.now }
+    requires within { All (λ reader. reader < 64 * length marks.old) readers.now }
+    requires to { to ≤ 1000000 }
+    requires begun { 1 ≤ first }
+    requires first { first < 64 }
+    requires inside { 64 ≤ to + first }
+    ensures room { length marks.new ≡ length marks.old }
+    ensures others { (m place : ℕ) → m ≢ net → levels_of words.new m place ≡ levels_of words.old m place }
+    ensures past { (place : ℕ) → place < first → levels_of words.new net place ≡ levels_of words.old net place }
+    ensures made { IsMade (levels_of words.old) (levels_of words.new net) to first (slice_index_or cells.now net Told) }
+    ensures marks { (m : ℕ) → has marks.new m ≡ false → m ≢ net → has marks.old m ≡ false }
+
+    // A net that reads this one and isn't marked sees the word that it saw.
+    ensures news { (m place : ℕ) → has marks.new m ≡ false → reads (slice_index_or cells.now m Told) net ≡ true → place < 64
+        → levels_of words.new net place ≡ levels_of words.old net place }
+
+    // So where every made net that isn't marked was settled, it is.
+    ensures settled { ((m : ℕ) → is_made (slice_index_or cells.now m Told) ≡ true → has marks.old m ≡ false
+            → IsSettled (levels_of words.old) to first m (slice_index_or cells.now m Told))
+        → (m : ℕ) → is_made (slice_index_or cells.now m Told) ≡ true → has marks.new m ≡ false
+        → IsSettled (levels_of words.new) to first m (slice_index_or cells.now m Told) }
+{
+    marks.remove(net);
+    let made = cells.word(net, words, to, first);
+    if !made.differs_from(words[net], first) {
+        return false;
+    }
+    words[net] = made;
+    mark_all(marks, readers);
+    true
+}

@@ -1,0 +1,63 @@
+//! What the cell of a net makes of the words of others.
+
+ghost use Rattle.std.specs.Prelude.{◌≡◌, ℕ, ◌+◌, ◌-◌, ◌<◌, ◌≤◌, List, All, length, map, if◌then◌else◌};
+ghost use Rattle.cmb_design.specs.Gate.{gate};
+ghost use Rattle.cmb_design.specs.Ranges.{AreTicks};
+ghost use Rattle.cmb_words.specs.Word.{level_at_place};
+ghost use Rattle.cmb_engine.specs.Cells.{seen};
+ghost use Rattle.cmb_engine.specs.Rows.{arrives_by};
+ghost use Rattle.cmb_engine.specs.Words.{levels_of};
+
+use crate::arrivals::first_arrival;
+use crate::cell::Pin;
+use cmb_bench::Kind;
+use cmb_design::Clock;
+use cmb_words::{Word, completed, every, held, join};
+
+// What a pin sees.
+fn seen_word(words: &[Word], pin: Pin) -> Word
+    requires net { pin.net < length words.now }
+    requires delay { pin.delay < 64 }
+    ensures { (place : ℕ) → pin.delay ≤ place → place < 64 → level_at_place result place ≡ seen (levels_of words.now) place pin }
+{
+    words[pin.net as usize].delayed(pin.delay)
+}
+
+/// What a gate makes from a place on.
+pub(crate) fn gate_word(kind: Kind, pins: &[Pin], words: &[Word], first: u32) -> Word
+    requires some { 1 ≤ length pins.now }
+    requires nets { All (λ pin. pin.net < length words.now) pins.now }
+    requires within { All (λ pin. pin.delay ≤ first) pins.now }
+    requires first { first < 64 }
+    ensures { (place : ℕ) → first ≤ place → place < 64 → level_at_place result place ≡ gate kind (map (seen (levels_of words.now) place) pins.now) }
+{
+    let mut joined = seen_word(words, pins[0]);
+    for k in 1..pins.len() {
+        joined = join(kind, joined, seen_word(words, pins[k]));
+    }
+    completed(kind, joined)
+}
+
+/// What a flip-flop with this clock and data pin makes from a place on, in the words that end before a tick.
+pub(crate) fn flop_word(
+    clock: Clock,
+    pin: Pin,
+    own: Word,
+    words: &[Word],
+    to: u32,
+    first: u32,
+) -> Word
+    requires clock { AreTicks clock.first clock.period }
+    requires net { pin.net < length words.now }
+    requires delay { pin.delay ≤ first }
+    requires to { to ≤ 1000000 }
+    requires begun { 1 ≤ first }
+    requires first { first < 64 }
+    requires inside { 64 ≤ to + first }
+    ensures below { (place : ℕ) → place < first → level_at_place result place ≡ level_at_place own place }
+    ensures from { (place : ℕ) → first ≤ place → place < 64 → level_at_place result place
+        ≡ (if arrives_by clock pin.delay (to + place - 64) then seen (levels_of words.now) place pin else level_at_place result (place - 1)) }
+{
+    let arrivals = every(first_arrival(clock, pin.delay, to, first), clock.period);
+    held(own, words[pin.net as usize], pin.delay, arrivals, first)
+}
