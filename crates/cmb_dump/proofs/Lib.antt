@@ -1,0 +1,3 @@
+pub mod FillFacts
+pub mod SetBits
+pub mod WindowFacts

@@ -1,0 +1,7 @@
+pub mod Bits
+pub mod Buckets
+pub mod Changes
+pub mod Dumps
+pub mod Ready
+pub mod Tails
+pub mod Word

@@ -1,0 +1,14 @@
+//! The value change dump of a run, window by window, from the words of the nets that changed in each.
+#![tactic(auto)]
+
+mod bucket;
+pub mod changed;
+pub mod dump;
+mod fill;
+mod tail;
+mod tails;
+mod text;
+pub mod words;
+
+pub use changed::Changed;
+pub use dump::Dump;
