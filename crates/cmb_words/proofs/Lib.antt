@@ -1,0 +1,6 @@
+pub mod BitFacts
+pub mod GateFacts
+pub mod HoldFacts
+pub mod LevelFacts
+pub mod MaskFacts
+pub mod PeriodFacts
