@@ -1,3 +1,2 @@
 pub mod FillFacts
-pub mod SetBits
 pub mod WindowFacts

@@ -3,7 +3,7 @@ use Rattle.std.specs.Prelude.{◌≡◌, ℕ, suc, ◌+◌, ◌-◌, ◌<◌, �
 use Rattle.std.specs.List.{All, list_any}
 use Rattle.cmb_wave.specs.declared.level.Level.{Level}
 use Rattle.cmb_dump.specs.declared.changed.Changed.{Changed}
-use Rattle.cmb_dump.specs.Word.{level_at_place}
+use Rattle.cmb_words.specs.Word.{level_at_place}
 
 -- the numbers of the nets rise, from one on, and are below another
 abbrev pub RisesWithin : ℕ → ℕ → List Changed → Type 0

@@ -1,7 +1,5 @@
-pub mod Bits
 pub mod Buckets
 pub mod Changes
 pub mod Dumps
 pub mod Ready
 pub mod Tails
-pub mod Word

@@ -1,6 +1,6 @@
 //! What a window gives to the dump.
 
-use crate::words::Word;
+use cmb_words::Word;
 
 /// A net that changed in a window, and its levels at the 64 ticks up to the window's end.
 #[derive(Clone, Copy)]

@@ -8,7 +8,6 @@ mod fill;
 mod tail;
 mod tails;
 mod text;
-pub mod words;
 
 pub use changed::Changed;
 pub use dump::Dump;
