@@ -42,7 +42,8 @@ fn digit(number: u16) -> u8
     33 + (number % 94) as u8
 }
 
-fn code_of(net: u16) -> Code
+/// The code of a net.
+pub fn code_of(net: u16) -> Code
     ensures { code_bytes result ≡ code net }
 {
     if net < 94 {

@@ -153,8 +153,8 @@ fn push_ticks(
     Ok(())
 }
 
-// The last line, where it comes after the tick `from` and by the tick `upto`.
-fn push_end(out: &mut Vec<u8>, horizon: u32, from: u32, upto: u32) -> Result<(), AllocError>
+/// The last line, where it comes after the tick `from` and by the tick `upto`.
+pub fn push_end(out: &mut Vec<u8>, horizon: u32, from: u32, upto: u32) -> Result<(), AllocError>
     ensures { OnOk result (out.new.items ≡ out.old.items ++ end_line horizon from upto) }
 {
     if from < horizon && upto >= horizon {

@@ -1,0 +1,3 @@
+pub mod FillFacts
+pub mod Rising
+pub mod WindowFacts

@@ -1,0 +1,27 @@
+-- What the words of the nets that changed in a window tell of a waveform, given as the level of each net at each tick.
+use Rattle.std.specs.Prelude.{◌≡◌, ℕ, suc, ◌+◌, ◌-◌, ◌<◌, ◌≤◌, Bool, false, ◌==◌, List, [], ◌∷◌}
+use Rattle.std.specs.List.{All, list_any}
+use Rattle.cmb_wave.specs.declared.level.Level.{Level}
+use Rattle.cmb_dump.specs.declared.changed.Changed.{Changed}
+use Rattle.cmb_words.specs.Word.{level_at_place}
+
+-- the numbers of the nets rise, from one on, and are below another
+abbrev pub RisesWithin : ℕ → ℕ → List Changed → Type 0
+RisesWithin low nets [] = Unit {0}
+RisesWithin low nets (changed ∷ rest) = (low ≤ changed.net) × (changed.net < nets) × RisesWithin (suc changed.net) nets rest
+
+-- a net's word tells its levels at the ticks of [from, upto) and at the tick before them
+abbrev pub TellsNet : (ℕ → ℕ → Level) → ℕ → ℕ → Changed → Type 0
+TellsNet level from upto changed = (tick : ℕ) → from ≤ suc tick → tick < upto → level_at_place changed.word (tick + 64 - upto) ≡ level changed.net tick
+
+-- no change at the ticks of [from, upto)
+abbrev pub IsStill : (ℕ → Level) → ℕ → ℕ → Type 0
+IsStill level from upto = (tick : ℕ) → from ≤ suc tick → suc tick < upto → level tick ≡ level (suc tick)
+
+abbrev pub is_among : ℕ → List Changed → Bool
+is_among net changed = list_any (λ c. c.net == net) changed
+
+-- the words tell all changes of so many nets at the ticks of [from, upto)
+pub record Tells (level : ℕ → ℕ → Level) (nets from upto : ℕ) (changed : List Changed) : Type 0 where
+  pub words : All (TellsNet level from upto) changed
+  pub others : (net : ℕ) → net < nets → is_among net changed ≡ false → IsStill (level net) from upto

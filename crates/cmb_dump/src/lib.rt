@@ -1,0 +1,13 @@
+//! The value change dump of a run, window by window, from the words of the nets that changed in each.
+#![tactic(auto)]
+
+mod bucket;
+pub mod changed;
+pub mod dump;
+mod fill;
+mod tail;
+mod tails;
+mod text;
+
+pub use changed::Changed;
+pub use dump::Dump;
