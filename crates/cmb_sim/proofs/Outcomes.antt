@@ -1,5 +1,5 @@
 -- The answers of the stages as those of the whole simulation.
-use Rattle.std.proofs.Common.{◌≡◌, ℕ, ◌⊎◌, inl, inr, List, ◌++◌, Option, None, Some, Ok, Err, refl, sym, subst, ◌∙◌, arith}
+use Rattle.std.proofs.Common.{◌≡◌, ℕ, ◌⊎◌, inl, inr, List, ◌++◌, Option, None, Some, Result, Ok, Err, IfOk, IfErr, OnOk, refl, sym, subst, ◌∙◌, arith}
 use Rattle.std.specs.Io.KnownBytes.{Appends}
 use Rattle.std.proofs.KnownBytes.{Keeps-refl}
 use Rattle.cmb_bench.specs.Netlist.{Netlist}
@@ -165,3 +165,12 @@ pub IsOutcome-unwritten : (settings : Settings) (mode : Mode) (i : Inputs) (o : 
     → NoneFailedBut 0 i → FoundDesign settings i design → (f : Fault) → IsUnwritten mode design o f → IsOutcome settings mode i o (Err f)
 IsOutcome-unwritten settings mode i o design read found f h =
     (NoneFailedBut-any i (failed_input {A = Report} (Err f)) read, IsAnswer-unwritten settings mode i o design found f h)
+
+-- a simulation that found its design ends as the writing of its text does
+pub IsOutcome-written_or_not : (settings : Settings) (mode : Mode) (i : Inputs) (old new : Option (List ℕ)) (before after : ℕ) (design : Design) (result : Result Report Fault)
+    → NoneFailedBut 0 i → FoundDesign settings i design → IfOk result (λ report. report ≡ report_of design) → OnOk result (Appends old new (vcd design)) → OnOk result (after ≡ before)
+    → OnOk result (CanRun mode design) → IfErr result (IsUnwritten mode design (output old new before after)) → IsOutcome settings mode i (output old new before after) result
+IsOutcome-written_or_not settings mode i old new before after design (Ok report) read found told wrote quiet fits unwritten =
+    IsOutcome-written settings mode i old new before after design report read found fits wrote quiet told
+IsOutcome-written_or_not settings mode i old new before after design (Err f) read found told wrote quiet fits unwritten =
+    IsOutcome-unwritten settings mode i (output old new before after) design read found f unwritten

@@ -1,9 +1,11 @@
 //! A whole simulation.
 
-ghost use Rattle.std.specs.Prelude.{◌≡◌, ◌-◌, ◌^◌, ◌<◌, ◌≤◌, length, IfOk, IfErr};
-ghost use Rattle.cmb_sim.specs.Simulation.{IsOutcome, NoneFailedBut, failed_input, input, inputs_of, output};
+ghost use Rattle.std.specs.Prelude.{◌≡◌, ◌-◌, ◌^◌, ◌<◌, ◌≤◌, length, IfOk, IfErr, OnOk};
+ghost use Rattle.std.specs.Io.KnownBytes.{Appends};
+ghost use Rattle.cmb_vcd.specs.Vcd.{vcd};
+ghost use Rattle.cmb_sim.specs.Simulation.{IsOutcome, NoneFailedBut, failed_input, input, inputs_of, output, report_of};
 ghost use Rattle.cmb_sim.specs.Sources.{IsWhole, input_limit};
-ghost use Rattle.cmb_sim.specs.Stages.{FoundDesign, HaveTextFault, IsUnread, LacksDesign, SpellAny, texts_of};
+ghost use Rattle.cmb_sim.specs.Stages.{CanRun, FoundDesign, HaveTextFault, IsUnread, IsUnwritten, LacksDesign, SpellAny, texts_of};
 
 use crate::fault::Fault;
 use crate::mode::Mode;
@@ -117,6 +119,28 @@ fn read_design<B: Source, D: Source, S: Source, C: Source>(
     )
 }
 
+// Writes the text of a design, and tells what was written.
+fn write_report<R: AllocGlobal + Threads + Wait + Sync, O: Sink>(
+    rt: &R,
+    mode: Mode,
+    design: &Design,
+    out: &mut O,
+) -> Result<Report, Fault>
+    requires room { O.failures out.old < 2 ^ 64 - 1 }
+    ensures report { IfOk result (λ report. report ≡ report_of design.now) }
+    ensures text { OnOk result (Appends (O.taken out.old) (O.taken out.new) (vcd design.now)) }
+    ensures no_failure { OnOk result (O.failures out.new ≡ O.failures out.old) }
+    ensures fits { OnOk result (CanRun mode design.now) }
+    ensures fault { IfErr result (IsUnwritten mode design.now (output (O.taken out.old) (O.taken out.new) (O.failures out.old) (O.failures out.new))) }
+{
+    let written = write_by(rt, mode, design, out)?;
+    Ok(Report {
+        nets: design.netlist().len() as u32,
+        horizon: design.horizon(),
+        written,
+    })
+}
+
 /// Reads a netlist, the tables of delays, stimuli and clocks, and writes the waveforms of all nets below the horizon.
 ///
 /// The four inputs are read whole, in order, before anything else: 60 where one has more than
@@ -157,10 +181,5 @@ pub fn simulate<
 {
     let alloc = rt.alloc();
     let design = read_design(alloc, bench, delays, stimuli, clocks, settings)?;
-    let written = write_by(rt, mode, &design, out)?;
-    Ok(Report {
-        nets: design.netlist().len() as u32,
-        horizon: design.horizon(),
-        written,
-    })
+    write_report(rt, mode, &design, out)
 }
