@@ -54,7 +54,7 @@ pub(crate) fn visit(
 
     // So where every made net that isn't marked was settled, it is.
     ensures settled { ((m : ℕ) → is_made (slice_index_or cells.now m Told) ≡ true → has marks.old m ≡ false
-            → IsSettled (levels_of words.old) to first m (slice_index_or cells.now m Told))
+        → IsSettled (levels_of words.old) to first m (slice_index_or cells.now m Told))
         → (m : ℕ) → is_made (slice_index_or cells.now m Told) ≡ true → has marks.new m ≡ false
         → IsSettled (levels_of words.new) to first m (slice_index_or cells.now m Told) }
 {
