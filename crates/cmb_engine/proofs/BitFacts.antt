@@ -1,10 +1,10 @@
 -- What writes to a word do to a set of numbers by bits.
-use Rattle.std.proofs.Common.{◌≡◌, ℕ, zero, suc, ◌+◌, ◌-◌, ◌*◌, ◌/◌, ◌%◌, ◌^◌, ◌<◌, ◌≤◌, ◌≢◌, ◌⊎◌, inl, inr, min, Bool, true, false, not, ◌&&◌, ◌||◌, ◌==◌, List, [], ◌∷◌, length, get_or, set, replicate, refl, sym, ap, subst, ◌∙◌, arith, w64}
-use Rattle.std.proofs.lemmas.Bool.{cases_eq, cases_lt, eqb-true, eq-eqb, ne_eqb, false≢true}
+use Rattle.std.proofs.Common.{◌≡◌, ℕ, ◌+◌, ◌-◌, ◌*◌, ◌/◌, ◌%◌, ◌^◌, ◌<◌, ◌≤◌, ◌≢◌, ◌⊎◌, inl, inr, true, false, not, ◌&&◌, ◌||◌, ◌==◌, List, length, get_or, set, replicate, refl, sym, ap, subst, ◌∙◌, arith, w64}
+use Rattle.std.proofs.lemmas.Bool.{cases_eq, cases_lt, eq-eqb, ne_eqb}
 use Rattle.std.proofs.lemmas.List.{get_or-set_same, get_or-set_other, get_or-replicate, get_or_past, length-replicate, length-set, get_or_read}
 use Rattle.std.proofs.lemmas.Nat.{and_le_l}
 use Rattle.std.proofs.lemmas.Nat.Bits.{bit_at_and, bit_at-lt, bit_at-zero, bit_at_mask_inside, bit_at_mask_below, bit_at_set_same, bit_at_set_other, bit_at_clear_same, bit_at_clear_other, bit_at-trailing_zeros, ones_shl, same_from_bits_below}
-use Rattle.std.specs.Prelude.{bit_and, bit_or, slice_index}
+use Rattle.std.specs.Prelude.{bit_and, bit_or}
 use Rattle.std.specs.Int.{bit_at, bit_not, trailing_zeros}
 use Rattle.cmb_engine.specs.Bits.{has, HasNone, IsNext, Inserts, Removes}
 
@@ -93,12 +93,14 @@ module _ (words : List ℕ) (n : ℕ) where
   next-some t small one low =
       let at : (n / 64 * 64 + t) % 64 ≡ t = omega arith in
       let in_word : (n / 64 * 64 + t) / 64 ≡ n / 64 = omega arith in
-      let above : n % 64 ≤ t = above_low (cases_lt t (n % 64)) in
-      (record {
-        from = omega arith;
-        member = rest_has (n / 64 * 64 + t) 1 (omega arith) in_word (ap (bit_at (bit_and (get_or words (n / 64) 0) ((2 ^ 64 - 1) * 2 ^ (n % 64) % 2 ^ 64))) at ∙ one);
-        least = λ m from below. rest_has m 0 from (omega arith) (low (m % 64) (omega arith));
-      }, in_word)
+      let above : n % 64 ≤ t = above_low (cases_lt t (n % 64)) in (
+        record {
+          from = omega arith;
+          member = rest_has (n / 64 * 64 + t) 1 (omega arith) in_word (ap (bit_at (bit_and (get_or words (n / 64) 0) ((2 ^ 64 - 1) * 2 ^ (n % 64) % 2 ^ 64))) at ∙ one);
+          least = λ m from below. rest_has m 0 from (omega arith) (low (m % 64) (omega arith));
+        },
+        in_word,
+      )
     where
       above_low : (t < n % 64) ⊎ (n % 64 ≤ t) → n % 64 ≤ t
       above_low (inl l) = absurd (omega (arith, one, masked_low (get_or words (n / 64) 0) (n % 64) (omega arith) t l))
@@ -169,5 +171,5 @@ module _ (words set_is : List ℕ) (view : words ≡ set_is) (n word : ℕ) (rea
       ap (λ w. bit_and w ((2 ^ 64 - 1) * 2 ^ (n % 64) % 2 ^ 64)) (sym read_is) in
       subst (λ (s : List ℕ). IsNext s n (n / 64 * 64 + t) × ((n / 64 * 64 + t) / 64 ≡ n / 64)) view
       (next-some words n t (omega (arith, is, lowest.0))
-          (ap (λ w. bit_at w t) same ∙ ap (bit_at _) is ∙ lowest.1)
-          (λ i l. ap (λ w. bit_at w i) same ∙ lowest.2 i (omega (arith, is))))
+      (ap (λ w. bit_at w t) same ∙ ap (bit_at _) is ∙ lowest.1)
+      (λ i l. ap (λ w. bit_at w i) same ∙ lowest.2 i (omega (arith, is))))

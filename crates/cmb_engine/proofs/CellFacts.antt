@@ -1,10 +1,8 @@
 -- Words that are settled, and known where they look, are true.
-use Rattle.std.proofs.Common.{◌≡◌, ℕ, zero, suc, ◌+◌, ◌-◌, ◌<◌, ◌≤◌, ◌⊎◌, inl, inr, Bool, true, false, List, [], ◌∷◌, map, refl, sym, ap, ap₂, ◌∙◌, arith}
+use Rattle.std.proofs.Common.{◌≡◌, ℕ, zero, suc, ◌+◌, ◌-◌, ◌<◌, ◌≤◌, ◌⊎◌, inl, inr, true, false, List, [], ◌∷◌, map, refl, sym, ap, ap₂, ◌∙◌, arith}
 use Rattle.std.proofs.lemmas.Bool.{cases_lt, cases_Bool, false≢true}
 use Rattle.std.specs.List.{AllByRecursion}
 use Rattle.cmb_wave.specs.declared.level.Level.{Level}
-use Rattle.cmb_bench.specs.declared.netlist.Kind.{Kind}
-use Rattle.cmb_design.specs.declared.rows.Clock.{Clock}
 use Rattle.cmb_design.specs.Gate.{gate}
 use Rattle.cmb_engine.specs.Rows.{arrives_by}
 use Rattle.cmb_engine.specs.Cells.{Cell, Told, Gate, Flop, is_made, seen, cell_level, EachSeen, IsMade, IsSettled, IsSteady, IsReadable, IsReady, IsTrueBelow}
@@ -42,8 +40,8 @@ module _ (words truth : ℕ → ℕ → Level) (cells : ℕ → Cell) (to first 
       → cell_level words (words net) to (cells net) place ≡ truth net place
   made-true net place made from small below =
       cell_level-same words truth to net place (cells net) made
-          (each-weaker _ _ to (cells net) place (λ pin h. agrees pin h (cases_Bool (is_made (cells pin.net)))) (ready.readable net place made from small))
-          (below net (place - 1) made (omega (arith, ready.later)))
+      (each-weaker _ _ to (cells net) place (λ pin h. agrees pin h (cases_Bool (is_made (cells pin.net)))) (ready.readable net place made from small))
+      (below net (place - 1) made (omega (arith, ready.later)))
       ∙ sym (ready.true_settled net made place from small)
     where
       agrees : (pin : Pin) → IsReadable words truth cells place pin → (is_made (cells pin.net) ≡ true) ⊎ (is_made (cells pin.net) ≡ false)

@@ -8,7 +8,7 @@ use Rattle.cmb_bench.specs.Netlist.{driver_of}
 use Rattle.cmb_design.specs.Design.{Design}
 use Rattle.cmb_design.specs.Gate.{gate}
 use Rattle.cmb_design.specs.Timing.{delay}
-use Rattle.cmb_design.specs.Value.{delayed, pin_levels, flop_level, value}
+use Rattle.cmb_design.specs.Value.{delayed, pin_levels, value}
 use Rattle.cmb_design.proofs.SampleFacts.{delay-positive}
 use Rattle.cmb_design.proofs.ValueFacts.{value-at_input, value-at_gate, value-at_flop}
 use Rattle.cmb_engine.specs.Rows.{arrives, flop_row, level_held, row, LooksAt}
@@ -84,7 +84,7 @@ module _ (design : Design) (own : ℕ → Bool) (trace : ℕ → ℕ → Level) 
     (known : (net tick : ℕ) → own net ≡ true → tick < from → trace net tick ≡ value design net tick)
     (meets : (net tick : ℕ) → own net ≡ true → from ≤ tick → tick < to → trace net tick ≡ row design trace net tick (driver_of design.netlist net))
     (given : (net tick other past : ℕ) → own net ≡ true → from ≤ tick → tick < to → LooksAt design net tick (driver_of design.netlist net) other past
-        → own other ≡ false → trace other past ≡ value design other past) where
+    → own other ≡ false → trace other past ≡ value design other past) where
   -- the value in the last tick, where all is known below it
   exact_at : (tick : ℕ) → tick < to → ((net t : ℕ) → own net ≡ true → t < tick → trace net t ≡ value design net t)
       → (net : ℕ) → own net ≡ true → (tick < from) ⊎ (from ≤ tick) → trace net tick ≡ value design net tick
@@ -92,7 +92,7 @@ module _ (design : Design) (own : ℕ → Bool) (trace : ℕ → ℕ → Level) 
   exact_at tick fits below net o (inr late) =
       meets net tick o late fits
       ∙ row-same design trace (value design) net tick (driver_of design.netlist net)
-          (λ other past looks. seen other past looks (cases_Bool (own other))) (λ t earlier. below net t o earlier)
+      (λ other past looks. seen other past looks (cases_Bool (own other))) (λ t earlier. below net t o earlier)
       ∙ sym (value-meets_row design net tick)
     where
       seen : (other past : ℕ) → LooksAt design net tick (driver_of design.netlist net) other past

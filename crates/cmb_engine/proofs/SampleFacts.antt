@@ -1,5 +1,5 @@
 -- The places of a window at which samples arrive.
-use Rattle.std.proofs.Common.{◌≡◌, ℕ, suc, ◌+◌, ◌-◌, ◌*◌, ◌/◌, ◌%◌, ◌<◌, ◌≤◌, ◌≢◌, ◌==◌, ◌&&◌, ◌⊎◌, inl, inr, true, false, refl, sym, ap, ap₂, ◌∙◌, arith, mod-lt, div-add-mod', nat_le}
+use Rattle.std.proofs.Common.{◌≡◌, ℕ, suc, ◌+◌, ◌-◌, ◌*◌, ◌/◌, ◌%◌, ◌<◌, ◌≤◌, ◌≢◌, ◌==◌, ◌&&◌, ◌⊎◌, inl, inr, false, sym, ap, ap₂, ◌∙◌, arith, mod-lt, div-add-mod', nat_le}
 use Rattle.std.proofs.lemmas.Bool.{le-leb, lt-leb, ne_eqb, cases_lt}
 use Rattle.std.proofs.lemmas.Nat.{mod-mul-add}
 use Rattle.cmb_design.specs.declared.rows.Clock.{Clock}
@@ -31,19 +31,19 @@ module _ (clock : Clock) (ticks to first place : ℕ) (positive : 1 ≤ clock.pe
       let whole = div-add-mod' (to + first - 64 - (clock.first + ticks)) clock.period in
       let since : to + place - 64 - (clock.first + ticks) ≡ (to + first - 64 - (clock.first + ticks)) / clock.period * clock.period + (place - first) = omega arith in
       ap₂ ◌&&◌ (le-leb _ _ (omega arith) ∙ sym (le-leb _ _ from))
-          (ap (λ n. n == 0) (ap (λ n. n % clock.period) since ∙ mod_more ((to + first - 64 - (clock.first + ticks)) / clock.period) clock.period (place - first) positive))
+      (ap (λ n. n == 0) (ap (λ n. n % clock.period) since ∙ mod_more ((to + first - 64 - (clock.first + ticks)) / clock.period) clock.period (place - first) positive))
 
   -- or the next one what is left of a period later
   pub arrivals-later : clock.first + ticks ≤ to + first - 64 → (to + first - 64 - (clock.first + ticks)) % clock.period ≢ 0
       → arrives_by clock ticks (to + place - 64)
       ≡ (nat_le (first + (clock.period - (to + first - 64 - (clock.first + ticks)) % clock.period)) place
-          && ((place - (first + (clock.period - (to + first - 64 - (clock.first + ticks)) % clock.period))) % clock.period == 0))
+      && ((place - (first + (clock.period - (to + first - 64 - (clock.first + ticks)) % clock.period))) % clock.period == 0))
   arrivals-later behind some = go (cases_lt place (first + (clock.period - (to + first - 64 - (clock.first + ticks)) % clock.period)))
     where
       go : (place < first + (clock.period - (to + first - 64 - (clock.first + ticks)) % clock.period)) ⊎ (first + (clock.period - (to + first - 64 - (clock.first + ticks)) % clock.period) ≤ place)
           → arrives_by clock ticks (to + place - 64)
           ≡ (nat_le (first + (clock.period - (to + first - 64 - (clock.first + ticks)) % clock.period)) place
-              && ((place - (first + (clock.period - (to + first - 64 - (clock.first + ticks)) % clock.period))) % clock.period == 0))
+          && ((place - (first + (clock.period - (to + first - 64 - (clock.first + ticks)) % clock.period))) % clock.period == 0))
       go (inl l) =
           let whole = div-add-mod' (to + first - 64 - (clock.first + ticks)) clock.period in
           let left = mod-lt (to + first - 64 - (clock.first + ticks)) positive in
@@ -57,6 +57,6 @@ module _ (clock : Clock) (ticks to first place : ℕ) (positive : 1 ≤ clock.pe
           let whole = div-add-mod' (to + first - 64 - (clock.first + ticks)) clock.period in
           let left = mod-lt (to + first - 64 - (clock.first + ticks)) positive in
           let since : to + place - 64 - (clock.first + ticks)
-              ≡ suc ((to + first - 64 - (clock.first + ticks)) / clock.period) * clock.period + (place - (first + (clock.period - (to + first - 64 - (clock.first + ticks)) % clock.period))) = omega arith in
+          ≡ suc ((to + first - 64 - (clock.first + ticks)) / clock.period) * clock.period + (place - (first + (clock.period - (to + first - 64 - (clock.first + ticks)) % clock.period))) = omega arith in
           ap₂ ◌&&◌ (le-leb _ _ (omega arith) ∙ sym (le-leb _ _ l))
-              (ap (λ n. n == 0) (ap (λ n. n % clock.period) since ∙ mod_more _ clock.period _ positive))
+          (ap (λ n. n == 0) (ap (λ n. n % clock.period) since ∙ mod_more _ clock.period _ positive))

@@ -1,11 +1,11 @@
 -- Cells kept in two lists.
-use Rattle.std.proofs.Common.{◌≡◌, ℕ, zero, suc, ◌+◌, ◌<◌, ◌≤◌, List, [], ◌∷◌, ◌++◌, length, map, take, drop, get_or, refl, sym, ◌∙◌, ap, subst, arith}
+use Rattle.std.proofs.Common.{◌≡◌, ℕ, zero, suc, ◌+◌, ◌<◌, ◌≤◌, List, [], ◌∷◌, ◌++◌, length, take, drop, get_or, refl, ◌∙◌, ap, arith}
 use Rattle.std.proofs.lemmas.List.{length-append, length-take, take_more}
 use Rattle.cmb_bench.specs.declared.netlist.Kind.{Kind}
 use Rattle.cmb_design.specs.Design.{Design}
 use Rattle.cmb_design.specs.Timing.{delay}
 use Rattle.cmb_engine.specs.Plans.{pins_from}
-use Rattle.cmb_engine.specs.Cells.{Cell, Told, Gate, Flop}
+use Rattle.cmb_engine.specs.Cells.{Told, Gate}
 use Rattle.cmb_engine.specs.Tables.{cell_of, cells_of, pins_at, IsInside, AreInside}
 use Rattle.cmb_engine.specs.declared.cell.Pin.{Pin}
 use Rattle.cmb_engine.specs.declared.cells.Part.{Part}
@@ -97,4 +97,3 @@ pins_from-more design net operands i d h =
     let n : length (take i operands) ≡ i = simp length-take (omega arith) in
     let pin : 1 + length (take i operands) ≡ i + 1 = omega arith in
     ap (pins_from design net 1) (take_more operands i d h) ∙ pins_from-append design net 1 (take i operands) (get_or operands i d) ∙ rw pin refl
-

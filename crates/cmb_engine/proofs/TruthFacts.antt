@@ -1,5 +1,5 @@
 -- The values of a design's nets are settled in every window, and words that move on stay known.
-use Rattle.std.proofs.Common.{◌≡◌, ℕ, zero, suc, ◌+◌, ◌-◌, ◌<◌, ◌≤◌, ◌⊎◌, inl, inr, min, true, false, List, [], ◌∷◌, map, refl, sym, ap, ap₂, ◌∙◌, arith, ltb}
+use Rattle.std.proofs.Common.{◌≡◌, ℕ, suc, ◌+◌, ◌-◌, ◌<◌, ◌≤◌, ◌⊎◌, inl, inr, min, true, false, List, [], ◌∷◌, map, refl, sym, ap, ap₂, ◌∙◌, arith, ltb}
 use Rattle.std.proofs.lemmas.Bool.{lt-ltb, le-ltb, cases_lt, cases_Bool}
 use Rattle.std.specs.List.{AllByRecursion}
 use Rattle.cmb_wave.specs.declared.level.Level.{Level}
@@ -10,11 +10,10 @@ use Rattle.cmb_design.specs.Design.{Design}
 use Rattle.cmb_design.specs.Gate.{gate}
 use Rattle.cmb_design.specs.Timing.{clock_of, delay}
 use Rattle.cmb_design.specs.Value.{delayed, pin_levels, value}
-use Rattle.cmb_engine.specs.Cells.{Cell, Told, Gate, Flop, is_made, seen, cell_level, IsSettled}
+use Rattle.cmb_engine.specs.Cells.{Flop, is_made, seen, cell_level, IsSettled}
 use Rattle.cmb_engine.specs.Plans.{pins_from, cell_by, cell_in, IsWithin}
-use Rattle.cmb_engine.specs.Rows.{arrives, arrives_by, level_held, row}
+use Rattle.cmb_engine.specs.Rows.{arrives, level_held, row}
 use Rattle.cmb_engine.specs.Windows.{in_place, true_words, IsKnown}
-use Rattle.cmb_engine.specs.declared.cell.Pin.{Pin}
 use Rattle.cmb_engine.proofs.ArrivalFacts.{arrives_parts}
 use Rattle.cmb_engine.proofs.RowFacts.{value-meets_row}
 
@@ -43,8 +42,8 @@ module _ (design : Design) (to first : ℕ) (begun : 1 ≤ first) (late : 65 ≤
   pins-true net place pin [] from within = refl
   pins-true net place pin (operand ∷ operands) from within =
       ap₂ (λ level levels. level ∷ levels)
-          (in_place-before (value design operand) to place (delay design net pin) (omega arith) (omega (arith, within.0)))
-          (pins-true net place (suc pin) operands from within.1)
+      (in_place-before (value design operand) to place (delay design net pin) (omega arith) (omega (arith, within.0)))
+      (pins-true net place (suc pin) operands from within.1)
 
   flop-true : (net place source : ℕ) → first ≤ place → delay design net 1 ≤ first
       → (arrives design net (to + place - 64) ≡ true) ⊎ (arrives design net (to + place - 64) ≡ false)

@@ -1,5 +1,5 @@
 -- The cells of a design's nets. Only contracts inside this crate cite these.
-use Rattle.std.specs.Prelude.{◌≡◌, ℕ, suc, ◌≤◌, List, [], ◌∷◌, map}
+use Rattle.std.specs.Prelude.{ℕ, suc, ◌≤◌, List, [], ◌∷◌, map}
 use Rattle.std.specs.List.{AllByRecursion, range_with_len}
 use Rattle.cmb_bench.specs.declared.netlist.Driver.{Driver}
 use Rattle.cmb_bench.specs.declared.netlist.Driver.TheVariants as driver

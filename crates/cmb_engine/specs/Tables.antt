@@ -1,5 +1,5 @@
 -- Cells kept in two lists: a rule of each net, and the pins of all gates. Only contracts inside this crate cite these.
-use Rattle.std.specs.Prelude.{ℕ, ◌+◌, ◌≤◌, List, length, map, take, drop}
+use Rattle.std.specs.Prelude.{◌+◌, ◌≤◌, List, length, map, take, drop}
 use Rattle.std.specs.List.{AllByRecursion}
 use Rattle.cmb_engine.specs.Cells.{Cell, Told, Gate, Flop}
 use Rattle.cmb_engine.specs.declared.cell.Pin.{Pin}

@@ -125,7 +125,12 @@ impl Cells {
     }
 
     // Adds the cell of a net; `pins` is room for its pins.
-    fn push_net(&mut self, design: &Design, net: usize, pins: &mut Vec<Pin>) -> Result<(), AllocError>
+    fn push_net(
+        &mut self,
+        design: &Design,
+        net: usize,
+        pins: &mut Vec<Pin>,
+    ) -> Result<(), AllocError>
         requires { net < nets_of design.now }
         ensures { OnOk result (self.new ≡ self.old ++ cell_in design.now net ∷ []) }
     {
@@ -137,7 +142,13 @@ impl Cells {
             }
             Driver::Flop(source) => {
                 let delay = design.delay(net, 1);
-                self.push_flop(design.clock(net), Pin { net: *source, delay })
+                self.push_flop(
+                    design.clock(net),
+                    Pin {
+                        net: *source,
+                        delay,
+                    },
+                )
             }
         }
     }

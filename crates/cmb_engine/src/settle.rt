@@ -1,6 +1,6 @@
 //! Visits of nets with news.
 
-ghost use Rattle.std.specs.Prelude.{◌≡◌, ◌≢◌, ℕ, ◌+◌, ◌*◌, ◌<◌, ◌≤◌, true, false, All, length, slice_index, slice_index_or};
+ghost use Rattle.std.specs.Prelude.{◌≡◌, ◌≢◌, ℕ, ◌+◌, ◌*◌, ◌<◌, ◌≤◌, true, false, [], All, map, length, slice_index, slice_index_or};
 ghost use Rattle.cmb_engine.specs.Bits.{has};
 ghost use Rattle.cmb_engine.specs.Cells.{Told, IsMade, IsLawful, IsSettled, AreReaders, is_made, reads};
 ghost use Rattle.cmb_engine.specs.Words.{levels_of};
@@ -54,7 +54,7 @@ pub(crate) fn visit(
 
     // So where every made net that isn't marked was settled, it is.
     ensures settled { ((m : ℕ) → is_made (slice_index_or cells.now m Told) ≡ true → has marks.old m ≡ false
-            → IsSettled (levels_of words.old) to first m (slice_index_or cells.now m Told))
+        → IsSettled (levels_of words.old) to first m (slice_index_or cells.now m Told))
         → (m : ℕ) → is_made (slice_index_or cells.now m Told) ≡ true → has marks.new m ≡ false
         → IsSettled (levels_of words.new) to first m (slice_index_or cells.now m Told) }
 {
@@ -66,4 +66,39 @@ pub(crate) fn visit(
     words[net] = made;
     mark_all(marks, readers);
     true
+}
+
+/// Visits the marked nets by rising number, each once.
+pub(crate) fn sweep(
+    cells: &Cells,
+    readers: &[Vec<u32>],
+    words: &mut [Word],
+    marks: &mut Marks,
+    to: u32,
+    first: u32,
+)
+    requires cells { (net : ℕ) → net < length words.old → IsLawful (length words.old) first (slice_index_or cells.now net Told) }
+    requires nets { length cells.now ≡ length words.old }
+    requires lists { length readers.now ≡ length words.old }
+    requires room { length words.old ≤ 64 * length marks.old }
+    requires readers { (net : ℕ) → net < length words.old → AreReaders cells.now net (slice_index_or (map (λ list. list.items) readers.now) net []) }
+    requires within { (net : ℕ) → net < length words.old → All (λ reader. reader < length words.old) (slice_index_or (map (λ list. list.items) readers.now) net []) }
+    requires to { to ≤ 1000000 }
+    requires begun { 1 ≤ first }
+    requires first { first < 64 }
+    requires inside { 64 ≤ to + first }
+    ensures room { length marks.new ≡ length marks.old }
+    ensures settled { ((m : ℕ) → is_made (slice_index_or cells.now m Told) ≡ true → has marks.old m ≡ false
+        → IsSettled (levels_of words.old) to first m (slice_index_or cells.now m Told))
+        → (m : ℕ) → is_made (slice_index_or cells.now m Told) ≡ true → has marks.new m ≡ false
+        → IsSettled (levels_of words.new) to first m (slice_index_or cells.now m Told) }
+{
+    let mut from = 0;
+    'nets: while let Some(net) = marks.next_from(from) {
+        if net >= words.len() {
+            break;
+        }
+        visit(cells, readers[net].as_slice(), words, marks, net, to, first);
+        from = net + 1;
+    }
 }

@@ -4,6 +4,7 @@ use Rattle.cmb_engine.proofs.ArrivalFacts.{arrives-sample, sample-arrives}
 use Rattle.cmb_engine.proofs.laws.samples_arrive.Goals as goal
 
 pub returns : goal.returns
-returns c = λ design net tick.
-    (arrives-sample (clock_of design net) (delay design net 1) tick,
-        λ h. sample-arrives (clock_of design net) (delay design net 1) tick (clock_of-positive design net) h.0 h.1)
+returns c = λ design net tick. (
+  arrives-sample (clock_of design net) (delay design net 1) tick,
+  λ h. sample-arrives (clock_of design net) (delay design net 1) tick (clock_of-positive design net) h.0 h.1,
+)

@@ -8,5 +8,5 @@ pub loop-k-preserved : goal.loop-k-preserved
 loop-k-preserved c = λ place from small.
     let within : (get_or c.args.pins.now c.loop-k.k (record { net = 0; delay = 0 })).delay ≤ c.args.first = c.requires.within c.loop-k.k _ c.loop-k-test.true in
     joint-pins c.args.kind (seen (levels_of c.args.words.now) place) c.args.pins.now c.loop-k.k (record { net = 0; delay = 0 }) _ _ _
-        c.loop-k.auto.k c.loop-k-test.true
-        (c.seen_word.ensures place (omega arith) small) (c.join-joined.ensures place small) (c.loop-k.invariant place from small)
+    c.loop-k.auto.k c.loop-k-test.true
+    (c.seen_word.ensures place (omega arith) small) (c.join-joined.ensures place small) (c.loop-k.invariant place from small)

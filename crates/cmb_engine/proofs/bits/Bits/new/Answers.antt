@@ -1,4 +1,4 @@
-use Rattle.std.proofs.Common.{◌≡◌, ℕ, ◌+◌, ◌/◌, replicate, false, ap, ◌∙◌, rules}
+use Rattle.std.proofs.Common.{◌≡◌, ◌+◌, ◌/◌, replicate, ap, ◌∙◌, rules}
 use Rattle.cmb_engine.specs.Bits.{has}
 use Rattle.cmb_engine.proofs.BitFacts.{has-none}
 use Rattle.cmb_engine.proofs.bits.Bits.new.Goals as goal

@@ -1,7 +1,4 @@
-use Rattle.std.proofs.Common.{◌≡◌, ◌<◌, ℕ, List, length, get_or, sym, ap, ◌∙◌}
-use Rattle.cmb_words.specs.declared.word.Word.{Word}
-use Rattle.cmb_words.specs.Word.{level_at_place}
-use Rattle.cmb_engine.specs.Words.{levels_of}
+use Rattle.std.proofs.Common.{sym, ◌∙◌}
 use Rattle.cmb_engine.proofs.WordFacts.{levels_of-read}
 use Rattle.cmb_engine.proofs.cells.Cells.word.Goals as goal
 

@@ -1,4 +1,4 @@
-use Rattle.std.proofs.Common.{◌≡◌, ◌+◌, ◌*◌, ◌/◌, ◌<◌, ◌≤◌, List, ℕ, length, Option, None, MatchOption, subst, sym, arith}
+use Rattle.std.proofs.Common.{◌+◌, ◌*◌, ◌/◌, List, ℕ, length, Option, MatchOption, subst, sym, arith}
 use Rattle.cmb_engine.specs.Bits.{HasNone, IsNext}
 use Rattle.cmb_engine.proofs.MarkFacts.{marks-none, marks-room, marks-in_word}
 use Rattle.cmb_engine.proofs.marks.Marks.next_from.Goals as goal
@@ -19,4 +19,4 @@ pub returns : goal.returns
 returns c =
     subst (λ (s : List ℕ). MatchOption c.next_in_word-2.result (HasNone s c.args.n (64 * length s)) (IsNext s c.args.n)) c.self.view_is
     (marks-in_word c.self.inside.low c.self.inside.high c.self.invariant c.args.n c.in_ok-k.k c.in_default.ensures.next c.in_ok-k.ensures
-        c.next_in_word-2.result c.next_in_word-2.ensures.next c.next_in_word-2.ensures.empty)
+    c.next_in_word-2.result c.next_in_word-2.ensures.next c.next_in_word-2.ensures.empty)
