@@ -17,6 +17,22 @@ TICKS = os.sysconf("SC_CLK_TCK")
 CLOSING = re.compile(r"(\d+) passed, (\d+) failed")
 
 
+def stat_of(pid):
+    """A process's number and what /proc says of it from its state on, or None where it has ended."""
+    try:
+        with open(f"/proc/{pid}/stat", encoding="utf-8", errors="replace") as file:
+            return pid, file.read().rpartition(")")[2].split()
+    except OSError:
+        return pid, None
+
+
+def is_below(pid, now):
+    """Whether a process was started by this one, or by one that was."""
+    while pid in now and pid != str(os.getpid()):
+        pid = now[pid][1]
+    return pid == str(os.getpid())
+
+
 class Meter:
     """What the checks below this process took so far, by crate and part, in seconds of a processor."""
 
@@ -28,19 +44,19 @@ class Meter:
 
     def read_on(self):
         while not self.stopped.wait(1):
-            for pid in filter(str.isdigit, os.listdir("/proc")):
+            now = {pid: fields for pid, fields in map(stat_of, filter(str.isdigit, os.listdir("/proc"))) if fields}
+            for pid, fields in now.items():
                 try:
-                    self.read(pid)
+                    if is_below(pid, now):
+                        self.read(pid, fields)
                 except (OSError, IndexError):
                     pass  # it has ended
 
-    def read(self, pid):
+    def read(self, pid, fields):
         with open(f"/proc/{pid}/cmdline", encoding="utf-8", errors="replace") as file:
             words = file.read().split("\0")
         if os.path.basename(words[0]) != "rattle" or "--crate-name" not in words:
             return
-        with open(f"/proc/{pid}/stat", encoding="utf-8", errors="replace") as file:
-            fields = file.read().rpartition(")")[2].split()
         crate = words[words.index("--crate-name") + 1]
         part = self.part(crate, words, os.readlink(f"/proc/{pid}/cwd"))
         self.seconds[pid, fields[19]] = crate, part, (int(fields[11]) + int(fields[12])) / TICKS
