@@ -1,5 +1,5 @@
 -- What a gate makes of one operand, and of two by masks.
-use Rattle.std.proofs.Common.{◌≡◌, [], ◌∷◌, refl}
+use Rattle.std.proofs.Common.{◌≡◌, [], ◌∷◌, refl, if◌then◌else◌, ap, ap₂, ◌∙◌, ℕ, ◌+◌, ◌<◌, Bool, true, false, true≢false, sym}
 use Rattle.cmb_wave.specs.declared.level.Level.{Level}
 use Rattle.cmb_wave.specs.declared.level.Level.TheVariants.{Zero, One, X}
 use Rattle.cmb_bench.specs.declared.netlist.Kind.{Kind}
@@ -7,8 +7,6 @@ use Rattle.cmb_bench.specs.declared.netlist.Kind.TheVariants.{And, Nand, Or, Nor
 use Rattle.cmb_design.specs.Gate.{gate, conjunction, disjunction, parity, inverse_of}
 use Rattle.cmb_words.specs.Joint.{joint}
 use Rattle.cmb_words.specs.Masked.{inverse_if, inverts_operands, ignores_second, is_parity, inverts_result}
-use Rattle.std.proofs.Common.{if◌then◌else◌, ap, ap₂, ◌∙◌}
-use Rattle.std.proofs.Common.{ℕ, ◌+◌, ◌<◌, Bool, true, false, true≢false, sym}
 use Rattle.std.specs.Int.{bit_at}
 use Rattle.std.proofs.lemmas.Nat.Bits.{bit_at-zero, bit_at-lt}
 use Rattle.cmb_words.specs.Bits.{level_of_bits, level_in}

@@ -1,19 +1,17 @@
 -- Levels by their two bits.
-use Rattle.std.proofs.Common.{◌≡◌, ℕ, zero, suc, ◌+◌, ◌-◌, ◌*◌, ◌/◌, ◌%◌, ◌^◌, ◌<◌, ◌≤◌, ◌≢◌, min, max, [], ◌∷◌, false, true≢false, not, refl, sym, ap, ap₂, ◌∙◌, ⊎_elim, arith}
+use Rattle.std.proofs.Common.{◌≡◌, ℕ, zero, suc, ◌+◌, ◌-◌, ◌*◌, ◌/◌, ◌%◌, ◌^◌, ◌<◌, ◌≤◌, ◌≢◌, min, max, [], ◌∷◌, false, true≢false, not, refl, sym, ap, ap₂, ◌∙◌, ⊎_elim, arith, Bool, true}
 use Rattle.std.proofs.lemmas.Bool.{cases_lt}
 use Rattle.std.proofs.lemmas.Bool.Decides.{eqb_tells}
 use Rattle.std.proofs.lemmas.Nat.{or_lt, xor_lt}
 use Rattle.std.specs.Prelude.{if◌then◌else◌, bit_and, bit_or, bit_xor, ◌==◌}
 use Rattle.std.specs.Int.{bit_at}
-use Rattle.std.proofs.lemmas.Nat.Bits.{bit_at_and, bit_at_or, bit_at_xor, bit_at_ones, bit_at-zero, shr_and_one}
+use Rattle.std.proofs.lemmas.Nat.Bits.{bit_at_and, bit_at_or, bit_at_xor, bit_at_ones, bit_at-zero, shr_and_one, bit_at-lt}
 use Rattle.cmb_wave.specs.declared.level.Level.TheVariants.{Zero, One, X}
 use Rattle.cmb_wave.specs.Waveform.{same_level}
 use Rattle.cmb_design.specs.Gate.{conjunction, disjunction, parity, inverse_of}
 use Rattle.cmb_words.specs.Masked.{inverse_if}
 use Rattle.cmb_words.specs.Bits.{level_of_bits, level_in, is_set_at}
 use Rattle.cmb_words.proofs.BitFacts.{shl_high, shl_low, masked_below, masked_from, none_from, all_from, keeps, takes}
-use Rattle.std.proofs.Common.{Bool, true}
-use Rattle.std.proofs.lemmas.Nat.Bits.{bit_at-lt}
 
 -- ---- one level
 

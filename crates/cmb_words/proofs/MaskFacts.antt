@@ -1,17 +1,14 @@
 -- The set places of a mask.
-use Rattle.std.proofs.Common.{◌≡◌, ◌≢◌, ℕ, zero, suc, ◌+◌, ◌-◌, ◌*◌, ◌/◌, ◌%◌, ◌^◌, ◌<◌, ◌≤◌, [], ◌∷◌, true, false, refl, sym, ap, ◌∙◌, ⊎_elim, arith, w64, div-add-mod', mod-lt, pow_pos, le_refl}
+use Rattle.std.proofs.Common.{◌≡◌, ◌≢◌, ℕ, zero, suc, ◌+◌, ◌-◌, ◌*◌, ◌/◌, ◌%◌, ◌^◌, ◌<◌, ◌≤◌, [], ◌∷◌, true, false, refl, sym, ap, ◌∙◌, ⊎_elim, arith, w64, div-add-mod', mod-lt, pow_pos, le_refl, true≢false, List, All, Contains, Bool, if◌then◌else◌}
 use Rattle.std.specs.Prelude.{bit_and, ◌==◌}
 use Rattle.std.specs.Int.{bit_at, trailing_zeros}
 use Rattle.std.proofs.lemmas.Bool.{cases_lt}
 use Rattle.std.proofs.lemmas.Nat.{and_le_r}
 use Rattle.std.proofs.lemmas.Nat.Bits.{bit_at_and, bit_at_cat_low, bit_at_cat_high, bit_at_above, bit_at_ones_above, bit_at-pow_same, bit_at-pow_other, bit_at-trailing_zeros, same_from_bits}
 use Rattle.std.proofs.Math.Nat.{two-pow-succ}
-use Rattle.cmb_words.specs.Bits.{is_set_at, places_in, places_set}
+use Rattle.cmb_words.specs.Bits.{is_set_at, places_in, places_set, IsLowestSet}
 use Rattle.cmb_words.proofs.LevelFacts.{none_set}
 use Rattle.cmb_words.proofs.BitFacts.{mod_bit, masked_below, masked_from}
-use Rattle.std.proofs.Common.{true≢false}
-use Rattle.cmb_words.specs.Bits.{IsLowestSet}
-use Rattle.std.proofs.Common.{List, All, Contains, Bool, if◌then◌else◌}
 use Rattle.std.specs.List.{AllByRecursion}
 use Rattle.std.proofs.lemmas.List.Elements.{All-from_recursion, Contains-append_left, Contains-append_right, Contains-push}
 

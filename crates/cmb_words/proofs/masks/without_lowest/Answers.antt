@@ -1,8 +1,6 @@
-use Rattle.std.proofs.Common.{arith}
-use Rattle.cmb_words.proofs.MaskFacts.{places_set-none, next_place}
-use Rattle.std.proofs.Common.{refl, ◌<◌, arith}
+use Rattle.std.proofs.Common.{arith, refl, ◌<◌}
+use Rattle.cmb_words.proofs.MaskFacts.{places_set-none, next_place, lowest_gone, others_stay}
 use Rattle.cmb_words.proofs.LevelFacts.{none_set}
-use Rattle.cmb_words.proofs.MaskFacts.{lowest_gone, others_stay}
 use Rattle.cmb_words.proofs.masks.without_lowest.Goals as goal
 
 pub returns-then-mask-eq0-clause-rest : goal.returns-then-mask-eq0-clause-rest
