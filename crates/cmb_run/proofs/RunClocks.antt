@@ -1,5 +1,5 @@
 -- The clocks of a collector's waves.
-use Rattle.std.proofs.Common.{◌≡◌, ℕ, zero, suc, ◌<◌, List, [], ◌∷◌, length, refl, min, arith}
+use Rattle.std.proofs.Common.{◌≡◌, ℕ, zero, suc, ◌<◌, List, [], ◌∷◌, length, refl, arith}
 use Rattle.cmb_wave.specs.Wave.{Wave}
 use Rattle.cmb_vcd.specs.Collector.{least_clock, wave_of}
 

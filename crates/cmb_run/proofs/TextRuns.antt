@@ -1,13 +1,13 @@
 -- What a run with its text comes to.
-use Rattle.std.proofs.Common.{◌≡◌, ◌∙◌, ℕ, ◌≤◌, List, Option, Some, Result, Ok, Err, length, refl, ap, sym, subst, arith}
-use Rattle.std.specs.Prelude.{IfOk, IfErr}
+use Rattle.std.proofs.Common.{◌≡◌, ◌∙◌, ℕ, List, Option, Some, Result, Ok, Err, length, refl, ap, sym, subst, arith}
+use Rattle.std.specs.Prelude.{IfOk, IfErr, OnOk}
 use Rattle.std.specs.Io.KnownBytes.{Appends}
 use Rattle.std.proofs.KnownBytes.{Appends-nil}
 use Rattle.cmb_design.specs.Design.{Design}
 use Rattle.cmb_vcd.specs.Collector.{Collector, IsComplete, IsExactFor, least}
 use Rattle.cmb_vcd.specs.Vcd.{vcd}
 use Rattle.cmb_run.specs.FreeRuns.{HasBegun, IsCutAt, IsStoppedAt}
-use Rattle.cmb_run.specs.Tellers.{IsDecided, IsGiven}
+use Rattle.cmb_run.specs.Tellers.{IsDecided, IsGiven, IsUnfinished}
 use Rattle.cmb_run.specs.declared.run_fault.RunFault.{RunFault}
 use Rattle.cmb_run.specs.declared.run_fault.RunFault.TheVariants.{Incomplete, Write, Memory}
 use Rattle.cmb_run.proofs.TellerFacts.{HasBegun-told, told-whole}
@@ -55,3 +55,28 @@ given-whole design old new before after given collector exact complete h =
     let end : h.done ≡ design.horizon = omega (arith, h.reached, h.within, complete, exact.opened.horizon) in
     let whole = told-whole design h.done end in
     (h.count ∙ ap length whole, subst (Appends old new) whole h.text)
+
+-- why what was given isn't whole
+IsCutAt-unfinished : (design : Design) (old new : Option (List ℕ)) (before after : ℕ) (given : Result ℕ RunFault) (collector : Collector) (fault : RunFault)
+    → IsExactFor design collector → IfOk given (λ n. IsGiven design old new before after (least collector) n) → IfErr given (IsCutAt design old new before after)
+    → IsUnfinished given collector fault → IsCutAt design old new before after fault
+IsCutAt-unfinished design old new before after (Ok n) collector fault exact ok err u = IsCutAt-stopped design old new before after (least collector) n collector fault exact ok u
+IsCutAt-unfinished design old new before after (Err f) collector fault exact ok err u = subst (IsCutAt design old new before after) (sym u) err
+
+pub IsCutAt-whole : (design : Design) (old new : Option (List ℕ)) (before after : ℕ) (given now : Result ℕ RunFault) (collector : Collector)
+    → IsExactFor design collector → IfOk given (λ n. IsGiven design old new before after (least collector) n) → IfErr given (IsCutAt design old new before after)
+    → IfErr now (IsUnfinished given collector) → IfErr now (IsCutAt design old new before after)
+IsCutAt-whole design old new before after given (Ok n) collector exact ok err u = tt
+IsCutAt-whole design old new before after given (Err fault) collector exact ok err u = IsCutAt-unfinished design old new before after given collector fault exact ok err u
+
+pub text-whole : (design : Design) (old new : Option (List ℕ)) (before after : ℕ) (given now : Result ℕ RunFault) (collector : Collector)
+    → IsExactFor design collector → IfOk given (λ n. IsGiven design old new before after (least collector) n) → IfOk now (λ n. given ≡ Ok n) → OnOk now (IsComplete collector)
+    → IfOk now (λ n. (n ≡ length (vcd design)) × Appends old new (vcd design))
+text-whole design old new before after given (Err fault) collector exact ok same complete = tt
+text-whole design old new before after given (Ok n) collector exact ok same complete =
+    given-whole design old new before after n collector exact complete (IsGiven-all design old new before after (least collector) given (Ok n) ok same)
+
+pub no_failure-whole : (design : Design) (old new : Option (List ℕ)) (before after upto : ℕ) (given now : Result ℕ RunFault)
+    → IfOk given (λ n. IsGiven design old new before after upto n) → IfOk now (λ n. given ≡ Ok n) → OnOk now (after ≡ before)
+no_failure-whole design old new before after upto given (Err fault) ok same = tt
+no_failure-whole design old new before after upto given (Ok n) ok same = (IsGiven-all design old new before after upto given (Ok n) ok same).no_failure

@@ -1,10 +1,12 @@
 -- The text of a run that is written while it is collected. No public contract cites these.
-use Rattle.std.specs.Prelude.{◌≡◌, ℕ, ◌≤◌, List, length, Option, None, Some, Result, Err, ⊤}
+use Rattle.std.specs.Prelude.{◌≡◌, ℕ, ◌≤◌, List, length, Option, None, Some, Result, Ok, Err, ⊤}
 use Rattle.std.specs.Io.KnownBytes.{Appends}
 use Rattle.cmb_design.specs.Design.{Design}
 use Rattle.cmb_design.specs.Lawful.{IsDesign}
 use Rattle.cmb_design.specs.Value.{value}
+use Rattle.cmb_vcd.specs.Collector.{Collector}
 use Rattle.cmb_vcd.specs.Writer.{Writer, done_text}
+use Rattle.cmb_run.specs.FreeRuns.{IsStoppedAt}
 use Rattle.cmb_run.specs.declared.run_fault.RunFault.{RunFault}
 use Rattle.cmb_run.specs.declared.run_fault.RunFault.TheVariants.{Write, Memory}
 
@@ -42,3 +44,8 @@ pub record IsGiven (design : Design) (old new : Option (List ℕ)) (before after
 abbrev pub IsDecided : Result ℕ RunFault → RunFault → Type 0
 IsDecided given Memory = (written : ℕ) → given ≡ Err (Write written) → ⊥
 IsDecided given fault = given ≡ Err fault
+
+-- why a run's text isn't whole: it wasn't given, or the run was stopped
+abbrev pub IsUnfinished : Result ℕ RunFault → Collector → RunFault → Type 0
+IsUnfinished (Ok given) collector fault = IsStoppedAt collector fault
+IsUnfinished (Err why) collector fault = fault ≡ why

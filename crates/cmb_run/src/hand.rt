@@ -1,4 +1,4 @@
-//! What a worker of a run is handed for a round, and gives back.
+//! What a worker of a run has in its hands.
 
 ghost use Rattle.std.specs.Prelude.{◌≡◌, ◌<◌, length};
 ghost use Rattle.cmb_design.specs.Exact.{nets_of};
@@ -52,12 +52,6 @@ impl<T: Terms> Hand<T> {
     }
 
     /// A worker's part of a round. Where it meets want of memory it notes so, and stops.
-    pub fn worked(mut self) -> Hand<T> {
-        self.work();
-        self
-    }
-
-    /// A worker's part of a round, made in place. Where it meets want of memory it notes so, and stops.
     pub fn work(&mut self) {
         self.refused = self.step().is_err();
     }

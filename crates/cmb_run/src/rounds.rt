@@ -17,10 +17,9 @@ use cmb_links::Workers;
 use cmb_vcd::Collector;
 use std::alloc::{AllocError, Global};
 use std::marker::Brand;
-use std::mem::replace;
 use std::sync::Wait;
 use std::thread;
-use std::thread::{JoinHandle, Scope, Threads};
+use std::thread::Threads;
 
 // A thread is started and joined in about the time of so many looks at a net. This is an estimate.
 const THREAD: usize = 1_000;
@@ -63,91 +62,32 @@ fn is_worth_threads<T: Terms>(hands: &[Hand<T>]) -> bool {
 }
 
 // The round's steps, one worker's after the other's.
-fn here<T: Terms>(mut hands: Vec<Hand<T>>) -> Vec<Hand<T>> {
-    for hand in hands.iter_mut() {
+fn here<T: Terms>(hands: &mut [Hand<T>]) {
+    for hand in hands {
         hand.work();
     }
-    hands
 }
 
-// The workers' threads of a round, and whether one was refused.
-#[derive(Drop)]
-struct Started<T: Terms> {
-    threads: Vec<JoinHandle<Hand<T>>>,
-    refused: bool,
-}
-
-// Steps each worker's cluster in a thread of its own.
-fn start<'s, E, T: Terms + Send + Sync + 's>(
-    alloc: Global,
-    scope: &Scope<'s, E>,
-    hands: Vec<Hand<T>>,
-) -> Result<Started<T>, AllocError> {
-    let mut threads = Vec::with_capacity(alloc, hands.len())?;
-    let mut refused = false;
-    for hand in hands {
-        refused |= match scope.spawn(move || hand.worked()) {
-            Ok(thread) => threads.push(thread).is_err(),
-            Err(_unstarted) => true,
-        };
-    }
-    Ok(Started { threads, refused })
-}
-
-impl<T: Terms> Started<T> {
-    // Waits for the threads, and gives what they and the calling thread worked on.
-    fn join<R: Threads + Wait>(
-        self,
-        rt: &R,
-        alloc: Global,
-        last: Hand<T>,
-    ) -> Result<Vec<Hand<T>>, AllocError> {
-        let mut back = Vec::with_capacity(alloc, self.threads.len() + 1)?;
-        let mut refused = self.refused;
-        for thread in self.threads {
-            refused |= back.push(thread.join(rt)).is_err();
-        }
-        refused |= back.push(last).is_err();
-        if refused { Err(AllocError) } else { Ok(back) }
-    }
-}
-
-// The round's steps, each worker's in a thread of its own but for the last one's, which are made
-// here. Where a thread can't be made the others are joined all the same.
-fn in_threads<T: Terms + Send + Sync, R: Threads + Wait + Sync>(
-    rt: &R,
-    alloc: Global,
-    mut hands: Vec<Hand<T>>,
-) -> Result<Vec<Hand<T>>, AllocError> {
-    let Some(last) = hands.pop() else {
-        return Ok(hands);
-    };
-    thread::scope(
-        thread::scope_env(),
-        rt,
-        move |scope| -> Result<Vec<Hand<T>>, AllocError> {
-            let started = start(alloc, scope, hands)?;
-            let last = last.worked();
-            started.join(rt, alloc, last)
-        },
-    )
+// The round's steps, each worker's in a thread of its own where one can be had.
+fn in_threads<T: Terms + Send + Sync, R: Threads + Sync>(rt: &R, hands: &mut [Hand<T>]) {
+    let threads = hands.len().max(1);
+    thread::for_each_mut(rt, hands, threads, &|_, hand| hand.work());
 }
 
 // The round's steps.
-fn step<T: Terms + Send + Sync, R: Threads + Wait + Sync>(
+fn step<T: Terms + Send + Sync, R: Threads + Sync>(
     rt: &R,
-    alloc: Global,
-    hands: Vec<Hand<T>>,
-) -> Result<Vec<Hand<T>>, AllocError> {
-    let back = if is_worth_threads(&hands) {
-        in_threads(rt, alloc, hands)?
+    hands: &mut [Hand<T>],
+) -> Result<(), AllocError> {
+    if is_worth_threads(hands) {
+        in_threads(rt, hands);
     } else {
-        here(hands)
-    };
-    if back.iter().any(|hand| hand.refused()) {
+        here(hands);
+    }
+    if hands.iter().any(|hand| hand.refused()) {
         return Err(AllocError);
     }
-    Ok(back)
+    Ok(())
 }
 
 // No readers for each of so many nets.
@@ -211,34 +151,45 @@ impl Routes {
     }
 }
 
-// A worker for each cluster, connected to the others, and the routes between them.
+// The routes between the workers, each of whom now knows which of its nets others read.
 fn connected<T: Terms>(
     alloc: Global,
-    design: &Design,
-    clustering: &Clustering,
-) -> Result<(Vec<Hand<T>>, Routes), AllocError>
-    requires design { design.now ≡ T.design }
-    requires clustering { clustering.now ≡ T.clustering }
-    requires nets { length clustering.now.assign ≡ nets_of design.now }
-{
-    let mut hands = deal::<T>(alloc, design, clustering)?;
-    let routes = Routes::open(alloc, design.netlist().len(), &hands)?;
-    for hand in hands.iter_mut() {
+    nets: usize,
+    hands: &mut [Hand<T>],
+) -> Result<Routes, AllocError> {
+    let routes = Routes::open(alloc, nets, hands)?;
+    for hand in hands {
         hand.connect(&routes.readers)?;
     }
-    Ok((hands, routes))
+    Ok(routes)
 }
 
 // A round: the steps, and then what was posted is passed on.
-fn round<T: Terms + Send + Sync, R: Threads + Wait + Sync>(
+fn round<T: Terms + Send + Sync, R: Threads + Sync>(
     rt: &R,
     alloc: Global,
     routes: &Routes,
-    hands: Vec<Hand<T>>,
-) -> Result<Vec<Hand<T>>, AllocError> {
-    let mut hands = step(rt, alloc, hands)?;
-    routes.pass_on(alloc, &mut hands)?;
-    Ok(hands)
+    hands: &mut [Hand<T>],
+) -> Result<(), AllocError> {
+    step(rt, hands)?;
+    routes.pass_on(alloc, hands)
+}
+
+// Rounds by new workers until each of them is complete.
+fn all_rounds<T: Terms + Send + Sync, R: Threads + Wait + Sync>(
+    rt: &R,
+    alloc: Global,
+    design: &Design,
+    hands: &mut [Hand<T>],
+) -> Result<(), AllocError> {
+    let routes = connected(alloc, design.netlist().len(), hands)?;
+    for _ in rt.forever() {
+        round(rt, alloc, &routes, hands)?;
+        if hands.iter().all(|hand| hand.complete()) {
+            return Ok(());
+        }
+    }
+    unreachable!()
 }
 
 // What the clusters know of all nets.
@@ -257,6 +208,36 @@ fn collect<T: Terms>(
     Ok(collected.into_collector())
 }
 
+// The workers of the clusters, once each of them is complete.
+fn worked<T: Terms + Send + Sync, R: Threads + Wait + Sync>(
+    rt: &R,
+    alloc: Global,
+    design: &Design,
+    clustering: &Clustering,
+) -> Result<Vec<Hand<T>>, AllocError>
+    requires design { design.now ≡ T.design }
+    requires clustering { clustering.now ≡ T.clustering }
+    requires nets { length clustering.now.assign ≡ nets_of design.now }
+{
+    let mut hands = deal::<T>(alloc, design, clustering)?;
+    all_rounds(rt, alloc, design, &mut hands)?;
+    Ok(hands)
+}
+
+// A run's collector. Every net is driven in one of the clusters, so it is complete; no contract says so,
+// and for one that isn't this would never return.
+fn whole<R: Wait>(rt: &R, collector: Collector) -> Collector
+    ensures same { result ≡ collector }
+    ensures complete { IsComplete result }
+{
+    for _ in rt.forever() {
+        if collector.complete() {
+            return collector;
+        }
+    }
+    unreachable!()
+}
+
 // The run of the design by one worker for each cluster of the clustering that T names.
 fn run_named<T: Terms + Send + Sync, R: Threads + Wait + Sync>(
     rt: &R,
@@ -270,20 +251,9 @@ fn run_named<T: Terms + Send + Sync, R: Threads + Wait + Sync>(
     ensures exact { IfOk result (λ collector. IsExactFor design.now collector) }
     ensures complete { IfOk result (λ collector. IsComplete collector) }
 {
-    let (mut hands, routes) = connected::<T>(alloc, design, clustering)?;
-    for _ in rt.forever() {
-        hands = round(rt, alloc, &routes, hands)?;
-        if hands.iter().all(|hand| hand.complete()) {
-            let whole = replace(&mut hands, Vec::new(alloc));
-            let collector = collect(alloc, design, whole)?;
-            // Every net is driven in one of the clusters, so the collector is complete; no contract says so,
-            // and a run for which it failed would never return.
-            if collector.complete() {
-                return Ok(collector);
-            }
-        }
-    }
-    unreachable!()
+    let hands = worked::<T, R>(rt, alloc, design, clustering)?;
+    let collector = collect(alloc, design, hands)?;
+    Ok(whole(rt, collector))
 }
 
 /// Simulates a design in rounds and collects the waves of all its nets, up to the horizon. The nets
@@ -291,10 +261,10 @@ fn run_named<T: Terms + Send + Sync, R: Threads + Wait + Sync>(
 /// whose number isn't below that of the clusters has none, and no part in the run. In each round
 /// every net is stepped, and those of a loop within one worker up to 64 times in a row; then what is
 /// new is posted to the workers that read it. Where there are several, and a round has enough to do that
-/// threads are worth their start, each steps its nets in a thread of its own, but the last one in the
-/// calling thread, and all are joined before pieces are passed on; else they step one after the other. What
-/// comes out is the same for any clustering and any number of workers. The only refusal is 70, where
-/// memory or a worker's thread was refused.
+/// threads are worth their start, each steps its nets in a thread of its own, one of them in the calling
+/// thread, and all are joined before pieces are passed on; else, and where a thread is refused, they step one
+/// after the other. What comes out is the same for any clustering and any number of workers. The only refusal
+/// is 70, where memory was refused.
 pub fn run_rounds<R: Threads + Wait + Sync>(
     rt: &R,
     alloc: Global,

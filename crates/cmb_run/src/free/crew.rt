@@ -1,11 +1,12 @@
 //! The workers of a free run, and what the collecting thread has of it.
 
-ghost use Rattle.std.specs.Prelude.{◌≡◌, ◌<◌, length};
+ghost use Rattle.std.specs.Prelude.{◌≡◌, ◌+◌, ◌<◌, All, drop, length, vec_len, IfOk, OnOk};
 ghost use Rattle.std.specs.Arc.{arc_value};
 ghost use Rattle.cmb_design.specs.Exact.{nets_of};
+ghost use Rattle.cmb_links.specs.Seats.{IsSeatOf, new_seats, terms};
 
 use crate::free::desk::Desk;
-use crate::free::ends::{TakeEnd, open_link};
+use crate::free::ends::TakeEnd;
 use crate::free::worker::Worker;
 use crate::part::{Part, Posted};
 use crate::terms::Terms;
@@ -63,23 +64,21 @@ pub struct Crew<T: Terms> {
     pub lookout: Lookout<T>,
 }
 
-// The worker at a desk, with the cluster of this number, and the end of its link that the collector has.
+// The worker at a desk, with the cluster of this number.
 fn open_worker<T: Terms>(
     alloc: Global,
     design: &Design,
     clustering: &Clustering,
     desk: Desk<T>,
     number: u32,
-) -> Result<(Worker<T>, TakeEnd<T>), AllocError>
+) -> Result<Worker<T>, AllocError>
     requires design { design.now ≡ T.design }
     requires clustering { clustering.now ≡ T.clustering }
     requires nets { length clustering.now.assign ≡ nets_of design.now }
     requires number { number < clustering.now.clusters }
 {
     let part = Part::open(alloc, design, clustering, number)?;
-    let (put, take) = open_link(alloc, design)?;
-    let worker = Worker::open(alloc, desk, part, put)?;
-    Ok((worker, take))
+    Worker::open(alloc, desk, part)
 }
 
 // No nets for each of so many workers.
@@ -121,14 +120,14 @@ fn link_two<T: Terms>(
 ) -> Result<(), AllocError>
     requires { design.now ≡ T.design }
 {
-    let (put, take) = open_link(alloc, design)?;
-    if let Some(worker) = workers.get_mut(from) {
-        worker.add_out(alloc, put, nets)?;
+    let Some(worker) = workers.get_mut(from) else {
+        return Ok(());
+    };
+    let end = worker.add_out(alloc, design, nets)?;
+    match workers.get_mut(to) {
+        Some(worker) => worker.add_in(end),
+        None => Ok(()),
     }
-    if let Some(worker) = workers.get_mut(to) {
-        worker.add_in(take)?;
-    }
-    Ok(())
 }
 
 // Links each worker that drives a net of another one to that.
@@ -178,6 +177,79 @@ fn note_readers<T: Terms>(
     Ok(())
 }
 
+// Adds a worker for each cluster, who takes the next seat of the board.
+fn add_workers<T: Terms>(
+    alloc: Global,
+    design: &Design,
+    clustering: &Clustering,
+    workers: Workers,
+    board: &Arc<Board>,
+    seats: &mut Vec<Seat>,
+    crew: &mut Vec<Worker<T>>,
+) -> Result<(), AllocError>
+    requires design { design.now ≡ T.design }
+    requires clustering { clustering.now ≡ T.clustering }
+    requires nets { length clustering.now.assign ≡ nets_of design.now }
+    requires each { clustering.now.clusters ≡ workers }
+    requires seats { seats.old.items ≡ new_seats (arc_value board.now) (terms design.now clustering.now workers) }
+    requires count { vec_len seats.old ≡ workers + 1 }
+    ensures { OnOk result (seats.new.items ≡ drop workers (new_seats (arc_value board.now) (terms design.now clustering.now workers))) }
+{
+    for number in 0..workers.count() {
+        let seat = seats.remove(0);
+        let desk = Desk::new(Arc::try_clone(board)?, seat, design, workers, number);
+        crew.push(open_worker(alloc, design, clustering, desk, number)?)?;
+    }
+    Ok(())
+}
+
+// Links each worker to the collector, and gives the collector's ends of these links.
+fn link_collector<T: Terms>(
+    alloc: Global,
+    design: &Design,
+    workers: &mut [Worker<T>],
+) -> Result<Vec<TakeEnd<T>>, AllocError>
+    requires { design.now ≡ T.design }
+{
+    let mut ends = Vec::with_capacity(alloc, workers.len())?;
+    for worker in workers {
+        ends.push(worker.add_collector(alloc, design)?)?;
+    }
+    Ok(ends)
+}
+
+// Links workers to the collector and to one another, and tells each which of its nets others read. Gives the
+// collector's ends.
+fn connect<T: Terms>(
+    alloc: Global,
+    design: &Design,
+    clustering: &Clustering,
+    workers: &mut [Worker<T>],
+) -> Result<Vec<TakeEnd<T>>, AllocError>
+    requires design { design.now ≡ T.design }
+    requires clustering { clustering.now ≡ T.clustering }
+{
+    let ends = link_collector(alloc, design, workers)?;
+    link_all(alloc, design, clustering, workers)?;
+    note_readers(alloc, clustering, workers)?;
+    Ok(ends)
+}
+
+// A new board that can be shared, and its seats.
+fn open_board(
+    alloc: Global,
+    design: &Design,
+    clustering: &Clustering,
+    workers: Workers,
+) -> Result<(Arc<Board>, Vec<Seat>), AllocError>
+    ensures seats { IfOk result (λ opened. opened.1.items ≡ new_seats (arc_value opened.0) (terms design.now clustering.now workers)) }
+    ensures count { IfOk result (λ opened. vec_len opened.1 ≡ workers + 1) }
+    ensures board { IfOk result (λ opened. All (IsSeatOf (arc_value opened.0) (terms design.now clustering.now workers)) opened.1.items) }
+{
+    let (board, seats) = Board::open(alloc, design, clustering, workers)?;
+    Ok((Arc::new(alloc, board)?, seats))
+}
+
 impl<T: Terms> Crew<T> {
     /// One cluster of T's clustering for each worker, newly opened, with its seat and its ends of links.
     pub fn open(
@@ -191,19 +263,12 @@ impl<T: Terms> Crew<T> {
         requires nets { length clustering.now.assign ≡ nets_of design.now }
         requires each { clustering.now.clusters ≡ workers }
     {
-        let (board, mut seats) = Board::open(alloc, design, clustering, workers)?;
-        let board = Arc::new(alloc, board)?;
-        let mut crew = Vec::with_capacity(alloc, workers.count() as usize)?;
-        let mut ends = Vec::with_capacity(alloc, workers.count() as usize)?;
-        for number in 0..workers.count() {
-            let seat = seats.remove(0);
-            let desk = Desk::new(Arc::try_clone(&board)?, seat, design, workers, number);
-            let (worker, end) = open_worker(alloc, design, clustering, desk, number)?;
-            crew.push(worker)?;
-            ends.push(end)?;
-        }
-        link_all(alloc, design, clustering, &mut crew)?;
-        note_readers(alloc, clustering, &mut crew)?;
+        let (board, mut seats) = open_board(alloc, design, clustering, workers)?;
+        let mut crew = Vec::new(alloc);
+        add_workers(
+            alloc, design, clustering, workers, &board, &mut seats, &mut crew,
+        )?;
+        let ends = connect(alloc, design, clustering, &mut crew)?;
         let lookout = Lookout::new(board, seats.remove(0), ends);
         Ok(Crew {
             workers: crew,

@@ -20,7 +20,7 @@ use std::alloc::Global;
 use std::marker::Brand;
 use std::sync::Wait;
 use std::thread;
-use std::thread::Threads;
+use std::thread::{Scope, Threads};
 
 // The least net that isn't known up to the horizon, and the tick up to which it is.
 fn least_behind(collector: &Collector) -> Option<(u32, u32)>
@@ -52,7 +52,29 @@ pub fn ended(collector: Collector) -> Result<Collector, RunFault>
     }
 }
 
-// Runs each worker in a thread of its own and collects in this one. Says whether memory or a thread was refused.
+// Runs each worker in a thread of the scope, and collects in this one. Says whether memory or a thread was refused.
+fn collect_in<'s, E, T: Terms + Send + Sync + 's, G: Turnstile + Sync, R: Threads + Wait + Sync>(
+    rt: &'s R,
+    alloc: Global,
+    scope: &Scope<'s, E>,
+    crew: Crew<T>,
+    gate: &'s G,
+    collected: &mut Collected<T>,
+) -> bool {
+    let Crew {
+        workers,
+        mut lookout,
+    } = crew;
+    let started = start(rt, alloc, scope, workers, gate, &mut lookout);
+    let lacking = collect(rt, &mut lookout, started.count(), collected).is_err();
+    if lacking {
+        lookout.raise();
+    }
+    let refused = started.join(rt);
+    lacking || refused
+}
+
+// Runs a crew and collects meanwhile. Says whether memory or a thread was refused.
 fn run_crew<T: Terms + Send + Sync, G: Turnstile + Sync, R: Threads + Wait + Sync>(
     rt: &R,
     alloc: Global,
@@ -64,19 +86,8 @@ fn run_crew<T: Terms + Send + Sync, G: Turnstile + Sync, R: Threads + Wait + Syn
         thread::scope_env(),
         rt,
         move |scope| -> (Collected<T>, bool) {
-            let Crew {
-                workers,
-                mut lookout,
-            } = crew;
-            let Ok(started) = start(rt, alloc, scope, workers, gate, &mut lookout) else {
-                return (collected, true);
-            };
-            let lacking = collect(rt, &mut lookout, started.count(), &mut collected).is_err();
-            if lacking {
-                lookout.raise();
-            }
-            let refused = started.join(rt);
-            (collected, lacking || refused)
+            let refused = collect_in(rt, alloc, scope, crew, gate, &mut collected);
+            (collected, refused)
         },
     )
 }

@@ -3,10 +3,10 @@
 ghost use Rattle.std.specs.Prelude.{◌≡◌, ◌-◌, ◌^◌, ◌<◌, None, Ok, length, IfOk, IfErr, OnOk};
 ghost use Rattle.std.specs.Io.KnownBytes.{Appends};
 ghost use Rattle.cmb_design.specs.Exact.{nets_of};
-ghost use Rattle.cmb_vcd.specs.Collector.{least};
+ghost use Rattle.cmb_vcd.specs.Collector.{IsComplete, least};
 ghost use Rattle.cmb_vcd.specs.Vcd.{vcd};
 ghost use Rattle.cmb_run.specs.FreeRuns.{IsCutAt};
-ghost use Rattle.cmb_run.specs.Tellers.{IsDecided, IsGiven};
+ghost use Rattle.cmb_run.specs.Tellers.{IsDecided, IsGiven, IsUnfinished, IsWithin, told};
 
 use crate::collected::Collected;
 use crate::free::collect::take_round;
@@ -20,7 +20,7 @@ use crate::terms::Terms;
 use cmb_core::Clustering;
 use cmb_design::Design;
 use cmb_links::Workers;
-use cmb_vcd::Sink;
+use cmb_vcd::{Collector, Sink};
 use std::alloc::Global;
 use std::marker::Brand;
 use std::sync::Wait;
@@ -30,18 +30,20 @@ use std::thread::{Scope, Threads};
 // While pieces come in every round, the text is written once in so many rounds.
 const ROUNDS: u32 = 64;
 
-// Collects until all workers that were started have finished and the links are empty, and writes the text meanwhile. Gives the number of bytes.
-fn tell_all<T: Terms, S: Sink, R: Wait>(
+// Collects until all workers that were started have finished and the links are empty, and writes the text now and then.
+fn tell_meanwhile<T: Terms, S: Sink, R: Wait>(
     rt: &R,
     lookout: &mut Lookout<T>,
     started: usize,
     collected: &mut Collected<T>,
-    mut teller: Teller<'_, T>,
+    teller: &mut Teller<'_, T>,
     sink: &mut S,
-) -> Result<u64, RunFault>
+) -> Result<(), RunFault>
     requires room { S.failures sink.old < 2 ^ 64 - 1 }
-    requires begin { teller ≡ None }
-    ensures given { IfOk result (λ given. IsGiven T.design (S.taken sink.old) (S.taken sink.new) (S.failures sink.old) (S.failures sink.new) (least collected.new) given) }
+    requires begin { teller.old ≡ None }
+    ensures within { OnOk result (IsWithin T.design teller.new) }
+    ensures text { OnOk result (Appends (S.taken sink.old) (S.taken sink.new) (told T.design teller.new)) }
+    ensures no_failure { OnOk result (S.failures sink.new ≡ S.failures sink.old) }
     ensures fault { IfErr result (IsCutAt T.design (S.taken sink.old) (S.taken sink.new) (S.failures sink.old) (S.failures sink.new)) }
 {
     let mut fresh = 0;
@@ -49,8 +51,7 @@ fn tell_all<T: Terms, S: Sink, R: Wait>(
         let over = lookout.finished() as usize >= started;
         let found = take_round(rt, lookout, collected)?;
         if !found && over {
-            teller.tell(collected, sink)?;
-            return Ok(teller.given());
+            return Ok(());
         }
         if found {
             fresh += 1;
@@ -64,6 +65,25 @@ fn tell_all<T: Terms, S: Sink, R: Wait>(
         }
     }
     unreachable!()
+}
+
+// Collects until the workers' end, and writes the text of all that was collected. Gives the number of bytes.
+fn tell_all<T: Terms, S: Sink, R: Wait>(
+    rt: &R,
+    lookout: &mut Lookout<T>,
+    started: usize,
+    collected: &mut Collected<T>,
+    teller: &mut Teller<'_, T>,
+    sink: &mut S,
+) -> Result<u64, RunFault>
+    requires room { S.failures sink.old < 2 ^ 64 - 1 }
+    requires begin { teller.old ≡ None }
+    ensures given { IfOk result (λ given. IsGiven T.design (S.taken sink.old) (S.taken sink.new) (S.failures sink.old) (S.failures sink.new) (least collected.new) given) }
+    ensures fault { IfErr result (IsCutAt T.design (S.taken sink.old) (S.taken sink.new) (S.failures sink.old) (S.failures sink.new)) }
+{
+    tell_meanwhile(rt, lookout, started, collected, teller, sink)?;
+    teller.tell(collected, sink)?;
+    Ok(teller.given())
 }
 
 // Why a text isn't whole: a failed write comes before all else, and want of memory before the rest.
@@ -83,6 +103,25 @@ fn take_back<T>(back: &mut T)
     ensures { back.new ≡ back.old }
 {}
 
+// Tells all of a newly begun text, as `tell_all` does.
+fn tell_new<T: Terms, S: Sink, R: Wait>(
+    rt: &R,
+    alloc: Global,
+    design: &Design,
+    lookout: &mut Lookout<T>,
+    started: usize,
+    collected: &mut Collected<T>,
+    sink: &mut S,
+) -> Result<u64, RunFault>
+    requires room { S.failures sink.old < 2 ^ 64 - 1 }
+    requires design { design.now ≡ T.design }
+    ensures given { IfOk result (λ given. IsGiven T.design (S.taken sink.old) (S.taken sink.new) (S.failures sink.old) (S.failures sink.new) (least collected.new) given) }
+    ensures fault { IfErr result (IsCutAt T.design (S.taken sink.old) (S.taken sink.new) (S.failures sink.old) (S.failures sink.new)) }
+{
+    let mut teller = Teller::<T>::open(alloc, design)?;
+    tell_all(rt, lookout, started, collected, &mut teller, sink)
+}
+
 // Runs each worker in a thread of the scope, and tells in this one. Gives the number of bytes.
 fn tell_in<
     's,
@@ -95,14 +134,14 @@ fn tell_in<
     rt: &'s R,
     alloc: Global,
     scope: &Scope<'s, E>,
+    design: &Design,
     crew: Crew<T>,
     gate: &'s G,
     collected: &mut Collected<T>,
-    teller: Teller<'_, T>,
     sink: &mut S,
 ) -> Result<u64, RunFault>
     requires room { S.failures sink.old < 2 ^ 64 - 1 }
-    requires begin { teller ≡ None }
+    requires design { design.now ≡ T.design }
     ensures given { IfOk result (λ given. IsGiven T.design (S.taken sink.old) (S.taken sink.new) (S.failures sink.old) (S.failures sink.new) (least collected.new) given) }
     ensures fault { IfErr result (IsCutAt T.design (S.taken sink.old) (S.taken sink.new) (S.failures sink.old) (S.failures sink.new)) }
 {
@@ -110,8 +149,16 @@ fn tell_in<
         workers,
         mut lookout,
     } = crew;
-    let started = start(rt, alloc, scope, workers, gate, &mut lookout)?;
-    let given = tell_all(rt, &mut lookout, started.count(), collected, teller, sink);
+    let started = start(rt, alloc, scope, workers, gate, &mut lookout);
+    let given = tell_new(
+        rt,
+        alloc,
+        design,
+        &mut lookout,
+        started.count(),
+        collected,
+        sink,
+    );
     if given.is_err() {
         lookout.raise();
     }
@@ -123,14 +170,14 @@ fn tell_in<
 fn tell_crew<T: Terms + Send + Sync, G: Turnstile + Sync, S: Sink, R: Threads + Wait + Sync>(
     rt: &R,
     alloc: Global,
+    design: &Design,
     crew: Crew<T>,
     mut collected: Collected<T>,
-    teller: Teller<'_, T>,
     gate: &G,
     sink: &mut S,
 ) -> (Collected<T>, Result<u64, RunFault>)
     requires room { S.failures sink.old < 2 ^ 64 - 1 }
-    requires begin { teller ≡ None }
+    requires design { design.now ≡ T.design }
     ensures given { IfOk result.1 (λ given. IsGiven T.design (S.taken sink.old) (S.taken sink.new) (S.failures sink.old) (S.failures sink.new) (least result.0) given) }
     ensures fault { IfErr result.1 (IsCutAt T.design (S.taken sink.old) (S.taken sink.new) (S.failures sink.old) (S.failures sink.new)) }
 {
@@ -139,17 +186,28 @@ fn tell_crew<T: Terms + Send + Sync, G: Turnstile + Sync, S: Sink, R: Threads + 
         rt,
         move |scope| -> (&mut S, Collected<T>, Result<u64, RunFault>)
             requires room { S.failures sink.now < 2 ^ 64 - 1 }
-            requires begin { teller ≡ None }
+            requires design { design.now ≡ T.design }
             ensures name { result.0.ghost_name ≡ sink.entry.ghost_name }
             ensures given { IfOk result.2 (λ given. IsGiven T.design (S.taken sink.entry.now) (S.taken result.0.now) (S.failures sink.entry.now) (S.failures result.0.now) (least result.1) given) }
             ensures fault { IfErr result.2 (IsCutAt T.design (S.taken sink.entry.now) (S.taken result.0.now) (S.failures sink.entry.now) (S.failures result.0.now)) }
         {
-            let given = tell_in(rt, alloc, scope, crew, gate, &mut collected, teller, sink);
+            let given = tell_in(rt, alloc, scope, design, crew, gate, &mut collected, sink);
             (sink, collected, given)
         },
     );
     take_back(back);
     (collected, given)
+}
+
+// The number of bytes, where the text was given up to the end of a run that wasn't stopped.
+fn whole(given: Result<u64, RunFault>, collector: Collector) -> Result<u64, RunFault>
+    ensures ok { IfOk result (λ now. given ≡ Ok now) }
+    ensures complete { OnOk result (IsComplete collector) }
+    ensures fault { IfErr result (IsUnfinished given collector) }
+{
+    let given = given?;
+    ended(collector)?;
+    Ok(given)
 }
 
 // The run of the design and the clustering that T names.
@@ -173,11 +231,8 @@ fn run_named<T: Terms + Send + Sync, G: Turnstile + Sync, S: Sink, R: Threads + 
 {
     let crew = Crew::<T>::open(alloc, design, clustering, workers)?;
     let collected = Collected::<T>::open(alloc, design)?;
-    let teller = Teller::<T>::open(alloc, design)?;
-    let (collected, told) = tell_crew(rt, alloc, crew, collected, teller, gate, sink);
-    let given = told?;
-    ended(collected.into_collector())?;
-    Ok(given)
+    let (collected, given) = tell_crew(rt, alloc, design, crew, collected, gate, sink);
+    whole(given, collected.into_collector())
 }
 
 /// Simulates a design as `run_free` does, and writes its text while the workers run. Gives the text's

@@ -4,7 +4,7 @@ use crate::free::crew::Lookout;
 use crate::free::turnstile::Turnstile;
 use crate::free::worker::Worker;
 use crate::terms::Terms;
-use std::alloc::{AllocError, Global};
+use std::alloc::Global;
 use std::sync::Wait;
 use std::thread::{JoinHandle, Scope, Threads};
 
@@ -19,6 +19,20 @@ impl Started {
     /// How many threads were started.
     pub fn count(&self) -> usize {
         self.threads.len()
+    }
+
+    // Runs a worker in a thread of its own, and says whether it could.
+    fn add<'s, E, T: Terms + Send + Sync + 's, G: Turnstile + Sync, R: Threads + Wait + Sync>(
+        &mut self,
+        rt: &'s R,
+        scope: &Scope<'s, E>,
+        worker: Worker<T>,
+        gate: &'s G,
+    ) -> bool {
+        match scope.spawn(move || worker.run(rt, gate)) {
+            Ok(thread) => self.threads.push(thread).is_ok(),
+            Err(_unstarted) => false,
+        }
     }
 
     /// Waits for the threads' ends. Says whether memory or a thread was refused, here or in one of them.
@@ -39,18 +53,16 @@ pub fn start<'s, E, T: Terms + Send + Sync + 's, G: Turnstile + Sync, R: Threads
     workers: Vec<Worker<T>>,
     gate: &'s G,
     lookout: &mut Lookout<T>,
-) -> Result<Started, AllocError> {
-    let mut threads = Vec::with_capacity(alloc, workers.len())?;
-    let mut refused = false;
+) -> Started {
+    let mut started = Started {
+        threads: Vec::new(alloc),
+        refused: false,
+    };
     for worker in workers {
-        let started = match scope.spawn(move || worker.run(rt, gate)) {
-            Ok(thread) => threads.push(thread).is_ok(),
-            Err(_unstarted) => false,
-        };
-        if !started {
-            refused = true;
+        if !started.add(rt, scope, worker, gate) {
+            started.refused = true;
             lookout.raise();
         }
     }
-    Ok(Started { threads, refused })
+    started
 }

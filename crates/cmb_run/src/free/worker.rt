@@ -3,12 +3,13 @@
 ghost use Rattle.std.specs.Prelude.{◌≡◌};
 
 use crate::free::desk::{Desk, Own};
-use crate::free::ends::{PutEnd, TakeEnd};
+use crate::free::ends::{PutEnd, TakeEnd, open_link};
 use crate::free::turnstile::Turnstile;
 use crate::outlet::Outlet;
 use crate::part::{Part, Posted};
 use crate::terms::Terms;
 use cmb_core::Clustering;
+use cmb_design::Design;
 use cmb_wave::Heard;
 use std::alloc::{AllocError, Global};
 use std::sync::Wait;
@@ -65,22 +66,16 @@ struct Out<T: Terms> {
 }
 
 impl<T: Terms> Out<T> {
-    // The link for these nets, of which nothing was put.
-    fn open(
-        alloc: Global,
-        end: PutEnd<T>,
-        nets: &[u32],
-        takes_empty: bool,
-    ) -> Result<Out<T>, AllocError> {
-        let outlets = outlets_of(alloc, nets)?;
-        Ok(Out {
+    // The link by which these nets go.
+    fn new(end: PutEnd<T>, outlets: Vec<Outlet>, takes_empty: bool) -> Out<T> {
+        Out {
             end,
             outlets,
             waiting: None,
             next: 0,
             takes_empty,
             is_left: false,
-        })
+        }
     }
 
     // Puts a piece, or keeps it where the link is full. Says whether it was put.
@@ -164,22 +159,15 @@ pub struct Worker<T: Terms> {
 }
 
 impl<T: Terms> Worker<T> {
-    /// A worker with its cluster and its link to the collector, which isn't linked to others yet.
-    pub fn open(
-        alloc: Global,
-        desk: Desk<T>,
-        part: Part<T>,
-        collector: PutEnd<T>,
-    ) -> Result<Worker<T>, AllocError> {
+    /// A worker with its cluster, which isn't linked to the collector and to others yet.
+    pub fn open(alloc: Global, desk: Desk<T>, part: Part<T>) -> Result<Worker<T>, AllocError> {
         let inlets = inlets_of(alloc, part.inputs())?;
-        let mut outs = Vec::new(alloc);
-        outs.push(Out::open(alloc, collector, part.driven(), true)?)?;
         Ok(Worker {
             desk,
             part,
             inlets,
             ins: Vec::new(alloc),
-            outs,
+            outs: Vec::new(alloc),
             own: Vec::new(alloc),
             is_new: true,
             is_complete: false,
@@ -191,15 +179,44 @@ impl<T: Terms> Worker<T> {
         self.part.inputs()
     }
 
-    /// Adds a link by which another worker is sent these nets.
+    // Adds a link by which these nets go, and gives the end that takes.
+    fn add_link(
+        &mut self,
+        alloc: Global,
+        design: &Design,
+        outlets: Vec<Outlet>,
+        takes_empty: bool,
+    ) -> Result<TakeEnd<T>, AllocError>
+        requires { design.now ≡ T.design }
+    {
+        let (put, take) = open_link(alloc, design)?;
+        self.outs.push(Out::new(put, outlets, takes_empty))?;
+        Ok(take)
+    }
+
+    /// Adds a link by which another worker is sent these nets, and gives that worker's end.
     pub fn add_out(
         &mut self,
         alloc: Global,
-        end: PutEnd<T>,
+        design: &Design,
         nets: &[u32],
-    ) -> Result<(), AllocError> {
-        self.outs.push(Out::open(alloc, end, nets, false)?)?;
-        Ok(())
+    ) -> Result<TakeEnd<T>, AllocError>
+        requires { design.now ≡ T.design }
+    {
+        let outlets = outlets_of(alloc, nets)?;
+        self.add_link(alloc, design, outlets, false)
+    }
+
+    /// Adds the link by which the collector is sent all nets of the worker, and gives the collector's end.
+    pub fn add_collector(
+        &mut self,
+        alloc: Global,
+        design: &Design,
+    ) -> Result<TakeEnd<T>, AllocError>
+        requires { design.now ≡ T.design }
+    {
+        let outlets = outlets_of(alloc, self.part.driven())?;
+        self.add_link(alloc, design, outlets, true)
     }
 
     /// Adds a link by which the worker is sent nets.

@@ -1,7 +1,9 @@
-use Rattle.std.proofs.Common.{refl, rules, subst}
+use Rattle.std.proofs.Common.{refl}
 use Rattle.std.proofs.lemmas.Result.{err_from_is_err_and}
-use Rattle.cmb_vcd.specs.Collector.{Collector, IsComplete, least}
-use Rattle.cmb_run.proofs.TextRuns.{HasBegun-none, IsCutAt-stopped, given-whole}
+use Rattle.std.specs.Prelude.{IfOk}
+use Rattle.cmb_vcd.specs.Collector.{least}
+use Rattle.cmb_run.specs.Tellers.{IsGiven}
+use Rattle.cmb_run.proofs.TextRuns.{HasBegun-none, IsCutAt-whole, no_failure-whole, text-whole}
 use Rattle.cmb_run.proofs.free.text_run.run_named.Goals as goal
 
 pub returns-in_err-collected-clause-fault : goal.returns-in_err-collected-clause-fault
@@ -9,18 +11,13 @@ returns-in_err-collected-clause-fault g c =
     let p = err_from_is_err_and c.from_residual-in_err-collected.result c.from_residual-in_err-collected.ensures.1 in
     rw (p.1, p.2) (HasBegun-none c.args.design.now (g.S.Sink.taken c.args.sink.now), refl)
 
-pub returns-in_err-teller-clause-fault : goal.returns-in_err-teller-clause-fault
-returns-in_err-teller-clause-fault g c =
-    let p = err_from_is_err_and c.from_residual-in_err-teller.result c.from_residual-in_err-teller.ensures.1 in
-    rw (p.1, p.2) (HasBegun-none c.args.design.now (g.S.Sink.taken c.args.sink.now), refl)
-
-pub returns-in_err-ended-clause-fault : goal.returns-in_err-ended-clause-fault
-returns-in_err-ended-clause-fault g c =
-    let p = err_from_is_err_and c.from_residual-in_err-ended.result c.from_residual-in_err-ended.ensures.1 in
-    rw (p.1, p.2, c.requires.design) (IsCutAt-stopped g.T.Terms.design _ _ _ _ (least c.into_collector.result) c.in_ok-given.given c.into_collector.result c.in_err-ended.field-0.0
-    c.into_collector.ensures.exact (search rules) c.in_err-ended.ensures.fault)
-
-pub returns-clause-whole : goal.returns-clause-whole
-returns-clause-whole g c =
-    let complete : IsComplete c.into_collector.result = subst (λ (k : Collector). IsComplete k) c.in_ok-ended.ensures.same c.in_ok-ended.ensures.complete in
-    rw c.requires.design (given-whole g.T.Terms.design _ _ (g.S.Sink.failures c.args.sink.now) (g.S.Sink.failures c.tell_crew-collected.new.sink) c.in_ok-given.given c.into_collector.result c.into_collector.ensures.exact complete (search rules))
+pub returns : goal.returns
+returns g c =
+    let told = c.tell_crew-collected in
+    let collector = c.into_collector.result in
+    let given : IfOk told.result.1 (λ n. IsGiven g.T.Terms.design (g.S.Sink.taken c.args.sink.now) (g.S.Sink.taken told.new.sink) (g.S.Sink.failures c.args.sink.now) (g.S.Sink.failures told.new.sink) (least collector) n) = rw c.into_collector.ensures.collector told.ensures.given in
+    rw c.requires.design (record {
+      whole = text-whole g.T.Terms.design _ _ _ _ told.result.1 c.whole.result collector c.into_collector.ensures.exact given c.whole.ensures.ok c.whole.ensures.complete;
+      no_failure = no_failure-whole g.T.Terms.design _ _ _ _ _ told.result.1 c.whole.result given c.whole.ensures.ok;
+      fault = IsCutAt-whole g.T.Terms.design _ _ _ _ told.result.1 c.whole.result collector c.into_collector.ensures.exact given told.ensures.fault c.whole.ensures.fault;
+    })
