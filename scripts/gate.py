@@ -133,12 +133,14 @@ def main():
     proved, unproved = run(["rt", "ci"], counts)
     between = time.monotonic()
     ran, wrong = run(["scripts/end_to_end.sh"], {})
+    untrue = subprocess.run(["scripts/believed.py", "--check"], cwd=TOP).returncode
     meter.stopped.set()
     counts["end to end"] = ran
     show(meter, counts, [("rt ci", between - began), ("end to end", time.monotonic() - between)])
     print(f"end to end: {ran} passed")
-    print(f"{proved + ran} passed, {unproved + wrong} failed")
-    return 1 if unproved or wrong else 0
+    failed = unproved + wrong + bool(untrue)
+    print(f"{proved + ran + (not untrue)} passed, {failed} failed")
+    return 1 if failed else 0
 
 
 if __name__ == "__main__":
