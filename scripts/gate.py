@@ -1,7 +1,7 @@
 #!/usr/bin/env python3
 """gate.py: the gate. It runs `rt ci` (every proof from nothing, the must-fail edits, the tests, the programs) and
-then the program on whole files, and says at the end what each part came to and what it took. The last line is
-'N passed, M failed' over both; the status is 0 where nothing failed.
+then the program on whole files, sees that docs/MODEL.md lists what has to be believed, and says at the end what each
+part came to and what it took. The last line is 'N passed, M failed' over all; the status is 0 where nothing failed.
 
 Processor seconds are read from /proc once a second, of each of the toolchain's processes by its own command line,
 so a process that ends between two readings lacks what it did after the last one."""
