@@ -4,6 +4,7 @@ pub mod CellFacts
 pub mod MarkFacts
 pub mod RowFacts
 pub mod SampleFacts
+pub mod SweepFacts
 pub mod TableFacts
 pub mod TruthFacts
 pub mod VisitFacts

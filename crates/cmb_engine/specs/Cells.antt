@@ -57,6 +57,19 @@ pub record IsReady (words truth : ℕ → ℕ → Level) (cells : ℕ → Cell) 
   pub true_settled : (net : ℕ) → IsTrue (is_made (cells net)) → IsSettled truth to first net (cells net)
   pub readable : (net place : ℕ) → IsTrue (is_made (cells net)) → first ≤ place → place < 64 → EachSeen (IsReadable words truth cells place) to (cells net) place
 
+-- each made net that isn't marked is settled
+abbrev pub AreSettled : (ℕ → ℕ → Level) → (ℕ → Bool) → (ℕ → Cell) → ℕ → ℕ → Type 0
+AreSettled words marked cells to first =
+    (net : ℕ) → is_made (cells net) ≡ true → marked net ≡ false → IsSettled words to first net (cells net)
+
+-- the cell of a number: what is told where there is no such net
+abbrev pub cell_at : List Cell → ℕ → Cell
+cell_at cells net = slice_index_or cells net Told
+
+-- the told words stay
+abbrev pub KeepsTold : (ℕ → ℕ → Level) → (ℕ → ℕ → Level) → (ℕ → Cell) → Type 0
+KeepsTold old new cells = (net place : ℕ) → is_made (cells net) ≡ false → new net place ≡ old net place
+
 -- the made words are true below a place
 abbrev pub IsTrueBelow : (ℕ → ℕ → Level) → (ℕ → ℕ → Level) → (ℕ → Cell) → ℕ → Type 0
 IsTrueBelow words truth cells upto = (net place : ℕ) → IsTrue (is_made (cells net)) → place < upto → words net place ≡ truth net place

@@ -1,11 +1,11 @@
 //! The cells of a design's nets, in two lists.
 
-ghost use Rattle.std.specs.Prelude.{◌≡◌, ℕ, ◌+◌, ◌<◌, ◌≤◌, ◌++◌, ◌∷◌, [], IfOk, OnOk, length, map, take, slice_index_or};
+ghost use Rattle.std.specs.Prelude.{◌≡◌, ℕ, ◌+◌, ◌<◌, ◌≤◌, ◌++◌, ◌∷◌, [], false, IfOk, OnOk, length, map, take, slice_index_or};
 ghost use Rattle.cmb_bench.specs.Netlist.{driver_of, pins_of};
 ghost use Rattle.cmb_bench.specs.declared.netlist.Driver.TheVariants as driver;
 ghost use Rattle.cmb_design.specs.Exact.{nets_of};
 ghost use Rattle.cmb_words.specs.Word.{level_at_place};
-ghost use Rattle.cmb_engine.specs.Cells.{Told, Gate, Flop, IsMade, IsLawful};
+ghost use Rattle.cmb_engine.specs.Cells.{Told, Gate, Flop, is_made, IsMade, IsLawful};
 ghost use Rattle.cmb_engine.specs.Plans.{cell_in, cells_in, pins_from};
 ghost use Rattle.cmb_engine.specs.Words.{levels_of};
 
@@ -176,6 +176,7 @@ impl Cells {
         requires inside { 64 ≤ to + first }
         ensures below { (place : ℕ) → place < first → level_at_place result place ≡ levels_of words.now net place }
         ensures made { IsMade (levels_of words.now) (level_at_place result) to first (slice_index_or self.now net Told) }
+        ensures told { is_made (slice_index_or self.now net Told) ≡ false → (place : ℕ) → level_at_place result place ≡ levels_of words.now net place }
     {
         let own = words[net];
         match self.rules[net] {
