@@ -2,6 +2,7 @@ pub mod ArrivalFacts
 pub mod BitFacts
 pub mod CellFacts
 pub mod MarkFacts
+pub mod ReaderFacts
 pub mod RowFacts
 pub mod SampleFacts
 pub mod SweepFacts

@@ -104,3 +104,12 @@ reads cell net = list_any (λ pin. pin.net == net) (pins_of cell)
 abbrev pub AreReaders : List Cell → ℕ → List ℕ → Type 0
 AreReaders cells net readers =
     (m : ℕ) → IsTrue (reads (slice_index_or cells m Told) net) → (k : ℕ) × (k < length readers) × (slice_index readers k ≡ m)
+
+-- a number stands in one of the lists
+abbrev pub IsListed : List (List ℕ) → ℕ → ℕ → Type 0
+IsListed lists place number =
+    (k : ℕ) × (k < length (slice_index_or lists place [])) × (slice_index (slice_index_or lists place []) k ≡ number)
+
+-- all numbers in the lists are below a bound
+abbrev pub AreBelow : ℕ → List (List ℕ) → Type 0
+AreBelow bound lists = (place : ℕ) → All (λ number. number < bound) (slice_index_or lists place [])

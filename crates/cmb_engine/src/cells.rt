@@ -1,15 +1,16 @@
 //! The cells of a design's nets, in two lists.
 
-ghost use Rattle.std.specs.Prelude.{◌≡◌, ℕ, ◌+◌, ◌<◌, ◌≤◌, ◌++◌, ◌∷◌, [], false, IfOk, OnOk, length, map, take, slice_index_or};
+ghost use Rattle.std.specs.Prelude.{◌≡◌, ℕ, ◌+◌, ◌<◌, ◌≤◌, ◌++◌, ◌∷◌, [], true, false, All, IfOk, OnOk, length, map, take, slice_index_or};
 ghost use Rattle.cmb_bench.specs.Netlist.{driver_of, pins_of};
 ghost use Rattle.cmb_bench.specs.declared.netlist.Driver.TheVariants as driver;
 ghost use Rattle.cmb_design.specs.Exact.{nets_of};
 ghost use Rattle.cmb_words.specs.Word.{level_at_place};
-ghost use Rattle.cmb_engine.specs.Cells.{Told, Gate, Flop, is_made, IsMade, IsLawful};
+ghost use Rattle.cmb_engine.specs.Cells.{Told, Gate, Flop, is_made, pins_of as pins_of_cell, reads, AreBelow, IsListed, IsMade, IsLawful};
 ghost use Rattle.cmb_engine.specs.Plans.{cell_in, cells_in, pins_from};
 ghost use Rattle.cmb_engine.specs.Words.{levels_of};
 
 use crate::cell::Pin;
+use crate::readers::push_pins;
 use crate::visit::{flop_word, gate_word};
 use cmb_bench::{Driver, Kind};
 use cmb_design::{Clock, Design};
@@ -163,6 +164,37 @@ impl Cells {
             cells.push_net(design, net, &mut pins)?;
         }
         Ok(cells)
+    }
+
+    /// How many nets there are.
+    pub(crate) fn len(&self) -> usize
+        ensures { result ≡ length self.now }
+    {
+        self.rules.len()
+    }
+
+    /// Puts a net into the lists of the nets that its cell reads.
+    pub(crate) fn list_net(
+        &self,
+        net: usize,
+        readers: &mut [Vec<u32>],
+    ) -> Result<(), AllocError>
+        requires net { net < length self.now }
+        requires small { net < 65536 }
+        requires pins { All (λ pin. pin.net < length readers.old) (pins_of_cell (slice_index_or self.now net Told)) }
+        ensures len { length readers.new ≡ length readers.old }
+        ensures within { OnOk result (AreBelow (length self.now) (map (λ list. list.items) readers.old) → AreBelow (length self.now) (map (λ list. list.items) readers.new)) }
+        ensures kept { OnOk result ((place number : ℕ) → IsListed (map (λ list. list.items) readers.old) place number → IsListed (map (λ list. list.items) readers.new) place number) }
+        ensures listed { OnOk result ((place : ℕ) → reads (slice_index_or self.now net Told) place ≡ true → IsListed (map (λ list. list.items) readers.new) place net) }
+    {
+        match self.rules[net] {
+            Rule::Told => Ok(()),
+            Rule::Gate(_, part) => {
+                let begin = part.first as usize;
+                push_pins(readers, &self.pins[begin..begin + part.count as usize], net as u32)
+            }
+            Rule::Flop(_, pin) => push_pins(readers, &[pin], net as u32),
+        }
     }
 
     /// What the cell of a net makes of the words from a place on, with what stands below it.
