@@ -22,26 +22,26 @@ seen-same f g place [] same = refl
 seen-same f g place (pin ∷ pins) same = ap₂ (λ level levels. level ∷ levels) same.0 (seen-same f g place pins same.1)
 
 -- a cell makes the same of words that agree where it looks
-pub cell_level-same : (f g : ℕ → ℕ → Level) (to net place : ℕ) (cell : Cell) → is_made cell ≡ true
-    → EachSeen (λ pin. seen f place pin ≡ seen g place pin) to cell place → f net (place - 1) ≡ g net (place - 1)
-    → cell_level f (f net) to cell place ≡ cell_level g (g net) to cell place
-cell_level-same f g to net place Told made same own = absurd (false≢true made)
-cell_level-same f g to net place (Gate kind pins) made same own = ap (gate kind) (seen-same f g place pins same)
-cell_level-same f g to net place (Flop clock pin) made same own = go (cases_Bool (arrives_by clock pin.delay (to + place - 64)))
+pub cell_level-same : (f g : ℕ → ℕ → Level) (own other : ℕ → Level) (to place : ℕ) (cell : Cell) → is_made cell ≡ true
+    → EachSeen (λ pin. seen f place pin ≡ seen g place pin) to cell place → own (place - 1) ≡ other (place - 1)
+    → cell_level f own to cell place ≡ cell_level g other to cell place
+cell_level-same f g own other to place Told made same past = absurd (false≢true made)
+cell_level-same f g own other to place (Gate kind pins) made same past = ap (gate kind) (seen-same f g place pins same)
+cell_level-same f g own other to place (Flop clock pin) made same past = go (cases_Bool (arrives_by clock pin.delay (to + place - 64)))
   where
     go : (arrives_by clock pin.delay (to + place - 64) ≡ true) ⊎ (arrives_by clock pin.delay (to + place - 64) ≡ false)
-        → cell_level f (f net) to (Flop clock pin) place ≡ cell_level g (g net) to (Flop clock pin) place
+        → cell_level f own to (Flop clock pin) place ≡ cell_level g other to (Flop clock pin) place
     go (inl a) = rw a (same a)
-    go (inr a) = rw a own
+    go (inr a) = rw a past
 
 module _ (words truth : ℕ → ℕ → Level) (cells : ℕ → Cell) (to first : ℕ) (ready : IsReady words truth cells to first) where
   -- what a cell makes in a place is true, where the made words are true below it
-  pub made-true : (net place : ℕ) → is_made (cells net) ≡ true → first ≤ place → place < 64 → IsTrueBelow words truth cells place
-      → cell_level words (words net) to (cells net) place ≡ truth net place
-  made-true net place made from small below =
-      cell_level-same words truth to net place (cells net) made
+  pub made-true : (own : ℕ → Level) (net place : ℕ) → is_made (cells net) ≡ true → first ≤ place → place < 64 → IsTrueBelow words truth cells place
+      → own (place - 1) ≡ truth net (place - 1) → cell_level words own to (cells net) place ≡ truth net place
+  made-true own net place made from small below past =
+      cell_level-same words truth own (truth net) to place (cells net) made
       (each-weaker _ _ to (cells net) place (λ pin h. agrees pin h (cases_Bool (is_made (cells pin.net)))) (ready.readable net place made from small))
-      (below net (place - 1) made (omega (arith, ready.later)))
+      past
       ∙ sym (ready.true_settled net made place from small)
     where
       agrees : (pin : Pin) → IsReadable words truth cells place pin → (is_made (cells pin.net) ≡ true) ⊎ (is_made (cells pin.net) ≡ false)
@@ -53,7 +53,8 @@ module _ (words truth : ℕ → ℕ → Level) (cells : ℕ → Cell) (to first 
   settled-true-at : (net place : ℕ) → is_made (cells net) ≡ true → IsSettled words to first net (cells net) → place < 64 → IsTrueBelow words truth cells first
       → IsTrueBelow words truth cells place → (place < first) ⊎ (first ≤ place) → words net place ≡ truth net place
   settled-true-at net place made settled small past below (inl k) = past net place made k
-  settled-true-at net place made settled small past below (inr k) = settled place k small ∙ made-true net place made k small below
+  settled-true-at net place made settled small past below (inr k) =
+      settled place k small ∙ made-true (words net) net place made k small below (below net (place - 1) made (omega (arith, ready.later)))
 
   settled-true-below : (upto : ℕ) → upto ≤ 64 → IsTrueBelow words truth cells first → ((net : ℕ) → is_made (cells net) ≡ true → IsSettled words to first net (cells net))
       → IsTrueBelow words truth cells upto
@@ -75,7 +76,7 @@ pub settled-stays : (f g : ℕ → ℕ → Level) (to first net : ℕ) (cell : C
     → ((place : ℕ) → place < 64 → EachSeen (λ pin. seen f place pin ≡ seen g place pin) to cell place) → ((place : ℕ) → place < 64 → f net place ≡ g net place)
     → IsSettled f to first net cell → IsSettled g to first net cell
 settled-stays f g to first net cell made begun reads own settled place from small =
-    sym (own place small) ∙ settled place from small ∙ cell_level-same f g to net place cell made (reads place small) (own (place - 1) (omega arith))
+    sym (own place small) ∙ settled place from small ∙ cell_level-same f g (f net) (g net) to place cell made (reads place small) (own (place - 1) (omega arith))
 
 -- a net whose word was made is settled where its cell doesn't read it
 pub settled-made : (f g : ℕ → ℕ → Level) (to first net : ℕ) (cell : Cell) → is_made cell ≡ true → ((place : ℕ) → place < 64 → EachSeen (λ pin. seen f place pin ≡ seen g place pin) to cell place)

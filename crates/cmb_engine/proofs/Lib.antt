@@ -2,8 +2,10 @@ pub mod ArrivalFacts
 pub mod BitFacts
 pub mod CellFacts
 pub mod MarkFacts
+pub mod ReaderFacts
 pub mod RowFacts
 pub mod SampleFacts
+pub mod SweepFacts
 pub mod TableFacts
 pub mod TruthFacts
 pub mod VisitFacts

@@ -57,6 +57,19 @@ pub record IsReady (words truth : ℕ → ℕ → Level) (cells : ℕ → Cell) 
   pub true_settled : (net : ℕ) → IsTrue (is_made (cells net)) → IsSettled truth to first net (cells net)
   pub readable : (net place : ℕ) → IsTrue (is_made (cells net)) → first ≤ place → place < 64 → EachSeen (IsReadable words truth cells place) to (cells net) place
 
+-- each made net that isn't marked is settled
+abbrev pub AreSettled : (ℕ → ℕ → Level) → (ℕ → Bool) → (ℕ → Cell) → ℕ → ℕ → Type 0
+AreSettled words marked cells to first =
+    (net : ℕ) → is_made (cells net) ≡ true → marked net ≡ false → IsSettled words to first net (cells net)
+
+-- the cell of a number: what is told where there is no such net
+abbrev pub cell_at : List Cell → ℕ → Cell
+cell_at cells net = slice_index_or cells net Told
+
+-- the told words stay
+abbrev pub KeepsTold : (ℕ → ℕ → Level) → (ℕ → ℕ → Level) → (ℕ → Cell) → Type 0
+KeepsTold old new cells = (net place : ℕ) → is_made (cells net) ≡ false → new net place ≡ old net place
+
 -- the made words are true below a place
 abbrev pub IsTrueBelow : (ℕ → ℕ → Level) → (ℕ → ℕ → Level) → (ℕ → Cell) → ℕ → Type 0
 IsTrueBelow words truth cells upto = (net place : ℕ) → IsTrue (is_made (cells net)) → place < upto → words net place ≡ truth net place
@@ -91,3 +104,12 @@ reads cell net = list_any (λ pin. pin.net == net) (pins_of cell)
 abbrev pub AreReaders : List Cell → ℕ → List ℕ → Type 0
 AreReaders cells net readers =
     (m : ℕ) → IsTrue (reads (slice_index_or cells m Told) net) → (k : ℕ) × (k < length readers) × (slice_index readers k ≡ m)
+
+-- a number stands in one of the lists
+abbrev pub IsListed : List (List ℕ) → ℕ → ℕ → Type 0
+IsListed lists place number =
+    (k : ℕ) × (k < length (slice_index_or lists place [])) × (slice_index (slice_index_or lists place []) k ≡ number)
+
+-- all numbers in the lists are below a bound
+abbrev pub AreBelow : ℕ → List (List ℕ) → Type 0
+AreBelow bound lists = (place : ℕ) → All (λ number. number < bound) (slice_index_or lists place [])

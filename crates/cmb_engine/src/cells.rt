@@ -1,15 +1,16 @@
 //! The cells of a design's nets, in two lists.
 
-ghost use Rattle.std.specs.Prelude.{◌≡◌, ℕ, ◌+◌, ◌<◌, ◌≤◌, ◌++◌, ◌∷◌, [], IfOk, OnOk, length, map, take, slice_index_or};
+ghost use Rattle.std.specs.Prelude.{◌≡◌, ℕ, ◌+◌, ◌<◌, ◌≤◌, ◌++◌, ◌∷◌, [], true, false, All, IfOk, OnOk, length, map, take, slice_index_or};
 ghost use Rattle.cmb_bench.specs.Netlist.{driver_of, pins_of};
 ghost use Rattle.cmb_bench.specs.declared.netlist.Driver.TheVariants as driver;
 ghost use Rattle.cmb_design.specs.Exact.{nets_of};
 ghost use Rattle.cmb_words.specs.Word.{level_at_place};
-ghost use Rattle.cmb_engine.specs.Cells.{Told, Gate, Flop, IsMade, IsLawful};
+ghost use Rattle.cmb_engine.specs.Cells.{Told, Gate, Flop, is_made, pins_of as pins_of_cell, reads, AreBelow, IsListed, IsMade, IsLawful};
 ghost use Rattle.cmb_engine.specs.Plans.{cell_in, cells_in, pins_from};
 ghost use Rattle.cmb_engine.specs.Words.{levels_of};
 
 use crate::cell::Pin;
+use crate::readers::push_pins;
 use crate::visit::{flop_word, gate_word};
 use cmb_bench::{Driver, Kind};
 use cmb_design::{Clock, Design};
@@ -165,6 +166,37 @@ impl Cells {
         Ok(cells)
     }
 
+    /// How many nets there are.
+    pub(crate) fn len(&self) -> usize
+        ensures { result ≡ length self.now }
+    {
+        self.rules.len()
+    }
+
+    /// Puts a net into the lists of the nets that its cell reads.
+    pub(crate) fn list_net(
+        &self,
+        net: usize,
+        readers: &mut [Vec<u32>],
+    ) -> Result<(), AllocError>
+        requires net { net < length self.now }
+        requires small { net < 65536 }
+        requires pins { All (λ pin. pin.net < length readers.old) (pins_of_cell (slice_index_or self.now net Told)) }
+        ensures len { length readers.new ≡ length readers.old }
+        ensures within { OnOk result (AreBelow (length self.now) (map (λ list. list.items) readers.old) → AreBelow (length self.now) (map (λ list. list.items) readers.new)) }
+        ensures kept { OnOk result ((place number : ℕ) → IsListed (map (λ list. list.items) readers.old) place number → IsListed (map (λ list. list.items) readers.new) place number) }
+        ensures listed { OnOk result ((place : ℕ) → reads (slice_index_or self.now net Told) place ≡ true → IsListed (map (λ list. list.items) readers.new) place net) }
+    {
+        match self.rules[net] {
+            Rule::Told => Ok(()),
+            Rule::Gate(_, part) => {
+                let begin = part.first as usize;
+                push_pins(readers, &self.pins[begin..begin + part.count as usize], net as u32)
+            }
+            Rule::Flop(_, pin) => push_pins(readers, &[pin], net as u32),
+        }
+    }
+
     /// What the cell of a net makes of the words from a place on, with what stands below it.
     pub(crate) fn word(&self, net: usize, words: &[Word], to: u32, first: u32) -> Word
         requires net { net < length words.now }
@@ -176,6 +208,7 @@ impl Cells {
         requires inside { 64 ≤ to + first }
         ensures below { (place : ℕ) → place < first → level_at_place result place ≡ levels_of words.now net place }
         ensures made { IsMade (levels_of words.now) (level_at_place result) to first (slice_index_or self.now net Told) }
+        ensures told { is_made (slice_index_or self.now net Told) ≡ false → (place : ℕ) → level_at_place result place ≡ levels_of words.now net place }
     {
         let own = words[net];
         match self.rules[net] {

@@ -7,5 +7,6 @@ mod cell;
 mod cells;
 pub mod laws;
 mod marks;
+mod readers;
 mod settle;
 mod visit;

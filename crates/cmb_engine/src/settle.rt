@@ -1,8 +1,9 @@
 //! Visits of nets with news.
 
 ghost use Rattle.std.specs.Prelude.{◌≡◌, ◌≢◌, ℕ, ◌+◌, ◌*◌, ◌<◌, ◌≤◌, true, false, [], All, map, length, slice_index, slice_index_or};
+ghost use Rattle.cmb_wave.specs.declared.level.Level.{Level};
 ghost use Rattle.cmb_engine.specs.Bits.{has};
-ghost use Rattle.cmb_engine.specs.Cells.{Told, IsMade, IsLawful, IsSettled, AreReaders, is_made, reads};
+ghost use Rattle.cmb_engine.specs.Cells.{Told, IsMade, IsLawful, IsReady, IsTrueBelow, AreReaders, AreSettled, KeepsTold, cell_at, is_made, reads};
 ghost use Rattle.cmb_engine.specs.Words.{levels_of};
 
 use crate::cells::Cells;
@@ -46,6 +47,9 @@ pub(crate) fn visit(
     ensures others { (m place : ℕ) → m ≢ net → levels_of words.new m place ≡ levels_of words.old m place }
     ensures past { (place : ℕ) → place < first → levels_of words.new net place ≡ levels_of words.old net place }
     ensures made { IsMade (levels_of words.old) (levels_of words.new net) to first (slice_index_or cells.now net Told) }
+    ensures told { is_made (slice_index_or cells.now net Told) ≡ false → (place : ℕ) → levels_of words.new net place ≡ levels_of words.old net place }
+    ensures same { result ≡ false → (m place : ℕ) → levels_of words.new m place ≡ levels_of words.old m place }
+    ensures differs { ((place : ℕ) → place < 64 → levels_of words.new net place ≡ levels_of words.old net place) → result ≡ false }
     ensures marks { (m : ℕ) → has marks.new m ≡ false → m ≢ net → has marks.old m ≡ false }
 
     // A net that reads this one and isn't marked sees the word that it saw.
@@ -53,10 +57,8 @@ pub(crate) fn visit(
         → levels_of words.new net place ≡ levels_of words.old net place }
 
     // So where every made net that isn't marked was settled, it is.
-    ensures settled { ((m : ℕ) → is_made (slice_index_or cells.now m Told) ≡ true → has marks.old m ≡ false
-        → IsSettled (levels_of words.old) to first m (slice_index_or cells.now m Told))
-        → (m : ℕ) → is_made (slice_index_or cells.now m Told) ≡ true → has marks.new m ≡ false
-        → IsSettled (levels_of words.new) to first m (slice_index_or cells.now m Told) }
+    ensures settled { AreSettled (levels_of words.old) (has marks.old) (cell_at cells.now) to first
+        → AreSettled (levels_of words.new) (has marks.new) (cell_at cells.now) to first }
 {
     marks.remove(net);
     let made = cells.word(net, words, to, first);
@@ -68,12 +70,13 @@ pub(crate) fn visit(
     true
 }
 
-/// Visits the marked nets by rising number, each once.
+/// Visits the marked nets by rising number, each once, and puts those that get another word among the live ones.
 pub(crate) fn sweep(
     cells: &Cells,
     readers: &[Vec<u32>],
     words: &mut [Word],
     marks: &mut Marks,
+    live: &mut Marks,
     to: u32,
     first: u32,
 )
@@ -81,6 +84,7 @@ pub(crate) fn sweep(
     requires nets { length cells.now ≡ length words.old }
     requires lists { length readers.now ≡ length words.old }
     requires room { length words.old ≤ 64 * length marks.old }
+    requires live { length words.old ≤ 64 * length live.old }
     requires readers { (net : ℕ) → net < length words.old → AreReaders cells.now net (slice_index_or (map (λ list. list.items) readers.now) net []) }
     requires within { (net : ℕ) → net < length words.old → All (λ reader. reader < length words.old) (slice_index_or (map (λ list. list.items) readers.now) net []) }
     requires to { to ≤ 1000000 }
@@ -88,17 +92,69 @@ pub(crate) fn sweep(
     requires first { first < 64 }
     requires inside { 64 ≤ to + first }
     ensures room { length marks.new ≡ length marks.old }
-    ensures settled { ((m : ℕ) → is_made (slice_index_or cells.now m Told) ≡ true → has marks.old m ≡ false
-        → IsSettled (levels_of words.old) to first m (slice_index_or cells.now m Told))
-        → (m : ℕ) → is_made (slice_index_or cells.now m Told) ≡ true → has marks.new m ≡ false
-        → IsSettled (levels_of words.new) to first m (slice_index_or cells.now m Told) }
+    ensures live { length live.new ≡ length live.old }
+    ensures told { KeepsTold (levels_of words.old) (levels_of words.new) (cell_at cells.now) }
+    ensures kept { (m : ℕ) → has live.old m ≡ true → has live.new m ≡ true }
+    ensures same { (m place : ℕ) → has live.new m ≡ false → levels_of words.new m place ≡ levels_of words.old m place }
+    ensures settled { AreSettled (levels_of words.old) (has marks.old) (cell_at cells.now) to first
+        → AreSettled (levels_of words.new) (has marks.new) (cell_at cells.now) to first }
+
+    // What the sweep passes becomes true one place further.
+    ensures truer { (truth : ℕ → ℕ → Level) (upto : ℕ) → first ≤ upto → upto < 64
+        → IsReady (levels_of words.old) truth (cell_at cells.now) to first
+        → AreSettled (levels_of words.old) (has marks.old) (cell_at cells.now) to first
+        → IsTrueBelow (levels_of words.old) truth (cell_at cells.now) upto
+        → IsTrueBelow (levels_of words.new) truth (cell_at cells.now) (upto + 1) }
 {
     let mut from = 0;
     'nets: while let Some(net) = marks.next_from(from) {
         if net >= words.len() {
             break;
         }
-        visit(cells, readers[net].as_slice(), words, marks, net, to, first);
+        if visit(cells, readers[net].as_slice(), words, marks, net, to, first) {
+            live.insert(net);
+        }
         from = net + 1;
+    }
+}
+
+/// Sweeps over the marked nets until none is left, or each place from one on was passed. What was true of the made words
+/// below the place is true in all of them.
+pub(crate) fn settle(
+    cells: &Cells,
+    readers: &[Vec<u32>],
+    words: &mut [Word],
+    marks: &mut Marks,
+    live: &mut Marks,
+    to: u32,
+    first: u32,
+)
+    requires cells { (net : ℕ) → net < length words.old → IsLawful (length words.old) first (slice_index_or cells.now net Told) }
+    requires nets { length cells.now ≡ length words.old }
+    requires lists { length readers.now ≡ length words.old }
+    requires room { length words.old ≤ 64 * length marks.old }
+    requires live { length words.old ≤ 64 * length live.old }
+    requires readers { (net : ℕ) → net < length words.old → AreReaders cells.now net (slice_index_or (map (λ list. list.items) readers.now) net []) }
+    requires within { (net : ℕ) → net < length words.old → All (λ reader. reader < length words.old) (slice_index_or (map (λ list. list.items) readers.now) net []) }
+    requires to { to ≤ 1000000 }
+    requires begun { 1 ≤ first }
+    requires first { first < 64 }
+    requires inside { 64 ≤ to + first }
+    ensures room { length marks.new ≡ length marks.old }
+    ensures live { length live.new ≡ length live.old }
+    ensures told { KeepsTold (levels_of words.old) (levels_of words.new) (cell_at cells.now) }
+    ensures kept { (m : ℕ) → has live.old m ≡ true → has live.new m ≡ true }
+    ensures same { (m place : ℕ) → has live.new m ≡ false → levels_of words.new m place ≡ levels_of words.old m place }
+    ensures exact { (truth : ℕ → ℕ → Level)
+        → IsReady (levels_of words.old) truth (cell_at cells.now) to first
+        → AreSettled (levels_of words.old) (has marks.old) (cell_at cells.now) to first
+        → IsTrueBelow (levels_of words.old) truth (cell_at cells.now) first
+        → IsTrueBelow (levels_of words.new) truth (cell_at cells.now) 64 }
+{
+    for _ in first..64 {
+        match marks.next_from(0) {
+            None => return,
+            Some(_) => sweep(cells, readers, words, marks, live, to, first),
+        }
     }
 }

@@ -1,14 +1,22 @@
-use Rattle.std.proofs.Common.{◌≡◌, ◌-◌, ℕ, true, false, length, slice_index_or}
+use Rattle.std.proofs.Common.{◌≡◌, ◌-◌, ℕ, true, false, length}
+use Rattle.cmb_wave.specs.declared.level.Level.{Level}
 use Rattle.cmb_engine.specs.Bits.{has}
-use Rattle.cmb_engine.specs.Cells.{Told, is_made, IsSettled}
+use Rattle.cmb_engine.specs.Cells.{AreSettled, KeepsTold, cell_at}
 use Rattle.cmb_engine.specs.Words.{levels_of}
+use Rattle.cmb_engine.proofs.SweepFacts.{IsFurther, IsBegun}
 use Rattle.cmb_engine.proofs.settle.sweep.Given as goal
 
 abbrev pub invariant-nets : goal.invariant-nets
 invariant-nets l = record {
   room : length l.marks ≡ length l.initial.marks;
-  settled : ((m : ℕ) → is_made (slice_index_or l.cells m Told) ≡ true → has l.initial.marks m ≡ false → IsSettled (levels_of l.initial.words) l.to l.first m (slice_index_or l.cells m Told))
-      → (m : ℕ) → is_made (slice_index_or l.cells m Told) ≡ true → has l.marks m ≡ false → IsSettled (levels_of l.words) l.to l.first m (slice_index_or l.cells m Told);
+  live : length l.live ≡ length l.initial.live;
+  told : KeepsTold (levels_of l.initial.words) (levels_of l.words) (cell_at l.cells);
+  kept : (m : ℕ) → has l.initial.live m ≡ true → has l.live m ≡ true;
+  same : (m place : ℕ) → has l.live m ≡ false → levels_of l.words m place ≡ levels_of l.initial.words m place;
+  settled : AreSettled (levels_of l.initial.words) (has l.initial.marks) (cell_at l.cells) l.to l.first
+      → AreSettled (levels_of l.words) (has l.marks) (cell_at l.cells) l.to l.first;
+  truer : (truth : ℕ → ℕ → Level) (upto : ℕ) → IsBegun (levels_of l.initial.words) truth (has l.initial.marks) (cell_at l.cells) l.to l.first upto
+      → IsFurther (levels_of l.words) truth (cell_at l.cells) upto l.from;
 }
 
 abbrev pub decreases-nets : goal.decreases-nets

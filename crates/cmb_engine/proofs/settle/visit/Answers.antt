@@ -1,4 +1,5 @@
 use Rattle.std.proofs.Common.{set, slice_index_or, refl, sym, ◌∙◌}
+use Rattle.std.proofs.lemmas.Bool.{false≢true}
 use Rattle.cmb_words.specs.Word.{level_at_place}
 use Rattle.cmb_engine.specs.Cells.{Told, IsMade}
 use Rattle.cmb_engine.specs.Words.{levels_of}
@@ -51,3 +52,15 @@ returns-clause-settled c =
     (λ m none other. removed-false c.args.marks.now c.remove.new.self c.args.net m (c.remove.ensures.has m)
     (kept-false c.remove.new.self c.mark_all.new.marks m (c.mark_all.ensures.kept m) none) other)
     (λ m place none read small. absurd (reader-marked c.args.cells.now c.args.net c.args.readers.now c.mark_all.new.marks c.requires.readers c.mark_all.ensures.marked m none read))
+
+pub returns-clause-told : goal.returns-clause-told
+returns-clause-told c = λ is place.
+    levels_of-set_same c.args.words.now c.args.net c.word-made.result place c.requires.net ∙ c.word-made.ensures.told is place
+
+pub returns-clause-differs : goal.returns-clause-differs
+returns-clause-differs c = λ same.
+    absurd (false≢true (sym (c.differs_from.ensures.differs (λ place from small.
+    sym (levels_of-set_same c.args.words.now c.args.net c.word-made.result place c.requires.net)
+    ∙ same place small
+    ∙ levels_of-read c.args.words.now c.args.net c.index-words-net.result place c.requires.net c.index-words-net.is))
+    ∙ c.if-not-differs_from.false))

@@ -13,3 +13,7 @@ returns-in-Gate-clause-below c = λ place below.
 pub returns-in-Flop-clause-below : goal.returns-in-Flop-clause-below
 returns-in-Flop-clause-below c = λ place below.
     c.flop_word.ensures.below place below ∙ sym (levels_of-read c.args.words.now c.args.net c.index-words-net.result place c.requires.net c.index-words-net.is)
+
+pub returns-in-Told-clause-told : goal.returns-in-Told-clause-told
+returns-in-Told-clause-told c = λ told place.
+    sym (levels_of-read c.args.words.now c.args.net c.index-words-net.result place c.requires.net c.index-words-net.is)

@@ -1,0 +1,63 @@
+//! Which nets read each net.
+
+ghost use Rattle.std.specs.Prelude.{◌≡◌, ℕ, ◌<◌, ◌++◌, ◌∷◌, ◌==◌, [], true, All, IfOk, OnOk, length, map, replicate, slice_index_or, slice_set};
+ghost use Rattle.std.specs.List.{list_any};
+ghost use Rattle.cmb_engine.specs.Cells.{Told, AreBelow, AreReaders, IsListed, pins_of};
+
+use crate::cell::Pin;
+use crate::cells::Cells;
+use std::alloc::{AllocError, Global};
+
+// Adds a net to the list of a place.
+fn push_reader(readers: &mut [Vec<u32>], place: usize, net: u32) -> Result<(), AllocError>
+    requires { place < length readers.old }
+    ensures len { length readers.new ≡ length readers.old }
+    ensures lists { OnOk result (map (λ list. list.items) readers.new ≡ slice_set (map (λ list. list.items) readers.old) place (slice_index_or (map (λ list. list.items) readers.old) place [] ++ net ∷ [])) }
+{
+    readers[place].push(net)?;
+    Ok(())
+}
+
+/// Adds a net to the lists of the nets on its pins.
+pub(crate) fn push_pins(
+    readers: &mut [Vec<u32>],
+    pins: &[Pin],
+    net: u32,
+) -> Result<(), AllocError>
+    requires { All (λ pin. pin.net < length readers.old) pins.now }
+    ensures len { length readers.new ≡ length readers.old }
+    ensures within { OnOk result ((bound : ℕ) → net < bound → AreBelow bound (map (λ list. list.items) readers.old) → AreBelow bound (map (λ list. list.items) readers.new)) }
+    ensures kept { OnOk result ((place number : ℕ) → IsListed (map (λ list. list.items) readers.old) place number → IsListed (map (λ list. list.items) readers.new) place number) }
+    ensures listed { OnOk result ((place : ℕ) → list_any (λ pin. pin.net == place) pins.now ≡ true → IsListed (map (λ list. list.items) readers.new) place net) }
+{
+    for pin in pins {
+        push_reader(readers, pin.net as usize, net)?;
+    }
+    Ok(())
+}
+
+// So many empty lists.
+fn empty_lists(alloc: Global, count: usize) -> Result<Vec<Vec<u32>>, AllocError>
+    ensures { IfOk result (λ lists. map (λ list. list.items) lists.items ≡ replicate count []) }
+{
+    let mut lists = Vec::with_capacity(alloc, count)?;
+    for _ in 0..count {
+        lists.push(Vec::new(alloc))?;
+    }
+    Ok(lists)
+}
+
+/// For each net those whose cells read it.
+pub(crate) fn readers_of(alloc: Global, cells: &Cells) -> Result<Vec<Vec<u32>>, AllocError>
+    requires few { length cells.now < 65536 }
+    requires pins { (net : ℕ) → net < length cells.now → All (λ pin. pin.net < length cells.now) (pins_of (slice_index_or cells.now net Told)) }
+    ensures len { IfOk result (λ lists. length lists.items ≡ length cells.now) }
+    ensures readers { IfOk result (λ lists. (net : ℕ) → AreReaders cells.now net (slice_index_or (map (λ list. list.items) lists.items) net [])) }
+    ensures within { IfOk result (λ lists. AreBelow (length cells.now) (map (λ list. list.items) lists.items)) }
+{
+    let mut lists = empty_lists(alloc, cells.len())?;
+    for net in 0..cells.len() {
+        cells.list_net(net, &mut lists)?;
+    }
+    Ok(lists)
+}
