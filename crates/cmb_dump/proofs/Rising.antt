@@ -1,5 +1,5 @@
 -- Lists of nets by rising number, as they are made: one net at a time.
-use Rattle.std.proofs.Common.{◌≡◌, ℕ, suc, ◌+◌, ◌<◌, ◌≤◌, List, [], ◌∷◌, ◌++◌, arith}
+use Rattle.std.proofs.Common.{ℕ, suc, ◌<◌, ◌≤◌, List, [], ◌∷◌, ◌++◌, arith}
 use Rattle.cmb_dump.specs.declared.changed.Changed.{Changed}
 use Rattle.cmb_dump.specs.Changes.{RisesWithin}
 
