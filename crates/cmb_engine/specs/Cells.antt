@@ -113,3 +113,11 @@ IsListed lists place number =
 -- all numbers in the lists are below a bound
 abbrev pub AreBelow : ℕ → List (List ℕ) → Type 0
 AreBelow bound lists = (place : ℕ) → All (λ number. number < bound) (slice_index_or lists place [])
+
+-- a word repeats the level before a place from there on
+abbrev pub IsSteadyFrom : (ℕ → Level) → ℕ → Type 0
+IsSteadyFrom word first = (place : ℕ) → first ≤ place → place < 64 → word place ≡ word (first - 1)
+
+-- all these numbers are marked
+abbrev pub AreMarked : (ℕ → Bool) → List ℕ → Type 0
+AreMarked marked numbers = (k : ℕ) → k < length numbers → marked (slice_index numbers k) ≡ true

@@ -2,6 +2,7 @@
 #![tactic(auto)]
 
 mod arrivals;
+mod begin;
 mod bits;
 mod cell;
 mod cells;

@@ -10,8 +10,8 @@ use crate::cells::Cells;
 use crate::marks::Marks;
 use cmb_words::Word;
 
-// Marks some nets.
-fn mark_all(marks: &mut Marks, nets: &[u32])
+/// Marks some nets.
+pub(crate) fn mark_all(marks: &mut Marks, nets: &[u32])
     requires { All (λ net. net < 64 * length marks.old) nets.now }
     ensures len { length marks.new ≡ length marks.old }
     ensures kept { (m : ℕ) → has marks.old m ≡ true → has marks.new m ≡ true }
