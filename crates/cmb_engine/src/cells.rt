@@ -174,11 +174,7 @@ impl Cells {
     }
 
     /// Puts a net into the lists of the nets that its cell reads.
-    pub(crate) fn list_net(
-        &self,
-        net: usize,
-        readers: &mut [Vec<u32>],
-    ) -> Result<(), AllocError>
+    pub(crate) fn list_net(&self, net: usize, readers: &mut [Vec<u32>]) -> Result<(), AllocError>
         requires net { net < length self.now }
         requires small { net < 65536 }
         requires pins { All (λ pin. pin.net < length readers.old) (pins_of_cell (slice_index_or self.now net Told)) }
@@ -191,7 +187,11 @@ impl Cells {
             Rule::Told => Ok(()),
             Rule::Gate(_, part) => {
                 let begin = part.first as usize;
-                push_pins(readers, &self.pins[begin..begin + part.count as usize], net as u32)
+                push_pins(
+                    readers,
+                    &self.pins[begin..begin + part.count as usize],
+                    net as u32,
+                )
             }
             Rule::Flop(_, pin) => push_pins(readers, &[pin], net as u32),
         }

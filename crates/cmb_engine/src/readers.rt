@@ -19,11 +19,7 @@ fn push_reader(readers: &mut [Vec<u32>], place: usize, net: u32) -> Result<(), A
 }
 
 /// Adds a net to the lists of the nets on its pins.
-pub(crate) fn push_pins(
-    readers: &mut [Vec<u32>],
-    pins: &[Pin],
-    net: u32,
-) -> Result<(), AllocError>
+pub(crate) fn push_pins(readers: &mut [Vec<u32>], pins: &[Pin], net: u32) -> Result<(), AllocError>
     requires { All (λ pin. pin.net < length readers.old) pins.now }
     ensures len { length readers.new ≡ length readers.old }
     ensures within { OnOk result ((bound : ℕ) → net < bound → AreBelow bound (map (λ list. list.items) readers.old) → AreBelow bound (map (λ list. list.items) readers.new)) }

@@ -109,7 +109,11 @@ fn text_of(alloc: Global) -> Option<Vec<u8>> {
     in_two(alloc, &design, &mut text)?;
     let mut other = Vec::new(alloc);
     with_rests(alloc, &design, &mut other)?;
-    if text.as_slice() == other.as_slice() { Some(text) } else { None }
+    if text.as_slice() == other.as_slice() {
+        Some(text)
+    } else {
+        None
+    }
 }
 
 fn main(rt: HostRuntime) -> ExitCode {

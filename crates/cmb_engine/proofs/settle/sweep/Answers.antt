@@ -30,31 +30,35 @@ pub nets-preserved : goal.nets-preserved
 nets-preserved c =
     let list : IsListed c.nets.live c.if-visit.live (levels_of c.nets.words) (levels_of c.visit.new.words) =
     elim c.if-visit.branch [
-          then-visit w ↦ subst (λ (live : List ℕ). IsListed c.nets.live live (levels_of c.nets.words) (levels_of c.visit.new.words)) (sym w.live-is) (record {
-            len = w.insert.ensures.len;
-            kept = λ m h. inserted-keeps c.nets.live w.insert.new.self c.in-Some.net m (w.insert.ensures.has m) h;
-            same = λ m place none. (inserted-none c.nets.live w.insert.new.self c.in-Some.net m (w.insert.ensures.has m) none,
-                c.visit.ensures.others m place (inserted-other c.nets.live w.insert.new.self c.in-Some.net m (w.insert.ensures.has m) none));
-          })
-        | else-visit w ↦ subst (λ (live : List ℕ). IsListed c.nets.live live (levels_of c.nets.words) (levels_of c.visit.new.words)) (sym w.live-is) (record {
-            len = refl; kept = λ m h. h; same = λ m place none. (none, c.visit.ensures.same w.if-visit.false m place);
-          })
-        ] in
+      | then-visit w ↦ subst (λ (live : List ℕ). IsListed c.nets.live live (levels_of c.nets.words) (levels_of c.visit.new.words)) (sym w.live-is) (record {
+        len = w.insert.ensures.len;
+        kept = λ m h. inserted-keeps c.nets.live w.insert.new.self c.in-Some.net m (w.insert.ensures.has m) h;
+        same = λ m place none. (
+          inserted-none c.nets.live w.insert.new.self c.in-Some.net m (w.insert.ensures.has m) none,
+          c.visit.ensures.others m place (inserted-other c.nets.live w.insert.new.self c.in-Some.net m (w.insert.ensures.has m) none),
+        );
+      })
+      | else-visit w ↦ subst (λ (live : List ℕ). IsListed c.nets.live live (levels_of c.nets.words) (levels_of c.visit.new.words)) (sym w.live-is) (record {
+        len = refl;
+        kept = λ m h. h;
+        same = λ m place none. (none, c.visit.ensures.same w.if-visit.false m place);
+      })
+    ] in
     record {
-  room = c.visit.ensures.room ∙ c.nets.invariant.room;
-  live = list.len ∙ c.nets.invariant.live;
-  told = λ m place is. told-visit (levels_of c.nets.words) (levels_of c.visit.new.words) (cell_at c.args.cells.now) c.in-Some.net c.visit.ensures.others c.visit.ensures.told m place is
-      ∙ c.nets.invariant.told m place is;
-  kept = λ m h. list.kept m (c.nets.invariant.kept m h);
-  same = λ m place none. let parts = list.same m place none in parts.1 ∙ c.nets.invariant.same m place parts.0;
-  settled = λ h. c.visit.ensures.settled (c.nets.invariant.settled h);
-  truer = λ truth upto b.
-      let ready = ready-moves (levels_of c.args.words.now) (levels_of c.nets.words) truth (cell_at c.args.cells.now) c.args.to c.args.first c.nets.invariant.told b.ready in
-      further-visit (levels_of c.nets.words) (levels_of c.visit.new.words) truth (cell_at c.args.cells.now) c.args.to c.args.first upto c.in-Some.net ready b.from b.small
-      c.visit.ensures.others c.visit.ensures.past c.visit.ensures.made
-      (passes (levels_of c.nets.words) truth (cell_at c.args.cells.now) c.nets.marks c.args.to c.args.first upto ready b.from b.small
-      (c.nets.invariant.settled b.settled) c.nets.from c.in-Some.net c.in-Some.ensures.least (c.nets.invariant.truer truth upto b));
-}
+      room = c.visit.ensures.room ∙ c.nets.invariant.room;
+      live = list.len ∙ c.nets.invariant.live;
+      told = λ m place is. told-visit (levels_of c.nets.words) (levels_of c.visit.new.words) (cell_at c.args.cells.now) c.in-Some.net c.visit.ensures.others c.visit.ensures.told m place is
+          ∙ c.nets.invariant.told m place is;
+      kept = λ m h. list.kept m (c.nets.invariant.kept m h);
+      same = λ m place none. let parts = list.same m place none in parts.1 ∙ c.nets.invariant.same m place parts.0;
+      settled = λ h. c.visit.ensures.settled (c.nets.invariant.settled h);
+      truer = λ truth upto b.
+          let ready = ready-moves (levels_of c.args.words.now) (levels_of c.nets.words) truth (cell_at c.args.cells.now) c.args.to c.args.first c.nets.invariant.told b.ready in
+          further-visit (levels_of c.nets.words) (levels_of c.visit.new.words) truth (cell_at c.args.cells.now) c.args.to c.args.first upto c.in-Some.net ready b.from b.small
+          c.visit.ensures.others c.visit.ensures.past c.visit.ensures.made
+          (passes (levels_of c.nets.words) truth (cell_at c.args.cells.now) c.nets.marks c.args.to c.args.first upto ready b.from b.small
+          (c.nets.invariant.settled b.settled) c.nets.from c.in-Some.net c.in-Some.ensures.least (c.nets.invariant.truer truth upto b));
+    }
 
 pub returns-then-net-words-clause-truer : goal.returns-then-net-words-clause-truer
 returns-then-net-words-clause-truer c = λ truth upto from small ready settled below.
