@@ -12,17 +12,17 @@ use Rattle.cmb_engine.specs.declared.cell.Pin.{Pin}
 abbrev pub seen_at : (ℕ → ℕ → Level) → ℕ → Pin → Level
 seen_at trace tick pin = delayed (trace pin.net) pin.delay tick
 
--- what a cell makes at a tick, after tick 0; a flip-flop holds its level where no sample arrives
+-- what a cell makes at a tick; a flip-flop holds its level where no sample arrives, as at tick 0
 abbrev pub cell_row : (ℕ → ℕ → Level) → ℕ → ℕ → Cell → Level
 cell_row trace slot tick Told = trace slot tick
 cell_row trace slot tick (Gate kind pins) = gate kind (map (seen_at trace tick) pins)
 cell_row trace slot tick (Flop clock pin) =
     if arrives_by clock pin.delay tick then trace pin.net (tick - pin.delay) else trace slot (tick - 1)
 
--- each made slot has what its cell makes, from tick 1 on
+-- each made slot has what its cell makes
 abbrev pub MeetsCells : (ℕ → ℕ → Level) → (ℕ → Cell) → Type 0
 MeetsCells trace cells =
-    (slot tick : ℕ) → is_made (cells slot) ≡ true → 1 ≤ tick → trace slot tick ≡ cell_row trace slot tick (cells slot)
+    (slot tick : ℕ) → is_made (cells slot) ≡ true → trace slot tick ≡ cell_row trace slot tick (cells slot)
 
 -- the words of so many slots hold a trace in all their places, where they end before a tick
 abbrev pub Shows : (ℕ → ℕ → Level) → (ℕ → ℕ → Level) → ℕ → ℕ → Type 0
