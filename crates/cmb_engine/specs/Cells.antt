@@ -6,7 +6,6 @@ use Rattle.cmb_wave.specs.declared.level.Level.{Level}
 use Rattle.cmb_bench.specs.declared.netlist.Kind.{Kind}
 use Rattle.cmb_design.specs.declared.rows.Clock.{Clock}
 use Rattle.cmb_design.specs.Gate.{gate}
-use Rattle.cmb_design.specs.Ranges.{AreTicks}
 use Rattle.cmb_engine.specs.Rows.{arrives_by}
 use Rattle.cmb_engine.specs.declared.cell.Pin.{Pin}
 
@@ -74,11 +73,15 @@ KeepsTold old new cells = (net place : ℕ) → is_made (cells net) ≡ false �
 abbrev pub IsTrueBelow : (ℕ → ℕ → Level) → (ℕ → ℕ → Level) → (ℕ → Cell) → ℕ → Type 0
 IsTrueBelow words truth cells upto = (net place : ℕ) → IsTrue (is_made (cells net)) → place < upto → words net place ≡ truth net place
 
+-- the sample ticks of a flip-flop, its clock's or those some ticks later
+abbrev pub IsPace : Clock → Type 0
+IsPace clock = (clock.first ≤ 2000000) × (1 ≤ clock.period) × (clock.period ≤ 1000000)
+
 -- a cell reads some of so many nets, and none of its pins is later than so many ticks
 abbrev pub IsLawful : ℕ → ℕ → Cell → Type 0
 IsLawful nets most Told = Unit {0}
 IsLawful nets most (Gate kind pins) = (1 ≤ length pins) × All (λ pin. pin.net < nets) pins × All (λ pin. pin.delay ≤ most) pins
-IsLawful nets most (Flop clock pin) = AreTicks clock.first clock.period × (pin.net < nets) × (pin.delay ≤ most)
+IsLawful nets most (Flop clock pin) = IsPace clock × (pin.net < nets) × (pin.delay ≤ most)
 
 -- what a cell sees in a window is what it saw in the place before, and then what it makes is the net's level there;
 -- where a sample arrives it brings the level that the net has

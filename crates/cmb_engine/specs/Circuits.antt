@@ -1,9 +1,10 @@
 -- Traces: the level of each slot at each tick, and when a circuit of cells allows them. Only contracts inside this crate cite these.
-use Rattle.std.specs.Prelude.{◌≡◌, ℕ, ◌-◌, ◌<◌, ◌≤◌, true, List, map, if◌then◌else◌}
+use Rattle.std.specs.Prelude.{◌≡◌, ℕ, ◌-◌, ◌<◌, ◌≤◌, Bool, true, false, List, [], All, Contains, length, map, slice_index_or, if◌then◌else◌}
+use Rattle.std.specs.List.{AllByRecursion}
 use Rattle.cmb_wave.specs.declared.level.Level.{Level}
 use Rattle.cmb_design.specs.Gate.{gate}
 use Rattle.cmb_design.specs.Value.{delayed}
-use Rattle.cmb_engine.specs.Cells.{Cell, Told, Gate, Flop, is_made}
+use Rattle.cmb_engine.specs.Cells.{Cell, Told, Gate, Flop, is_made, cell_at, pins_of, AreBelow, AreReaders, IsLawful}
 use Rattle.cmb_engine.specs.Rows.{arrives_by}
 use Rattle.cmb_engine.specs.Windows.{in_place}
 use Rattle.cmb_engine.specs.declared.cell.Pin.{Pin}
@@ -27,3 +28,32 @@ MeetsCells trace cells =
 -- the words of so many slots hold a trace in all their places, where they end before a tick
 abbrev pub Shows : (ℕ → ℕ → Level) → (ℕ → ℕ → Level) → ℕ → ℕ → Type 0
 Shows words trace count to = (slot place : ℕ) → slot < count → place < 64 → words slot place ≡ in_place (trace slot) to place
+
+-- slots that aren't live have one level in all places
+abbrev pub AreQuiet : (ℕ → ℕ → Level) → (ℕ → Bool) → ℕ → Type 0
+AreQuiet words live count = (slot place : ℕ) → slot < count → live slot ≡ false → place < 64 → words slot place ≡ words slot 63
+
+-- a sample arrives at a tick
+abbrev pub Arrives : Cell → ℕ → Type 0
+Arrives Told tick = ⊥
+Arrives (Gate kind pins) tick = ⊥
+Arrives (Flop clock pin) tick = arrives_by clock pin.delay tick ≡ true
+
+abbrev pub is_flop : Cell → Bool
+is_flop (Flop clock pin) = true
+is_flop _ = false
+
+-- the flip-flops among cells, by their numbers
+pub record AreFlops (cells : List Cell) (flops : List ℕ) : Type 0 where
+  pub all : (slot : ℕ) → is_flop (cell_at cells slot) ≡ true → Contains flops slot
+  pub within : All (λ slot. slot < length cells) flops
+
+-- what stays as it is while an engine goes on: the cells, who reads each slot, and the flip-flops
+pub record IsWiring (cells : List Cell) (readers : List (List ℕ)) (flops : List ℕ) (most : ℕ) : Type 0 where
+  pub lists : length readers ≡ length cells
+  pub readers_of : (slot : ℕ) → AreReaders cells slot (slice_index_or readers slot [])
+  pub within : AreBelow (length cells) readers
+  pub flip_flops : AreFlops cells flops
+  pub lawful : (slot : ℕ) → slot < length cells → IsLawful (length cells) most (cell_at cells slot)
+  pub later : (slot : ℕ) → AllByRecursion (λ pin. is_made (cell_at cells pin.net) ≡ true → 1 ≤ pin.delay) (pins_of (cell_at cells slot))
+  pub some : 1 ≤ most

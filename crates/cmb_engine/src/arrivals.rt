@@ -1,7 +1,7 @@
 //! When samples arrive in a window.
 
 ghost use Rattle.std.specs.Prelude.{◌≡◌, ℕ, ◌+◌, ◌-◌, ◌%◌, ◌<◌, ◌≤◌, ◌&&◌, ◌==◌, nat_le};
-ghost use Rattle.cmb_design.specs.Ranges.{AreTicks};
+ghost use Rattle.cmb_engine.specs.Cells.{IsPace};
 ghost use Rattle.cmb_engine.specs.Rows.{arrives_by};
 
 use cmb_design::Clock;
@@ -9,7 +9,7 @@ use cmb_design::Clock;
 /// The first place, from one on, at which a flip-flop with this clock and delay gets a sample, in the words that end
 /// before a tick; 64 or more where it gets none.
 pub(crate) fn first_arrival(clock: Clock, delay: u32, to: u32, first: u32) -> u32
-    requires clock { AreTicks clock.first clock.period }
+    requires clock { IsPace clock }
     requires delay { delay ≤ 1000000 }
     requires to { to ≤ 1000000 }
     requires first { first < 64 }

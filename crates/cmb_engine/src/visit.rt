@@ -2,9 +2,8 @@
 
 ghost use Rattle.std.specs.Prelude.{◌≡◌, ℕ, ◌+◌, ◌-◌, ◌<◌, ◌≤◌, List, All, length, map, if◌then◌else◌};
 ghost use Rattle.cmb_design.specs.Gate.{gate};
-ghost use Rattle.cmb_design.specs.Ranges.{AreTicks};
 ghost use Rattle.cmb_words.specs.Word.{level_at_place};
-ghost use Rattle.cmb_engine.specs.Cells.{seen};
+ghost use Rattle.cmb_engine.specs.Cells.{seen, IsPace};
 ghost use Rattle.cmb_engine.specs.Rows.{arrives_by};
 ghost use Rattle.cmb_engine.specs.Words.{levels_of};
 
@@ -47,7 +46,7 @@ pub(crate) fn flop_word(
     to: u32,
     first: u32,
 ) -> Word
-    requires clock { AreTicks clock.first clock.period }
+    requires clock { IsPace clock }
     requires net { pin.net < length words.now }
     requires delay { pin.delay ≤ first }
     requires to { to ≤ 1000000 }
