@@ -8,6 +8,7 @@ mod cell;
 mod cells;
 pub mod laws;
 mod marks;
+mod moves;
 mod readers;
 mod settle;
 mod visit;
