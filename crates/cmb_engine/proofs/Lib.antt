@@ -2,7 +2,10 @@ pub mod ArrivalFacts
 pub mod BeginFacts
 pub mod BitFacts
 pub mod CellFacts
+pub mod FollowerFacts
+pub mod LineFacts
 pub mod MarkFacts
+pub mod NoteFacts
 pub mod ReaderFacts
 pub mod RowFacts
 pub mod SampleFacts

@@ -7,6 +7,7 @@ mod bits;
 mod cell;
 mod cells;
 pub mod laws;
+mod lines;
 mod marks;
 mod readers;
 mod settle;
