@@ -2,8 +2,11 @@ pub mod ArrivalFacts
 pub mod BeginFacts
 pub mod BitFacts
 pub mod CellFacts
+pub mod FollowerFacts
+pub mod LineFacts
 pub mod MarkFacts
 pub mod MoveFacts
+pub mod NoteFacts
 pub mod ReaderFacts
 pub mod RowFacts
 pub mod SampleFacts

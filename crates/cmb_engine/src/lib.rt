@@ -8,6 +8,7 @@ mod cell;
 mod cells;
 mod flops;
 pub mod laws;
+mod lines;
 mod marks;
 mod moves;
 mod readers;
