@@ -8,6 +8,7 @@ pub mod RowFacts
 pub mod SampleFacts
 pub mod SweepFacts
 pub mod TableFacts
+pub mod TraceFacts
 pub mod TruthFacts
 pub mod VisitFacts
 pub mod WordFacts
