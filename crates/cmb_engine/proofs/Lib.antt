@@ -11,3 +11,4 @@ pub mod TableFacts
 pub mod TruthFacts
 pub mod VisitFacts
 pub mod WordFacts
+pub mod ZeroFacts

@@ -10,4 +10,5 @@ pub mod laws;
 mod marks;
 mod readers;
 mod settle;
+mod start;
 mod visit;
