@@ -17,3 +17,4 @@ pub mod TraceFacts
 pub mod TruthFacts
 pub mod VisitFacts
 pub mod WordFacts
+pub mod ZeroFacts
