@@ -2,6 +2,7 @@ pub mod ArrivalFacts
 pub mod BeginFacts
 pub mod BitFacts
 pub mod CellFacts
+pub mod CollectFacts
 pub mod MarkFacts
 pub mod MoveFacts
 pub mod ReaderFacts

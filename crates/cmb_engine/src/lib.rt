@@ -6,6 +6,7 @@ mod begin;
 mod bits;
 mod cell;
 mod cells;
+mod collect;
 pub mod laws;
 mod marks;
 mod moves;
