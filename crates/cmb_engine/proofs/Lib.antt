@@ -4,6 +4,7 @@ pub mod BitFacts
 pub mod CellFacts
 pub mod FollowerFacts
 pub mod LineFacts
+pub mod CollectFacts
 pub mod MarkFacts
 pub mod MoveFacts
 pub mod NoteFacts

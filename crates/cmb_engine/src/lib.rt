@@ -7,6 +7,7 @@ mod bits;
 mod cell;
 mod cells;
 mod flops;
+mod collect;
 pub mod laws;
 mod lines;
 mod marks;
