@@ -15,4 +15,5 @@ mod moves;
 mod readers;
 mod settle;
 mod start;
+mod told;
 mod visit;
