@@ -3,6 +3,7 @@ pub mod BeginFacts
 pub mod BitFacts
 pub mod CellFacts
 pub mod MarkFacts
+pub mod PlanFacts
 pub mod ReaderFacts
 pub mod RowFacts
 pub mod SampleFacts

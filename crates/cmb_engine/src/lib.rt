@@ -9,6 +9,7 @@ mod cells;
 mod flops;
 pub mod laws;
 mod marks;
+mod plan;
 mod readers;
 mod settle;
 mod visit;
