@@ -1,22 +1,34 @@
 -- The cells of a plan do what those of its design's nets do.
-use Rattle.std.proofs.Common.{◌≡◌, ℕ, zero, suc, ◌+◌, ◌-◌, ◌<◌, ◌≤◌, ◌⊎◌, inl, inr, true, false, List, [], ◌∷◌, ◌++◌, Some, length, map, get_or, take, refl, sym, ap, ap₂, subst, ◌∙◌, arith, ltb}
-use Rattle.std.specs.Prelude.{All, replicate, slice_get}
+use Rattle.std.proofs.Common.{◌≡◌, ℕ, zero, suc, ◌+◌, ◌-◌, ◌%◌, ◌<◌, ◌≤◌, ◌&&◌, ◌==◌, ◌⊎◌, inl, inr, true, false, if◌then◌else◌, List, [], ◌∷◌, ◌++◌, Some, length, map, get_or, take, refl, sym, ap, ap₂, subst, ◌∙◌, arith, ltb}
+use Rattle.std.specs.Prelude.{All, nat_le, replicate, slice_get}
 use Rattle.std.specs.List.{AllByRecursion, AllZip}
 use Rattle.std.proofs.lemmas.Bool.{cases_lt, cases_Bool, false≢true, lt-ltb, le-ltb}
-use Rattle.std.proofs.lemmas.List.{length-append, get_or_append_left, get_or-append_right, get_or_past}
-use Rattle.std.proofs.lemmas.List.Elements.{AllZip-push, length_all_zip}
+use Rattle.std.proofs.lemmas.List.{length-append, length-replicate, get_or_append_left, get_or-append_right}
+use Rattle.std.proofs.lemmas.Option.{slice_get_within}
+use Rattle.std.proofs.lemmas.List.Elements.{All-from_recursion, AllZip-push, length_all_zip}
 use Rattle.cmb_wave.specs.declared.level.Level.{Level}
+use Rattle.cmb_wave.specs.declared.level.Level.TheVariants.{X}
 use Rattle.cmb_bench.specs.declared.netlist.Driver.{Driver}
 use Rattle.cmb_bench.specs.declared.netlist.Driver.TheVariants as driver
 use Rattle.cmb_bench.specs.declared.netlist.Kind.{Kind}
 use Rattle.cmb_bench.specs.declared.netlist.Kind.TheVariants.{And, Nand, Or, Nor, Xor, Xnor, Not, Buff}
 use Rattle.cmb_bench.specs.Netlist.{Netlist, driver_of, IsNetlist, IsWired, MayTake}
+use Rattle.cmb_design.specs.declared.rows.Clock.{Clock}
 use Rattle.cmb_design.specs.Design.{Design}
 use Rattle.cmb_design.specs.Exact.{nets_of}
+use Rattle.cmb_design.specs.Gate.{gate}
 use Rattle.cmb_design.specs.Timing.{delay}
+use Rattle.cmb_design.specs.Value.{delayed, pin_levels, value}
+use Rattle.cmb_design.proofs.ValueFacts.{value-at_gate}
 use Rattle.cmb_engine.specs.Cells.{Cell, Told, Gate, Flop, cell_at, is_made, pins_of, IsLawful}
+use Rattle.cmb_engine.specs.Circuits.{MeetsCells, cell_row, seen_at}
 use Rattle.cmb_engine.specs.Plans.{pins_from, cell_by, cell_in, AreCells, AreLines, CellStandsFor, Grows, IsOfLine, IsShort, Pushes, StandsFor}
+use Rattle.cmb_engine.specs.Rows.{arrives, arrives_by, flop_row, row}
+use Rattle.cmb_engine.specs.Traces.{IsPlan, trace_of}
 use Rattle.cmb_engine.specs.declared.cell.Pin.{Pin}
+use Rattle.cmb_engine.proofs.ArrivalFacts.{arrives_parts}
+use Rattle.cmb_engine.proofs.CellFacts.{all-weaker}
+use Rattle.cmb_engine.proofs.RowFacts.{value-meets_row}
 use Rattle.cmb_engine.proofs.TableFacts.{pins_from-more}
 
 -- ---- more lines
@@ -130,3 +142,230 @@ cells-more design net nets cells next old new least most same so_far grows pushe
         subst (λ (n : ℕ). CellStandsFor n new most (cell_in design net) pushes.cell) same pushes.stands in
         subst (λ (n : ℕ). CellStandsFor (nets_of design) new most (cell_in design n) (cell_at (cells ++ pushes.cell ∷ []) n)) e
         (subst (λ (cell : Cell). CellStandsFor (nets_of design) new most (cell_in design net) cell) (sym last) here)
+
+-- ---- what pins see
+
+trace_of-net : (design : Design) (lines : List Pin) (net tick : ℕ) → net < nets_of design → trace_of design lines net tick ≡ value design net tick
+unfolding trace_of
+trace_of-net design lines net tick small = let e : ltb net (nets_of design) ≡ true = lt-ltb _ _ small in rw e
+
+trace_of-line : (design : Design) (lines : List Pin) (number tick : ℕ) (line : Pin) → slice_get lines number ≡ Some line
+    → trace_of design lines (nets_of design + number) tick ≡ delayed (value design line.net) line.delay tick
+unfolding trace_of
+trace_of-line design lines number tick line is =
+    let e : ltb (nets_of design + number) (nets_of design) ≡ false = le-ltb _ _ (omega arith) in
+    let at : nets_of design + number - nets_of design ≡ number = omega arith in
+    rw (e, at, is) refl
+
+delayed-at : (f g : ℕ → Level) (ticks tick : ℕ) → f (tick - ticks) ≡ g (tick - ticks) → delayed f ticks tick ≡ delayed g ticks tick
+delayed-at f g ticks tick same = ap (λ (past : Level). if ltb tick ticks then X else past) same
+
+delayed-late : (f : ℕ → Level) (ticks tick : ℕ) → ticks ≤ tick → delayed f ticks tick ≡ f (tick - ticks)
+delayed-late f ticks tick late = let e : ltb tick ticks ≡ false = le-ltb _ _ late in rw e refl
+
+module _ (design : Design) (lines : List Pin) (most : ℕ) where
+  pin-sees : (wanted pin : Pin) (tick : ℕ) → StandsFor (nets_of design) lines most wanted pin
+      → seen_at (trace_of design lines) tick pin ≡ delayed (value design wanted.net) wanted.delay tick
+  pin-sees wanted pin tick (inl h) =
+      delayed-at (trace_of design lines pin.net) (value design pin.net) pin.delay tick (trace_of-net design lines pin.net (tick - pin.delay) h.net)
+      ∙ ap (λ (p : Pin). delayed (value design p.net) p.delay tick) h.same
+  pin-sees wanted pin tick (inr h) =
+      let now : tick - 0 ≡ tick = omega arith in
+      ap (seen_at (trace_of design lines) tick) h.same
+      ∙ delayed-late (trace_of design lines (nets_of design + h.number)) 0 tick (omega arith)
+      ∙ ap (trace_of design lines (nets_of design + h.number)) now
+      ∙ trace_of-line design lines h.number tick wanted h.line
+
+  pins-see : (net tick pin : ℕ) (operands : List ℕ) (pins : List Pin) → AllZip (StandsFor (nets_of design) lines most) (pins_from design net pin operands) pins
+      → map (seen_at (trace_of design lines) tick) pins ≡ pin_levels design (value design) net tick pin operands
+  pins-see net tick pin [] [] h = refl
+  pins-see net tick pin [] (p ∷ pins) h = absurd h
+  pins-see net tick pin (operand ∷ operands) [] h = absurd h
+  pins-see net tick pin (operand ∷ operands) (p ∷ pins) h =
+      ap₂ (λ level levels. level ∷ levels) (pin-sees (record { net = operand; delay = delay design net pin }) p tick h.0) (pins-see net tick (suc pin) operands pins h.1)
+
+  -- the data of a flip-flop, when its sample arrives
+  data-sees : (wanted pin : Pin) (tick : ℕ) → StandsFor (nets_of design) lines most wanted pin → wanted.delay ≤ tick
+      → trace_of design lines pin.net (tick - pin.delay) ≡ value design wanted.net (tick - wanted.delay)
+  data-sees wanted pin tick stands late =
+      sym (delayed-late (trace_of design lines pin.net) pin.delay tick (omega (arith, late, short stands)))
+      ∙ pin-sees wanted pin tick stands
+      ∙ delayed-late (value design wanted.net) wanted.delay tick late
+    where
+      short : StandsFor (nets_of design) lines most wanted pin → pin.delay ≤ wanted.delay
+      short (inl h) = omega (arith, ap (λ (p : Pin). p.delay) h.same)
+      short (inr h) = omega (arith, ap (λ (p : Pin). p.delay) h.same)
+
+  -- ---- what cells make
+
+  flop-makes : (net source tick : ℕ) (other : Clock) (pin : Pin) → net < nets_of design → driver_of design.netlist net ≡ driver.Flop source
+      → CellStandsFor (nets_of design) lines most (cell_by design net (driver.Flop source)) (Flop other pin)
+      → value design net tick ≡ cell_row (trace_of design lines) net tick (Flop other pin)
+  flop-makes net source tick other pin small is stands = go tick (cases_Bool (arrives design net tick))
+    where
+      same : (tick : ℕ) → arrives_by other pin.delay tick ≡ arrives design net tick
+      same tick = ap₂ (λ (start period : ℕ). nat_le start tick && ((tick - start) % period == 0)) stands.1 stands.2
+
+      by_row : (tick : ℕ) → value design net tick ≡ flop_row design (value design) net tick source
+      by_row tick = value-meets_row design net tick ∙ ap (row design (value design) net tick) is
+
+      go : (tick : ℕ) → (arrives design net tick ≡ true) ⊎ (arrives design net tick ≡ false) → value design net tick ≡ cell_row (trace_of design lines) net tick (Flop other pin)
+      go tick (inl a) =
+          let b : arrives_by other pin.delay tick ≡ true = same tick ∙ a in
+          let parts = arrives_parts _ _ tick a in
+          by_row tick ∙ rw (a, b) (sym (data-sees (record { net = source; delay = delay design net 1 }) pin tick stands.3 (omega (arith, parts.0))))
+      go zero (inr a) =
+          let b : arrives_by other pin.delay zero ≡ false = same zero ∙ a in
+          rw b (sym (trace_of-net design lines net zero small))
+      go (suc tick) (inr a) =
+          let b : arrives_by other pin.delay (suc tick) ≡ false = same (suc tick) ∙ a in
+          let past : suc tick - 1 ≡ tick = omega arith in
+          by_row (suc tick) ∙ rw (a, b, past) (sym (trace_of-net design lines net tick small))
+
+  cell-makes : (net tick : ℕ) (cell : Cell) → net < nets_of design → CellStandsFor (nets_of design) lines most (cell_in design net) cell → is_made cell ≡ true
+      → trace_of design lines net tick ≡ cell_row (trace_of design lines) net tick cell
+  cell-makes net tick cell small stands made = trace_of-net design lines net tick small ∙ by_driver (driver_of design.netlist net) cell refl stands made
+    where
+      by_driver : (by : Driver) (cell : Cell) → driver_of design.netlist net ≡ by → CellStandsFor (nets_of design) lines most (cell_by design net by) cell → is_made cell ≡ true
+          → value design net tick ≡ cell_row (trace_of design lines) net tick cell
+      by_driver driver.Input Told e h made = absurd (false≢true made)
+      by_driver driver.Input (Gate kind pins) e h made = absurd h
+      by_driver driver.Input (Flop clock pin) e h made = absurd h
+      by_driver (driver.Gate kind operands) Told e h made = absurd h
+      by_driver (driver.Gate kind operands) (Gate other pins) e h made =
+          value-at_gate design net tick kind operands e
+          ∙ ap (gate kind) (sym (pins-see net tick 1 operands pins h.2))
+          ∙ ap (λ (k : Kind). gate k (map (seen_at (trace_of design lines) tick) pins)) (sym h.0)
+      by_driver (driver.Gate kind operands) (Flop clock pin) e h made = absurd h
+      by_driver (driver.Flop source) Told e h made = absurd h
+      by_driver (driver.Flop source) (Gate kind pins) e h made = absurd h
+      by_driver (driver.Flop source) (Flop other pin) e h made = flop-makes net source tick other pin small e h
+
+-- ---- what cells read
+
+module _ (nets : ℕ) (lines : List Pin) (most : ℕ) where
+  pin-lawful : (wanted pin : Pin) → StandsFor nets lines most wanted pin → (pin.net < nets + length lines) × (pin.delay ≤ most) × ((1 ≤ pin.delay) ⊎ (nets ≤ pin.net))
+  pin-lawful wanted pin (inl h) = (omega (arith, h.net), h.within, inl h.some)
+  pin-lawful wanted pin (inr h) =
+      let slot : pin.net ≡ nets + h.number = ap (λ (p : Pin). p.net) h.same in
+      let none : pin.delay ≡ 0 = ap (λ (p : Pin). p.delay) h.same in
+      (omega (arith, slice_get_within lines h.number wanted h.line), omega arith, inr (omega arith))
+
+  pins-lawful : (P : Pin → Type 0) → ((wanted pin : Pin) → StandsFor nets lines most wanted pin → P pin) → (wanted pins : List Pin) → AllZip (StandsFor nets lines most) wanted pins → AllByRecursion P pins
+  pins-lawful P each [] [] h = tt
+  pins-lawful P each [] (pin ∷ pins) h = absurd h
+  pins-lawful P each (w ∷ wanted) [] h = absurd h
+  pins-lawful P each (w ∷ wanted) (pin ∷ pins) h = (each w pin h.0, pins-lawful P each wanted pins h.1)
+
+  cell-lawful : (wanted cell : Cell) → CellStandsFor nets lines most wanted cell → IsLawful (nets + length lines) most cell
+  cell-lawful wanted Told h = tt
+  cell-lawful Told (Gate other pins) h = absurd h
+  cell-lawful (Gate kind wanted) (Gate other pins) h = (
+    h.1,
+    All-from_recursion (λ pin. pin.net < nets + length lines) pins (pins-lawful _ (λ w pin stands. (pin-lawful w pin stands).0) wanted pins h.2),
+    All-from_recursion (λ pin. pin.delay ≤ most) pins (pins-lawful _ (λ w pin stands. (pin-lawful w pin stands).1) wanted pins h.2),
+  )
+  cell-lawful (Flop clock wanted) (Gate other pins) h = absurd h
+  cell-lawful Told (Flop other pin) h = absurd h
+  cell-lawful (Gate kind wanted) (Flop other pin) h = absurd h
+  cell-lawful (Flop clock wanted) (Flop other pin) h = let parts = pin-lawful wanted pin h.3 in (h.0, parts.0, parts.1)
+
+  cell-later : (wanted cell : Cell) → CellStandsFor nets lines most wanted cell → AllByRecursion (λ pin. (1 ≤ pin.delay) ⊎ (nets ≤ pin.net)) (pins_of cell)
+  cell-later wanted Told h = tt
+  cell-later Told (Gate other pins) h = absurd h
+  cell-later (Gate kind wanted) (Gate other pins) h = pins-lawful _ (λ w pin stands. (pin-lawful w pin stands).2) wanted pins h.2
+  cell-later (Flop clock wanted) (Gate other pins) h = absurd h
+  cell-later Told (Flop other pin) h = absurd h
+  cell-later (Gate kind wanted) (Flop other pin) h = absurd h
+  cell-later (Flop clock wanted) (Flop other pin) h = ((pin-lawful wanted pin h.3).2, tt)
+
+-- ---- the plan
+
+-- no cell is behind the cells of the nets but what is told
+told-behind : (cells : List Cell) (count slot : ℕ) → length cells ≤ slot → cell_at (cells ++ replicate count Told) slot ≡ Told
+told-behind cells count slot late = get_or-append_right cells (replicate count Told) (length cells) slot Told refl late ∙ told count (slot - length cells)
+  where
+    told : (count slot : ℕ) → cell_at (replicate count Told) slot ≡ Told
+    told zero slot = refl
+    told (suc count) zero = refl
+    told (suc count) (suc slot) = told count slot
+
+module _ (design : Design) (lines : List Pin) (most : ℕ) (cells : List Cell) (are : AreCells design (nets_of design) cells lines most) where
+  -- the slots' cells: those of the nets, and behind them what is told of lines
+  cell_of-net : (net : ℕ) → net < nets_of design → cell_at (cells ++ replicate (length lines) Told) net ≡ cell_at cells net
+  cell_of-net net small = get_or_append_left cells (replicate (length lines) Told) Told net (omega (arith, are.count))
+
+  cell_of-line : (slot : ℕ) → nets_of design ≤ slot → cell_at (cells ++ replicate (length lines) Told) slot ≡ Told
+  cell_of-line slot late = told-behind cells (length lines) slot (omega (arith, are.count))
+
+  -- what holds of the cells of nets, and of told ones, holds of all
+  of_all : (P : Cell → Type 0) → P Told → ((net : ℕ) → net < nets_of design → P (cell_at cells net)) → (slot : ℕ) → P (cell_at (cells ++ replicate (length lines) Told) slot)
+  of_all P told nets slot = go (cases_lt slot (nets_of design))
+    where
+      go : (slot < nets_of design) ⊎ (nets_of design ≤ slot) → P (cell_at (cells ++ replicate (length lines) Told) slot)
+      go (inl l) = subst P (sym (cell_of-net slot l)) (nets slot l)
+      go (inr l) = subst P (sym (cell_of-line slot l)) told
+
+  slots-count : length (cells ++ replicate (length lines) Told) ≡ nets_of design + length lines
+  slots-count = omega (arith, are.count, length-append cells (replicate (length lines) Told), length-replicate (length lines) Told)
+
+  slots-meet : MeetsCells (trace_of design lines) (cell_at (cells ++ replicate (length lines) Told))
+  slots-meet slot tick made = go (cases_lt slot (nets_of design))
+    where
+      go : (slot < nets_of design) ⊎ (nets_of design ≤ slot)
+          → trace_of design lines slot tick ≡ cell_row (trace_of design lines) slot tick (cell_at (cells ++ replicate (length lines) Told) slot)
+      go (inl l) =
+          let is = cell_of-net slot l in
+          cell-makes design lines most slot tick (cell_at cells slot) l (are.stand slot l) (ap is_made (sym is) ∙ made)
+          ∙ ap (cell_row (trace_of design lines) slot tick) (sym is)
+      go (inr l) = absurd (false≢true (sym (ap is_made (cell_of-line slot l)) ∙ made))
+
+  slots-later : (slot : ℕ) → AllByRecursion (λ pin. is_made (cell_at (cells ++ replicate (length lines) Told) pin.net) ≡ true → 1 ≤ pin.delay) (pins_of (cell_at (cells ++ replicate (length lines) Told) slot))
+  slots-later =
+      of_all (λ cell. AllByRecursion (λ pin. is_made (cell_at (cells ++ replicate (length lines) Told) pin.net) ≡ true → 1 ≤ pin.delay) (pins_of cell))
+      tt
+      (λ net small. all-weaker _ _ (pins_of (cell_at cells net)) each (cell-later (nets_of design) lines most (cell_in design net) (cell_at cells net) (are.stand net small)))
+    where
+      each : (pin : Pin) → (1 ≤ pin.delay) ⊎ (nets_of design ≤ pin.net) → is_made (cell_at (cells ++ replicate (length lines) Told) pin.net) ≡ true → 1 ≤ pin.delay
+      each pin (inl some) made = some
+      each pin (inr line) made = absurd (false≢true (sym (ap is_made (cell_of-line pin.net line)) ∙ made))
+
+  slots-inputs : (net : ℕ) → net < nets_of design → is_made (cell_at (cells ++ replicate (length lines) Told) net) ≡ false → driver_of design.netlist net ≡ driver.Input
+  slots-inputs net small told = by_driver (driver_of design.netlist net) (cell_at cells net) (are.stand net small) (ap is_made (sym (cell_of-net net small)) ∙ told)
+    where
+      by_driver : (by : Driver) (cell : Cell) → CellStandsFor (nets_of design) lines most (cell_by design net by) cell → is_made cell ≡ false → by ≡ driver.Input
+      by_driver driver.Input cell h told = refl
+      by_driver (driver.Gate kind operands) Told h told = absurd h
+      by_driver (driver.Gate kind operands) (Gate other pins) h told = absurd (false≢true (sym told))
+      by_driver (driver.Gate kind operands) (Flop clock pin) h told = absurd h
+      by_driver (driver.Flop source) Told h told = absurd h
+      by_driver (driver.Flop source) (Gate kind pins) h told = absurd h
+      by_driver (driver.Flop source) (Flop clock pin) h told = absurd (false≢true (sym told))
+
+  slots-drivers : (net : ℕ) → net < nets_of design → driver_of design.netlist net ≡ driver.Input → is_made (cell_at (cells ++ replicate (length lines) Told) net) ≡ false
+  slots-drivers net small is =
+      ap is_made (cell_of-net net small)
+      ∙ told (cell_at cells net) (subst (λ (by : Driver). CellStandsFor (nets_of design) lines most (cell_by design net by) (cell_at cells net)) is (are.stand net small))
+    where
+      told : (cell : Cell) → CellStandsFor (nets_of design) lines most Told cell → is_made cell ≡ false
+      told Told h = refl
+      told (Gate kind pins) h = absurd h
+      told (Flop clock pin) h = absurd h
+
+  pub plan-is : (width : ℕ) → AreLines (nets_of design) lines most → width + most ≤ 63 → 32 ≤ width → All (λ line. width ≤ line.delay) lines
+      → IsPlan design lines most width (cells ++ replicate (length lines) Told)
+  plan-is width lawful fits wide sooner = record {
+    count = slots-count;
+    meets = slots-meet;
+    lawful = λ slot small.
+        subst (λ (count : ℕ). IsLawful count most (cell_at (cells ++ replicate (length lines) Told) slot)) (sym slots-count)
+        (of_all (IsLawful (nets_of design + length lines) most) tt (λ net l. cell-lawful (nets_of design) lines most (cell_in design net) (cell_at cells net) (are.stand net l)) slot);
+    later = slots-later;
+    inputs = slots-inputs;
+    drivers = slots-drivers;
+    told = λ slot late. ap is_made (cell_of-line slot late);
+    sources = λ k d inside. let parts = lawful.sources k d inside in (parts.0, sooner k d inside, parts.2);
+    some = lawful.some;
+    fits = fits;
+    wide = wide;
+  }
