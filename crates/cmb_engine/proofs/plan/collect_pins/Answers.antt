@@ -1,4 +1,4 @@
-use Rattle.std.proofs.Common.{arith, ◌∙◌}
+use Rattle.std.proofs.Common.{◌∙◌}
 use Rattle.cmb_engine.proofs.PlanFacts.{grows-on, pins-more}
 use Rattle.cmb_engine.proofs.plan.collect_pins.Goals as goal
 
