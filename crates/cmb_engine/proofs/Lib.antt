@@ -8,6 +8,7 @@ pub mod CollectFacts
 pub mod MarkFacts
 pub mod MoveFacts
 pub mod NoteFacts
+pub mod PlanFacts
 pub mod ReaderFacts
 pub mod RowFacts
 pub mod SampleFacts

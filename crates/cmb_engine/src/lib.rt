@@ -12,6 +12,7 @@ pub mod laws;
 mod lines;
 mod marks;
 mod moves;
+mod plan;
 mod readers;
 mod settle;
 mod start;
