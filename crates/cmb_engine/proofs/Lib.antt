@@ -6,6 +6,7 @@ pub mod MarkFacts
 pub mod ReaderFacts
 pub mod RowFacts
 pub mod SampleFacts
+pub mod ShowFacts
 pub mod SweepFacts
 pub mod TableFacts
 pub mod TraceFacts
