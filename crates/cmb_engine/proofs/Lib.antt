@@ -12,4 +12,5 @@ pub mod TableFacts
 pub mod TraceFacts
 pub mod TruthFacts
 pub mod VisitFacts
+pub mod WindowFacts
 pub mod WordFacts
