@@ -11,3 +11,4 @@ mod marks;
 mod readers;
 mod settle;
 mod visit;
+mod window;
