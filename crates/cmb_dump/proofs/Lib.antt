@@ -1,3 +1,2 @@
 pub mod FillFacts
-pub mod Rising
 pub mod WindowFacts

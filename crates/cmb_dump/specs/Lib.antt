@@ -1,5 +1,4 @@
 pub mod Buckets
-pub mod Changes
 pub mod Dumps
 pub mod Ready
 pub mod Tails

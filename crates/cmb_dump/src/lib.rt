@@ -2,12 +2,10 @@
 #![tactic(auto)]
 
 mod bucket;
-pub mod changed;
 pub mod dump;
 mod fill;
 mod tail;
 mod tails;
 mod text;
 
-pub use changed::Changed;
 pub use dump::Dump;

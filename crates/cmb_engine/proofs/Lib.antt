@@ -2,11 +2,16 @@ pub mod ArrivalFacts
 pub mod BeginFacts
 pub mod BitFacts
 pub mod CellFacts
+pub mod FollowerFacts
+pub mod LineFacts
 pub mod MarkFacts
+pub mod MoveFacts
+pub mod NoteFacts
 pub mod ReaderFacts
 pub mod RowFacts
 pub mod SampleFacts
 pub mod ShowFacts
+pub mod SlotFacts
 pub mod SweepFacts
 pub mod TableFacts
 pub mod TraceFacts
@@ -14,3 +19,4 @@ pub mod TruthFacts
 pub mod VisitFacts
 pub mod WindowFacts
 pub mod WordFacts
+pub mod ZeroFacts

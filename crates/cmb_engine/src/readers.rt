@@ -1,6 +1,6 @@
 //! Which nets read each net.
 
-ghost use Rattle.std.specs.Prelude.{◌≡◌, ℕ, ◌<◌, ◌++◌, ◌∷◌, ◌==◌, [], true, All, IfOk, OnOk, length, map, replicate, slice_index_or, slice_set};
+ghost use Rattle.std.specs.Prelude.{◌≡◌, ℕ, ◌^◌, ◌<◌, ◌++◌, ◌∷◌, ◌==◌, [], true, All, IfOk, OnOk, length, map, replicate, slice_index_or, slice_set};
 ghost use Rattle.std.specs.List.{list_any};
 ghost use Rattle.cmb_engine.specs.Cells.{Told, AreBelow, AreReaders, IsListed, pins_of};
 
@@ -8,8 +8,12 @@ use crate::cell::Pin;
 use crate::cells::Cells;
 use std::alloc::{AllocError, Global};
 
-// Adds a net to the list of a place.
-fn push_reader(readers: &mut [Vec<u32>], place: usize, net: u32) -> Result<(), AllocError>
+/// Adds a net to the list of a place.
+pub(crate) fn push_reader(
+    readers: &mut [Vec<u32>],
+    place: usize,
+    net: u32,
+) -> Result<(), AllocError>
     requires { place < length readers.old }
     ensures len { length readers.new ≡ length readers.old }
     ensures lists { OnOk result (map (λ list. list.items) readers.new ≡ slice_set (map (λ list. list.items) readers.old) place (slice_index_or (map (λ list. list.items) readers.old) place [] ++ net ∷ [])) }
@@ -32,8 +36,8 @@ pub(crate) fn push_pins(readers: &mut [Vec<u32>], pins: &[Pin], net: u32) -> Res
     Ok(())
 }
 
-// So many empty lists.
-fn empty_lists(alloc: Global, count: usize) -> Result<Vec<Vec<u32>>, AllocError>
+/// So many empty lists.
+pub(crate) fn empty_lists(alloc: Global, count: usize) -> Result<Vec<Vec<u32>>, AllocError>
     ensures { IfOk result (λ lists. map (λ list. list.items) lists.items ≡ replicate count []) }
 {
     let mut lists = Vec::with_capacity(alloc, count)?;
@@ -45,7 +49,7 @@ fn empty_lists(alloc: Global, count: usize) -> Result<Vec<Vec<u32>>, AllocError>
 
 /// For each net those whose cells read it.
 pub(crate) fn readers_of(alloc: Global, cells: &Cells) -> Result<Vec<Vec<u32>>, AllocError>
-    requires few { length cells.now < 65536 }
+    requires few { length cells.now < 2 ^ 32 }
     requires pins { (net : ℕ) → net < length cells.now → All (λ pin. pin.net < length cells.now) (pins_of (slice_index_or cells.now net Told)) }
     ensures len { IfOk result (λ lists. length lists.items ≡ length cells.now) }
     ensures readers { IfOk result (λ lists. (net : ℕ) → AreReaders cells.now net (slice_index_or (map (λ list. list.items) lists.items) net [])) }

@@ -4,3 +4,4 @@ pub mod HoldFacts
 pub mod LevelFacts
 pub mod MaskFacts
 pub mod PeriodFacts
+pub mod Rising

@@ -1,4 +1,5 @@
 pub mod Bits
+pub mod Changes
 pub mod Joint
 pub mod Masked
 pub mod Word

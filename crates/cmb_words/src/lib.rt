@@ -9,6 +9,7 @@
 #![tactic(auto)]
 
 mod bits;
+pub mod changed;
 pub mod gates;
 pub mod hold;
 pub mod laws;
@@ -17,6 +18,7 @@ pub mod places;
 pub mod splice;
 pub mod word;
 
+pub use changed::Changed;
 pub use gates::{completed, gate1, gate2, gate2_known, join};
 pub use hold::held;
 pub use masks::{every, lowest, without_lowest};

@@ -11,9 +11,9 @@ ghost use Rattle.cmb_design.specs.Exact.{nets_of};
 
 use cmb_bench::read_bench;
 use cmb_design::{Design, Settings, read_clocks, read_delays, read_stimuli};
-use cmb_dump::{Changed, Dump};
+use cmb_dump::Dump;
 use cmb_wave::Level;
-use cmb_words::Word;
+use cmb_words::{Changed, Word};
 use std::alloc::Global;
 use std::io::Write;
 use std::process::ExitCode;

@@ -1,6 +1,6 @@
-//! What a window gives to the dump.
+//! What a window tells of a net.
 
-use cmb_words::Word;
+use crate::word::Word;
 
 /// A net that changed in a window, and its levels at the 64 ticks up to the window's end.
 #[derive(Clone, Copy)]

@@ -1,7 +1,7 @@
--- Lists of nets by rising number, as they are made: one net at a time.
-use Rattle.std.proofs.Common.{ℕ, suc, ◌<◌, ◌≤◌, List, [], ◌∷◌, ◌++◌, arith}
-use Rattle.cmb_dump.specs.declared.changed.Changed.{Changed}
-use Rattle.cmb_dump.specs.Changes.{RisesWithin}
+-- Lists of nets by rising number.
+use Rattle.std.proofs.Common.{ℕ, zero, suc, ◌<◌, ◌≤◌, List, [], ◌∷◌, ◌++◌, length, get_or, arith}
+use Rattle.cmb_words.specs.declared.changed.Changed.{Changed}
+use Rattle.cmb_words.specs.Changes.{RisesWithin}
 
 -- nets below a number are below a greater one
 pub rises-wider : (low nets more : ℕ) (changed : List Changed) → RisesWithin low nets changed → nets ≤ more → RisesWithin low more changed
@@ -14,3 +14,9 @@ pub rises-push : (low next nets : ℕ) (changed : List Changed) (one : Changed) 
 rises-push low next nets [] one rises a b h = (a, h, tt)
 rises-push low next nets (c ∷ cs) one rises a b h =
     (rises.0, omega (arith, rises.1), rises-push (suc c.net) next nets cs one rises.2 (omega (arith, rises.1)) b h)
+
+-- each net is below their number
+pub rises_at : (low nets : ℕ) (changed : List Changed) (i : ℕ) (d : Changed) → RisesWithin low nets changed → i < length changed → (get_or changed i d).net < nets
+rises_at low nets [] i d rises h = absurd (omega arith)
+rises_at low nets (c ∷ cs) zero d rises h = rises.1
+rises_at low nets (c ∷ cs) (suc i) d rises h = rises_at (suc c.net) nets cs i d rises.2 (omega arith)

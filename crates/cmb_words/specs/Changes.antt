@@ -2,7 +2,7 @@
 use Rattle.std.specs.Prelude.{◌≡◌, ℕ, suc, ◌+◌, ◌-◌, ◌<◌, ◌≤◌, Bool, false, ◌==◌, List, [], ◌∷◌}
 use Rattle.std.specs.List.{All, list_any}
 use Rattle.cmb_wave.specs.declared.level.Level.{Level}
-use Rattle.cmb_dump.specs.declared.changed.Changed.{Changed}
+use Rattle.cmb_words.specs.declared.changed.Changed.{Changed}
 use Rattle.cmb_words.specs.Word.{level_at_place}
 
 -- the numbers of the nets rise, from one on, and are below another
