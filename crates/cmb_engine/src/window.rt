@@ -19,8 +19,8 @@ use crate::told::write_told;
 use cmb_calendar::Tell;
 use cmb_words::Word;
 
-/// What stays as it is while an engine goes on: its cells, who reads each slot, which slots are flip-flops, and the delay
-/// of the pin that looks back longest.
+/// What stays as it is while an engine goes on: its cells, who reads each slot, which slots are flip-flops, and how many
+/// ticks back a pin looks at most.
 #[derive(Drop)]
 pub(crate) struct Wiring {
     pub cells: Cells,
@@ -29,8 +29,8 @@ pub(crate) struct Wiring {
     pub most: u32,
 }
 
-/// Goes on by one window, so many ticks long and up to the clock `to`, of whose ticks the tells are: words that showed
-/// what the slots have up to the clock before show it up to this one.
+/// Goes on by a window of so many ticks, up to the clock `to`, where the tells are those of its ticks: words that show
+/// what the slots do up to the clock before show it up to this one then.
 pub(crate) fn go_on(
     wiring: &Wiring,
     tells: &[Tell],
@@ -40,7 +40,8 @@ pub(crate) fn go_on(
     ticks: u32,
     to: u32,
 )
-    requires wiring { IsWiring wiring.now.cells (map (λ list. list.items) wiring.now.readers.items) wiring.now.flops.items wiring.now.most }
+    requires wiring { IsWiring wiring.now.cells (map (λ list. list.items) wiring.now.readers.items)
+        wiring.now.flops.items wiring.now.most }
     requires nets { length wiring.now.cells ≡ length words.old }
     requires room { length words.old ≤ 64 * length marks.old }
     requires live { length words.old ≤ 64 * length live.old }
@@ -50,7 +51,8 @@ pub(crate) fn go_on(
     requires to { to ≤ 1000000 }
     requires quiet { AreQuiet (levels_of words.old) (has live.old) (length words.old) }
     requires told { (tell : Tell) → Contains tells.now tell
-        → (tell.slot < length words.old) × (is_made (cell_at wiring.now.cells tell.slot) ≡ false) × (to ≤ tell.tick + ticks) × (tell.tick < to) }
+        → (tell.slot < length words.old) × (is_made (cell_at wiring.now.cells tell.slot) ≡ false)
+        × (to ≤ tell.tick + ticks) × (tell.tick < to) }
     ensures len { length words.new ≡ length words.old }
     ensures room { length marks.new ≡ length marks.old }
     ensures live { length live.new ≡ length live.old }
