@@ -12,6 +12,7 @@ pub mod PlanFacts
 pub mod ReaderFacts
 pub mod RowFacts
 pub mod SampleFacts
+pub mod ShowFacts
 pub mod SlotFacts
 pub mod SweepFacts
 pub mod TableFacts
@@ -19,5 +20,6 @@ pub mod TellFacts
 pub mod TraceFacts
 pub mod TruthFacts
 pub mod VisitFacts
+pub mod WindowFacts
 pub mod WordFacts
 pub mod ZeroFacts

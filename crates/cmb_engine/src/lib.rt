@@ -18,3 +18,4 @@ mod settle;
 mod start;
 mod told;
 mod visit;
+mod window;
