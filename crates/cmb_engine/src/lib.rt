@@ -14,4 +14,5 @@ mod moves;
 mod readers;
 mod settle;
 mod start;
+mod stimuli;
 mod visit;
