@@ -11,6 +11,7 @@ pub mod ReaderFacts
 pub mod RowFacts
 pub mod SampleFacts
 pub mod SlotFacts
+pub mod StartFacts
 pub mod StimulusFacts
 pub mod SweepFacts
 pub mod TableFacts
