@@ -14,6 +14,8 @@ pub mod RowFacts
 pub mod SampleFacts
 pub mod ShowFacts
 pub mod SlotFacts
+pub mod StartFacts
+pub mod StimulusFacts
 pub mod SweepFacts
 pub mod TableFacts
 pub mod TellFacts

@@ -17,5 +17,6 @@ mod readers;
 mod settle;
 mod start;
 mod told;
+mod stimuli;
 mod visit;
 mod window;
