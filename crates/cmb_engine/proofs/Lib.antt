@@ -6,9 +6,11 @@ pub mod FollowerFacts
 pub mod LineFacts
 pub mod MarkFacts
 pub mod NoteFacts
+pub mod MoveFacts
 pub mod ReaderFacts
 pub mod RowFacts
 pub mod SampleFacts
+pub mod SlotFacts
 pub mod SweepFacts
 pub mod TableFacts
 pub mod TruthFacts

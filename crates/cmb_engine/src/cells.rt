@@ -1,11 +1,12 @@
 //! The cells of a design's nets, in two lists.
 
-ghost use Rattle.std.specs.Prelude.{◌≡◌, ℕ, ◌+◌, ◌<◌, ◌≤◌, ◌++◌, ◌∷◌, [], true, false, All, IfOk, OnOk, length, map, take, slice_index_or};
+ghost use Rattle.std.specs.Prelude.{◌≡◌, ℕ, ◌+◌, ◌^◌, ◌<◌, ◌≤◌, ◌++◌, ◌∷◌, [], true, false, All, IfOk, OnOk, MatchOption, length, map, take, slice_index_or};
 ghost use Rattle.cmb_bench.specs.Netlist.{driver_of, pins_of};
 ghost use Rattle.cmb_bench.specs.declared.netlist.Driver.TheVariants as driver;
 ghost use Rattle.cmb_design.specs.Exact.{nets_of};
 ghost use Rattle.cmb_words.specs.Word.{level_at_place};
-ghost use Rattle.cmb_engine.specs.Cells.{Told, Gate, Flop, is_made, pins_of as pins_of_cell, reads, AreBelow, IsListed, IsMade, IsLawful};
+ghost use Rattle.cmb_engine.specs.Cells.{Told, Gate, Flop, cell_at, is_made, pins_of as pins_of_cell, reads, AreBelow, IsListed, IsMade, IsLawful};
+ghost use Rattle.cmb_engine.specs.Circuits.{is_flop};
 ghost use Rattle.cmb_engine.specs.Plans.{cell_in, cells_in, pins_from};
 ghost use Rattle.cmb_engine.specs.Words.{levels_of};
 
@@ -173,10 +174,21 @@ impl Cells {
         self.rules.len()
     }
 
+    /// The clock and the data pin of a slot's flip-flop, where its cell is one.
+    pub(crate) fn flop(&self, slot: usize) -> Option<(Clock, Pin)>
+        requires { slot < length self.now }
+        ensures { MatchOption result (is_flop (cell_at self.now slot) ≡ false) (λ flop. cell_at self.now slot ≡ Flop flop.0 flop.1) }
+    {
+        match self.rules[slot] {
+            Rule::Flop(clock, pin) => Some((clock, pin)),
+            _ => None,
+        }
+    }
+
     /// Puts a net into the lists of the nets that its cell reads.
     pub(crate) fn list_net(&self, net: usize, readers: &mut [Vec<u32>]) -> Result<(), AllocError>
         requires net { net < length self.now }
-        requires small { net < 65536 }
+        requires small { net < 2 ^ 32 }
         requires pins { All (λ pin. pin.net < length readers.old) (pins_of_cell (slice_index_or self.now net Told)) }
         ensures len { length readers.new ≡ length readers.old }
         ensures within { OnOk result (AreBelow (length self.now) (map (λ list. list.items) readers.old) → AreBelow (length self.now) (map (λ list. list.items) readers.new)) }

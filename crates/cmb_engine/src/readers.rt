@@ -1,6 +1,6 @@
 //! Which nets read each net.
 
-ghost use Rattle.std.specs.Prelude.{◌≡◌, ℕ, ◌<◌, ◌++◌, ◌∷◌, ◌==◌, [], true, All, IfOk, OnOk, length, map, replicate, slice_index_or, slice_set};
+ghost use Rattle.std.specs.Prelude.{◌≡◌, ℕ, ◌^◌, ◌<◌, ◌++◌, ◌∷◌, ◌==◌, [], true, All, IfOk, OnOk, length, map, replicate, slice_index_or, slice_set};
 ghost use Rattle.std.specs.List.{list_any};
 ghost use Rattle.cmb_engine.specs.Cells.{Told, AreBelow, AreReaders, IsListed, pins_of};
 
@@ -49,7 +49,7 @@ pub(crate) fn empty_lists(alloc: Global, count: usize) -> Result<Vec<Vec<u32>>, 
 
 /// For each net those whose cells read it.
 pub(crate) fn readers_of(alloc: Global, cells: &Cells) -> Result<Vec<Vec<u32>>, AllocError>
-    requires few { length cells.now < 65536 }
+    requires few { length cells.now < 2 ^ 32 }
     requires pins { (net : ℕ) → net < length cells.now → All (λ pin. pin.net < length cells.now) (pins_of (slice_index_or cells.now net Told)) }
     ensures len { IfOk result (λ lists. length lists.items ≡ length cells.now) }
     ensures readers { IfOk result (λ lists. (net : ℕ) → AreReaders cells.now net (slice_index_or (map (λ list. list.items) lists.items) net [])) }

@@ -1,0 +1,36 @@
+-- What the slots of a design show: the nets their values, and the lines those of other nets later.
+use Rattle.std.proofs.Common.{◌≡◌, ℕ, ◌+◌, ◌-◌, ◌<◌, ◌≤◌, ◌⊎◌, inl, inr, true, false, List, length, Option, None, Some, refl, sym, ap, ◌∙◌, arith, ltb}
+use Rattle.std.proofs.lemmas.Bool.{lt-ltb, le-ltb, cases_lt}
+use Rattle.cmb_wave.specs.declared.level.Level.{Level}
+use Rattle.cmb_design.specs.Design.{Design}
+use Rattle.cmb_design.specs.Exact.{nets_of}
+use Rattle.cmb_design.specs.Value.{delayed, value}
+use Rattle.cmb_engine.specs.Circuits.{Shows}
+use Rattle.cmb_engine.specs.Traces.{trace_of}
+use Rattle.cmb_engine.specs.Windows.{in_place}
+use Rattle.cmb_engine.specs.declared.cell.Pin.{Pin}
+use Rattle.cmb_engine.proofs.TruthFacts.{in_place-tick}
+
+pub trace-net : (design : Design) (lines : List Pin) (slot tick : ℕ) → slot < nets_of design → trace_of design lines slot tick ≡ value design slot tick
+unfolding trace_of value
+trace-net design lines slot tick net = let e : ltb slot (nets_of design) ≡ true = lt-ltb _ _ net in rw e
+
+-- waveforms that are the same are so in each place
+pub in_place-same : (f g : ℕ → Level) (to place : ℕ) → ((tick : ℕ) → f tick ≡ g tick) → in_place f to place ≡ in_place g to place
+in_place-same f g to place same = go (cases_lt (to + place) 64)
+  where
+    go : (to + place < 64) ⊎ (64 ≤ to + place) → in_place f to place ≡ in_place g to place
+    go (inl l) = let e : ltb (to + place) 64 ≡ true = lt-ltb _ _ l in rw e
+    go (inr l) = let e : ltb (to + place) 64 ≡ false = le-ltb _ _ l in rw e (same (to + place - 64))
+
+-- words that show what the slots show, show the values of the nets
+pub shows-nets : (words : ℕ → ℕ → Level) (design : Design) (lines : List Pin) (count to : ℕ) → nets_of design ≤ count → Shows words (trace_of design lines) count to
+    → Shows words (value design) (nets_of design) to
+shows-nets words design lines count to fits shows slot place net small =
+    shows slot place (omega (arith, net, fits)) small ∙ in_place-same (trace_of design lines slot) (value design slot) to place (λ tick. trace-net design lines slot tick net)
+
+-- in the last place stands the level at the last tick that is known
+pub shown-last : (words : ℕ → ℕ → Level) (level : ℕ → ℕ → Level) (count to slot : ℕ) → Shows words level count to → slot < count → 1 ≤ to → words slot 63 ≡ level slot (to - 1)
+shown-last words level count to slot shows small begun =
+    let e : to + 63 - 64 ≡ to - 1 = omega arith in
+    shows slot 63 small (omega arith) ∙ in_place-tick (level slot) to 63 (omega arith) ∙ ap (level slot) e
