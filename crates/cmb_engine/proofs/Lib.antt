@@ -5,14 +5,15 @@ pub mod CellFacts
 pub mod FollowerFacts
 pub mod LineFacts
 pub mod MarkFacts
-pub mod NoteFacts
 pub mod MoveFacts
+pub mod NoteFacts
 pub mod ReaderFacts
 pub mod RowFacts
 pub mod SampleFacts
 pub mod SlotFacts
 pub mod SweepFacts
 pub mod TableFacts
+pub mod ToldFacts
 pub mod TruthFacts
 pub mod VisitFacts
 pub mod WordFacts
