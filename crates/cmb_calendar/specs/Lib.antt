@@ -1,1 +1,2 @@
 pub mod Calendars
+pub mod Days

@@ -2,6 +2,10 @@
 //! an engine at most has. It is the event list of an event-driven simulator as a timing wheel, with a place for each window.
 #![tactic(auto)]
 
+pub mod calendar;
+mod days;
+mod order;
 pub mod tell;
 
+pub use calendar::Calendar;
 pub use tell::Tell;

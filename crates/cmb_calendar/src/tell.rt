@@ -3,7 +3,7 @@
 use cmb_wave::Level;
 
 /// A slot's level from a tick on.
-#[derive(Clone, Copy)]
+#[derive(Clone, Copy, Debug, PartialEq, Eq)]
 pub struct Tell {
     /// The tick from which on the slot has the level.
     pub tick: u32,

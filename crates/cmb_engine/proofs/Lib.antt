@@ -14,6 +14,8 @@ pub mod SlotFacts
 pub mod SweepFacts
 pub mod TableFacts
 pub mod ToldFacts
+pub mod TraceFacts
 pub mod TruthFacts
 pub mod VisitFacts
 pub mod WordFacts
+pub mod ZeroFacts

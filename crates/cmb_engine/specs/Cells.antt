@@ -117,6 +117,14 @@ IsListed lists place number =
 abbrev pub AreBelow : ℕ → List (List ℕ) → Type 0
 AreBelow bound lists = (place : ℕ) → All (λ number. number < bound) (slice_index_or lists place [])
 
+-- cells of so many slots, of which none looks back beyond a place, and who reads each slot
+pub record IsWired (cells : List Cell) (readers : List (List ℕ)) (count first : ℕ) : Type 0 where
+  pub nets : length cells ≡ count
+  pub lists : length readers ≡ count
+  pub lawful : (net : ℕ) → net < count → IsLawful count first (cell_at cells net)
+  pub readers_of : (net : ℕ) → AreReaders cells net (slice_index_or readers net [])
+  pub within : AreBelow count readers
+
 -- a word repeats the level before a place from there on
 abbrev pub IsSteadyFrom : (ℕ → Level) → ℕ → Type 0
 IsSteadyFrom word first = (place : ℕ) → first ≤ place → place < 64 → word place ≡ word (first - 1)

@@ -1,33 +1,13 @@
-//! What stands in words when a window begins, and which nets have news then.
+//! Which nets have news when a window begins.
 
-ghost use Rattle.std.specs.Prelude.{◌≡◌, ℕ, ◌+◌, ◌-◌, ◌*◌, ◌<◌, ◌≤◌, ◌⊎◌, true, [], length, map, slice_index_or};
-ghost use Rattle.cmb_design.specs.Exact.{nets_of};
-ghost use Rattle.cmb_design.specs.Timing.{stimulus};
-ghost use Rattle.cmb_words.specs.Word.{level_at_place};
+ghost use Rattle.std.specs.Prelude.{◌≡◌, ℕ, ◌*◌, ◌<◌, ◌≤◌, ◌⊎◌, true, [], length, map, slice_index_or};
 ghost use Rattle.cmb_engine.specs.Bits.{has};
 ghost use Rattle.cmb_engine.specs.Cells.{AreBelow, AreMarked, IsSteadyFrom};
 ghost use Rattle.cmb_engine.specs.Words.{levels_of};
 
 use crate::marks::Marks;
 use crate::settle::mark_all;
-use cmb_design::Design;
 use cmb_words::Word;
-
-/// The word of an input net: from a place on what its stimulus says, in the words that end before a tick.
-pub(crate) fn stimulus_word(design: &Design, net: usize, own: Word, to: u32, first: u32) -> Word
-    requires net { net < nets_of design.now }
-    requires to { to ≤ 1000000 }
-    requires first { first < 64 }
-    requires inside { 64 ≤ to + first }
-    ensures below { (place : ℕ) → place < first → level_at_place result place ≡ level_at_place own place }
-    ensures from { (place : ℕ) → first ≤ place → place < 64 → level_at_place result place ≡ stimulus design.now net (to + place - 64) }
-{
-    let mut word = own;
-    for place in first..64 {
-        word = word.with_from(place, design.stim(net, to + place - 64));
-    }
-    word
-}
 
 /// Marks the nets that read a live net whose word changes at a place or after it.
 pub(crate) fn mark_news(

@@ -13,4 +13,5 @@ mod marks;
 mod moves;
 mod readers;
 mod settle;
+mod start;
 mod visit;

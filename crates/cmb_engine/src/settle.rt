@@ -1,9 +1,9 @@
 //! Visits of nets with news.
 
-ghost use Rattle.std.specs.Prelude.{◌≡◌, ◌≢◌, ℕ, ◌+◌, ◌*◌, ◌<◌, ◌≤◌, true, false, [], All, map, length, slice_index, slice_index_or};
+ghost use Rattle.std.specs.Prelude.{◌≡◌, ◌≢◌, ℕ, ◌+◌, ◌*◌, ◌<◌, ◌≤◌, true, false, All, map, length, slice_index, slice_index_or};
 ghost use Rattle.cmb_wave.specs.declared.level.Level.{Level};
 ghost use Rattle.cmb_engine.specs.Bits.{has};
-ghost use Rattle.cmb_engine.specs.Cells.{Told, IsMade, IsLawful, IsReady, IsTrueBelow, AreReaders, AreSettled, KeepsTold, cell_at, is_made, reads};
+ghost use Rattle.cmb_engine.specs.Cells.{Told, IsMade, IsLawful, IsReady, IsTrueBelow, IsWired, AreReaders, AreSettled, KeepsTold, cell_at, is_made, reads};
 ghost use Rattle.cmb_engine.specs.Words.{levels_of};
 
 use crate::cells::Cells;
@@ -80,13 +80,9 @@ pub(crate) fn sweep(
     to: u32,
     first: u32,
 )
-    requires cells { (net : ℕ) → net < length words.old → IsLawful (length words.old) first (slice_index_or cells.now net Told) }
-    requires nets { length cells.now ≡ length words.old }
-    requires lists { length readers.now ≡ length words.old }
+    requires wired { IsWired cells.now (map (λ list. list.items) readers.now) (length words.old) first }
     requires room { length words.old ≤ 64 * length marks.old }
     requires live { length words.old ≤ 64 * length live.old }
-    requires readers { (net : ℕ) → net < length words.old → AreReaders cells.now net (slice_index_or (map (λ list. list.items) readers.now) net []) }
-    requires within { (net : ℕ) → net < length words.old → All (λ reader. reader < length words.old) (slice_index_or (map (λ list. list.items) readers.now) net []) }
     requires to { to ≤ 1000000 }
     requires begun { 1 ≤ first }
     requires first { first < 64 }
@@ -129,13 +125,9 @@ pub(crate) fn settle(
     to: u32,
     first: u32,
 )
-    requires cells { (net : ℕ) → net < length words.old → IsLawful (length words.old) first (slice_index_or cells.now net Told) }
-    requires nets { length cells.now ≡ length words.old }
-    requires lists { length readers.now ≡ length words.old }
+    requires wired { IsWired cells.now (map (λ list. list.items) readers.now) (length words.old) first }
     requires room { length words.old ≤ 64 * length marks.old }
     requires live { length words.old ≤ 64 * length live.old }
-    requires readers { (net : ℕ) → net < length words.old → AreReaders cells.now net (slice_index_or (map (λ list. list.items) readers.now) net []) }
-    requires within { (net : ℕ) → net < length words.old → All (λ reader. reader < length words.old) (slice_index_or (map (λ list. list.items) readers.now) net []) }
     requires to { to ≤ 1000000 }
     requires begun { 1 ≤ first }
     requires first { first < 64 }

@@ -8,7 +8,7 @@ use Rattle.cmb_engine.proofs.settle.settle.Goals as goal
 pub returns-in-None-clause-exact : goal.returns-in-None-clause-exact
 returns-in-None-clause-exact c = λ truth ready settled below.
     none-marked (levels_of c.loop.words) truth c.args.cells.now c.loop.marks c.args.to c.args.first
-    (omega (arith, c.requires.nets, c.requires.room, c.loop.invariant.room)) c.in-None.ensures
+    (omega (arith, c.requires.wired.nets, c.requires.room, c.loop.invariant.room)) c.in-None.ensures
     (ready-moves (levels_of c.args.words.now) (levels_of c.loop.words) truth (cell_at c.args.cells.now) c.args.to c.args.first c.loop.invariant.told ready)
     (c.loop.invariant.settled settled)
     (λ net place is l. c.loop.invariant.truer truth ready settled below net place is (omega (arith, c.loop.invariant.from, l)))

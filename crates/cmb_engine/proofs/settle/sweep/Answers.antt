@@ -1,5 +1,5 @@
 use Rattle.std.proofs.Common.{◌≡◌, ◌*◌, ◌<◌, ℕ, true, false, List, [], Vec, Global, length, map, get_or, refl, subst, sym, ap, ◌∙◌, arith}
-use Rattle.std.proofs.lemmas.List.{get_or-map}
+use Rattle.std.proofs.lemmas.List.{get_or-map, length-map}
 use Rattle.cmb_wave.specs.declared.level.Level.{Level}
 use Rattle.cmb_engine.specs.Bits.{has}
 use Rattle.cmb_engine.specs.Cells.{cell_at}
@@ -14,10 +14,10 @@ visit-requires-clause-within c = λ k d small.
     let list : c.as_slice.result.now ≡ get_or (map (λ (v : Vec ℕ Global). v.items) c.args.readers.now) c.in-Some.net [] =
     c.as_slice.ensures.value
     ∙ ap (λ (v : Vec ℕ Global). v.items) c.index-readers-net.is
-    ∙ sym (get_or-map (λ (v : Vec ℕ Global). v.items) c.args.readers.now c.in-Some.net c.index-readers-net.result [] (omega (arith, c.requires.lists))) in
+    ∙ sym (get_or-map (λ (v : Vec ℕ Global). v.items) c.args.readers.now c.in-Some.net c.index-readers-net.result [] (omega (arith, c.requires.wired.lists, length-map c.args.readers.now (λ (v : Vec ℕ Global). v.items)))) in
     let below : get_or c.as_slice.result.now k d < length c.args.words.now =
     subst (λ (xs : List ℕ). get_or xs k d < length c.args.words.now) (sym list)
-    (c.requires.within c.in-Some.net inside k d (subst (λ (xs : List ℕ). k < length xs) list small)) in
+    (c.requires.wired.within c.in-Some.net k d (subst (λ (xs : List ℕ). k < length xs) list small)) in
     omega (arith, below, c.requires.room, c.nets.invariant.room)
 
 -- what the live nets are after a visit
@@ -63,7 +63,7 @@ nets-preserved c =
 pub returns-then-net-words-clause-truer : goal.returns-then-net-words-clause-truer
 returns-then-net-words-clause-truer c = λ truth upto from small ready settled below.
     let now = ready-moves (levels_of c.args.words.now) (levels_of c.nets.words) truth (cell_at c.args.cells.now) c.args.to c.args.first c.nets.invariant.told ready in
-    further-all (levels_of c.nets.words) truth c.args.cells.now upto c.in-Some.net (omega (arith, c.requires.nets, c.nets.auto.words, c.if-net-words.true))
+    further-all (levels_of c.nets.words) truth c.args.cells.now upto c.in-Some.net (omega (arith, c.requires.wired.nets, c.nets.auto.words, c.if-net-words.true))
     (passes (levels_of c.nets.words) truth (cell_at c.args.cells.now) c.nets.marks c.args.to c.args.first upto now from small
     (c.nets.invariant.settled settled) c.nets.from c.in-Some.net c.in-Some.ensures.least
     (c.nets.invariant.truer truth upto (record { from = from; small = small; ready = ready; settled = settled; below = below })))
@@ -71,7 +71,7 @@ returns-then-net-words-clause-truer c = λ truth upto from small ready settled b
 pub returns-in_default-clause-truer : goal.returns-in_default-clause-truer
 returns-in_default-clause-truer c = λ truth upto from small ready settled below.
     let now = ready-moves (levels_of c.args.words.now) (levels_of c.nets.words) truth (cell_at c.args.cells.now) c.args.to c.args.first c.nets.invariant.told ready in
-    further-all (levels_of c.nets.words) truth c.args.cells.now upto (64 * length c.nets.marks) (omega (arith, c.requires.nets, c.requires.room, c.nets.invariant.room))
+    further-all (levels_of c.nets.words) truth c.args.cells.now upto (64 * length c.nets.marks) (omega (arith, c.requires.wired.nets, c.requires.room, c.nets.invariant.room))
     (passes (levels_of c.nets.words) truth (cell_at c.args.cells.now) c.nets.marks c.args.to c.args.first upto now from small
     (c.nets.invariant.settled settled) c.nets.from (64 * length c.nets.marks) c.in_default.ensures
     (c.nets.invariant.truer truth upto (record { from = from; small = small; ready = ready; settled = settled; below = below })))

@@ -1,0 +1,68 @@
+//! What the slots of a design's engine show at tick 0.
+
+ghost use Rattle.std.specs.Prelude.{◌≡◌, ℕ, ◌+◌, ◌<◌, ◌≤◌, All, IfOk, length};
+ghost use Rattle.cmb_wave.specs.declared.level.Level.{Level};
+ghost use Rattle.cmb_bench.specs.Netlist.{IsNetlist};
+ghost use Rattle.cmb_design.specs.Exact.{nets_of};
+ghost use Rattle.cmb_design.specs.Value.{value};
+ghost use Rattle.cmb_words.specs.Word.{level_at_place};
+ghost use Rattle.cmb_engine.specs.Circuits.{Shows};
+ghost use Rattle.cmb_engine.specs.Traces.{trace_of};
+ghost use Rattle.cmb_engine.specs.Windows.{in_place};
+ghost use Rattle.cmb_engine.specs.Words.{levels_of};
+
+use crate::cell::Pin;
+use cmb_bench::Driver;
+use cmb_design::Design;
+use cmb_wave::Level;
+use cmb_words::Word;
+use std::alloc::{AllocError, Global};
+
+// The level of a net at tick 0: a gate's is x, since before tick 0 all its pins are.
+fn start_level(design: &Design, net: usize) -> Level
+    requires net { net < nets_of design.now }
+    requires netlist { IsNetlist design.now.netlist }
+    ensures { result ≡ value design.now net 0 }
+{
+    match design.netlist().driver(net) {
+        Driver::Input => design.stim(net, 0),
+        Driver::Gate(_, _) => Level::X,
+        Driver::Flop(_) => design.init(),
+    }
+}
+
+// The word of a slot with a level at tick 0, in the words that end before tick 1: it is x before.
+fn start_word(level: Level) -> Word
+    ensures { (trace : ℕ → Level) → trace 0 ≡ level → (place : ℕ) → place < 64 → level_at_place result place ≡ in_place trace 1 place }
+{
+    Word::constant(Level::X).with_from(63, level)
+}
+
+// The words of a design's nets that end before tick 1.
+fn net_words(alloc: Global, design: &Design) -> Result<Vec<Word>, AllocError>
+    ensures len { IfOk result (λ words. length words.items ≡ nets_of design.now) }
+    ensures shows { IfOk result (λ words. Shows (levels_of words.items) (value design.now) (nets_of design.now) 1) }
+{
+    let mut words = Vec::new(alloc);
+    for net in 0..design.netlist().len() {
+        words.push(start_word(start_level(design, net)))?;
+    }
+    Ok(words)
+}
+
+/// The words of a design's nets and of lines that follow some of them, which end before tick 1.
+pub(crate) fn start_words(
+    alloc: Global,
+    design: &Design,
+    lines: &[Pin],
+) -> Result<Vec<Word>, AllocError>
+    requires lines { All (λ line. (line.net < nets_of design.now) × (1 ≤ line.delay)) lines.now }
+    ensures len { IfOk result (λ words. length words.items ≡ nets_of design.now + length lines.now) }
+    ensures shows { IfOk result (λ words. Shows (levels_of words.items) (trace_of design.now lines.now) (nets_of design.now + length lines.now) 1) }
+{
+    let mut words = net_words(alloc, design)?;
+    for _ in lines {
+        words.push(start_word(Level::X))?;
+    }
+    Ok(words)
+}
