@@ -19,6 +19,7 @@ pub mod StimulusFacts
 pub mod SweepFacts
 pub mod TableFacts
 pub mod TellFacts
+pub mod ToldFacts
 pub mod TraceFacts
 pub mod TruthFacts
 pub mod VisitFacts
