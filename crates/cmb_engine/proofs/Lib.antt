@@ -2,9 +2,10 @@ pub mod ArrivalFacts
 pub mod BeginFacts
 pub mod BitFacts
 pub mod CellFacts
+pub mod CollectFacts
+pub mod EngineFacts
 pub mod FollowerFacts
 pub mod LineFacts
-pub mod CollectFacts
 pub mod MarkFacts
 pub mod MoveFacts
 pub mod NoteFacts

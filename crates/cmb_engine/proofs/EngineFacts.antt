@@ -1,0 +1,115 @@
+-- What an engine's state tells of its design, and how it goes on.
+use Rattle.std.proofs.Common.{◌≡◌, ℕ, ◌+◌, ◌-◌, ◌<◌, ◌≤◌, min, false, List, length, get_or, sym, ap, subst, ◌∙◌, arith}
+use Rattle.std.specs.Prelude.{All, Contains}
+use Rattle.cmb_calendar.specs.Calendars.{Calendar, AreInOrder, Takes, day_end}
+use Rattle.cmb_calendar.specs.declared.tell.Tell.{Tell}
+use Rattle.cmb_wave.specs.declared.level.Level.{Level}
+use Rattle.cmb_design.specs.Design.{Design}
+use Rattle.cmb_design.specs.Exact.{nets_of}
+use Rattle.cmb_design.specs.Value.{value}
+use Rattle.cmb_words.specs.declared.changed.Changed.{Changed}
+use Rattle.cmb_words.specs.declared.word.Word.{Word}
+use Rattle.cmb_words.specs.Changes.{RisesWithin, Tells, is_among}
+use Rattle.cmb_words.specs.Word.{level_at_place}
+use Rattle.cmb_engine.specs.Ahead.{TellsAhead}
+use Rattle.cmb_engine.specs.Cells.{cell_at, is_made, IsSteadyFrom}
+use Rattle.cmb_engine.specs.Circuits.{MeetsCells, Shows}
+use Rattle.cmb_engine.specs.Lines.{IsAhead, IsOfLine, NotesEach}
+use Rattle.cmb_engine.specs.States.{IsCircuit, IsState}
+use Rattle.cmb_engine.specs.Tells.{AreOfWindow}
+use Rattle.cmb_engine.specs.Traces.{trace_of}
+use Rattle.cmb_engine.specs.Words.{levels_of}
+use Rattle.cmb_engine.specs.declared.circuit.Circuit.{Circuit}
+use Rattle.cmb_engine.specs.declared.state.State.{State}
+use Rattle.cmb_engine.proofs.CollectFacts.{HasWord, collected-tells}
+use Rattle.cmb_engine.proofs.SlotFacts.{trace-net, shown-last, shows-nets}
+use Rattle.cmb_engine.proofs.ToldFacts.{taken-tells, taken-ahead, noted-tells}
+use Rattle.cmb_engine.proofs.WordFacts.{levels_of-read}
+
+module _ (design : Design) (circuit : Circuit) (state : State) (is_circuit : IsCircuit design circuit) (is_state : IsState design circuit state) where
+  -- a net is a slot that has a word
+  pub has-word : (net : ℕ) → net < nets_of design → net < length state.words.items
+  has-word net small = omega (arith, small, is_circuit.plan.count, is_state.slots)
+
+  -- in the last place of a net's word is its level at the last tick that is known
+  pub level-known : (net : ℕ) (word : Word) → net < nets_of design → word ≡ get_or state.words.items net word → level_at_place word 63 ≡ value design net (state.clock - 1)
+  level-known net word small is =
+      sym (levels_of-read state.words.items net word 63 (has-word net small) is)
+      ∙ shown-last (levels_of state.words.items) (trace_of design circuit.lines.items) (length circuit.wiring.cells) state.clock net is_state.shows
+      (omega (arith, has-word net small, is_state.slots)) is_state.begun
+      ∙ trace-net design circuit.lines.items net (state.clock - 1) small
+
+  -- a window of the next day's ticks, of which the tells were taken out
+  module _ (between : Calendar) (taken : List Tell) (to : ℕ) (below : state.clock < design.horizon) (ends : to ≡ min (day_end state.calendar) state.calendar.horizon)
+      (takes : Takes state.calendar between taken) where
+    ends-soon : to ≡ min (day_end state.calendar) design.horizon
+    ends-soon = ends ∙ ap (λ n. min (day_end state.calendar) n) is_state.ahead.same_horizon
+
+    pub later : state.clock < to
+    later = omega (arith, ends-soon, below, (is_state.ahead.today (omega (arith, below))).1)
+
+    pub short : to ≤ state.clock + circuit.width
+    short = omega (arith, ends-soon, (is_state.ahead.today (omega (arith, below))).0, is_state.ahead.same_width)
+
+    pub before-horizon : to ≤ design.horizon
+    before-horizon = omega (arith, ends-soon)
+
+    place : to + (64 - (to - state.clock)) ≡ state.clock + 64
+    place = omega (arith, later, short, is_circuit.plan.fits)
+
+    pub window-tells : AreInOrder taken → AreOfWindow (trace_of design circuit.lines.items) (cell_at circuit.wiring.cells) (length circuit.wiring.cells) state.clock to taken
+    window-tells =
+        taken-tells design circuit.lines.items circuit.wiring.most circuit.width circuit.wiring.cells is_circuit.plan state.calendar between taken state.clock to
+        (64 - (to - state.clock)) is_state.ahead is_state.begun below ends-soon place takes
+
+    pub told-slots : AreInOrder taken → (tell : Tell) → Contains taken tell
+        → (tell.slot < length circuit.wiring.cells) × (is_made (cell_at circuit.wiring.cells tell.slot) ≡ false) × (to ≤ tell.tick + (to - state.clock)) × (tell.tick < to)
+    told-slots order tell h =
+        let right = (window-tells order).right tell h in
+        (right.0.slot, right.0.told, omega (arith, right.1, later), right.2)
+
+    back : to - (to - state.clock) ≡ state.clock
+    back = omega (arith, later)
+
+    -- words that went on by the window show what the slots show up to its end
+    pub next-shows : (old new : List Word) (tells : List Tell) → old ≡ state.words.items → tells ≡ taken → AreInOrder taken
+        → ((trace : ℕ → ℕ → Level) → MeetsCells trace (cell_at circuit.wiring.cells) → Shows (levels_of old) trace (length old) (to - (to - state.clock))
+            → AreOfWindow trace (cell_at circuit.wiring.cells) (length old) (to - (to - state.clock)) to tells → Shows (levels_of new) trace (length old) to)
+        → Shows (levels_of new) (trace_of design circuit.lines.items) (length circuit.wiring.cells) to
+    next-shows old new tells same those order shows =
+        let trace : ℕ → ℕ → Level = trace_of design circuit.lines.items in
+        let count : length old ≡ length circuit.wiring.cells = ap length same ∙ is_state.slots in
+        let known : Shows (levels_of state.words.items) trace (length state.words.items) (to - (to - state.clock)) =
+        subst (λ (n : ℕ). Shows (levels_of state.words.items) trace n (to - (to - state.clock))) (sym is_state.slots)
+        (subst (λ (t : ℕ). Shows (levels_of state.words.items) trace (length circuit.wiring.cells) t) (sym back) is_state.shows) in
+        let before : Shows (levels_of old) trace (length old) (to - (to - state.clock)) =
+        subst (λ (ws : List Word). Shows (levels_of ws) trace (length ws) (to - (to - state.clock))) (sym same) known in
+        let told : AreOfWindow trace (cell_at circuit.wiring.cells) (length circuit.wiring.cells) (to - (to - state.clock)) to tells =
+        subst (λ (t : ℕ). AreOfWindow trace (cell_at circuit.wiring.cells) (length circuit.wiring.cells) t to tells) (sym back)
+        (subst (λ (xs : List Tell). AreOfWindow trace (cell_at circuit.wiring.cells) (length circuit.wiring.cells) state.clock to xs) (sym those) (window-tells order)) in
+        subst (λ (n : ℕ). Shows (levels_of new) trace n to) count
+        (shows trace is_circuit.plan.meets before
+        (subst (λ (n : ℕ). AreOfWindow trace (cell_at circuit.wiring.cells) n (to - (to - state.clock)) to tells) (sym count) told))
+
+    -- and of which the words show what the slots show
+    module _ (words : List Word) (shows : Shows (levels_of words) (trace_of design circuit.lines.items) (length circuit.wiring.cells) to) (changed : List Changed)
+        (rises : RisesWithin 0 (nets_of design) changed) (right : All (HasWord (levels_of words)) changed)
+        (others : (net : ℕ) → net < nets_of design → is_among net changed ≡ false → IsSteadyFrom (levels_of words net) (64 - (to - state.clock))) where
+      pub window-changes : Tells (value design) (nets_of design) state.clock to changed
+      window-changes =
+          let begins : to + (64 - (to - state.clock)) - 64 ≡ state.clock = omega (arith, place) in
+          subst (λ (from : ℕ). Tells (value design) (nets_of design) from to changed) begins
+          (collected-tells (levels_of words) (value design) (nets_of design) (nets_of design) to (64 - (to - state.clock)) changed
+          (shows-nets (levels_of words) design circuit.lines.items (length circuit.wiring.cells) to (omega (arith, is_circuit.plan.count)) shows)
+          (omega arith) (omega (arith, short, is_circuit.plan.fits)) (omega (arith, place, is_state.begun)) rises right others)
+
+      pub next-ahead : (new : Calendar) → NotesEach (IsOfLine changed circuit.lines.items (nets_of design) to (64 - (to - state.clock))) between new → new.width ≡ between.width
+          → new.horizon ≡ between.horizon → new.day ≡ between.day → TellsAhead design circuit.lines.items circuit.width circuit.wiring.cells to new
+      next-ahead new noted same_width same_horizon same_day =
+          noted-tells design circuit.lines.items circuit.wiring.most circuit.width circuit.wiring.cells is_circuit.plan state.calendar between taken state.clock to
+          (64 - (to - state.clock)) is_state.ahead is_state.begun below ends-soon place takes new changed noted same_width same_horizon same_day window-changes
+
+    pub lines-ahead : All (IsAhead between to (64 - (to - state.clock))) circuit.lines.items
+    lines-ahead =
+        taken-ahead design circuit.lines.items circuit.wiring.most circuit.width circuit.wiring.cells is_circuit.plan state.calendar between taken state.clock to
+        (64 - (to - state.clock)) is_state.ahead is_state.begun below ends-soon place takes

@@ -1,0 +1,105 @@
+use Rattle.std.proofs.Common.{◌≡◌, ◌+◌, ◌<◌, ◌≤◌, ℕ, ◌-◌, List, length, map, Vec, Global, sym, ap, subst, ◌∙◌, arith}
+use Rattle.std.specs.Prelude.{All, Contains, false}
+use Rattle.std.proofs.lemmas.List.{length-map, with_items_is}
+use Rattle.cmb_calendar.specs.declared.tell.Tell.{Tell}
+use Rattle.cmb_design.specs.Exact.{nets_of}
+use Rattle.cmb_words.specs.declared.changed.Changed.{Changed}
+use Rattle.cmb_words.specs.declared.word.Word.{Word}
+use Rattle.cmb_words.specs.Changes.{RisesWithin, is_among}
+use Rattle.cmb_engine.specs.Bits.{has}
+use Rattle.cmb_engine.specs.Cells.{IsSteadyFrom}
+use Rattle.cmb_engine.specs.Circuits.{AreQuiet, Shows}
+use Rattle.cmb_engine.specs.Lines.{IsOfLine, NotesEach}
+use Rattle.cmb_engine.specs.Traces.{trace_of}
+use Rattle.cmb_engine.specs.Words.{levels_of}
+use Rattle.cmb_engine.specs.declared.cell.Pin.{Pin}
+use Rattle.cmb_engine.proofs.CollectFacts.{HasWord}
+use Rattle.cmb_engine.proofs.EngineFacts.{before-horizon, later, next-ahead, next-shows, told-slots, window-changes}
+use Rattle.cmb_engine.proofs.state.State.advance.Goals as goal
+
+pub go_on-requires-clause-told : goal.go_on-requires-clause-told
+go_on-requires-clause-told c = λ tell h.
+    let told = told-slots c.args.design.now c.args.circuit.now c.args.self c.requires.circuit c.requires.state c.take.new.self c.take.new.taken.items
+    c.next_day-to.result c.requires.below c.next_day-to.ensures c.in_ok-take.ensures.takes c.in_ok-take.ensures.order tell
+    (subst (λ (xs : List Tell). Contains xs tell) c.deref.ensures.value h) in
+    (omega (arith, told.0, c.requires.state.slots, ap length c.deref_mut.ensures.value), told.1, told.2, told.3)
+
+pub collect-requires-clause-quiet : goal.collect-requires-clause-quiet
+collect-requires-clause-quiet c =
+    let len : length c.go_on.new.words ≡ c.args.self.words.len = omega (arith, c.go_on.ensures.len, ap length c.deref_mut.ensures.value, c.args.self.words.ok) in
+    let same : c.deref-2.result.now ≡ c.go_on.new.words = c.deref-2.ensures.value ∙ with_items_is c.args.self.words c.go_on.new.words len in
+    subst (λ (ws : List Word). AreQuiet (levels_of ws) (has c.go_on.new.live) (length ws)) (sym same)
+    (subst (λ (n : ℕ). AreQuiet (levels_of c.go_on.new.words) (has c.go_on.new.live) n) (sym c.go_on.ensures.len) c.go_on.ensures.quiet)
+
+pub note_lines-requires-clause-few : goal.note_lines-requires-clause-few
+note_lines-requires-clause-few c =
+    let follow : length c.args.circuit.now.followers.items ≡ nets_of c.args.design.now =
+    sym (length-map c.args.circuit.now.followers.items (λ (v : Vec ℕ Global). v.items)) ∙ c.requires.circuit.follow.count in
+    omega (arith, ap length c.deref-4.ensures.value, ap length c.deref-5.ensures.value, follow, c.requires.circuit.plan.count, c.requires.circuit.few)
+
+module _ (c : goal.In_ok-note_lines) where
+  len : length c.go_on.new.words ≡ c.args.self.words.len
+  len = omega (arith, c.go_on.ensures.len, ap length c.deref_mut.ensures.value, c.args.self.words.ok)
+
+  count : length c.deref_mut.result.now ≡ length c.args.circuit.now.wiring.cells
+  count = ap length c.deref_mut.ensures.value ∙ c.requires.state.slots
+
+  -- the words that were collected are those that went on
+  collected : c.deref-2.result.now ≡ c.go_on.new.words
+  collected = c.deref-2.ensures.value ∙ with_items_is c.args.self.words c.go_on.new.words len
+
+  nets : c.len.result ≡ nets_of c.args.design.now
+  nets = c.len.ensures.value ∙ ap (λ n. length n.names) c.netlist.ensures
+
+  shows : Shows (levels_of c.go_on.new.words) (trace_of c.args.design.now c.args.circuit.now.lines.items) (length c.args.circuit.now.wiring.cells) c.next_day-to.result
+  shows =
+      next-shows c.args.design.now c.args.circuit.now c.args.self c.requires.circuit c.requires.state c.take.new.self c.take.new.taken.items c.next_day-to.result
+      c.requires.below c.next_day-to.ensures c.in_ok-take.ensures.takes c.deref_mut.result.now c.go_on.new.words c.deref.result.now c.deref_mut.ensures.value
+      c.deref.ensures.value c.in_ok-take.ensures.order c.go_on.ensures.shows
+
+  rises : RisesWithin 0 (nets_of c.args.design.now) c.collect.new.changed.items
+  rises = subst (λ (n : ℕ). RisesWithin 0 n c.collect.new.changed.items) nets c.in_ok-collect.ensures.rises
+
+  right : All (HasWord (levels_of c.go_on.new.words)) c.collect.new.changed.items
+  right = subst (λ (ws : List Word). All (HasWord (levels_of ws)) c.collect.new.changed.items) collected c.in_ok-collect.ensures.words
+
+  others : (net : ℕ) → net < nets_of c.args.design.now → is_among net c.collect.new.changed.items ≡ false
+      → IsSteadyFrom (levels_of c.go_on.new.words net) (64 - (c.next_day-to.result - c.args.self.clock))
+  others net small none =
+      subst (λ (ws : List Word). IsSteadyFrom (levels_of ws net) (64 - (c.next_day-to.result - c.args.self.clock))) collected
+      (c.in_ok-collect.ensures.others net (omega (arith, small, nets)) none)
+
+  noted : NotesEach (IsOfLine c.collect.new.changed.items c.args.circuit.now.lines.items (nets_of c.args.design.now) c.next_day-to.result (64 - (c.next_day-to.result - c.args.self.clock)))
+      c.take.new.self c.note_lines.new.calendar
+  noted =
+      let follow : length c.deref-4.result.now ≡ nets_of c.args.design.now =
+      ap length c.deref-4.ensures.value ∙ sym (length-map c.args.circuit.now.followers.items (λ (v : Vec ℕ Global). v.items)) ∙ c.requires.circuit.follow.count in
+      subst (λ (n : ℕ). NotesEach (IsOfLine c.collect.new.changed.items c.args.circuit.now.lines.items n c.next_day-to.result (64 - (c.next_day-to.result - c.args.self.clock)))
+          c.take.new.self c.note_lines.new.calendar) follow
+      (subst (λ (lines : List Pin). NotesEach (IsOfLine c.collect.new.changed.items lines (length c.deref-4.result.now) c.next_day-to.result (64 - (c.next_day-to.result - c.args.self.clock)))
+          c.take.new.self c.note_lines.new.calendar) c.deref-5.ensures.value
+      (subst (λ (changed : List Changed). NotesEach (IsOfLine changed c.deref-5.result.now (length c.deref-4.result.now) c.next_day-to.result (64 - (c.next_day-to.result - c.args.self.clock)))
+          c.take.new.self c.note_lines.new.calendar) c.deref-3.ensures.value c.in_ok-note_lines.ensures.notes))
+
+pub returns-clause-state : goal.returns-clause-state
+returns-clause-state c =
+    let same = with_items_is c.args.self.words c.go_on.new.words (len c) in
+    record {
+      slots = ap length same ∙ c.go_on.ensures.len ∙ count c;
+      live_room = omega (arith, c.go_on.ensures.live, c.requires.state.live_room);
+      marks_room = omega (arith, c.go_on.ensures.room, c.requires.state.marks_room);
+      shows = subst (λ (ws : List Word). Shows (levels_of ws) (trace_of c.args.design.now c.args.circuit.now.lines.items) (length c.args.circuit.now.wiring.cells) c.next_day-to.result) (sym same) (shows c);
+      quiet = subst (λ (ws : List Word). AreQuiet (levels_of ws) (has c.go_on.new.live) (length c.args.circuit.now.wiring.cells)) (sym same)
+      (subst (λ (n : ℕ). AreQuiet (levels_of c.go_on.new.words) (has c.go_on.new.live) n) (count c) c.go_on.ensures.quiet);
+      ahead = next-ahead c.args.design.now c.args.circuit.now c.args.self c.requires.circuit c.requires.state c.take.new.self c.take.new.taken.items c.next_day-to.result
+      c.requires.below c.next_day-to.ensures c.in_ok-take.ensures.takes c.go_on.new.words (shows c) c.collect.new.changed.items (rises c) (right c) (others c)
+      c.note_lines.new.calendar (noted c) c.note_lines.ensures.width c.note_lines.ensures.horizon c.note_lines.ensures.day;
+      begun = omega (arith, c.requires.state.begun,
+      later c.args.design.now c.args.circuit.now c.args.self c.requires.circuit c.requires.state c.take.new.self c.take.new.taken.items c.next_day-to.result c.requires.below c.next_day-to.ensures c.in_ok-take.ensures.takes);
+      within = before-horizon c.args.design.now c.args.circuit.now c.args.self c.requires.circuit c.requires.state c.take.new.self c.take.new.taken.items c.next_day-to.result c.requires.below c.next_day-to.ensures c.in_ok-take.ensures.takes;
+    }
+
+pub returns-clause-tells : goal.returns-clause-tells
+returns-clause-tells c =
+    window-changes c.args.design.now c.args.circuit.now c.args.self c.requires.circuit c.requires.state c.take.new.self c.take.new.taken.items c.next_day-to.result
+    c.requires.below c.next_day-to.ensures c.in_ok-take.ensures.takes c.go_on.new.words (shows c) c.collect.new.changed.items (rises c) (right c) (others c)

@@ -1,0 +1,8 @@
+-- An engine, as its public contracts see it.
+use Rattle.std.specs.Prelude.{ℕ}
+use Rattle.cmb_design.specs.Design.{Design}
+
+-- a design, and the tick below which all its nets are known
+pub record Engine : Type 0 where
+  pub design : Design
+  pub clock : ℕ

@@ -1,0 +1,30 @@
+-- What an engine keeps, and what it is at a clock. Only contracts inside this crate cite these.
+use Rattle.std.specs.Prelude.{◌≡◌, ◌*◌, ◌^◌, ◌<◌, ◌≤◌, length, map}
+use Rattle.cmb_design.specs.Design.{Design}
+use Rattle.cmb_design.specs.Exact.{nets_of}
+use Rattle.cmb_engine.specs.Ahead.{TellsAhead}
+use Rattle.cmb_engine.specs.Bits.{has}
+use Rattle.cmb_engine.specs.Circuits.{AreQuiet, IsWiring, Shows}
+use Rattle.cmb_engine.specs.Lines.{AreFollowers}
+use Rattle.cmb_engine.specs.Traces.{IsPlan, trace_of}
+use Rattle.cmb_engine.specs.Words.{levels_of}
+use Rattle.cmb_engine.specs.declared.circuit.Circuit.{Circuit}
+use Rattle.cmb_engine.specs.declared.state.State.{State}
+
+-- a circuit is that of a design: its plan, who reads each slot, and which lines follow each net
+pub record IsCircuit (design : Design) (circuit : Circuit) : Type 0 where
+  pub plan : IsPlan design circuit.lines.items circuit.wiring.most circuit.width circuit.wiring.cells
+  pub wires : IsWiring circuit.wiring.cells (map (λ list. list.items) circuit.wiring.readers.items) circuit.wiring.flops.items circuit.wiring.most
+  pub few : length circuit.wiring.cells < 2 ^ 32
+  pub follow : AreFollowers circuit.lines.items (nets_of design) (map (λ list. list.items) circuit.followers.items)
+
+-- the state of a design's engine: its words show what the slots show up to its clock, and its calendar what is told from there on
+pub record IsState (design : Design) (circuit : Circuit) (state : State) : Type 0 where
+  pub slots : length state.words.items ≡ length circuit.wiring.cells
+  pub live_room : length circuit.wiring.cells ≤ 64 * length state.live
+  pub marks_room : length circuit.wiring.cells ≤ 64 * length state.marks
+  pub shows : Shows (levels_of state.words.items) (trace_of design circuit.lines.items) (length circuit.wiring.cells) state.clock
+  pub quiet : AreQuiet (levels_of state.words.items) (has state.live) (length circuit.wiring.cells)
+  pub ahead : TellsAhead design circuit.lines.items circuit.width circuit.wiring.cells state.clock state.calendar
+  pub begun : 1 ≤ state.clock
+  pub within : state.clock ≤ design.horizon

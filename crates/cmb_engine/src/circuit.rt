@@ -1,0 +1,18 @@
+//! A design's circuit: what an engine keeps of a design, and never changes.
+
+use crate::cell::Pin;
+use crate::window::Wiring;
+use std::alloc::Global;
+
+/// The slots of a design and how they hang together.
+#[derive(Drop)]
+pub(crate) struct Circuit {
+    /// The cells of the slots, and who reads each.
+    pub wiring: Wiring,
+    /// The nets that lines follow, and how many ticks later each does.
+    pub lines: Vec<Pin>,
+    /// The numbers of the lines that follow each net.
+    pub followers: Vec<Vec<u32>>,
+    /// The most ticks of a window.
+    pub width: u32,
+}

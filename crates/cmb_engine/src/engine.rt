@@ -1,0 +1,98 @@
+//! The engine of a design.
+
+ghost use Rattle.std.specs.Prelude.{◌≡◌, ◌+◌, ◌-◌, ◌<◌, ◌≤◌, IfOk};
+ghost use Rattle.cmb_design.specs.Exact.{nets_of};
+ghost use Rattle.cmb_design.specs.Value.{value};
+ghost use Rattle.cmb_words.specs.Changes.{RisesWithin, Tells};
+
+use crate::circuit::Circuit;
+use crate::open::{open_circuit, open_state};
+use crate::state::State;
+use cmb_design::Design;
+use cmb_wave::Level;
+use cmb_words::Changed;
+use std::alloc::{AllocError, Global};
+use std::marker::Model;
+
+/// The most ticks of a window: a word has the tick before it too.
+pub const LONGEST_WINDOW: u32 = 63;
+
+/// Simulates a design, window by window of ticks.
+///
+/// What it needs of memory depends on the nets, their delays and the changes under way, and not on the horizon.
+#[derive(Drop)]
+pub struct Engine<'d> {
+    design: &'d Design,
+    circuit: Circuit,
+    state: State,
+}
+
+impl<'d> Model for Engine<'d> {
+    ghost use Rattle.cmb_engine.specs.Engines.{Engine};
+
+    ghost Value = { Engine };
+
+    ghost use Rattle.cmb_engine.specs.States.{IsCircuit, IsState};
+
+    ghost view = { λ engine. record { design = engine.design.now; clock = engine.state.clock } };
+
+    ghost invariant = { λ engine. IsCircuit engine.design.now engine.circuit × IsState engine.design.now engine.circuit engine.state };
+}
+
+impl<'d> Engine<'d> {
+    /// The engine of a design, of which tick 0 is known.
+    pub fn open(alloc: Global, design: &'d Design) -> Result<Engine<'d>, AllocError>
+        ensures design { IfOk result (λ engine. engine.design ≡ design.entry.now) }
+        ensures clock { IfOk result (λ engine. engine.clock ≡ 1) }
+    {
+        let circuit = open_circuit(alloc, design)?;
+        let state = open_state(alloc, design, &circuit)?;
+        Ok(Engine {
+            design,
+            circuit,
+            state,
+        })
+    }
+
+    /// The tick below which all nets are known, in ticks.
+    pub fn clock(&self) -> u32
+        ensures value { result ≡ self.now.clock }
+        ensures begun { 1 ≤ result }
+        ensures within { result ≤ self.now.design.horizon }
+    {
+        self.state.clock
+    }
+
+    /// The level of a net, given by its number, at the last tick that is known.
+    pub fn level(&self, net: usize) -> Level
+        requires { net < nets_of self.now.design }
+        ensures { result ≡ value self.now.design net (self.now.clock - 1) }
+    {
+        self.state.words[net].level(63)
+    }
+
+    /// Goes on by a window of at least one tick and at most `LONGEST_WINDOW`, never beyond the horizon. `changed` gets the nets
+    /// that changed in it, by rising number, each with its levels up to the window's end, in place of what it had.
+    pub fn advance(self, changed: &mut Vec<Changed>) -> Result<Engine<'d>, AllocError>
+        requires { self.clock < self.design.horizon }
+        ensures design { IfOk result (λ engine. engine.design ≡ self.entry.design) }
+        ensures later { IfOk result (λ engine. self.entry.clock < engine.clock) }
+        ensures short { IfOk result (λ engine. engine.clock ≤ self.entry.clock + LONGEST_WINDOW) }
+        ensures within { IfOk result (λ engine. engine.clock ≤ self.entry.design.horizon) }
+        ensures nets { IfOk result (λ engine. RisesWithin 0 (nets_of self.entry.design) changed.new.items) }
+        ensures tells { IfOk result (λ engine. Tells (value self.entry.design) (nets_of self.entry.design)
+            self.entry.clock engine.clock changed.new.items) }
+    {
+        let Engine {
+            design,
+            circuit,
+            state,
+        } = self;
+        let state = state.advance(design, &circuit, changed)?;
+        Ok(Engine {
+            design,
+            circuit,
+            state,
+        })
+    }
+}

@@ -1,0 +1,83 @@
+//! How an engine begins.
+
+ghost use Rattle.std.specs.Prelude.{◌≡◌, ℕ, ◌*◌, ◌^◌, ◌<◌, ◌≤◌, true, length, IfOk};
+ghost use Rattle.cmb_engine.specs.Bits.{has};
+ghost use Rattle.cmb_engine.specs.States.{IsCircuit, IsState};
+
+use crate::circuit::Circuit;
+use crate::flops::flops_of;
+use crate::lines::followers_of;
+use crate::marks::Marks;
+use crate::plan::{Plan, plan_of};
+use crate::readers::readers_of;
+use crate::start::start_words;
+use crate::state::State;
+use crate::stimuli::{note_starts, note_stimuli};
+use crate::window::Wiring;
+use cmb_calendar::Calendar;
+use cmb_design::Design;
+use std::alloc::{AllocError, Global};
+
+/// The circuit of a design.
+pub(crate) fn open_circuit(alloc: Global, design: &Design) -> Result<Circuit, AllocError>
+    ensures { IfOk result (λ circuit. IsCircuit design.now circuit) }
+{
+    let Plan {
+        cells,
+        lines,
+        most,
+        width,
+    } = plan_of(alloc, design)?;
+    let readers = readers_of(alloc, &cells)?;
+    let flops = flops_of(alloc, &cells)?;
+    let followers = followers_of(alloc, &lines, design.netlist().len())?;
+    Ok(Circuit {
+        wiring: Wiring {
+            cells,
+            readers,
+            flops,
+            most,
+        },
+        lines,
+        followers,
+        width,
+    })
+}
+
+// All numbers below `count`.
+fn all_below(alloc: Global, count: usize) -> Result<Marks, AllocError>
+    ensures room { IfOk result (λ marks. count < 64 * length marks) }
+    ensures all { IfOk result (λ marks. (m : ℕ) → m < count → has marks m ≡ true) }
+{
+    let mut marks = Marks::new(alloc, count)?;
+    for number in 0..count {
+        marks.insert(number);
+    }
+    Ok(marks)
+}
+
+/// The state of a design's engine of which tick 0 is known.
+pub(crate) fn open_state(
+    alloc: Global,
+    design: &Design,
+    circuit: &Circuit,
+) -> Result<State, AllocError>
+    requires { IsCircuit design.now circuit.now }
+    ensures state { IfOk result (λ state. IsState design.now circuit.now state) }
+    ensures clock { IfOk result (λ state. state.clock ≡ 1) }
+{
+    let words = start_words(alloc, design, &circuit.lines)?;
+    let live = all_below(alloc, words.len())?;
+    let marks = Marks::new(alloc, words.len())?;
+    let mut calendar = Calendar::open(alloc, circuit.width, design.horizon())?;
+    note_stimuli(design, &mut calendar)?;
+    note_starts(&words, &circuit.lines, design.netlist().len(), &mut calendar)?;
+    Ok(State {
+        words,
+        live,
+        marks,
+        calendar,
+        tells: Vec::new(alloc),
+        clock: 1,
+    })
+}

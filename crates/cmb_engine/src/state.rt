@@ -1,0 +1,76 @@
+//! The state of an engine, and its way from window to window.
+
+ghost use Rattle.std.specs.Prelude.{◌≡◌, ◌+◌, ◌<◌, ◌≤◌, IfOk, OnOk};
+ghost use Rattle.cmb_design.specs.Exact.{nets_of};
+ghost use Rattle.cmb_design.specs.Value.{value};
+ghost use Rattle.cmb_words.specs.Changes.{RisesWithin, Tells};
+ghost use Rattle.cmb_engine.specs.States.{IsCircuit, IsState};
+
+use crate::circuit::Circuit;
+use crate::collect::collect;
+use crate::lines::note_lines;
+use crate::marks::Marks;
+use crate::window::go_on;
+use cmb_calendar::{Calendar, Tell};
+use cmb_design::Design;
+use cmb_words::{Changed, Word};
+use std::alloc::AllocError;
+
+/// What changes while an engine goes on.
+#[derive(Drop)]
+pub(crate) struct State {
+    /// The word of each slot, up to the clock.
+    pub words: Vec<Word>,
+    /// The slots whose words aren't constant, and maybe others.
+    pub live: Marks,
+    /// The slots with news.
+    pub marks: Marks,
+    /// What is told from the clock on.
+    pub calendar: Calendar,
+    /// Room for what is told of a window.
+    pub tells: Vec<Tell>,
+    /// The tick below which all slots are known.
+    pub clock: u32,
+}
+
+impl State {
+    /// Goes on by a window, and says which nets changed in it.
+    pub(crate) fn advance(
+        self,
+        design: &Design,
+        circuit: &Circuit,
+        changed: &mut Vec<Changed>,
+    ) -> Result<State, AllocError>
+        requires circuit { IsCircuit design.now circuit.now }
+        requires state { IsState design.now circuit.now self }
+        requires below { self.clock < design.now.horizon }
+        ensures state { IfOk result (λ state. IsState design.now circuit.now state) }
+        ensures later { IfOk result (λ state. (self.clock < state.clock) × (state.clock ≤ self.clock + 63)) }
+        ensures nets { IfOk result (λ state. RisesWithin 0 (nets_of design.now) changed.new.items) }
+        ensures tells { IfOk result (λ state. Tells (value design.now) (nets_of design.now)
+            self.clock state.clock changed.new.items) }
+    {
+        let State {
+            mut words,
+            mut live,
+            mut marks,
+            mut calendar,
+            mut tells,
+            clock,
+        } = self;
+        let to = calendar.next_day();
+        let ticks = to - clock;
+        calendar.take(&mut tells)?;
+        go_on(&circuit.wiring, &tells, &mut words, &mut live, &mut marks, ticks, to);
+        collect(&words, &live, design.netlist().len(), 64 - ticks, changed)?;
+        note_lines(changed, &circuit.followers, &circuit.lines, &mut calendar, to, 64 - ticks)?;
+        Ok(State {
+            words,
+            live,
+            marks,
+            calendar,
+            tells,
+            clock: to,
+        })
+    }
+}
