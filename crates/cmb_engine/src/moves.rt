@@ -17,7 +17,8 @@ pub(crate) fn move_on(words: &mut [Word], live: &mut Marks, ticks: u32)
     requires quiet { AreQuiet (levels_of words.old) (has live.old) (length words.old) }
     ensures len { length words.new ≡ length words.old }
     ensures room { length live.new ≡ length live.old }
-    ensures moved { (slot place : ℕ) → place < 64 → levels_of words.new slot place ≡ levels_of words.old slot (min (place + ticks) 63) }
+    ensures moved { (slot place : ℕ) → place < 64
+        → levels_of words.new slot place ≡ levels_of words.old slot (min (place + ticks) 63) }
     ensures quiet { AreQuiet (levels_of words.new) (has live.new) (length words.old) }
 {
     let mut from = 0;
