@@ -14,6 +14,7 @@ pub mod ShowFacts
 pub mod SlotFacts
 pub mod SweepFacts
 pub mod TableFacts
+pub mod TellFacts
 pub mod TraceFacts
 pub mod TruthFacts
 pub mod VisitFacts

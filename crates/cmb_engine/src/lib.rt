@@ -14,5 +14,6 @@ mod moves;
 mod readers;
 mod settle;
 mod start;
+mod told;
 mod visit;
 mod window;
