@@ -3,7 +3,6 @@ use Rattle.cmb_engine.specs.Cells.{IsSteadyFrom, cell_at}
 use Rattle.cmb_engine.specs.Circuits.{IsWiring}
 use Rattle.cmb_engine.specs.Tells.{AreOfWindow}
 use Rattle.cmb_engine.specs.Words.{levels_of}
-use Rattle.cmb_engine.proofs.TraceFacts.{lawful-later}
 use Rattle.cmb_engine.proofs.WindowFacts.{IsBegun, marked-kept, window-wired, window-shows}
 use Rattle.cmb_engine.proofs.window.go_on.Goals as goal
 
@@ -14,10 +13,6 @@ pub write_told-requires-clause-slots : goal.write_told-requires-clause-slots
 write_told-requires-clause-slots c = λ tell among.
     let told = c.requires.told tell among in
     (omega (arith, told.0, c.move_on.ensures.len), omega (arith, told.2, c.requires.fits), told.3)
-
-pub mark_arrivals-requires-clause-lawful : goal.mark_arrivals-requires-clause-lawful
-mark_arrivals-requires-clause-lawful c = λ slot inside.
-    lawful-later (length c.args.wiring.now.cells) c.args.wiring.now.most (64 - c.args.ticks) (cell_at c.args.wiring.now.cells slot) (omega (arith, c.requires.fits)) (c.requires.wiring.lawful slot inside)
 
 pub settle-requires-clause-wired : goal.settle-requires-clause-wired
 settle-requires-clause-wired c =
