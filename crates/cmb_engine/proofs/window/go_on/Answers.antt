@@ -24,7 +24,7 @@ pub returns-clause-shows : goal.returns-clause-shows
 returns-clause-shows c = λ trace meets shows right slot place inside small.
     let lists : List (List ℕ) = lists_of c.as_slice-readers.result.now in
     let begun : IsBegun c.args.wiring.now.cells lists c.args.wiring.now.most c.args.tells.now (levels_of c.move_on.new.words) (levels_of c.write_told.new.words)
-        c.move_on.new.live c.mark_arrivals.new.marks c.args.to (64 - c.args.ticks) =
+    c.move_on.new.live c.mark_arrivals.new.marks c.args.to (64 - c.args.ticks) =
     record {
       quiet = λ s p l. c.move_on.ensures.quiet s p (omega (arith, l, c.requires.nets));
       news = λ s l is.
