@@ -1,5 +1,5 @@
 -- Why words show a trace at the end of a window that showed it at its begin.
-use Rattle.std.proofs.Common.{◌≡◌, ◌≢◌, ℕ, ◌+◌, ◌-◌, ◌<◌, ◌≤◌, ◌⊎◌, inl, inr, min, true, false, List, [], length, get_or, refl, sym, ap, subst, ◌∙◌, arith}
+use Rattle.std.proofs.Common.{◌≡◌, ℕ, ◌+◌, ◌-◌, ◌<◌, ◌≤◌, ◌⊎◌, inl, inr, min, true, false, List, [], length, get_or, refl, sym, ap, subst, ◌∙◌, arith}
 use Rattle.std.specs.Prelude.{Contains}
 use Rattle.std.specs.List.{AllByRecursion}
 use Rattle.std.proofs.lemmas.Bool.{cases_lt, cases_Bool, false≢true}
@@ -27,7 +27,7 @@ steady-at word first place steady late small = go (cases_lt place first)
     go (inl l) = let e : place ≡ first - 1 = omega arith in ap word e
     go (inr l) = steady place l small
 
--- who is marked stays so
+-- what is marked stays so
 pub marked-kept : (P : Type 0) (old new numbers : List ℕ) → ((m : ℕ) → has old m ≡ true → has new m ≡ true) → P ⊎ AreMarked (has old) numbers → P ⊎ AreMarked (has new) numbers
 marked-kept P old new numbers kept (inl p) = inl p
 marked-kept P old new numbers kept (inr marked) = inr (λ k small. kept (get_or numbers k 0) (marked k small))
@@ -75,7 +75,7 @@ module _ (trace : ℕ → ℕ → Level) (from ticks to first most count : ℕ) 
 
 -- ---- before they are settled
 
--- words that moved on, of which no reader of news isn't marked, were told
+-- what stands before words are settled: those that moved on, what was told of them, and marks of all that read something new
 pub record IsBegun (cells : List Cell) (readers : List (List ℕ)) (most : ℕ) (tells : List Tell) (moved told : ℕ → ℕ → Level) (live marks : List ℕ) (to first : ℕ) : Type 0 where
   pub quiet : AreQuiet moved (has live) (length cells)
   pub news : (slot : ℕ) → slot < length cells → has live slot ≡ true → IsSteadyFrom (moved slot) (first - most) ⊎ AreMarked (has marks) (get_or readers slot [])
@@ -88,7 +88,7 @@ module _ (trace : ℕ → ℕ → Level) (cells : List Cell) (readers : List (Li
     (shows : Shows old trace (length cells) from) (moves : (slot place : ℕ) → place < 64 → moved slot place ≡ old slot (min (place + ticks) 63))
     (tells : List Tell) (right : AreOfWindow trace (cell_at cells) (length cells) from to tells) (live marks : List ℕ)
     (begun : IsBegun cells readers most tells moved told live marks to first) where
-  -- a slot that the window finds as it was
+  -- a slot of which nothing is new: it isn't told, and repeats its level as far back as a pin looks
   abbrev IsCalm : ℕ → Type 0
   IsCalm slot = ((place : ℕ) → place < 64 → told slot place ≡ moved slot place) × IsSteadyFrom (moved slot) (first - most)
 
@@ -97,10 +97,12 @@ module _ (trace : ℕ → ℕ → Level) (cells : List Cell) (readers : List (Li
 
   -- so is what a slot reads that isn't marked
   calm : (reader slot : ℕ) → has marks reader ≡ false → reads (cell_at cells reader) slot ≡ true → slot < length cells → IsCalm slot
-  calm reader slot none read inside =
-      (λ place small.
-      begun.told_words slot place inside small
-      ∙ told-keeps tells slot (to + place - 64) (moved slot place) (λ tell among e l. marked (subst (λ (n : ℕ). AreMarked (has marks) (get_or readers n [])) e (begun.told_news tell among))), go (cases_Bool (has live slot)))
+  calm reader slot none read inside = (
+    λ place small.
+        begun.told_words slot place inside small
+        ∙ told-keeps tells slot (to + place - 64) (moved slot place) (λ tell among e l. marked (subst (λ (n : ℕ). AreMarked (has marks) (get_or readers n [])) e (begun.told_news tell among))),
+    go (cases_Bool (has live slot)),
+  )
     where
       marked : AreMarked (has marks) (get_or readers slot []) → ⊥
       marked h = reader-marked cells slot (get_or readers slot []) marks (wiring.readers_of slot) h reader none read
@@ -138,13 +140,12 @@ module _ (trace : ℕ → ℕ → Level) (cells : List Cell) (readers : List (Li
   steady-cell : (slot : ℕ) (cell : Cell) → told slot (first - 1) ≡ cell_row trace slot (to + (first - 1) - 64) cell → AllByRecursion IsCalmPin (pins_of cell)
       → ((place : ℕ) → first ≤ place → place < 64 → Arrives cell (to + place - 64) → ⊥) → IsSteady told to first slot cell
   steady-cell slot Told row pins none = tt
-  steady-cell slot (Gate kind pins) row so none =
-      (
-        row
+  steady-cell slot (Gate kind pins) row so none = (
+    row
         ∙ ap (gate kind) (sym (pins-shown trace to (first - 1) pins (omega arith) (all-weaker IsCalmPin (λ pin. pin.delay ≤ first - 1) pins (λ pin h. omega (arith, h.2)) so)))
         ∙ ap (gate kind) (sym (seen-same told (shown trace to) (first - 1) pins (all-weaker IsCalmPin (λ pin. seen told (first - 1) pin ≡ seen (shown trace to) (first - 1) pin) pins calm-shown so))),
-        λ place late small. all-weaker IsCalmPin (λ pin. seen told place pin ≡ seen told (first - 1) pin) pins (λ pin h. calm-seen pin h place late small) so,
-      )
+    λ place late small. all-weaker IsCalmPin (λ pin. seen told place pin ≡ seen told (first - 1) pin) pins (λ pin h. calm-seen pin h place late small) so,
+  )
   steady-cell slot (Flop clock pin) row so none = λ place late small a. absurd (none place late small a)
 
   -- a made slot isn't told

@@ -3,7 +3,6 @@ use Rattle.cmb_engine.specs.Cells.{IsSteadyFrom, cell_at}
 use Rattle.cmb_engine.specs.Circuits.{IsWiring}
 use Rattle.cmb_engine.specs.Tells.{AreOfWindow}
 use Rattle.cmb_engine.specs.Words.{levels_of}
-use Rattle.cmb_engine.proofs.TraceFacts.{lawful-later}
 use Rattle.cmb_engine.proofs.WindowFacts.{IsBegun, marked-kept, window-wired, window-shows}
 use Rattle.cmb_engine.proofs.window.go_on.Goals as goal
 
@@ -15,10 +14,6 @@ write_told-requires-clause-slots c = λ tell among.
     let told = c.requires.told tell among in
     (omega (arith, told.0, c.move_on.ensures.len), omega (arith, told.2, c.requires.fits), told.3)
 
-pub mark_arrivals-requires-clause-lawful : goal.mark_arrivals-requires-clause-lawful
-mark_arrivals-requires-clause-lawful c = λ slot inside.
-    lawful-later (length c.args.wiring.now.cells) c.args.wiring.now.most (64 - c.args.ticks) (cell_at c.args.wiring.now.cells slot) (omega (arith, c.requires.fits)) (c.requires.wiring.lawful slot inside)
-
 pub settle-requires-clause-wired : goal.settle-requires-clause-wired
 settle-requires-clause-wired c =
     window-wired c.args.wiring.now.cells (lists_of c.as_slice-readers.result.now) c.args.wiring.now.flops.items c.args.wiring.now.most
@@ -29,7 +24,7 @@ pub returns-clause-shows : goal.returns-clause-shows
 returns-clause-shows c = λ trace meets shows right slot place inside small.
     let lists : List (List ℕ) = lists_of c.as_slice-readers.result.now in
     let begun : IsBegun c.args.wiring.now.cells lists c.args.wiring.now.most c.args.tells.now (levels_of c.move_on.new.words) (levels_of c.write_told.new.words)
-        c.move_on.new.live c.mark_arrivals.new.marks c.args.to (64 - c.args.ticks) =
+    c.move_on.new.live c.mark_arrivals.new.marks c.args.to (64 - c.args.ticks) =
     record {
       quiet = λ s p l. c.move_on.ensures.quiet s p (omega (arith, l, c.requires.nets));
       news = λ s l is.
