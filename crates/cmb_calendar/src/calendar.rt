@@ -93,3 +93,49 @@ impl Calendar {
         put_in_order(taken)
     }
 }
+
+#[cfg(test)]
+mod tests {
+    use crate::{Calendar, Tell};
+    use cmb_wave::Level;
+    use std::test::Fail;
+
+    // Days of ten ticks up to tick 25. What day 0 and day 1 have comes by rising ticks, and the tell at tick 25 is gone.
+    #[test]
+    fn days_come_in_order(rt: HostRuntime) -> Result<(), Fail> {
+        let early = Tell {
+            tick: 1,
+            slot: 2,
+            level: Level::X,
+        };
+        let next = Tell {
+            tick: 9,
+            slot: 1,
+            level: Level::Zero,
+        };
+        let late = Tell {
+            tick: 12,
+            slot: 0,
+            level: Level::One,
+        };
+        let outside = Tell {
+            tick: 25,
+            slot: 0,
+            level: Level::Zero,
+        };
+        let mut calendar = Calendar::open(rt.alloc(), 10, 25)?;
+        for tell in [late, next, outside, early] {
+            calendar.note(tell)?;
+        }
+        assert_eq!(rt; calendar.next_day(), 10);
+        let mut taken = Vec::new(rt.alloc());
+        calendar.take(&mut taken)?;
+        assert_eq!(rt; taken.as_slice(), [early, next].as_slice());
+        calendar.take(&mut taken)?;
+        assert_eq!(rt; taken.as_slice(), [late].as_slice());
+        assert_eq!(rt; calendar.next_day(), 25);
+        calendar.take(&mut taken)?;
+        assert_eq!(rt; taken.as_slice(), [].as_slice());
+        Ok(())
+    }
+}

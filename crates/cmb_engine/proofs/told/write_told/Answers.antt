@@ -1,0 +1,99 @@
+use Rattle.std.proofs.Common.{◌≡◌, ◌+◌, ◌-◌, ◌<◌, ◌≤◌, inl, inr, ℕ, List, [], ◌∷◌, Vec, Global, length, map, get_or, subst, sym, ap, ◌∙◌, arith}
+use Rattle.std.proofs.lemmas.Bool.{cases_lt}
+use Rattle.std.proofs.lemmas.List.{get_or_default, take_all}
+use Rattle.std.proofs.lemmas.List.Elements.{Contains-get_or}
+use Rattle.std.specs.List.{Contains}
+use Rattle.cmb_wave.specs.declared.level.Level.{Level}
+use Rattle.cmb_wave.specs.declared.level.Level.TheVariants.{Zero}
+use Rattle.cmb_calendar.specs.declared.tell.Tell.{Tell}
+use Rattle.cmb_engine.specs.Bits.{has}
+use Rattle.cmb_engine.specs.Cells.{AreMarked}
+use Rattle.cmb_engine.specs.Tells.{told_level}
+use Rattle.cmb_engine.specs.Words.{levels_of}
+use Rattle.cmb_engine.proofs.LineFacts.{list_at}
+use Rattle.cmb_engine.proofs.TellFacts.{told-more}
+use Rattle.cmb_engine.proofs.told.write_told.Goals as goal
+
+abbrev none : Tell
+none = record { tick = 0; slot = 0; level = Zero }
+
+abbrev lists_of : List (Vec ℕ Global) → List (List ℕ)
+lists_of readers = map (λ (list : Vec ℕ Global). list.items) readers
+
+-- what is so of the tell of an iteration
+record IsSound (tell : Tell) (count to : ℕ) : Type 0 where
+  pub slot : tell.slot < count
+  pub begun : 1 ≤ tell.tick
+  pub reaches : to ≤ tell.tick + 64
+  pub upto : tell.tick < to
+
+sound : (tells : List Tell) (k count to first : ℕ) → ((tell : Tell) → Contains tells tell → (tell.slot < count) × (to + first ≤ tell.tick + 64) × (tell.tick < to))
+    → 65 ≤ to + first → k < length tells → IsSound (get_or tells k none) count to
+sound tells k count to first slots inside small =
+    let facts = slots (get_or tells k none) (Contains-get_or tells k none small) in
+    record { slot = facts.0; begun = omega (arith, facts.1); reaches = omega (arith, facts.1); upto = facts.2 }
+
+pub bounds-readers-slot : goal.bounds-readers-slot
+bounds-readers-slot c =
+    let tell = sound c.args.tells.now c.loop-tell.tell-index (length c.args.words.now) c.args.to c.args.first c.requires.slots c.requires.inside c.loop-tell-test.true in
+    omega (arith, tell.slot, c.requires.lists)
+
+pub write_tell-requires : goal.write_tell-requires
+write_tell-requires c =
+    let tell = sound c.args.tells.now c.loop-tell.tell-index (length c.args.words.now) c.args.to c.args.first c.requires.slots c.requires.inside c.loop-tell-test.true in
+    let place : ℕ = (get_or c.args.tells.now c.loop-tell.tell-index none).slot in
+    let list : c.as_slice.result.now ≡ get_or (lists_of c.args.readers.now) place [] =
+    list_at c.args.readers.now place c.index-readers-slot.result c.as_slice.result.now (omega (arith, tell.slot, c.requires.lists)) c.index-readers-slot.is c.as_slice.ensures.value in
+    record {
+      slot = omega (arith, tell.slot, c.loop-tell.invariant.len);
+      begun = tell.begun;
+      from = tell.reaches;
+      upto = tell.upto;
+      to = c.requires.to;
+      within = λ k d small.
+          let below : get_or c.as_slice.result.now k d < length c.args.words.now =
+          subst (λ (readers : List ℕ). get_or readers k d < length c.args.words.now) (sym list)
+          (c.requires.within place k d (subst (λ (readers : List ℕ). k < length readers) list small)) in
+          omega (arith, below, c.requires.room, c.loop-tell.invariant.room);
+      live = omega (arith, c.requires.live, c.loop-tell.invariant.len, c.loop-tell.invariant.live_room);
+    }
+
+pub loop-tell-preserved : goal.loop-tell-preserved
+loop-tell-preserved c =
+    let tell : Tell = get_or c.args.tells.now c.loop-tell.tell-index none in
+    let lists : List (List ℕ) = lists_of c.args.readers.now in
+    let facts = sound c.args.tells.now c.loop-tell.tell-index (length c.args.words.now) c.args.to c.args.first c.requires.slots c.requires.inside c.loop-tell-test.true in
+    let list : c.as_slice.result.now ≡ get_or lists tell.slot [] =
+    list_at c.args.readers.now tell.slot c.index-readers-slot.result c.as_slice.result.now (omega (arith, facts.slot, c.requires.lists)) c.index-readers-slot.is c.as_slice.ensures.value in
+    record {
+      len = c.write_tell.ensures.len ∙ c.loop-tell.invariant.len;
+      room = c.write_tell.ensures.room ∙ c.loop-tell.invariant.room;
+      live_room = c.write_tell.ensures.live_room ∙ c.loop-tell.invariant.live_room;
+      words = λ slot place small.
+          c.write_tell.ensures.words slot place small
+          ∙ ap (λ (held : Level). told_level (tell ∷ []) slot held (c.args.to + place - 64)) (c.loop-tell.invariant.words slot place small)
+          ∙ sym (told-more c.args.tells.now c.loop-tell.tell-index none slot (levels_of c.args.words.now slot place) (c.args.to + place - 64) c.loop-tell-test.true);
+      kept = λ m h. c.write_tell.ensures.kept m (c.loop-tell.invariant.kept m h);
+      same = λ m place idle. let parts = c.write_tell.ensures.same m place idle in parts.1 ∙ c.loop-tell.invariant.same m place parts.0;
+      marks = λ m h. c.write_tell.ensures.marks m (c.loop-tell.invariant.marks m h);
+      news = λ k d l.
+          elim (cases_lt k c.loop-tell.tell-index) [
+            | inl before ↦ λ j small. c.write_tell.ensures.marks _ (c.loop-tell.invariant.news k d before j small)
+            | inr now ↦
+                let e : c.loop-tell.tell-index ≡ k = omega (arith, l, now) in
+                let here : tell ≡ get_or c.args.tells.now k d =
+                get_or_default c.args.tells.now c.loop-tell.tell-index none d c.loop-tell-test.true ∙ ap (λ (n : ℕ). get_or c.args.tells.now n d) e in
+                subst (λ (t : Tell). AreMarked (has c.write_tell.new.marks) (get_or lists t.slot [])) here
+                (subst (λ (readers : List ℕ). AreMarked (has c.write_tell.new.marks) readers) list c.write_tell.ensures.news)
+          ];
+    }
+
+pub returns-clause-words : goal.returns-clause-words
+returns-clause-words c = λ slot place inside small.
+    c.loop-tell.invariant.words slot place small
+    ∙ ap (λ (tells : List Tell). told_level tells slot (levels_of c.args.words.now slot place) (c.args.to + place - 64)) (take_all c.loop-tell.tell-index c.args.tells.now c.loop-tell-test.false)
+
+pub returns-clause-news : goal.returns-clause-news
+returns-clause-news c = λ tell among.
+    subst (λ (t : Tell). AreMarked (has c.loop-tell.marks) (get_or (lists_of c.args.readers.now) t.slot [])) among.2
+    (c.loop-tell.invariant.news among.0 tell (omega (arith, among.1, c.loop-tell-test.false)))

@@ -1,0 +1,78 @@
+//! What is told of slots in a window.
+
+ghost use Rattle.std.specs.Prelude.{◌≡◌, ℕ, ◌+◌, ◌-◌, ◌*◌, ◌<◌, ◌≤◌, true, false, [], ◌∷◌, All, Contains, length, map, slice_index_or};
+ghost use Rattle.cmb_calendar.specs.declared.tell.Tell.{Tell};
+ghost use Rattle.cmb_engine.specs.Bits.{has};
+ghost use Rattle.cmb_engine.specs.Cells.{AreBelow, AreMarked};
+ghost use Rattle.cmb_engine.specs.Tells.{told_level};
+ghost use Rattle.cmb_engine.specs.Words.{levels_of};
+
+use crate::marks::Marks;
+use crate::settle::mark_all;
+use cmb_calendar::Tell;
+use cmb_words::Word;
+
+// Writes what is told of a slot from its tick on, and marks who reads the slot.
+fn write_tell(
+    tell: Tell,
+    readers: &[u32],
+    words: &mut [Word],
+    live: &mut Marks,
+    marks: &mut Marks,
+    to: u32,
+)
+    requires slot { tell.slot < length words.old }
+    requires begun { 1 ≤ tell.tick }
+    requires from { to ≤ tell.tick + 64 }
+    requires upto { tell.tick < to }
+    requires to { to ≤ 1000000 }
+    requires within { All (λ reader. reader < 64 * length marks.old) readers.now }
+    requires live { length words.old ≤ 64 * length live.old }
+    ensures len { length words.new ≡ length words.old }
+    ensures room { length marks.new ≡ length marks.old }
+    ensures live_room { length live.new ≡ length live.old }
+    ensures words { (slot place : ℕ) → place < 64 → levels_of words.new slot place ≡ told_level (tell ∷ []) slot (levels_of words.old slot place) (to + place - 64) }
+    ensures kept { (m : ℕ) → has live.old m ≡ true → has live.new m ≡ true }
+    ensures same { (m place : ℕ) → has live.new m ≡ false → (has live.old m ≡ false) × (levels_of words.new m place ≡ levels_of words.old m place) }
+    ensures marks { (m : ℕ) → has marks.old m ≡ true → has marks.new m ≡ true }
+    ensures news { AreMarked (has marks.new) readers.now }
+{
+    let slot = tell.slot as usize;
+    words[slot] = words[slot].with_from(tell.tick + 64 - to, tell.level);
+    live.insert(slot);
+    mark_all(marks, readers);
+}
+
+/// Writes what is told into the words that end before a tick, and marks who reads the slots that it is told of.
+pub(crate) fn write_told(
+    tells: &[Tell],
+    readers: &[Vec<u32>],
+    words: &mut [Word],
+    live: &mut Marks,
+    marks: &mut Marks,
+    to: u32,
+    first: u32,
+)
+    requires slots { (tell : Tell) → Contains tells.now tell → (tell.slot < length words.old) × (to + first ≤ tell.tick + 64) × (tell.tick < to) }
+    requires lists { length readers.now ≡ length words.old }
+    requires within { AreBelow (length words.old) (map (λ list. list.items) readers.now) }
+    requires room { length words.old ≤ 64 * length marks.old }
+    requires live { length words.old ≤ 64 * length live.old }
+    requires begun { 1 ≤ first }
+    requires first { first < 64 }
+    requires inside { 65 ≤ to + first }
+    requires to { to ≤ 1000000 }
+    ensures len { length words.new ≡ length words.old }
+    ensures room { length marks.new ≡ length marks.old }
+    ensures live_room { length live.new ≡ length live.old }
+    ensures words { (slot place : ℕ) → slot < length words.old → place < 64 → levels_of words.new slot place ≡ told_level tells.now slot (levels_of words.old slot place) (to + place - 64) }
+    ensures kept { (m : ℕ) → has live.old m ≡ true → has live.new m ≡ true }
+    ensures same { (m place : ℕ) → has live.new m ≡ false → levels_of words.new m place ≡ levels_of words.old m place }
+    ensures marks { (m : ℕ) → has marks.old m ≡ true → has marks.new m ≡ true }
+    ensures news { (tell : Tell) → Contains tells.now tell → AreMarked (has marks.new) (slice_index_or (map (λ list. list.items) readers.now) tell.slot []) }
+{
+    for tell in tells {
+        let slot = tell.slot as usize;
+        write_tell(*tell, readers[slot].as_slice(), words, live, marks, to);
+    }
+}
