@@ -111,6 +111,9 @@ pub(crate) fn note_lines(
     ensures horizon { calendar.new.horizon ≡ calendar.old.horizon }
     ensures day { calendar.new.day ≡ calendar.old.day }
 {
+    if lines.is_empty() {
+        return Ok(());
+    }
     let nets = followers.len() as u32;
     for one in changed {
         let numbers = followers[one.net as usize].as_slice();
