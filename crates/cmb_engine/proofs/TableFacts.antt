@@ -11,6 +11,7 @@ use Rattle.cmb_engine.specs.declared.cell.Pin.{Pin}
 use Rattle.cmb_engine.specs.declared.cells.Part.{Part}
 use Rattle.cmb_engine.specs.declared.cells.Rule.{Rule}
 use Rattle.cmb_engine.specs.declared.cells.Rule.TheVariants as rule
+use Rattle.cmb_engine.proofs.JoinFacts.{behind, still}
 
 -- one more rule
 pub inside_push : (pins : List Pin) (rules : List Rule) (r : Rule) → AreInside pins rules → IsInside pins r → AreInside pins (rules ++ r ∷ [])
@@ -22,19 +23,6 @@ cells_push pins [] r = refl
 cells_push pins (s ∷ rules) r = ap (λ cells. cell_of pins s ∷ cells) (cells_push pins rules r)
 
 -- ---- more pins
-
-still : (xs ys : List Pin) (first count : ℕ) → first + count ≤ length xs → take count (drop first (xs ++ ys)) ≡ take count (drop first xs)
-still [] ys zero zero h = refl
-still [] ys zero (suc count) h = absurd (omega arith)
-still [] ys (suc first) count h = absurd (omega arith)
-still (x ∷ xs) ys zero zero h = refl
-still (x ∷ xs) ys zero (suc count) h = ap (λ l. x ∷ l) (still xs ys zero count (omega arith))
-still (x ∷ xs) ys (suc first) count h = still xs ys first count (omega arith)
-
-behind : (xs ys : List Pin) → take (length ys) (drop (length xs) (xs ++ ys)) ≡ ys
-behind [] [] = refl
-behind [] (y ∷ ys) = ap (λ l. y ∷ l) (behind [] ys)
-behind (x ∷ xs) ys = behind xs ys
 
 pub pins_at-behind : (xs ys : List Pin) (part : Part) → part.first ≡ length xs → part.count ≡ length ys → pins_at (xs ++ ys) part ≡ ys
 pins_at-behind xs ys part first count = rw (first, count) (behind xs ys)

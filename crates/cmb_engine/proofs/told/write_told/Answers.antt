@@ -17,9 +17,6 @@ use Rattle.cmb_engine.proofs.told.write_told.Goals as goal
 abbrev none : Tell
 none = record { tick = 0; slot = 0; level = Zero }
 
-abbrev lists_of : List (Vec ℕ Global) → List (List ℕ)
-lists_of readers = map (λ (list : Vec ℕ Global). list.items) readers
-
 -- what is so of the tell of an iteration
 record IsSound (tell : Tell) (count to : ℕ) : Type 0 where
   pub slot : tell.slot < count
@@ -33,8 +30,8 @@ sound tells k count to first slots inside small =
     let facts = slots (get_or tells k none) (Contains-get_or tells k none small) in
     record { slot = facts.0; begun = omega (arith, facts.1); reaches = omega (arith, facts.1); upto = facts.2 }
 
-pub bounds-readers-slot : goal.bounds-readers-slot
-bounds-readers-slot c =
+pub of-requires : goal.of-requires
+of-requires c =
     let tell = sound c.args.tells.now c.loop-tell.tell-index (length c.args.words.now) c.args.to c.args.first c.requires.slots c.requires.inside c.loop-tell-test.true in
     omega (arith, tell.slot, c.requires.lists)
 
@@ -42,8 +39,6 @@ pub write_tell-requires : goal.write_tell-requires
 write_tell-requires c =
     let tell = sound c.args.tells.now c.loop-tell.tell-index (length c.args.words.now) c.args.to c.args.first c.requires.slots c.requires.inside c.loop-tell-test.true in
     let place : ℕ = (get_or c.args.tells.now c.loop-tell.tell-index none).slot in
-    let list : c.as_slice.result.now ≡ get_or (lists_of c.args.readers.now) place [] =
-    list_at c.args.readers.now place c.index-readers-slot.result c.as_slice.result.now (omega (arith, tell.slot, c.requires.lists)) c.index-readers-slot.is c.as_slice.ensures.value in
     record {
       slot = omega (arith, tell.slot, c.loop-tell.invariant.len);
       begun = tell.begun;
@@ -51,9 +46,9 @@ write_tell-requires c =
       upto = tell.upto;
       to = c.requires.to;
       within = λ k d small.
-          let below : get_or c.as_slice.result.now k d < length c.args.words.now =
-          subst (λ (readers : List ℕ). get_or readers k d < length c.args.words.now) (sym list)
-          (c.requires.within place k d (subst (λ (readers : List ℕ). k < length readers) list small)) in
+          let below : get_or c.of.result.now k d < length c.args.words.now =
+          subst (λ (readers : List ℕ). get_or readers k d < length c.args.words.now) (sym c.of.ensures)
+          (c.requires.within place k d (subst (λ (readers : List ℕ). k < length readers) c.of.ensures small)) in
           omega (arith, below, c.requires.room, c.loop-tell.invariant.room);
       live = omega (arith, c.requires.live, c.loop-tell.invariant.len, c.loop-tell.invariant.live_room);
     }
@@ -61,10 +56,8 @@ write_tell-requires c =
 pub loop-tell-preserved : goal.loop-tell-preserved
 loop-tell-preserved c =
     let tell : Tell = get_or c.args.tells.now c.loop-tell.tell-index none in
-    let lists : List (List ℕ) = lists_of c.args.readers.now in
+    let lists : List (List ℕ) = c.args.readers.now in
     let facts = sound c.args.tells.now c.loop-tell.tell-index (length c.args.words.now) c.args.to c.args.first c.requires.slots c.requires.inside c.loop-tell-test.true in
-    let list : c.as_slice.result.now ≡ get_or lists tell.slot [] =
-    list_at c.args.readers.now tell.slot c.index-readers-slot.result c.as_slice.result.now (omega (arith, facts.slot, c.requires.lists)) c.index-readers-slot.is c.as_slice.ensures.value in
     record {
       len = c.write_tell.ensures.len ∙ c.loop-tell.invariant.len;
       room = c.write_tell.ensures.room ∙ c.loop-tell.invariant.room;
@@ -84,7 +77,7 @@ loop-tell-preserved c =
                 let here : tell ≡ get_or c.args.tells.now k d =
                 get_or_default c.args.tells.now c.loop-tell.tell-index none d c.loop-tell-test.true ∙ ap (λ (n : ℕ). get_or c.args.tells.now n d) e in
                 subst (λ (t : Tell). AreMarked (has c.write_tell.new.marks) (get_or lists t.slot [])) here
-                (subst (λ (readers : List ℕ). AreMarked (has c.write_tell.new.marks) readers) list c.write_tell.ensures.news)
+                (subst (λ (readers : List ℕ). AreMarked (has c.write_tell.new.marks) readers) c.of.ensures c.write_tell.ensures.news)
           ];
     }
 
@@ -95,5 +88,5 @@ returns-clause-words c = λ slot place inside small.
 
 pub returns-clause-news : goal.returns-clause-news
 returns-clause-news c = λ tell among.
-    subst (λ (t : Tell). AreMarked (has c.loop-tell.marks) (get_or (lists_of c.args.readers.now) t.slot [])) among.2
+    subst (λ (t : Tell). AreMarked (has c.loop-tell.marks) (get_or c.args.readers.now t.slot [])) among.2
     (c.loop-tell.invariant.news among.0 tell (omega (arith, among.1, c.loop-tell-test.false)))
