@@ -77,12 +77,13 @@ impl Calendar {
     {
         if tell.tick < self.horizon {
             let day = (tell.tick / self.width) as usize;
-            push_tell(&mut self.days, day, tell)?;
+            push_tell(&mut self.days, self.day as usize, day, tell)?;
         }
         Ok(())
     }
 
-    /// Takes the tells of the next day out, in the order of their ticks. What `taken` held is forgotten.
+    /// Takes the tells of the next day out, in the order of their ticks. What `taken` held is forgotten, and its room
+    /// serves a later day.
     pub fn take(&mut self, taken: &mut Vec<Tell>) -> Result<(), AllocError>
         requires { day_begin self.old < self.old.horizon }
         ensures takes { OnOk result (Takes self.old self.new taken.new.items) }
