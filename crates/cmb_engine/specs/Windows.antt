@@ -1,16 +1,11 @@
 -- What the words of a window tell of waveforms. Only contracts inside this crate cite these.
 use Rattle.std.specs.Prelude.{◌≡◌, ℕ, ◌+◌, ◌<◌}
 use Rattle.cmb_wave.specs.declared.level.Level.{Level}
-use Rattle.cmb_design.specs.Design.{Design}
-use Rattle.cmb_design.specs.Value.{delayed, value}
+use Rattle.cmb_design.specs.Value.{delayed}
 
 -- the level of a waveform in a place of the window that ends before a tick: at tick to + place - 64, and x before tick 0
 abbrev pub in_place : (ℕ → Level) → ℕ → ℕ → Level
 in_place level to place = delayed level 64 (to + place)
-
--- what the words hold where they tell the values of a design's nets
-abbrev pub true_words : Design → ℕ → ℕ → ℕ → Level
-true_words design to net place = in_place (value design net) to place
 
 -- a word tells a waveform below a place
 abbrev pub IsKnown : (ℕ → Level) → ℕ → ℕ → (ℕ → Level) → Type 0

@@ -1,20 +1,16 @@
 //! The cells of a design's nets, in two lists.
 
-ghost use Rattle.std.specs.Prelude.{◌≡◌, ℕ, ◌+◌, ◌^◌, ◌<◌, ◌≤◌, ◌++◌, ◌∷◌, [], true, false, All, IfOk, OnOk, MatchOption, length, map, take, slice_index_or};
-ghost use Rattle.cmb_bench.specs.Netlist.{driver_of, pins_of};
-ghost use Rattle.cmb_bench.specs.declared.netlist.Driver.TheVariants as driver;
-ghost use Rattle.cmb_design.specs.Exact.{nets_of};
+ghost use Rattle.std.specs.Prelude.{◌≡◌, ℕ, ◌+◌, ◌^◌, ◌<◌, ◌≤◌, ◌++◌, ◌∷◌, [], true, false, All, IfOk, OnOk, MatchOption, length, map, replicate, slice_index_or};
 ghost use Rattle.cmb_words.specs.Word.{level_at_place};
 ghost use Rattle.cmb_engine.specs.Cells.{Told, Gate, Flop, cell_at, is_made, pins_of as pins_of_cell, reads, AreBelow, IsListed, IsMade, IsLawful};
 ghost use Rattle.cmb_engine.specs.Circuits.{is_flop};
-ghost use Rattle.cmb_engine.specs.Plans.{cell_in, cells_in, pins_from};
 ghost use Rattle.cmb_engine.specs.Words.{levels_of};
 
 use crate::cell::Pin;
 use crate::readers::push_pins;
 use crate::visit::{flop_word, gate_word};
-use cmb_bench::{Driver, Kind};
-use cmb_design::{Clock, Design};
+use cmb_bench::Kind;
+use cmb_design::Clock;
 use cmb_words::{Word, spliced};
 use std::alloc::{AllocError, Global};
 use std::marker::Model;
@@ -36,27 +32,6 @@ impl Part {
             _ => Err(AllocError),
         }
     }
-}
-
-// The pins of a gate, in place of what `pins` had.
-fn collect_pins(
-    design: &Design,
-    net: usize,
-    operands: &[u32],
-    pins: &mut Vec<Pin>,
-) -> Result<(), AllocError>
-    requires net { net < nets_of design.now }
-    requires operands { operands.now ≡ pins_of (driver_of design.now.netlist net) }
-    ensures { OnOk result (pins.new.items ≡ pins_from design.now net 1 operands.now) }
-{
-    pins.clear();
-    for (i, operand) in operands.iter().enumerate() {
-        pins.push(Pin {
-            net: *operand,
-            delay: design.delay(net, i + 1),
-        })?;
-    }
-    Ok(())
 }
 
 /// How the word of a net comes about, and where its pins stand.
@@ -87,8 +62,8 @@ impl Model for Cells {
 }
 
 impl Cells {
-    // No cells.
-    fn new(alloc: Global) -> Cells
+    /// No cells.
+    pub(crate) fn new(alloc: Global) -> Cells
         ensures { result ≡ [] }
     {
         Cells {
@@ -97,27 +72,27 @@ impl Cells {
         }
     }
 
-    // Adds a net whose word is told.
+    /// Adds a net whose word is told.
     #[tactic(auto, using(crate::proofs::TableFacts::inside_push, crate::proofs::TableFacts::cells_push))]
-    fn push_told(&mut self) -> Result<(), AllocError>
+    pub(crate) fn push_told(&mut self) -> Result<(), AllocError>
         ensures { OnOk result (self.new ≡ self.old ++ Told ∷ []) }
     {
         self.rules.push(Rule::Told)?;
         Ok(())
     }
 
-    // Adds a flip-flop.
+    /// Adds a flip-flop.
     #[tactic(auto, using(crate::proofs::TableFacts::inside_push, crate::proofs::TableFacts::cells_push))]
-    fn push_flop(&mut self, clock: Clock, pin: Pin) -> Result<(), AllocError>
+    pub(crate) fn push_flop(&mut self, clock: Clock, pin: Pin) -> Result<(), AllocError>
         ensures { OnOk result (self.new ≡ self.old ++ Flop clock pin ∷ []) }
     {
         self.rules.push(Rule::Flop(clock, pin))?;
         Ok(())
     }
 
-    // Adds a gate.
+    /// Adds a gate.
     #[tactic(auto, using(crate::proofs::TableFacts::inside_push, crate::proofs::TableFacts::all_inside_more, crate::proofs::TableFacts::gate_cells))]
-    fn push_gate(&mut self, kind: Kind, pins: &[Pin]) -> Result<(), AllocError>
+    pub(crate) fn push_gate(&mut self, kind: Kind, pins: &[Pin]) -> Result<(), AllocError>
         ensures { OnOk result (self.new ≡ self.old ++ Gate kind pins.now ∷ []) }
     {
         let part = Part::behind(self.pins.len(), pins.len())?;
@@ -126,45 +101,14 @@ impl Cells {
         Ok(())
     }
 
-    // Adds the cell of a net; `pins` is room for its pins.
-    fn push_net(
-        &mut self,
-        design: &Design,
-        net: usize,
-        pins: &mut Vec<Pin>,
-    ) -> Result<(), AllocError>
-        requires { net < nets_of design.now }
-        ensures { OnOk result (self.new ≡ self.old ++ cell_in design.now net ∷ []) }
+    /// Adds so many nets whose words are told.
+    pub(crate) fn push_told_ones(&mut self, count: usize) -> Result<(), AllocError>
+        ensures { OnOk result (self.new ≡ self.old ++ replicate count Told) }
     {
-        match design.netlist().driver(net) {
-            Driver::Input => self.push_told(),
-            Driver::Gate(kind, operands) => {
-                collect_pins(design, net, operands.as_slice(), pins)?;
-                self.push_gate(*kind, pins.as_slice())
-            }
-            Driver::Flop(source) => {
-                let delay = design.delay(net, 1);
-                self.push_flop(
-                    design.clock(net),
-                    Pin {
-                        net: *source,
-                        delay,
-                    },
-                )
-            }
+        for _ in 0..count {
+            self.push_told()?;
         }
-    }
-
-    /// The cells of all nets of a design.
-    pub(crate) fn of(alloc: Global, design: &Design) -> Result<Cells, AllocError>
-        ensures { IfOk result (λ cells. cells ≡ cells_in design.now) }
-    {
-        let mut cells = Cells::new(alloc);
-        let mut pins = Vec::new(alloc);
-        for net in 0..design.netlist().len() {
-            cells.push_net(design, net, &mut pins)?;
-        }
-        Ok(cells)
+        Ok(())
     }
 
     /// How many nets there are.

@@ -1,0 +1,97 @@
+-- Which nets changed in a window, and what their words tell.
+use Rattle.std.proofs.Common.{◌≡◌, ℕ, suc, ◌+◌, ◌-◌, ◌<◌, ◌≤◌, ◌⊎◌, inl, inr, Bool, false, List, [], ◌∷◌, ◌++◌, get_or, sym, ap, subst, ◌∙◌, arith}
+use Rattle.std.specs.Prelude.{◌==◌}
+use Rattle.std.specs.List.{All}
+use Rattle.std.proofs.lemmas.Bool.{cases_lt, eq-eqb, false≢true, or_parts}
+use Rattle.std.proofs.lemmas.List.Elements.{All-push}
+use Rattle.std.proofs.lemmas.List.Folds.{list_any-append}
+use Rattle.cmb_wave.specs.declared.level.Level.{Level}
+use Rattle.cmb_words.specs.declared.changed.Changed.{Changed}
+use Rattle.cmb_words.specs.Changes.{RisesWithin, IsStill, Tells, is_among}
+use Rattle.cmb_words.specs.Word.{level_at_place}
+use Rattle.cmb_words.proofs.Rising.{rises-push, rises-wider, rises_at}
+use Rattle.cmb_engine.specs.Cells.{IsSteadyFrom}
+use Rattle.cmb_engine.specs.Circuits.{AreQuiet, Shows}
+use Rattle.cmb_engine.proofs.MoveFacts.{quiet-same}
+use Rattle.cmb_engine.proofs.TruthFacts.{in_place-tick}
+
+-- a net is told with its word
+abbrev pub HasWord : (ℕ → ℕ → Level) → Changed → Type 0
+HasWord words c = (place : ℕ) → place < 64 → level_at_place c.word place ≡ words c.net place
+
+-- the nets below one are collected: those that aren't among the collected ones stay as they are
+pub record IsCollected (words : ℕ → ℕ → Level) (first upto : ℕ) (changed : List Changed) : Type 0 where
+  pub rises : RisesWithin 0 upto changed
+  pub right : All (HasWord words) changed
+  pub others : (net : ℕ) → net < upto → is_among net changed ≡ false → IsSteadyFrom (words net) first
+
+module _ (words : ℕ → ℕ → Level) (first : ℕ) (changed : List Changed) where
+  -- nets that aren't live stay as they are
+  pub collected-passes : (live : ℕ → Bool) (count start next : ℕ) → first < 64 → start ≤ next → next ≤ count → ((net : ℕ) → start ≤ net → net < next → live net ≡ false)
+      → AreQuiet words live count → IsCollected words first start changed → IsCollected words first next changed
+  collected-passes live count start next small later within none quiet h = record {
+    rises = rises-wider 0 start next changed h.rises later;
+    right = h.right;
+    others = λ net below other. go net below other (cases_lt net start);
+  }
+    where
+      go : (net : ℕ) → net < next → is_among net changed ≡ false → (net < start) ⊎ (start ≤ net) → IsSteadyFrom (words net) first
+      go net below other (inl l) = h.others net l other
+      go net below other (inr l) = λ place from inside.
+          quiet-same words live count net place (first - 1) quiet (omega arith) (none net l below) inside (omega arith)
+
+  -- the next net stays as it is
+  pub collected-steady : (net : ℕ) → IsSteadyFrom (words net) first → IsCollected words first net changed → IsCollected words first (net + 1) changed
+  collected-steady net steady h = record {
+    rises = rises-wider 0 net (net + 1) changed h.rises (omega arith);
+    right = h.right;
+    others = λ m below other. go m below other (cases_lt m net);
+  }
+    where
+      go : (m : ℕ) → m < net + 1 → is_among m changed ≡ false → (m < net) ⊎ (net ≤ m) → IsSteadyFrom (words m) first
+      go m below other (inl l) = h.others m l other
+      go m below other (inr l) = let e : net ≡ m = omega (arith, l, below) in subst (λ (n : ℕ). IsSteadyFrom (words n) first) e steady
+
+  -- the next net is collected
+  pub collected-push : (one : Changed) → HasWord words one → IsCollected words first one.net changed → IsCollected words first (one.net + 1) (changed ++ one ∷ [])
+  collected-push one word h = record {
+    rises = rises-push 0 one.net (one.net + 1) changed one h.rises (omega arith) (omega arith) (omega arith);
+    right = All-push (HasWord words) changed one h.right word;
+    others = λ m below other.
+        let parts = or_parts (is_among m changed) (is_among m (one ∷ [])) (sym (list_any-append (λ (c : Changed). c.net == m) changed (one ∷ [])) ∙ other) in
+        go m below parts.0 (or_parts (one.net == m) false parts.1).0 (cases_lt m one.net);
+  }
+    where
+      go : (m : ℕ) → m < one.net + 1 → is_among m changed ≡ false → (one.net == m) ≡ false → (m < one.net) ⊎ (one.net ≤ m) → IsSteadyFrom (words m) first
+      go m below other here (inl l) = h.others m l other
+      go m below other here (inr l) = absurd (false≢true (sym here ∙ eq-eqb one.net m (omega arith)))
+
+-- words that show a trace tell its changes, where all nets are collected
+module _ (words : ℕ → ℕ → Level) (trace : ℕ → ℕ → Level) (count nets to first : ℕ) (changed : List Changed) (shows : Shows words trace count to) (few : nets ≤ count) (begun : 1 ≤ first)
+    (inside : 65 ≤ to + first) where
+  -- a tick of the window, and the one before it, is shown in its place
+  shown-at : (net tick : ℕ) → net < nets → to + first - 64 ≤ suc tick → tick < to → words net (tick + 64 - to) ≡ trace net tick
+  shown-at net tick below from upto =
+      shows net (tick + 64 - to) (omega (arith, few, below)) (omega arith)
+      ∙ in_place-tick (trace net) to (tick + 64 - to) (omega (arith, from, inside))
+      ∙ ap (trace net) (omega (arith, from, begun, inside))
+
+  steady-still : (net : ℕ) → net < nets → IsSteadyFrom (words net) first → IsStill (trace net) (to + first - 64) to
+  steady-still net below steady tick from upto =
+      sym (shown-at net tick below from (omega arith))
+      ∙ first_level (tick + 64 - to) (omega (arith, from, inside)) (omega (arith, upto)) (cases_lt (tick + 64 - to) first)
+      ∙ sym (steady (suc tick + 64 - to) (omega (arith, from, inside, begun)) (omega (arith, upto)))
+      ∙ shown-at net (suc tick) below (omega arith) upto
+    where
+      first_level : (place : ℕ) → first ≤ place + 1 → place < 64 → (place < first) ⊎ (first ≤ place) → words net place ≡ words net (first - 1)
+      first_level place near small (inl l) = ap (words net) (omega (arith, near, l))
+      first_level place near small (inr l) = steady place l small
+
+  pub collected-tells : RisesWithin 0 nets changed → All (HasWord words) changed → ((net : ℕ) → net < nets → is_among net changed ≡ false → IsSteadyFrom (words net) first)
+      → Tells trace nets (to + first - 64) to changed
+  collected-tells rises right others = record {
+    words = λ k d small tick from upto.
+        right k d small (tick + 64 - to) (omega (arith, upto, from, inside))
+        ∙ shown-at (get_or changed k d).net tick (rises_at 0 nets changed k d rises small) from upto;
+    others = λ net below other. steady-still net below (others net below other);
+  }

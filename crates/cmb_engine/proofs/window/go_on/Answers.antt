@@ -1,0 +1,51 @@
+use Rattle.std.proofs.Common.{◌-◌, ℕ, List, [], Vec, Global, length, map, get_or, sym, subst, arith}
+use Rattle.cmb_engine.specs.Cells.{IsSteadyFrom, cell_at}
+use Rattle.cmb_engine.specs.Circuits.{IsWiring}
+use Rattle.cmb_engine.specs.Tells.{AreOfWindow}
+use Rattle.cmb_engine.specs.Words.{levels_of}
+use Rattle.cmb_engine.proofs.TraceFacts.{lawful-later}
+use Rattle.cmb_engine.proofs.WindowFacts.{IsBegun, marked-kept, window-wired, window-shows}
+use Rattle.cmb_engine.proofs.window.go_on.Goals as goal
+
+abbrev lists_of : List (Vec ℕ Global) → List (List ℕ)
+lists_of vs = map (λ (v : Vec ℕ Global). v.items) vs
+
+pub write_told-requires-clause-slots : goal.write_told-requires-clause-slots
+write_told-requires-clause-slots c = λ tell among.
+    let told = c.requires.told tell among in
+    (omega (arith, told.0, c.move_on.ensures.len), omega (arith, told.2, c.requires.fits), told.3)
+
+pub mark_arrivals-requires-clause-lawful : goal.mark_arrivals-requires-clause-lawful
+mark_arrivals-requires-clause-lawful c = λ slot inside.
+    lawful-later (length c.args.wiring.now.cells) c.args.wiring.now.most (64 - c.args.ticks) (cell_at c.args.wiring.now.cells slot) (omega (arith, c.requires.fits)) (c.requires.wiring.lawful slot inside)
+
+pub settle-requires-clause-wired : goal.settle-requires-clause-wired
+settle-requires-clause-wired c =
+    window-wired c.args.wiring.now.cells (lists_of c.as_slice-readers.result.now) c.args.wiring.now.flops.items c.args.wiring.now.most
+    (subst (λ (vs : List (Vec ℕ Global)). IsWiring c.args.wiring.now.cells (lists_of vs) c.args.wiring.now.flops.items c.args.wiring.now.most) (sym c.as_slice-readers.ensures.value) c.requires.wiring)
+    (length c.write_told.new.words) (64 - c.args.ticks) (omega (arith, c.requires.nets, c.move_on.ensures.len, c.write_told.ensures.len)) (omega (arith, c.requires.fits))
+
+pub returns-clause-shows : goal.returns-clause-shows
+returns-clause-shows c = λ trace meets shows right slot place inside small.
+    let lists : List (List ℕ) = lists_of c.as_slice-readers.result.now in
+    let begun : IsBegun c.args.wiring.now.cells lists c.args.wiring.now.most c.args.tells.now (levels_of c.move_on.new.words) (levels_of c.write_told.new.words)
+        c.move_on.new.live c.mark_arrivals.new.marks c.args.to (64 - c.args.ticks) =
+    record {
+      quiet = λ s p l. c.move_on.ensures.quiet s p (omega (arith, l, c.requires.nets));
+      news = λ s l is.
+          marked-kept (IsSteadyFrom (levels_of c.move_on.new.words s) (64 - c.args.ticks - c.args.wiring.now.most)) c.mark_news.new.marks c.mark_arrivals.new.marks (get_or lists s [])
+          (λ m h. c.mark_arrivals.ensures.kept m (c.write_told.ensures.marks m h))
+          (c.mark_news.ensures.news s (omega (arith, l, c.requires.nets, c.move_on.ensures.len)) is);
+      told_words = λ s p l. c.write_told.ensures.words s p (omega (arith, l, c.requires.nets, c.move_on.ensures.len));
+      told_news = λ tell among k l. c.mark_arrivals.ensures.kept _ (c.write_told.ensures.news tell among k l);
+      arrivals = c.mark_arrivals.ensures.arrivals;
+    } in
+    window-shows trace c.args.wiring.now.cells lists c.args.wiring.now.flops.items c.args.wiring.now.most
+    (subst (λ (vs : List (Vec ℕ Global)). IsWiring c.args.wiring.now.cells (lists_of vs) c.args.wiring.now.flops.items c.args.wiring.now.most) (sym c.as_slice-readers.ensures.value) c.requires.wiring)
+    meets (c.args.to - c.args.ticks) c.args.ticks c.args.to (64 - c.args.ticks)
+    (record { ends = omega (arith, c.requires.later); places = omega (arith, c.requires.fits); begun = omega (arith, c.requires.later); some = c.requires.some; fits = omega (arith, c.requires.fits) })
+    (levels_of c.args.words.now) (levels_of c.move_on.new.words) (levels_of c.write_told.new.words)
+    (λ s p l. shows s p (omega (arith, l, c.requires.nets))) c.move_on.ensures.moved c.args.tells.now
+    (subst (λ (n : ℕ). AreOfWindow trace (cell_at c.args.wiring.now.cells) n (c.args.to - c.args.ticks) c.args.to c.args.tells.now) (sym c.requires.nets) right)
+    c.move_on.new.live c.mark_arrivals.new.marks begun (levels_of c.settle.new.words) c.settle.ensures.told c.settle.ensures.exact
+    slot place (omega (arith, inside, c.requires.nets)) small

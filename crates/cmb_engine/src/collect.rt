@@ -1,0 +1,52 @@
+//! Which nets changed in a window.
+
+ghost use Rattle.std.specs.Prelude.{◌≡◌, ℕ, ◌*◌, ◌<◌, ◌≤◌, false, length, All, OnOk};
+ghost use Rattle.cmb_words.specs.Changes.{RisesWithin, is_among};
+ghost use Rattle.cmb_words.specs.Word.{level_at_place};
+ghost use Rattle.cmb_engine.specs.Bits.{has};
+ghost use Rattle.cmb_engine.specs.Cells.{IsSteadyFrom};
+ghost use Rattle.cmb_engine.specs.Circuits.{AreQuiet};
+ghost use Rattle.cmb_engine.specs.Words.{levels_of};
+
+use crate::marks::Marks;
+use cmb_words::{Changed, Word};
+use std::alloc::AllocError;
+
+/// Tells which of so many nets changed at a place or after it, each with its word, by rising number. What `changed` had
+/// is forgotten.
+pub(crate) fn collect(
+    words: &[Word],
+    live: &Marks,
+    nets: usize,
+    first: u32,
+    changed: &mut Vec<Changed>,
+) -> Result<(), AllocError>
+    requires nets { nets ≤ length words.now }
+    requires few { nets ≤ 65535 }
+    requires begun { 1 ≤ first }
+    requires first { first < 64 }
+    requires room { length words.now ≤ 64 * length live.now }
+    requires quiet { AreQuiet (levels_of words.now) (has live.now) (length words.now) }
+    ensures rises { OnOk result (RisesWithin 0 nets changed.new.items) }
+    ensures words { OnOk result (All (λ c. (place : ℕ) → place < 64
+        → level_at_place c.word place ≡ levels_of words.now c.net place) changed.new.items) }
+    ensures others { OnOk result ((net : ℕ) → net < nets → is_among net changed.new.items ≡ false
+        → IsSteadyFrom (levels_of words.now net) first) }
+{
+    changed.clear();
+    let mut from = 0;
+    'nets: while let Some(net) = live.next_from(from) {
+        if net >= nets {
+            break;
+        }
+        let word = words[net];
+        if !word.is_steady_from(first) {
+            changed.push(Changed {
+                net: net as u16,
+                word,
+            })?;
+        }
+        from = net + 1;
+    }
+    Ok(())
+}

@@ -1,0 +1,82 @@
+//! What is told of told slots when an engine begins.
+
+ghost use Rattle.std.specs.Prelude.{◌≡◌, ◌+◌, ◌^◌, ◌<◌, All, OnOk, length};
+ghost use Rattle.cmb_design.specs.Exact.{nets_of};
+ghost use Rattle.cmb_engine.specs.Lines.{NotesEach};
+ghost use Rattle.cmb_engine.specs.Starts.{IsOfInput, IsOfStart, IsOfStimulus};
+ghost use Rattle.cmb_engine.specs.Words.{levels_of};
+
+use crate::cell::Pin;
+use cmb_bench::Driver;
+use cmb_calendar::{Calendar, Tell};
+use cmb_design::Design;
+use cmb_wave::Level;
+use cmb_words::Word;
+use std::alloc::AllocError;
+
+// Notes the changes of a net by its stimulus after tick 0.
+fn note_stimulus(design: &Design, net: usize, calendar: &mut Calendar) -> Result<(), AllocError>
+    requires net { net < nets_of design.now }
+    requires few { nets_of design.now < 2 ^ 32 }
+    requires day { calendar.old.day ≡ 0 }
+    ensures notes { OnOk result (NotesEach (IsOfStimulus design.now net) calendar.old calendar.new) }
+    ensures width { calendar.new.width ≡ calendar.old.width }
+    ensures horizon { calendar.new.horizon ≡ calendar.old.horizon }
+    ensures day { calendar.new.day ≡ calendar.old.day }
+{
+    for change in design.stim_changes(net) {
+        if change.tick > 0 {
+            calendar.note(Tell {
+                tick: change.tick,
+                slot: net as u32,
+                level: change.level,
+            })?;
+        }
+    }
+    Ok(())
+}
+
+/// Notes the changes of a design's inputs after tick 0.
+pub(crate) fn note_stimuli(design: &Design, calendar: &mut Calendar) -> Result<(), AllocError>
+    requires { calendar.old.day ≡ 0 }
+    ensures notes { OnOk result (NotesEach (IsOfInput design.now) calendar.old calendar.new) }
+    ensures width { calendar.new.width ≡ calendar.old.width }
+    ensures horizon { calendar.new.horizon ≡ calendar.old.horizon }
+    ensures day { calendar.new.day ≡ calendar.old.day }
+{
+    for net in 0..design.netlist().len() {
+        if let Driver::Input = design.netlist().driver(net) {
+            note_stimulus(design, net, calendar)?;
+        }
+    }
+    Ok(())
+}
+
+/// Notes the first change of each line, its delay after tick 0, where the words that end before tick 1 say that its net
+/// isn't x at tick 0. The lines are the slots behind so many nets.
+pub(crate) fn note_starts(
+    words: &[Word],
+    lines: &[Pin],
+    nets: usize,
+    calendar: &mut Calendar,
+) -> Result<(), AllocError>
+    requires lines { All (λ line. line.net < length words.now) lines.now }
+    requires few { nets + length lines.now < 2 ^ 32 }
+    requires day { calendar.old.day ≡ 0 }
+    ensures notes { OnOk result (NotesEach (IsOfStart (levels_of words.now) lines.now nets) calendar.old calendar.new) }
+    ensures width { calendar.new.width ≡ calendar.old.width }
+    ensures horizon { calendar.new.horizon ≡ calendar.old.horizon }
+    ensures day { calendar.new.day ≡ calendar.old.day }
+{
+    for (number, line) in lines.iter().enumerate() {
+        let level = words[line.net as usize].level(63);
+        if level != Level::X {
+            calendar.note(Tell {
+                tick: line.delay,
+                slot: (nets + number) as u32,
+                level,
+            })?;
+        }
+    }
+    Ok(())
+}

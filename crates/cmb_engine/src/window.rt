@@ -1,0 +1,72 @@
+//! Windows of a simulation.
+
+ghost use Rattle.std.specs.Prelude.{◌≡◌, ℕ, ◌+◌, ◌-◌, ◌*◌, ◌<◌, ◌≤◌, false, length, map, Contains};
+ghost use Rattle.cmb_wave.specs.declared.level.Level.{Level};
+ghost use Rattle.cmb_calendar.specs.declared.tell.Tell.{Tell};
+ghost use Rattle.cmb_engine.specs.Bits.{has};
+ghost use Rattle.cmb_engine.specs.Cells.{cell_at, is_made};
+ghost use Rattle.cmb_engine.specs.Circuits.{AreQuiet, IsWiring, MeetsCells, Shows};
+ghost use Rattle.cmb_engine.specs.Tells.{AreOfWindow};
+ghost use Rattle.cmb_engine.specs.Words.{levels_of};
+
+use crate::begin::mark_news;
+use crate::cells::Cells;
+use crate::flops::mark_arrivals;
+use crate::marks::Marks;
+use crate::moves::move_on;
+use crate::settle::settle;
+use crate::told::write_told;
+use cmb_calendar::Tell;
+use cmb_words::Word;
+
+/// What stays as it is while an engine goes on: its cells, who reads each slot, which slots are flip-flops, and how many
+/// ticks back a pin looks at most.
+#[derive(Drop)]
+pub(crate) struct Wiring {
+    pub cells: Cells,
+    pub readers: Vec<Vec<u32>>,
+    pub flops: Vec<u32>,
+    pub most: u32,
+}
+
+/// Goes on by a window of so many ticks, up to the clock `to`, where the tells are those of its ticks: words that show
+/// what the slots do up to the clock before show it up to this one then.
+pub(crate) fn go_on(
+    wiring: &Wiring,
+    tells: &[Tell],
+    words: &mut [Word],
+    live: &mut Marks,
+    marks: &mut Marks,
+    ticks: u32,
+    to: u32,
+)
+    requires wiring { IsWiring wiring.now.cells (map (λ list. list.items) wiring.now.readers.items)
+        wiring.now.flops.items wiring.now.most }
+    requires nets { length wiring.now.cells ≡ length words.old }
+    requires room { length words.old ≤ 64 * length marks.old }
+    requires live { length words.old ≤ 64 * length live.old }
+    requires some { 1 ≤ ticks }
+    requires fits { ticks + wiring.now.most ≤ 63 }
+    requires later { ticks < to }
+    requires to { to ≤ 1000000 }
+    requires quiet { AreQuiet (levels_of words.old) (has live.old) (length words.old) }
+    requires told { (tell : Tell) → Contains tells.now tell
+        → (tell.slot < length words.old) × (is_made (cell_at wiring.now.cells tell.slot) ≡ false)
+        × (to ≤ tell.tick + ticks) × (tell.tick < to) }
+    ensures len { length words.new ≡ length words.old }
+    ensures room { length marks.new ≡ length marks.old }
+    ensures live { length live.new ≡ length live.old }
+    ensures quiet { AreQuiet (levels_of words.new) (has live.new) (length words.old) }
+    ensures shows { (trace : ℕ → ℕ → Level) → MeetsCells trace (cell_at wiring.now.cells)
+        → Shows (levels_of words.old) trace (length words.old) (to - ticks)
+        → AreOfWindow trace (cell_at wiring.now.cells) (length words.old) (to - ticks) to tells.now
+        → Shows (levels_of words.new) trace (length words.old) to }
+{
+    let first = 64 - ticks;
+    let readers = wiring.readers.as_slice();
+    move_on(words, live, ticks);
+    mark_news(readers, words, live, marks, first - wiring.most);
+    write_told(tells, readers, words, live, marks, to, first);
+    mark_arrivals(&wiring.cells, wiring.flops.as_slice(), marks, to, first);
+    settle(&wiring.cells, readers, words, marks, live, to, first);
+}
