@@ -51,16 +51,12 @@ pub(crate) fn write_told(
     live: &mut Marks,
     marks: &mut Marks,
     to: u32,
-    first: u32,
 )
-    requires slots { (tell : Tell) → Contains tells.now tell → (tell.slot < length words.old) × (to + first ≤ tell.tick + 64) × (tell.tick < to) }
+    requires slots { (tell : Tell) → Contains tells.now tell → (tell.slot < length words.old) × (1 ≤ tell.tick) × (to ≤ tell.tick + 64) × (tell.tick < to) }
     requires lists { length readers.now ≡ length words.old }
     requires within { AreBelow (length words.old) (map (λ list. list.items) readers.now) }
     requires room { length words.old ≤ 64 * length marks.old }
     requires live { length words.old ≤ 64 * length live.old }
-    requires begun { 1 ≤ first }
-    requires first { first < 64 }
-    requires inside { 65 ≤ to + first }
     requires to { to ≤ 1000000 }
     ensures len { length words.new ≡ length words.old }
     ensures room { length marks.new ≡ length marks.old }

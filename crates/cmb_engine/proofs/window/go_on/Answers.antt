@@ -13,7 +13,7 @@ lists_of vs = map (λ (v : Vec ℕ Global). v.items) vs
 pub write_told-requires-clause-slots : goal.write_told-requires-clause-slots
 write_told-requires-clause-slots c = λ tell among.
     let told = c.requires.told tell among in
-    (omega (arith, told.0, c.move_on.ensures.len), omega (arith, told.2, c.requires.fits), told.3)
+    (omega (arith, told.0, c.move_on.ensures.len), omega (arith, told.2, c.requires.later), omega (arith, told.2, c.requires.fits), told.3)
 
 pub mark_arrivals-requires-clause-lawful : goal.mark_arrivals-requires-clause-lawful
 mark_arrivals-requires-clause-lawful c = λ slot inside.
