@@ -24,7 +24,12 @@ impl Model for Calendar {
 
     ghost use Rattle.cmb_calendar.specs.Days.{AreDays, tells_of};
 
-    ghost view = { λ a. record { width = a.width; horizon = a.horizon; day = a.day; tells = tells_of (map (λ list. list.items) a.days.items) } };
+    ghost view = { λ a. record {
+      width = a.width;
+      horizon = a.horizon;
+      day = a.day;
+      tells = tells_of (map (λ list. list.items) a.days.items);
+    } };
 
     ghost invariant = { λ a. AreDays a.width a.horizon a.day (map (λ list. list.items) a.days.items) };
 }
@@ -101,7 +106,7 @@ mod tests {
     use cmb_wave::Level;
     use std::test::Fail;
 
-    // Days of ten ticks up to tick 25. What day 0 and day 1 have comes by rising ticks, and the tell at tick 25 is gone.
+    // Days of ten ticks up to tick 25. What days 0 and 1 have comes by rising ticks; the tell at tick 25 is gone.
     #[test]
     fn days_come_in_order(rt: HostRuntime) -> Result<(), Fail> {
         let early = Tell {

@@ -21,7 +21,8 @@ pub(crate) fn empty_days(alloc: Global, count: usize) -> Result<Vec<Vec<Tell>>, 
 fn give_room(days: &mut [Vec<Tell>], next: usize, day: usize)
     requires day { day < length days.old }
     requires later { next ≤ day }
-    requires past { (place : ℕ) → place < next → length (slice_index_or (map (λ list. list.items) days.old) place []) ≡ 0 }
+    requires past { (place : ℕ) → place < next
+        → length (slice_index_or (map (λ list. list.items) days.old) place []) ≡ 0 }
     ensures { map (λ list. list.items) days.new ≡ map (λ list. list.items) days.old }
 {
     if next > 0 && days[day].is_empty() {
@@ -38,8 +39,10 @@ pub(crate) fn push_tell(
 ) -> Result<(), AllocError>
     requires day { day < length days.old }
     requires later { next ≤ day }
-    requires past { (place : ℕ) → place < next → length (slice_index_or (map (λ list. list.items) days.old) place []) ≡ 0 }
-    ensures added { OnOk result (map (λ list. list.items) days.new ≡ slice_set (map (λ list. list.items) days.old) day (slice_index_or (map (λ list. list.items) days.old) day [] ++ tell ∷ [])) }
+    requires past { (place : ℕ) → place < next
+        → length (slice_index_or (map (λ list. list.items) days.old) place []) ≡ 0 }
+    ensures added { OnOk result (map (λ list. list.items) days.new ≡ slice_set (map (λ list. list.items) days.old) day
+        (slice_index_or (map (λ list. list.items) days.old) day [] ++ tell ∷ [])) }
     ensures failed { OnErr result (map (λ list. list.items) days.new ≡ map (λ list. list.items) days.old) }
 {
     give_room(days, next, day);
