@@ -12,7 +12,7 @@ lists_of vs = map (λ (v : Vec ℕ Global). v.items) vs
 pub write_told-requires-clause-slots : goal.write_told-requires-clause-slots
 write_told-requires-clause-slots c = λ tell among.
     let told = c.requires.told tell among in
-    (omega (arith, told.0, c.move_on.ensures.len), omega (arith, told.2, c.requires.fits), told.3)
+    (omega (arith, told.0, c.move_on.ensures.len), omega (arith, told.2, c.requires.later), omega (arith, told.2, c.requires.fits), told.3)
 
 pub settle-requires-clause-wired : goal.settle-requires-clause-wired
 settle-requires-clause-wired c =
