@@ -1,5 +1,5 @@
 -- What the calendar of an engine that begins has.
-use Rattle.std.proofs.Common.{◌≡◌, ◌⊎◌, inl, inr, ℕ, ◌+◌, ◌*◌, ◌<◌, ◌≤◌, List, [], length, ap, ◌∙◌, arith}
+use Rattle.std.proofs.Common.{◌≡◌, ◌⊎◌, inl, inr, ℕ, ◌+◌, ◌*◌, ◌<◌, List, [], length, ap, ◌∙◌, arith}
 use Rattle.std.specs.Prelude.{Contains}
 use Rattle.cmb_calendar.specs.Calendars.{Calendar, day_begin, day_end}
 use Rattle.cmb_calendar.specs.declared.tell.Tell.{Tell}

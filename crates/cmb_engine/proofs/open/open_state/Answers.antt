@@ -1,4 +1,4 @@
-use Rattle.std.proofs.Common.{◌≡◌, ℕ, ◌+◌, ◌<◌, ◌≤◌, true, List, length, sym, ap, subst, ◌∙◌, arith}
+use Rattle.std.proofs.Common.{◌≡◌, ℕ, ◌+◌, List, length, sym, ap, subst, ◌∙◌, arith}
 use Rattle.std.proofs.lemmas.Bool.{false≢true}
 use Rattle.cmb_design.specs.Exact.{nets_of}
 use Rattle.cmb_words.specs.declared.word.Word.{Word}
@@ -34,11 +34,11 @@ returns-clause-state c =
       quiet = λ slot place small none inside.
           absurd (false≢true (sym none ∙ c.in_ok-live.ensures.all slot (omega (arith, small, c.len.ensures, c.in_ok-words.ensures.len, ap length same, count, c.in_ok-words.words.ok))));
       ahead = starts-ahead design lines c.args.circuit.now.wiring.most c.args.circuit.now.width c.args.circuit.now.wiring.cells c.requires.plan (levels_of words) shows
-      c.in_ok-calendar.calendar c.note_stimuli.new.calendar c.note_starts.new.calendar c.in_ok-calendar.ensures.tells c.in_ok-calendar.ensures.width
-      (c.in_ok-calendar.ensures.horizon ∙ c.horizon.ensures.value) c.in_ok-calendar.ensures.day
-      (record { width = c.note_stimuli.ensures.width; horizon = c.note_stimuli.ensures.horizon; day = c.note_stimuli.ensures.day })
-      (record { width = c.note_starts.ensures.width; horizon = c.note_starts.ensures.horizon; day = c.note_starts.ensures.day })
-      c.in_ok-note_stimuli.ensures.notes starts;
+          c.in_ok-calendar.calendar c.note_stimuli.new.calendar c.note_starts.new.calendar c.in_ok-calendar.ensures.tells c.in_ok-calendar.ensures.width
+          (c.in_ok-calendar.ensures.horizon ∙ c.horizon.ensures.value) c.in_ok-calendar.ensures.day
+          (record { width = c.note_stimuli.ensures.width; horizon = c.note_stimuli.ensures.horizon; day = c.note_stimuli.ensures.day })
+          (record { width = c.note_starts.ensures.width; horizon = c.note_starts.ensures.horizon; day = c.note_starts.ensures.day })
+          c.in_ok-note_stimuli.ensures.notes starts;
       begun = omega arith;
       within = omega (arith, c.horizon.ensures.value, c.horizon.ensures.small);
     }
