@@ -1,8 +1,9 @@
 -- What a stream handed on and what it keeps are the front of the design's text.
-use Rattle.std.proofs.Common.{◌≡◌, ◌∙◌, ℕ, ◌+◌, ◌^◌, ◌<◌, List, [], ◌++◌, Option, length, take, ap, sym, subst, append_assoc, length-append, arith}
+use Rattle.std.proofs.Common.{◌≡◌, ◌∙◌, ℕ, ◌+◌, ◌^◌, ◌<◌, List, [], ◌++◌, Option, length, take, refl, ap, sym, subst, append_assoc, length-append, arith}
 use Rattle.std.specs.Io.KnownBytes.{Appends}
 use Rattle.std.proofs.KnownBytes.{Appends-trans}
 use Rattle.std.proofs.lemmas.List.{append-nil, length-take-le, take_at}
+use Rattle.std.proofs.Math.Seq.{take-length}
 use Rattle.cmb_design.specs.Design.{Design}
 use Rattle.cmb_design.specs.Value.{value}
 use Rattle.cmb_dump.specs.Dumps.{Dump}
@@ -10,7 +11,7 @@ use Rattle.cmb_engine.specs.Engines.{Engine}
 use Rattle.cmb_stream.specs.Parts.{IsStream, made_text}
 use Rattle.cmb_vcd.specs.Beginnings.{IsCutOff}
 use Rattle.cmb_vcd.specs.Vcd.{vcd}
-use Rattle.cmb_vcd.proofs.BeginFacts.{IsCutOff-front, part_text-begins}
+use Rattle.cmb_vcd.proofs.BeginFacts.{IsCutOff-front, part_text-begins, part_text-whole}
 use Rattle.cmb_vcd.proofs.TextSizes.{part_text-fits}
 
 module _ (design : Design) (engine : Engine) (dump : Dump) (given : ℕ) (text : List ℕ) (h : IsStream design engine dump given text) where
@@ -63,3 +64,18 @@ module _ (design : Design) (engine : Engine) (dump : Dump) (given : ℕ) (text :
   IsCutOff-given start old new before later n short a b failed =
       let more = made-rest in
       IsCutOff-front design (take given (vcd design)) text more.0 start old new before later given n more.1 (sym (length-take-le given (vcd design) h.handed)) short a b failed
+
+  -- the whole text, where nothing was handed on
+  pub text-whole : engine.clock ≡ design.horizon → given ≡ 0 → text ≡ vcd design
+  text-whole done none = sym (ap (λ k. take k (vcd design) ++ text) none) ∙ h.made ∙ part_text-whole design engine.clock done
+
+pub made-whole : (design own : Design) (upto : ℕ) → own ≡ design → upto ≡ own.horizon → made_text own upto ≡ vcd design
+made-whole design own upto same done = part_text-whole own upto done ∙ ap vcd same
+
+-- a sink that took all that was made
+pub Appends-whole : (design own : Design) (upto given : ℕ) (old new : Option (List ℕ)) → own ≡ design → upto ≡ own.horizon → given ≡ length (made_text own upto)
+    → Appends old new (take given (vcd own)) → Appends old new (vcd design)
+Appends-whole design own upto given old new same done all taken =
+    let long : given ≡ length (vcd design) = all ∙ ap length (made-whole design own upto same done) in
+    let text : take given (vcd own) ≡ vcd design = ap (λ (d : Design). take given (vcd d)) same ∙ ap (λ k. take k (vcd design)) long ∙ take-length (vcd design) in
+    subst (Appends old new) text taken
