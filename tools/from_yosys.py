@@ -3,8 +3,8 @@
 
   from_yosys.py [--top MODULE] [--clock NAME=F:P].. [--falling NAME=F:P].. DESIGN.json FOLDER
 
-FOLDER gets netlist.bench; stimuli.csv, to begin with: each input at 0 from tick 0 on; options: words for the program's line;
-and, where there are several clocks, clocks.csv. A stimuli.csv that is there already is left as it is.
+FOLDER gets netlist.bench and, where there are several clocks, clocks.csv. It also gets two files to begin with, which are left
+as they are where they stand already: stimuli.csv, with each input at 0 from tick 0 on, and options, words for the program's line.
 
 Bits of buses are named as name[3]. A constant is an input, whose level the stimuli give. Each cell becomes one gate, with a
 delay of its own. The clock is no net of such a netlist: F:P says that the flip-flops of this clock, or of its falling edge,
@@ -24,6 +24,7 @@ GATES = {"$_BUF_": "BUFF", **{f"$_{kind}_": kind for kind in ("NOT", "AND", "NAN
 EDGES = {"$_DFF_P_": "rising", "$_DFF_N_": "falling"}
 OPTIONS = {"rising": "--clock", "falling": "--falling"}
 CONSTANTS = {"0": "zero", "1": "one", "x": "unknown"}
+TO_BEGIN = ("stimuli.csv", "options")
 MOST_NETS = 65535
 ABC = "abc -g AND,NAND,OR,NOR,XOR,XNOR"
 # What a cell of another type is, and what helps; the first form that a type begins with counts.
@@ -293,9 +294,8 @@ def init_of(design):
     return (wanted.pop(), True) if len(wanted) == 1 else ("x", not wanted)
 
 
-def options_of(design, given, path):
-    """The words for the program's line: twenty periods, in each of which the longest path settles."""
-    period = (path // 10 + 1) * 10
+def options_of(design, given, period):
+    """The words for the program's line: twenty periods."""
     ticks = list(given.values()) or [(period - 1, period)]
     words = ["--horizon", 20 * max(period for _, period in ticks)]
     words += ["--clock", "{}:{}".format(*ticks[0])] if len(design.clocks) == 1 else []
@@ -309,12 +309,13 @@ def files_of(design, given):
     """The files by name, and what there is to say of them."""
     ordered, has_loop = in_order(design.cells)
     path, nets = longest_path(ordered), len(ordered) + len(design.data_inputs()) + len(design.constants())
-    files = {"netlist.bench": netlist_of(design, ordered), "stimuli.csv": stimuli_of(design), "options": options_of(design, given, path)}
+    period = (path // 10 + 1) * 10
+    files = {"netlist.bench": netlist_of(design, ordered), "stimuli.csv": stimuli_of(design), "options": options_of(design, given, period)}
     if len(design.clocks) > 1:
         files["clocks.csv"] = clocks_of(design, given)
     flops = sum(design.clocks.values())
     lines = [f"{nets} nets: {nets - len(ordered)} inputs, {flops} flip-flops, {len(ordered) - flops} gates"]
-    lines += ["there are loops of gates, so no path is the longest" if has_loop else f"the longest path is of {path} gates"]
+    lines += ["there are loops of gates, so no path is the longest" if has_loop else f"the longest path is of {path} gates, which settles in a period of {period} ticks"]
     lines += [f"{name} is the constant {level}" for name, level in design.constants()]
     lines += [] if init_of(design)[1] else ["flip-flops begin with different levels in the design, and here all with x, or as --init says"]
     lines += [f"cmbsim takes {MOST_NETS} nets, so this is too large"] if nets > MOST_NETS else []
@@ -327,7 +328,7 @@ def write(folder, files):
     lines = []
     for name, text in files.items():
         path = os.path.join(folder, name)
-        is_kept = name == "stimuli.csv" and os.path.exists(path)
+        is_kept = name in TO_BEGIN and os.path.exists(path)
         if not is_kept:
             with open(path, "w", encoding="ascii", newline="\n") as file:
                 file.write(text)

@@ -233,7 +233,7 @@ x[2] = BUFF(unknown)
 STIMULI = "tick,net,value\n0,zero,0\n0,one,1\n0,d[4],0\n0,d[5],0\n0,e[1],0\n0,e[0],0\n"
 SAID = """\
 16 nets: 7 inputs, 2 flip-flops, 7 gates
-the longest path is of 3 gates
+the longest path is of 3 gates, which settles in a period of 10 ticks
 zero is the constant 0
 one is the constant 1
 unknown is the constant x
@@ -244,8 +244,9 @@ def test_convert():
     left = "".join(f"d/{name} was written\n" for name in ("netlist.bench", "stimuli.csv", "options"))
     files = {"netlist.bench": NETLIST, "options": "--horizon 200 --clock 9:10 --init 0\n", "stimuli.csv": STIMULI}
     see("a whole design", converted(WHOLE), ((0, SAID + left, ""), files))
-    kept = left.replace("stimuli.csv was written", "stimuli.csv is left as it was")
-    see("stimuli that stand", converted(WHOLE, files={"stimuli.csv": "mine\n"}), ((0, SAID + kept, ""), {**files, "stimuli.csv": "mine\n"}))
+    mine = {"stimuli.csv": "mine\n", "options": "mine too\n"}
+    kept = left.replace("stimuli.csv was written", "stimuli.csv is left as it was").replace("options was written", "options is left as it was")
+    see("files that stand", converted(WHOLE, files=mine), ((0, SAID + kept, ""), {**files, **mine}))
     given = {**files, "options": "--horizon 1000 --clock 7:50 --init 0\n"}
     see("ticks that are given", converted(WHOLE, ["--clock", "clk=7:50"]), ((0, SAID + left, ""), given))
 
