@@ -10,7 +10,7 @@ import argparse
 import re
 import sys
 
-from vcd import Dump, Unreadable
+from vcd import Unreadable, dump_of_input
 
 
 def levels_at(dump, time):
@@ -49,8 +49,7 @@ def main():
     parser.add_argument("names", metavar="NAME", nargs="+")
     line = parser.parse_args()
     try:
-        sys.stdin.reconfigure(encoding="latin-1")
-        dump = Dump("standard input", sys.stdin)
+        dump = dump_of_input()
         names, levels = dump.names(), levels_at(dump, line.at)
     except Unreadable as error:
         print(f"read_vcd: {error}", file=sys.stderr)

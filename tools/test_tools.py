@@ -152,6 +152,15 @@ def test_read():
         see(f"read_vcd, {name}", run(".", ["read_vcd.py", *words], text), wanted)
 
 
+def test_gtkw():
+    wanted = ["[timestart] 0", "[size] 430 400", "[pos] -1 -1", "*-5.292782" + " -1" * 27, "[sst_width] 0", "[signals_width] 190",
+              "[sst_expanded] 0", "@28", "top.clear", "@22", "#{count[1:0]} top.\\count[1] top.\\count[0]", "@28", "top.\\count[0]",
+              "[pattern_trace] 1", "[pattern_trace] 0", ""]
+    ran = run(".", ["gtkw.py", "--width", "430", "clear", "count", "count[0]"], BITS)
+    see("gtkw", (ran[0], ran[1].split("\n"), ran[2]), (0, wanted, ""))
+    see("gtkw, no such net", run(".", ["gtkw.py", "carry"], BITS), (2, "", "gtkw: there is no net carry\n"))
+
+
 # ---- stimuli.py
 
 def test_stimuli():
@@ -291,7 +300,7 @@ def test_loops():
 
 
 def main():
-    for test in (test_compare, test_compare_names, test_unreadable, test_read, test_stimuli, test_convert, test_clocks, test_refusals, test_loops):
+    for test in (test_compare, test_compare_names, test_unreadable, test_read, test_gtkw, test_stimuli, test_convert, test_clocks, test_refusals, test_loops):
         test()
     print(f"{COUNTS['passed']} passed, {COUNTS['failed']} failed")
     return 1 if COUNTS["failed"] else 0

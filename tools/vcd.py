@@ -1,6 +1,7 @@
-"""vcd.py: reads value change dumps (IEEE 1364-2005, clause 18.2), for compare_vcd.py and read_vcd.py."""
+"""vcd.py: reads value change dumps (IEEE 1364-2005, clause 18.2), for compare_vcd.py, read_vcd.py and gtkw.py."""
 import os
 import re
+import sys
 
 UNITS = {"s": 15, "ms": 12, "us": 9, "ns": 6, "ps": 3, "fs": 0}  # each as a power of ten of a femtosecond
 LEVELS = dict(zip("01xXzZuUwW-lLhH", "01xxzzxxxxx0011"))  # the last ones are those that dumps of VHDL have besides
@@ -124,3 +125,9 @@ class Dump:
             raise self.fault(f"{word[:40]!r} changes no variable")
         for bits in self.variables.get(code, ()):
             levels.update(zip(bits, [value] if kind in "rs" else widened(value, len(bits))))
+
+
+def dump_of_input():
+    """The dump on standard input."""
+    sys.stdin.reconfigure(encoding="latin-1")
+    return Dump("standard input", sys.stdin)
