@@ -6,10 +6,11 @@
 FOLDER gets netlist.bench and, where there are several clocks, clocks.csv. It also gets two files to begin with, which are left
 as they are where they stand already: stimuli.csv, with each input at 0 from tick 0 on, and options, words for the program's line.
 
-Bits of buses are named as name[3]. A constant is an input, whose level the stimuli give. Each cell becomes one gate, with a
-delay of its own. The clock is no net of such a netlist: F:P says that the flip-flops of this clock, or of its falling edge,
-sample at the ticks F, F+P, F+2P and so on. A single clock needs no F:P: it gets a period in which the longest path settles,
-each gate taking one tick. docs/VERILOG.md goes from Verilog to waveforms.
+Bits of buses are named as name[3]. An output that shows an input, a constant or a register of another name is a gate BUFF. A
+constant is an input, whose level the stimuli give. Each cell becomes one gate, with a delay of its own. The clock is no net of
+such a netlist: F:P says that the flip-flops of this clock, or of its falling edge, sample at the ticks F, F+P, F+2P and so on.
+A single clock needs no F:P: it gets a period in which the longest path settles, each gate taking one tick. docs/VERILOG.md goes
+from Verilog to waveforms.
 
 Status 0: the files were written. Status 1: the design has what such a netlist can't say; standard error names it, and what
 would help. Status 2: the line is wrong, or a file can't be read or written."""
@@ -113,7 +114,7 @@ def wires_of(module):
 # ---- names
 
 class Names:
-    """A name for each bit: that of an input, else of an output, else of a wire, else `n` and the bit's number."""
+    """A name for each bit: that which it is given first, else `n` and the bit's number."""
 
     def __init__(self):
         self.taken = set()
@@ -154,18 +155,20 @@ class Design:
         self.first_levels = first_levels(module)
 
     def give_names(self, module):
-        for bit, name in ports_of(module, "input"):
+        ports = {name for direction in ("input", "output") for _, name in ports_of(module, direction)}
+        wires = [(bit, name) for bit, name in wires_of(module) if name not in ports]
+        flops = {cell.output for cell in self.cells if cell.clock}
+        for bit, name in ports_of(module, "input") + [(bit, name) for bit, name in wires if bit in flops]:
             self.names.give(bit, name)
         for bit, name in ports_of(module, "output"):
             if bit in self.names.of_bit or bit in CONSTANTS:
-                # a gate of its own, since the bit has another port's name
+                # a gate of its own, since the bit has the name of another port or of a register
                 self.cells.append(Cell("BUFF", ("copy", name), [bit], None))
                 bit = "copy", name
             self.names.give(bit, name)
             self.outputs.append(bit)
-        ports = {name for direction in ("input", "output") for _, name in ports_of(module, direction)}
-        for bit, name in wires_of(module):
-            if name not in ports:
+        for bit, name in wires:
+            if bit not in flops:
                 self.names.give(bit, name)
 
     def used(self):

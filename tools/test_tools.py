@@ -1,12 +1,15 @@
 #!/usr/bin/env python3
-"""test_tools.py: runs the tools on small texts that were written by hand. The last line is 'N passed, M failed'."""
+"""test_tools.py: runs the tools on small texts that were written by hand, asks bash for completions, and sees that these and the
+manual page have each word of the program's line. The last line is 'N passed, M failed'."""
 import json
 import os
+import re
 import subprocess
 import sys
 import tempfile
 
 HERE = os.path.dirname(os.path.abspath(__file__))
+TOP = os.path.dirname(HERE)
 COUNTS = {"passed": 0, "failed": 0}
 
 
@@ -213,7 +216,7 @@ WHOLE = design(
     {"clk": port("input", 2), "d": port("input", 3, 4, offset=4), "e": port("input", 5, 6, upto=1),
      "q": port("output", 7, 8), "x": port("output", 8, "1", "x")},
     [gate("AND", 12, 10, 3), flop(2, 12, 7), gate("NOT", 10, 11), gate("XNOR", 11, 5, 6), flop(2, "0", 8), gate("BUF", 13, 4)],
-    {"count": {"bits": [7, 8], "attributes": {"init": "00"}}, "inner.a(1)": {"bits": [10]}, "hidden": {"bits": [11], "hide_name": 1},
+    {"count": {"bits": [7, 8], "attributes": {"init": "00"}}, "inner.a(1)": {"bits": [10]}, "deep.er": {"bits": [10]}, "hidden": {"bits": [11], "hide_name": 1},
      "q": {"bits": [7, 8]}})
 NETLIST = """\
 # d, of Verilog by yosys
@@ -229,19 +232,21 @@ OUTPUT(q[1])
 OUTPUT(x[0])
 OUTPUT(x[1])
 OUTPUT(x[2])
-q[0] = DFF(n12)  # count[0]
-q[1] = DFF(zero)  # count[1]
+count[0] = DFF(n12)
+count[1] = DFF(zero)
 n11 = XNOR(e[1], e[0])
-inner.a_1_ = NOT(n11)
+inner.a_1_ = NOT(n11)  # deep.er
 n12 = AND(inner.a_1_, d[4])
 n13 = BUFF(d[5])
-x[0] = BUFF(q[1])
+q[0] = BUFF(count[0])
+q[1] = BUFF(count[1])
+x[0] = BUFF(count[1])
 x[1] = BUFF(one)
 x[2] = BUFF(unknown)
 """
 STIMULI = "tick,net,value\n0,zero,0\n0,one,1\n0,d[4],0\n0,d[5],0\n0,e[1],0\n0,e[0],0\n"
 SAID = """\
-16 nets: 7 inputs, 2 flip-flops, 7 gates
+18 nets: 7 inputs, 2 flip-flops, 9 gates
 the longest path is of 3 gates, which settles in a period of 10 ticks
 zero is the constant 0
 one is the constant 1
@@ -299,8 +304,40 @@ def test_loops():
         (0, "there are loops of gates, so no path is the longest", ["n5 = NAND(r, q)", "q = NAND(s, n5)", ""]))
 
 
+# ---- completions and the manual page
+
+def completed(*words):
+    """What bash would offer for the last word."""
+    script = f"source {TOP}/completions/cmbsim.bash; COMP_WORDS=(\"$@\"); COMP_CWORD=$(($# - 1)); _cmbsim; echo ${{COMPREPLY[*]}}"
+    ran = subprocess.run(["bash", "-c", script, "bash", *words], cwd=f"{TOP}/examples/s27", stdout=subprocess.PIPE, universal_newlines=True, check=True)
+    return ran.stdout.split()
+
+
+def test_completions():
+    see("commands", completed("cmbsim", ""), ["run", "help", "--help"])
+    see("options", completed("cmbsim", "run", "--horizon", "9", "--cl"), ["--clock", "--clocks", "--clusters"])
+    see("modes", completed("cmbsim", "run", "--mode", ""), ["rounds", "free", "plain"])
+    see("a mode", completed("cmbsim", "run", "--mode", "f"), ["free"])
+    see("levels", completed("cmbsim", "run", "--init", ""), ["0", "1", "x"])
+    see("files", completed("cmbsim", "run", "--clocks", "cl"), ["clocks.csv"])
+    see("numbers", completed("cmbsim", "run", "--horizon", ""), [])
+
+
+def test_words():
+    with open(f"{TOP}/crates/cmb_sim/src/line.rt", encoding="utf-8") as file:
+        words = set(re.findall(r'\balloc, "([a-z-]+)"', file.read())) - {"cmbsim"}
+    with open(f"{TOP}/docs/cmbsim.1", encoding="ascii") as file:
+        manual = file.read().replace("\\-", "-")
+    with open(f"{TOP}/completions/cmbsim.bash", encoding="ascii") as file:
+        completions = file.read()
+    see("the line has words", {"run", "horizon", "clocks"} <= words, True)
+    for name, text in (("the manual page", manual), ("completions", completions)):
+        see(f"words that {name} lacks", [word for word in sorted(words) if not re.search(rf"\b{word}\b", text)], [])
+
+
 def main():
-    for test in (test_compare, test_compare_names, test_unreadable, test_read, test_gtkw, test_stimuli, test_convert, test_clocks, test_refusals, test_loops):
+    for test in (test_compare, test_compare_names, test_unreadable, test_read, test_gtkw, test_stimuli, test_convert, test_clocks, test_refusals, test_loops,
+                 test_completions, test_words):
         test()
     print(f"{COUNTS['passed']} passed, {COUNTS['failed']} failed")
     return 1 if COUNTS["failed"] else 0
