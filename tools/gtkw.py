@@ -14,8 +14,7 @@ from read_vcd import bus_of
 from vcd import Unreadable, dump_of_input
 
 NET, BUS = "@28", "@22"
-# A row of pixels shows two to the power of the zoom, over 196, of a unit of time.
-ROWS = 196
+SCALE = 203  # a pixel shows 2 to the power of the zoom units of time, over this number, as was seen of GTKWave 3.3
 
 
 def variable(name):
@@ -27,13 +26,16 @@ def lines_of(name, names):
     """The lines of a net or a bus, or None where there is no such net."""
     if name in names:
         return [NET, variable(name)]
-    bits = [variable(bit) for bit in reversed(bus_of(name, names))]
-    return [BUS, " ".join([f"#{{{name}[{len(bits) - 1}:0]}}", *bits])] if bits else None
+    bits = bus_of(name, names)[::-1]
+    if not bits:
+        return None
+    ends = [bit[len(name) + 1:-1] for bit in (bits[0], bits[-1])]
+    return [BUS, " ".join([f"#{{{name}[{':'.join(ends)}]}}", *map(variable, bits)])]
 
 
 def head_of(end, width):
     """The lines of the window."""
-    zoom = math.log2(max(end, 1) / max(width - 230, 1) * ROWS)
+    zoom = math.log2(max(end, 1) / max(width - 260, 1) * SCALE)
     return ["[timestart] 0", f"[size] {width} 400", "[pos] -1 -1", f"*-{zoom:.6f}" + " -1" * 27,
             "[sst_width] 0", "[signals_width] 190", "[sst_expanded] 0"]
 

@@ -156,7 +156,7 @@ def test_read():
 
 
 def test_gtkw():
-    wanted = ["[timestart] 0", "[size] 430 400", "[pos] -1 -1", "*-5.292782" + " -1" * 27, "[sst_width] 0", "[signals_width] 190",
+    wanted = ["[timestart] 0", "[size] 430 400", "[pos] -1 -1", "*-5.577873" + " -1" * 27, "[sst_width] 0", "[signals_width] 190",
               "[sst_expanded] 0", "@28", "top.clear", "@22", "#{count[1:0]} top.\\count[1] top.\\count[0]", "@28", "top.\\count[0]",
               "[pattern_trace] 1", "[pattern_trace] 0", ""]
     ran = run(".", ["gtkw.py", "--width", "430", "clear", "count", "count[0]"], BITS)
