@@ -229,7 +229,7 @@ def check_given(design, given):
     if wrong:
         raise Refused(wrong)
     if len(known) > 1 and len(given) != len(known):
-        told = [f"{OPTIONS[edge]} {name}=F:P (flip-flops: {count})" for (name, edge), count in known.items()]
+        told = [f"{OPTIONS[edge]} {name}=F:P (flip-flops: {count})" for (name, edge), count in sorted(known.items())]
         raise Refused([f"there are {len(known)} clocks, and each has to be given its ticks: {', '.join(told)}"])
 
 
