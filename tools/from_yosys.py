@@ -27,6 +27,7 @@ OPTIONS = {"rising": "--clock", "falling": "--falling"}
 CONSTANTS = {"0": "zero", "1": "one", "x": "unknown"}
 TO_BEGIN = ("stimuli.csv", "options")
 MOST_NETS = 65535
+MOST_TICKS = 1000000
 ABC = "abc -g AND,NAND,OR,NOR,XOR,XNOR"
 # What a cell of another type is, and what helps; the first form that a type begins with counts.
 ADVICE = [(re.compile(form), words) for form, words in (
@@ -113,6 +114,11 @@ def wires_of(module):
 
 # ---- names
 
+def clean(name):
+    """The name without what a netlist or a table can't have in names."""
+    return re.sub(r'[^!-~]|[(),=#"]', "_", name)[:240]
+
+
 class Names:
     """A name for each bit: that which it is given first, else `n` and the bit's number."""
 
@@ -123,7 +129,7 @@ class Names:
 
     def free(self, wanted):
         """The wanted name, changed where a netlist can't have it or another net has it."""
-        name = re.sub(r"[^!-~]|[(),=#]", "_", wanted)[:240]
+        name = clean(wanted)
         while name in self.taken:
             name += "_"
         self.taken.add(name)
@@ -132,7 +138,7 @@ class Names:
     def give(self, bit, wanted):
         """Names a bit, unless it has a name."""
         if bit in self.of_bit:
-            self.others[bit].append(wanted)
+            self.others[bit].append(clean(wanted))
         elif bit not in CONSTANTS:
             self.of_bit[bit] = self.free(wanted)
 
@@ -146,7 +152,7 @@ class Design:
     """What is taken of a module: its inputs, bit by bit, its outputs as names, and its cells."""
 
     def __init__(self, title, module):
-        self.title = title
+        self.title = clean(title)
         self.cells = cells_of(module)
         self.clocks = collections.Counter(cell.clock for cell in self.cells if cell.clock)
         self.inputs = [bit for bit, _ in ports_of(module, "input")]
@@ -177,7 +183,8 @@ class Design:
 
     def constants(self):
         """The nets of constants, each with its level."""
-        return [(self.names.of(bit), bit) for bit in CONSTANTS if bit in self.used()]
+        used = self.used()
+        return [(self.names.of(bit), bit) for bit in CONSTANTS if bit in used]
 
     def data_inputs(self):
         """The names of the inputs but the clocks."""
@@ -300,7 +307,7 @@ def init_of(design):
 def options_of(design, given, period):
     """The words for the program's line: twenty periods."""
     ticks = list(given.values()) or [(period - 1, period)]
-    words = ["--horizon", 20 * max(period for _, period in ticks)]
+    words = ["--horizon", min(20 * max(period for _, period in ticks), MOST_TICKS)]
     words += ["--clock", "{}:{}".format(*ticks[0])] if len(design.clocks) == 1 else []
     level, _ = init_of(design)
     return " ".join(map(str, words + (["--init", level] if level != "x" else []))) + "\n"
@@ -318,7 +325,8 @@ def files_of(design, given):
         files["clocks.csv"] = clocks_of(design, given)
     flops = sum(design.clocks.values())
     lines = [f"{nets} nets: {nets - len(ordered)} inputs, {flops} flip-flops, {len(ordered) - flops} gates"]
-    lines += ["there are loops of gates, so no path is the longest" if has_loop else f"the longest path is of {path} gates, which settles in a period of {period} ticks"]
+    lines += ["there are loops of gates, so no path is the longest" if has_loop else
+              f"the longest path is of {path} gates, which settles in a period of {period} ticks"]
     lines += [f"{name} is the constant {level}" for name, level in design.constants()]
     lines += [] if init_of(design)[1] else ["flip-flops begin with different levels in the design, and here all with x, or as --init says"]
     lines += [f"cmbsim takes {MOST_NETS} nets, so this is too large"] if nets > MOST_NETS else []
@@ -350,8 +358,8 @@ def ticks_of(text):
 def arguments():
     parser = argparse.ArgumentParser(description="Makes a netlist for cmbsim of a design that yosys wrote by write_json.")
     parser.add_argument("--top", metavar="MODULE", help="the module to take, if there are several")
-    parser.add_argument("--clock", metavar="NAME=F:P", action="append", type=ticks_of, default=[], help="when flip-flops of this clock sample")
-    parser.add_argument("--falling", metavar="NAME=F:P", action="append", type=ticks_of, default=[], help="the same for its falling edge")
+    for option, words in (("--clock", "when flip-flops of this clock sample"), ("--falling", "the same for its falling edge")):
+        parser.add_argument(option, metavar="NAME=F:P", action="append", type=ticks_of, default=[], help=words)
     parser.add_argument("design", metavar="DESIGN.json")
     parser.add_argument("folder", metavar="FOLDER")
     return parser.parse_args()

@@ -19,8 +19,9 @@ def unit_of(text):
 
 def bits_of(kind, size, reference):
     """The names of a variable's bits, the leftmost one first. What isn't made of bits counts as one."""
-    name = reference[1:] if reference.startswith("\\") else reference
-    if kind in ("real", "realtime", "string"):
+    is_escaped = reference.startswith("\\")
+    name = reference[1:] if is_escaped else reference
+    if kind in ("real", "realtime", "string") or (is_escaped and size == 1):
         return [name]
     found = re.fullmatch(r"(.+)\[(\d+):(\d+)\]", name)
     if found and abs(int(found[2]) - int(found[3])) + 1 == size:
