@@ -1,13 +1,13 @@
 #!/usr/bin/env bash
-# end_to_end.sh: runs the whole program on files, as `rt try` builds it from the sources that the gate
+# end_to_end.sh [PROGRAM]: runs the whole program on files, as `rt try` builds it from the sources that the gate
 # has just proved (proving them once more for this would take as long again). The waveforms of each
 # example have to be those of its expected.vcd, byte for byte, in each mode; a wrong use has to write nothing and to
-# end with its status. The real designs, whose texts are longer than what `rt try` gives out, are run by the built program, that of
-# the gate or of `make build`, whichever is newer: what their expected.txt says has to be read off their waveforms. The last line
-# is 'N passed, M failed'.
+# end with its status. The real designs, whose texts are longer than what `rt try` gives out, are run by PROGRAM, out/cmbsim if not
+# given: what their expected.txt says has to be read off their waveforms. The last line is 'N passed, M failed'.
 set -uo pipefail
 cd "$(dirname "$0")/.."
 examples=$PWD/examples
+program=$(realpath -m "${1:-out/cmbsim}")
 cases=$(mktemp -d)
 report=$(mktemp)
 trap 'rm -rf "$cases" "$report"' EXIT
@@ -89,8 +89,7 @@ real() { # real NAME WORDS..: the levels that are read off at the end are those 
     fi
 }
 
-program=$PWD/$(ls -t crates/cmbsim/out/cmbsim out/cmbsim 2>/dev/null | head -n 1)
-[ -f "$program" ] || echo "end to end: the real designs need the built program: run make build"
+[ -x "$program" ] || echo "end to end: the real designs need a built program, and there is no $program: run make build"
 real aes128 --mode plain
 for name in aes128 sha256; do
     real "$name"

@@ -132,7 +132,7 @@ def main():
     began = time.monotonic()
     proved, unproved = run(["rt", "ci"], counts)
     between = time.monotonic()
-    ran, wrong = run(["scripts/end_to_end.sh"], {})
+    ran, wrong = run(["scripts/end_to_end.sh", "crates/cmbsim/out/cmbsim"], {})
     held, broken = run(["tools/test_tools.py"], {})
     untrue = subprocess.run(["scripts/believed.py", "--check"], cwd=TOP).returncode
     meter.stopped.set()
