@@ -1,7 +1,7 @@
 use Rattle.std.proofs.lemmas.Result.{err_from_is_err_and}
 use Rattle.cmb_sim.specs.declared.mode.Mode.TheVariants.{Rounds}
 use Rattle.cmb_sim.proofs.RoundRuns.{IsUnrun-clusters, IsUnrun-workers, no_checks}
-use Rattle.cmb_sim.proofs.running.rounds_text.Goals as goal
+use Rattle.cmb_sim.proofs.running.workers_text.Goals as goal
 
 pub returns-in_err-clustering-clause-fault : goal.returns-in_err-clustering-clause-fault
 returns-in_err-clustering-clause-fault g c =

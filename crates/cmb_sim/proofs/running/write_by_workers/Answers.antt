@@ -3,7 +3,7 @@ use Rattle.cmb_sim.specs.declared.mode.Mode.TheVariants.{Free}
 use Rattle.cmb_sim.proofs.FreeTexts.{IsUnwritten-cut}
 use Rattle.cmb_sim.proofs.Outcomes.{IsUnwritten-unrun}
 use Rattle.cmb_sim.proofs.RoundRuns.{IsUnrun-clusters, IsUnrun-workers, no_checks}
-use Rattle.cmb_sim.proofs.running.write_free.Goals as goal
+use Rattle.cmb_sim.proofs.running.write_by_workers.Goals as goal
 
 pub returns-in_err-clustering-clause-fault : goal.returns-in_err-clustering-clause-fault
 returns-in_err-clustering-clause-fault g c =
