@@ -298,14 +298,14 @@ class Hierarchy:
         return below is None or self.depth[other] == 0 or below - self.STEP <= self.depth[other] < below
 
 
-KINDS = (["NAND", "NOR", "AND", "OR", "XOR", "NOT", "XNOR"], [24, 16, 14, 10, 18, 10, 8])
+SHARES = (["NAND", "NOR", "AND", "OR", "XOR", "NOT", "XNOR"], [24, 16, 14, 10, 18, 10, 8])
 
 
 def local(nets, cycles, inputs=64, period=60, seed=7):
     """A clocked circuit with the locality of real ones: one net in seven is a flip-flop, and gates are 18 deep."""
     c, tree = Circuit(cycles * period, (period - 1, period), "0"), Hierarchy(nets, seed)
     r = tree.random
-    kinds = ["DFF" if r.random() < 0.14 else r.choices(*KINDS)[0] for _ in range(nets)]
+    kinds = ["DFF" if r.random() < 0.14 else r.choices(*SHARES)[0] for _ in range(nets)]
     for net in r.sample(range(nets), inputs):
         kinds[net] = "INPUT"
     tree.depth = [0 if kind in ("DFF", "INPUT") else r.randint(1, tree.DEPTH) for kind in kinds]

@@ -1,11 +1,13 @@
 #!/usr/bin/env bash
-# end_to_end.sh: runs the whole program on files, as `rt try` builds it from the sources that the gate
+# end_to_end.sh [PROGRAM]: runs the whole program on files, as `rt try` builds it from the sources that the gate
 # has just proved (proving them once more for this would take as long again). The waveforms of each
 # example have to be those of its expected.vcd, byte for byte, in each mode; a wrong use has to write nothing and to
-# end with its status. The last line is 'N passed, M failed'.
+# end with its status. The real designs, whose texts are longer than what `rt try` gives out, are run by PROGRAM, out/cmbsim if not
+# given: what their expected.txt says has to be read off their waveforms. The last line is 'N passed, M failed'.
 set -uo pipefail
 cd "$(dirname "$0")/.."
 examples=$PWD/examples
+program=$(realpath -m "${1:-out/cmbsim}")
 cases=$(mktemp -d)
 report=$(mktemp)
 trap 'rm -rf "$cases" "$report"' EXIT
@@ -42,8 +44,8 @@ refused() { # refused NAME STATUS WORDS..: nothing on standard output
     : >"$cases/$name.stdout"
 }
 
-for folder in "$examples"/*/; do
-    name=$(basename "$folder")
+for expected in "$examples"/*/expected.vcd; do
+    name=$(basename "$(dirname "$expected")")
     tables "$name"
     example "$name" plain --mode plain
     example "$name" default
@@ -70,6 +72,30 @@ for name in "${!statuses[@]}"; do
         failed=$((failed + 1))
         echo "end to end: $name FAILED: $(grep "^case=$name " "$report")"
     fi
+done
+
+real() { # real NAME WORDS..: the levels that are read off at the end are those of expected.txt
+    local name=$1 names=() levels=() net level
+    shift
+    while read -r net level; do
+        names+=("$net")
+        levels+=("$level")
+    done <"$examples/$name/expected.txt"
+    if [ "$(scripts/run_example.sh "$program" "$name" "$@" | tools/read_vcd.py "${names[@]}")" = "$(printf '%s\n' "${levels[@]}")" ]; then
+        passed=$((passed + 1))
+    else
+        failed=$((failed + 1))
+        echo "end to end: $name $* FAILED"
+    fi
+}
+
+[ -x "$program" ] || echo "end to end: the real designs need a built program, and there is no $program: run make build"
+real aes128 --mode plain
+for name in aes128 sha256; do
+    real "$name"
+    real "$name" --mode rounds --workers 2 --clusters 2
+    real "$name" --mode free
+    real "$name" --mode free --workers 2 --clusters 2
 done
 echo "$passed passed, $failed failed"
 [ "$failed" = 0 ]

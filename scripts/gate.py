@@ -1,7 +1,7 @@
 #!/usr/bin/env python3
 """gate.py: the gate. It runs `rt ci` (every proof from nothing, the must-fail edits, the tests, the programs) and
-then the program on whole files, sees that docs/MODEL.md lists what has to be believed, and says at the end what each
-part came to and what it took. The last line is 'N passed, M failed' over all; the status is 0 where nothing failed.
+then the program on whole files and the tools on small ones, sees that docs/MODEL.md lists what has to be believed, and
+says at the end what each part came to and what it took. The last line is 'N passed, M failed' over all; the status is 0 where nothing failed.
 
 Processor seconds are read from /proc once a second, of each of the toolchain's processes by its own command line,
 so a process that ends between two readings lacks what it did after the last one."""
@@ -132,14 +132,16 @@ def main():
     began = time.monotonic()
     proved, unproved = run(["rt", "ci"], counts)
     between = time.monotonic()
-    ran, wrong = run(["scripts/end_to_end.sh"], {})
+    ran, wrong = run(["scripts/end_to_end.sh", "crates/cmbsim/out/cmbsim"], {})
+    held, broken = run(["tools/test_tools.py"], {})
     untrue = subprocess.run(["scripts/believed.py", "--check"], cwd=TOP).returncode
     meter.stopped.set()
     counts["end to end"] = ran
     show(meter, counts, [("rt ci", between - began), ("end to end", time.monotonic() - between)])
     print(f"end to end: {ran} passed")
-    failed = unproved + wrong + bool(untrue)
-    print(f"{proved + ran + (not untrue)} passed, {failed} failed")
+    print(f"tools: {held} passed")
+    failed = unproved + wrong + broken + bool(untrue)
+    print(f"{proved + ran + held + (not untrue)} passed, {failed} failed")
     return 1 if failed else 0
 
 

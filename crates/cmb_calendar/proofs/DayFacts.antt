@@ -1,10 +1,12 @@
 -- The tells of all days, and what a write to a day's list makes of them.
-use Rattle.std.proofs.Common.{◌≡◌, ℕ, zero, suc, ◌+◌, ◌*◌, ◌/◌, ◌<◌, ◌≤◌, ◌≢◌, ◌⊎◌, ◌↔◌, inl, inr, List, [], ◌∷◌, ◌++◌, length, get_or, set, refl, sym, ap, subst, ◌∙◌, arith}
+use Rattle.std.proofs.Common.{Vec, Global, map, ◌≡◌, ℕ, zero, suc, ◌+◌, ◌*◌, ◌/◌, ◌<◌, ◌≤◌, ◌≢◌, ◌⊎◌, ◌↔◌, inl, inr, List, [], ◌∷◌, ◌++◌, length, get_or, set, refl, sym, ap, subst, ◌∙◌, arith}
 use Rattle.std.specs.Prelude.{replicate}
 use Rattle.std.specs.List.{All, Contains}
 use Rattle.std.proofs.Math.Nat.{div-lt_iff_lt-mul}
 use Rattle.std.proofs.lemmas.Bool.{cases_lt, cases_eq}
-use Rattle.std.proofs.lemmas.List.{get_or-set_same, get_or-set_other, get_or_past, length-set}
+use Rattle.std.specs.List.{swap}
+use Rattle.std.proofs.lemmas.List.Edits.{swap_is}
+use Rattle.std.proofs.lemmas.List.{get_or-map, map-set, set-get_or, get_or-set_same, get_or-set_other, get_or_past, length-set}
 use Rattle.std.proofs.lemmas.List.Elements.{All-nil, All-push, All-contains, Contains-append_left, Contains-append_right, Contains-append_cases, Contains-push, Contains-push_cases}
 use Rattle.std.proofs.lemmas.Nat.{le-div}
 use Rattle.cmb_calendar.specs.Days.{AreDays, tells_of}
@@ -42,6 +44,25 @@ pub lists-none : (count place : ℕ) → get_or {A = List Tell} (replicate count
 lists-none zero place = refl
 lists-none (suc count) zero = refl
 lists-none (suc count) (suc place) = lists-none count place
+
+-- what stands in the lists of days
+abbrev pub lists_of : List (Vec Tell Global) → List (List Tell)
+lists_of days = map (λ (list : Vec Tell Global). list.items) days
+
+-- two empty lists may change places
+pub lists-swap : (days : List (Vec Tell Global)) (a b : ℕ) (d : Vec Tell Global) → a < length days → b < length days → get_or (lists_of days) a [] ≡ [] → get_or (lists_of days) b [] ≡ []
+    → lists_of (swap days a b) ≡ lists_of days
+lists-swap days a b d first second none other =
+    let items : Vec Tell Global → List Tell = λ list. list.items in
+    let at_a : (get_or days a d).items ≡ [] = sym (get_or-map items days a d [] first) ∙ none in
+    let at_b : (get_or days b d).items ≡ [] = sym (get_or-map items days b d [] second) ∙ other in
+    ap lists_of (sym (swap_is days a b d first second))
+    ∙ map-set items (set days a (get_or days b d)) b (get_or days a d)
+    ∙ ap (λ (lists : List (List Tell)). set lists b (get_or days a d).items) (map-set items days a (get_or days b d))
+    ∙ ap (λ (list : List Tell). set (set (lists_of days) a (get_or days b d).items) b list) (at_a ∙ sym other)
+    ∙ ap (λ (list : List Tell). set (set (lists_of days) a list) b (get_or (lists_of days) b [])) (at_b ∙ sym none)
+    ∙ ap (λ (lists : List (List Tell)). set lists b (get_or (lists_of days) b [])) (set-get_or (lists_of days) a [])
+    ∙ set-get_or (lists_of days) b []
 
 module _ (width horizon day : ℕ) (lists : List (List Tell)) (days : AreDays width horizon day lists) where
   -- the day of a tell

@@ -24,7 +24,12 @@ impl Model for Calendar {
 
     ghost use Rattle.cmb_calendar.specs.Days.{AreDays, tells_of};
 
-    ghost view = { λ a. record { width = a.width; horizon = a.horizon; day = a.day; tells = tells_of (map (λ list. list.items) a.days.items) } };
+    ghost view = { λ a. record {
+      width = a.width;
+      horizon = a.horizon;
+      day = a.day;
+      tells = tells_of (map (λ list. list.items) a.days.items);
+    } };
 
     ghost invariant = { λ a. AreDays a.width a.horizon a.day (map (λ list. list.items) a.days.items) };
 }
@@ -77,12 +82,13 @@ impl Calendar {
     {
         if tell.tick < self.horizon {
             let day = (tell.tick / self.width) as usize;
-            push_tell(&mut self.days, day, tell)?;
+            push_tell(&mut self.days, self.day as usize, day, tell)?;
         }
         Ok(())
     }
 
-    /// Takes the tells of the next day out, in the order of their ticks. What `taken` held is forgotten.
+    /// Takes the tells of the next day out, in the order of their ticks. What `taken` held is forgotten, and its room
+    /// serves a later day.
     pub fn take(&mut self, taken: &mut Vec<Tell>) -> Result<(), AllocError>
         requires { day_begin self.old < self.old.horizon }
         ensures takes { OnOk result (Takes self.old self.new taken.new.items) }
@@ -100,7 +106,7 @@ mod tests {
     use cmb_wave::Level;
     use std::test::Fail;
 
-    // Days of ten ticks up to tick 25. What day 0 and day 1 have comes by rising ticks, and the tell at tick 25 is gone.
+    // Days of ten ticks up to tick 25. What days 0 and 1 have comes by rising ticks; the tell at tick 25 is gone.
     #[test]
     fn days_come_in_order(rt: HostRuntime) -> Result<(), Fail> {
         let early = Tell {

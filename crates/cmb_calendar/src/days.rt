@@ -1,6 +1,6 @@
 //! The lists of tells, one for each day.
 
-ghost use Rattle.std.specs.Prelude.{◌≡◌, ◌<◌, ◌++◌, ◌∷◌, [], IfOk, OnErr, OnOk, length, map, replicate, slice_index_or, slice_set};
+ghost use Rattle.std.specs.Prelude.{◌≡◌, ℕ, ◌<◌, ◌≤◌, ◌++◌, ◌∷◌, [], IfOk, OnErr, OnOk, length, map, replicate, slice_index_or, slice_set};
 
 use crate::tell::Tell;
 use std::alloc::{AllocError, Global};
@@ -17,12 +17,35 @@ pub(crate) fn empty_days(alloc: Global, count: usize) -> Result<Vec<Vec<Tell>>, 
     Ok(days)
 }
 
-/// Adds a tell to those of a day.
-pub(crate) fn push_tell(days: &mut [Vec<Tell>], day: usize, tell: Tell) -> Result<(), AllocError>
-    requires { day < length days.old }
-    ensures added { OnOk result (map (λ list. list.items) days.new ≡ slice_set (map (λ list. list.items) days.old) day (slice_index_or (map (λ list. list.items) days.old) day [] ++ tell ∷ [])) }
+// Gives a day of which nothing is told the room of the last past one.
+fn give_room(days: &mut [Vec<Tell>], next: usize, day: usize)
+    requires day { day < length days.old }
+    requires later { next ≤ day }
+    requires past { (place : ℕ) → place < next
+        → length (slice_index_or (map (λ list. list.items) days.old) place []) ≡ 0 }
+    ensures { map (λ list. list.items) days.new ≡ map (λ list. list.items) days.old }
+{
+    if next > 0 && days[day].is_empty() {
+        days.swap(next - 1, day);
+    }
+}
+
+/// Adds a tell to those of a day, where the lists of the days before `next` are empty.
+pub(crate) fn push_tell(
+    days: &mut [Vec<Tell>],
+    next: usize,
+    day: usize,
+    tell: Tell,
+) -> Result<(), AllocError>
+    requires day { day < length days.old }
+    requires later { next ≤ day }
+    requires past { (place : ℕ) → place < next
+        → length (slice_index_or (map (λ list. list.items) days.old) place []) ≡ 0 }
+    ensures added { OnOk result (map (λ list. list.items) days.new ≡ slice_set (map (λ list. list.items) days.old) day
+        (slice_index_or (map (λ list. list.items) days.old) day [] ++ tell ∷ [])) }
     ensures failed { OnErr result (map (λ list. list.items) days.new ≡ map (λ list. list.items) days.old) }
 {
+    give_room(days, next, day);
     days[day].push(tell)?;
     Ok(())
 }

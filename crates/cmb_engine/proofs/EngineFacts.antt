@@ -74,7 +74,7 @@ module _ (design : Design) (circuit : Circuit) (state : State) (is_circuit : IsC
     -- words that went on by the window show what the slots show up to its end
     pub next-shows : (old new : List Word) (tells : List Tell) → old ≡ state.words.items → tells ≡ taken → AreInOrder taken
         → ((trace : ℕ → ℕ → Level) → MeetsCells trace (cell_at circuit.wiring.cells) → Shows (levels_of old) trace (length old) (to - (to - state.clock))
-            → AreOfWindow trace (cell_at circuit.wiring.cells) (length old) (to - (to - state.clock)) to tells → Shows (levels_of new) trace (length old) to)
+        → AreOfWindow trace (cell_at circuit.wiring.cells) (length old) (to - (to - state.clock)) to tells → Shows (levels_of new) trace (length old) to)
         → Shows (levels_of new) (trace_of design circuit.lines.items) (length circuit.wiring.cells) to
     next-shows old new tells same those order shows =
         let trace : ℕ → ℕ → Level = trace_of design circuit.lines.items in

@@ -10,6 +10,7 @@ pub mod LineFacts
 pub mod MarkFacts
 pub mod MoveFacts
 pub mod NoteFacts
+pub mod OpenFacts
 pub mod PlanFacts
 pub mod ReaderFacts
 pub mod RowFacts

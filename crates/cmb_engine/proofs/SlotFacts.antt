@@ -1,10 +1,10 @@
 -- What the slots of a design show: the nets their values, and the lines those of other nets later.
-use Rattle.std.proofs.Common.{◌≡◌, ℕ, ◌+◌, ◌-◌, ◌<◌, ◌≤◌, ◌⊎◌, inl, inr, true, false, List, length, Option, None, Some, refl, sym, ap, ◌∙◌, arith, ltb}
+use Rattle.std.proofs.Common.{◌≡◌, ℕ, ◌+◌, ◌-◌, ◌<◌, ◌≤◌, ◌⊎◌, inl, inr, true, false, List, ap, ◌∙◌, arith, ltb}
 use Rattle.std.proofs.lemmas.Bool.{lt-ltb, le-ltb, cases_lt}
 use Rattle.cmb_wave.specs.declared.level.Level.{Level}
 use Rattle.cmb_design.specs.Design.{Design}
 use Rattle.cmb_design.specs.Exact.{nets_of}
-use Rattle.cmb_design.specs.Value.{delayed, value}
+use Rattle.cmb_design.specs.Value.{value}
 use Rattle.cmb_engine.specs.Circuits.{Shows}
 use Rattle.cmb_engine.specs.Traces.{trace_of}
 use Rattle.cmb_engine.specs.Windows.{in_place}

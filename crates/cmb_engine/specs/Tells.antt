@@ -1,5 +1,5 @@
 -- What is told of slots whose words no cell makes: their changes that lie ahead. Only contracts inside this crate cite these.
-use Rattle.std.specs.Prelude.{◌≡◌, ℕ, ◌+◌, ◌-◌, ◌<◌, ◌≤◌, ◌⊎◌, nat_lt, nat_le, ◌&&◌, ◌==◌, Bool, true, false, List, [], ◌∷◌, Option, None, Some, length, slice_get, Contains, if◌then◌else◌}
+use Rattle.std.specs.Prelude.{◌≡◌, ℕ, ◌+◌, ◌-◌, ◌<◌, ◌≤◌, ◌⊎◌, nat_lt, nat_le, ◌&&◌, ◌==◌, false, List, [], ◌∷◌, Option, None, Some, slice_get, Contains, if◌then◌else◌}
 use Rattle.cmb_wave.specs.declared.level.Level.{Level}
 use Rattle.cmb_calendar.specs.Calendars.{AreInOrder}
 use Rattle.cmb_calendar.specs.declared.tell.Tell.{Tell}

@@ -71,7 +71,12 @@ pub(crate) fn open_state(
     let marks = Marks::new(alloc, words.len())?;
     let mut calendar = Calendar::open(alloc, circuit.width, design.horizon())?;
     note_stimuli(design, &mut calendar)?;
-    note_starts(&words, &circuit.lines, design.netlist().len(), &mut calendar)?;
+    note_starts(
+        &words,
+        &circuit.lines,
+        design.netlist().len(),
+        &mut calendar,
+    )?;
     Ok(State {
         words,
         live,

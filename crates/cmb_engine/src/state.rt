@@ -61,9 +61,24 @@ impl State {
         let to = calendar.next_day();
         let ticks = to - clock;
         calendar.take(&mut tells)?;
-        go_on(&circuit.wiring, &tells, &mut words, &mut live, &mut marks, ticks, to);
+        go_on(
+            &circuit.wiring,
+            &tells,
+            &mut words,
+            &mut live,
+            &mut marks,
+            ticks,
+            to,
+        );
         collect(&words, &live, design.netlist().len(), 64 - ticks, changed)?;
-        note_lines(changed, &circuit.followers, &circuit.lines, &mut calendar, to, 64 - ticks)?;
+        note_lines(
+            changed,
+            &circuit.followers,
+            &circuit.lines,
+            &mut calendar,
+            to,
+            64 - ticks,
+        )?;
         Ok(State {
             words,
             live,

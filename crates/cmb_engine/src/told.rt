@@ -32,9 +32,11 @@ fn write_tell(
     ensures len { length words.new ≡ length words.old }
     ensures room { length marks.new ≡ length marks.old }
     ensures live_room { length live.new ≡ length live.old }
-    ensures words { (slot place : ℕ) → place < 64 → levels_of words.new slot place ≡ told_level (tell ∷ []) slot (levels_of words.old slot place) (to + place - 64) }
+    ensures words { (slot place : ℕ) → place < 64 → levels_of words.new slot place
+        ≡ told_level (tell ∷ []) slot (levels_of words.old slot place) (to + place - 64) }
     ensures kept { (m : ℕ) → has live.old m ≡ true → has live.new m ≡ true }
-    ensures same { (m place : ℕ) → has live.new m ≡ false → (has live.old m ≡ false) × (levels_of words.new m place ≡ levels_of words.old m place) }
+    ensures same { (m place : ℕ) → has live.new m ≡ false
+        → (has live.old m ≡ false) × (levels_of words.new m place ≡ levels_of words.old m place) }
     ensures marks { (m : ℕ) → has marks.old m ≡ true → has marks.new m ≡ true }
     ensures news { AreMarked (has marks.new) readers.now }
 {
@@ -52,25 +54,24 @@ pub(crate) fn write_told(
     live: &mut Marks,
     marks: &mut Marks,
     to: u32,
-    first: u32,
 )
-    requires slots { (tell : Tell) → Contains tells.now tell → (tell.slot < length words.old) × (to + first ≤ tell.tick + 64) × (tell.tick < to) }
+    requires slots { (tell : Tell) → Contains tells.now tell
+        → (tell.slot < length words.old) × (1 ≤ tell.tick) × (to ≤ tell.tick + 64) × (tell.tick < to) }
     requires lists { length readers.now ≡ length words.old }
     requires within { AreBelow (length words.old) readers.now }
     requires room { length words.old ≤ 64 * length marks.old }
     requires live { length words.old ≤ 64 * length live.old }
-    requires begun { 1 ≤ first }
-    requires first { first < 64 }
-    requires inside { 65 ≤ to + first }
     requires to { to ≤ 1000000 }
     ensures len { length words.new ≡ length words.old }
     ensures room { length marks.new ≡ length marks.old }
     ensures live_room { length live.new ≡ length live.old }
-    ensures words { (slot place : ℕ) → slot < length words.old → place < 64 → levels_of words.new slot place ≡ told_level tells.now slot (levels_of words.old slot place) (to + place - 64) }
+    ensures words { (slot place : ℕ) → slot < length words.old → place < 64 → levels_of words.new slot place
+        ≡ told_level tells.now slot (levels_of words.old slot place) (to + place - 64) }
     ensures kept { (m : ℕ) → has live.old m ≡ true → has live.new m ≡ true }
     ensures same { (m place : ℕ) → has live.new m ≡ false → levels_of words.new m place ≡ levels_of words.old m place }
     ensures marks { (m : ℕ) → has marks.old m ≡ true → has marks.new m ≡ true }
-    ensures news { (tell : Tell) → Contains tells.now tell → AreMarked (has marks.new) (slice_index_or readers.now tell.slot []) }
+    ensures news { (tell : Tell) → Contains tells.now tell
+        → AreMarked (has marks.new) (slice_index_or readers.now tell.slot []) }
 {
     for tell in tells {
         let slot = tell.slot as usize;

@@ -67,7 +67,7 @@ pub(crate) fn go_on(
     let readers = &wiring.readers;
     move_on(words, live, ticks);
     mark_news(readers, words, live, marks, first - wiring.most);
-    write_told(tells, readers, words, live, marks, to, first);
+    write_told(tells, readers, words, live, marks, to);
     mark_arrivals(&wiring.cells, wiring.flops.as_slice(), marks, to, first);
     settle(&wiring.cells, readers, words, marks, live, to, first);
 }

@@ -1,5 +1,4 @@
 pub mod RunFacts
 pub mod RunClocks
 pub mod TellerFacts
-pub mod TextSizes
 pub mod TextRuns

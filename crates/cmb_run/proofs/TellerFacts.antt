@@ -1,21 +1,17 @@
 -- What a teller gave is a beginning of the design's text.
-use Rattle.std.proofs.Common.{◌≡◌, ◌⊎◌, inl, inr, ◌∙◌, ℕ, ◌+◌, ◌^◌, ◌<◌, ◌≤◌, List, [], ◌++◌, Option, None, Some, length, take, refl, ap, sym, subst, append_assoc, length-append, arith}
+use Rattle.std.proofs.Common.{◌≡◌, ◌∙◌, ℕ, ◌+◌, ◌^◌, ◌<◌, ◌≤◌, List, ◌++◌, Option, None, Some, length, take, refl, ap, sym, subst, append_assoc, length-append, arith}
 use Rattle.std.specs.Io.KnownBytes.{Appends}
-use Rattle.std.proofs.KnownBytes.{Appends-trans}
-use Rattle.std.proofs.lemmas.Bool.{cases_lt}
-use Rattle.std.proofs.lemmas.List.{append-nil, take-append-le}
-use Rattle.std.proofs.Math.Seq.{take-append-add}
 use Rattle.cmb_design.specs.Design.{Design}
 use Rattle.cmb_design.specs.Lawful.{IsDesign}
 use Rattle.cmb_design.specs.Value.{value}
+use Rattle.cmb_vcd.specs.Beginnings.{HasBegun, IsCutOff}
 use Rattle.cmb_vcd.specs.Collector.{Collector, IsExactFor, least}
-use Rattle.cmb_vcd.specs.Vcd.{part_text, vcd}
+use Rattle.cmb_vcd.specs.Vcd.{vcd}
 use Rattle.cmb_vcd.specs.Writer.{done_text}
+use Rattle.cmb_vcd.proofs.BeginFacts.{HasBegun-front, IsCutOff-front, part_text-begins, part_text-whole}
 use Rattle.cmb_vcd.proofs.CollectorFacts.{least_clock_bound}
-use Rattle.cmb_vcd.proofs.Texts.{part_text-grows}
-use Rattle.cmb_run.specs.FreeRuns.{HasBegun, IsCutOff}
+use Rattle.cmb_vcd.proofs.TextSizes.{part_text-fits}
 use Rattle.cmb_run.specs.Tellers.{IsWithin, told}
-use Rattle.cmb_run.proofs.TextSizes.{part_text-fits}
 
 pub least-within : (design : Design) (collector : Collector) → IsExactFor design collector → least collector ≤ design.horizon
 least-within design collector exact = omega (arith, least_clock_bound collector.horizon collector.waves, exact.opened.horizon)
@@ -41,31 +37,18 @@ told-more-fits design collector now part lawful exact more =
     let both : length (told design (Some (least collector))) ≡ length (told design now) + length part = ap length more ∙ length-append (told design now) part in
     omega arith
 
+-- what was told, and the rest of the design's text
 told-begins : (design : Design) (done : Option ℕ) → IsWithin design done → (rest : List ℕ) × (vcd design ≡ told design done ++ rest)
-unfolding vcd
 told-begins design None within = (vcd design, refl)
-told-begins design (Some done) within = by (cases_lt done design.horizon)
-  where
-    by : (done < design.horizon) ⊎ (design.horizon ≤ done) → (rest : List ℕ) × (vcd design ≡ told design (Some done) ++ rest)
-    by (inl below) = part_text-grows design.netlist design.horizon (value design) done design.horizon within below
-    by (inr ended) =
-        let same : done ≡ design.horizon = omega arith in
-        ([], rw same (sym (append-nil (part_text design.netlist design.horizon (value design) design.horizon))))
+told-begins design (Some done) within = part_text-begins design done within
 
 pub told-whole : (design : Design) (done : ℕ) → done ≡ design.horizon → told design (Some done) ≡ vcd design
-unfolding vcd
-told-whole design done e = rw e refl
-
-take-past : (front part rest : List ℕ) (n : ℕ) → n ≤ length part → take (length front + n) (front ++ (part ++ rest)) ≡ front ++ take n part
-take-past front part rest n h = take-append-add front (part ++ rest) n ∙ ap (λ l. front ++ l) (take-append-le n part rest h)
+told-whole design done e = part_text-whole design done e
 
 pub HasBegun-told : (design : Design) (done : Option ℕ) (old new : Option (List ℕ)) → IsWithin design done → Appends old new (told design done) → HasBegun design old new
 HasBegun-told design done old new within h =
     let whole = told-begins design done within in
-    let text = told design done in
-    let all : vcd design ≡ text ++ ([] ++ whole.0) = whole.1 in
-    let same : take (length text + 0) (vcd design) ≡ text = ap (take (length text + 0)) all ∙ take-past text [] whole.0 0 (omega arith) ∙ append-nil text in
-    (length text + 0, subst (Appends old new) (sym same) h)
+    HasBegun-front design (told design done) whole.0 old new whole.1 h
 
 -- a sink that took a part's front and failed
 pub IsCutOff-told : (design : Design) (done after : Option ℕ) (start old new : Option (List ℕ)) (before later given n : ℕ) (part : List ℕ)
@@ -75,10 +58,4 @@ IsCutOff-told design done after start old new before later given n part within m
     let whole = told-begins design after within in
     let text = told design done in
     let all : vcd design ≡ text ++ (part ++ whole.0) = whole.1 ∙ ap (λ l. l ++ whole.0) more ∙ append_assoc text part whole.0 in
-    let same : take (given + n) (vcd design) ≡ text ++ take n part = ap (take (given + n)) all ∙ ap (λ k. take (k + n) (text ++ (part ++ whole.0))) count ∙ take-past text part whole.0 n (omega arith) in
-    let long : length (vcd design) ≡ length text + (length part + length whole.0) = ap length all ∙ length-append text (part ++ whole.0) ∙ ap (λ k. length text + k) (length-append part whole.0) in
-    record {
-      short = omega arith;
-      begun = subst (Appends start new) (sym same) (Appends-trans start old new text (take n part) a b);
-      failed = failed;
-    }
+    IsCutOff-front design text part whole.0 start old new before later given n all count short a b failed

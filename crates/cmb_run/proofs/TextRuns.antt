@@ -2,18 +2,15 @@
 use Rattle.std.proofs.Common.{◌≡◌, ◌∙◌, ℕ, List, Option, Some, Result, Ok, Err, length, refl, ap, sym, subst, arith}
 use Rattle.std.specs.Prelude.{IfOk, IfErr, OnOk}
 use Rattle.std.specs.Io.KnownBytes.{Appends}
-use Rattle.std.proofs.KnownBytes.{Appends-nil}
 use Rattle.cmb_design.specs.Design.{Design}
+use Rattle.cmb_vcd.specs.Beginnings.{HasBegun}
 use Rattle.cmb_vcd.specs.Collector.{Collector, IsComplete, IsExactFor, least}
 use Rattle.cmb_vcd.specs.Vcd.{vcd}
-use Rattle.cmb_run.specs.FreeRuns.{HasBegun, IsCutAt, IsStoppedAt}
+use Rattle.cmb_run.specs.FreeRuns.{IsCutAt, IsStoppedAt}
 use Rattle.cmb_run.specs.Tellers.{IsDecided, IsGiven, IsUnfinished}
 use Rattle.cmb_run.specs.declared.run_fault.RunFault.{RunFault}
 use Rattle.cmb_run.specs.declared.run_fault.RunFault.TheVariants.{Incomplete, Write, Memory}
 use Rattle.cmb_run.proofs.TellerFacts.{HasBegun-told, told-whole}
-
-pub HasBegun-none : (design : Design) (old : Option (List ℕ)) → HasBegun design old old
-HasBegun-none design old = (0, Appends-nil old)
 
 pub HasBegun-given : (design : Design) (old new : Option (List ℕ)) (before after upto given : ℕ) → IsGiven design old new before after upto given → HasBegun design old new
 HasBegun-given design old new before after upto given h = HasBegun-told design (Some h.done) old new h.within h.text

@@ -1,9 +1,8 @@
 -- Why a free run has no complete collector, or wrote no whole text.
-use Rattle.std.specs.Prelude.{◌≡◌, ℕ, ◌+◌, ◌<◌, List, Option, length, take, ⊤}
-use Rattle.std.specs.Io.KnownBytes.{Appends}
+use Rattle.std.specs.Prelude.{◌≡◌, ℕ, ◌<◌, List, Option, length, ⊤}
 use Rattle.cmb_design.specs.Design.{Design}
+use Rattle.cmb_vcd.specs.Beginnings.{HasBegun, IsCutOff}
 use Rattle.cmb_vcd.specs.Collector.{Collector, IsExactFor, wave_of}
-use Rattle.cmb_vcd.specs.Vcd.{vcd}
 use Rattle.cmb_run.specs.declared.run_fault.RunFault.{RunFault}
 use Rattle.cmb_run.specs.declared.run_fault.RunFault.TheVariants.{Incomplete, Write, Memory}
 
@@ -25,16 +24,6 @@ abbrev pub IsStopped : Design → RunFault → Type 0
 IsStopped design (Incomplete net upto collector) = IsExactFor design collector × IsLeastBehind collector net upto
 IsStopped design (Write written) = ⊥
 IsStopped design Memory = ⊤
-
--- the sink took a beginning of the design's text
-abbrev pub HasBegun : Design → Option (List ℕ) → Option (List ℕ) → Type 0
-HasBegun design old new = (n : ℕ) × Appends old new (take n (vcd design))
-
--- the sink failed after it took so many bytes of the design's text, which has more
-pub record IsCutOff (design : Design) (old new : Option (List ℕ)) (before after written : ℕ) : Type 0 where
-  pub short : written < length (vcd design)
-  pub begun : Appends old new (take written (vcd design))
-  pub failed : after ≡ before + 1
 
 -- why a text isn't written whole, and that a beginning of it is; where the sink failed that is the answer, before all else
 abbrev pub IsCutAt : Design → Option (List ℕ) → Option (List ℕ) → ℕ → ℕ → RunFault → Type 0

@@ -9,6 +9,8 @@ use Rattle.cmb_design.specs.declared.fault.DesignFault.TheVariants as design_fau
 use Rattle.cmb_design.specs.Faults.{fault_number, fault_record}
 use Rattle.cmb_run.specs.declared.run_fault.RunFault.{RunFault}
 use Rattle.cmb_run.specs.declared.run_fault.RunFault.TheVariants as run_fault
+use Rattle.cmb_stream.specs.declared.fault.StreamFault.{StreamFault}
+use Rattle.cmb_stream.specs.declared.fault.StreamFault.TheVariants as stream_fault
 use Rattle.cmb_sim.specs.declared.fault.Fault.{Fault}
 use Rattle.cmb_sim.specs.declared.fault.Fault.TheVariants.{Bench, Design, Clusters, Incomplete, Workers, TooLong, Read, Write, Memory}
 
@@ -55,3 +57,7 @@ abbrev pub run_as_fault : RunFault → Fault
 run_as_fault (run_fault.Incomplete net upto collector) = Incomplete net upto
 run_as_fault (run_fault.Write written) = Write written
 run_as_fault run_fault.Memory = Memory
+
+abbrev pub stream_as_fault : StreamFault → Fault
+stream_as_fault (stream_fault.Write written) = Write written
+stream_as_fault stream_fault.Memory = Memory

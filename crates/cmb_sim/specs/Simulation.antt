@@ -13,8 +13,8 @@ use Rattle.cmb_design.specs.Readers.{table_checks, table_rows, delay_header, del
 use Rattle.cmb_design.specs.Settings.{design_checks}
 use Rattle.cmb_design.specs.declared.fault.DesignFault.TheVariants.{TableTooLarge}
 use Rattle.cmb_design.specs.declared.settings.Settings.{Settings}
+use Rattle.cmb_vcd.specs.Beginnings.{HasBegun}
 use Rattle.cmb_vcd.specs.Vcd.{vcd}
-use Rattle.cmb_run.specs.FreeRuns.{HasBegun}
 use Rattle.cmb_sim.specs.Sources.{IsTooLong, IsWhole}
 use Rattle.cmb_sim.specs.declared.fault.Fault.{Fault}
 use Rattle.cmb_sim.specs.declared.fault.Fault.TheVariants as fault

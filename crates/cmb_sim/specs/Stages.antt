@@ -8,8 +8,8 @@ use Rattle.cmb_design.specs.Checks.{first_fault}
 use Rattle.cmb_design.specs.Design.{Design}
 use Rattle.cmb_design.specs.Exact.{nets_of}
 use Rattle.cmb_design.specs.declared.settings.Settings.{Settings}
+use Rattle.cmb_vcd.specs.Beginnings.{HasBegun}
 use Rattle.cmb_vcd.specs.Vcd.{vcd}
-use Rattle.cmb_run.specs.FreeRuns.{HasBegun}
 use Rattle.cmb_sim.specs.Simulation.{AreTexts, HasFailed, HasTooMany, Input, Inputs, IsFree, IsUntouched, Output, StopsAt, Texts, IsLawfulCount, clusters_of, design_in, mode_checks, text_checks, workers_of}
 use Rattle.cmb_sim.specs.declared.fault.Fault.{Fault}
 use Rattle.cmb_sim.specs.declared.fault.Fault.TheVariants as fault

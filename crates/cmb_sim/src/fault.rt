@@ -1,11 +1,12 @@
 //! Why a simulation didn't write its text.
 
 ghost use Rattle.std.specs.Prelude.{◌≡◌, IfOk};
-ghost use Rattle.cmb_sim.specs.Numbers.{bench_as_fault, design_as_fault, line_of, number_of, place_of, run_as_fault};
+ghost use Rattle.cmb_sim.specs.Numbers.{bench_as_fault, design_as_fault, line_of, number_of, place_of, run_as_fault, stream_as_fault};
 
 use cmb_bench::{BenchFault, FaultKind};
 use cmb_design::DesignFault;
 use cmb_run::RunFault;
+use cmb_stream::StreamFault;
 use std::alloc::{AllocError, Global};
 use thiserror::Error;
 
@@ -81,6 +82,17 @@ impl From<RunFault> for Fault {
             RunFault::Incomplete { net, upto, .. } => Fault::Incomplete { net, upto },
             RunFault::Write { written } => Fault::Write { written },
             RunFault::Memory => Fault::Memory,
+        }
+    }
+}
+
+impl From<StreamFault> for Fault {
+    ghost from_gives = { λ fault wider. wider ≡ stream_as_fault fault };
+
+    fn from(fault: StreamFault) -> Fault {
+        match fault {
+            StreamFault::Write { written } => Fault::Write { written },
+            StreamFault::Memory => Fault::Memory,
         }
     }
 }

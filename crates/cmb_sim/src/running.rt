@@ -1,6 +1,6 @@
 //! The text of a design, as a mode runs it.
 
-ghost use Rattle.std.specs.Prelude.{◌≡◌, ◌-◌, ◌^◌, ◌<◌, length, IfOk, IfErr, OnOk};
+ghost use Rattle.std.specs.Prelude.{◌≡◌, ◌-◌, ◌^◌, ◌<◌, true, length, IfOk, IfErr, OnOk};
 ghost use Rattle.std.specs.Io.KnownBytes.{Appends};
 ghost use Rattle.cmb_design.specs.Exact.{nets_of};
 ghost use Rattle.cmb_vcd.specs.Vcd.{vcd};
@@ -13,9 +13,13 @@ use cmb_core::{Clustering, ClusteringFault};
 use cmb_design::{Design, plain_waves};
 use cmb_links::Workers;
 use cmb_run::{Collector, OpenGate, Sink, run_free_text, run_rounds, vcd_text, write_whole};
+use cmb_stream::{stream_text, write_stream};
 use std::alloc::Global;
 use std::sync::Wait;
 use std::thread::Threads;
+
+// The most clusters, and the most workers.
+const MOST_PARTS: u32 = 64;
 
 // The text of a design, by a table with a place for each net and tick.
 fn plain_text(alloc: Global, design: &Design) -> Result<Vec<u8>, Fault>
@@ -53,8 +57,8 @@ fn workers_of(workers: u32) -> Result<Workers, Fault>
     }
 }
 
-// The text of a design, by rounds of workers.
-fn rounds_text<R: AllocGlobal + Threads + Wait + Sync>(
+// The text of a design, by rounds of several workers.
+fn workers_text<R: AllocGlobal + Threads + Wait + Sync>(
     rt: &R,
     workers: u32,
     clusters: u32,
@@ -71,8 +75,33 @@ fn rounds_text<R: AllocGlobal + Threads + Wait + Sync>(
     Ok(text)
 }
 
-// Writes the text of a design while its workers run, and gives the text's length.
-fn write_free<R: AllocGlobal + Threads + Wait + Sync, O: Sink>(
+// Whether one worker has all nets. Where so, the numbers are lawful.
+fn has_one_worker(workers: u32, clusters: u32) -> bool
+    ensures { result ≡ true → IsLawfulCount clusters × IsLawfulCount workers }
+{
+    workers.min(clusters) == 1 && workers.max(clusters) <= MOST_PARTS
+}
+
+// The text of a design, by rounds of workers: by the engine where one worker has all nets.
+fn rounds_text<R: AllocGlobal + Threads + Wait + Sync>(
+    rt: &R,
+    workers: u32,
+    clusters: u32,
+    design: &Design,
+) -> Result<Vec<u8>, Fault>
+    ensures text { IfOk result (λ text. text.items ≡ vcd design.now) }
+    ensures fits { OnOk result (CanRun (Mode.Rounds workers clusters) design.now) }
+    ensures fault { IfErr result (IsUnrun (Mode.Rounds workers clusters) design.now) }
+{
+    if has_one_worker(workers, clusters) {
+        let text = stream_text(rt.alloc(), design)?;
+        return Ok(text);
+    }
+    workers_text(rt, workers, clusters, design)
+}
+
+// Writes the text of a design while several workers run, and gives the text's length.
+fn write_by_workers<R: AllocGlobal + Threads + Wait + Sync, O: Sink>(
     rt: &R,
     workers: u32,
     clusters: u32,
@@ -91,6 +120,29 @@ fn write_free<R: AllocGlobal + Threads + Wait + Sync, O: Sink>(
     let workers = workers_of(workers)?;
     let written = run_free_text(rt, alloc, design, &clustering, workers, &OpenGate, out)?;
     Ok(written)
+}
+
+// Writes the text of a design while its workers run, and gives the text's length: while the engine goes on, where one
+// worker has all nets.
+fn write_free<R: AllocGlobal + Threads + Wait + Sync, O: Sink>(
+    rt: &R,
+    workers: u32,
+    clusters: u32,
+    design: &Design,
+    out: &mut O,
+) -> Result<u64, Fault>
+    requires room { O.failures out.old < 2 ^ 64 - 1 }
+    ensures length { IfOk result (λ written. written ≡ length (vcd design.now)) }
+    ensures text { OnOk result (Appends (O.taken out.old) (O.taken out.new) (vcd design.now)) }
+    ensures no_failure { OnOk result (O.failures out.new ≡ O.failures out.old) }
+    ensures fits { OnOk result (CanRun (Mode.Free workers clusters) design.now) }
+    ensures fault { IfErr result (IsUnwritten (Mode.Free workers clusters) design.now (output (O.taken out.old) (O.taken out.new) (O.failures out.old) (O.failures out.new))) }
+{
+    if has_one_worker(workers, clusters) {
+        let written = write_stream(rt.alloc(), design, out)?;
+        return Ok(written);
+    }
+    write_by_workers(rt, workers, clusters, design, out)
 }
 
 // Writes the text of a design, and gives its length.

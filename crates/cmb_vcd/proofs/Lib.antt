@@ -1,4 +1,5 @@
 pub mod Codes
+pub mod BeginFacts
 pub mod CollectorFacts
 pub mod EventFacts
 pub mod ExactFacts
@@ -8,6 +9,7 @@ pub mod LineFacts
 pub mod OrderFacts
 pub mod PartFacts
 pub mod SpanFacts
+pub mod TextSizes
 pub mod Texts
 pub mod TickFacts
 pub mod TraceFacts

@@ -1,3 +1,4 @@
+pub mod Beginnings
 pub mod Collector
 pub mod Ends
 pub mod Events

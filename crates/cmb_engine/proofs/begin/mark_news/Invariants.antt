@@ -1,4 +1,4 @@
-use Rattle.std.proofs.Common.{◌≡◌, ◌-◌, ℕ, true, length, map}
+use Rattle.std.proofs.Common.{◌≡◌, ◌-◌, ℕ, true, length}
 use Rattle.cmb_engine.specs.Bits.{has}
 use Rattle.cmb_engine.specs.Words.{levels_of}
 use Rattle.cmb_engine.proofs.BeginFacts.{AreTold}

@@ -1,5 +1,4 @@
-use Rattle.std.proofs.Common.{◌≡◌, ◌*◌, ◌<◌, ℕ, true, false, List, [], Vec, Global, length, map, get_or, refl, subst, sym, ap, ◌∙◌, arith}
-use Rattle.std.proofs.lemmas.List.{get_or-map, length-map}
+use Rattle.std.proofs.Common.{◌≡◌, ◌*◌, ℕ, true, false, List, length, refl, subst, sym, ◌∙◌, arith}
 use Rattle.cmb_wave.specs.declared.level.Level.{Level}
 use Rattle.cmb_engine.specs.Bits.{has}
 use Rattle.cmb_engine.specs.Cells.{cell_at}

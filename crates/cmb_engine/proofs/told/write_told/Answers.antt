@@ -1,8 +1,7 @@
-use Rattle.std.proofs.Common.{◌≡◌, ◌+◌, ◌-◌, ◌<◌, ◌≤◌, inl, inr, ℕ, List, [], ◌∷◌, Vec, Global, length, map, get_or, subst, sym, ap, ◌∙◌, arith}
+use Rattle.std.proofs.Common.{◌≡◌, ◌+◌, ◌-◌, ◌<◌, inl, inr, ℕ, List, [], ◌∷◌, length, get_or, subst, sym, ap, ◌∙◌, arith}
 use Rattle.std.proofs.lemmas.Bool.{cases_lt}
 use Rattle.std.proofs.lemmas.List.{get_or_default, take_all}
 use Rattle.std.proofs.lemmas.List.Elements.{Contains-get_or}
-use Rattle.std.specs.List.{Contains}
 use Rattle.cmb_wave.specs.declared.level.Level.{Level}
 use Rattle.cmb_wave.specs.declared.level.Level.TheVariants.{Zero}
 use Rattle.cmb_calendar.specs.declared.tell.Tell.{Tell}
@@ -10,40 +9,26 @@ use Rattle.cmb_engine.specs.Bits.{has}
 use Rattle.cmb_engine.specs.Cells.{AreMarked}
 use Rattle.cmb_engine.specs.Tells.{told_level}
 use Rattle.cmb_engine.specs.Words.{levels_of}
-use Rattle.cmb_engine.proofs.LineFacts.{list_at}
 use Rattle.cmb_engine.proofs.TellFacts.{told-more}
 use Rattle.cmb_engine.proofs.told.write_told.Goals as goal
 
 abbrev none : Tell
 none = record { tick = 0; slot = 0; level = Zero }
 
--- what is so of the tell of an iteration
-record IsSound (tell : Tell) (count to : ℕ) : Type 0 where
-  pub slot : tell.slot < count
-  pub begun : 1 ≤ tell.tick
-  pub reaches : to ≤ tell.tick + 64
-  pub upto : tell.tick < to
-
-sound : (tells : List Tell) (k count to first : ℕ) → ((tell : Tell) → Contains tells tell → (tell.slot < count) × (to + first ≤ tell.tick + 64) × (tell.tick < to))
-    → 65 ≤ to + first → k < length tells → IsSound (get_or tells k none) count to
-sound tells k count to first slots inside small =
-    let facts = slots (get_or tells k none) (Contains-get_or tells k none small) in
-    record { slot = facts.0; begun = omega (arith, facts.1); reaches = omega (arith, facts.1); upto = facts.2 }
-
 pub of-requires : goal.of-requires
 of-requires c =
-    let tell = sound c.args.tells.now c.loop-tell.tell-index (length c.args.words.now) c.args.to c.args.first c.requires.slots c.requires.inside c.loop-tell-test.true in
-    omega (arith, tell.slot, c.requires.lists)
+    let facts = c.requires.slots (get_or c.args.tells.now c.loop-tell.tell-index none) (Contains-get_or c.args.tells.now c.loop-tell.tell-index none c.loop-tell-test.true) in
+    omega (arith, facts.0, c.requires.lists)
 
 pub write_tell-requires : goal.write_tell-requires
 write_tell-requires c =
-    let tell = sound c.args.tells.now c.loop-tell.tell-index (length c.args.words.now) c.args.to c.args.first c.requires.slots c.requires.inside c.loop-tell-test.true in
+    let facts = c.requires.slots (get_or c.args.tells.now c.loop-tell.tell-index none) (Contains-get_or c.args.tells.now c.loop-tell.tell-index none c.loop-tell-test.true) in
     let place : ℕ = (get_or c.args.tells.now c.loop-tell.tell-index none).slot in
     record {
-      slot = omega (arith, tell.slot, c.loop-tell.invariant.len);
-      begun = tell.begun;
-      from = tell.reaches;
-      upto = tell.upto;
+      slot = omega (arith, facts.0, c.loop-tell.invariant.len);
+      begun = facts.1;
+      from = facts.2;
+      upto = facts.3;
       to = c.requires.to;
       within = λ k d small.
           let below : get_or c.of.result.now k d < length c.args.words.now =
@@ -57,7 +42,7 @@ pub loop-tell-preserved : goal.loop-tell-preserved
 loop-tell-preserved c =
     let tell : Tell = get_or c.args.tells.now c.loop-tell.tell-index none in
     let lists : List (List ℕ) = c.args.readers.now in
-    let facts = sound c.args.tells.now c.loop-tell.tell-index (length c.args.words.now) c.args.to c.args.first c.requires.slots c.requires.inside c.loop-tell-test.true in
+    let facts = c.requires.slots tell (Contains-get_or c.args.tells.now c.loop-tell.tell-index none c.loop-tell-test.true) in
     record {
       len = c.write_tell.ensures.len ∙ c.loop-tell.invariant.len;
       room = c.write_tell.ensures.room ∙ c.loop-tell.invariant.room;

@@ -1,6 +1,5 @@
-use Rattle.std.proofs.Common.{◌-◌, ℕ, List, [], Vec, Global, length, map, get_or, sym, subst, arith}
+use Rattle.std.proofs.Common.{◌-◌, ℕ, List, [], length, get_or, sym, subst, arith}
 use Rattle.cmb_engine.specs.Cells.{IsSteadyFrom, cell_at}
-use Rattle.cmb_engine.specs.Circuits.{IsWiring}
 use Rattle.cmb_engine.specs.Tells.{AreOfWindow}
 use Rattle.cmb_engine.specs.Words.{levels_of}
 use Rattle.cmb_engine.proofs.WindowFacts.{IsBegun, marked-kept, window-wired, window-shows}
@@ -9,7 +8,7 @@ use Rattle.cmb_engine.proofs.window.go_on.Goals as goal
 pub write_told-requires-clause-slots : goal.write_told-requires-clause-slots
 write_told-requires-clause-slots c = λ tell among.
     let told = c.requires.told tell among in
-    (omega (arith, told.0, c.move_on.ensures.len), omega (arith, told.2, c.requires.fits), told.3)
+    (omega (arith, told.0, c.move_on.ensures.len), omega (arith, told.2, c.requires.later), omega (arith, told.2, c.requires.fits), told.3)
 
 pub settle-requires-clause-wired : goal.settle-requires-clause-wired
 settle-requires-clause-wired c =

@@ -1,14 +1,11 @@
-use Rattle.std.proofs.Common.{◌≡◌, ◌≤◌, ◌*◌, ◌/◌, ◌++◌, [], ◌∷◌, List, Vec, Global, length, map, get_or, set, sym, subst, ap, ◌∙◌, arith}
+use Rattle.std.proofs.Common.{◌≡◌, ◌≤◌, ◌*◌, ◌/◌, ◌++◌, [], ◌∷◌, List, Vec, Global, length, get_or, set, sym, subst, ap, ◌∙◌, arith}
 use Rattle.std.specs.Vec.{with_items}
 use Rattle.std.proofs.lemmas.List.{with_items_is}
 use Rattle.cmb_calendar.specs.Calendars.{Calendar, Notes, day_begin}
 use Rattle.cmb_calendar.specs.Days.{tells_of}
 use Rattle.cmb_calendar.specs.declared.tell.Tell.{Tell}
-use Rattle.cmb_calendar.proofs.DayFacts.{days-more, tells-more}
+use Rattle.cmb_calendar.proofs.DayFacts.{lists_of, days-more, tells-more}
 use Rattle.cmb_calendar.proofs.calendar.Calendar.note.Goals as goal
-
-abbrev lists_of : List (Vec Tell Global) → List (List Tell)
-lists_of days = map (λ (list : Vec Tell Global). list.items) days
 
 module _ (c : goal.In_ok-push_tell) where
   written : lists_of (with_items c.self.inside.days c.push_tell.new.days).items

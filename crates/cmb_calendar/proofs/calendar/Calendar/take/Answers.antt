@@ -1,4 +1,4 @@
-use Rattle.std.proofs.Common.{◌≡◌, ◌+◌, ◌*◌, ◌<◌, ◌↔◌, [], List, Vec, Global, Result, Ok, Err, length, map, get_or, set, refl, subst, ap, ◌∙◌, arith}
+use Rattle.std.proofs.Common.{◌≡◌, ◌+◌, ◌*◌, ◌<◌, ◌↔◌, [], List, Vec, Global, Result, Ok, Err, length, get_or, set, refl, subst, ap, ◌∙◌, arith}
 use Rattle.std.specs.List.{Contains}
 use Rattle.std.specs.Prelude.{OnOk}
 use Rattle.std.specs.Vec.{with_items}
@@ -6,11 +6,8 @@ use Rattle.std.proofs.lemmas.List.{with_items_is}
 use Rattle.cmb_calendar.specs.Calendars.{Calendar, Takes}
 use Rattle.cmb_calendar.specs.Days.{tells_of}
 use Rattle.cmb_calendar.specs.declared.tell.Tell.{Tell}
-use Rattle.cmb_calendar.proofs.DayFacts.{tells-early, tells-late}
+use Rattle.cmb_calendar.proofs.DayFacts.{lists_of, tells-early, tells-late}
 use Rattle.cmb_calendar.proofs.calendar.Calendar.take.Goals as goal
-
-abbrev lists_of : List (Vec Tell Global) → List (List Tell)
-lists_of days = map (λ (list : Vec Tell Global). list.items) days
 
 whether : {T E P : Type 0} (result : Result T E) → P → OnOk result P
 whether (Ok x) p = p

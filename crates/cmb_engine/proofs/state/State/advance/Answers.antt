@@ -1,4 +1,4 @@
-use Rattle.std.proofs.Common.{◌≡◌, ◌+◌, ◌<◌, ◌≤◌, ℕ, ◌-◌, List, length, map, Vec, Global, sym, ap, subst, ◌∙◌, arith}
+use Rattle.std.proofs.Common.{◌≡◌, ◌<◌, ℕ, ◌-◌, List, length, Vec, Global, sym, ap, subst, ◌∙◌, arith}
 use Rattle.std.specs.Prelude.{All, Contains, false}
 use Rattle.std.proofs.lemmas.List.{length-map, with_items_is}
 use Rattle.cmb_calendar.specs.declared.tell.Tell.{Tell}
@@ -75,11 +75,11 @@ module _ (c : goal.In_ok-note_lines) where
       let follow : length c.deref-4.result.now ≡ nets_of c.args.design.now =
       ap length c.deref-4.ensures.value ∙ sym (length-map c.args.circuit.now.followers.items (λ (v : Vec ℕ Global). v.items)) ∙ c.requires.circuit.follow.count in
       subst (λ (n : ℕ). NotesEach (IsOfLine c.collect.new.changed.items c.args.circuit.now.lines.items n c.next_day-to.result (64 - (c.next_day-to.result - c.args.self.clock)))
-          c.take.new.self c.note_lines.new.calendar) follow
+      c.take.new.self c.note_lines.new.calendar) follow
       (subst (λ (lines : List Pin). NotesEach (IsOfLine c.collect.new.changed.items lines (length c.deref-4.result.now) c.next_day-to.result (64 - (c.next_day-to.result - c.args.self.clock)))
-          c.take.new.self c.note_lines.new.calendar) c.deref-5.ensures.value
+      c.take.new.self c.note_lines.new.calendar) c.deref-5.ensures.value
       (subst (λ (changed : List Changed). NotesEach (IsOfLine changed c.deref-5.result.now (length c.deref-4.result.now) c.next_day-to.result (64 - (c.next_day-to.result - c.args.self.clock)))
-          c.take.new.self c.note_lines.new.calendar) c.deref-3.ensures.value c.in_ok-note_lines.ensures.notes))
+      c.take.new.self c.note_lines.new.calendar) c.deref-3.ensures.value c.in_ok-note_lines.ensures.notes))
 
 pub returns-clause-state : goal.returns-clause-state
 returns-clause-state c =
@@ -90,12 +90,15 @@ returns-clause-state c =
       marks_room = omega (arith, c.go_on.ensures.room, c.requires.state.marks_room);
       shows = subst (λ (ws : List Word). Shows (levels_of ws) (trace_of c.args.design.now c.args.circuit.now.lines.items) (length c.args.circuit.now.wiring.cells) c.next_day-to.result) (sym same) (shows c);
       quiet = subst (λ (ws : List Word). AreQuiet (levels_of ws) (has c.go_on.new.live) (length c.args.circuit.now.wiring.cells)) (sym same)
-      (subst (λ (n : ℕ). AreQuiet (levels_of c.go_on.new.words) (has c.go_on.new.live) n) (count c) c.go_on.ensures.quiet);
+          (subst (λ (n : ℕ). AreQuiet (levels_of c.go_on.new.words) (has c.go_on.new.live) n) (count c) c.go_on.ensures.quiet);
       ahead = next-ahead c.args.design.now c.args.circuit.now c.args.self c.requires.circuit c.requires.state c.take.new.self c.take.new.taken.items c.next_day-to.result
-      c.requires.below c.next_day-to.ensures c.in_ok-take.ensures.takes c.go_on.new.words (shows c) c.collect.new.changed.items (rises c) (right c) (others c)
-      c.note_lines.new.calendar (noted c) c.note_lines.ensures.width c.note_lines.ensures.horizon c.note_lines.ensures.day;
-      begun = omega (arith, c.requires.state.begun,
-      later c.args.design.now c.args.circuit.now c.args.self c.requires.circuit c.requires.state c.take.new.self c.take.new.taken.items c.next_day-to.result c.requires.below c.next_day-to.ensures c.in_ok-take.ensures.takes);
+          c.requires.below c.next_day-to.ensures c.in_ok-take.ensures.takes c.go_on.new.words (shows c) c.collect.new.changed.items (rises c) (right c) (others c)
+          c.note_lines.new.calendar (noted c) c.note_lines.ensures.width c.note_lines.ensures.horizon c.note_lines.ensures.day;
+      begun = omega (
+        arith,
+        c.requires.state.begun,
+        later c.args.design.now c.args.circuit.now c.args.self c.requires.circuit c.requires.state c.take.new.self c.take.new.taken.items c.next_day-to.result c.requires.below c.next_day-to.ensures c.in_ok-take.ensures.takes,
+      );
       within = before-horizon c.args.design.now c.args.circuit.now c.args.self c.requires.circuit c.requires.state c.take.new.self c.take.new.taken.items c.next_day-to.result c.requires.below c.next_day-to.ensures c.in_ok-take.ensures.takes;
     }
 

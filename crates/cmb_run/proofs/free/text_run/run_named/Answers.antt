@@ -2,8 +2,9 @@ use Rattle.std.proofs.Common.{refl}
 use Rattle.std.proofs.lemmas.Result.{err_from_is_err_and}
 use Rattle.std.specs.Prelude.{IfOk}
 use Rattle.cmb_vcd.specs.Collector.{least}
+use Rattle.cmb_vcd.proofs.BeginFacts.{HasBegun-none}
 use Rattle.cmb_run.specs.Tellers.{IsGiven}
-use Rattle.cmb_run.proofs.TextRuns.{HasBegun-none, IsCutAt-whole, no_failure-whole, text-whole}
+use Rattle.cmb_run.proofs.TextRuns.{IsCutAt-whole, no_failure-whole, text-whole}
 use Rattle.cmb_run.proofs.free.text_run.run_named.Goals as goal
 
 pub returns-in_err-collected-clause-fault : goal.returns-in_err-collected-clause-fault

@@ -1,6 +1,6 @@
 use Rattle.std.proofs.Common.{refl}
 use Rattle.std.proofs.lemmas.Result.{err_from_is_err_and}
-use Rattle.cmb_run.proofs.TextRuns.{HasBegun-none}
+use Rattle.cmb_vcd.proofs.BeginFacts.{HasBegun-none}
 use Rattle.cmb_run.proofs.free.text_run.tell_new.Goals as goal
 
 pub returns-in_err-teller-clause-fault : goal.returns-in_err-teller-clause-fault

@@ -1,0 +1,58 @@
+-- What the calendar of an engine that begins has.
+use Rattle.std.proofs.Common.{◌≡◌, ◌⊎◌, inl, inr, ℕ, ◌+◌, ◌*◌, ◌<◌, List, [], length, ap, ◌∙◌, arith}
+use Rattle.std.specs.Prelude.{Contains}
+use Rattle.cmb_calendar.specs.Calendars.{Calendar, day_begin, day_end}
+use Rattle.cmb_calendar.specs.declared.tell.Tell.{Tell}
+use Rattle.cmb_wave.specs.declared.level.Level.{Level}
+use Rattle.cmb_design.specs.Design.{Design}
+use Rattle.cmb_design.specs.Exact.{nets_of}
+use Rattle.cmb_engine.specs.Ahead.{TellsAhead}
+use Rattle.cmb_engine.specs.Cells.{Cell}
+use Rattle.cmb_engine.specs.Circuits.{Shows}
+use Rattle.cmb_engine.specs.Lines.{NotesEach}
+use Rattle.cmb_engine.specs.Starts.{IsOfInput, IsOfStart}
+use Rattle.cmb_engine.specs.Traces.{IsPlan, trace_of}
+use Rattle.cmb_engine.specs.declared.cell.Pin.{Pin}
+use Rattle.cmb_engine.proofs.StartFacts.{starts-told}
+
+-- a calendar of the same days
+pub record HasDays (old new : Calendar) : Type 0 where
+  pub width : new.width ≡ old.width
+  pub horizon : new.horizon ≡ old.horizon
+  pub day : new.day ≡ old.day
+
+module _ (design : Design) (lines : List Pin) (most width : ℕ) (cells : List Cell) (plan : IsPlan design lines most width cells) (words : ℕ → ℕ → Level)
+    (shows : Shows words (trace_of design lines) (nets_of design + length lines) 1) (empty noted started : Calendar) (none : empty.tells ≡ []) (wide : empty.width ≡ width)
+    (ends : empty.horizon ≡ design.horizon) (zero_day : empty.day ≡ 0) (first : HasDays empty noted) (second : HasDays noted started)
+    (inputs : NotesEach (IsOfInput design) empty noted) (starts : NotesEach (IsOfStart words lines (nets_of design)) noted started) where
+  day-zero : started.day ≡ 0
+  day-zero = second.day ∙ first.day ∙ zero_day
+
+  has-width : started.width ≡ width
+  has-width = second.width ∙ first.width ∙ wide
+
+  noted-below : (tell : Tell) → Contains noted.tells tell → tell.tick < design.horizon
+  noted-below tell h = go ((inputs tell).0 h)
+    where
+      go : Contains empty.tells tell ⊎ (IsOfInput design tell × (tell.tick < empty.horizon)) → tell.tick < design.horizon
+      go (inl h) = absurd (omega (arith, h.1, ap length none))
+      go (inr h) = omega (arith, h.1, ends)
+
+  started-below : (tell : Tell) → Contains started.tells tell → tell.tick < design.horizon
+  started-below tell h = go ((starts tell).0 h)
+    where
+      go : Contains noted.tells tell ⊎ (IsOfStart words lines (nets_of design) tell × (tell.tick < noted.horizon)) → tell.tick < design.horizon
+      go (inl h) = noted-below tell h
+      go (inr h) = omega (arith, h.1, first.horizon, ends)
+
+  pub starts-ahead : TellsAhead design lines width cells 1 started
+  starts-ahead = record {
+    same_width = has-width;
+    same_horizon = second.horizon ∙ first.horizon ∙ ends;
+    today = λ near.
+        let begins : day_begin started ≡ 0 * started.width = ap (λ n. n * started.width) day-zero in
+        let over : day_end started ≡ (0 + 1) * started.width = ap (λ n. (n + 1) * started.width) day-zero in
+        (omega (arith, begins), omega (arith, over, has-width, plan.wide));
+    below = started-below;
+    told = starts-told design lines most width cells plan words shows empty noted started none ends first.horizon inputs starts;
+  }

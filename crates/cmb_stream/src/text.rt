@@ -1,0 +1,64 @@
+//! The whole text of a design.
+
+ghost use Rattle.std.specs.Prelude.{◌≡◌, ◌-◌, ◌^◌, ◌<◌, length, IfErr, IfOk, OnOk};
+ghost use Rattle.std.specs.Io.KnownBytes.{Appends};
+ghost use Rattle.cmb_stream.specs.Streams.{IsBrokenOff};
+ghost use Rattle.cmb_vcd.specs.Vcd.{vcd};
+
+use crate::fault::StreamFault;
+use crate::stream::Stream;
+use cmb_design::Design;
+use cmb_vcd::Sink;
+use std::alloc::{AllocError, Global};
+
+// What is written at a time has so many bytes at least.
+const PART: usize = 65_536;
+
+/// The VCD text of a design's run, whole in memory.
+pub fn stream_text(alloc: Global, design: &Design) -> Result<Vec<u8>, AllocError>
+    ensures { IfOk result (λ text. text.items ≡ vcd design.now) }
+{
+    let mut stream = Stream::open(alloc, design)?;
+    while !stream.is_done() {
+        stream = stream.step()?;
+    }
+    Ok(stream.into_text())
+}
+
+// Makes the rest of a text and writes it, part after part. Gives the text's length.
+fn write_rest<S: Sink>(stream: Stream<'_>, sink: &mut S) -> Result<u64, StreamFault>
+    requires room { S.failures sink.old < 2 ^ 64 - 1 }
+    requires all { stream.given ≡ 0 }
+    ensures length { IfOk result (λ written. written ≡ length (vcd stream.entry.design)) }
+    ensures text { OnOk result (Appends (S.taken sink.old) (S.taken sink.new) (vcd stream.entry.design)) }
+    ensures no_failure { OnOk result (S.failures sink.new ≡ S.failures sink.old) }
+    ensures fault { IfErr result (IsBrokenOff stream.entry.design (S.taken sink.old) (S.taken sink.new) (S.failures sink.old) (S.failures sink.new)) }
+{
+    let mut stream = stream;
+    while !stream.is_done() {
+        if stream.kept() >= PART {
+            stream.give(sink)?;
+        }
+        stream = stream.step()?;
+    }
+    stream.give(sink)?;
+    Ok(stream.given())
+}
+
+/// Writes the VCD text of a design's run while it is made, and gives its length. What it needs of memory doesn't
+/// grow with the horizon. Whatever the fault, the sink took a beginning of the text. A failed write is the answer
+/// then and only then; else memory was refused.
+pub fn write_stream<S: Sink>(
+    alloc: Global,
+    design: &Design,
+    sink: &mut S,
+) -> Result<u64, StreamFault>
+    requires { S.failures sink.old < 2 ^ 64 - 1 }
+    ensures length { IfOk result (λ written. written ≡ length (vcd design.now)) }
+    ensures text { OnOk result (Appends (S.taken sink.old) (S.taken sink.new) (vcd design.now)) }
+    ensures no_failure { OnOk result (S.failures sink.new ≡ S.failures sink.old) }
+    ensures fault { IfErr result (IsBrokenOff design.now (S.taken sink.old) (S.taken sink.new) (S.failures sink.old) (S.failures sink.new)) }
+{
+    let stream = Stream::open(alloc, design)?;
+    write_rest(stream, sink)
+}

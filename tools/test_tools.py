@@ -1,0 +1,347 @@
+#!/usr/bin/env python3
+"""test_tools.py: runs the tools on small texts that were written by hand, asks bash for completions, and sees that these and the
+manual page have each word of the program's line. The last line is 'N passed, M failed'."""
+import json
+import os
+import re
+import subprocess
+import sys
+import tempfile
+
+HERE = os.path.dirname(os.path.abspath(__file__))
+TOP = os.path.dirname(HERE)
+COUNTS = {"passed": 0, "failed": 0}
+
+
+def put(folder, files):
+    for name, text in files.items():
+        with open(os.path.join(folder, name), "w", encoding="ascii") as file:
+            file.write(text)
+
+
+def run(folder, words, given=""):
+    """Runs a tool, and gives its status, its output and what it says on standard error."""
+    ran = subprocess.run([sys.executable, os.path.join(HERE, words[0]), *words[1:]], cwd=folder, input=given,
+                         stdout=subprocess.PIPE, stderr=subprocess.PIPE, universal_newlines=True, timeout=60)
+    return ran.returncode, ran.stdout, ran.stderr
+
+
+def see(name, found, wanted):
+    """Counts whether a case came out as wanted."""
+    COUNTS["passed" if found == wanted else "failed"] += 1
+    if found != wanted:
+        print(f"tools: {name} FAILED: wanted\n{wanted!r}, found\n{found!r}")
+
+
+# ---- compare_vcd.py and read_vcd.py
+
+# A register of two bits that counts, and its clear: bit by bit, as cmbsim writes it.
+BITS = """\
+$version by hand $end
+$timescale 1 ns $end
+$scope module top $end
+$var wire 1 ! clear $end
+$var wire 1 " \\count[0] $end
+$var wire 1 # \\count[1] $end
+$upscope $end
+$enddefinitions $end
+#0
+$dumpvars
+1!
+x"
+x#
+$end
+#10
+0"
+0#
+#15
+0!
+#20
+1"
+#30
+0"
+1#
+#40
+"""
+# The same as a bus, in another order, with other codes, another time scale and a further scope.
+BUS = """\
+$date today $end
+$timescale 100ps $end
+$scope module test $end $scope module dut $end
+$var reg 2 a count [1:0] $end
+$var wire 1 b clear $end
+$upscope $end $upscope $end
+$enddefinitions $end
+$comment nothing yet $end
+#0 $dumpvars bx a 1b $end
+#100 b0 a
+#150 0b
+#200 b01 a
+#300 b11 a b10 a
+"""
+REAL = """\
+$scope module top $end
+$var real 64 r voltage $end
+$var wire 3 w word [0:2] $end
+$upscope $end
+$enddefinitions $end
+#0 r1.5 r bz w
+#7 r2.5 r b1x w
+"""
+
+
+def compared(name, files, words, wanted):
+    with tempfile.TemporaryDirectory() as folder:
+        put(folder, files)
+        see(name, run(folder, ["compare_vcd.py", *words, "a.vcd", "b.vcd"]), wanted)
+
+
+def pair(b, a=BITS):
+    return {"a.vcd": a, "b.vcd": b}
+
+
+def test_compare():
+    same = 0, "the same: 3 nets\n", ""
+    compared("a dump and itself", pair(BITS), [], same)
+    compared("bits and a bus", pair(BUS), [], same)
+    compared("a bus and bits", pair(BITS, BUS), [], same)
+    compared("what isn't told yet is x", pair(BITS.replace('x"\nx#\n', "")), [], same)
+    compared("a level twice is no change", pair(BITS.replace("#15\n", '#12\n0"\n#15\n')), [], same)
+    compared("numbers and z", pair(REAL, REAL), [], (0, "the same: 4 nets\n", ""))
+    late = BITS.replace("#20\n", "#21\n")
+    compared("a change comes late", pair(late), [], (1, "time 20: count[0] is 1 in a.vcd and 0 in b.vcd\n", ""))
+    compared("only times below one", pair(late), ["--upto", "20"], same)
+    compared("units of the first dump", pair(late, BUS), ["--upto", "200"], same)
+    compared("the first of two", pair(BITS.replace("#30\n0\"\n1#", "#30\n").replace("#15\n0!", "#15\n")), [],
+             (1, "time 15: clear is 0 in a.vcd and 1 in b.vcd\n", ""))
+    compared("a time between units", pair(BUS.replace("#150", "#155")), [], (1, "time 15: clear is 0 in a.vcd and 1 in b.vcd\n", ""))
+    compared("the same between units", pair(BUS.replace("#150", "#145")), [], (1, "time 14.5: clear is 1 in a.vcd and 0 in b.vcd\n", ""))
+    compared("one dump ends", pair(BITS.partition("#30")[0]), [],
+             (1, "time 30: count[0] is 0 in a.vcd and 1 in b.vcd\ntime 30: count[1] is 1 in a.vcd and 0 in b.vcd\n", ""))
+    compared("z isn't x", pair(REAL.replace("bz", "bx"), REAL), [], (1, "".join(
+        f"time 0: word[{bit}] is z in a.vcd and x in b.vcd\n" for bit in range(3)), ""))
+
+
+def test_compare_names():
+    further = BITS.replace("$upscope", "$var wire 1 $ carry $end\n$upscope")
+    compared("a net of one alone", pair(further), [], (1, "only in b.vcd: carry\n", ""))
+    compared("a net of one alone doesn't count", pair(further), ["--common"], (0, "the same: 3 nets\n", ""))
+    bench = BUS.replace("$scope module dut $end", "$var wire 1 c clock $end $scope module dut $end")
+    compared("a scope that isn't named", pair(bench), [], (
+        1, "only in a.vcd: clear, count[0], count[1]\nonly in b.vcd: clock, dut.count[1], dut.count[0], dut.clear\n", ""))
+    compared("a scope that is", pair(bench), ["--scope-b", "test.dut"], (0, "the same: 3 nets\n", ""))
+
+
+def test_unreadable():
+    for name, text, said in (
+            ("no text", "", "line 0: the text ends before $enddefinitions"),
+            ("no dump", "hello\n", "line 1: 'hello' stands where a declaration should"),
+            ("a command without an end", "$scope module top\n", "line 1: $scope has no $end"),
+            ("a time scale of another form", "$timescale 7 ns $end\n", "line 1: no time scale is '7 ns'"),
+            ("a variable without a name", "$var wire 1 ! $end\n", "line 1: no variable is 'wire 1 !'"),
+            ("a code of no variable", BITS + "1%\n", "line 26: '1%' changes no variable"),
+            ("a time that goes back", BITS + "#39\n", "line 26: after time 40 there is '39'")):
+        compared(name, pair(text), [], (2, "", f"compare_vcd: b.vcd, {said}\n"))
+    compared("a missing file", {"a.vcd": BITS}, [], (2, "", "compare_vcd: [Errno 2] No such file or directory: 'b.vcd'\n"))
+
+
+def test_read():
+    for name, text, words, wanted in (
+            ("the end", BITS, ["clear", "count"], (0, "0\n2\n", "")),
+            ("a time", BITS, ["--at", "20", "count"], (0, "1\n", "")),
+            ("what isn't known", BITS, ["--at", "9", "count", "count[1]"], (0, "x\nx\n", "")),
+            ("a bus that counts from the left", REAL, ["word[0]", "word[2]"], (0, "0\nx\n", "")),
+            ("no such net", BITS, ["clear", "carry"], (2, "", "read_vcd: there is no net carry\n"))):
+        see(f"read_vcd, {name}", run(".", ["read_vcd.py", *words], text), wanted)
+
+
+def test_gtkw():
+    wanted = ["[timestart] 0", "[size] 430 400", "[pos] -1 -1", "*-5.577873" + " -1" * 27, "[sst_width] 0", "[signals_width] 190",
+              "[sst_expanded] 0", "@28", "top.clear", "@22", "#{count[1:0]} top.\\count[1] top.\\count[0]", "@28", "top.\\count[0]",
+              "[pattern_trace] 1", "[pattern_trace] 0", ""]
+    ran = run(".", ["gtkw.py", "--width", "430", "clear", "count", "count[0]"], BITS)
+    see("gtkw", (ran[0], ran[1].split("\n"), ran[2]), (0, wanted, ""))
+    see("gtkw, no such net", run(".", ["gtkw.py", "carry"], BITS), (2, "", "gtkw: there is no net carry\n"))
+
+
+# ---- stimuli.py
+
+def test_stimuli():
+    given = "# a line of words alone\n0 go=0 word=0x2a  # hexadecimal\n\n10 go=1 word[1]=x pair=0b1x nibble=0xx\n"
+    wanted = ["tick,net,value", "0,go,0", *(f"0,word[{bit}],{level}" for bit, level in enumerate("01010100"))]
+    wanted += ["10,go,1", "10,word[1],x", "10,pair[0],x", "10,pair[1],1", *(f"10,nibble[{bit}],x" for bit in range(4))]
+    see("stimuli", run(".", ["stimuli.py"], given), (0, "\n".join(wanted) + "\n", ""))
+    see("a value of another form", run(".", ["stimuli.py"], "0 a=1\n1 a=2\n"), (2, "", "stimuli: line 2: 2 is no value\n"))
+    see("a word without a value", run(".", ["stimuli.py"], "0 a\n"), (2, "", "stimuli: line 1: a isn't NAME=VALUE\n"))
+
+
+# ---- from_yosys.py
+
+def gate(kind, output, *operands):
+    return {"type": f"$_{kind}_", "connections": {"Y": [output], **{pin: [bit] for pin, bit in zip("AB", operands)}}}
+
+
+def flop(clock, data, output, kind="$_DFF_P_"):
+    return {"type": kind, "connections": {"C": [clock], "D": [data], "Q": [output]}, "attributes": {"src": "d.v:3.1-3.9"}}
+
+
+def port(direction, *bits, **more):
+    return {"direction": direction, "bits": list(bits), **more}
+
+
+def design(ports, cells, wires=None):
+    module = {"attributes": {"top": "1"}, "ports": ports, "cells": {str(number): it for number, it in enumerate(cells)}, "netnames": wires or {}}
+    return {"modules": {"d": module}}
+
+
+def converted(text, words=(), files=None):
+    """What from_yosys.py says of a design, and the files that it then leaves."""
+    with tempfile.TemporaryDirectory() as folder:
+        put(folder, {"d.json": json.dumps(text)})
+        os.mkdir(f"{folder}/d")
+        put(f"{folder}/d", files or {})
+        ran = run(folder, ["from_yosys.py", *words, "d.json", "d"])
+        made = {}
+        for name in sorted(os.listdir(f"{folder}/d")):
+            with open(f"{folder}/d/{name}", encoding="ascii") as file:
+                made[name] = file.read()
+        return ran, made
+
+
+def refused(name, text, said, words=()):
+    see(name, converted(text, words), ((1, "", "".join(f"from_yosys: {line}\n" for line in said)), {}))
+
+
+WHOLE = design(
+    {"clk": port("input", 2), "d": port("input", 3, 4, offset=4), "e": port("input", 5, 6, upto=1),
+     "q": port("output", 7, 8), "x": port("output", 8, "1", "x")},
+    [gate("AND", 12, 10, 3), flop(2, 12, 7), gate("NOT", 10, 11), gate("XNOR", 11, 5, 6), flop(2, "0", 8), gate("BUF", 13, 4)],
+    {"count": {"bits": [7, 8], "attributes": {"init": "00"}}, "inner.a(1)": {"bits": [10]}, "deep.er": {"bits": [10]}, "hidden": {"bits": [11], "hide_name": 1},
+     "q": {"bits": [7, 8]}})
+NETLIST = """\
+# d, of Verilog by yosys
+INPUT(d[4])
+INPUT(d[5])
+INPUT(e[1])
+INPUT(e[0])
+INPUT(zero)
+INPUT(one)
+INPUT(unknown)
+OUTPUT(q[0])
+OUTPUT(q[1])
+OUTPUT(x[0])
+OUTPUT(x[1])
+OUTPUT(x[2])
+count[0] = DFF(n12)
+count[1] = DFF(zero)
+n11 = XNOR(e[1], e[0])
+inner.a_1_ = NOT(n11)  # deep.er
+n12 = AND(inner.a_1_, d[4])
+n13 = BUFF(d[5])
+q[0] = BUFF(count[0])
+q[1] = BUFF(count[1])
+x[0] = BUFF(count[1])
+x[1] = BUFF(one)
+x[2] = BUFF(unknown)
+"""
+STIMULI = "tick,net,value\n0,zero,0\n0,one,1\n0,d[4],0\n0,d[5],0\n0,e[1],0\n0,e[0],0\n"
+SAID = """\
+18 nets: 7 inputs, 2 flip-flops, 9 gates
+the longest path is of 3 gates, which settles in a period of 10 ticks
+zero is the constant 0
+one is the constant 1
+unknown is the constant x
+"""
+
+
+def test_convert():
+    left = "".join(f"d/{name} was written\n" for name in ("netlist.bench", "stimuli.csv", "options"))
+    files = {"netlist.bench": NETLIST, "options": "--horizon 200 --clock 9:10 --init 0\n", "stimuli.csv": STIMULI}
+    see("a whole design", converted(WHOLE), ((0, SAID + left, ""), files))
+    mine = {"stimuli.csv": "mine\n", "options": "mine too\n"}
+    kept = left.replace("stimuli.csv was written", "stimuli.csv is left as it was").replace("options was written", "options is left as it was")
+    see("files that stand", converted(WHOLE, files=mine), ((0, SAID + kept, ""), {**files, **mine}))
+    given = {**files, "options": "--horizon 1000 --clock 7:50 --init 0\n"}
+    see("ticks that are given", converted(WHOLE, ["--clock", "clk=7:50"]), ((0, SAID + left, ""), given))
+
+
+def test_clocks():
+    ports = {"a": port("input", 2), "b": port("input", 3), "d": port("input", 4), "q": port("output", 6)}
+    two = design(ports, [flop(2, 4, 5), flop(3, 5, 6, "$_DFF_N_")])
+    refused("two clocks", two, ["there are 2 clocks, and each has to be given its ticks: --clock a=F:P (flip-flops: 1), --falling b=F:P (flip-flops: 1)"])
+    refused("an edge of no flip-flop", two, ["--clock b: no flip-flop samples at this edge"], ["--clock", "b=1:2"])
+    ran, files = converted(two, ["--clock", "a=3:10", "--falling", "b=5:7"])
+    see("two clocks with ticks", (ran[0], files["clocks.csv"], files["options"]), (0, "net,first,period\nn5,3,10\nq,5,7\n", "--horizon 200\n"))
+    gated = design(ports, [gate("AND", 7, 2, 3), flop(7, 4, 6)])
+    refused("a gated clock", gated, ["n7 is a clock and no input: make an enable of a gated or divided clock"])
+    read = design(ports, [flop(2, 4, 5), gate("AND", 6, 2, 5)])
+    refused("a clock that is read", read, ["a is a clock, which is no net here, and something else reads it"])
+
+
+def test_refusals():
+    ports = {"a": port("input", 2), "y": port("output", 3)}
+    for kind, said in (
+            ("$_DFFE_PP_", "dffunmap"), ("$_SDFF_PP0_", "dffunmap"), ("$_SDFFCE_PP0P_", "dffunmap"), ("$_DFF_PN0_", "async2sync"),
+            ("$_DFFE_PP0P_", "async2sync"), ("$_DFFSR_PPP_", "async2sync"), ("$_ALDFF_PP_", "async2sync"), ("$_DLATCH_P_", "a latch"),
+            ("$_DLATCHSR_PPP_", "a latch"), ("$_SR_PP_", "a latch"), ("$_TBUF_", "tribuf"), ("$_FF_", "without a clock"), ("$_MUX_", "abc -g"),
+            ("$_ANDNOT_", "abc -g"), ("$lut", "abc -g"), ("$mem_v2", "memory_map"), ("$assert", "chformal"), ("$add", "synth -flatten"),
+            ("$dff", "synth -flatten"), ("adder", "flatten"), ("NAND2_X1", "without -liberty")):
+        ran, files = converted(design(ports, [flop(2, 2, 3, kind)]))
+        see(kind, (ran[0], said in ran[2], f"1 of type {kind}, the first at d.v:3.1-3.9: " in ran[2], files), (1, True, True, {}))
+    refused("an inout", design({**ports, "b": port("inout", 4)}, [gate("NOT", 3, 2)]), ["b is an inout: make it an input and an output"])
+    refused("two drivers", design(ports, [gate("NOT", 3, 2), gate("BUF", 3, 2)]), ["y has 2 drivers"])
+    refused("no driver", design(ports, [gate("AND", 3, 2, 9)]), ["n9 is driven by nothing: run setundef -undriven -zero, or mend the design"])
+    both = {"modules": {name: {**design(ports, [gate("NOT", 3, 2)])["modules"]["d"], "attributes": {}} for name in ("e", "f")}}
+    refused("two modules", both, ["of the modules e, f one has to be named by --top"])
+    see("one of two modules", converted(both, ["--top", "f"])[0][0], 0)
+    see("no design", converted([])[0], (2, "", "from_yosys: d.json isn't what write_json writes\n"))
+
+
+def test_loops():
+    ports = {"s": port("input", 2), "r": port("input", 3), "q": port("output", 4)}
+    ran, files = converted(design(ports, [gate("NAND", 4, 2, 5), gate("NAND", 5, 3, 4)]))
+    see("a loop of gates", (ran[0], ran[1].split("\n")[1], files["netlist.bench"].split("\n")[-3:]),
+        (0, "there are loops of gates, so no path is the longest", ["n5 = NAND(r, q)", "q = NAND(s, n5)", ""]))
+
+
+# ---- completions and the manual page
+
+def completed(*words):
+    """What bash would offer for the last word."""
+    script = f"source {TOP}/completions/cmbsim.bash; COMP_WORDS=(\"$@\"); COMP_CWORD=$(($# - 1)); _cmbsim; echo ${{COMPREPLY[*]}}"
+    ran = subprocess.run(["bash", "-c", script, "bash", *words], cwd=f"{TOP}/examples/s27", stdout=subprocess.PIPE, universal_newlines=True, check=True)
+    return ran.stdout.split()
+
+
+def test_completions():
+    see("commands", completed("cmbsim", ""), ["run", "help", "--help"])
+    see("options", completed("cmbsim", "run", "--horizon", "9", "--cl"), ["--clock", "--clocks", "--clusters"])
+    see("modes", completed("cmbsim", "run", "--mode", ""), ["rounds", "free", "plain"])
+    see("a mode", completed("cmbsim", "run", "--mode", "f"), ["free"])
+    see("levels", completed("cmbsim", "run", "--init", ""), ["0", "1", "x"])
+    see("files", completed("cmbsim", "run", "--clocks", "cl"), ["clocks.csv"])
+    see("numbers", completed("cmbsim", "run", "--horizon", ""), [])
+
+
+def test_words():
+    with open(f"{TOP}/crates/cmb_sim/src/line.rt", encoding="utf-8") as file:
+        words = set(re.findall(r'\balloc, "([a-z-]+)"', file.read())) - {"cmbsim"}
+    with open(f"{TOP}/docs/cmbsim.1", encoding="ascii") as file:
+        manual = file.read().replace("\\-", "-")
+    with open(f"{TOP}/completions/cmbsim.bash", encoding="ascii") as file:
+        completions = file.read()
+    see("the line has words", {"run", "horizon", "clocks"} <= words, True)
+    for name, text in (("the manual page", manual), ("completions", completions)):
+        see(f"words that {name} lacks", [word for word in sorted(words) if not re.search(rf"\b{word}\b", text)], [])
+
+
+def main():
+    for test in (test_compare, test_compare_names, test_unreadable, test_read, test_gtkw, test_stimuli, test_convert, test_clocks, test_refusals, test_loops,
+                 test_completions, test_words):
+        test()
+    print(f"{COUNTS['passed']} passed, {COUNTS['failed']} failed")
+    return 1 if COUNTS["failed"] else 0
+
+
+if __name__ == "__main__":
+    sys.exit(main())
