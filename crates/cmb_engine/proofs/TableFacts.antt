@@ -1,16 +1,17 @@
 -- Cells kept in two lists.
-use Rattle.std.proofs.Common.{◌≡◌, ℕ, zero, suc, ◌+◌, ◌<◌, ◌≤◌, List, [], ◌∷◌, ◌++◌, length, take, drop, get_or, refl, ◌∙◌, ap, arith}
-use Rattle.std.proofs.lemmas.List.{length-append, length-take, take_more}
+use Rattle.std.proofs.Common.{◌≡◌, ℕ, zero, suc, ◌+◌, ◌<◌, List, [], ◌∷◌, ◌++◌, length, take, get_or, refl, sym, ◌∙◌, ap, arith}
+use Rattle.std.proofs.lemmas.List.{length-append, length-map, length-take, take_more}
 use Rattle.cmb_bench.specs.declared.netlist.Kind.{Kind}
 use Rattle.cmb_design.specs.Design.{Design}
 use Rattle.cmb_design.specs.Timing.{delay}
 use Rattle.cmb_engine.specs.Plans.{pins_from}
-use Rattle.cmb_engine.specs.Cells.{Told, Gate}
+use Rattle.cmb_engine.specs.Cells.{Cell, Told, Gate}
 use Rattle.cmb_engine.specs.Tables.{cell_of, cells_of, pins_at, IsInside, AreInside}
 use Rattle.cmb_engine.specs.declared.cell.Pin.{Pin}
 use Rattle.cmb_engine.specs.declared.cells.Part.{Part}
 use Rattle.cmb_engine.specs.declared.cells.Rule.{Rule}
 use Rattle.cmb_engine.specs.declared.cells.Rule.TheVariants as rule
+use Rattle.cmb_engine.proofs.JoinFacts.{behind, still}
 
 -- one more rule
 pub inside_push : (pins : List Pin) (rules : List Rule) (r : Rule) → AreInside pins rules → IsInside pins r → AreInside pins (rules ++ r ∷ [])
@@ -23,24 +24,13 @@ cells_push pins (s ∷ rules) r = ap (λ cells. cell_of pins s ∷ cells) (cells
 
 -- ---- more pins
 
-still : (xs ys : List Pin) (first count : ℕ) → first + count ≤ length xs → take count (drop first (xs ++ ys)) ≡ take count (drop first xs)
-still [] ys zero zero h = refl
-still [] ys zero (suc count) h = absurd (omega arith)
-still [] ys (suc first) count h = absurd (omega arith)
-still (x ∷ xs) ys zero zero h = refl
-still (x ∷ xs) ys zero (suc count) h = ap (λ l. x ∷ l) (still xs ys zero count (omega arith))
-still (x ∷ xs) ys (suc first) count h = still xs ys first count (omega arith)
-
-behind : (xs ys : List Pin) → take (length ys) (drop (length xs) (xs ++ ys)) ≡ ys
-behind [] [] = refl
-behind [] (y ∷ ys) = ap (λ l. y ∷ l) (behind [] ys)
-behind (x ∷ xs) ys = behind xs ys
-
 pub pins_at-behind : (xs ys : List Pin) (part : Part) → part.first ≡ length xs → part.count ≡ length ys → pins_at (xs ++ ys) part ≡ ys
 pins_at-behind xs ys part first count = rw (first, count) (behind xs ys)
 
 inside_more : (xs ys : List Pin) (r : Rule) → IsInside xs r → IsInside (xs ++ ys) r
 inside_more xs ys rule.Told h = tt
+inside_more xs ys (rule.Single kind pin) h = tt
+inside_more xs ys (rule.Double kind pin other) h = tt
 inside_more xs ys (rule.Gate kind part) h = omega (arith, h, length-append xs ys)
 inside_more xs ys (rule.Flop clock pin) h = tt
 
@@ -50,6 +40,8 @@ all_inside_more xs ys (r ∷ rules) h = (inside_more xs ys r h.0, all_inside_mor
 
 cell_more : (xs ys : List Pin) (r : Rule) → IsInside xs r → cell_of (xs ++ ys) r ≡ cell_of xs r
 cell_more xs ys rule.Told h = refl
+cell_more xs ys (rule.Single kind pin) h = refl
+cell_more xs ys (rule.Double kind pin other) h = refl
 cell_more xs ys (rule.Gate kind part) h = ap (Gate kind) (still xs ys part.first part.count h)
 cell_more xs ys (rule.Flop clock pin) h = refl
 
@@ -68,6 +60,14 @@ pub cells_of-get_or : (pins : List Pin) (rules : List Rule) (net : ℕ) (d : Rul
 cells_of-get_or pins [] net d b = absurd (omega arith)
 cells_of-get_or pins (r ∷ rules) zero d b = refl
 cells_of-get_or pins (r ∷ rules) (suc net) d b = cells_of-get_or pins rules net d (omega arith)
+
+-- the cell of a rule that was read
+pub read-cell : (pins : List Pin) (rules : List Rule) (cells : List Cell) (net : ℕ) (r : Rule) → cells_of pins rules ≡ cells → net < length cells → r ≡ get_or rules net r
+    → get_or cells net Told ≡ cell_of pins r
+read-cell pins rules cells net r is inside read =
+    ap (λ (cells : List Cell). get_or cells net Told) (sym is)
+    ∙ cells_of-get_or pins rules net r (omega (arith, inside, ap length is, length-map rules (cell_of pins)))
+    ∙ ap (cell_of pins) (sym read)
 
 -- one more gate, whose pins are behind the others
 pub gate_cells : (xs ys : List Pin) (rules : List Rule) (kind : Kind) (part : Part) → AreInside xs rules → part.first ≡ length xs → part.count ≡ length ys

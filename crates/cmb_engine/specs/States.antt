@@ -14,7 +14,7 @@ use Rattle.cmb_engine.specs.declared.state.State.{State}
 -- a circuit is that of a design: its plan, who reads each slot, and which lines follow each net
 pub record IsCircuit (design : Design) (circuit : Circuit) : Type 0 where
   pub plan : IsPlan design circuit.lines.items circuit.wiring.most circuit.width circuit.wiring.cells
-  pub wires : IsWiring circuit.wiring.cells (map (λ list. list.items) circuit.wiring.readers.items) circuit.wiring.flops.items circuit.wiring.most
+  pub wires : IsWiring circuit.wiring.cells circuit.wiring.readers circuit.wiring.flops.items circuit.wiring.most
   pub few : length circuit.wiring.cells < 2 ^ 32
   pub follow : AreFollowers circuit.lines.items (nets_of design) (map (λ list. list.items) circuit.followers.items)
 

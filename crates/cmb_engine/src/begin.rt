@@ -1,17 +1,18 @@
 //! Which nets have news when a window begins.
 
-ghost use Rattle.std.specs.Prelude.{◌≡◌, ℕ, ◌*◌, ◌<◌, ◌≤◌, ◌⊎◌, true, [], length, map, slice_index_or};
+ghost use Rattle.std.specs.Prelude.{◌≡◌, ℕ, ◌*◌, ◌<◌, ◌≤◌, ◌⊎◌, true, [], length, slice_index_or};
 ghost use Rattle.cmb_engine.specs.Bits.{has};
 ghost use Rattle.cmb_engine.specs.Cells.{AreBelow, AreMarked, IsSteadyFrom};
 ghost use Rattle.cmb_engine.specs.Words.{levels_of};
 
 use crate::marks::Marks;
+use crate::readers::Readers;
 use crate::settle::mark_all;
 use cmb_words::Word;
 
 /// Marks the nets that read a live net whose word changes at a place or after it.
 pub(crate) fn mark_news(
-    readers: &[Vec<u32>],
+    readers: &Readers,
     words: &[Word],
     live: &Marks,
     marks: &mut Marks,
@@ -20,13 +21,13 @@ pub(crate) fn mark_news(
     requires lists { length readers.now ≡ length words.now }
     requires room { length words.now ≤ 64 * length marks.old }
     requires live { length words.now ≤ 64 * length live.now }
-    requires within { AreBelow (length words.now) (map (λ list. list.items) readers.now) }
+    requires within { AreBelow (length words.now) readers.now }
     requires begun { 1 ≤ first }
     requires first { first < 64 }
     ensures room { length marks.new ≡ length marks.old }
     ensures kept { (m : ℕ) → has marks.old m ≡ true → has marks.new m ≡ true }
     ensures news { (net : ℕ) → net < length words.now → has live.now net ≡ true
-        → IsSteadyFrom (levels_of words.now net) first ⊎ AreMarked (has marks.new) (slice_index_or (map (λ list. list.items) readers.now) net []) }
+        → IsSteadyFrom (levels_of words.now net) first ⊎ AreMarked (has marks.new) (slice_index_or readers.now net []) }
 {
     let mut from = 0;
     'nets: while let Some(net) = live.next_from(from) {
@@ -34,7 +35,7 @@ pub(crate) fn mark_news(
             break;
         }
         if !words[net].is_steady_from(first) {
-            mark_all(marks, readers[net].as_slice());
+            mark_all(marks, readers.of(net));
         }
         from = net + 1;
     }

@@ -1,4 +1,4 @@
-//! The cells of a design's nets, in two lists.
+//! The cells of a design's nets: a rule of each, and a list of the pins of gates that have more than two.
 
 ghost use Rattle.std.specs.Prelude.{◌≡◌, ℕ, ◌+◌, ◌^◌, ◌<◌, ◌≤◌, ◌++◌, ◌∷◌, [], true, false, All, IfOk, OnOk, MatchOption, length, map, replicate, slice_index_or};
 ghost use Rattle.cmb_words.specs.Word.{level_at_place};
@@ -8,7 +8,7 @@ ghost use Rattle.cmb_engine.specs.Words.{levels_of};
 
 use crate::cell::Pin;
 use crate::readers::push_pins;
-use crate::visit::{flop_word, gate_word};
+use crate::visit::{double_word, flop_word, gate_word, single_word};
 use cmb_bench::Kind;
 use cmb_design::Clock;
 use cmb_words::{Word, spliced};
@@ -34,10 +34,13 @@ impl Part {
     }
 }
 
-/// How the word of a net comes about, and where its pins stand.
+/// How the word of a net comes about. Most gates have one or two pins, which stand in the rule itself; of the others it
+/// says where their pins stand.
 #[derive(Clone, Copy)]
 pub(crate) enum Rule {
     Told,
+    Single(Kind, Pin),
+    Double(Kind, Pin, Pin),
     Gate(Kind, Part),
     Flop(Clock, Pin),
 }
@@ -90,15 +93,44 @@ impl Cells {
         Ok(())
     }
 
-    /// Adds a gate.
+    // Adds a gate with one pin.
+    #[tactic(auto, using(crate::proofs::TableFacts::inside_push, crate::proofs::TableFacts::cells_push))]
+    fn push_single(&mut self, kind: Kind, pin: Pin) -> Result<(), AllocError>
+        ensures { OnOk result (self.new ≡ self.old ++ Gate kind (pin ∷ []) ∷ []) }
+    {
+        self.rules.push(Rule::Single(kind, pin))?;
+        Ok(())
+    }
+
+    // Adds a gate with two pins.
+    #[tactic(auto, using(crate::proofs::TableFacts::inside_push, crate::proofs::TableFacts::cells_push))]
+    fn push_double(&mut self, kind: Kind, pin: Pin, other: Pin) -> Result<(), AllocError>
+        ensures { OnOk result (self.new ≡ self.old ++ Gate kind (pin ∷ other ∷ []) ∷ []) }
+    {
+        self.rules.push(Rule::Double(kind, pin, other))?;
+        Ok(())
+    }
+
+    // Adds a gate whose pins stand in the list.
     #[tactic(auto, using(crate::proofs::TableFacts::inside_push, crate::proofs::TableFacts::all_inside_more, crate::proofs::TableFacts::gate_cells))]
-    pub(crate) fn push_gate(&mut self, kind: Kind, pins: &[Pin]) -> Result<(), AllocError>
+    fn push_listed(&mut self, kind: Kind, pins: &[Pin]) -> Result<(), AllocError>
         ensures { OnOk result (self.new ≡ self.old ++ Gate kind pins.now ∷ []) }
     {
         let part = Part::behind(self.pins.len(), pins.len())?;
         self.pins.extend_from_slice(pins)?;
         self.rules.push(Rule::Gate(kind, part))?;
         Ok(())
+    }
+
+    /// Adds a gate.
+    pub(crate) fn push_gate(&mut self, kind: Kind, pins: &[Pin]) -> Result<(), AllocError>
+        ensures { OnOk result (self.new ≡ self.old ++ Gate kind pins.now ∷ []) }
+    {
+        match pins {
+            [pin] => self.push_single(kind, *pin),
+            [pin, other] => self.push_double(kind, *pin, *other),
+            _ => self.push_listed(kind, pins),
+        }
     }
 
     /// Adds so many nets whose words are told.
@@ -141,6 +173,8 @@ impl Cells {
     {
         match self.rules[net] {
             Rule::Told => Ok(()),
+            Rule::Single(_, pin) => push_pins(readers, &[pin], net as u32),
+            Rule::Double(_, pin, other) => push_pins(readers, &[pin, other], net as u32),
             Rule::Gate(_, part) => {
                 let begin = part.first as usize;
                 push_pins(
@@ -169,6 +203,10 @@ impl Cells {
         let own = words[net];
         match self.rules[net] {
             Rule::Told => own,
+            Rule::Single(kind, pin) => spliced(own, single_word(kind, pin, words), first),
+            Rule::Double(kind, pin, other) => {
+                spliced(own, double_word(kind, pin, other, words), first)
+            }
             Rule::Gate(kind, part) => {
                 let begin = part.first as usize;
                 let pins = &self.pins[begin..begin + part.count as usize];

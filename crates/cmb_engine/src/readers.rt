@@ -7,6 +7,58 @@ ghost use Rattle.cmb_engine.specs.Cells.{Told, AreBelow, AreReaders, IsListed, p
 use crate::cell::Pin;
 use crate::cells::Cells;
 use std::alloc::{AllocError, Global};
+use std::marker::Model;
+
+/// Which nets read each slot, seen as a list for each.
+///
+/// The lists stand one behind the other, so that those of many slots fit into a processor's cache.
+#[derive(Drop)]
+pub(crate) struct Readers {
+    // Where each slot's list begins, and where the last one ends.
+    starts: Vec<u32>,
+    nets: Vec<u32>,
+}
+
+impl Model for Readers {
+    ghost use Rattle.std.specs.Prelude.{List, ℕ, length};
+    ghost use Rattle.cmb_engine.specs.Lists.{lists_between, AreStarts};
+
+    ghost Value = { List (List ℕ) };
+
+    ghost view = { λ readers. lists_between readers.nets.items readers.starts.items };
+
+    ghost invariant = { λ readers. AreStarts (length readers.nets.items) readers.starts.items };
+}
+
+impl Readers {
+    // The same lists, one behind the other.
+    fn joined(alloc: Global, lists: &[Vec<u32>]) -> Result<Readers, AllocError>
+        ensures { IfOk result (λ readers. readers ≡ map (λ list. list.items) lists.now) }
+    {
+        let mut starts = Vec::new(alloc);
+        let mut nets = Vec::new(alloc);
+        starts.push(0)?;
+        for list in lists {
+            nets.extend_from_slice(list.as_slice())?;
+            let Ok(end) = u32::try_from(nets.len()) else {
+                return Err(AllocError);
+            };
+            starts.push(end)?;
+        }
+        Ok(Readers { starts, nets })
+    }
+
+    /// The nets that read a slot.
+    #[inline]
+    pub(crate) fn of(&self, slot: usize) -> &[u32]
+        requires { slot < length self.now }
+        ensures { result.now ≡ slice_index_or self.now slot [] }
+    {
+        let begin = self.starts[slot] as usize;
+        let end = self.starts[slot + 1] as usize;
+        &self.nets[begin..end]
+    }
+}
 
 /// Adds a net to the list of a place.
 pub(crate) fn push_reader(
@@ -47,8 +99,8 @@ pub(crate) fn empty_lists(alloc: Global, count: usize) -> Result<Vec<Vec<u32>>, 
     Ok(lists)
 }
 
-/// For each net those whose cells read it.
-pub(crate) fn readers_of(alloc: Global, cells: &Cells) -> Result<Vec<Vec<u32>>, AllocError>
+// For each net a list of those whose cells read it.
+fn reader_lists(alloc: Global, cells: &Cells) -> Result<Vec<Vec<u32>>, AllocError>
     requires few { length cells.now < 2 ^ 32 }
     requires pins { (net : ℕ) → net < length cells.now → All (λ pin. pin.net < length cells.now) (pins_of (slice_index_or cells.now net Told)) }
     ensures len { IfOk result (λ lists. length lists.items ≡ length cells.now) }
@@ -60,4 +112,16 @@ pub(crate) fn readers_of(alloc: Global, cells: &Cells) -> Result<Vec<Vec<u32>>, 
         cells.list_net(net, &mut lists)?;
     }
     Ok(lists)
+}
+
+/// For each net those whose cells read it.
+pub(crate) fn readers_of(alloc: Global, cells: &Cells) -> Result<Readers, AllocError>
+    requires few { length cells.now < 2 ^ 32 }
+    requires pins { (net : ℕ) → net < length cells.now → All (λ pin. pin.net < length cells.now) (pins_of (slice_index_or cells.now net Told)) }
+    ensures len { IfOk result (λ readers. length readers ≡ length cells.now) }
+    ensures readers { IfOk result (λ readers. (net : ℕ) → AreReaders cells.now net (slice_index_or readers net [])) }
+    ensures within { IfOk result (λ readers. AreBelow (length cells.now) readers) }
+{
+    let lists = reader_lists(alloc, cells)?;
+    Readers::joined(alloc, &lists)
 }

@@ -1,6 +1,6 @@
 //! Visits of nets with news.
 
-ghost use Rattle.std.specs.Prelude.{◌≡◌, ◌≢◌, ℕ, ◌+◌, ◌*◌, ◌<◌, ◌≤◌, true, false, All, map, length, slice_index, slice_index_or};
+ghost use Rattle.std.specs.Prelude.{◌≡◌, ◌≢◌, ℕ, ◌+◌, ◌*◌, ◌<◌, ◌≤◌, true, false, [], All, length, slice_index, slice_index_or};
 ghost use Rattle.cmb_wave.specs.declared.level.Level.{Level};
 ghost use Rattle.cmb_engine.specs.Bits.{has};
 ghost use Rattle.cmb_engine.specs.Cells.{Told, IsMade, IsLawful, IsReady, IsTrueBelow, IsWired, AreReaders, AreSettled, KeepsTold, cell_at, is_made, reads};
@@ -8,6 +8,7 @@ ghost use Rattle.cmb_engine.specs.Words.{levels_of};
 
 use crate::cells::Cells;
 use crate::marks::Marks;
+use crate::readers::Readers;
 use cmb_words::Word;
 
 /// Marks some nets.
@@ -26,7 +27,7 @@ pub(crate) fn mark_all(marks: &mut Marks, nets: &[u32])
 /// that read it are marked. Whether it is another one.
 pub(crate) fn visit(
     cells: &Cells,
-    readers: &[u32],
+    readers: &Readers,
     words: &mut [Word],
     marks: &mut Marks,
     net: usize,
@@ -36,9 +37,10 @@ pub(crate) fn visit(
     requires net { net < length words.old }
     requires cell { IsLawful (length words.old) first (slice_index_or cells.now net Told) }
     requires nets { length cells.now ≡ length words.old }
+    requires lists { length readers.now ≡ length words.old }
     requires room { length words.old ≤ 64 * length marks.old }
-    requires readers { AreReaders cells.now net readers.now }
-    requires within { All (λ reader. reader < 64 * length marks.old) readers.now }
+    requires readers { AreReaders cells.now net (slice_index_or readers.now net []) }
+    requires within { All (λ reader. reader < 64 * length marks.old) (slice_index_or readers.now net []) }
     requires to { to ≤ 1000000 }
     requires begun { 1 ≤ first }
     requires first { first < 64 }
@@ -66,21 +68,21 @@ pub(crate) fn visit(
         return false;
     }
     words[net] = made;
-    mark_all(marks, readers);
+    mark_all(marks, readers.of(net));
     true
 }
 
 /// Visits the marked nets by rising number, each once, and puts those that get another word among the live ones.
 pub(crate) fn sweep(
     cells: &Cells,
-    readers: &[Vec<u32>],
+    readers: &Readers,
     words: &mut [Word],
     marks: &mut Marks,
     live: &mut Marks,
     to: u32,
     first: u32,
 )
-    requires wired { IsWired cells.now (map (λ list. list.items) readers.now) (length words.old) first }
+    requires wired { IsWired cells.now readers.now (length words.old) first }
     requires room { length words.old ≤ 64 * length marks.old }
     requires live { length words.old ≤ 64 * length live.old }
     requires to { to ≤ 1000000 }
@@ -107,7 +109,7 @@ pub(crate) fn sweep(
         if net >= words.len() {
             break;
         }
-        if visit(cells, readers[net].as_slice(), words, marks, net, to, first) {
+        if visit(cells, readers, words, marks, net, to, first) {
             live.insert(net);
         }
         from = net + 1;
@@ -118,14 +120,14 @@ pub(crate) fn sweep(
 /// below the place is true in all of them.
 pub(crate) fn settle(
     cells: &Cells,
-    readers: &[Vec<u32>],
+    readers: &Readers,
     words: &mut [Word],
     marks: &mut Marks,
     live: &mut Marks,
     to: u32,
     first: u32,
 )
-    requires wired { IsWired cells.now (map (λ list. list.items) readers.now) (length words.old) first }
+    requires wired { IsWired cells.now readers.now (length words.old) first }
     requires room { length words.old ≤ 64 * length marks.old }
     requires live { length words.old ≤ 64 * length live.old }
     requires to { to ≤ 1000000 }

@@ -1,6 +1,6 @@
 //! What is told of slots in a window.
 
-ghost use Rattle.std.specs.Prelude.{◌≡◌, ℕ, ◌+◌, ◌-◌, ◌*◌, ◌<◌, ◌≤◌, true, false, [], ◌∷◌, All, Contains, length, map, slice_index_or};
+ghost use Rattle.std.specs.Prelude.{◌≡◌, ℕ, ◌+◌, ◌-◌, ◌*◌, ◌<◌, ◌≤◌, true, false, [], ◌∷◌, All, Contains, length, slice_index_or};
 ghost use Rattle.cmb_calendar.specs.declared.tell.Tell.{Tell};
 ghost use Rattle.cmb_engine.specs.Bits.{has};
 ghost use Rattle.cmb_engine.specs.Cells.{AreBelow, AreMarked};
@@ -8,6 +8,7 @@ ghost use Rattle.cmb_engine.specs.Tells.{told_level};
 ghost use Rattle.cmb_engine.specs.Words.{levels_of};
 
 use crate::marks::Marks;
+use crate::readers::Readers;
 use crate::settle::mark_all;
 use cmb_calendar::Tell;
 use cmb_words::Word;
@@ -48,7 +49,7 @@ fn write_tell(
 /// Writes what is told into the words that end before a tick, and marks who reads the slots that it is told of.
 pub(crate) fn write_told(
     tells: &[Tell],
-    readers: &[Vec<u32>],
+    readers: &Readers,
     words: &mut [Word],
     live: &mut Marks,
     marks: &mut Marks,
@@ -57,7 +58,7 @@ pub(crate) fn write_told(
     requires slots { (tell : Tell) → Contains tells.now tell
         → (tell.slot < length words.old) × (1 ≤ tell.tick) × (to ≤ tell.tick + 64) × (tell.tick < to) }
     requires lists { length readers.now ≡ length words.old }
-    requires within { AreBelow (length words.old) (map (λ list. list.items) readers.now) }
+    requires within { AreBelow (length words.old) readers.now }
     requires room { length words.old ≤ 64 * length marks.old }
     requires live { length words.old ≤ 64 * length live.old }
     requires to { to ≤ 1000000 }
@@ -70,10 +71,10 @@ pub(crate) fn write_told(
     ensures same { (m place : ℕ) → has live.new m ≡ false → levels_of words.new m place ≡ levels_of words.old m place }
     ensures marks { (m : ℕ) → has marks.old m ≡ true → has marks.new m ≡ true }
     ensures news { (tell : Tell) → Contains tells.now tell
-        → AreMarked (has marks.new) (slice_index_or (map (λ list. list.items) readers.now) tell.slot []) }
+        → AreMarked (has marks.new) (slice_index_or readers.now tell.slot []) }
 {
     for tell in tells {
         let slot = tell.slot as usize;
-        write_tell(*tell, readers[slot].as_slice(), words, live, marks, to);
+        write_tell(*tell, readers.of(slot), words, live, marks, to);
     }
 }

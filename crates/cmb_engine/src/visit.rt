@@ -1,6 +1,6 @@
 //! What the cell of a net makes of the words of others.
 
-ghost use Rattle.std.specs.Prelude.{◌≡◌, ℕ, ◌+◌, ◌-◌, ◌<◌, ◌≤◌, List, All, length, map, if◌then◌else◌};
+ghost use Rattle.std.specs.Prelude.{◌≡◌, ℕ, ◌+◌, ◌-◌, ◌<◌, ◌≤◌, List, [], ◌∷◌, All, length, map, if◌then◌else◌};
 ghost use Rattle.cmb_design.specs.Gate.{gate};
 ghost use Rattle.cmb_words.specs.Word.{level_at_place};
 ghost use Rattle.cmb_engine.specs.Cells.{seen, IsPace};
@@ -11,15 +11,40 @@ use crate::arrivals::first_arrival;
 use crate::cell::Pin;
 use cmb_bench::Kind;
 use cmb_design::Clock;
-use cmb_words::{Word, completed, every, held, join};
+use cmb_words::{Word, completed, every, gate1, gate2, held, join};
 
 // What a pin sees.
+#[inline]
 fn seen_word(words: &[Word], pin: Pin) -> Word
     requires net { pin.net < length words.now }
     requires delay { pin.delay < 64 }
     ensures { (place : ℕ) → pin.delay ≤ place → place < 64 → level_at_place result place ≡ seen (levels_of words.now) place pin }
 {
     words[pin.net as usize].delayed(pin.delay)
+}
+
+/// What a gate with one pin makes from the pin's delay on.
+#[inline]
+pub(crate) fn single_word(kind: Kind, pin: Pin, words: &[Word]) -> Word
+    requires net { pin.net < length words.now }
+    requires delay { pin.delay < 64 }
+    ensures { (place : ℕ) → pin.delay ≤ place → place < 64
+        → level_at_place result place ≡ gate kind (map (seen (levels_of words.now) place) (pin ∷ [])) }
+{
+    gate1(kind, seen_word(words, pin))
+}
+
+/// What a gate with two pins makes from the longer of their delays on.
+#[inline]
+pub(crate) fn double_word(kind: Kind, pin: Pin, other: Pin, words: &[Word]) -> Word
+    requires net { pin.net < length words.now }
+    requires delay { pin.delay < 64 }
+    requires other_net { other.net < length words.now }
+    requires other_delay { other.delay < 64 }
+    ensures { (place : ℕ) → pin.delay ≤ place → other.delay ≤ place → place < 64
+        → level_at_place result place ≡ gate kind (map (seen (levels_of words.now) place) (pin ∷ other ∷ [])) }
+{
+    gate2(kind, seen_word(words, pin), seen_word(words, other))
 }
 
 /// What a gate makes from a place on.

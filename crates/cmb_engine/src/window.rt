@@ -1,6 +1,6 @@
 //! Windows of a simulation.
 
-ghost use Rattle.std.specs.Prelude.{◌≡◌, ℕ, ◌+◌, ◌-◌, ◌*◌, ◌<◌, ◌≤◌, false, length, map, Contains};
+ghost use Rattle.std.specs.Prelude.{◌≡◌, ℕ, ◌+◌, ◌-◌, ◌*◌, ◌<◌, ◌≤◌, false, length, Contains};
 ghost use Rattle.cmb_wave.specs.declared.level.Level.{Level};
 ghost use Rattle.cmb_calendar.specs.declared.tell.Tell.{Tell};
 ghost use Rattle.cmb_engine.specs.Bits.{has};
@@ -14,6 +14,7 @@ use crate::cells::Cells;
 use crate::flops::mark_arrivals;
 use crate::marks::Marks;
 use crate::moves::move_on;
+use crate::readers::Readers;
 use crate::settle::settle;
 use crate::told::write_told;
 use cmb_calendar::Tell;
@@ -24,7 +25,7 @@ use cmb_words::Word;
 #[derive(Drop)]
 pub(crate) struct Wiring {
     pub cells: Cells,
-    pub readers: Vec<Vec<u32>>,
+    pub readers: Readers,
     pub flops: Vec<u32>,
     pub most: u32,
 }
@@ -40,7 +41,7 @@ pub(crate) fn go_on(
     ticks: u32,
     to: u32,
 )
-    requires wiring { IsWiring wiring.now.cells (map (λ list. list.items) wiring.now.readers.items)
+    requires wiring { IsWiring wiring.now.cells wiring.now.readers
         wiring.now.flops.items wiring.now.most }
     requires nets { length wiring.now.cells ≡ length words.old }
     requires room { length words.old ≤ 64 * length marks.old }
@@ -63,7 +64,7 @@ pub(crate) fn go_on(
         → Shows (levels_of words.new) trace (length words.old) to }
 {
     let first = 64 - ticks;
-    let readers = wiring.readers.as_slice();
+    let readers = &wiring.readers;
     move_on(words, live, ticks);
     mark_news(readers, words, live, marks, first - wiring.most);
     write_told(tells, readers, words, live, marks, to);

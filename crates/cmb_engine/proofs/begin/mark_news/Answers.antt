@@ -1,5 +1,4 @@
-use Rattle.std.proofs.Common.{◌≡◌, ◌+◌, ◌-◌, ◌*◌, ◌<◌, ℕ, inl, inr, List, [], Vec, Global, length, map, get_or, subst, sym, ap, ◌∙◌, arith}
-use Rattle.std.proofs.lemmas.List.{get_or-map}
+use Rattle.std.proofs.Common.{◌≡◌, ◌+◌, ◌-◌, ◌*◌, ◌<◌, ℕ, inl, inr, List, length, get_or, subst, sym, ap, ◌∙◌, arith}
 use Rattle.cmb_words.specs.Word.{level_at_place}
 use Rattle.cmb_engine.specs.Bits.{has}
 use Rattle.cmb_engine.specs.Cells.{AreMarked}
@@ -9,39 +8,28 @@ use Rattle.cmb_engine.proofs.WordFacts.{levels_of-read}
 use Rattle.cmb_engine.proofs.begin.mark_news.Goals as goal
 use Rattle.cmb_engine.proofs.begin.mark_news.Goals.{then-not-is_steady_from, else-not-is_steady_from}
 
-abbrev lists_of : List (Vec ℕ Global) → List (List ℕ)
-lists_of vs = map (λ (v : Vec ℕ Global). v.items) vs
-
-list_at : (vs : List (Vec ℕ Global)) (net : ℕ) (v : Vec ℕ Global) (xs : List ℕ) → net < length vs → v ≡ get_or vs net v → xs ≡ v.items → xs ≡ get_or (lists_of vs) net []
-list_at vs net v xs inside is value = value ∙ ap (λ (v : Vec ℕ Global). v.items) is ∙ sym (get_or-map (λ (v : Vec ℕ Global). v.items) vs net v [] inside)
-
 pub mark_all-requires : goal.mark_all-requires
 mark_all-requires c = λ k d small.
-    let inside : c.in-Some.net < length c.args.readers.now = omega (arith, c.requires.lists, c.if-net-words.false) in
-    let list : c.as_slice.result.now ≡ get_or (lists_of c.args.readers.now) c.in-Some.net [] =
-    list_at c.args.readers.now c.in-Some.net c.index-readers-net.result c.as_slice.result.now inside c.index-readers-net.is c.as_slice.ensures.value in
-    let below : get_or c.as_slice.result.now k d < length c.args.words.now =
-    subst (λ (xs : List ℕ). get_or xs k d < length c.args.words.now) (sym list)
-    (c.requires.within c.in-Some.net k d (subst (λ (xs : List ℕ). k < length xs) list small)) in
+    let below : get_or c.of.result.now k d < length c.args.words.now =
+    subst (λ (xs : List ℕ). get_or xs k d < length c.args.words.now) (sym c.of.ensures)
+    (c.requires.within c.in-Some.net k d (subst (λ (xs : List ℕ). k < length xs) c.of.ensures small)) in
     omega (arith, below, c.requires.room, c.nets.invariant.room)
 
 pub nets-preserved : goal.nets-preserved
 nets-preserved c =
-    let lists : List (List ℕ) = lists_of c.args.readers.now in
+    let lists : List (List ℕ) = c.args.readers.now in
     let inside : c.in-Some.net < length c.args.words.now = omega (arith, c.if-net-words.false) in
     let so_far : AreTold lists (levels_of c.args.words.now) (length c.args.words.now) c.args.live.now c.nets.marks c.args.first c.in-Some.net =
     told-passes lists (levels_of c.args.words.now) (length c.args.words.now) c.args.live.now c.args.first c.nets.marks c.nets.from c.in-Some.net
     c.in-Some.ensures.least c.nets.invariant.told in
     elim c.if-not-is_steady_from.branch [
       | then-not-is_steady_from w ↦
-          let list : w.as_slice.result.now ≡ get_or lists c.in-Some.net [] =
-          list_at c.args.readers.now c.in-Some.net w.index-readers-net.result w.as_slice.result.now (omega (arith, c.requires.lists, inside)) w.index-readers-net.is w.as_slice.ensures.value in
           record {
             room = ap length w.marks-is ∙ w.mark_all.ensures.len ∙ c.nets.invariant.room;
             kept = λ m h. ap (λ s. has s m) w.marks-is ∙ w.mark_all.ensures.kept m (c.nets.invariant.kept m h);
             told = subst (λ (s : List ℕ). AreTold lists (levels_of c.args.words.now) (length c.args.words.now) c.args.live.now s c.args.first (c.in-Some.net + 1)) (sym w.marks-is)
                 (told-more lists (levels_of c.args.words.now) (length c.args.words.now) c.args.live.now c.args.first c.nets.marks w.mark_all.new.marks c.in-Some.net
-                w.mark_all.ensures.kept (inr (subst (λ (xs : List ℕ). AreMarked (has w.mark_all.new.marks) xs) list w.mark_all.ensures.marked)) so_far);
+                w.mark_all.ensures.kept (inr (subst (λ (xs : List ℕ). AreMarked (has w.mark_all.new.marks) xs) w.of.ensures w.mark_all.ensures.marked)) so_far);
           }
       | else-not-is_steady_from w ↦
           let at : (place : ℕ) → levels_of c.args.words.now c.in-Some.net place ≡ level_at_place c.index-words-net.result place =
@@ -58,5 +46,5 @@ nets-preserved c =
 
 pub returns-in_default-clause-news : goal.returns-in_default-clause-news
 returns-in_default-clause-news c = λ net inside is.
-    told-passes (lists_of c.args.readers.now) (levels_of c.args.words.now) (length c.args.words.now) c.args.live.now c.args.first c.nets.marks c.nets.from (64 * length c.args.live.now)
+    told-passes c.args.readers.now (levels_of c.args.words.now) (length c.args.words.now) c.args.live.now c.args.first c.nets.marks c.nets.from (64 * length c.args.live.now)
     c.in_default.ensures c.nets.invariant.told net (omega (arith, inside, c.requires.live)) inside is

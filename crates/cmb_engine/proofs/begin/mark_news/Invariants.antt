@@ -1,4 +1,4 @@
-use Rattle.std.proofs.Common.{◌≡◌, ◌-◌, ℕ, true, length, map}
+use Rattle.std.proofs.Common.{◌≡◌, ◌-◌, ℕ, true, length}
 use Rattle.cmb_engine.specs.Bits.{has}
 use Rattle.cmb_engine.specs.Words.{levels_of}
 use Rattle.cmb_engine.proofs.BeginFacts.{AreTold}
@@ -8,7 +8,7 @@ abbrev pub invariant-nets : goal.invariant-nets
 invariant-nets l = record {
   room : length l.marks ≡ length l.initial.marks;
   kept : (m : ℕ) → has l.initial.marks m ≡ true → has l.marks m ≡ true;
-  told : AreTold (map (λ list. list.items) l.readers) (levels_of l.words) (length l.words) l.live l.marks l.first l.from;
+  told : AreTold l.readers (levels_of l.words) (length l.words) l.live l.marks l.first l.from;
 }
 
 abbrev pub decreases-nets : goal.decreases-nets

@@ -1,5 +1,4 @@
-use Rattle.std.proofs.Common.{◌≡◌, ◌*◌, ◌<◌, ℕ, true, false, List, [], Vec, Global, length, map, get_or, refl, subst, sym, ap, ◌∙◌, arith}
-use Rattle.std.proofs.lemmas.List.{get_or-map, length-map}
+use Rattle.std.proofs.Common.{◌≡◌, ◌*◌, ℕ, true, false, List, length, refl, subst, sym, ◌∙◌, arith}
 use Rattle.cmb_wave.specs.declared.level.Level.{Level}
 use Rattle.cmb_engine.specs.Bits.{has}
 use Rattle.cmb_engine.specs.Cells.{cell_at}
@@ -10,15 +9,7 @@ use Rattle.cmb_engine.proofs.settle.sweep.Goals.{then-visit, else-visit}
 
 pub visit-requires-clause-within : goal.visit-requires-clause-within
 visit-requires-clause-within c = λ k d small.
-    let inside : c.in-Some.net < length c.args.words.now = omega (arith, c.nets.auto.words) in
-    let list : c.as_slice.result.now ≡ get_or (map (λ (v : Vec ℕ Global). v.items) c.args.readers.now) c.in-Some.net [] =
-    c.as_slice.ensures.value
-    ∙ ap (λ (v : Vec ℕ Global). v.items) c.index-readers-net.is
-    ∙ sym (get_or-map (λ (v : Vec ℕ Global). v.items) c.args.readers.now c.in-Some.net c.index-readers-net.result [] (omega (arith, c.requires.wired.lists, length-map c.args.readers.now (λ (v : Vec ℕ Global). v.items)))) in
-    let below : get_or c.as_slice.result.now k d < length c.args.words.now =
-    subst (λ (xs : List ℕ). get_or xs k d < length c.args.words.now) (sym list)
-    (c.requires.wired.within c.in-Some.net k d (subst (λ (xs : List ℕ). k < length xs) list small)) in
-    omega (arith, below, c.requires.room, c.nets.invariant.room)
+    omega (arith, c.requires.wired.within c.in-Some.net k d small, c.requires.room, c.nets.invariant.room)
 
 -- what the live nets are after a visit
 record IsListed (old new : List ℕ) (before after : ℕ → ℕ → Level) : Type 0 where

@@ -1,7 +1,8 @@
-use Rattle.std.proofs.Common.{set, slice_index_or, refl, sym, ◌∙◌}
+use Rattle.std.proofs.Common.{ℕ, List, [], set, slice_index_or, subst, refl, sym, ◌∙◌}
 use Rattle.std.proofs.lemmas.Bool.{false≢true}
 use Rattle.cmb_words.specs.Word.{level_at_place}
-use Rattle.cmb_engine.specs.Cells.{Told, IsMade}
+use Rattle.cmb_engine.specs.Bits.{has}
+use Rattle.cmb_engine.specs.Cells.{Told, IsMade, AreMarked}
 use Rattle.cmb_engine.specs.Words.{levels_of}
 use Rattle.cmb_engine.proofs.VisitFacts.{made-same, same-both, removed-false, kept-false, reader-marked, visit-keeps}
 use Rattle.cmb_engine.proofs.WordFacts.{levels_of-read, levels_of-set_same, levels_of-set_other}
@@ -51,7 +52,8 @@ returns-clause-settled c =
     c.args.cells.now c.args.marks.now c.mark_all.new.marks c.args.to c.args.first c.requires.begun (written-made c)
     (λ m none other. removed-false c.args.marks.now c.remove.new.self c.args.net m (c.remove.ensures.has m)
     (kept-false c.remove.new.self c.mark_all.new.marks m (c.mark_all.ensures.kept m) none) other)
-    (λ m place none read small. absurd (reader-marked c.args.cells.now c.args.net c.args.readers.now c.mark_all.new.marks c.requires.readers c.mark_all.ensures.marked m none read))
+    (λ m place none read small. absurd (reader-marked c.args.cells.now c.args.net (slice_index_or c.args.readers.now c.args.net []) c.mark_all.new.marks c.requires.readers
+    (subst (λ (xs : List ℕ). AreMarked (has c.mark_all.new.marks) xs) c.of.ensures c.mark_all.ensures.marked) m none read))
 
 pub returns-clause-told : goal.returns-clause-told
 returns-clause-told c = λ is place.

@@ -1,4 +1,4 @@
-use Rattle.std.proofs.Common.{◌≡◌, ◌+◌, ◌-◌, ◌<◌, inl, inr, ℕ, List, [], ◌∷◌, Vec, Global, length, map, get_or, subst, sym, ap, ◌∙◌, arith}
+use Rattle.std.proofs.Common.{◌≡◌, ◌+◌, ◌-◌, ◌<◌, inl, inr, ℕ, List, [], ◌∷◌, length, get_or, subst, sym, ap, ◌∙◌, arith}
 use Rattle.std.proofs.lemmas.Bool.{cases_lt}
 use Rattle.std.proofs.lemmas.List.{get_or_default, take_all}
 use Rattle.std.proofs.lemmas.List.Elements.{Contains-get_or}
@@ -9,18 +9,14 @@ use Rattle.cmb_engine.specs.Bits.{has}
 use Rattle.cmb_engine.specs.Cells.{AreMarked}
 use Rattle.cmb_engine.specs.Tells.{told_level}
 use Rattle.cmb_engine.specs.Words.{levels_of}
-use Rattle.cmb_engine.proofs.LineFacts.{list_at}
 use Rattle.cmb_engine.proofs.TellFacts.{told-more}
 use Rattle.cmb_engine.proofs.told.write_told.Goals as goal
 
 abbrev none : Tell
 none = record { tick = 0; slot = 0; level = Zero }
 
-abbrev lists_of : List (Vec ℕ Global) → List (List ℕ)
-lists_of readers = map (λ (list : Vec ℕ Global). list.items) readers
-
-pub bounds-readers-slot : goal.bounds-readers-slot
-bounds-readers-slot c =
+pub of-requires : goal.of-requires
+of-requires c =
     let facts = c.requires.slots (get_or c.args.tells.now c.loop-tell.tell-index none) (Contains-get_or c.args.tells.now c.loop-tell.tell-index none c.loop-tell-test.true) in
     omega (arith, facts.0, c.requires.lists)
 
@@ -28,8 +24,6 @@ pub write_tell-requires : goal.write_tell-requires
 write_tell-requires c =
     let facts = c.requires.slots (get_or c.args.tells.now c.loop-tell.tell-index none) (Contains-get_or c.args.tells.now c.loop-tell.tell-index none c.loop-tell-test.true) in
     let place : ℕ = (get_or c.args.tells.now c.loop-tell.tell-index none).slot in
-    let list : c.as_slice.result.now ≡ get_or (lists_of c.args.readers.now) place [] =
-    list_at c.args.readers.now place c.index-readers-slot.result c.as_slice.result.now (omega (arith, facts.0, c.requires.lists)) c.index-readers-slot.is c.as_slice.ensures.value in
     record {
       slot = omega (arith, facts.0, c.loop-tell.invariant.len);
       begun = facts.1;
@@ -37,9 +31,9 @@ write_tell-requires c =
       upto = facts.3;
       to = c.requires.to;
       within = λ k d small.
-          let below : get_or c.as_slice.result.now k d < length c.args.words.now =
-          subst (λ (readers : List ℕ). get_or readers k d < length c.args.words.now) (sym list)
-          (c.requires.within place k d (subst (λ (readers : List ℕ). k < length readers) list small)) in
+          let below : get_or c.of.result.now k d < length c.args.words.now =
+          subst (λ (readers : List ℕ). get_or readers k d < length c.args.words.now) (sym c.of.ensures)
+          (c.requires.within place k d (subst (λ (readers : List ℕ). k < length readers) c.of.ensures small)) in
           omega (arith, below, c.requires.room, c.loop-tell.invariant.room);
       live = omega (arith, c.requires.live, c.loop-tell.invariant.len, c.loop-tell.invariant.live_room);
     }
@@ -47,10 +41,8 @@ write_tell-requires c =
 pub loop-tell-preserved : goal.loop-tell-preserved
 loop-tell-preserved c =
     let tell : Tell = get_or c.args.tells.now c.loop-tell.tell-index none in
-    let lists : List (List ℕ) = lists_of c.args.readers.now in
+    let lists : List (List ℕ) = c.args.readers.now in
     let facts = c.requires.slots tell (Contains-get_or c.args.tells.now c.loop-tell.tell-index none c.loop-tell-test.true) in
-    let list : c.as_slice.result.now ≡ get_or lists tell.slot [] =
-    list_at c.args.readers.now tell.slot c.index-readers-slot.result c.as_slice.result.now (omega (arith, facts.0, c.requires.lists)) c.index-readers-slot.is c.as_slice.ensures.value in
     record {
       len = c.write_tell.ensures.len ∙ c.loop-tell.invariant.len;
       room = c.write_tell.ensures.room ∙ c.loop-tell.invariant.room;
@@ -70,7 +62,7 @@ loop-tell-preserved c =
                 let here : tell ≡ get_or c.args.tells.now k d =
                 get_or_default c.args.tells.now c.loop-tell.tell-index none d c.loop-tell-test.true ∙ ap (λ (n : ℕ). get_or c.args.tells.now n d) e in
                 subst (λ (t : Tell). AreMarked (has c.write_tell.new.marks) (get_or lists t.slot [])) here
-                (subst (λ (readers : List ℕ). AreMarked (has c.write_tell.new.marks) readers) list c.write_tell.ensures.news)
+                (subst (λ (readers : List ℕ). AreMarked (has c.write_tell.new.marks) readers) c.of.ensures c.write_tell.ensures.news)
           ];
     }
 
@@ -81,5 +73,5 @@ returns-clause-words c = λ slot place inside small.
 
 pub returns-clause-news : goal.returns-clause-news
 returns-clause-news c = λ tell among.
-    subst (λ (t : Tell). AreMarked (has c.loop-tell.marks) (get_or (lists_of c.args.readers.now) t.slot [])) among.2
+    subst (λ (t : Tell). AreMarked (has c.loop-tell.marks) (get_or c.args.readers.now t.slot [])) among.2
     (c.loop-tell.invariant.news among.0 tell (omega (arith, among.1, c.loop-tell-test.false)))

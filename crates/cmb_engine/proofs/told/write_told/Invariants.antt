@@ -1,4 +1,4 @@
-use Rattle.std.proofs.Common.{◌≡◌, ◌+◌, ◌-◌, ◌<◌, ℕ, true, false, [], length, map, get_or, take}
+use Rattle.std.proofs.Common.{◌≡◌, ◌+◌, ◌-◌, ◌<◌, ℕ, true, false, [], length, get_or, take}
 use Rattle.cmb_calendar.specs.declared.tell.Tell.{Tell}
 use Rattle.cmb_engine.specs.Bits.{has}
 use Rattle.cmb_engine.specs.Cells.{AreMarked}
@@ -16,5 +16,5 @@ invariant-loop-tell l = record {
   kept : (m : ℕ) → has l.initial.live m ≡ true → has l.live m ≡ true;
   same : (m place : ℕ) → has l.live m ≡ false → levels_of l.words m place ≡ levels_of l.initial.words m place;
   marks : (m : ℕ) → has l.initial.marks m ≡ true → has l.marks m ≡ true;
-  news : (k : ℕ) (d : Tell) → k < l.tell-index → AreMarked (has l.marks) (get_or (map (λ list. list.items) l.readers) (get_or l.tells k d).slot []);
+  news : (k : ℕ) (d : Tell) → k < l.tell-index → AreMarked (has l.marks) (get_or l.readers (get_or l.tells k d).slot []);
 }

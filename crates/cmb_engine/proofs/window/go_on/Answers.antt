@@ -1,13 +1,9 @@
-use Rattle.std.proofs.Common.{◌-◌, ℕ, List, [], Vec, Global, length, map, get_or, sym, subst, arith}
+use Rattle.std.proofs.Common.{◌-◌, ℕ, List, [], length, get_or, sym, subst, arith}
 use Rattle.cmb_engine.specs.Cells.{IsSteadyFrom, cell_at}
-use Rattle.cmb_engine.specs.Circuits.{IsWiring}
 use Rattle.cmb_engine.specs.Tells.{AreOfWindow}
 use Rattle.cmb_engine.specs.Words.{levels_of}
 use Rattle.cmb_engine.proofs.WindowFacts.{IsBegun, marked-kept, window-wired, window-shows}
 use Rattle.cmb_engine.proofs.window.go_on.Goals as goal
-
-abbrev lists_of : List (Vec ℕ Global) → List (List ℕ)
-lists_of vs = map (λ (v : Vec ℕ Global). v.items) vs
 
 pub write_told-requires-clause-slots : goal.write_told-requires-clause-slots
 write_told-requires-clause-slots c = λ tell among.
@@ -16,13 +12,13 @@ write_told-requires-clause-slots c = λ tell among.
 
 pub settle-requires-clause-wired : goal.settle-requires-clause-wired
 settle-requires-clause-wired c =
-    window-wired c.args.wiring.now.cells (lists_of c.as_slice-readers.result.now) c.args.wiring.now.flops.items c.args.wiring.now.most
-    (subst (λ (vs : List (Vec ℕ Global)). IsWiring c.args.wiring.now.cells (lists_of vs) c.args.wiring.now.flops.items c.args.wiring.now.most) (sym c.as_slice-readers.ensures.value) c.requires.wiring)
+    window-wired c.args.wiring.now.cells c.args.wiring.now.readers c.args.wiring.now.flops.items c.args.wiring.now.most
+    c.requires.wiring
     (length c.write_told.new.words) (64 - c.args.ticks) (omega (arith, c.requires.nets, c.move_on.ensures.len, c.write_told.ensures.len)) (omega (arith, c.requires.fits))
 
 pub returns-clause-shows : goal.returns-clause-shows
 returns-clause-shows c = λ trace meets shows right slot place inside small.
-    let lists : List (List ℕ) = lists_of c.as_slice-readers.result.now in
+    let lists : List (List ℕ) = c.args.wiring.now.readers in
     let begun : IsBegun c.args.wiring.now.cells lists c.args.wiring.now.most c.args.tells.now (levels_of c.move_on.new.words) (levels_of c.write_told.new.words)
     c.move_on.new.live c.mark_arrivals.new.marks c.args.to (64 - c.args.ticks) =
     record {
@@ -36,7 +32,7 @@ returns-clause-shows c = λ trace meets shows right slot place inside small.
       arrivals = c.mark_arrivals.ensures.arrivals;
     } in
     window-shows trace c.args.wiring.now.cells lists c.args.wiring.now.flops.items c.args.wiring.now.most
-    (subst (λ (vs : List (Vec ℕ Global)). IsWiring c.args.wiring.now.cells (lists_of vs) c.args.wiring.now.flops.items c.args.wiring.now.most) (sym c.as_slice-readers.ensures.value) c.requires.wiring)
+    c.requires.wiring
     meets (c.args.to - c.args.ticks) c.args.ticks c.args.to (64 - c.args.ticks)
     (record { ends = omega (arith, c.requires.later); places = omega (arith, c.requires.fits); begun = omega (arith, c.requires.later); some = c.requires.some; fits = omega (arith, c.requires.fits) })
     (levels_of c.args.words.now) (levels_of c.move_on.new.words) (levels_of c.write_told.new.words)

@@ -1,4 +1,10 @@
-use Rattle.std.proofs.Common.{sym, ◌∙◌}
+use Rattle.std.proofs.Common.{◌≡◌, List, [], ◌∷◌, length, get_or, sym, ap, subst, ◌∙◌, arith}
+use Rattle.cmb_words.specs.Word.{level_at_place}
+use Rattle.cmb_engine.specs.Cells.{Cell, Told, Gate, IsLawful, cell_level}
+use Rattle.cmb_engine.specs.Tables.{cell_of}
+use Rattle.cmb_engine.specs.Words.{levels_of}
+use Rattle.cmb_engine.specs.declared.cell.Pin.{Pin}
+use Rattle.cmb_engine.proofs.TableFacts.{read-cell}
 use Rattle.cmb_engine.proofs.WordFacts.{levels_of-read}
 use Rattle.cmb_engine.proofs.cells.Cells.word.Goals as goal
 
@@ -8,7 +14,7 @@ returns-in-Told-clause-below c = λ place below.
 
 pub returns-in-Gate-clause-below : goal.returns-in-Gate-clause-below
 returns-in-Gate-clause-below c = λ place below.
-    c.spliced.ensures.below place below ∙ sym (levels_of-read c.args.words.now c.args.net c.index-words-net.result place c.requires.net c.index-words-net.is)
+    c.spliced-in-Gate.ensures.below place below ∙ sym (levels_of-read c.args.words.now c.args.net c.index-words-net.result place c.requires.net c.index-words-net.is)
 
 pub returns-in-Flop-clause-below : goal.returns-in-Flop-clause-below
 returns-in-Flop-clause-below c = λ place below.
@@ -17,3 +23,34 @@ returns-in-Flop-clause-below c = λ place below.
 pub returns-in-Told-clause-told : goal.returns-in-Told-clause-told
 returns-in-Told-clause-told c = λ told place.
     sym (levels_of-read c.args.words.now c.args.net c.index-words-net.result place c.requires.net c.index-words-net.is)
+
+pub returns-in-Single-clause-below : goal.returns-in-Single-clause-below
+returns-in-Single-clause-below c = λ place below.
+    c.spliced.ensures.below place below ∙ sym (levels_of-read c.args.words.now c.args.net c.index-words-net.result place c.requires.net c.index-words-net.is)
+
+pub returns-in-Double-clause-below : goal.returns-in-Double-clause-below
+returns-in-Double-clause-below c = λ place below.
+    c.spliced-in-Double.ensures.below place below ∙ sym (levels_of-read c.args.words.now c.args.net c.index-words-net.result place c.requires.net c.index-words-net.is)
+
+pub returns-in-Single-clause-made : goal.returns-in-Single-clause-made
+returns-in-Single-clause-made c = λ place from small.
+    let cell : get_or c.args.self.now c.args.net Told ≡ Gate c.in-Single.kind (c.in-Single.pin ∷ []) =
+    read-cell c.self.inside.pins.items c.self.inside.rules.items c.args.self.now c.args.net c.index.result.now c.self.view_is (omega (arith, c.requires.net, c.requires.nets)) c.index.ensures
+    ∙ ap (cell_of c.self.inside.pins.items) c.in-Single.is in
+    let lawful : IsLawful (length c.args.words.now) c.args.first (Gate c.in-Single.kind (c.in-Single.pin ∷ [])) =
+    subst (λ (cell : Cell). IsLawful (length c.args.words.now) c.args.first cell) cell c.requires.cell in
+    c.spliced.ensures.from place from small
+    ∙ c.single_word.ensures place (omega (arith, lawful.2 0 c.in-Single.pin (omega arith), from)) small
+    ∙ ap (λ (cell : Cell). cell_level (levels_of c.args.words.now) (level_at_place c.spliced.result) c.args.to cell place) (sym cell)
+
+pub returns-in-Double-clause-made : goal.returns-in-Double-clause-made
+returns-in-Double-clause-made c = λ place from small.
+    let pins : List Pin = c.in-Double.pin ∷ c.in-Double.other ∷ [] in
+    let cell : get_or c.args.self.now c.args.net Told ≡ Gate c.in-Double.kind pins =
+    read-cell c.self.inside.pins.items c.self.inside.rules.items c.args.self.now c.args.net c.index.result.now c.self.view_is (omega (arith, c.requires.net, c.requires.nets)) c.index.ensures
+    ∙ ap (cell_of c.self.inside.pins.items) c.in-Double.is in
+    let lawful : IsLawful (length c.args.words.now) c.args.first (Gate c.in-Double.kind pins) =
+    subst (λ (cell : Cell). IsLawful (length c.args.words.now) c.args.first cell) cell c.requires.cell in
+    c.spliced-in-Double.ensures.from place from small
+    ∙ c.double_word.ensures place (omega (arith, lawful.2 0 c.in-Double.pin (omega arith), from)) (omega (arith, lawful.2 1 c.in-Double.pin (omega arith), from)) small
+    ∙ ap (λ (cell : Cell). cell_level (levels_of c.args.words.now) (level_at_place c.spliced-in-Double.result) c.args.to cell place) (sym cell)

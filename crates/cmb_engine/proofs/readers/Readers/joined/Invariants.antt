@@ -1,0 +1,9 @@
+use Rattle.std.proofs.Common.{◌≡◌, length, map, take}
+use Rattle.cmb_engine.specs.Lists.{lists_between, AreStarts}
+use Rattle.cmb_engine.proofs.readers.Readers.joined.Given as goal
+
+abbrev pub invariant-loop-list : goal.invariant-loop-list
+invariant-loop-list l = record {
+  starts : AreStarts (length l.nets.items) l.starts.items;
+  lists : lists_between l.nets.items l.starts.items ≡ map (λ list. list.items) (take l.list-index l.lists);
+}
