@@ -5,6 +5,7 @@ pub mod CellFacts
 pub mod CollectFacts
 pub mod EngineFacts
 pub mod FollowerFacts
+pub mod GroupFacts
 pub mod LineFacts
 pub mod MarkFacts
 pub mod MoveFacts
