@@ -6,6 +6,7 @@ pub mod CollectFacts
 pub mod EngineFacts
 pub mod FollowerFacts
 pub mod JoinFacts
+pub mod GroupFacts
 pub mod LineFacts
 pub mod MarkFacts
 pub mod MoveFacts

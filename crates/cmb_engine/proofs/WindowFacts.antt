@@ -13,6 +13,7 @@ use Rattle.cmb_engine.specs.Circuits.{cell_row, Arrives, AreQuiet, IsWiring, Mee
 use Rattle.cmb_engine.specs.Tells.{told_level, AreOfWindow}
 use Rattle.cmb_engine.specs.Windows.{in_place}
 use Rattle.cmb_engine.specs.declared.cell.Pin.{Pin}
+use Rattle.cmb_engine.specs.declared.group.Group.{Group}
 use Rattle.cmb_engine.proofs.CellFacts.{all-weaker, seen-same, settled-steady}
 use Rattle.cmb_engine.proofs.ShowFacts.{told-keeps, told-shows}
 use Rattle.cmb_engine.proofs.TraceFacts.{all-both, each-pins, lawful-pins, lawful-later, pins-read, made-inside, shown, pins-shown, shown-settled}
@@ -41,7 +42,7 @@ pub record IsWindow (from ticks to first most : ℕ) : Type 0 where
   pub fits : most < first
 
 -- what settles the words of a window needs
-pub window-wired : (cells : List Cell) (readers : List (List ℕ)) (flops : List ℕ) (most : ℕ) → IsWiring cells readers flops most → (count first : ℕ) → length cells ≡ count → most ≤ first
+pub window-wired : (cells : List Cell) (readers : List (List ℕ)) (flops : List Group) (most : ℕ) → IsWiring cells readers flops most → (count first : ℕ) → length cells ≡ count → most ≤ first
     → IsWired cells readers count first
 window-wired cells readers flops most wiring count first nets later =
     subst (λ (n : ℕ). IsWired cells readers n first) nets (record {
@@ -83,7 +84,7 @@ pub record IsBegun (cells : List Cell) (readers : List (List ℕ)) (most : ℕ) 
   pub told_news : (tell : Tell) → Contains tells tell → AreMarked (has marks) (get_or readers tell.slot [])
   pub arrivals : (slot place : ℕ) → first ≤ place → place < 64 → Arrives (cell_at cells slot) (to + place - 64) → has marks slot ≡ true
 
-module _ (trace : ℕ → ℕ → Level) (cells : List Cell) (readers : List (List ℕ)) (flops : List ℕ) (most : ℕ) (wiring : IsWiring cells readers flops most)
+module _ (trace : ℕ → ℕ → Level) (cells : List Cell) (readers : List (List ℕ)) (flops : List Group) (most : ℕ) (wiring : IsWiring cells readers flops most)
     (meets : MeetsCells trace (cell_at cells)) (from ticks to first : ℕ) (window : IsWindow from ticks to first most) (old moved told : ℕ → ℕ → Level)
     (shows : Shows old trace (length cells) from) (moves : (slot place : ℕ) → place < 64 → moved slot place ≡ old slot (min (place + ticks) 63))
     (tells : List Tell) (right : AreOfWindow trace (cell_at cells) (length cells) from to tells) (live marks : List ℕ)

@@ -2,12 +2,15 @@
 use Rattle.std.specs.Prelude.{◌≡◌, ℕ, ◌-◌, ◌<◌, ◌≤◌, Bool, true, false, List, [], All, Contains, length, map, slice_index_or, if◌then◌else◌}
 use Rattle.std.specs.List.{AllByRecursion}
 use Rattle.cmb_wave.specs.declared.level.Level.{Level}
+use Rattle.cmb_design.specs.declared.rows.Clock.{Clock}
 use Rattle.cmb_design.specs.Gate.{gate}
 use Rattle.cmb_design.specs.Value.{delayed}
 use Rattle.cmb_engine.specs.Cells.{Cell, Told, Gate, Flop, is_made, cell_at, pins_of, AreBelow, AreReaders, IsLawful}
 use Rattle.cmb_engine.specs.Rows.{arrives_by}
 use Rattle.cmb_engine.specs.Windows.{in_place}
 use Rattle.cmb_engine.specs.declared.cell.Pin.{Pin}
+use Rattle.cmb_engine.specs.declared.group.Group.{Group}
+use Rattle.cmb_engine.specs.declared.group.Member.{Member}
 
 -- what a pin sees at a tick: its slot so many ticks before, x before tick 0
 abbrev pub seen_at : (ℕ → ℕ → Level) → ℕ → Pin → Level
@@ -43,13 +46,37 @@ abbrev pub is_flop : Cell → Bool
 is_flop (Flop clock pin) = true
 is_flop _ = false
 
--- the flip-flops among cells, by their numbers
-pub record AreFlops (cells : List Cell) (flops : List ℕ) : Type 0 where
-  pub all : (slot : ℕ) → is_flop (cell_at cells slot) ≡ true → Contains flops slot
-  pub within : All (λ slot. slot < length cells) flops
+-- a cell is a flip-flop with this clock and delay
+abbrev pub IsFlopOf : Cell → Clock → ℕ → Type 0
+IsFlopOf Told clock delay = ⊥
+IsFlopOf (Gate kind pins) clock delay = ⊥
+IsFlopOf (Flop own pin) clock delay = (own ≡ clock) × (pin.delay ≡ delay)
+
+-- a flip-flop is in a group that has its clock and delay
+pub record IsInGroup (clock : Clock) (delay slot : ℕ) (groups : List Group) : Type 0 where
+  pub group : Group
+  pub among : Contains groups group
+  pub same_clock : group.clock ≡ clock
+  pub same_delay : group.delay ≡ delay
+  pub listed : Contains group.flops.items slot
+
+-- a group has some slots, and the cells of all are flip-flops with its clock and delay
+pub record IsGroup (cells : List Cell) (group : Group) : Type 0 where
+  pub some : 1 ≤ length group.flops.items
+  pub each : All (λ slot. IsFlopOf (cell_at cells slot) group.clock group.delay) group.flops.items
+
+-- the flip-flops among cells, in groups
+pub record AreFlops (cells : List Cell) (groups : List Group) : Type 0 where
+  pub all : (slot : ℕ) (clock : Clock) (delay : ℕ) → IsFlopOf (cell_at cells slot) clock delay → IsInGroup clock delay slot groups
+  pub each : All (IsGroup cells) groups
+
+-- the flip-flops among cells, one by one
+pub record AreMembers (cells : List Cell) (members : List Member) : Type 0 where
+  pub all : (slot : ℕ) (clock : Clock) (delay : ℕ) → IsFlopOf (cell_at cells slot) clock delay → Contains members (record { clock = clock; delay = delay; slot = slot })
+  pub each : All (λ member. IsFlopOf (cell_at cells member.slot) member.clock member.delay) members
 
 -- what stays as it is while an engine goes on: the cells, who reads each slot, and the flip-flops
-pub record IsWiring (cells : List Cell) (readers : List (List ℕ)) (flops : List ℕ) (most : ℕ) : Type 0 where
+pub record IsWiring (cells : List Cell) (readers : List (List ℕ)) (flops : List Group) (most : ℕ) : Type 0 where
   pub lists : length readers ≡ length cells
   pub readers_of : (slot : ℕ) → AreReaders cells slot (slice_index_or readers slot [])
   pub within : AreBelow (length cells) readers

@@ -10,6 +10,7 @@ mod circuit;
 mod collect;
 pub mod engine;
 mod flops;
+mod group;
 pub mod laws;
 mod lines;
 mod marks;

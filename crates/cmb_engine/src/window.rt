@@ -12,6 +12,7 @@ ghost use Rattle.cmb_engine.specs.Words.{levels_of};
 use crate::begin::mark_news;
 use crate::cells::Cells;
 use crate::flops::mark_arrivals;
+use crate::group::Group;
 use crate::marks::Marks;
 use crate::moves::move_on;
 use crate::readers::Readers;
@@ -20,13 +21,13 @@ use crate::told::write_told;
 use cmb_calendar::Tell;
 use cmb_words::Word;
 
-/// What stays as it is while an engine goes on: its cells, who reads each slot, which slots are flip-flops, and how many
+/// What stays as it is while an engine goes on: its cells, who reads each slot, the groups of flip-flops, and how many
 /// ticks back a pin looks at most.
 #[derive(Drop)]
 pub(crate) struct Wiring {
     pub cells: Cells,
     pub readers: Readers,
-    pub flops: Vec<u32>,
+    pub flops: Vec<Group>,
     pub most: u32,
 }
 
@@ -68,6 +69,6 @@ pub(crate) fn go_on(
     move_on(words, live, ticks);
     mark_news(readers, words, live, marks, first - wiring.most);
     write_told(tells, readers, words, live, marks, to);
-    mark_arrivals(&wiring.cells, wiring.flops.as_slice(), marks, to, first);
+    mark_arrivals(wiring.flops.as_slice(), marks, to, first);
     settle(&wiring.cells, readers, words, marks, live, to, first);
 }

@@ -1,11 +1,10 @@
-use Rattle.std.proofs.Common.{◌≡◌, ℕ, ◌<◌, true, length}
-use Rattle.std.specs.Prelude.{All, Contains}
-use Rattle.cmb_engine.specs.Cells.{cell_at}
-use Rattle.cmb_engine.specs.Circuits.{is_flop}
+use Rattle.std.specs.Prelude.{All}
+use Rattle.cmb_engine.specs.Circuits.{IsGroup}
+use Rattle.cmb_engine.proofs.GroupFacts.{AreGrouped}
 use Rattle.cmb_engine.proofs.flops.flops_of.Given as goal
 
-abbrev pub invariant-loop-slot : goal.invariant-loop-slot
-invariant-loop-slot l = record {
-  all : (slot : ℕ) → slot < l.slot → is_flop (cell_at l.cells slot) ≡ true → Contains l.flops.items slot;
-  within : All (λ slot. slot < length l.cells) l.flops.items;
+abbrev pub invariant-loop-member : goal.invariant-loop-member
+invariant-loop-member l = record {
+  grouped : AreGrouped l.member-items l.member-index l.groups.items;
+  each : All (IsGroup l.cells) l.groups.items;
 }

@@ -1,13 +1,14 @@
 use Rattle.std.proofs.Common.{◌≡◌, ℕ, ◌+◌, ◌-◌, ◌<◌, ◌≤◌, true, length, get_or}
+use Rattle.std.specs.Prelude.{Contains}
 use Rattle.cmb_engine.specs.Bits.{has}
-use Rattle.cmb_engine.specs.Cells.{cell_at}
-use Rattle.cmb_engine.specs.Circuits.{Arrives}
+use Rattle.cmb_engine.specs.Rows.{arrives_by}
+use Rattle.cmb_engine.specs.declared.group.Group.{Group}
 use Rattle.cmb_engine.proofs.flops.mark_arrivals.Given as goal
 
-abbrev pub invariant-loop-slot : goal.invariant-loop-slot
-invariant-loop-slot l = record {
+abbrev pub invariant-loop-group : goal.invariant-loop-group
+invariant-loop-group l = record {
   room : length l.marks ≡ length l.initial.marks;
   kept : (m : ℕ) → has l.initial.marks m ≡ true → has l.marks m ≡ true;
-  arrivals : (k place : ℕ) → k < l.slot-index → l.first ≤ place → place < 64 → Arrives (cell_at l.cells (get_or l.flops k 0)) (l.to + place - 64)
-      → has l.marks (get_or l.flops k 0) ≡ true;
+  arrivals : (k : ℕ) (d : Group) (slot place : ℕ) → k < l.group-index → Contains (get_or l.groups k d).flops.items slot → l.first ≤ place → place < 64
+      → arrives_by (get_or l.groups k d).clock (get_or l.groups k d).delay (l.to + place - 64) ≡ true → has l.marks slot ≡ true;
 }

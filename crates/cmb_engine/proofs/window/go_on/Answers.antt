@@ -1,7 +1,11 @@
-use Rattle.std.proofs.Common.{◌-◌, ℕ, List, [], length, get_or, sym, subst, arith}
-use Rattle.cmb_engine.specs.Cells.{IsSteadyFrom, cell_at}
+use Rattle.std.proofs.Common.{◌+◌, ◌-◌, ◌<◌, ◌≤◌, ℕ, List, [], length, get_or, sym, subst, arith}
+use Rattle.std.specs.Prelude.{All}
+use Rattle.cmb_engine.specs.Cells.{IsPace, IsSteadyFrom, cell_at}
+use Rattle.cmb_engine.specs.Circuits.{IsInGroup}
 use Rattle.cmb_engine.specs.Tells.{AreOfWindow}
 use Rattle.cmb_engine.specs.Words.{levels_of}
+use Rattle.cmb_engine.specs.declared.group.Group.{Group}
+use Rattle.cmb_engine.proofs.GroupFacts.{arrives-flop, groups-inside, groups-paced}
 use Rattle.cmb_engine.proofs.WindowFacts.{IsBegun, marked-kept, window-wired, window-shows}
 use Rattle.cmb_engine.proofs.window.go_on.Goals as goal
 
@@ -16,6 +20,20 @@ settle-requires-clause-wired c =
     c.requires.wiring
     (length c.write_told.new.words) (64 - c.args.ticks) (omega (arith, c.requires.nets, c.move_on.ensures.len, c.write_told.ensures.len)) (omega (arith, c.requires.fits))
 
+pub mark_arrivals-requires-clause-paces : goal.mark_arrivals-requires-clause-paces
+mark_arrivals-requires-clause-paces c =
+    let paced : All (λ group. IsPace group.clock × (group.delay ≤ c.args.wiring.now.most)) c.as_slice.result.now =
+    subst (λ (groups : List Group). All (λ group. IsPace group.clock × (group.delay ≤ c.args.wiring.now.most)) groups) (sym c.as_slice.ensures.value)
+    (groups-paced c.args.wiring.now.cells c.args.wiring.now.flops.items c.requires.wiring.flip_flops c.args.wiring.now.most c.requires.wiring.lawful) in
+    λ k d l. ((paced k d l).0, omega (arith, (paced k d l).1, c.requires.fits))
+
+pub mark_arrivals-requires-clause-room : goal.mark_arrivals-requires-clause-room
+mark_arrivals-requires-clause-room c =
+    let inside : All (λ group. All (λ slot. slot < length c.args.wiring.now.cells) group.flops.items) c.as_slice.result.now =
+    subst (λ (groups : List Group). All (λ group. All (λ slot. slot < length c.args.wiring.now.cells) group.flops.items) groups) (sym c.as_slice.ensures.value)
+    (groups-inside c.args.wiring.now.cells c.args.wiring.now.flops.items c.requires.wiring.flip_flops) in
+    λ k d l n e m. omega (arith, inside k d l n e m, c.requires.nets, c.requires.room, c.mark_news.ensures.room, c.write_told.ensures.room)
+
 pub returns-clause-shows : goal.returns-clause-shows
 returns-clause-shows c = λ trace meets shows right slot place inside small.
     let lists : List (List ℕ) = c.args.wiring.now.readers in
@@ -29,7 +47,12 @@ returns-clause-shows c = λ trace meets shows right slot place inside small.
           (c.mark_news.ensures.news s (omega (arith, l, c.requires.nets, c.move_on.ensures.len)) is);
       told_words = λ s p l. c.write_told.ensures.words s p (omega (arith, l, c.requires.nets, c.move_on.ensures.len));
       told_news = λ tell among k l. c.mark_arrivals.ensures.kept _ (c.write_told.ensures.news tell among k l);
-      arrivals = c.mark_arrivals.ensures.arrivals;
+      arrivals = λ s p late small h.
+          let arrival = arrives-flop (cell_at c.args.wiring.now.cells s) (c.args.to + p - 64) h in
+          let grouped : IsInGroup arrival.clock arrival.delay s c.as_slice.result.now =
+          subst (λ (groups : List Group). IsInGroup arrival.clock arrival.delay s groups) (sym c.as_slice.ensures.value)
+          (c.requires.wiring.flip_flops.all s arrival.clock arrival.delay arrival.flop) in
+          c.mark_arrivals.ensures.arrivals arrival.clock arrival.delay s p grouped late small arrival.arrives;
     } in
     window-shows trace c.args.wiring.now.cells lists c.args.wiring.now.flops.items c.args.wiring.now.most
     c.requires.wiring
