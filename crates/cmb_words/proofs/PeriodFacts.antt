@@ -1,76 +1,65 @@
--- The mask of whole periods, while it is doubled.
-use Rattle.std.proofs.Common.{◌≡◌, ◌≢◌, ℕ, ◌+◌, ◌-◌, ◌*◌, ◌/◌, ◌%◌, ◌^◌, ◌<◌, ◌≤◌, true, false, ◌&&◌, nat_le, sym, ap, ◌∙◌, ⊎_elim, arith, div-add-mod', mod-eq_of_lt}
-use Rattle.std.specs.Prelude.{bit_or, ◌==◌}
+-- The masks of whole periods.
+use Rattle.std.proofs.Common.{◌≡◌, ℕ, zero, suc, ◌+◌, ◌-◌, ◌*◌, ◌%◌, ◌^◌, ◌<◌, ◌≤◌, true, false, Bool, ◌&&◌, nat_le, List, [], ◌∷◌, length, get_or, refl, sym, ap, subst, ◌∙◌, ⊎_elim, arith, mod-eq_of_lt}
+use Rattle.std.specs.Prelude.{◌==◌}
 use Rattle.std.specs.Int.{bit_at}
-use Rattle.std.proofs.lemmas.Bool.{cases_lt}
-use Rattle.std.proofs.lemmas.Bool.Decides.{nat_tests, eqb_tells}
-use Rattle.std.proofs.lemmas.Nat.Bits.{bit_at_or, bit_at-zero, bit_at-pow_same, bit_at-pow_other}
-use native.Mathlib.Nat.{add-mul-mod_self_right}
+use Rattle.std.proofs.lemmas.Bool.{and_parts, cases_eq, cases_lt}
+use Rattle.std.proofs.lemmas.Bool.Decides.{eqb_tells, nat_tests}
+use Rattle.std.proofs.lemmas.Nat.Bits.{bit_at-zero, bit_at-pow_same, bit_at-pow_other}
 use Rattle.cmb_words.specs.Bits.{is_set_at}
 use Rattle.cmb_words.proofs.BitFacts.{shl_high, shl_low}
 
--- the mask has the whole periods below a span, which is one itself
-pub record IsPeriodic (mask period span : ℕ) : Type 0 where
-  pub span_whole : span % period ≡ 0
-  pub least : period ≤ span
-  pub whole : (i : ℕ) → i < 64 → i < span → i % period ≡ 0 → bit_at mask i ≡ 1
-  pub other : (i : ℕ) → i < 64 → i % period ≢ 0 → bit_at mask i ≡ 0
-  pub above : (i : ℕ) → i < 64 → span ≤ i → bit_at mask i ≡ 0
+-- ---- a table of masks by their periods
 
-mod_self : (n : ℕ) → n % n ≡ 0
-mod_self n =
-    let zero_mod : 0 % n ≡ 0 = omega arith in
-    ap (λ k. k % n) (let e : n ≡ 0 + 1 * n = omega arith in e) ∙ add-mul-mod_self_right 0 1 n ∙ zero_mod
+abbrev pub same : Bool → Bool → Bool
+same true b = b
+same false true = false
+same false false = true
 
--- so many whole periods less leave the same rest
-mod_less : (i span period : ℕ) → span % period ≡ 0 → span ≤ i → (i - span) % period ≡ i % period
-mod_less i span period whole le =
-    sym (add-mul-mod_self_right (i - span) (span / period) period)
-    ∙ ap (λ k. k % period) (let e : i - span + span / period * period ≡ i = omega (arith, div-add-mod' span period, whole) in e)
+same-is : (a b : Bool) → same a b ≡ true → a ≡ b
+same-is true b h = sym h
+same-is false true h = h
+same-is false false h = refl
 
-pub periodic-init : (period : ℕ) → 1 ≤ period → IsPeriodic 1 period period
-periodic-init period least = record {
-  span_whole = mod_self period;
-  least = omega arith;
-  whole = λ i small below none. let e : i ≡ 0 = sym (mod-eq_of_lt below) ∙ none in rw e (bit_at-pow_same 0);
-  other = λ i small some. bit_at-pow_other 0 i (λ e. some (rw e (let z : 0 % period ≡ 0 = omega arith in z)));
-  above = λ i small le. bit_at-pow_other 0 i (λ e. absurd (omega arith));
-}
+-- the mask has the whole periods among so many places
+unfoldable pub has_periods : ℕ → ℕ → ℕ → Bool
+has_periods mask period zero = true
+has_periods mask period (suc i) = same (is_set_at mask i) (i % period == 0) && has_periods mask period i
 
-module _ (mask period span : ℕ) (h : IsPeriodic mask period span) (small : span < 64) (pos : 1 ≤ period) where
-  abbrev twice : ℕ
-  twice = bit_or mask (mask * 2 ^ span % 2 ^ 64)
-
-  low : (i : ℕ) → i < 64 → i < span → bit_at twice i ≡ bit_at mask i
-  low i fits below = omega (arith, bit_at_or mask (mask * 2 ^ span % 2 ^ 64) i, shl_low mask span i below fits)
-
-  high : (i : ℕ) → i < 64 → span ≤ i → bit_at twice i ≡ bit_at mask (i - span)
-  high i fits from = omega (arith, bit_at_or mask (mask * 2 ^ span % 2 ^ 64) i, shl_high mask span i from fits, h.above i fits from)
-
-  pub periodic-twice : IsPeriodic twice period (span * 2)
-  periodic-twice = record {
-    span_whole = sym (mod_less (span * 2) span period h.span_whole (omega arith)) ∙ ap (λ k. k % period) (let e : span * 2 - span ≡ span = omega arith in e) ∙ h.span_whole;
-    least = omega (arith, h.least);
-    whole = λ i fits below none.
-        ⊎_elim
-        (λ first. low i fits first ∙ h.whole i fits first none)
-        (λ second. high i fits second ∙ h.whole (i - span) (omega arith) (omega arith) (mod_less i span period h.span_whole second ∙ none))
-        (cases_lt i span);
-    other = λ i fits some.
-        ⊎_elim
-        (λ first. low i fits first ∙ h.other i fits some)
-        (λ second. high i fits second ∙ h.other (i - span) (omega arith) (λ none. some (sym (mod_less i span period h.span_whole second) ∙ none)))
-        (cases_lt i span);
-    above = λ i fits beyond. high i fits (omega arith) ∙ h.above (i - span) (omega arith) (omega arith);
-  }
-
-pub periodic-all : (mask period span i : ℕ) → IsPeriodic mask period span → 64 ≤ span → i < 64 → is_set_at mask i ≡ (i % period == 0)
-unfolding is_set_at
-periodic-all mask period span i h wide small =
+has_periods-at : (mask period count i : ℕ) → has_periods mask period count ≡ true → i < count → is_set_at mask i ≡ (i % period == 0)
+unfolding has_periods
+has_periods-at mask period zero i h small = absurd (omega arith)
+has_periods-at mask period (suc count) i h small =
     ⊎_elim
-    (λ yes. ap (λ b. b == 1) (h.whole i small (omega arith) yes.1) ∙ sym yes.0)
-    (λ no. ap (λ b. b == 1) (h.other i small no.1) ∙ sym no.0)
+    (λ here. subst (λ (n : ℕ). is_set_at mask n ≡ (n % period == 0)) (sym here) (same-is _ _ (and_parts _ _ h).0))
+    (λ other. has_periods-at mask period count i (and_parts _ _ h).1 (omega arith))
+    (cases_eq i count)
+
+-- the masks of each period from one on
+unfoldable pub are_periods : ℕ → List ℕ → Bool
+are_periods period [] = true
+are_periods period (mask ∷ masks) = has_periods mask period 64 && are_periods (suc period) masks
+
+pub periods-at : (masks : List ℕ) (from k period i : ℕ) → are_periods from masks ≡ true → k < length masks → period ≡ from + k → i < 64
+    → is_set_at (get_or masks k 0) i ≡ (i % period == 0)
+unfolding are_periods
+periods-at [] from k period i h small e fits = absurd (omega arith)
+periods-at (mask ∷ masks) from zero period i h small e fits =
+    let same : from ≡ period = omega arith in
+    has_periods-at mask period 64 i (subst (λ (n : ℕ). has_periods mask n 64 ≡ true) same (and_parts _ _ h).0) fits
+periods-at (mask ∷ masks) from (suc k) period i h small e fits =
+    periods-at masks (suc from) k period i (and_parts (has_periods mask from 64) _ h).1 (omega arith) (omega arith) fits
+
+-- longer periods
+pub one_at : (period i : ℕ) → 64 ≤ period → i < 64 → is_set_at 1 i ≡ (i % period == 0)
+unfolding is_set_at
+one_at period i wide small =
+    let rest : i % period ≡ i = mod-eq_of_lt (let h : i < period = omega arith in h) in
+    ⊎_elim
+    (λ yes. ap (λ b. b == 1) (ap (bit_at 1) (sym rest ∙ yes.1) ∙ bit_at-pow_same 0) ∙ sym yes.0)
+    (λ no. ap (λ b. b == 1) (bit_at-pow_other 0 i (λ e. no.1 (rest ∙ e))) ∙ sym no.0)
     (eqb_tells (i % period) 0)
+
+-- ---- a mask and its first place
 
 -- the mask moved up to its first place
 pub first_at : (mask period first i : ℕ) → ((j : ℕ) → j < 64 → is_set_at mask j ≡ (j % period == 0)) → i < 64

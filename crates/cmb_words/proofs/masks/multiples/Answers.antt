@@ -1,11 +1,16 @@
-use Rattle.cmb_words.proofs.PeriodFacts.{periodic-init, periodic-twice, periodic-all}
+use Rattle.std.proofs.Common.{◌≡◌, true, refl, arith}
+use Rattle.cmb_words.specs.Bits.{is_set_at}
+use Rattle.cmb_words.specs.declared.masks.TheConstants.{MULTIPLES}
+use Rattle.cmb_words.proofs.PeriodFacts.{are_periods, has_periods, periods-at, one_at}
 use Rattle.cmb_words.proofs.masks.multiples.Goals as goal
 
-pub doubled-init : goal.doubled-init
-doubled-init c = periodic-init c.args.period c.requires
+-- the table has the whole periods of each
+table-right : are_periods 0 MULTIPLES ≡ true
+unfolding are_periods has_periods is_set_at
+table-right = refl
 
-pub doubled-preserved : goal.doubled-preserved
-doubled-preserved c = periodic-twice c.doubled.mask c.args.period c.doubled.span c.doubled.invariant c.doubled-test.true c.requires
+pub returns-then-period-lt64 : goal.returns-then-period-lt64
+returns-then-period-lt64 c = λ i small. periods-at MULTIPLES 0 c.args.period c.args.period i table-right (omega arith) (omega arith) small
 
-pub returns : goal.returns
-returns c i small = periodic-all c.doubled.mask c.args.period c.doubled.span i c.doubled.invariant c.doubled-test.false small
+pub returns-else-period-lt64 : goal.returns-else-period-lt64
+returns-else-period-lt64 c = λ i small. one_at c.args.period i c.if-period-lt64.false small
