@@ -5,8 +5,8 @@ pub mod CellFacts
 pub mod CollectFacts
 pub mod EngineFacts
 pub mod FollowerFacts
-pub mod JoinFacts
 pub mod GroupFacts
+pub mod JoinFacts
 pub mod LineFacts
 pub mod MarkFacts
 pub mod MoveFacts
