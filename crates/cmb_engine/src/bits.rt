@@ -43,6 +43,7 @@ impl Bits {
     }
 
     /// Puts a number in.
+    #[inline]
     pub(crate) fn insert(&mut self, n: usize)
         requires { n < 64 * length self.old }
         ensures { Inserts self.old self.new n }
@@ -50,23 +51,20 @@ impl Bits {
         self.words[n / 64] |= 1 << (n % 64);
     }
 
-    /// Takes a number out.
-    pub(crate) fn remove(&mut self, n: usize)
+    /// Takes a number out. Whether none is left of those in its word.
+    #[inline]
+    pub(crate) fn remove(&mut self, n: usize) -> bool
         requires { n < 64 * length self.old }
-        ensures { Removes self.old self.new n }
+        ensures removes { Removes self.old self.new n }
+        ensures empty { result ≡ (slice_index self.new (n / 64) == 0) }
     {
-        self.words[n / 64] &= !(1 << (n % 64));
-    }
-
-    /// Whether none of a word's numbers is in.
-    pub(crate) fn is_empty_word(&self, k: usize) -> bool
-        requires { k < length self.now }
-        ensures { result ≡ (slice_index self.now k == 0) }
-    {
-        self.words[k] == 0
+        let left = self.words[n / 64] & !(1 << (n % 64));
+        self.words[n / 64] = left;
+        left == 0
     }
 
     /// The least one at or after n in n's word.
+    #[inline]
     pub(crate) fn next_in_word(&self, n: usize) -> Option<usize>
         requires { n < 64 * length self.now }
         ensures next { MatchOption result (HasNone self.now n (n / 64 * 64 + 64)) (λ found. IsNext self.now n found × (found / 64 ≡ n / 64)) }

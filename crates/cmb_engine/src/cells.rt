@@ -188,6 +188,7 @@ impl Cells {
     }
 
     /// What the cell of a net makes of the words from a place on, with what stands below it.
+    #[inline]
     pub(crate) fn word(&self, net: usize, words: &[Word], to: u32, first: u32) -> Word
         requires net { net < length words.now }
         requires cell { IsLawful (length words.now) first (slice_index_or self.now net Told) }

@@ -37,6 +37,7 @@ impl Marks {
     }
 
     /// Marks a number.
+    #[inline]
     pub(crate) fn insert(&mut self, n: usize)
         requires { n < 64 * length self.old }
         ensures len { length self.new ≡ length self.old }
@@ -47,18 +48,19 @@ impl Marks {
     }
 
     /// Takes a mark away.
+    #[inline]
     pub(crate) fn remove(&mut self, n: usize)
         requires { n < 64 * length self.old }
         ensures len { length self.new ≡ length self.old }
         ensures has { (m : ℕ) → has self.new m ≡ (not (m == n) && has self.old m) }
     {
-        self.low.remove(n);
-        if self.low.is_empty_word(n / 64) {
+        if self.low.remove(n) {
             self.high.remove(n / 64);
         }
     }
 
     /// The least marked number at or after n.
+    #[inline]
     pub(crate) fn next_from(&self, n: usize) -> Option<usize>
         ensures { MatchOption result (HasNone self.now n (64 * length self.now)) (IsNext self.now n) }
     {

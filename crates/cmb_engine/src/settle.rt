@@ -12,6 +12,7 @@ use crate::readers::Readers;
 use cmb_words::Word;
 
 /// Marks some nets.
+#[inline]
 pub(crate) fn mark_all(marks: &mut Marks, nets: &[u32])
     requires { All (λ net. net < 64 * length marks.old) nets.now }
     ensures len { length marks.new ≡ length marks.old }
@@ -25,6 +26,7 @@ pub(crate) fn mark_all(marks: &mut Marks, nets: &[u32])
 
 /// Makes the word of a net from a place on, and takes its mark away; where the word is another one than before, the nets
 /// that read it are marked. Whether it is another one.
+#[inline]
 pub(crate) fn visit(
     cells: &Cells,
     readers: &Readers,
