@@ -1,9 +1,10 @@
 //! Flip-flops over words.
 
-ghost use Rattle.std.specs.Prelude.{◌≡◌, ℕ, ◌-◌, ◌<◌, ◌≤◌, true, if◌then◌else◌};
+ghost use Rattle.std.specs.Prelude.{◌≡◌, ℕ, ◌-◌, ◌%◌, ◌<◌, ◌≤◌, ◌==◌, ◌&&◌, nat_le, true, if◌then◌else◌};
 ghost use Rattle.cmb_words.specs.Bits.{is_set_at};
 ghost use Rattle.cmb_words.specs.Word.{level_at_place};
 
+use crate::masks::every;
 use crate::splice::spliced;
 use crate::word::Word;
 
@@ -31,4 +32,52 @@ pub fn held(own: Word, input: Word, delay: u32, samples: u64, from: u32) -> Word
         left &= left - 1;
     }
     word
+}
+
+// From a first arrival on what is seen at the last arrival, where one follows another after a whole period.
+#[inline]
+fn carried(seen: Word, arrival: u32, period: u32) -> Word
+    requires arrival { arrival < 64 }
+    requires period { 1 ≤ period }
+    ensures { (i : ℕ) → arrival ≤ i → i < 64
+        → level_at_place result i
+        ≡ (if (i - arrival) % period == 0 then level_at_place seen i else level_at_place result (i - 1)) }
+{
+    let arrivals = every(arrival, period);
+    let reach = period.min(64 - arrival);
+    let mut ones = seen.ones & arrivals;
+    let mut unknown = seen.unknown & arrivals;
+    let mut span: u32 = 1;
+    'spans: while span < reach {
+        let step = span.min(reach - span);
+        ones |= ones << step;
+        unknown |= unknown << step;
+        span += step;
+    }
+    Word { ones, unknown }
+}
+
+/// The word of a flip-flop of which `own` is known below `from`, where samples arrive at `arrival` and after each whole
+/// period that follows. It has there the level that its data, `input`, had the delay before, and elsewhere from `from`
+/// on the level of the place before.
+#[inline]
+pub fn held_every(own: Word, input: Word, delay: u32, arrival: u32, period: u32, from: u32) -> Word
+    requires least { 1 ≤ from }
+    requires most { from < 64 }
+    requires delay { delay ≤ from }
+    requires arrival { from ≤ arrival }
+    requires period { 1 ≤ period }
+    ensures below { (i : ℕ) → i < from → level_at_place result i ≡ level_at_place own i }
+    ensures from { (i : ℕ) → from ≤ i → i < 64
+        → level_at_place result i
+        ≡ (if nat_le arrival i && ((i - arrival) % period == 0)
+            then level_at_place input (i - delay)
+            else level_at_place result (i - 1)) }
+{
+    let before = own.repeated_from(from);
+    if arrival < 64 {
+        spliced(before, carried(input.delayed(delay), arrival, period), arrival)
+    } else {
+        before
+    }
 }
