@@ -14,7 +14,8 @@ pub(crate) fn first_arrival(clock: Clock, delay: u32, to: u32, first: u32) -> u3
     requires to { to ≤ 1000000 }
     requires first { first < 64 }
     requires inside { 64 ≤ to + first }
-    ensures { (place : ℕ) → first ≤ place → place < 64
+    ensures reach { first ≤ result }
+    ensures arrives { (place : ℕ) → first ≤ place → place < 64
         → arrives_by clock delay (to + place - 64) ≡ (nat_le result place && ((place - result) % clock.period == 0)) }
 {
     let start = to + first - 64;

@@ -11,7 +11,7 @@ use crate::arrivals::first_arrival;
 use crate::cell::Pin;
 use cmb_bench::Kind;
 use cmb_design::Clock;
-use cmb_words::{Word, completed, every, gate1, gate2, held, join};
+use cmb_words::{Word, completed, gate1, gate2, held_every, join};
 
 // What a pin sees.
 #[inline]
@@ -82,6 +82,6 @@ pub(crate) fn flop_word(
     ensures from { (place : ℕ) → first ≤ place → place < 64 → level_at_place result place
         ≡ (if arrives_by clock pin.delay (to + place - 64) then seen (levels_of words.now) place pin else level_at_place result (place - 1)) }
 {
-    let arrivals = every(first_arrival(clock, pin.delay, to, first), clock.period);
-    held(own, words[pin.net as usize], pin.delay, arrivals, first)
+    let arrival = first_arrival(clock, pin.delay, to, first);
+    held_every(own, words[pin.net as usize], pin.delay, arrival, clock.period, first)
 }
