@@ -96,7 +96,7 @@ module _ (seen bits arrival period span step : ℕ) (held : AreCarried seen bits
     below = λ i below. joined i 0 0 (held.below i below) (moved_below i (omega arith) (omega arith));
     within = λ k r i e reached small fits.
         ⊎_elim
-        (λ near. 
+        (λ near.
         let e' = joined i _ 0 (held.within k r i e (omega arith) small fits) (moved_near k r i e near fits) in
         omega (arith, e'))
         (λ far.

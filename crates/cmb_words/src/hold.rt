@@ -71,12 +71,16 @@ pub fn held_every(own: Word, input: Word, delay: u32, arrival: u32, period: u32,
     ensures from { (i : ℕ) → from ≤ i → i < 64
         → level_at_place result i
         ≡ (if nat_le arrival i && ((i - arrival) % period == 0)
-            then level_at_place input (i - delay)
-            else level_at_place result (i - 1)) }
+        then level_at_place input (i - delay)
+        else level_at_place result (i - 1)) }
 {
     let before = own.repeated_from(from);
     if arrival < 64 {
-        spliced(before, carried(input.delayed(delay), arrival, period), arrival)
+        spliced(
+            before,
+            carried(input.delayed(delay), arrival, period),
+            arrival,
+        )
     } else {
         before
     }

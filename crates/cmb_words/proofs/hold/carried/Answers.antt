@@ -6,8 +6,7 @@ pub spans-init : goal.spans-init
 spans-init c =
     let reach : c.min-reach.result ≡ min c.args.period (64 - c.args.arrival) = c.min-reach.ensures in
     let inside = c.requires.arrival in
-    let some = c.requires.period in
-    (
+    let some = c.requires.period in (
       carried-init c.args.seen.ones c.every-arrivals.result c.args.arrival c.args.period c.every-arrivals.ensures inside some,
       carried-init c.args.seen.unknown c.every-arrivals.result c.args.arrival c.args.period c.every-arrivals.ensures inside some,
       omega (arith, reach),
@@ -22,12 +21,11 @@ spans-preserved c =
     let some : 1 ≤ c.min-step.result = omega (arith, step, more, begun) in
     let short : c.min-step.result ≤ c.spans.span = omega (arith, step) in
     let within : c.spans.span + c.min-step.result ≤ c.min-reach.result = omega (arith, step, more) in
-    let room : c.spans.span + c.min-step.result ≤ c.args.period = omega (arith, reach, within) in
-    (
+    let room : c.spans.span + c.min-step.result ≤ c.args.period = omega (arith, reach, within) in (
       carried-more c.args.seen.ones c.spans.ones c.args.arrival c.args.period c.spans.span c.min-step.result c.spans.invariant.0
-      some short room c.requires.arrival,
+          some short room c.requires.arrival,
       carried-more c.args.seen.unknown c.spans.unknown c.args.arrival c.args.period c.spans.span c.min-step.result c.spans.invariant.1
-      some short room c.requires.arrival,
+          some short room c.requires.arrival,
       within,
     )
 
