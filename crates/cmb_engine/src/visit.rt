@@ -83,5 +83,12 @@ pub(crate) fn flop_word(
         ≡ (if arrives_by clock pin.delay (to + place - 64) then seen (levels_of words.now) place pin else level_at_place result (place - 1)) }
 {
     let arrival = first_arrival(clock, pin.delay, to, first);
-    held_every(own, words[pin.net as usize], pin.delay, arrival, clock.period, first)
+    held_every(
+        own,
+        words[pin.net as usize],
+        pin.delay,
+        arrival,
+        clock.period,
+        first,
+    )
 }
