@@ -3,7 +3,7 @@
 _cmbsim() {
     local current=${COMP_WORDS[COMP_CWORD]} before=${COMP_WORDS[COMP_CWORD - 1]}
     if [ "$COMP_CWORD" = 1 ]; then
-        mapfile -t COMPREPLY < <(compgen -W "run help --help" -- "$current")
+        mapfile -t COMPREPLY < <(compgen -W "run help --help --version" -- "$current")
         return
     fi
     case $before in

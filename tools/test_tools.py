@@ -314,7 +314,7 @@ def completed(*words):
 
 
 def test_completions():
-    see("commands", completed("cmbsim", ""), ["run", "help", "--help"])
+    see("commands", completed("cmbsim", ""), ["run", "help", "--help", "--version"])
     see("options", completed("cmbsim", "run", "--horizon", "9", "--cl"), ["--clock", "--clocks", "--clusters"])
     see("modes", completed("cmbsim", "run", "--mode", ""), ["rounds", "free", "plain"])
     see("a mode", completed("cmbsim", "run", "--mode", "f"), ["free"])

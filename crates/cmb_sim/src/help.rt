@@ -1,5 +1,30 @@
 //! The texts of help.
 
+/// The program's version.
+pub const VERSION: &str = "0.9";
+
+/// The usual case, above all else that help says.
+pub const USUAL: &str = "\
+The usual case, where flip-flops sample at the ticks 9, 19, 29 and so on:
+    cmbsim run --horizon 1000 --clock 9:10 --stimuli stimuli.csv < netlist.bench > waves.vcd";
+
+/// What is said to a line without a command.
+pub const BEGIN: &str = "\
+error: no command was given
+
+To simulate a netlist for 1,000 ticks, with what drives its inputs in a table:
+    cmbsim run --horizon 1000 --stimuli stimuli.csv < netlist.bench > waves.vcd
+Where it has flip-flops, --clock 9:10 makes them sample at the ticks 9, 19, 29 and so on.
+
+For more information, try 'cmbsim --help'.
+";
+
+/// What is said further where a word stands in the line that belongs to no option.
+pub const NETLIST_HINT: &str = "
+The netlist is read from standard input, and the waveforms go to standard output:
+    cmbsim run --horizon 1000 < netlist.bench > waves.vcd
+";
+
 pub const ABOUT: &str = "Simulates a gate-level netlist and writes the waveforms of its nets";
 
 pub const RUN: &str =

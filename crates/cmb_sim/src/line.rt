@@ -5,7 +5,8 @@ ghost use Rattle.cmb_sim.specs.Simulation.{IsLawful};
 
 use crate::clock::clock_of;
 use crate::help::{
-    ABOUT, CLOCK, CLOCKS, DELAYS, FILES, HORIZON, INIT, MODE, PARTS, RUN, STIMULI, WORKERS,
+    ABOUT, BEGIN, CLOCK, CLOCKS, DELAYS, FILES, HORIZON, INIT, MODE, NETLIST_HINT, PARTS, RUN,
+    STIMULI, USUAL, VERSION, WORKERS,
 };
 use crate::mode::Mode;
 use clap::builder::ValueParser;
@@ -31,7 +32,7 @@ pub struct Line {
 /// Why the words ask for no run.
 #[derive(Clone, Copy, Debug, PartialEq, Eq)]
 pub enum LineFault {
-    /// They ask for help.
+    /// They ask for help, or for the version.
     Help,
     /// They aren't a line of the program.
     Wrong,
@@ -104,7 +105,10 @@ fn with_mode<'a>(alloc: Global, command: Command<'a>) -> Result<Command<'a>, All
 
 // The command line of `run`.
 fn run_command<'a>(alloc: Global) -> Result<Command<'a>, AllocError> {
-    let command = Command::new(alloc, "run").about(RUN).after_help(FILES);
+    let command = Command::new(alloc, "run")
+        .about(RUN)
+        .before_help(USUAL)
+        .after_help(FILES);
     with_mode(alloc, with_settings(alloc, command)?)
 }
 
@@ -112,7 +116,9 @@ fn run_command<'a>(alloc: Global) -> Result<Command<'a>, AllocError> {
 fn whole_command<'a>(alloc: Global) -> Result<Command<'a>, AllocError> {
     let run = run_command(alloc)?;
     Command::new(alloc, "cmbsim")
+        .version(VERSION)
         .about(ABOUT)
+        .before_help(USUAL)
         .after_help(FILES)
         .bin_name("cmbsim")?
         .no_binary_name(true)
@@ -126,7 +132,7 @@ fn parse<'a>(alloc: Global, words: &'a [String]) -> Result<ArgMatches<'a>, Error
 
 fn fault_of(kind: ErrorKind) -> LineFault {
     match kind {
-        ErrorKind::DisplayHelp => LineFault::Help,
+        ErrorKind::DisplayHelp | ErrorKind::DisplayVersion => LineFault::Help,
         ErrorKind::OutOfMemory => LineFault::Memory,
         _ => LineFault::Wrong,
     }
@@ -225,7 +231,7 @@ fn line_of(alloc: Global, matches: &ArgMatches<'_>) -> Result<Line, LineFault>
 }
 
 /// Reads the words after the program's name: `run` and its options. The horizon of a line is 1 to 1,000,000 ticks,
-/// and it has 1 to 64 workers and clusters. Errors: `Help` where the words ask for help, `Wrong` where they
+/// and it has 1 to 64 workers and clusters. Errors: `Help` where the words ask for help or the version, `Wrong` where they
 /// aren't a line of the program, `Clock` where only the value of `--clock` has another form, and `Memory`.
 pub fn read_line(alloc: Global, words: &[String]) -> Result<Line, LineFault>
     ensures horizon { IfOk result (λ line. (1 ≤ line.settings.horizon) × (line.settings.horizon ≤ 1000000)) }
@@ -240,14 +246,33 @@ pub fn read_line(alloc: Global, words: &[String]) -> Result<Line, LineFault>
     }
 }
 
-/// What the program says of words that ask for no run: the text of help where they ask for that,
+// What is said further of a wrong line, by what clap says of it.
+fn hint(kind: ErrorKind, text: &str) -> &'static str {
+    match kind {
+        ErrorKind::InvalidSubcommand => NETLIST_HINT,
+        ErrorKind::UnknownArgument if !text.starts_with("error: unexpected argument '-") => {
+            NETLIST_HINT
+        }
+        _ => "",
+    }
+}
+
+fn error_message(alloc: Global, error: &Error) -> Result<String, AllocError> {
+    let mut text = format!(in alloc; "{error}")?;
+    let more = hint(error.kind(), text.as_str());
+    text.push_str(more)?;
+    Ok(text)
+}
+
+/// What the program says of words that ask for no run: the text of help or the version where they ask for that,
 /// else what is wrong with them and how they are written. Of other words it is empty.
 pub fn line_message(alloc: Global, words: &[String]) -> Result<String, AllocError> {
     match parse(alloc, words) {
         Ok(_) => Ok(String::new(alloc)),
         Err(error) => match error.kind() {
             ErrorKind::OutOfMemory => Err(AllocError),
-            _ => format!(in alloc; "{error}"),
+            ErrorKind::MissingSubcommand => String::from_str(alloc, BEGIN),
+            _ => error_message(alloc, &error),
         },
     }
 }
