@@ -70,6 +70,7 @@ done
 version=$(sed -n 's/^\.TH CMBSIM 1 "" "\(cmbsim [0-9.]*\)".*/\1/p' docs/cmbsim.1)
 answered version "$version"$'\n' --version
 refused no_words 2
+refused fault_that_is_none 2 explain 9
 refused netlist_as_a_word 2 run --horizon 10 netlist.bench
 refused horizon_of_0 2 run --horizon 0
 refused no_horizon 2 run --mode rounds
@@ -122,6 +123,12 @@ on_full_disk() {
 }
 
 [ -x "$program" ] || echo "end to end: the real designs need a built program, and there is no $program: run make build"
+if scripts/fault_tables.py "$program" --check; then
+    passed=$((passed + 1))
+else
+    failed=$((failed + 1))
+    echo "end to end: the table of faults FAILED"
+fi
 on_full_disk run --horizon 10
 on_full_disk --help
 on_full_disk --version

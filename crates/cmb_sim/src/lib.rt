@@ -2,8 +2,10 @@
 #![tactic(auto)]
 
 mod clock;
+mod explaining;
 pub mod fault;
 mod help;
+pub mod laws;
 pub mod line;
 pub mod mode;
 pub mod reading;

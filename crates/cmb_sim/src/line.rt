@@ -4,6 +4,7 @@ ghost use Rattle.std.specs.Prelude.{◌≡◌, ◌≤◌, IfOk};
 ghost use Rattle.cmb_sim.specs.Simulation.{IsLawful};
 
 use crate::clock::clock_of;
+use crate::explaining::{explain_command, explain_fault, explain_message};
 use crate::help::{
     ABOUT, BEGIN, CLOCK, CLOCKS, DELAYS, FILES, HORIZON, INIT, MODE, NETLIST_HINT, PARTS, RUN,
     STIMULI, USUAL, VERSION, WORKERS,
@@ -32,9 +33,9 @@ pub struct Line {
 /// Why the words ask for no run.
 #[derive(Clone, Copy, Debug, PartialEq, Eq)]
 pub enum LineFault {
-    /// They ask for help, or for the version.
+    /// They ask for help, for the version, or for the explanation of a fault.
     Help,
-    /// They aren't a line of the program.
+    /// They aren't a line of the program. To ask for a fault that there isn't is none.
     Wrong,
     /// The value of `--clock` isn't `F:P`, in a line that isn't otherwise wrong.
     Clock,
@@ -115,6 +116,7 @@ fn run_command<'a>(alloc: Global) -> Result<Command<'a>, AllocError> {
 // The whole command line.
 fn whole_command<'a>(alloc: Global) -> Result<Command<'a>, AllocError> {
     let run = run_command(alloc)?;
+    let explain = explain_command(alloc)?;
     Command::new(alloc, "cmbsim")
         .version(VERSION)
         .about(ABOUT)
@@ -123,7 +125,8 @@ fn whole_command<'a>(alloc: Global) -> Result<Command<'a>, AllocError> {
         .bin_name("cmbsim")?
         .no_binary_name(true)
         .subcommand_required(true)
-        .subcommand(run)
+        .subcommand(run)?
+        .subcommand(explain)
 }
 
 fn parse<'a>(alloc: Global, words: &'a [String]) -> Result<ArgMatches<'a>, Error> {
@@ -230,9 +233,17 @@ fn line_of(alloc: Global, matches: &ArgMatches<'_>) -> Result<Line, LineFault>
     })
 }
 
+// What a line without `run` asks for.
+fn asked(matches: &ArgMatches<'_>) -> LineFault {
+    match matches.subcommand_matches("explain") {
+        Some(explain) => explain_fault(explain),
+        None => LineFault::Wrong,
+    }
+}
+
 /// Reads the words after the program's name: `run` and its options. The horizon of a line is 1 to 1,000,000 ticks,
-/// and it has 1 to 64 workers and clusters. Errors: `Help` where the words ask for help or the version, `Wrong` where they
-/// aren't a line of the program, `Clock` where only the value of `--clock` has another form, and `Memory`.
+/// and it has 1 to 64 workers and clusters. Errors: `Help` where the words ask for help, the version or the explanation of a
+/// fault, `Wrong` where they aren't a line of the program, `Clock` where only the value of `--clock` has another form, and `Memory`.
 pub fn read_line(alloc: Global, words: &[String]) -> Result<Line, LineFault>
     ensures horizon { IfOk result (λ line. (1 ≤ line.settings.horizon) × (line.settings.horizon ≤ 1000000)) }
     ensures mode { IfOk result (λ line. IsLawful line.mode) }
@@ -240,7 +251,7 @@ pub fn read_line(alloc: Global, words: &[String]) -> Result<Line, LineFault>
     match parse(alloc, words) {
         Ok(matches) => match matches.subcommand_matches("run") {
             Some(run) => line_of(alloc, run),
-            None => Err(LineFault::Wrong),
+            None => Err(asked(&matches)),
         },
         Err(error) => Err(fault_of(error.kind())),
     }
@@ -264,11 +275,14 @@ fn error_message(alloc: Global, error: &Error) -> Result<String, AllocError> {
     Ok(text)
 }
 
-/// What the program says of words that ask for no run: the text of help or the version where they ask for that,
+/// What the program says of words that ask for no run: the text of help, the version or the explanation where they ask for that,
 /// else what is wrong with them and how they are written. Of other words it is empty.
 pub fn line_message(alloc: Global, words: &[String]) -> Result<String, AllocError> {
     match parse(alloc, words) {
-        Ok(_) => Ok(String::new(alloc)),
+        Ok(matches) => match matches.subcommand_matches("explain") {
+            Some(explain) => explain_message(alloc, explain),
+            None => Ok(String::new(alloc)),
+        },
         Err(error) => match error.kind() {
             ErrorKind::OutOfMemory => Err(AllocError),
             ErrorKind::MissingSubcommand => String::from_str(alloc, BEGIN),

@@ -52,6 +52,12 @@ fn command_line(rt: HostRuntime) -> Result<(), Fail> {
         ("run --version", LineFault::Wrong),
         ("run --horizon 10 netlist.bench", LineFault::Wrong),
         ("netlist.bench", LineFault::Wrong),
+        ("explain", LineFault::Help),
+        ("explain 23", LineFault::Help),
+        ("explain --help", LineFault::Help),
+        ("explain 9", LineFault::Wrong),
+        ("explain all", LineFault::Wrong),
+        ("explain 1 2", LineFault::Wrong),
     ] {
         let words = words(alloc, line)?;
         match read_line(alloc, words.as_slice()) {
@@ -145,6 +151,9 @@ fn messages(rt: HostRuntime) -> Result<(), Fail> {
         ("run --help", "The usual case"),
         ("run --horizon 10 n.bench", "< netlist.bench"),
         ("netlist.bench", "< netlist.bench"),
+        ("explain", "\n70  0       out of memory\n"),
+        ("explain 70", "Fault 70 at P: out of memory\n"),
+        ("explain 9", "error: no fault has the number '9'\n"),
     ] {
         let message = message_of(alloc, line)?;
         assert!(rt; message.as_str().contains(part), "{message}");
