@@ -119,12 +119,8 @@ impl Model for Netlist {
 impl Netlist {
     ghost use Rattle.cmb_bench.specs.Netlist.{driver_of, name_of, number_of, IsNetlist};
 
-    // A netlist of its parts.
-    pub(crate) fn new(
-        names: IndexSet<Vec<u8>>,
-        drivers: Vec<Driver>,
-        outputs: IndexSet<u32>,
-    ) -> Netlist
+    /// A netlist of its parts: the nets' names and drivers, by number, and its outputs.
+    pub fn new(names: IndexSet<Vec<u8>>, drivers: Vec<Driver>, outputs: IndexSet<u32>) -> Netlist
         requires { IsNetlist (record { names = map (λ name. name.items) names.keys; drivers = drivers.items; outputs = outputs.keys }) }
         ensures { result ≡ record { names = map (λ name. name.items) names.keys; drivers = drivers.items; outputs = outputs.keys } }
     {
