@@ -10,6 +10,7 @@ use Rattle.std.proofs.lemmas.List.Elements.{All-contains, All-weaker, filter_mor
 use Rattle.std.proofs.lemmas.List.Folds.{list_any_none, list_any_at, Any-from_list_any}
 use Rattle.std.proofs.lemmas.List.Kept.{AllPairs-from_increasing}
 use Rattle.std.proofs.lemmas.Map.Keys.{apart_from_distinct, IsDistinct-from_apart}
+use Rattle.std.specs.Cmp.Lexicographic.{nat_list_eq_equiv}
 use Rattle.cmb_bench.specs.declared.netlist.Kind.{Kind}
 use Rattle.cmb_bench.specs.declared.netlist.Kind.TheVariants.{And, Nand, Or, Nor, Xor, Xnor, Not, Buff}
 use Rattle.cmb_bench.specs.declared.netlist.Driver.{Driver}
@@ -133,12 +134,23 @@ module _ (nets places : List ℕ) (are : ArePlaces nets places) where
 
 -- ---- names
 
-pub names_apart : (whole : Netlist) (nets : List ℕ) → IsNetlist whole → IsClosed whole nets → IsDistinct (λ x y. bytes_eq (name_of whole x) (name_of whole y)) nets
-names_apart whole nets lawful closed = IsDistinct-from_apart (λ x y. bytes_eq (name_of whole x) (name_of whole y)) nets (λ i k d before within.
-    let a : get_or nets i d ≡ get_or nets i 0 = get_or_default nets i d 0 (omega arith) in
-    let b : get_or nets k d ≡ get_or nets k 0 = get_or_default nets k d 0 within in
-    let less : get_or nets i 0 < get_or nets k 0 = rising_apart nets closed.rising i k before within in
-    rw (a, b) (apart_from_distinct bytes_eq whole.names (get_or nets i 0) (get_or nets k 0) [] lawful.different_names less (closed.within k 0 within)))
+pub map_step : {X : Type 0} (f : ℕ → X) (nets : List ℕ) (i : ℕ) (old new : List X) (x : X) → i < length nets → old ≡ map f (take i nets) → x ≡ f (get_or nets i 0) → new ≡ old ++ x ∷ [] → new ≡ map f (take (i + 1) nets)
+map_step f nets i old new x within so_far e is = is ∙ ap (λ xs. xs ++ x ∷ []) so_far ∙ ap (λ y. map f (take i nets) ++ y ∷ []) e ∙ sym (map_more f nets i 0 within)
+
+-- the name of a net of the list isn't that of one before it
+pub names_more : (whole : Netlist) (nets : List ℕ) (i : ℕ) (old new : List (List ℕ)) (name : List ℕ) → IsNetlist whole → IsClosed whole nets → i < length nets
+    → old ≡ map (name_of whole) (take i nets) → name ≡ name_of whole (get_or nets i 0) → new ≡ (if list_any (bytes_eq name) old then old else old ++ name ∷ []) → new ≡ map (name_of whole) (take (i + 1) nets)
+names_more whole nets i old new name lawful closed within so_far e is =
+    let none : list_any (bytes_eq name) old ≡ false =
+    ap (list_any (bytes_eq name)) so_far ∙ ap (λ n. list_any (bytes_eq n) (map (name_of whole) (take i nets))) e
+    ∙ list_any_none (bytes_eq (name_of whole (get_or nets i 0))) _ (All-map (λ n. bytes_eq (name_of whole (get_or nets i 0)) n ≡ false) (name_of whole) (take i nets) (λ k d below.
+    let long = length-take i nets in
+    let before : k < i = omega (arith, below, long) in
+    let a : get_or (take i nets) k d ≡ get_or nets k 0 = get_or-take i nets k d before ∙ get_or_default nets k d 0 (omega arith) in
+    let less : get_or nets k 0 < get_or nets i 0 = rising_apart nets closed.rising k i before within in
+    let b = apart_from_distinct bytes_eq whole.names (get_or nets k 0) (get_or nets i 0) [] lawful.different_names less (closed.within i 0 within) in
+    rw a (nat_list_eq_equiv.symm (name_of whole (get_or nets i 0)) (name_of whole (get_or nets k 0)) ∙ b))) in
+    map_step (name_of whole) nets i old new name within so_far e (is ∙ ap (λ b. if b then old else old ++ name ∷ []) none)
 
 -- ---- the whole of it
 
@@ -217,9 +229,6 @@ places_more nets places count i rising below long within back k before = by (cas
     by (inr l) =
         let e : k ≡ i = omega arith in
         ap (λ n. get_or (set places (get_or nets i 0) i) (get_or nets n 0) 0) e ∙ get_or-set_same places (get_or nets i 0) i 0 here ∙ sym e
-
-pub map_step : {X : Type 0} (f : ℕ → X) (nets : List ℕ) (i : ℕ) (old new : List X) (x : X) → i < length nets → old ≡ map f (take i nets) → x ≡ f (get_or nets i 0) → new ≡ old ++ x ∷ [] → new ≡ map f (take (i + 1) nets)
-map_step f nets i old new x within so_far e is = is ∙ ap (λ xs. xs ++ x ∷ []) so_far ∙ ap (λ y. map f (take i nets) ++ y ∷ []) e ∙ sym (map_more f nets i 0 within)
 
 pub pins_known : (whole : Netlist) (nets places : List ℕ) (i : ℕ) (read : Driver) → IsClosed whole nets → length places ≡ length whole.names → i < length nets → read ≡ driver_of whole (get_or nets i 0)
     → All (λ pin. pin < length places) (pins_of read)

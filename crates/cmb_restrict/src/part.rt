@@ -8,7 +8,7 @@ ghost use Rattle.cmb_restrict.specs.Closed.{IsClosed};
 ghost use Rattle.cmb_restrict.specs.Restriction.{IsPart, is_among, with_nets};
 ghost use Rattle.cmb_restrict.specs.Places.{ArePlaces};
 
-use cmb_bench::{Driver, Netlist, Operands};
+use cmb_bench::{Driver, Name, Netlist, Operands};
 use indexmap::IndexSet;
 use std::alloc::{AllocError, Global};
 
@@ -60,20 +60,21 @@ fn renumbered(alloc: Global, driver: &Driver, places: &[u32]) -> Result<Driver, 
         Driver::Input => Ok(Driver::Input),
         Driver::Gate(kind, operands) => {
             let numbers = renumbered_all(alloc, operands.as_slice(), places)?;
-            Ok(Driver::Gate(*kind, Operands::new(numbers)))
+            let operands = Operands::from_slice(alloc, numbers.as_slice())?;
+            Ok(Driver::Gate(*kind, operands))
         }
         Driver::Flop(source) => Ok(Driver::Flop(places[*source as usize])),
     }
 }
 
-fn names_of(alloc: Global, netlist: &Netlist, nets: &[u32]) -> Result<IndexSet<Vec<u8>>, AllocError>
+fn names_of(alloc: Global, netlist: &Netlist, nets: &[u32]) -> Result<IndexSet<Name>, AllocError>
     requires sound { IsNetlist netlist.now }
     requires closed { IsClosed netlist.now nets.now }
-    ensures { IfOk result (λ names. map (λ name. name.items) names.keys ≡ map (name_of netlist.now) nets.now) }
+    ensures { IfOk result (λ names. names.keys ≡ map (name_of netlist.now) nets.now) }
 {
     let mut names = IndexSet::with_capacity(alloc, nets.len())?;
     for net in nets {
-        let name = Vec::from_slice(alloc, netlist.name(*net as usize))?;
+        let name = Name::new(alloc, netlist.name(*net as usize))?;
         names.insert(name)?;
     }
     Ok(names)

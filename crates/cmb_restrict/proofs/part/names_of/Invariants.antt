@@ -3,4 +3,4 @@ use Rattle.cmb_bench.specs.Netlist.{name_of}
 use Rattle.cmb_restrict.proofs.part.names_of.Given as goal
 
 abbrev pub invariant-loop-net : goal.invariant-loop-net
-invariant-loop-net l = map (λ name. name.items) l.names.keys ≡ map (name_of l.netlist) (take l.net-index l.nets)
+invariant-loop-net l = l.names.keys ≡ map (name_of l.netlist) (take l.net-index l.nets)
