@@ -5,3 +5,4 @@ pub mod PartFacts
 pub mod FoundFacts
 pub mod ForestFacts
 pub mod RestrictFacts
+pub mod ComponentFacts

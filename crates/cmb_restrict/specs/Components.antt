@@ -1,5 +1,6 @@
 -- The weakly connected components of a netlist.
-use Rattle.std.specs.Prelude.{◌≡◌, ℕ, ◌<◌, List, length, slice_index, All, Contains}
+use Rattle.std.specs.Prelude.{◌≡◌, ℕ, ◌<◌, List, length, slice_index, nat_eq, All, Contains}
+use Rattle.std.specs.List.{filter, range_with_len}
 use Rattle.cmb_bench.specs.Netlist.{Netlist}
 use Rattle.cmb_restrict.specs.Closed.{asked_by}
 
@@ -16,3 +17,7 @@ pub record AreComponents (netlist : Netlist) (numbers : List ℕ) (count : ℕ) 
   pub joined : IsJoined netlist (slice_index numbers)
   pub apart : (number : ℕ → ℕ) → IsJoined netlist number → (net other : ℕ) → net < length numbers → other < length numbers
       → slice_index numbers net ≡ slice_index numbers other → number net ≡ number other
+
+-- the nets with a number, rising
+abbrev pub component : Netlist → List ℕ → ℕ → List ℕ
+component netlist numbers number = filter (λ net. nat_eq (slice_index numbers net) number) (range_with_len 0 (length netlist.names))
