@@ -12,6 +12,7 @@ ghost use Rattle.cmb_bench.specs.Inner.Part.{parts_of};
 
 use crate::fault::{BenchFault, FaultKind, ReadError};
 use crate::kinds::{cell_named, is_word, takes_one};
+use crate::name::Name;
 use crate::netlist::Cell;
 use crate::text::{Cursor, Token};
 use indexmap::IndexSet;
@@ -118,30 +119,27 @@ fn used_name<'a>(cursor: &mut Cursor<'a>) -> Result<Use<'a>, ReadError>
 }
 
 /// Adds a name, and says whether it is new.
-fn insert_name<'a>(names: &mut IndexSet<&'a [u8]>, name: &'a [u8]) -> Result<bool, ReadError>
-    ensures new { IfOk result (λ new. new ≡ not (is_member name.now (map (λ k. k.now) names.old.keys))) }
-    ensures names { IfOk result (λ new. map (λ k. k.now) names.new.keys ≡ (if new then map (λ k. k.now) names.old.keys ++ name.now ∷ [] else map (λ k. k.now) names.old.keys)) }
+fn insert_name(names: &mut IndexSet<Name>, name: &[u8]) -> Result<bool, ReadError>
+    ensures new { IfOk result (λ new. new ≡ not (is_member name.now (names.old.keys))) }
+    ensures names { IfOk result (λ new. names.new.keys ≡ (if new then names.old.keys ++ name.now ∷ [] else names.old.keys)) }
     ensures err { IfErr result (λ e. e ≡ Memory) }
 {
-    Ok(names.insert(name)?)
+    let own = Name::new(*names.allocator(), name)?;
+    Ok(names.insert(own)?)
 }
 
-fn net_count(names: &IndexSet<&[u8]>) -> usize
-    ensures { result ≡ length (map (λ k. k.now) names.now.keys) }
+fn net_count(names: &IndexSet<Name>) -> usize
+    ensures { result ≡ length (names.now.keys) }
 {
     names.len()
 }
 
 /// Gives a driven net the next number. A fault stands at the token `place`.
 #[tactic(auto, unfolding(crate::specs::Inner::Reading::with_net))]
-fn add_net<'a>(
-    names: &mut IndexSet<&'a [u8]>,
-    name: &'a [u8],
-    place: Token,
-) -> Result<(), ReadError>
-    ensures read { Gives (λ _. map (λ k. k.now) names.new.keys) result
-        (with_net (map (λ k. k.now) names.old.keys) name.now (lexeme place.entry)) }
-    ensures names { OnOk result (map (λ k. k.now) names.new.keys ≡ map (λ k. k.now) names.old.keys ++ name.now ∷ []) }
+fn add_net<'a>(names: &mut IndexSet<Name>, name: &'a [u8], place: Token) -> Result<(), ReadError>
+    ensures read { Gives (λ _. names.new.keys) result
+        (with_net (names.old.keys) name.now (lexeme place.entry)) }
+    ensures names { OnOk result (names.new.keys ≡ names.old.keys ++ name.now ∷ []) }
 {
     let new = insert_name(names, name)?;
     if !new {
@@ -192,14 +190,14 @@ fn read_operands<'a>(
 fn read_driver<'a>(
     alloc: Global,
     cursor: &mut Cursor<'a>,
-    names: &mut IndexSet<&'a [u8]>,
+    names: &mut IndexSet<Name>,
     name: &'a [u8],
     equals: Token,
 ) -> Result<Item<'a>, ReadError>
     requires { cursor.old.line + length cursor.old.rest.now < 2 ^ 32 }
     ensures read { Gives (λ i. (statement i, scan cursor.new)) result
-        (driver_at (map (λ k. k.now) names.old.keys) name.now (lexeme equals.entry) (scan cursor.old)) }
-    ensures names { IfOk result (λ i. map (λ k. k.now) names.new.keys ≡ map (λ k. k.now) names.old.keys ++ driven_by (statement i)) }
+        (driver_at (names.old.keys) name.now (lexeme equals.entry) (scan cursor.old)) }
+    ensures names { IfOk result (λ i. names.new.keys ≡ names.old.keys ++ driven_by (statement i)) }
     ensures fits { cursor.new.line + length cursor.new.rest.now ≤ cursor.old.line + length cursor.old.rest.now }
     ensures shorter { length cursor.new.rest.now ≤ length cursor.old.rest.now }
 {
@@ -220,12 +218,12 @@ fn read_driver<'a>(
 #[tactic(auto, unfolding(crate::specs::Inner::Reading::input_at))]
 fn read_input<'a>(
     cursor: &mut Cursor<'a>,
-    names: &mut IndexSet<&'a [u8]>,
+    names: &mut IndexSet<Name>,
 ) -> Result<Item<'a>, ReadError>
     requires { cursor.old.line + length cursor.old.rest.now < 2 ^ 32 }
     ensures read { Gives (λ i. (statement i, scan cursor.new)) result
-        (input_at (map (λ k. k.now) names.old.keys) (scan cursor.old)) }
-    ensures names { IfOk result (λ i. map (λ k. k.now) names.new.keys ≡ map (λ k. k.now) names.old.keys ++ driven_by (statement i)) }
+        (input_at (names.old.keys) (scan cursor.old)) }
+    ensures names { IfOk result (λ i. names.new.keys ≡ names.old.keys ++ driven_by (statement i)) }
     ensures fits { cursor.new.line + length cursor.new.rest.now ≤ cursor.old.line + length cursor.old.rest.now }
     ensures shorter { length cursor.new.rest.now ≤ length cursor.old.rest.now }
 {
@@ -256,14 +254,14 @@ fn read_output<'a>(cursor: &mut Cursor<'a>) -> Result<Item<'a>, ReadError>
 #[tactic(auto, unfolding(crate::specs::Inner::Reading::keyword_at))]
 fn read_keyword<'a>(
     cursor: &mut Cursor<'a>,
-    names: &mut IndexSet<&'a [u8]>,
+    names: &mut IndexSet<Name>,
     keyword: &[u8],
     place: Token,
 ) -> Result<Item<'a>, ReadError>
     requires { cursor.old.line + length cursor.old.rest.now < 2 ^ 32 }
     ensures read { Gives (λ i. (statement i, scan cursor.new)) result
-        (keyword_at (map (λ k. k.now) names.old.keys) keyword.now (lexeme place.entry) (scan cursor.old)) }
-    ensures names { IfOk result (λ i. map (λ k. k.now) names.new.keys ≡ map (λ k. k.now) names.old.keys ++ driven_by (statement i)) }
+        (keyword_at (names.old.keys) keyword.now (lexeme place.entry) (scan cursor.old)) }
+    ensures names { IfOk result (λ i. names.new.keys ≡ names.old.keys ++ driven_by (statement i)) }
     ensures fits { cursor.new.line + length cursor.new.rest.now ≤ cursor.old.line + length cursor.old.rest.now }
     ensures shorter { length cursor.new.rest.now ≤ length cursor.old.rest.now }
 {
@@ -281,13 +279,13 @@ fn read_keyword<'a>(
 fn read_statement<'a>(
     alloc: Global,
     cursor: &mut Cursor<'a>,
-    names: &mut IndexSet<&'a [u8]>,
+    names: &mut IndexSet<Name>,
     first: Token<'a>,
 ) -> Result<Item<'a>, ReadError>
     requires { cursor.old.line + length cursor.old.rest.now < 2 ^ 32 }
     ensures read { Gives (λ i. (statement i, scan cursor.new)) result
-        (statement_at (map (λ k. k.now) names.old.keys) (lexeme first.entry ∷ behind (lexeme first.entry).word (scan cursor.old))) }
-    ensures names { IfOk result (λ i. map (λ k. k.now) names.new.keys ≡ map (λ k. k.now) names.old.keys ++ driven_by (statement i)) }
+        (statement_at (names.old.keys) (lexeme first.entry ∷ behind (lexeme first.entry).word (scan cursor.old))) }
+    ensures names { IfOk result (λ i. names.new.keys ≡ names.old.keys ++ driven_by (statement i)) }
     ensures fits { cursor.new.line + length cursor.new.rest.now ≤ cursor.old.line + length cursor.old.rest.now }
     ensures shorter { length cursor.new.rest.now ≤ length cursor.old.rest.now }
 {
@@ -306,14 +304,14 @@ fn read_statement<'a>(
 #[derive(Drop)]
 pub struct Parsed<'a> {
     pub items: Vec<Item<'a>>,
-    pub names: IndexSet<&'a [u8]>,
+    pub names: IndexSet<Name>,
 }
 
 /// Reads the statements of a text.
 pub fn parse(alloc: Global, bytes: &[u8]) -> Result<Parsed<'_>, ReadError>
     requires { length bytes.now ≤ 16777216 }
     ensures read { Stops (λ p. map statement p.items.items) result (tokens_of (parts_of bytes.now)) }
-    ensures names { IfOk result (λ p. map (λ k. k.now) p.names.keys ≡ driven (map statement p.items.items)) }
+    ensures names { IfOk result (λ p. p.names.keys ≡ driven (map statement p.items.items)) }
 {
     let mut cursor = Cursor::new(bytes);
     let mut names = IndexSet::new(alloc);

@@ -15,4 +15,4 @@ pub returns-clause-read : goal.returns-clause-read
 returns-clause-read c = sym c.loop-item.invariant ∙ items_end _ _ _ _ _ c.loop-item-test.false ∙ ap (λ n. Ok (n.drivers, n.outputs)) (sym c.new.ensures)
 
 pub new-requires : goal.new-requires
-new-requires c = built_sound (map (λ k. k.items) c.args.names.keys) (map statement c.args.items.now) (record { names = map (λ k. k.items) c.args.names.keys; drivers = c.loop-item.drivers.items; outputs = c.loop-item.outputs.keys }) c.requires.named c.requires.lawful (sym c.loop-item.invariant ∙ items_end _ _ _ _ _ c.loop-item-test.false) refl
+new-requires c = built_sound c.args.names.keys (map statement c.args.items.now) (record { names = c.args.names.keys; drivers = c.loop-item.drivers.items; outputs = c.loop-item.outputs.keys }) c.requires.named c.requires.lawful (sym c.loop-item.invariant ∙ items_end _ _ _ _ _ c.loop-item-test.false) refl
