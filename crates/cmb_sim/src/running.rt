@@ -117,9 +117,10 @@ fn write_by_workers<R: AllocGlobal + Threads + Wait + Sync, O: Sink>(
 {
     let alloc = rt.alloc();
     let clustering = spread(alloc, design, clusters)?;
+    let workers = workers_of(workers)?;
     // A worker without a cluster would have nothing to do.
-    let workers = workers_of(workers)?.at_most(clustering.clusters());
-    let written = run_free_text(rt, alloc, design, &clustering, workers, &OpenGate, out)?;
+    let busy = workers.at_most(clustering.clusters());
+    let written = run_free_text(rt, alloc, design, &clustering, busy, &OpenGate, out)?;
     Ok(written)
 }
 

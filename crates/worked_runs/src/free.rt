@@ -169,7 +169,7 @@ fn workers_meet(rt: HostRuntime) -> Result<(), Fail> {
 #[derive(Drop)]
 struct Assembly {
     here: AtomicU64,
-    all: u64,
+    others: u64,
     missed: AtomicU64,
 }
 
@@ -177,7 +177,7 @@ impl Turnstile for Assembly {
     fn pass(&self, _worker: u32, turn: u32) -> bool {
         if turn == 0 {
             self.here.fetch_add(1, SeqCst);
-            if !waits_above(&self.here, self.all - 1) {
+            if !waits_above(&self.here, self.others) {
                 self.missed.store(1, SeqCst);
             }
         }
@@ -189,7 +189,7 @@ impl Turnstile for Assembly {
 fn workers_without_clusters_meet_too(rt: HostRuntime) -> Result<(), Fail> {
     let assembly = Assembly {
         here: AtomicU64::new(0),
-        all: 5,
+        others: 4,
         missed: AtomicU64::new(0),
     };
     let toggle = spread_toggle(&rt, rt.alloc())?;
