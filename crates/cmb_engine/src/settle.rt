@@ -2,10 +2,12 @@
 
 ghost use Rattle.std.specs.Prelude.{◌≡◌, ◌≢◌, ℕ, ◌+◌, ◌*◌, ◌<◌, ◌≤◌, true, false, [], All, length, slice_index, slice_index_or};
 ghost use Rattle.cmb_wave.specs.declared.level.Level.{Level};
+ghost use Rattle.cmb_engine.specs.Arrivals.{IsArrival};
 ghost use Rattle.cmb_engine.specs.Bits.{has};
 ghost use Rattle.cmb_engine.specs.Cells.{Told, IsMade, IsLawful, IsReady, IsTrueBelow, IsWired, AreReaders, AreSettled, KeepsTold, cell_at, is_made, reads};
 ghost use Rattle.cmb_engine.specs.Words.{levels_of};
 
+use crate::arrivals::{Arrival, any_arrival};
 use crate::cells::Cells;
 use crate::marks::Marks;
 use crate::readers::Readers;
@@ -24,18 +26,20 @@ pub(crate) fn mark_all(marks: &mut Marks, nets: &[u32])
     }
 }
 
-/// Makes the word of a net from a place on, and takes its mark away; where the word is another one than before, the nets
-/// that read it are marked. Whether it is another one.
+/// Makes the word of a net from a place on, and takes its mark away; where the word is another one than before, the
+/// nets that read it are marked. Whether it is another one.
 #[inline]
 pub(crate) fn visit(
     cells: &Cells,
     readers: &Readers,
     words: &mut [Word],
     marks: &mut Marks,
+    last: &mut Arrival,
     net: usize,
     to: u32,
     first: u32,
 ) -> bool
+    requires last { IsArrival last.old to first }
     requires net { net < length words.old }
     requires cell { IsLawful (length words.old) first (slice_index_or cells.now net Told) }
     requires nets { length cells.now ≡ length words.old }
@@ -47,17 +51,22 @@ pub(crate) fn visit(
     requires begun { 1 ≤ first }
     requires first { first < 64 }
     requires inside { 64 ≤ to + first }
+    ensures last { IsArrival last.new to first }
     ensures room { length marks.new ≡ length marks.old }
     ensures others { (m place : ℕ) → m ≢ net → levels_of words.new m place ≡ levels_of words.old m place }
     ensures past { (place : ℕ) → place < first → levels_of words.new net place ≡ levels_of words.old net place }
     ensures made { IsMade (levels_of words.old) (levels_of words.new net) to first (slice_index_or cells.now net Told) }
-    ensures told { is_made (slice_index_or cells.now net Told) ≡ false → (place : ℕ) → levels_of words.new net place ≡ levels_of words.old net place }
+    ensures told { is_made (slice_index_or cells.now net Told) ≡ false
+        → (place : ℕ) → levels_of words.new net place ≡ levels_of words.old net place }
     ensures same { result ≡ false → (m place : ℕ) → levels_of words.new m place ≡ levels_of words.old m place }
-    ensures differs { ((place : ℕ) → place < 64 → levels_of words.new net place ≡ levels_of words.old net place) → result ≡ false }
+    ensures differs { ((place : ℕ) → place < 64 → levels_of words.new net place ≡ levels_of words.old net place)
+        → result ≡ false }
     ensures marks { (m : ℕ) → has marks.new m ≡ false → m ≢ net → has marks.old m ≡ false }
 
     // A net that reads this one and isn't marked sees the word that it saw.
-    ensures news { (m place : ℕ) → has marks.new m ≡ false → reads (slice_index_or cells.now m Told) net ≡ true → place < 64
+    ensures news { (m place : ℕ) → has marks.new m ≡ false
+        → reads (slice_index_or cells.now m Told) net ≡ true
+        → place < 64
         → levels_of words.new net place ≡ levels_of words.old net place }
 
     // So where every made net that isn't marked was settled, it is.
@@ -65,7 +74,7 @@ pub(crate) fn visit(
         → AreSettled (levels_of words.new) (has marks.new) (cell_at cells.now) to first }
 {
     marks.remove(net);
-    let made = cells.word(net, words, to, first);
+    let made = cells.word(net, words, last, to, first);
     if !made.differs_from(words[net], first) {
         return false;
     }
@@ -106,20 +115,21 @@ pub(crate) fn sweep(
         → IsTrueBelow (levels_of words.old) truth (cell_at cells.now) upto
         → IsTrueBelow (levels_of words.new) truth (cell_at cells.now) (upto + 1) }
 {
+    let mut last = any_arrival(to, first);
     let mut from = 0;
     'nets: while let Some(net) = marks.next_from(from) {
         if net >= words.len() {
             break;
         }
-        if visit(cells, readers, words, marks, net, to, first) {
+        if visit(cells, readers, words, marks, &mut last, net, to, first) {
             live.insert(net);
         }
         from = net + 1;
     }
 }
 
-/// Sweeps over the marked nets until none is left, or each place from one on was passed. What was true of the made words
-/// below the place is true in all of them.
+/// Sweeps over the marked nets until none is left, or each place from one on was passed. What was true of the made
+/// words below the place is true in all of them.
 pub(crate) fn settle(
     cells: &Cells,
     readers: &Readers,
