@@ -19,7 +19,7 @@ use std::alloc::Global;
 #[tactic(auto, unfolding(crate::specs::Inner::Building::number_in))]
 fn number_of(names: &IndexSet<Name>, used: Use) -> Result<u32, ReadError>
     requires { length names.now.keys ≤ 65535 }
-    ensures { Gives (λ n. n) result (number_in (names.now.keys) (mention used.entry)) }
+    ensures { Gives (λ n. n) result (number_in names.now.keys (mention used.entry)) }
 {
     match names.get_index_of(Spelled { bytes: used.name }) {
         Some(number) => Ok(number as u32),
@@ -32,7 +32,7 @@ fn number_of(names: &IndexSet<Name>, used: Use) -> Result<u32, ReadError>
 
 fn numbers_of(alloc: Global, names: &IndexSet<Name>, uses: &[Use]) -> Result<Pins, ReadError>
     requires { length names.now.keys ≤ 65535 }
-    ensures { Gives (λ v. v.items) result (numbers_in (names.now.keys) (mentions uses.now)) }
+    ensures { Gives (λ v. v.items) result (numbers_in names.now.keys (mentions uses.now)) }
 {
     let mut numbers = Pins::with_capacity(alloc, uses.len())?;
     for used in uses {
@@ -64,7 +64,7 @@ fn add_item(
     outputs: &mut IndexSet<u32>,
 ) -> Result<(), ReadError>
     requires { length names.now.keys ≤ 65535 }
-    ensures { Adds (names.now.keys) (statement item.now)
+    ensures { Adds names.now.keys (statement item.now)
         drivers.old.items outputs.old.keys drivers.new.items outputs.new.keys result }
 {
     match item {
@@ -78,7 +78,7 @@ fn add_item(
             Ok(())
         }
         Item::Drive(_, cell, uses) => {
-            let numbers = numbers_of(alloc, names, uses)?;
+            let numbers = numbers_of(alloc, names, uses.as_slice())?;
             drivers.push(driver_from(*cell, numbers))?;
             Ok(())
         }
@@ -94,10 +94,10 @@ pub(crate) fn build(
     requires named { names.keys ≡ driven (map statement items.now) }
     requires lawful { AreLawful [] (map statement items.now) }
     requires few { length names.keys ≤ 65535 }
-    ensures read { Gives (λ n. (n.drivers, n.outputs)) result (built (names.keys) [] (map statement items.now)) }
+    ensures read { Gives (λ n. (n.drivers, n.outputs)) result (built names.keys [] (map statement items.now)) }
     ensures names { IfOk result (λ n. n.names ≡ names.keys) }
 {
-    let mut drivers = Vec::new(alloc);
+    let mut drivers = Vec::with_capacity(alloc, names.len())?;
     let mut outputs = IndexSet::new(alloc);
     for item in items {
         add_item(alloc, &names, item, &mut drivers, &mut outputs)?;

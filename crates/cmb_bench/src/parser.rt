@@ -16,6 +16,7 @@ use crate::name::Name;
 use crate::netlist::Cell;
 use crate::text::{Cursor, Token};
 use indexmap::IndexSet;
+use smallvec::SmallVec;
 use std::alloc::Global;
 
 pub const MAX_NETS: usize = 65_535;
@@ -29,12 +30,22 @@ pub struct Use<'a> {
     pub line: u32,
 }
 
+// What stands in a place of `Uses` that no name has taken.
+impl<'a> Default for Use<'a> {
+    fn default() -> Use<'a> {
+        Use { name: &[], line: 0 }
+    }
+}
+
+/// Names that are used. Up to two of them need no memory of their own.
+pub type Uses<'a> = SmallVec<Use<'a>, 2>;
+
 /// A statement.
 #[derive(Drop)]
 pub enum Item<'a> {
     Input(&'a [u8]),
     Output(Use<'a>),
-    Drive(&'a [u8], Cell, Vec<Use<'a>>),
+    Drive(&'a [u8], Cell, Uses<'a>),
 }
 
 fn fault_at(token: Token, kind: FaultKind) -> ReadError
@@ -120,7 +131,7 @@ fn used_name<'a>(cursor: &mut Cursor<'a>) -> Result<Use<'a>, ReadError>
 
 /// Adds a name, and says whether it is new.
 fn insert_name(names: &mut IndexSet<Name>, name: &[u8]) -> Result<bool, ReadError>
-    ensures new { IfOk result (λ new. new ≡ not (is_member name.now (names.old.keys))) }
+    ensures new { IfOk result (λ new. new ≡ not (is_member name.now names.old.keys)) }
     ensures names { IfOk result (λ new. names.new.keys ≡ (if new then names.old.keys ++ name.now ∷ [] else names.old.keys)) }
     ensures err { IfErr result (λ e. e ≡ Memory) }
 {
@@ -129,7 +140,7 @@ fn insert_name(names: &mut IndexSet<Name>, name: &[u8]) -> Result<bool, ReadErro
 }
 
 fn net_count(names: &IndexSet<Name>) -> usize
-    ensures { result ≡ length (names.now.keys) }
+    ensures { result ≡ length names.now.keys }
 {
     names.len()
 }
@@ -138,7 +149,7 @@ fn net_count(names: &IndexSet<Name>) -> usize
 #[tactic(auto, unfolding(crate::specs::Inner::Reading::with_net))]
 fn add_net<'a>(names: &mut IndexSet<Name>, name: &'a [u8], place: Token) -> Result<(), ReadError>
     ensures read { Gives (λ _. names.new.keys) result
-        (with_net (names.old.keys) name.now (lexeme place.entry)) }
+        (with_net names.old.keys name.now (lexeme place.entry)) }
     ensures names { OnOk result (names.new.keys ≡ names.old.keys ++ name.now ∷ []) }
 {
     let new = insert_name(names, name)?;
@@ -160,13 +171,13 @@ fn read_operands<'a>(
     alloc: Global,
     cursor: &mut Cursor<'a>,
     cell: Cell,
-) -> Result<Vec<Use<'a>>, ReadError>
+) -> Result<Uses<'a>, ReadError>
     requires { cursor.old.line + length cursor.old.rest.now < 2 ^ 32 }
     ensures read { Gives (λ us. (mentions us.items, scan cursor.new)) result (operands_at cell (scan cursor.old)) }
     ensures fits { cursor.new.line + length cursor.new.rest.now ≤ cursor.old.line + length cursor.old.rest.now }
     ensures shorter { length cursor.new.rest.now ≤ length cursor.old.rest.now }
 {
-    let mut operands = Vec::new(alloc);
+    let mut operands = Uses::new(alloc);
     loop {
         let token = cursor.next();
         let name = short_name(token)?;
@@ -196,7 +207,7 @@ fn read_driver<'a>(
 ) -> Result<Item<'a>, ReadError>
     requires { cursor.old.line + length cursor.old.rest.now < 2 ^ 32 }
     ensures read { Gives (λ i. (statement i, scan cursor.new)) result
-        (driver_at (names.old.keys) name.now (lexeme equals.entry) (scan cursor.old)) }
+        (driver_at names.old.keys name.now (lexeme equals.entry) (scan cursor.old)) }
     ensures names { IfOk result (λ i. names.new.keys ≡ names.old.keys ++ driven_by (statement i)) }
     ensures fits { cursor.new.line + length cursor.new.rest.now ≤ cursor.old.line + length cursor.old.rest.now }
     ensures shorter { length cursor.new.rest.now ≤ length cursor.old.rest.now }
@@ -222,7 +233,7 @@ fn read_input<'a>(
 ) -> Result<Item<'a>, ReadError>
     requires { cursor.old.line + length cursor.old.rest.now < 2 ^ 32 }
     ensures read { Gives (λ i. (statement i, scan cursor.new)) result
-        (input_at (names.old.keys) (scan cursor.old)) }
+        (input_at names.old.keys (scan cursor.old)) }
     ensures names { IfOk result (λ i. names.new.keys ≡ names.old.keys ++ driven_by (statement i)) }
     ensures fits { cursor.new.line + length cursor.new.rest.now ≤ cursor.old.line + length cursor.old.rest.now }
     ensures shorter { length cursor.new.rest.now ≤ length cursor.old.rest.now }
@@ -260,7 +271,7 @@ fn read_keyword<'a>(
 ) -> Result<Item<'a>, ReadError>
     requires { cursor.old.line + length cursor.old.rest.now < 2 ^ 32 }
     ensures read { Gives (λ i. (statement i, scan cursor.new)) result
-        (keyword_at (names.old.keys) keyword.now (lexeme place.entry) (scan cursor.old)) }
+        (keyword_at names.old.keys keyword.now (lexeme place.entry) (scan cursor.old)) }
     ensures names { IfOk result (λ i. names.new.keys ≡ names.old.keys ++ driven_by (statement i)) }
     ensures fits { cursor.new.line + length cursor.new.rest.now ≤ cursor.old.line + length cursor.old.rest.now }
     ensures shorter { length cursor.new.rest.now ≤ length cursor.old.rest.now }
@@ -284,7 +295,7 @@ fn read_statement<'a>(
 ) -> Result<Item<'a>, ReadError>
     requires { cursor.old.line + length cursor.old.rest.now < 2 ^ 32 }
     ensures read { Gives (λ i. (statement i, scan cursor.new)) result
-        (statement_at (names.old.keys) (lexeme first.entry ∷ behind (lexeme first.entry).word (scan cursor.old))) }
+        (statement_at names.old.keys (lexeme first.entry ∷ behind (lexeme first.entry).word (scan cursor.old))) }
     ensures names { IfOk result (λ i. names.new.keys ≡ names.old.keys ++ driven_by (statement i)) }
     ensures fits { cursor.new.line + length cursor.new.rest.now ≤ cursor.old.line + length cursor.old.rest.now }
     ensures shorter { length cursor.new.rest.now ≤ length cursor.old.rest.now }
@@ -307,6 +318,11 @@ pub struct Parsed<'a> {
     pub names: IndexSet<Name>,
 }
 
+// About how many statements a text has, one to a line. It is a matter of room alone, and may be wrong.
+fn likely_count(bytes: &[u8]) -> usize {
+    (bytes.len() / 32).min(MAX_NETS)
+}
+
 /// Reads the statements of a text.
 pub fn parse(alloc: Global, bytes: &[u8]) -> Result<Parsed<'_>, ReadError>
     requires { length bytes.now ≤ 16777216 }
@@ -314,8 +330,8 @@ pub fn parse(alloc: Global, bytes: &[u8]) -> Result<Parsed<'_>, ReadError>
     ensures names { IfOk result (λ p. p.names.keys ≡ driven (map statement p.items.items)) }
 {
     let mut cursor = Cursor::new(bytes);
-    let mut names = IndexSet::new(alloc);
-    let mut items = Vec::new(alloc);
+    let mut names = IndexSet::with_capacity(alloc, likely_count(bytes))?;
+    let mut items = Vec::with_capacity(alloc, likely_count(bytes))?;
     loop {
         let first = cursor.next();
         if first.is_end() {
