@@ -13,7 +13,6 @@ pub mod Progress
 pub mod Steps
 pub mod SweepFacts
 pub mod Sweeps
-pub mod Passes
 pub mod TrimFacts
 pub mod Commute
 pub mod Driven

@@ -16,7 +16,6 @@ pub mod Tables
 pub mod Reach
 pub mod Step
 pub mod Sweep
-pub mod Passes
 pub mod Clocks
 pub mod Run
 pub mod Tips

@@ -5,7 +5,6 @@ ghost use Rattle.std.specs.Prelude.{◌≡◌, ◌≢◌, ◌<◌, ◌≤◌, �
 use crate::advance::Span;
 use crate::clustering::Clustering;
 use crate::delivery::{DeliverFault, Stranger, refusal};
-use crate::loops::stretches_of;
 use crate::nodes::Nodes;
 use crate::open::{nets_held, nodes_of, places_among, sides_of};
 use crate::readers::readers_among;
@@ -83,7 +82,6 @@ impl Cluster {
         let readers = readers_among(alloc, &nodes)?;
         let processes = Nodes::of(alloc, &nodes)?;
         let waves = Waves::new(alloc, &nets, design.horizon())?;
-        let stretches = stretches_of(alloc, &nodes)?;
         Ok(Cluster {
             horizon: design.horizon(),
             processes,
@@ -93,7 +91,6 @@ impl Cluster {
                 driven,
                 inputs,
                 readers,
-                stretches,
             },
             is_closed: true,
         })

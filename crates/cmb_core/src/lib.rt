@@ -12,7 +12,6 @@ pub mod event;
 mod gate;
 pub mod laws;
 mod look;
-mod loops;
 mod merge;
 mod node;
 mod nodes;
