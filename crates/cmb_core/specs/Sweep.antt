@@ -1,5 +1,5 @@
 -- Steps of several nets, one after the other, each over the waves that the ones before it left.
-use Rattle.std.specs.Prelude.{◌≡◌, ℕ, Bool, false, ◌||◌, nat_lt, List, [], ◌∷◌}
+use Rattle.std.specs.Prelude.{ℕ, Bool, false, ◌||◌, nat_lt, List, [], ◌∷◌}
 use Rattle.cmb_wave.specs.Wave.{Wave}
 use Rattle.cmb_design.specs.Design.{Design}
 use Rattle.cmb_core.specs.Clusters.{step_waves}
