@@ -1,7 +1,8 @@
 #!/usr/bin/env python3
-"""believed.py [--check]: writes into docs/MODEL.md, between two marks, which definitions the contract of `simulate`
-stands on: `IsOutcome`, what it cites, and so on down, by the files of specs/ that have them. With --check it writes
-nothing, and ends with status 1 where the page says something else."""
+"""believed.py [--check | --rest]: writes into docs/MODEL.md, between two marks, which definitions the contract of
+`simulate` stands on: `IsOutcome`, what it cites, and so on down, by the files of specs/ that have them. With --check it
+writes nothing, and ends with status 1 where the page says something else. With --rest it writes nothing and lists the
+files of specs/ to which the page has no link, which needn't be read."""
 import glob
 import os
 import re
@@ -11,6 +12,8 @@ import crates
 
 ROOT = "IsOutcome"
 PAGE = f"{crates.TOP}/docs/MODEL.md"
+FILES = f"{crates.TOP}/crates/*/specs/**/*.antt"
+LINK = re.compile(r"\]\(\.\./crates/([^)]+\.antt)\)")
 BEGIN, END = "<!-- believed.py: begin -->\n", "<!-- believed.py: end -->\n"
 HEAD = re.compile(r"(?:(?:pub|abbrev|unfoldable|opaque|data|record)\s+)*([^\s:(){},]+)\s*(?:[({:])")
 USE = re.compile(r"(?m)^(?:pub )?use (\S+?)\.(?:\{([^\n]*)\}|([^\s.{}]+))$")
@@ -48,7 +51,7 @@ class Module:
 
 def believed():
     """By file the definitions that the root stands on."""
-    modules = {it.name: it for it in map(Module, glob.glob(f"{crates.TOP}/crates/*/specs/**/*.antt", recursive=True))}
+    modules = {it.name: it for it in map(Module, glob.glob(FILES, recursive=True))}
     left = [(it.name, ROOT) for it in modules.values() if ROOT in it.defined]
     found = set()
     while left:
@@ -70,9 +73,23 @@ def listed(files):
     return "\n".join(rows) + "\n"
 
 
+def is_list(path):
+    """Whether a file only names others: Lib.antt, or one beside a folder of its name."""
+    return path.endswith("/Lib.antt") or os.path.isdir(path.removesuffix(".antt"))
+
+
+def unread(page):
+    """The files of definitions to which the page has no link."""
+    files = {os.path.relpath(it, f"{crates.TOP}/crates") for it in glob.glob(FILES, recursive=True) if not is_list(it)}
+    return sorted(files - set(LINK.findall(page)))
+
+
 def main(words):
     with open(PAGE, encoding="utf-8") as file:
         page = file.read()
+    if words == ["--rest"]:
+        print("\n".join(unread(page)))
+        return 0
     before, _, rest = page.partition(BEGIN)
     _, _, after = rest.partition(END)
     now = before + BEGIN + listed(believed()) + END + after

@@ -1,0 +1,54 @@
+#!/usr/bin/env python3
+"""documents.py: sees that what the documents name is there: the target of each link, and each file and folder in the
+tables of docs/ARCHITECTURE.md that say where to change what. It prints a line for each that isn't, and a last line
+'N passed, M failed'; the status is 0 where nothing failed."""
+import glob
+import os
+import re
+import sys
+
+import crates
+
+PAGES = ["*.md", "docs/*.md", "bench/*.md", "examples/*/*.md"]
+LINK = re.compile(r"\]\(([^)\s#]+)")
+ROW = re.compile(r"\| (.*?) \| (.*?) \| (.*?) \| (.*?) ?\|")
+CRATE, SOURCE = re.compile(r"`(cmb\w+)`"), re.compile(r"`([\w/]+\.rt)`")
+FILE, FOLDER = re.compile(r"`((?:Inner/)?[A-Z][A-Za-z]+)`"), re.compile(r"`([a-z_]+/[\w/]*)`")
+
+
+def links(page):
+    """Each link of a page to a file, with whether that is there."""
+    with open(page, encoding="utf-8") as file:
+        targets = [it for it in LINK.findall(file.read()) if "://" not in it]
+    name, folder = os.path.relpath(page, crates.TOP), os.path.dirname(page)
+    return [(f"{name}: {it}", os.path.exists(os.path.join(folder, it))) for it in targets]
+
+
+def named(row):
+    """Each file that a row of the map names, what stands in brackets left out, with whether that is there."""
+    cells = [re.sub(r"\([^()]*\)", "", it) for it in ROW.match(row).groups()]
+    crate = CRATE.search(cells[0])
+    if not crate:
+        return []
+    top = f"{crates.TOP}/crates/{crate[1]}"
+    paths = [f"src/{it}" for it in SOURCE.findall(cells[1])] + [f"specs/{it}.antt" for it in FILE.findall(cells[2])]
+    paths += [f"proofs/{it}.antt" for it in FILE.findall(cells[3])]
+    paths += [f"proofs/{it}" for it in FOLDER.findall(cells[3])]
+    return [(f"docs/ARCHITECTURE.md: {crate[1]}/{it}", os.path.exists(f"{top}/{it}")) for it in paths]
+
+
+def main():
+    pages = [it for pattern in PAGES for it in sorted(glob.glob(f"{crates.TOP}/{pattern}"))]
+    found = [it for page in pages for it in links(page)]
+    with open(f"{crates.TOP}/docs/ARCHITECTURE.md", encoding="utf-8") as file:
+        rows = file.read().partition("## Five changes")[2].split("\n")
+    found += [it for row in rows if ROW.match(row) for it in named(row)]
+    missing = [name for name, there in found if not there]
+    for name in missing:
+        print(f"{name} isn't there")
+    print(f"{len(found) - len(missing)} passed, {len(missing)} failed")
+    return 1 if missing else 0
+
+
+if __name__ == "__main__":
+    sys.exit(main())
