@@ -1,9 +1,10 @@
 use Rattle.std.proofs.Common.{◌≡◌, ◌≢◌, ◌∷◌, ◌++◌, ◌∙◌, [], List, sym, ap, arith}
 use Rattle.std.proofs.lemmas.List.{append-nil}
 use Rattle.cmb_wave.specs.declared.level.Level.TheVariants as level
-use Rattle.cmb_design.proofs.LevelFacts.{push-rest, Row, keep, keep-kept, keep-late, keep-same, map_changes, other_is, same_is}
-use Rattle.cmb_design.proofs.stimuli.changes_told.Goals as goal
-use Rattle.cmb_design.proofs.stimuli.changes_told.Goals.{else-tick-lt-ALL_TICKS-via-then-tick-lt-ALL_TICKS+else-not-is_same, else-tick-lt-ALL_TICKS-via-else-tick-lt-ALL_TICKS}
+use Rattle.cmb_design.proofs.LevelFacts.{push-rest, keep, keep-kept, keep-late, keep-same, map_changes, other_is, same_is}
+use Rattle.cmb_design.specs.Told.{Row}
+use Rattle.cmb_design.proofs.told.changes_of_map.Goals as goal
+use Rattle.cmb_design.proofs.told.changes_of_map.Goals.{else-tick-lt-ALL_TICKS-via-then-tick-lt-ALL_TICKS+else-not-is_same, else-tick-lt-ALL_TICKS-via-else-tick-lt-ALL_TICKS}
 
 pub loop-tick-preserved-then-not-is_same : goal.loop-tick-preserved-then-not-is_same
 loop-tick-preserved-then-not-is_same c =
