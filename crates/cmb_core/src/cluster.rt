@@ -26,6 +26,7 @@ pub struct Cluster {
 impl Model for Cluster {
     ghost use Rattle.cmb_core.specs.Clusters.{Cluster, IsSound, wave_nets};
     ghost use Rattle.cmb_core.specs.Tables.{AreTables};
+
     ghost Value = { Cluster };
 
     ghost view = { λ c. record { horizon = c.horizon; processes = c.processes.items; waves = c.waves.items } };
@@ -162,8 +163,7 @@ impl Cluster {
             return Ok(None);
         };
         let mut changes = Vec::new(*self.waves.allocator());
-        self.process(slot)
-            .changes(&mut changes, &self.waves, span)?;
+        self.process(slot).changes(&mut changes, &self.waves, span)?;
         let piece = self.waves[slot].grow(span.until, changes)?;
         Ok(Some(piece))
     }
