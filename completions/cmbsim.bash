@@ -3,7 +3,7 @@
 _cmbsim() {
     local current=${COMP_WORDS[COMP_CWORD]} before=${COMP_WORDS[COMP_CWORD - 1]}
     if [ "$COMP_CWORD" = 1 ]; then
-        mapfile -t COMPREPLY < <(compgen -W "run help --help" -- "$current")
+        mapfile -t COMPREPLY < <(compgen -W "run explain help --help --version" -- "$current")
         return
     fi
     case $before in
@@ -11,7 +11,8 @@ _cmbsim() {
         --init) mapfile -t COMPREPLY < <(compgen -W "0 1 x" -- "$current") ;;
         --delays | --stimuli | --clocks) mapfile -t COMPREPLY < <(compgen -f -- "$current") ;;
         --horizon | --clock | --workers | --clusters) COMPREPLY=() ;;
-        help) mapfile -t COMPREPLY < <(compgen -W "run" -- "$current") ;;
+        explain) mapfile -t COMPREPLY < <(compgen -W "$(echo {1..8} {20..37} 40 53 54 {60..62} 70)" -- "$current") ;;
+        help) mapfile -t COMPREPLY < <(compgen -W "run explain" -- "$current") ;;
         *) mapfile -t COMPREPLY < <(compgen -W "--horizon --clock --init --delays --stimuli --clocks --mode --workers --clusters --help" -- "$current") ;;
     esac
 }

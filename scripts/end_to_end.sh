@@ -30,9 +30,24 @@ example() { # example NAME CASE WORDS..: the netlist is standard input, and the 
     shift 2
     read -r -a options <"$examples/$name/options"
     cp "$examples/$name/netlist.bench" "$cases/$case"
-    printf '%s\n' run "${options[@]}" "${words[@]}" "$@" >"$cases/$case.args"
+    words_of "$case" run "${options[@]}" "${words[@]}" "$@"
     cp "$examples/$name/expected.vcd" "$cases/$case.stdout"
     statuses[$case]=0
+}
+
+words_of() { # words_of CASE WORDS..: what the case is run with, a word a line
+    local name=$1
+    shift
+    [ $# = 0 ] || printf '%s\n' "$@" >"$cases/$name.args"
+}
+
+answered() { # answered NAME TEXT WORDS..: the text is on standard output
+    local name=$1
+    statuses[$name]=0
+    : >"$cases/$name"
+    printf '%s' "$2" >"$cases/$name.stdout"
+    shift 2
+    words_of "$name" "$@"
 }
 
 refused() { # refused NAME STATUS WORDS..: nothing on standard output
@@ -40,7 +55,7 @@ refused() { # refused NAME STATUS WORDS..: nothing on standard output
     statuses[$name]=$2
     shift 2
     cp "$examples/inverter/netlist.bench" "$cases/$name"
-    printf '%s\n' "$@" >"$cases/$name.args"
+    words_of "$name" "$@"
     : >"$cases/$name.stdout"
 }
 
@@ -52,6 +67,11 @@ for expected in "$examples"/*/expected.vcd; do
     example "$name" rounds --mode rounds --workers 3 --clusters 5
     example "$name" free --mode free --workers 3 --clusters 5
 done
+version=$(sed -n 's/^\.TH CMBSIM 1 "" "\(cmbsim [0-9.]*\)".*/\1/p' docs/cmbsim.1)
+answered version "$version"$'\n' --version
+refused no_words 2
+refused fault_that_is_none 2 explain 9
+refused netlist_as_a_word 2 run --horizon 10 netlist.bench
 refused horizon_of_0 2 run --horizon 0
 refused no_horizon 2 run --mode rounds
 refused no_such_mode 2 run --horizon 10 --mode slow
@@ -89,7 +109,29 @@ real() { # real NAME WORDS..: the levels that are read off at the end are those 
     fi
 }
 
+# on_full_disk WORDS..: where standard output takes nothing the status is 1, and the fault 62 at 0 bytes
+on_full_disk() {
+    local said status
+    said=$("$program" "$@" <"$examples/inverter/netlist.bench" 2>&1 >/dev/full)
+    status=$?
+    if [ "$status" = 1 ] && [ "$said" = "cmbsim: fault 62 at 0" ]; then
+        passed=$((passed + 1))
+    else
+        failed=$((failed + 1))
+        echo "end to end: $* on a full disk FAILED: status $status, $said"
+    fi
+}
+
 [ -x "$program" ] || echo "end to end: the real designs need a built program, and there is no $program: run make build"
+if scripts/fault_tables.py "$program" --check; then
+    passed=$((passed + 1))
+else
+    failed=$((failed + 1))
+    echo "end to end: the table of faults FAILED"
+fi
+on_full_disk run --horizon 10
+on_full_disk --help
+on_full_disk --version
 real aes128 --mode plain
 for name in aes128 sha256; do
     real "$name"

@@ -1,6 +1,5 @@
 pub mod Names
 pub mod Arity
-pub mod Copies
 pub mod Lexing
 pub mod Listing
 pub mod Parsing

@@ -15,26 +15,6 @@ use Rattle.cmb_bench.specs.Netlist.{Netlist, name_of, number_of}
 use Rattle.cmb_bench.specs.Statement.{Mention, is_member}
 use Rattle.cmb_bench.specs.Inner.Building.{number_in, numbered}
 
-pub member_names : {X : Type 0} (bytes : X → List ℕ) (name : List ℕ) (ks : List X) → list_any (λ k. bytes_eq name (bytes k)) ks ≡ is_member name (map bytes ks)
-member_names bytes name [] = refl
-member_names bytes name (k ∷ ks) = ap (λ b. bytes_eq name (bytes k) || b) (member_names bytes name ks)
-
--- a key that is inserted goes last, unless a key of these bytes is there
-pub inserted_names : {X : Type 0} (bytes : X → List ℕ) (ks new : List X) (k : X) (b : Bool) → list_any (λ x. bytes_eq (bytes k) (bytes x)) ks ≡ b → new ≡ (if b then ks else ks ++ k ∷ []) →
-    map bytes new ≡ (if b then map bytes ks else map bytes ks ++ bytes k ∷ [])
-inserted_names bytes ks new k true there is = ap (map bytes) is
-inserted_names bytes ks new k false there is = ap (map bytes) is ∙ map-append bytes ks (k ∷ [])
-
-places_names : (name : List ℕ) (ks : List (Vec ℕ Global)) → position_or_len (λ k. bytes_eq name k.items) ks ≡ position_or_len (bytes_eq name) (map (λ k. k.items) ks)
-places_names name [] = refl
-places_names name (k ∷ ks) = ap (λ n. cond (not (bytes_eq name k.items)) (1 + n) 0) (places_names name ks)
-
-pub position_names : (name : List ℕ) (ks : List (Vec ℕ Global)) → position (λ k. bytes_eq name k.items) ks ≡ position (bytes_eq name) (map (λ k. k.items) ks)
-position_names name ks =
-    let places = places_names name ks in
-    let lengths : length ks ≡ length (map (λ k. k.items) ks) = sym (length-map ks (λ k. k.items)) in
-    ap (λ n. cond (nat_lt n (length ks)) (Some n) None) places ∙ ap (λ n. cond (nat_lt (position_or_len (bytes_eq name) (map (λ k. k.items) ks)) n) (Some (position_or_len (bytes_eq name) (map (λ k. k.items) ks))) None) lengths
-
 first_name : (names : List (List ℕ)) (name : List ℕ) → position_or_len (bytes_eq name) names < length names → get_or names (position_or_len (bytes_eq name) names) [] ≡ name
 first_name [] name h = absurd (omega arith)
 first_name (x ∷ xs) name h = by (bytes_eq name x) refl h (first_name xs name)
@@ -65,13 +45,13 @@ number_name netlist name k h = by (nat_lt (position_or_len (bytes_eq name) netli
 pub same_name : (netlist : Netlist) (a b : List ℕ) (k : ℕ) → number_of netlist a ≡ Some k → number_of netlist b ≡ Some k → a ≡ b
 same_name netlist a b k h g = sym (number_name netlist a k h).1 ∙ (number_name netlist b k g).1
 
-pub number_found : (ks : List (Vec ℕ Global)) (m : Mention) (n : ℕ) → Some n ≡ position (λ k. bytes_eq m.name k.items) ks → number_in (map (λ k. k.items) ks) m ≡ Ok n
+pub number_found : (names : List (List ℕ)) (m : Mention) (n : ℕ) → Some n ≡ position (bytes_eq m.name) names → number_in names m ≡ Ok n
 unfolding number_in
-number_found ks m n is = ap (λ p. numbered p m) (sym (is ∙ position_names m.name ks))
+number_found names m n is = ap (λ p. numbered p m) (sym is)
 
-pub number_missing : (ks : List (Vec ℕ Global)) (m : Mention) → None ≡ position (λ k. bytes_eq m.name k.items) ks → number_in (map (λ k. k.items) ks) m ≡ Err (record { line = m.line; kind = faults.Undriven })
+pub number_missing : (names : List (List ℕ)) (m : Mention) → None ≡ position (bytes_eq m.name) names → number_in names m ≡ Err (record { line = m.line; kind = faults.Undriven })
 unfolding number_in
-number_missing ks m is = ap (λ p. numbered p m) (sym (is ∙ position_names m.name ks))
+number_missing names m is = ap (λ p. numbered p m) (sym is)
 
 -- a net has the number that its name is looked up by
 pub number-name_of : (netlist : Netlist) (net : ℕ) → IsDistinct bytes_eq netlist.names → net < length netlist.names → number_of netlist (name_of netlist net) ≡ Some net

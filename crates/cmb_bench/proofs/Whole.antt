@@ -128,11 +128,10 @@ pub never_of : (bytes : List ℕ) (e : ReadError) → Fronts e (tokens_of (parts
 never_of bytes errors.Memory h c reads = tt
 never_of bytes (errors.Fault f) h c reads = reads_never bytes c h.0 h.1 f reads h.2 h.3 h.4
 
-pub few_of : (bytes : List ℕ) (ss : List Statement) (line : ℕ) (ks : List (Vec ℕ Global)) (names : List (List ℕ)) → map (λ k. k.items) ks ≡ names → names ≡ driven ss → Parses [] (tokens_of (parts_of bytes)) ss (at (mark End) line ∷ []) → length ks ≤ 65535
-few_of bytes ss line ks names copied names_are h =
+pub few_of : (bytes : List ℕ) (ss : List Statement) (line : ℕ) (names : List (List ℕ)) → names ≡ driven ss → Parses [] (tokens_of (parts_of bytes)) ss (at (mark End) line ∷ []) → length names ≤ 65535
+few_of bytes ss line names names_are h =
     let few = few_nets [] ss (parses_spells [] (tokens_of (parts_of bytes)) ss line h).1 (omega arith) in
-    let lengths : length (map (λ k. k.items) ks) ≡ length ks = length-map ks (λ k. k.items) in
-    omega (arith, ap length copied, ap length names_are, few, lengths)
+    omega (arith, ap length names_are, few)
 
 pub front_fault : (bytes : List ℕ) (e : ReadError) → Fronts e (tokens_of (parts_of bytes)) → IsFaulty bytes e
 front_fault bytes errors.Memory h = tt

@@ -6,3 +6,4 @@ pub mod Views
 pub mod Reading
 pub mod Building
 pub mod Faulty
+pub mod Hashing

@@ -9,18 +9,19 @@ ghost use Rattle.cmb_bench.specs.Inner.Building.{number_in, numbers_in, built, A
 ghost use Rattle.cmb_bench.specs.Inner.Views.{mention, mentions, statement};
 
 use crate::fault::{BenchFault, FaultKind, ReadError};
-use crate::netlist::{Cell, Driver, Netlist, Operands};
+use crate::name::{Name, Spelled};
+use crate::netlist::{Cell, Driver, Netlist, Operands, Pins};
 use crate::parser::{Item, Use};
 use indexmap::IndexSet;
 use std::alloc::Global;
 
 /// The number of the net that is used.
 #[tactic(auto, unfolding(crate::specs::Inner::Building::number_in))]
-fn number_of(names: &IndexSet<Vec<u8>>, used: Use) -> Result<u32, ReadError>
+fn number_of(names: &IndexSet<Name>, used: Use) -> Result<u32, ReadError>
     requires { length names.now.keys ≤ 65535 }
-    ensures { Gives (λ n. n) result (number_in (map (λ k. k.items) names.now.keys) (mention used.entry)) }
+    ensures { Gives (λ n. n) result (number_in names.now.keys (mention used.entry)) }
 {
-    match names.get_index_of(used.name) {
+    match names.get_index_of(Spelled { bytes: used.name }) {
         Some(number) => Ok(number as u32),
         None => Err(ReadError::Fault(BenchFault {
             line: used.line,
@@ -29,11 +30,11 @@ fn number_of(names: &IndexSet<Vec<u8>>, used: Use) -> Result<u32, ReadError>
     }
 }
 
-fn numbers_of(alloc: Global, names: &IndexSet<Vec<u8>>, uses: &[Use]) -> Result<Vec<u32>, ReadError>
+fn numbers_of(alloc: Global, names: &IndexSet<Name>, uses: &[Use]) -> Result<Pins, ReadError>
     requires { length names.now.keys ≤ 65535 }
-    ensures { Gives (λ v. v.items) result (numbers_in (map (λ k. k.items) names.now.keys) (mentions uses.now)) }
+    ensures { Gives (λ v. v.items) result (numbers_in names.now.keys (mentions uses.now)) }
 {
-    let mut numbers = Vec::with_capacity(alloc, uses.len())?;
+    let mut numbers = Pins::with_capacity(alloc, uses.len())?;
     for used in uses {
         let number = number_of(names, *used)?;
         numbers.push(number)?;
@@ -42,12 +43,12 @@ fn numbers_of(alloc: Global, names: &IndexSet<Vec<u8>>, uses: &[Use]) -> Result<
 }
 
 // A flip-flop of a statement that was read has one operand; a list without any, which none has, gives net 0.
-fn driver_from(cell: Cell, numbers: Vec<u32>) -> Driver
+fn driver_from(cell: Cell, numbers: Pins) -> Driver
     ensures { result ≡ driver_from cell numbers.items }
 {
     match cell {
         Cell::Gate(kind) => Driver::Gate(kind, Operands::new(numbers)),
-        Cell::Flop => match numbers.first() {
+        Cell::Flop => match numbers.as_slice().first() {
             Some(number) => Driver::Flop(*number),
             None => Driver::Flop(0),
         },
@@ -57,13 +58,13 @@ fn driver_from(cell: Cell, numbers: Vec<u32>) -> Driver
 /// Adds what a statement drives, or the output that it names.
 fn add_item(
     alloc: Global,
-    names: &IndexSet<Vec<u8>>,
+    names: &IndexSet<Name>,
     item: &Item,
     drivers: &mut Vec<Driver>,
     outputs: &mut IndexSet<u32>,
 ) -> Result<(), ReadError>
     requires { length names.now.keys ≤ 65535 }
-    ensures { Adds (map (λ k. k.items) names.now.keys) (statement item.now)
+    ensures { Adds names.now.keys (statement item.now)
         drivers.old.items outputs.old.keys drivers.new.items outputs.new.keys result }
 {
     match item {
@@ -77,42 +78,26 @@ fn add_item(
             Ok(())
         }
         Item::Drive(_, cell, uses) => {
-            let numbers = numbers_of(alloc, names, uses)?;
+            let numbers = numbers_of(alloc, names, uses.as_slice())?;
             drivers.push(driver_from(*cell, numbers))?;
             Ok(())
         }
     }
 }
 
-/// Copies of the names, which the netlist owns once the text is gone.
-pub(crate) fn own_names(
-    alloc: Global,
-    names: &IndexSet<&[u8]>,
-) -> Result<IndexSet<Vec<u8>>, ReadError>
-    ensures names { IfOk result (λ copies. map (λ k. k.items) copies.keys ≡ map (λ k. k.now) names.now.keys) }
-    ensures err { IfErr result (λ e. e ≡ Memory) }
-{
-    let mut copies = IndexSet::with_capacity(alloc, names.len())?;
-    let keys = names.as_slice();
-    for name in keys {
-        copies.insert(Vec::from_slice(alloc, name)?)?;
-    }
-    Ok(copies)
-}
-
 /// The netlist of the statements, where these nets are driven.
 pub(crate) fn build(
     alloc: Global,
-    names: IndexSet<Vec<u8>>,
+    names: IndexSet<Name>,
     items: &[Item],
 ) -> Result<Netlist, ReadError>
-    requires named { map (λ k. k.items) names.keys ≡ driven (map statement items.now) }
+    requires named { names.keys ≡ driven (map statement items.now) }
     requires lawful { AreLawful [] (map statement items.now) }
     requires few { length names.keys ≤ 65535 }
-    ensures read { Gives (λ n. (n.drivers, n.outputs)) result (built (map (λ k. k.items) names.keys) [] (map statement items.now)) }
-    ensures names { IfOk result (λ n. n.names ≡ map (λ k. k.items) names.keys) }
+    ensures read { Gives (λ n. (n.drivers, n.outputs)) result (built names.keys [] (map statement items.now)) }
+    ensures names { IfOk result (λ n. n.names ≡ names.keys) }
 {
-    let mut drivers = Vec::new(alloc);
+    let mut drivers = Vec::with_capacity(alloc, names.len())?;
     let mut outputs = IndexSet::new(alloc);
     for item in items {
         add_item(alloc, &names, item, &mut drivers, &mut outputs)?;

@@ -6,6 +6,7 @@ mod build;
 mod fault;
 mod kinds;
 pub mod laws;
+mod name;
 pub mod netlist;
 mod parser;
 mod reader;
@@ -13,5 +14,6 @@ mod text;
 
 pub use fault::{BenchFault, FaultKind};
 pub use kinds::cell_named;
-pub use netlist::{Cell, Driver, Kind, Name, Netlist, Operands};
+pub use name::Name;
+pub use netlist::{Cell, Driver, Kind, Netlist, Operands};
 pub use reader::read_bench;

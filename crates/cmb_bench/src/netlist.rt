@@ -1,9 +1,10 @@
 //! What a netlist is.
 
-ghost use Rattle.std.specs.Prelude.{◌≡◌, ◌<◌, ◌≤◌, ◌==◌, ℕ, List, length, map, IfOk, MatchOption};
+ghost use Rattle.std.specs.Prelude.{◌≡◌, ◌<◌, ◌≤◌, ◌==◌, ℕ, List, length, MatchOption};
 
+use crate::name::{Name, Spelled};
 use indexmap::IndexSet;
-use std::alloc::{AllocError, Global};
+use smallvec::SmallVec;
 use std::marker::Model;
 
 /// A gate's function.
@@ -26,42 +27,13 @@ pub enum Cell {
     Flop,
 }
 
-/// A name, as its bytes.
-#[derive(Drop)]
-pub struct Name {
-    bytes: Vec<u8>,
-}
-
-impl Model for Name {
-    ghost use Rattle.std.specs.Prelude.{List, ℕ};
-
-    ghost Value = { List ℕ };
-
-    ghost view = { λ a. a.bytes.items };
-}
-
-impl Name {
-    /// A name of these bytes. It is refused only where memory runs out.
-    pub fn new(alloc: Global, bytes: &[u8]) -> Result<Name, AllocError>
-        ensures { IfOk result (λ name. name ≡ bytes.now) }
-    {
-        Ok(Name {
-            bytes: Vec::from_slice(alloc, bytes)?,
-        })
-    }
-
-    /// The bytes of the name.
-    pub fn as_bytes(&self) -> &[u8]
-        ensures { result.now ≡ self.now }
-    {
-        self.bytes.as_slice()
-    }
-}
+/// Numbers of nets. Up to four of them need no memory of their own.
+pub(crate) type Pins = SmallVec<u32, 4>;
 
 /// The nets on a gate's pins, in order.
 #[derive(Drop)]
 pub struct Operands {
-    nets: Vec<u32>,
+    nets: Pins,
 }
 
 impl Model for Operands {
@@ -74,7 +46,7 @@ impl Model for Operands {
 
 impl Operands {
     /// Operands by the numbers of their nets.
-    pub fn new(nets: Vec<u32>) -> Operands
+    pub(crate) fn new(nets: Pins) -> Operands
         ensures { result ≡ nets.items }
     {
         Operands { nets }
@@ -100,20 +72,19 @@ pub enum Driver {
 /// first mention.
 #[derive(Drop)]
 pub struct Netlist {
-    names: IndexSet<Vec<u8>>,
+    names: IndexSet<Name>,
     drivers: Vec<Driver>,
     outputs: IndexSet<u32>,
 }
 
 impl Model for Netlist {
-    ghost use Rattle.std.specs.Prelude.{map};
     ghost use Rattle.cmb_bench.specs.Netlist.{Netlist, IsNetlist};
 
     ghost Value = { Netlist };
 
-    ghost view = { λ a. record { names = map (λ name. name.items) a.names.keys; drivers = a.drivers.items; outputs = a.outputs.keys } };
+    ghost view = { λ a. record { names = a.names.keys; drivers = a.drivers.items; outputs = a.outputs.keys } };
 
-    ghost invariant = { λ a. IsNetlist (record { names = map (λ name. name.items) a.names.keys; drivers = a.drivers.items; outputs = a.outputs.keys }) };
+    ghost invariant = { λ a. IsNetlist (record { names = a.names.keys; drivers = a.drivers.items; outputs = a.outputs.keys }) };
 }
 
 impl Netlist {
@@ -121,12 +92,12 @@ impl Netlist {
 
     // A netlist of its parts.
     pub(crate) fn new(
-        names: IndexSet<Vec<u8>>,
+        names: IndexSet<Name>,
         drivers: Vec<Driver>,
         outputs: IndexSet<u32>,
     ) -> Netlist
-        requires { IsNetlist (record { names = map (λ name. name.items) names.keys; drivers = drivers.items; outputs = outputs.keys }) }
-        ensures { result ≡ record { names = map (λ name. name.items) names.keys; drivers = drivers.items; outputs = outputs.keys } }
+        requires { IsNetlist (record { names = names.keys; drivers = drivers.items; outputs = outputs.keys }) }
+        ensures { result ≡ record { names = names.keys; drivers = drivers.items; outputs = outputs.keys } }
     {
         Netlist {
             names,
@@ -158,7 +129,7 @@ impl Netlist {
         ensures value { result ≡ number_of self.now name.now }
         ensures below { MatchOption result (Unit {0}) (λ net. (net < length self.now.names) × (net < 65535)) }
     {
-        self.names.get_index_of(name)
+        self.names.get_index_of(Spelled { bytes: name })
     }
 
     /// The name of a net.
@@ -166,7 +137,7 @@ impl Netlist {
         requires { net < length self.now.names }
         ensures { result.now ≡ name_of self.now net }
     {
-        self.names[net].as_slice()
+        self.names[net].as_bytes()
     }
 
     /// What drives a net.

@@ -12,9 +12,11 @@ ghost use Rattle.cmb_bench.specs.Inner.Part.{parts_of};
 
 use crate::fault::{BenchFault, FaultKind, ReadError};
 use crate::kinds::{cell_named, is_word, takes_one};
+use crate::name::Name;
 use crate::netlist::Cell;
 use crate::text::{Cursor, Token};
 use indexmap::IndexSet;
+use smallvec::SmallVec;
 use std::alloc::Global;
 
 pub const MAX_NETS: usize = 65_535;
@@ -28,12 +30,22 @@ pub struct Use<'a> {
     pub line: u32,
 }
 
+// What stands in a place of `Uses` that no name has taken.
+impl<'a> Default for Use<'a> {
+    fn default() -> Use<'a> {
+        Use { name: &[], line: 0 }
+    }
+}
+
+/// Names that are used. Up to two of them need no memory of their own.
+pub type Uses<'a> = SmallVec<Use<'a>, 2>;
+
 /// A statement.
 #[derive(Drop)]
 pub enum Item<'a> {
     Input(&'a [u8]),
     Output(Use<'a>),
-    Drive(&'a [u8], Cell, Vec<Use<'a>>),
+    Drive(&'a [u8], Cell, Uses<'a>),
 }
 
 fn fault_at(token: Token, kind: FaultKind) -> ReadError
@@ -118,30 +130,27 @@ fn used_name<'a>(cursor: &mut Cursor<'a>) -> Result<Use<'a>, ReadError>
 }
 
 /// Adds a name, and says whether it is new.
-fn insert_name<'a>(names: &mut IndexSet<&'a [u8]>, name: &'a [u8]) -> Result<bool, ReadError>
-    ensures new { IfOk result (λ new. new ≡ not (is_member name.now (map (λ k. k.now) names.old.keys))) }
-    ensures names { IfOk result (λ new. map (λ k. k.now) names.new.keys ≡ (if new then map (λ k. k.now) names.old.keys ++ name.now ∷ [] else map (λ k. k.now) names.old.keys)) }
+fn insert_name(names: &mut IndexSet<Name>, name: &[u8]) -> Result<bool, ReadError>
+    ensures new { IfOk result (λ new. new ≡ not (is_member name.now names.old.keys)) }
+    ensures names { IfOk result (λ new. names.new.keys ≡ (if new then names.old.keys ++ name.now ∷ [] else names.old.keys)) }
     ensures err { IfErr result (λ e. e ≡ Memory) }
 {
-    Ok(names.insert(name)?)
+    let own = Name::new(*names.allocator(), name)?;
+    Ok(names.insert(own)?)
 }
 
-fn net_count(names: &IndexSet<&[u8]>) -> usize
-    ensures { result ≡ length (map (λ k. k.now) names.now.keys) }
+fn net_count(names: &IndexSet<Name>) -> usize
+    ensures { result ≡ length names.now.keys }
 {
     names.len()
 }
 
 /// Gives a driven net the next number. A fault stands at the token `place`.
 #[tactic(auto, unfolding(crate::specs::Inner::Reading::with_net))]
-fn add_net<'a>(
-    names: &mut IndexSet<&'a [u8]>,
-    name: &'a [u8],
-    place: Token,
-) -> Result<(), ReadError>
-    ensures read { Gives (λ _. map (λ k. k.now) names.new.keys) result
-        (with_net (map (λ k. k.now) names.old.keys) name.now (lexeme place.entry)) }
-    ensures names { OnOk result (map (λ k. k.now) names.new.keys ≡ map (λ k. k.now) names.old.keys ++ name.now ∷ []) }
+fn add_net<'a>(names: &mut IndexSet<Name>, name: &'a [u8], place: Token) -> Result<(), ReadError>
+    ensures read { Gives (λ _. names.new.keys) result
+        (with_net names.old.keys name.now (lexeme place.entry)) }
+    ensures names { OnOk result (names.new.keys ≡ names.old.keys ++ name.now ∷ []) }
 {
     let new = insert_name(names, name)?;
     if !new {
@@ -162,13 +171,13 @@ fn read_operands<'a>(
     alloc: Global,
     cursor: &mut Cursor<'a>,
     cell: Cell,
-) -> Result<Vec<Use<'a>>, ReadError>
+) -> Result<Uses<'a>, ReadError>
     requires { cursor.old.line + length cursor.old.rest.now < 2 ^ 32 }
     ensures read { Gives (λ us. (mentions us.items, scan cursor.new)) result (operands_at cell (scan cursor.old)) }
     ensures fits { cursor.new.line + length cursor.new.rest.now ≤ cursor.old.line + length cursor.old.rest.now }
     ensures shorter { length cursor.new.rest.now ≤ length cursor.old.rest.now }
 {
-    let mut operands = Vec::new(alloc);
+    let mut operands = Uses::new(alloc);
     loop {
         let token = cursor.next();
         let name = short_name(token)?;
@@ -192,14 +201,14 @@ fn read_operands<'a>(
 fn read_driver<'a>(
     alloc: Global,
     cursor: &mut Cursor<'a>,
-    names: &mut IndexSet<&'a [u8]>,
+    names: &mut IndexSet<Name>,
     name: &'a [u8],
     equals: Token,
 ) -> Result<Item<'a>, ReadError>
     requires { cursor.old.line + length cursor.old.rest.now < 2 ^ 32 }
     ensures read { Gives (λ i. (statement i, scan cursor.new)) result
-        (driver_at (map (λ k. k.now) names.old.keys) name.now (lexeme equals.entry) (scan cursor.old)) }
-    ensures names { IfOk result (λ i. map (λ k. k.now) names.new.keys ≡ map (λ k. k.now) names.old.keys ++ driven_by (statement i)) }
+        (driver_at names.old.keys name.now (lexeme equals.entry) (scan cursor.old)) }
+    ensures names { IfOk result (λ i. names.new.keys ≡ names.old.keys ++ driven_by (statement i)) }
     ensures fits { cursor.new.line + length cursor.new.rest.now ≤ cursor.old.line + length cursor.old.rest.now }
     ensures shorter { length cursor.new.rest.now ≤ length cursor.old.rest.now }
 {
@@ -220,12 +229,12 @@ fn read_driver<'a>(
 #[tactic(auto, unfolding(crate::specs::Inner::Reading::input_at))]
 fn read_input<'a>(
     cursor: &mut Cursor<'a>,
-    names: &mut IndexSet<&'a [u8]>,
+    names: &mut IndexSet<Name>,
 ) -> Result<Item<'a>, ReadError>
     requires { cursor.old.line + length cursor.old.rest.now < 2 ^ 32 }
     ensures read { Gives (λ i. (statement i, scan cursor.new)) result
-        (input_at (map (λ k. k.now) names.old.keys) (scan cursor.old)) }
-    ensures names { IfOk result (λ i. map (λ k. k.now) names.new.keys ≡ map (λ k. k.now) names.old.keys ++ driven_by (statement i)) }
+        (input_at names.old.keys (scan cursor.old)) }
+    ensures names { IfOk result (λ i. names.new.keys ≡ names.old.keys ++ driven_by (statement i)) }
     ensures fits { cursor.new.line + length cursor.new.rest.now ≤ cursor.old.line + length cursor.old.rest.now }
     ensures shorter { length cursor.new.rest.now ≤ length cursor.old.rest.now }
 {
@@ -256,14 +265,14 @@ fn read_output<'a>(cursor: &mut Cursor<'a>) -> Result<Item<'a>, ReadError>
 #[tactic(auto, unfolding(crate::specs::Inner::Reading::keyword_at))]
 fn read_keyword<'a>(
     cursor: &mut Cursor<'a>,
-    names: &mut IndexSet<&'a [u8]>,
+    names: &mut IndexSet<Name>,
     keyword: &[u8],
     place: Token,
 ) -> Result<Item<'a>, ReadError>
     requires { cursor.old.line + length cursor.old.rest.now < 2 ^ 32 }
     ensures read { Gives (λ i. (statement i, scan cursor.new)) result
-        (keyword_at (map (λ k. k.now) names.old.keys) keyword.now (lexeme place.entry) (scan cursor.old)) }
-    ensures names { IfOk result (λ i. map (λ k. k.now) names.new.keys ≡ map (λ k. k.now) names.old.keys ++ driven_by (statement i)) }
+        (keyword_at names.old.keys keyword.now (lexeme place.entry) (scan cursor.old)) }
+    ensures names { IfOk result (λ i. names.new.keys ≡ names.old.keys ++ driven_by (statement i)) }
     ensures fits { cursor.new.line + length cursor.new.rest.now ≤ cursor.old.line + length cursor.old.rest.now }
     ensures shorter { length cursor.new.rest.now ≤ length cursor.old.rest.now }
 {
@@ -281,13 +290,13 @@ fn read_keyword<'a>(
 fn read_statement<'a>(
     alloc: Global,
     cursor: &mut Cursor<'a>,
-    names: &mut IndexSet<&'a [u8]>,
+    names: &mut IndexSet<Name>,
     first: Token<'a>,
 ) -> Result<Item<'a>, ReadError>
     requires { cursor.old.line + length cursor.old.rest.now < 2 ^ 32 }
     ensures read { Gives (λ i. (statement i, scan cursor.new)) result
-        (statement_at (map (λ k. k.now) names.old.keys) (lexeme first.entry ∷ behind (lexeme first.entry).word (scan cursor.old))) }
-    ensures names { IfOk result (λ i. map (λ k. k.now) names.new.keys ≡ map (λ k. k.now) names.old.keys ++ driven_by (statement i)) }
+        (statement_at names.old.keys (lexeme first.entry ∷ behind (lexeme first.entry).word (scan cursor.old))) }
+    ensures names { IfOk result (λ i. names.new.keys ≡ names.old.keys ++ driven_by (statement i)) }
     ensures fits { cursor.new.line + length cursor.new.rest.now ≤ cursor.old.line + length cursor.old.rest.now }
     ensures shorter { length cursor.new.rest.now ≤ length cursor.old.rest.now }
 {
@@ -306,18 +315,23 @@ fn read_statement<'a>(
 #[derive(Drop)]
 pub struct Parsed<'a> {
     pub items: Vec<Item<'a>>,
-    pub names: IndexSet<&'a [u8]>,
+    pub names: IndexSet<Name>,
+}
+
+// About how many statements a text has, one to a line. It is a matter of room alone, and may be wrong.
+fn likely_count(bytes: &[u8]) -> usize {
+    (bytes.len() / 32).min(MAX_NETS)
 }
 
 /// Reads the statements of a text.
 pub fn parse(alloc: Global, bytes: &[u8]) -> Result<Parsed<'_>, ReadError>
     requires { length bytes.now ≤ 16777216 }
     ensures read { Stops (λ p. map statement p.items.items) result (tokens_of (parts_of bytes.now)) }
-    ensures names { IfOk result (λ p. map (λ k. k.now) p.names.keys ≡ driven (map statement p.items.items)) }
+    ensures names { IfOk result (λ p. p.names.keys ≡ driven (map statement p.items.items)) }
 {
     let mut cursor = Cursor::new(bytes);
-    let mut names = IndexSet::new(alloc);
-    let mut items = Vec::new(alloc);
+    let mut names = IndexSet::with_capacity(alloc, likely_count(bytes))?;
+    let mut items = Vec::with_capacity(alloc, likely_count(bytes))?;
     loop {
         let first = cursor.next();
         if first.is_end() {

@@ -6,7 +6,7 @@ ghost use Rattle.cmb_bench.specs.Netlist.{Netlist};
 ghost use Rattle.cmb_bench.specs.Meaning.{Reads};
 ghost use Rattle.cmb_bench.specs.Inner.Faulty.{IsFaulty, AnswersOnly};
 
-use crate::build::{build, own_names};
+use crate::build::build;
 use crate::fault::{BenchFault, FaultKind, ReadError};
 use crate::netlist::Netlist;
 use crate::parser::{Parsed, parse};
@@ -20,7 +20,6 @@ fn read(alloc: Global, bytes: &[u8]) -> Result<Netlist, ReadError>
     ensures fault { IfErr result (λ e. IsFaulty bytes.now e) }
 {
     let Parsed { items, names } = parse(alloc, bytes)?;
-    let names = own_names(alloc, &names)?;
     build(alloc, names, &items)
 }
 

@@ -1,5 +1,6 @@
-//! A calendar of what lies ahead: tells, by the days in which their ticks are, where a day is so many ticks as a window of
-//! an engine at most has. It is the event list of an event-driven simulator as a timing wheel, with a place for each window.
+//! A calendar of what lies ahead: tells, by the days in which their ticks are, where a day is so many ticks as a window
+//! of an engine at most has. It is the event list of an event-driven simulator as a timing wheel, with a place for each
+//! window.
 #![tactic(auto)]
 
 pub mod calendar;

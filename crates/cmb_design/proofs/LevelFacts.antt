@@ -1,5 +1,5 @@
 -- The changes of rows that rise.
-use Rattle.std.proofs.Common.{◌++◌, append_assoc, ◌≡◌, ◌≢◌, ◌≤◌, ◌<◌, ◌+◌, ℕ, zero, suc, List, [], ◌∷◌, Option, Some, None, map, true, false, Bool, refl, sym, ap, arith, ◌∙◌, cond, add-one, ⊎_elim}
+use Rattle.std.proofs.Common.{◌++◌, append_assoc, ◌≡◌, ◌≢◌, ◌≤◌, ◌<◌, ◌+◌, ℕ, zero, suc, List, [], ◌∷◌, Option, None, map, true, false, Bool, refl, sym, ap, arith, ◌∙◌, cond, add-one, ⊎_elim}
 use Rattle.std.specs.Prelude.{◌==◌, ◌&&◌, not, nat_le, nat_lt, unwrap_or, if◌then◌else◌}
 use Rattle.std.proofs.lemmas.Bool.{cases_lt}
 use Rattle.std.proofs.lemmas.Bool.Decides.{nat_tests}
@@ -16,6 +16,7 @@ use Rattle.cmb_wave.specs.Waveform.{changes_between, level_at, same_level}
 use Rattle.cmb_wave.proofs.Spans.{Alternates, RisesWithin}
 use Rattle.cmb_wave.proofs.Waveforms.{changes_between-unique}
 use Rattle.cmb_design.specs.Timing.{level_by}
+use Rattle.cmb_design.specs.Told.{Rises, Row, row_in}
 
 -- changes from a tick on and below another, each to another level than the one before
 unfoldable pub IsWave : Level → ℕ → ℕ → List Change → Type 0
@@ -55,14 +56,6 @@ level_from-early b low high t (c ∷ cs) w h =
     let first : low ≤ c.tick = w.0 in
     let e : nat_le c.tick t ≡ false = grind (arith, nat_tests) in
     rw e refl
-
--- rows of rising ticks
-abbrev pub Row : Type 0
-Row = ℕ × Level
-
-abbrev pub Rises : ℕ → List Row → Type 0
-Rises low [] = Unit {0}
-Rises low (p ∷ ps) = (low ≤ p.0) × Rises (p.0 + 1) ps
 
 -- the changes that rows make below a tick
 unfoldable pub keep : ℕ → Level → List Row → List Change
@@ -127,11 +120,6 @@ value_from-early : (b : Level) (low t : ℕ) (ps : List Row) → Rises low ps �
 unfolding value_from
 value_from-early b low t [] r h = refl
 value_from-early b low t (p ∷ ps) r h = let i : low ≤ p.0 = r.0 in let no : nat_le p.0 t ≡ false = grind (arith, nat_tests) in rw no refl
-
--- the row at a tick
-unfoldable pub row_in : List Row → ℕ → Option Level
-row_in [] t = None
-row_in (p ∷ ps) t = if p.0 == t then Some p.1 else row_in ps t
 
 row_in-early : (low t : ℕ) (ps : List Row) → Rises low ps → t < low → row_in ps t ≡ None
 unfolding row_in

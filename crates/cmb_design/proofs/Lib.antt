@@ -4,6 +4,7 @@ pub mod RowFacts
 pub mod ClockFacts
 pub mod DelayFacts
 pub mod LevelFacts
+pub mod ToldFacts
 pub mod StimulusFacts
 pub mod SettingFacts
 pub mod WholeFacts

@@ -4,6 +4,7 @@ pub mod Rows
 pub mod Tables
 pub mod Design
 pub mod Timing
+pub mod Told
 pub mod Stimuli
 pub mod Settings
 pub mod Lawful

@@ -256,7 +256,7 @@ pub(crate) fn all_delays(
     requires room { table_size netlist.now < 2 ^ 64 }
     ensures { IfOk result (λ v. v.items ≡ flat_delays netlist.now rows.now (length netlist.now.names)) }
 {
-    let mut flat = Vec::new(alloc);
+    let mut flat = Vec::with_capacity(alloc, places.len())?;
     for net in 0..netlist.len() {
         push_delays(netlist, starts, places, rows, net, &mut flat)?;
     }

@@ -20,6 +20,7 @@ mod samples;
 pub mod settings;
 mod stimuli;
 mod table;
+mod told;
 
 pub use design::Design;
 pub use fault::DesignFault;

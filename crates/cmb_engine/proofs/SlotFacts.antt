@@ -1,12 +1,15 @@
--- What the slots of a design show: the nets their values, and the lines those of other nets later.
-use Rattle.std.proofs.Common.{◌≡◌, ℕ, ◌+◌, ◌-◌, ◌<◌, ◌≤◌, ◌⊎◌, inl, inr, true, false, List, ap, ◌∙◌, arith, ltb}
+-- What the slots of a design show: the nets their values, and the lines those of other nets later. And how far ahead of the clock
+-- a slot is told.
+use Rattle.std.proofs.Common.{◌≡◌, ℕ, ◌+◌, ◌-◌, ◌<◌, ◌≤◌, ◌⊎◌, inl, inr, true, false, Some, List, refl, ap, ◌∙◌, arith, ltb}
+use Rattle.std.specs.Prelude.{slice_get}
 use Rattle.std.proofs.lemmas.Bool.{lt-ltb, le-ltb, cases_lt}
 use Rattle.cmb_wave.specs.declared.level.Level.{Level}
 use Rattle.cmb_design.specs.Design.{Design}
 use Rattle.cmb_design.specs.Exact.{nets_of}
-use Rattle.cmb_design.specs.Value.{value}
+use Rattle.cmb_design.specs.Value.{delayed, value}
 use Rattle.cmb_engine.specs.Circuits.{Shows}
-use Rattle.cmb_engine.specs.Traces.{trace_of}
+use Rattle.cmb_engine.specs.Tells.{reach_of}
+use Rattle.cmb_engine.specs.Traces.{line_level, trace_of}
 use Rattle.cmb_engine.specs.Windows.{in_place}
 use Rattle.cmb_engine.specs.declared.cell.Pin.{Pin}
 use Rattle.cmb_engine.proofs.TruthFacts.{in_place-tick}
@@ -14,6 +17,25 @@ use Rattle.cmb_engine.proofs.TruthFacts.{in_place-tick}
 pub trace-net : (design : Design) (lines : List Pin) (slot tick : ℕ) → slot < nets_of design → trace_of design lines slot tick ≡ value design slot tick
 unfolding trace_of value
 trace-net design lines slot tick net = let e : ltb slot (nets_of design) ≡ true = lt-ltb _ _ net in rw e
+
+-- a slot behind the nets
+pub trace-behind : (design : Design) (lines : List Pin) (slot tick : ℕ) → nets_of design ≤ slot
+    → trace_of design lines slot tick ≡ line_level design (slice_get lines (slot - nets_of design)) tick
+unfolding trace_of
+trace-behind design lines slot tick behind = let e : ltb slot (nets_of design) ≡ false = le-ltb _ _ behind in rw e refl
+
+-- the slot of a line
+pub trace-line : (design : Design) (lines : List Pin) (slot tick : ℕ) (line : Pin) → nets_of design ≤ slot → slice_get lines (slot - nets_of design) ≡ Some line
+    → trace_of design lines slot tick ≡ delayed (value design line.net) line.delay tick
+trace-line design lines slot tick line behind is = trace-behind design lines slot tick behind ∙ ap (λ found. line_level design found tick) is
+
+pub reach-net : (nets : ℕ) (lines : List Pin) (horizon slot : ℕ) → slot < nets → reach_of nets lines horizon slot ≡ horizon
+unfolding reach_of
+reach-net nets lines horizon slot net = let e : ltb slot nets ≡ true = lt-ltb _ _ net in rw e
+
+pub reach-line : (nets : ℕ) (lines : List Pin) (horizon slot : ℕ) (line : Pin) → nets ≤ slot → slice_get lines (slot - nets) ≡ Some line → reach_of nets lines horizon slot ≡ line.delay
+unfolding reach_of
+reach-line nets lines horizon slot line behind is = let e : ltb slot nets ≡ false = le-ltb _ _ behind in rw (e, is)
 
 -- waveforms that are the same are so in each place
 pub in_place-same : (f g : ℕ → Level) (to place : ℕ) → ((tick : ℕ) → f tick ≡ g tick) → in_place f to place ≡ in_place g to place

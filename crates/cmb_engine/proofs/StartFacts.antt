@@ -1,7 +1,7 @@
 -- What an engine's calendar has when it begins is what is told from tick 1 on.
 use Rattle.std.proofs.Common.{◌≡◌, ◌≢◌, ℕ, ◌+◌, ◌-◌, ◌<◌, ◌≤◌, ◌⊎◌, inl, inr, true, false, Some, List, [], length, get_or, refl, sym, ap, ap₂, subst, ◌∙◌, arith, ltb}
 use Rattle.std.specs.Prelude.{Contains, slice_get}
-use Rattle.std.proofs.lemmas.Bool.{lt-ltb, le-ltb, cases_lt, cases_Bool}
+use Rattle.std.proofs.lemmas.Bool.{le-ltb, cases_lt, cases_Bool}
 use Rattle.std.proofs.lemmas.Option.{get_or_from_slice_get, slice_get-get_or, slice_get_within}
 use Rattle.cmb_wave.specs.declared.level.Level.{Level}
 use Rattle.cmb_wave.specs.declared.level.Level.TheVariants.{X}
@@ -23,7 +23,8 @@ use Rattle.cmb_engine.specs.Starts.{IsOfInput, IsOfStart, IsOfStimulus}
 use Rattle.cmb_engine.specs.Tells.{AreTold, IsRight, IsTold, reach_of}
 use Rattle.cmb_engine.specs.Traces.{IsPlan, line_level, trace_of}
 use Rattle.cmb_engine.specs.declared.cell.Pin.{Pin}
-use Rattle.cmb_engine.proofs.ZeroFacts.{line-early, trace-line, trace-net}
+use Rattle.cmb_engine.proofs.SlotFacts.{trace-behind, trace-net, reach-line}
+use Rattle.cmb_engine.proofs.ZeroFacts.{line-early}
 
 abbrev tell_to : ℕ → ℕ → Level → Tell
 tell_to slot tick level = record { tick = tick; slot = slot; level = level }
@@ -44,16 +45,11 @@ same-cases a b = go (cases_Bool (same_level a b))
 pub line-late : (design : Design) (line : Pin) (tick : ℕ) → line.delay ≤ tick → line_level design (Some line) tick ≡ value design line.net (tick - line.delay)
 line-late design line tick late = let here : ltb tick line.delay ≡ false = le-ltb _ _ late in rw here refl
 
-reach-net : (nets : ℕ) (lines : List Pin) (horizon slot : ℕ) → slot < nets → reach_of nets lines horizon slot ≡ horizon
-unfolding reach_of
-reach-net nets lines horizon slot inside = let here : ltb slot nets ≡ true = lt-ltb _ _ inside in rw here refl
-
-reach-line : (nets : ℕ) (lines : List Pin) (horizon number : ℕ) (line : Pin) → slice_get lines number ≡ Some line → reach_of nets lines horizon (nets + number) ≡ line.delay
-unfolding reach_of
-reach-line nets lines horizon number line has =
-    let here : ltb (nets + number) nets ≡ false = le-ltb _ _ (omega arith) in
+-- a line is told as far ahead as it is late
+reach-number : (nets : ℕ) (lines : List Pin) (horizon number : ℕ) (line : Pin) → slice_get lines number ≡ Some line → reach_of nets lines horizon (nets + number) ≡ line.delay
+reach-number nets lines horizon number line has =
     let place : nets + number - nets ≡ number = omega arith in
-    rw (here, place, has) refl
+    reach-line nets lines horizon (nets + number) line (omega arith) (ap (λ k. slice_get lines k) place ∙ has)
 
 module _ (design : Design) (lines : List Pin) (most width : ℕ) (cells : List Cell) (plan : IsPlan design lines most width cells) where
   -- what an input shows is its stimulus
@@ -64,7 +60,7 @@ module _ (design : Design) (lines : List Pin) (most width : ℕ) (cells : List C
   line-shows : (number tick : ℕ) (line : Pin) → slice_get lines number ≡ Some line → trace_of design lines (nets_of design + number) tick ≡ line_level design (Some line) tick
   line-shows number tick line has =
       let place : nets_of design + number - nets_of design ≡ number = omega arith in
-      trace-line design lines (nets_of design + number) tick (omega arith) ∙ ap (λ k. line_level design (slice_get lines k) tick) place ∙ ap (λ o. line_level design o tick) has
+      trace-behind design lines (nets_of design + number) tick (omega arith) ∙ ap (λ k. line_level design (slice_get lines k) tick) place ∙ ap (λ o. line_level design o tick) has
 
   -- a line's net is one, and its delay is long
   line-lawful : (number : ℕ) (line : Pin) → slice_get lines number ≡ Some line → (line.net < nets_of design) × (1 ≤ line.delay)
@@ -186,6 +182,6 @@ module _ (design : Design) (lines : List Pin) (most width : ℕ) (cells : List C
                 let d : Pin = record { net = 0; delay = 0 } in
                 let has : slice_get lines number ≡ Some (get_or lines number d) = slice_get-get_or lines number d (omega (arith, inside, plan.count, l)) in
                 let ahead : tick < 1 + (get_or lines number d).delay =
-                omega (arith, reach, ap (reach_of (nets_of design) lines design.horizon) at, reach-line (nets_of design) lines design.horizon number (get_or lines number d) has) in
+                omega (arith, reach, ap (reach_of (nets_of design) lines design.horizon) at, reach-number (nets_of design) lines design.horizon number (get_or lines number d) has) in
                 subst (λ (s : ℕ). IsTold (trace_of design lines) started.tells s tick) at
                 (start-told started.tells has-start number tick (get_or lines number d) has later ahead within)

@@ -2,7 +2,7 @@
 -- were noted.
 use Rattle.std.proofs.Common.{◌≡◌, ℕ, suc, ◌+◌, ◌-◌, ◌*◌, ◌<◌, ◌≤◌, ◌⊎◌, inl, inr, min, true, false, List, length, get_or, refl, sym, ap, subst, ◌∙◌, arith, ltb}
 use Rattle.std.specs.Prelude.{◌==◌, None, Some, All, Contains, slice_get}
-use Rattle.std.proofs.lemmas.Bool.{cases_Bool, cases_lt, eqb-true, false≢true, lt-ltb, le-ltb}
+use Rattle.std.proofs.lemmas.Bool.{cases_Bool, cases_lt, eqb-true, false≢true, le-ltb}
 use Rattle.std.proofs.lemmas.List.Elements.{All-contains}
 use Rattle.std.proofs.lemmas.List.Folds.{Any-from_list_any}
 use Rattle.std.proofs.lemmas.Option.{slice_get_cases, slice_get_within, get_or_from_slice_get}
@@ -23,6 +23,7 @@ use Rattle.cmb_engine.specs.Lines.{IsAhead, IsOfLine, NotesEach}
 use Rattle.cmb_engine.specs.Tells.{AreTold, AreOfWindow, IsRight, IsTold, reach_of}
 use Rattle.cmb_engine.specs.Traces.{IsPlan, trace_of}
 use Rattle.cmb_engine.specs.declared.cell.Pin.{Pin}
+use Rattle.cmb_engine.proofs.SlotFacts.{trace-line, reach-net, reach-line}
 
 -- a window goes from the clock to the end of a calendar's next day, or to the horizon where that comes first
 pub record IsWindow (calendar : Calendar) (width horizon from to first : ℕ) : Type 0 where
@@ -42,19 +43,6 @@ delayed-later level ticks past tick is =
     let e : ltb tick ticks ≡ false = le-ltb _ _ (omega arith) in
     let at : tick - ticks ≡ past = omega arith in
     rw e (ap level at)
-
-trace-line : (design : Design) (lines : List Pin) (slot tick : ℕ) (line : Pin) → nets_of design ≤ slot → slice_get lines (slot - nets_of design) ≡ Some line
-    → trace_of design lines slot tick ≡ delayed (value design line.net) line.delay tick
-unfolding trace_of value
-trace-line design lines slot tick line late is = let e : ltb slot (nets_of design) ≡ false = le-ltb _ _ late in rw (e, is)
-
-pub reach-net : (nets : ℕ) (lines : List Pin) (horizon slot : ℕ) → slot < nets → reach_of nets lines horizon slot ≡ horizon
-unfolding reach_of
-reach-net nets lines horizon slot small = let e : ltb slot nets ≡ true = lt-ltb _ _ small in rw e
-
-reach-line : (nets : ℕ) (lines : List Pin) (horizon slot : ℕ) (line : Pin) → nets ≤ slot → slice_get lines (slot - nets) ≡ Some line → reach_of nets lines horizon slot ≡ line.delay
-unfolding reach_of
-reach-line nets lines horizon slot line late is = let e : ltb slot nets ≡ false = le-ltb _ _ late in rw (e, is)
 
 -- one of the nets that changed
 among-one : (net : ℕ) (changed : List Changed) → is_among net changed ≡ true → (one : Changed) × Contains changed one × (one.net ≡ net)

@@ -1,9 +1,9 @@
--- Waveforms in places of words, and words that move on stay known.
-use Rattle.std.proofs.Common.{◌≡◌, ℕ, ◌+◌, ◌-◌, ◌<◌, ◌≤◌, ◌⊎◌, inl, inr, min, true, false, ap, ◌∙◌, arith, ltb}
+-- Waveforms in places of words.
+use Rattle.std.proofs.Common.{◌≡◌, ℕ, ◌+◌, ◌-◌, ◌<◌, ◌≤◌, ◌⊎◌, inl, inr, true, false, ap, arith, ltb}
 use Rattle.std.proofs.lemmas.Bool.{lt-ltb, le-ltb, cases_lt}
 use Rattle.cmb_wave.specs.declared.level.Level.{Level}
 use Rattle.cmb_design.specs.Value.{delayed}
-use Rattle.cmb_engine.specs.Windows.{in_place, IsKnown}
+use Rattle.cmb_engine.specs.Windows.{in_place}
 
 pub in_place-tick : (level : ℕ → Level) (to place : ℕ) → 64 ≤ to + place → in_place level to place ≡ level (to + place - 64)
 in_place-tick level to place late = let e : ltb (to + place) 64 ≡ false = le-ltb _ _ late in rw e
@@ -23,11 +23,3 @@ in_place-before level to place ticks late within = go (cases_lt (to + (place - t
         let there : ltb (to + place - 64) ticks ≡ false = le-ltb _ _ (omega arith) in
         let same : to + (place - ticks) - 64 ≡ to + place - 64 - ticks = omega arith in
         rw (here, there) (ap level same)
-
--- words that move on by some ticks are known as far as they were
-pub known-moves : (level : ℕ → Level) (to ticks : ℕ) (old new : ℕ → Level) → IsKnown level to 64 old
-    → ((place : ℕ) → place < 64 → new place ≡ old (min (place + ticks) 63)) → IsKnown level (to + ticks) (64 - ticks) new
-known-moves level to ticks old new known moved place below small =
-    let at : min (place + ticks) 63 ≡ place + ticks = omega arith in
-    let tick : to + (place + ticks) ≡ to + ticks + place = omega arith in
-    moved place small ∙ ap old at ∙ known (place + ticks) (omega arith) (omega arith) ∙ ap (delayed level 64) tick

@@ -1,6 +1,6 @@
 -- What nets and lines show at tick 0.
 use Rattle.std.proofs.Common.{◌≡◌, ℕ, zero, suc, ◌+◌, ◌-◌, ◌<◌, ◌≤◌, ◌⊎◌, inl, inr, true, false, List, [], ◌∷◌, ◌++◌, Some, length, get_or, refl, subst, sym, ap, ◌∙◌, arith, ltb}
-use Rattle.std.proofs.lemmas.Bool.{lt-ltb, le-ltb, cases_lt}
+use Rattle.std.proofs.lemmas.Bool.{lt-ltb, cases_lt}
 use Rattle.std.proofs.lemmas.List.{get_or_past}
 use Rattle.std.proofs.lemmas.Option.{slice_get-get_or}
 use Rattle.std.specs.Prelude.{slice_get, All}
@@ -28,6 +28,7 @@ use Rattle.cmb_engine.specs.Windows.{in_place}
 use Rattle.cmb_engine.specs.Words.{levels_of}
 use Rattle.cmb_engine.specs.declared.cell.Pin.{Pin}
 use Rattle.cmb_engine.proofs.ArrivalFacts.{flop_level-start}
+use Rattle.cmb_engine.proofs.SlotFacts.{trace-behind}
 
 -- ---- gates of which all pins are x
 
@@ -91,14 +92,6 @@ flop-starts design net source e = value-at_flop design net 0 source e ∙ flop_l
 
 -- ---- lines
 
-pub trace-net : (design : Design) (lines : List Pin) (slot tick : ℕ) → slot < nets_of design → trace_of design lines slot tick ≡ value design slot tick
-unfolding trace_of
-trace-net design lines slot tick inside = let here : ltb slot (nets_of design) ≡ true = lt-ltb _ _ inside in rw here refl
-
-pub trace-line : (design : Design) (lines : List Pin) (slot tick : ℕ) → nets_of design ≤ slot → trace_of design lines slot tick ≡ line_level design (slice_get lines (slot - nets_of design)) tick
-unfolding trace_of
-trace-line design lines slot tick behind = let here : ltb slot (nets_of design) ≡ false = le-ltb _ _ behind in rw here refl
-
 -- below its delay a line is x
 pub line-early : (design : Design) (line : Pin) (tick : ℕ) → tick < line.delay → line_level design (Some line) tick ≡ X
 line-early design line tick early = let here : ltb tick line.delay ≡ true = lt-ltb _ _ early in rw here refl
@@ -109,7 +102,7 @@ lines-start design lines number inside lawful =
     let none : Pin = record { net = 0; delay = 0 } in
     let place : nets_of design + number - nets_of design ≡ number = omega arith in
     let found : slice_get lines number ≡ Some (get_or lines number none) = slice_get-get_or lines number none inside in
-    trace-line design lines (nets_of design + number) 0 (omega arith) ∙ ap (λ k. line_level design (slice_get lines k) 0) place
+    trace-behind design lines (nets_of design + number) 0 (omega arith) ∙ ap (λ k. line_level design (slice_get lines k) 0) place
     ∙ ap (λ line. line_level design line 0) found ∙ line-early design (get_or lines number none) 0 (lawful number none inside).1
 
 -- ---- words

@@ -1,12 +1,8 @@
 -- What the words of a window tell of waveforms. Only contracts inside this crate cite these.
-use Rattle.std.specs.Prelude.{◌≡◌, ℕ, ◌+◌, ◌<◌}
+use Rattle.std.specs.Prelude.{ℕ, ◌+◌}
 use Rattle.cmb_wave.specs.declared.level.Level.{Level}
 use Rattle.cmb_design.specs.Value.{delayed}
 
 -- the level of a waveform in a place of the window that ends before a tick: at tick to + place - 64, and x before tick 0
 abbrev pub in_place : (ℕ → Level) → ℕ → ℕ → Level
 in_place level to place = delayed level 64 (to + place)
-
--- a word tells a waveform below a place
-abbrev pub IsKnown : (ℕ → Level) → ℕ → ℕ → (ℕ → Level) → Type 0
-IsKnown level to upto word = (place : ℕ) → place < upto → place < 64 → word place ≡ in_place level to place

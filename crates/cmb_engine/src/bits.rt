@@ -67,7 +67,9 @@ impl Bits {
     #[inline]
     pub(crate) fn next_in_word(&self, n: usize) -> Option<usize>
         requires { n < 64 * length self.now }
-        ensures next { MatchOption result (HasNone self.now n (n / 64 * 64 + 64)) (λ found. IsNext self.now n found × (found / 64 ≡ n / 64)) }
+        ensures next { MatchOption result
+            (HasNone self.now n (n / 64 * 64 + 64))
+            (λ found. IsNext self.now n found × (found / 64 ≡ n / 64)) }
         ensures empty { n % 64 ≡ 0 → IfNone result (slice_index self.now (n / 64) ≡ 0) }
     {
         let word = self.words[n / 64] & (u64::MAX << (n % 64));

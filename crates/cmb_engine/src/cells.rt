@@ -153,7 +153,9 @@ impl Cells {
     /// The clock and the data pin of a slot's flip-flop, where its cell is one.
     pub(crate) fn flop(&self, slot: usize) -> Option<(Clock, Pin)>
         requires { slot < length self.now }
-        ensures { MatchOption result (is_flop (cell_at self.now slot) ≡ false) (λ flop. cell_at self.now slot ≡ Flop flop.0 flop.1) }
+        ensures { MatchOption result
+            (is_flop (cell_at self.now slot) ≡ false)
+            (λ flop. cell_at self.now slot ≡ Flop flop.0 flop.1) }
     {
         match self.rules[slot] {
             Rule::Flop(clock, pin) => Some((clock, pin)),
@@ -167,9 +169,14 @@ impl Cells {
         requires small { net < 2 ^ 32 }
         requires pins { All (λ pin. pin.net < length readers.old) (pins_of_cell (slice_index_or self.now net Told)) }
         ensures len { length readers.new ≡ length readers.old }
-        ensures within { OnOk result (AreBelow (length self.now) (map (λ list. list.items) readers.old) → AreBelow (length self.now) (map (λ list. list.items) readers.new)) }
-        ensures kept { OnOk result ((place number : ℕ) → IsListed (map (λ list. list.items) readers.old) place number → IsListed (map (λ list. list.items) readers.new) place number) }
-        ensures listed { OnOk result ((place : ℕ) → reads (slice_index_or self.now net Told) place ≡ true → IsListed (map (λ list. list.items) readers.new) place net) }
+        ensures within { OnOk result (AreBelow (length self.now) (map (λ list. list.items) readers.old)
+            → AreBelow (length self.now) (map (λ list. list.items) readers.new)) }
+        ensures kept { OnOk result ((place number : ℕ)
+            → IsListed (map (λ list. list.items) readers.old) place number
+            → IsListed (map (λ list. list.items) readers.new) place number) }
+        ensures listed { OnOk result ((place : ℕ)
+            → reads (slice_index_or self.now net Told) place ≡ true
+            → IsListed (map (λ list. list.items) readers.new) place net) }
     {
         match self.rules[net] {
             Rule::Told => Ok(()),
@@ -198,8 +205,10 @@ impl Cells {
         requires first { first < 64 }
         requires inside { 64 ≤ to + first }
         ensures below { (place : ℕ) → place < first → level_at_place result place ≡ levels_of words.now net place }
-        ensures made { IsMade (levels_of words.now) (level_at_place result) to first (slice_index_or self.now net Told) }
-        ensures told { is_made (slice_index_or self.now net Told) ≡ false → (place : ℕ) → level_at_place result place ≡ levels_of words.now net place }
+        ensures made { IsMade (levels_of words.now) (level_at_place result) to first
+            (slice_index_or self.now net Told) }
+        ensures told { is_made (slice_index_or self.now net Told) ≡ false
+            → (place : ℕ) → level_at_place result place ≡ levels_of words.now net place }
     {
         let own = words[net];
         match self.rules[net] {

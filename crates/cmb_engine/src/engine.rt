@@ -36,7 +36,8 @@ impl<'d> Model for Engine<'d> {
 
     ghost view = { λ engine. record { design = engine.design.now; clock = engine.state.clock } };
 
-    ghost invariant = { λ engine. IsCircuit engine.design.now engine.circuit × IsState engine.design.now engine.circuit engine.state };
+    ghost invariant = { λ engine. IsCircuit engine.design.now engine.circuit
+        × IsState engine.design.now engine.circuit engine.state };
 }
 
 impl<'d> Engine<'d> {
@@ -71,8 +72,9 @@ impl<'d> Engine<'d> {
         self.state.words[net].level(63)
     }
 
-    /// Goes on by a window of at least one tick and at most `LONGEST_WINDOW`, never beyond the horizon. `changed` gets the nets
-    /// that changed in it, by rising number, each with its levels up to the window's end, in place of what it had.
+    /// Goes on by a window of at least one tick and at most `LONGEST_WINDOW`, never beyond the horizon. `changed` gets
+    /// the nets that changed in it, by rising number, each with its levels up to the window's end, in place of what it
+    /// had.
     pub fn advance(self, changed: &mut Vec<Changed>) -> Result<Engine<'d>, AllocError>
         requires { self.clock < self.design.horizon }
         ensures design { IfOk result (λ engine. engine.design ≡ self.entry.design) }

@@ -36,7 +36,8 @@ fn members_of(alloc: Global, cells: &Cells) -> Result<Vec<Member>, AllocError>
 // Whether a flip-flop is of the last group.
 fn is_of_last(groups: &[Group], member: Member) -> bool
     ensures some { result ≡ true → 1 ≤ length groups.now }
-    ensures same { result ≡ true → (d : Group) → ((slice_index_or groups.now (length groups.now - 1) d).clock ≡ member.clock)
+    ensures same { result ≡ true → (d : Group)
+        → ((slice_index_or groups.now (length groups.now - 1) d).clock ≡ member.clock)
         × ((slice_index_or groups.now (length groups.now - 1) d).delay ≡ member.delay) }
 {
     match groups.last() {
@@ -90,7 +91,9 @@ pub(crate) fn mark_arrivals(groups: &[Group], marks: &mut Marks, to: u32, first:
     requires inside { 64 ≤ to + first }
     ensures room { length marks.new ≡ length marks.old }
     ensures kept { (m : ℕ) → has marks.old m ≡ true → has marks.new m ≡ true }
-    ensures arrivals { (clock : Clock) (delay slot place : ℕ) → IsInGroup clock delay slot groups.now → first ≤ place → place < 64
+    ensures arrivals { (clock : Clock) (delay slot place : ℕ)
+        → IsInGroup clock delay slot groups.now
+        → first ≤ place → place < 64
         → arrives_by clock delay (to + place - 64) ≡ true → has marks.new slot ≡ true }
 {
     for group in groups {

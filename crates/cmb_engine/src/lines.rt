@@ -1,4 +1,5 @@
-//! Lines: slots that show another net's waveform some ticks later. What a net's words say of it is told of the lines ahead.
+//! Lines: slots that show another net's waveform some ticks later. What a net's words say of it is told of the lines
+//! ahead.
 
 ghost use Rattle.std.specs.Prelude.{◌≡◌, ℕ, ◌+◌, ◌^◌, ◌<◌, ◌≤◌, [], All, IfOk, OnOk, length, map};
 ghost use Rattle.cmb_calendar.specs.Calendars.{day_begin};
@@ -76,7 +77,9 @@ fn note_followers(
     requires begun { 1 ≤ first }
     requires first { first < 64 }
     requires inside { 64 ≤ to + first }
-    ensures notes { OnOk result (NotesEach (IsOfFollower word followers.now lines.now nets to first) calendar.old calendar.new) }
+    ensures notes { OnOk result (NotesEach
+        (IsOfFollower word followers.now lines.now nets to first)
+        calendar.old calendar.new) }
     ensures width { calendar.new.width ≡ calendar.old.width }
     ensures horizon { calendar.new.horizon ≡ calendar.old.horizon }
     ensures day { calendar.new.day ≡ calendar.old.day }
@@ -88,8 +91,8 @@ fn note_followers(
     Ok(())
 }
 
-/// Notes what the lines show of the nets that changed: each change from a place on of the words that end before a tick, as
-/// many ticks later as the line's delay says. Nothing is noted that lies at the horizon or behind it.
+/// Notes what the lines show of the nets that changed: each change from a place on of the words that end before a tick,
+/// as many ticks later as the line's delay says. Nothing is noted that lies at the horizon or behind it.
 pub(crate) fn note_lines(
     changed: &[Changed],
     followers: &[Vec<u32>],
@@ -106,7 +109,9 @@ pub(crate) fn note_lines(
     requires begun { 1 ≤ first }
     requires first { first < 64 }
     requires inside { 64 ≤ to + first }
-    ensures notes { OnOk result (NotesEach (IsOfLine changed.now lines.now (length followers.now) to first) calendar.old calendar.new) }
+    ensures notes { OnOk result (NotesEach
+        (IsOfLine changed.now lines.now (length followers.now) to first)
+        calendar.old calendar.new) }
     ensures width { calendar.new.width ≡ calendar.old.width }
     ensures horizon { calendar.new.horizon ≡ calendar.old.horizon }
     ensures day { calendar.new.day ≡ calendar.old.day }

@@ -103,7 +103,10 @@ fn collect_pins(
     requires within { All (λ operand. operand < lines.old.nets) operands.now }
     ensures nets { lines.new.nets ≡ lines.old.nets }
     ensures grows { OnOk result (Grows lines.old.list.items lines.new.list.items lines.old.most lines.new.most) }
-    ensures pins { OnOk result (AllZip (StandsFor lines.new.nets lines.new.list.items lines.new.most) (pins_from design.now net 1 operands.now) pins.new.items) }
+    ensures pins { OnOk result (AllZip
+        (StandsFor lines.new.nets lines.new.list.items lines.new.most)
+        (pins_from design.now net 1 operands.now)
+        pins.new.items) }
 {
     pins.clear();
     for (i, operand) in operands.iter().enumerate() {
@@ -129,7 +132,9 @@ fn push_flop(
     requires within { source < lines.old.nets }
     ensures nets { lines.new.nets ≡ lines.old.nets }
     ensures grows { OnOk result (Grows lines.old.list.items lines.new.list.items lines.old.most lines.new.most) }
-    ensures cell { OnOk result (Pushes cells.old cells.new lines.new.nets lines.new.list.items lines.new.most (cell_in design.now net)) }
+    ensures cell { OnOk result (Pushes cells.old cells.new
+        lines.new.nets lines.new.list.items lines.new.most
+        (cell_in design.now net)) }
 {
     let clock = design.clock(net);
     let delay = design.delay(net, 1);
@@ -151,7 +156,9 @@ fn push_net(
     requires nets { lines.old.nets ≡ nets_of design.now }
     ensures nets { lines.new.nets ≡ lines.old.nets }
     ensures grows { OnOk result (Grows lines.old.list.items lines.new.list.items lines.old.most lines.new.most) }
-    ensures cell { OnOk result (Pushes cells.old cells.new lines.new.nets lines.new.list.items lines.new.most (cell_in design.now net)) }
+    ensures cell { OnOk result (Pushes cells.old cells.new
+        lines.new.nets lines.new.list.items lines.new.most
+        (cell_in design.now net)) }
 {
     match design.netlist().driver(net) {
         Driver::Input => cells.push_told(),
@@ -167,7 +174,8 @@ fn push_net(
 fn net_cells(alloc: Global, design: &Design, lines: &mut Lines) -> Result<Cells, AllocError>
     requires { lines.old.nets ≡ nets_of design.now }
     ensures nets { lines.new.nets ≡ lines.old.nets }
-    ensures cells { IfOk result (λ cells. AreCells design.now (nets_of design.now) cells lines.new.list.items lines.new.most) }
+    ensures cells { IfOk result (λ cells. AreCells design.now (nets_of design.now) cells
+        lines.new.list.items lines.new.most) }
 {
     let mut cells = Cells::new(alloc);
     let mut pins = Vec::new(alloc);

@@ -68,7 +68,9 @@ pub(crate) fn push_reader(
 ) -> Result<(), AllocError>
     requires { place < length readers.old }
     ensures len { length readers.new ≡ length readers.old }
-    ensures lists { OnOk result (map (λ list. list.items) readers.new ≡ slice_set (map (λ list. list.items) readers.old) place (slice_index_or (map (λ list. list.items) readers.old) place [] ++ net ∷ [])) }
+    ensures lists { OnOk result (map (λ list. list.items) readers.new
+        ≡ slice_set (map (λ list. list.items) readers.old) place
+        (slice_index_or (map (λ list. list.items) readers.old) place [] ++ net ∷ [])) }
 {
     readers[place].push(net)?;
     Ok(())
@@ -78,9 +80,15 @@ pub(crate) fn push_reader(
 pub(crate) fn push_pins(readers: &mut [Vec<u32>], pins: &[Pin], net: u32) -> Result<(), AllocError>
     requires { All (λ pin. pin.net < length readers.old) pins.now }
     ensures len { length readers.new ≡ length readers.old }
-    ensures within { OnOk result ((bound : ℕ) → net < bound → AreBelow bound (map (λ list. list.items) readers.old) → AreBelow bound (map (λ list. list.items) readers.new)) }
-    ensures kept { OnOk result ((place number : ℕ) → IsListed (map (λ list. list.items) readers.old) place number → IsListed (map (λ list. list.items) readers.new) place number) }
-    ensures listed { OnOk result ((place : ℕ) → list_any (λ pin. pin.net == place) pins.now ≡ true → IsListed (map (λ list. list.items) readers.new) place net) }
+    ensures within { OnOk result ((bound : ℕ) → net < bound
+        → AreBelow bound (map (λ list. list.items) readers.old)
+        → AreBelow bound (map (λ list. list.items) readers.new)) }
+    ensures kept { OnOk result ((place number : ℕ)
+        → IsListed (map (λ list. list.items) readers.old) place number
+        → IsListed (map (λ list. list.items) readers.new) place number) }
+    ensures listed { OnOk result ((place : ℕ)
+        → list_any (λ pin. pin.net == place) pins.now ≡ true
+        → IsListed (map (λ list. list.items) readers.new) place net) }
 {
     for pin in pins {
         push_reader(readers, pin.net as usize, net)?;
@@ -102,9 +110,11 @@ pub(crate) fn empty_lists(alloc: Global, count: usize) -> Result<Vec<Vec<u32>>, 
 // For each net a list of those whose cells read it.
 fn reader_lists(alloc: Global, cells: &Cells) -> Result<Vec<Vec<u32>>, AllocError>
     requires few { length cells.now < 2 ^ 32 }
-    requires pins { (net : ℕ) → net < length cells.now → All (λ pin. pin.net < length cells.now) (pins_of (slice_index_or cells.now net Told)) }
+    requires pins { (net : ℕ) → net < length cells.now
+        → All (λ pin. pin.net < length cells.now) (pins_of (slice_index_or cells.now net Told)) }
     ensures len { IfOk result (λ lists. length lists.items ≡ length cells.now) }
-    ensures readers { IfOk result (λ lists. (net : ℕ) → AreReaders cells.now net (slice_index_or (map (λ list. list.items) lists.items) net [])) }
+    ensures readers { IfOk result (λ lists. (net : ℕ)
+        → AreReaders cells.now net (slice_index_or (map (λ list. list.items) lists.items) net [])) }
     ensures within { IfOk result (λ lists. AreBelow (length cells.now) (map (λ list. list.items) lists.items)) }
 {
     let mut lists = empty_lists(alloc, cells.len())?;
@@ -117,7 +127,8 @@ fn reader_lists(alloc: Global, cells: &Cells) -> Result<Vec<Vec<u32>>, AllocErro
 /// For each net those whose cells read it.
 pub(crate) fn readers_of(alloc: Global, cells: &Cells) -> Result<Readers, AllocError>
     requires few { length cells.now < 2 ^ 32 }
-    requires pins { (net : ℕ) → net < length cells.now → All (λ pin. pin.net < length cells.now) (pins_of (slice_index_or cells.now net Told)) }
+    requires pins { (net : ℕ) → net < length cells.now
+        → All (λ pin. pin.net < length cells.now) (pins_of (slice_index_or cells.now net Told)) }
     ensures len { IfOk result (λ readers. length readers ≡ length cells.now) }
     ensures readers { IfOk result (λ readers. (net : ℕ) → AreReaders cells.now net (slice_index_or readers net [])) }
     ensures within { IfOk result (λ readers. AreBelow (length cells.now) readers) }

@@ -24,8 +24,8 @@ pub(crate) fn mark_all(marks: &mut Marks, nets: &[u32])
     }
 }
 
-/// Makes the word of a net from a place on, and takes its mark away; where the word is another one than before, the nets
-/// that read it are marked. Whether it is another one.
+/// Makes the word of a net from a place on, and takes its mark away; where the word is another one than before, the
+/// nets that read it are marked. Whether it is another one.
 #[inline]
 pub(crate) fn visit(
     cells: &Cells,
@@ -51,13 +51,17 @@ pub(crate) fn visit(
     ensures others { (m place : ℕ) → m ≢ net → levels_of words.new m place ≡ levels_of words.old m place }
     ensures past { (place : ℕ) → place < first → levels_of words.new net place ≡ levels_of words.old net place }
     ensures made { IsMade (levels_of words.old) (levels_of words.new net) to first (slice_index_or cells.now net Told) }
-    ensures told { is_made (slice_index_or cells.now net Told) ≡ false → (place : ℕ) → levels_of words.new net place ≡ levels_of words.old net place }
+    ensures told { is_made (slice_index_or cells.now net Told) ≡ false
+        → (place : ℕ) → levels_of words.new net place ≡ levels_of words.old net place }
     ensures same { result ≡ false → (m place : ℕ) → levels_of words.new m place ≡ levels_of words.old m place }
-    ensures differs { ((place : ℕ) → place < 64 → levels_of words.new net place ≡ levels_of words.old net place) → result ≡ false }
+    ensures differs { ((place : ℕ) → place < 64 → levels_of words.new net place ≡ levels_of words.old net place)
+        → result ≡ false }
     ensures marks { (m : ℕ) → has marks.new m ≡ false → m ≢ net → has marks.old m ≡ false }
 
     // A net that reads this one and isn't marked sees the word that it saw.
-    ensures news { (m place : ℕ) → has marks.new m ≡ false → reads (slice_index_or cells.now m Told) net ≡ true → place < 64
+    ensures news { (m place : ℕ) → has marks.new m ≡ false
+        → reads (slice_index_or cells.now m Told) net ≡ true
+        → place < 64
         → levels_of words.new net place ≡ levels_of words.old net place }
 
     // So where every made net that isn't marked was settled, it is.
@@ -118,8 +122,8 @@ pub(crate) fn sweep(
     }
 }
 
-/// Sweeps over the marked nets until none is left, or each place from one on was passed. What was true of the made words
-/// below the place is true in all of them.
+/// Sweeps over the marked nets until none is left, or each place from one on was passed. What was true of the made
+/// words below the place is true in all of them.
 pub(crate) fn settle(
     cells: &Cells,
     readers: &Readers,

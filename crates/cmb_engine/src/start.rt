@@ -33,7 +33,8 @@ fn start_level(design: &Design, net: usize) -> Level
 
 // The word of a slot with a level at tick 0, in the words that end before tick 1: it is x before.
 fn start_word(level: Level) -> Word
-    ensures { (trace : ℕ → Level) → trace 0 ≡ level → (place : ℕ) → place < 64 → level_at_place result place ≡ in_place trace 1 place }
+    ensures { (trace : ℕ → Level) → trace 0 ≡ level
+        → (place : ℕ) → place < 64 → level_at_place result place ≡ in_place trace 1 place }
 {
     Word::constant(Level::X).with_from(63, level)
 }
@@ -58,7 +59,8 @@ pub(crate) fn start_words(
 ) -> Result<Vec<Word>, AllocError>
     requires lines { All (λ line. (line.net < nets_of design.now) × (1 ≤ line.delay)) lines.now }
     ensures len { IfOk result (λ words. length words.items ≡ nets_of design.now + length lines.now) }
-    ensures shows { IfOk result (λ words. Shows (levels_of words.items) (trace_of design.now lines.now) (nets_of design.now + length lines.now) 1) }
+    ensures shows { IfOk result (λ words. Shows (levels_of words.items) (trace_of design.now lines.now)
+        (nets_of design.now + length lines.now) 1) }
 {
     let mut words = net_words(alloc, design)?;
     for _ in lines {

@@ -11,14 +11,15 @@ use crate::arrivals::first_arrival;
 use crate::cell::Pin;
 use cmb_bench::Kind;
 use cmb_design::Clock;
-use cmb_words::{Word, completed, gate1, gate2, held_every, join};
+use cmb_words::{Word, completed, gate1, gate2, held, join};
 
 // What a pin sees.
 #[inline]
 fn seen_word(words: &[Word], pin: Pin) -> Word
     requires net { pin.net < length words.now }
     requires delay { pin.delay < 64 }
-    ensures { (place : ℕ) → pin.delay ≤ place → place < 64 → level_at_place result place ≡ seen (levels_of words.now) place pin }
+    ensures { (place : ℕ) → pin.delay ≤ place → place < 64
+        → level_at_place result place ≡ seen (levels_of words.now) place pin }
 {
     words[pin.net as usize].delayed(pin.delay)
 }
@@ -53,7 +54,8 @@ pub(crate) fn gate_word(kind: Kind, pins: &[Pin], words: &[Word], first: u32) ->
     requires nets { All (λ pin. pin.net < length words.now) pins.now }
     requires within { All (λ pin. pin.delay ≤ first) pins.now }
     requires first { first < 64 }
-    ensures { (place : ℕ) → first ≤ place → place < 64 → level_at_place result place ≡ gate kind (map (seen (levels_of words.now) place) pins.now) }
+    ensures { (place : ℕ) → first ≤ place → place < 64
+        → level_at_place result place ≡ gate kind (map (seen (levels_of words.now) place) pins.now) }
 {
     let mut joined = seen_word(words, pins[0]);
     for k in 1..pins.len() {
@@ -79,11 +81,14 @@ pub(crate) fn flop_word(
     requires first { first < 64 }
     requires inside { 64 ≤ to + first }
     ensures below { (place : ℕ) → place < first → level_at_place result place ≡ level_at_place own place }
-    ensures from { (place : ℕ) → first ≤ place → place < 64 → level_at_place result place
-        ≡ (if arrives_by clock pin.delay (to + place - 64) then seen (levels_of words.now) place pin else level_at_place result (place - 1)) }
+    ensures from { (place : ℕ) → first ≤ place → place < 64
+        → level_at_place result place
+        ≡ (if arrives_by clock pin.delay (to + place - 64)
+        then seen (levels_of words.now) place pin
+        else level_at_place result (place - 1)) }
 {
     let arrival = first_arrival(clock, pin.delay, to, first);
-    held_every(
+    held(
         own,
         words[pin.net as usize],
         pin.delay,

@@ -1,115 +1,239 @@
 -- Each move of a link keeps its rule.
-use Rattle.std.proofs.Common.{◌≡◌, ℕ, zero, suc, ◌+◌, List, [], ◌∷◌, ◌++◌, length, set, inl, inr, ⊎_elim, sym, refl, ap, ◌∙◌, subst, arith, append_assoc, length-append, All, get_or-append-add}
-use Rattle.std.proofs.lemmas.List.Elements.{All-push, All-head}
+use Rattle.std.proofs.Common.{◌≡◌, ◌≢◌, ℕ, zero, suc, ◌+◌, ◌<◌, ◌≤◌, ◌⊎◌, List, [], ◌∷◌, ◌++◌, length, set, inl, inr, ⊎_elim, sym, refl, ap, ◌∙◌, subst, arith, append_assoc, length-append, All, get_or-append-add}
+use Rattle.std.proofs.lemmas.List.Elements.{All-push, All-head, All-nil}
 use mathlib.Core.Option.{some, some-injective, some-ne-none}
 use lib.ListN.{get_elem?}
-use Rattle.crossbeam_queue.specs.Fifo.{Pushes, Pops, Learns}
+use Rattle.crossbeam_queue.specs.Fifo.{Pushes, Pops, Forks, Merges, Learns}
 use Rattle.cmb_wave.specs.Wave.{Piece}
 use Rattle.cmb_design.specs.Design.{Design}
 use Rattle.cmb_design.specs.Exact.{IsExactIn}
-use Rattle.cmb_links.specs.Links.{fresh, putting, taking, IsBetween, IsLinked, Sends, Receives, EndsWith, GoesOn}
+use Rattle.cmb_links.specs.Links.{fresh, putting, taking, closing, spent, open_ends, joined_ends, IsBetween, IsLinked, Sends, Receives, Empties, Leaves}
 use Rattle.cmb_links.specs.declared.end.End.{End}
-use Rattle.cmb_links.specs.declared.end.Role.TheVariants.{Fresh, Puts, Takes}
+use Rattle.cmb_links.specs.declared.end.Role.{Role}
+use Rattle.cmb_links.specs.declared.end.Role.TheVariants.{Fresh, Puts, Takes, Closes, Spent}
 
-All-behind : {X : Type 0} (P : X → Type 0) (xs ys : List X) → All P (xs ++ ys) → All P ys
+pub All-behind : {X : Type 0} (P : X → Type 0) (xs ys : List X) → All P (xs ++ ys) → All P ys
 All-behind P xs ys a k d in' = subst P (get_or-append-add xs ys k d) (a (length xs + k) d (omega (arith, length-append xs ys)))
 
-abbrev Two : Design → List Piece → List Piece → List End
-Two design sent received = putting design sent ∷ taking design received ∷ []
+-- roles that differ
+abbrev rank : Role → ℕ
+rank Fresh = 0
+rank Puts = 1
+rank Takes = 2
+rank Closes = 3
+rank Spent = 4
 
-abbrev IsOpen : List Piece → List End → Type 0
-IsOpen held ends = (design : Design) × (sent : List Piece) × (received : List Piece) × IsBetween held ends design sent received
+abbrev of_role : End → ℕ
+of_role v = rank v.role
 
-takes_not_puts : Takes ≡ Puts → ⊥
-takes_not_puts h = cc
+-- an end is one of two
+one_of_two : (a b v : End) (port : ℕ) → get_elem? (a ∷ b ∷ []) port ≡ some v → ((port ≡ 0) × (a ≡ v)) ⊎ ((port ≡ 1) × (b ≡ v))
+one_of_two a b v zero at = inl (refl, some-injective a v at)
+one_of_two a b v (suc zero) at = inr (refl, some-injective b v at)
+one_of_two a b v (suc (suc port)) at = absurd (some-ne-none v (sym at))
 
-fresh_not_puts : Fresh ≡ Puts → ⊥
-fresh_not_puts h = cc
+only_one : (a v : End) (port : ℕ) → get_elem? (a ∷ []) port ≡ some v → (port ≡ 0) × (a ≡ v)
+only_one a v zero at = (refl, some-injective a v at)
+only_one a v (suc port) at = absurd (some-ne-none v (sym at))
 
-fresh_not_takes : Fresh ≡ Takes → ⊥
-fresh_not_takes h = cc
+-- what is held, the ends, and which of them this one is
+abbrev Between : (Design → ℕ → List Piece → List Piece → Type 0) → List Piece → Type 0
+Between P held = (d : Design) × (n : ℕ) × (sent : List Piece) × (received : List Piece) × IsBetween held d n sent received × P d n sent received
 
--- the end with a role is the first where it puts, and the second where it takes
-put_end : (d : Design) (sent received : List Piece) (port : ℕ) (v : End) → get_elem? (Two d sent received) port ≡ some v → v ≡ putting v.design v.pieces → (port ≡ 0) × (v ≡ putting d sent)
-put_end d sent received zero v at role = (refl, sym (some-injective (putting d sent) v at))
-put_end d sent received (suc zero) v at role = absurd (takes_not_puts (ap (λ (x : End). x.role) (some-injective (taking d received) v at ∙ role)))
-put_end d sent received (suc (suc port)) v at role = absurd (some-ne-none v (sym at))
+module _ (held : List Piece) (ends : List End) (port : ℕ) (v : End) (kept : IsLinked held ends) (at : get_elem? ends port ≡ some v) where
+  along : (l : List End) → ends ≡ l → get_elem? l port ≡ some v
+  along l e = ap (λ m. get_elem? m port) (sym e) ∙ at
 
-take_end : (d : Design) (sent received : List Piece) (port : ℕ) (v : End) → get_elem? (Two d sent received) port ≡ some v → v ≡ taking v.design v.pieces → (port ≡ 1) × (v ≡ taking d received)
-take_end d sent received zero v at role = absurd (takes_not_puts (sym (ap (λ (x : End). x.role) (some-injective (putting d sent) v at ∙ role))))
-take_end d sent received (suc zero) v at role = (refl, sym (some-injective (taking d received) v at))
-take_end d sent received (suc (suc port)) v at role = absurd (some-ne-none v (sym at))
+  -- the end is the fresh one, one of two of an open link, or one of two of a joined one
+  abbrev Standing : Design → ℕ → List Piece → List Piece → Type 0
+  Standing d n sent received =
+      ((ends ≡ open_ends d n sent received) × (((port ≡ 0) × (putting d n sent ≡ v)) ⊎ ((port ≡ 1) × (taking d n received ≡ v))))
+      ⊎ ((ends ≡ joined_ends d n sent received) × (((port ≡ 0) × (closing d n sent received ≡ v)) ⊎ ((port ≡ 1) × (spent ≡ v))))
 
--- the one end of a queue that has none yet neither puts nor takes
-fresh_end : (port : ℕ) (v : End) → get_elem? (fresh ∷ []) port ≡ some v → v.role ≡ Fresh
-fresh_end zero v at = sym (ap (λ (x : End). x.role) (some-injective fresh v at))
-fresh_end (suc port) v at = absurd (some-ne-none v (sym at))
+  stands : ((held ≡ []) × (ends ≡ fresh ∷ []) × (port ≡ 0) × (fresh ≡ v)) ⊎ Between Standing held
+  stands = ⊎_elim
+      (λ (h : (held ≡ []) × (ends ≡ fresh ∷ [])). let one = only_one fresh v port (along (fresh ∷ []) h.1) in inl (h.0, h.1, one.0, one.1))
+      (λ (h : Between (λ d n sent received. (ends ≡ open_ends d n sent received) ⊎ (ends ≡ joined_ends d n sent received)) held).
+      let d = h.0 in let n = h.1 in let sent = h.2 in let received = h.3 in
+      inr (
+        d,
+        n,
+        sent,
+        received,
+        h.4,
+        ⊎_elim
+            (λ (e : ends ≡ open_ends d n sent received). inl (e, one_of_two (putting d n sent) (taking d n received) v port (along (open_ends d n sent received) e)))
+            (λ (e : ends ≡ joined_ends d n sent received). inr (e, one_of_two (closing d n sent received) spent v port (along (joined_ends d n sent received) e)))
+            h.5,
+      ))
+      kept
 
--- an end that puts has the link open, and so has one that takes
-opened_to_put : (held : List Piece) (ends : List End) (port : ℕ) (v : End) → IsLinked held ends → get_elem? ends port ≡ some v → v ≡ putting v.design v.pieces → IsOpen held ends
-opened_to_put held ends port v kept at role = ⊎_elim
-    (λ (h : (held ≡ []) × (ends ≡ fresh ∷ [])). absurd (fresh_not_puts (sym (fresh_end port v (ap (λ l. get_elem? l port) (sym h.1) ∙ at)) ∙ ap (λ (x : End). x.role) role)))
-    (λ (h : IsOpen held ends). h)
-    kept
+  abbrev IsPutting : Design → ℕ → List Piece → List Piece → Type 0
+  IsPutting d n sent received = (ends ≡ open_ends d n sent received) × (port ≡ 0) × (putting d n sent ≡ v)
 
-opened_to_take : (held : List Piece) (ends : List End) (port : ℕ) (v : End) → IsLinked held ends → get_elem? ends port ≡ some v → v ≡ taking v.design v.pieces → IsOpen held ends
-opened_to_take held ends port v kept at role = ⊎_elim
-    (λ (h : (held ≡ []) × (ends ≡ fresh ∷ [])). absurd (fresh_not_takes (sym (fresh_end port v (ap (λ l. get_elem? l port) (sym h.1) ∙ at)) ∙ ap (λ (x : End). x.role) role)))
-    (λ (h : IsOpen held ends). h)
-    kept
+  abbrev IsTaking : Design → ℕ → List Piece → List Piece → Type 0
+  IsTaking d n sent received = (ends ≡ open_ends d n sent received) × (port ≡ 1) × (taking d n received ≡ v)
+
+  abbrev IsClosing : Design → ℕ → List Piece → List Piece → Type 0
+  IsClosing d n sent received = (ends ≡ joined_ends d n sent received) × (port ≡ 0) × (closing d n sent received ≡ v)
+
+  -- a case that the role rules out
+  other : (u : End) (k m : ℕ) → u ≡ v → of_role u ≡ k → of_role v ≡ m → k ≢ m → ⊥
+  other u k m e a b differ = differ (sym a ∙ ap of_role e ∙ b)
+
+  puts : v.role ≡ Puts → Between IsPutting held
+  puts role = let r : of_role v ≡ 1 = ap rank role in ⊎_elim
+      (λ h. absurd (other fresh 0 1 h.3 refl r (λ e. omega arith)))
+      (λ (h : Between Standing held). let d = h.0 in let n = h.1 in let s = h.2 in let t = h.3 in (
+        d,
+        n,
+        s,
+        t,
+        h.4,
+        ⊎_elim
+            (λ o. ⊎_elim (λ a. (o.0, a.0, a.1)) (λ b. absurd (other (taking d n t) 2 1 b.1 refl r (λ e. omega arith))) o.1)
+            (λ j. absurd (⊎_elim (λ a. other (closing d n s t) 3 1 a.1 refl r (λ e. omega arith)) (λ b. other spent 4 1 b.1 refl r (λ e. omega arith)) j.1))
+            h.5,
+      ))
+      stands
+
+  takes : v.role ≡ Takes → Between IsTaking held
+  takes role = let r : of_role v ≡ 2 = ap rank role in ⊎_elim
+      (λ h. absurd (other fresh 0 2 h.3 refl r (λ e. omega arith)))
+      (λ (h : Between Standing held). let d = h.0 in let n = h.1 in let s = h.2 in let t = h.3 in (
+        d,
+        n,
+        s,
+        t,
+        h.4,
+        ⊎_elim
+            (λ o. ⊎_elim (λ a. absurd (other (putting d n s) 1 2 a.1 refl r (λ e. omega arith))) (λ b. (o.0, b.0, b.1)) o.1)
+            (λ j. absurd (⊎_elim (λ a. other (closing d n s t) 3 2 a.1 refl r (λ e. omega arith)) (λ b. other spent 4 2 b.1 refl r (λ e. omega arith)) j.1))
+            h.5,
+      ))
+      stands
+
+  closes : v.role ≡ Closes → Between IsClosing held
+  closes role = let r : of_role v ≡ 3 = ap rank role in ⊎_elim
+      (λ h. absurd (other fresh 0 3 h.3 refl r (λ e. omega arith)))
+      (λ (h : Between Standing held). let d = h.0 in let n = h.1 in let s = h.2 in let t = h.3 in (
+        d,
+        n,
+        s,
+        t,
+        h.4,
+        ⊎_elim
+            (λ o. absurd (⊎_elim (λ a. other (putting d n s) 1 3 a.1 refl r (λ e. omega arith)) (λ b. other (taking d n t) 2 3 b.1 refl r (λ e. omega arith)) o.1))
+            (λ j. ⊎_elim (λ a. (j.0, a.0, a.1)) (λ b. absurd (other spent 4 3 b.1 refl r (λ e. omega arith))) j.1)
+            h.5,
+      ))
+      stands
+
+  begins_here : v.role ≡ Fresh → (held ≡ []) × (ends ≡ fresh ∷ []) × (port ≡ 0)
+  begins_here role = let r : of_role v ≡ 0 = ap rank role in ⊎_elim
+      (λ h. (h.0, h.1, h.2))
+      (λ (h : Between Standing held). let d = h.0 in let n = h.1 in let s = h.2 in let t = h.3 in absurd (⊎_elim
+      (λ o. ⊎_elim (λ a. other (putting d n s) 1 0 a.1 refl r (λ e. omega arith)) (λ b. other (taking d n t) 2 0 b.1 refl r (λ e. omega arith)) o.1)
+      (λ j. ⊎_elim (λ a. other (closing d n s t) 3 0 a.1 refl r (λ e. omega arith)) (λ b. other spent 4 0 b.1 refl r (λ e. omega arith)) j.1)
+      h.5))
+      stands
 
 pub begins : IsLinked [] (fresh ∷ [])
 begins = inl (refl, refl)
 
-pub sends : (n port : ℕ) (v : End) (x : Piece) → v ≡ putting v.design v.pieces → IsExactIn v.design x → Pushes IsLinked n port v x (Sends v x)
-sends n port v x role exact items views room kept at =
-    let h = opened_to_put items views port v kept at role in
-    let link = h.3 in
-    let here = put_end h.0 h.1 h.2 port v (ap (λ l. get_elem? l port) (sym link.both) ∙ at) role in
-    let more : List Piece = h.1 ++ x ∷ [] in (
-      putting h.0 more,
-      inr (
-        h.0,
-        more,
-        h.2,
-        record {
-          both = λ i. set (link.both i) (here.0 i) (putting h.0 more);
-          order = ap (λ l. l ++ x ∷ []) link.order ∙ append_assoc h.2 items (x ∷ []);
-          exact = All-push (IsExactIn h.0) h.1 x link.exact (subst (λ (d : Design). IsExactIn d x) (ap (λ (u : End). u.design) here.1) exact);
-        },
-      ),
-      sym (ap (λ (u : End). putting u.design (u.pieces ++ x ∷ [])) here.1),
+-- the fresh end becomes the two ends
+pub forks : (port : ℕ) (v : End) (d : Design) (n : ℕ) → v ≡ fresh → Forks IsLinked port v (putting d n []) (taking d n [])
+forks port v d n is items views kept at =
+    let h = begins_here items views port v kept at (ap (λ (u : End). u.role) is) in
+    inr (
+      d,
+      n,
+      [],
+      [],
+      record { order = sym h.0; room = rw h.0 (omega arith); exact = All-nil (IsExactIn d) },
+      inl (λ i. set (h.1 i) (h.2 i) (putting d n []) ++ taking d n [] ∷ []),
     )
 
-pub gets : (port : ℕ) (v : End) → v ≡ taking v.design v.pieces → Pops IsLinked port v (Receives v)
+pub sends : (n port : ℕ) (v : End) (x : Piece) → v.role ≡ Puts → v.capacity ≡ n → IsExactIn v.design x → Pushes IsLinked n port v x (Sends v x)
+sends n port v x role most exact items views room kept at =
+    let h = puts items views port v kept at role in
+    let d = h.0 in let m = h.1 in let sent = h.2 in let link = h.4 in
+    let more : List Piece = sent ++ x ∷ [] in
+    let cap : m ≡ v.capacity = ap (λ (u : End). u.capacity) h.5.2 in (
+      putting d m more,
+      inr (
+        d,
+        m,
+        more,
+        h.3,
+        record {
+          order = ap (λ l. l ++ x ∷ []) link.order ∙ append_assoc h.3 items (x ∷ []);
+          room = omega (arith, length-append items (x ∷ []));
+          exact = All-push (IsExactIn d) sent x link.exact (subst (λ (e : Design). IsExactIn e x) (sym (ap (λ (u : End). u.design) h.5.2)) exact);
+        },
+        inl (λ i. set (h.5.0 i) (h.5.1 i) (putting d m more)),
+      ),
+      ap (λ (u : End). putting u.design u.capacity (u.sent ++ x ∷ [])) h.5.2,
+    )
+
+-- the first of what is held
+first_exact : (d : Design) (n : ℕ) (sent received items : List Piece) (x : Piece) → IsBetween (x ∷ items) d n sent received → IsExactIn d x
+first_exact d n sent received items x link = All-head (IsExactIn d) x items (All-behind (IsExactIn d) received (x ∷ items) (subst (All (IsExactIn d)) link.order link.exact))
+
+-- it goes over to what was received
+goes_over : (d : Design) (n : ℕ) (sent received items : List Piece) (x : Piece) → IsBetween (x ∷ items) d n sent received → IsBetween items d n sent (received ++ x ∷ [])
+goes_over d n sent received items x link = let r = link.room in record {
+  order = link.order ∙ sym (append_assoc received (x ∷ []) items);
+  room = omega arith;
+  exact = link.exact;
+}
+
+pub gets : (port : ℕ) (v : End) → v.role ≡ Takes → Pops IsLinked port v (Receives v)
 gets port v role x items views kept at =
-    let h = opened_to_take (x ∷ items) views port v kept at role in
-    let link = h.3 in
-    let here = take_end h.0 h.1 h.2 port v (ap (λ l. get_elem? l port) (sym link.both) ∙ at) role in
-    let more : List Piece = h.2 ++ x ∷ [] in
-    let exact : IsExactIn h.0 x = All-head (IsExactIn h.0) x items (All-behind (IsExactIn h.0) h.2 (x ∷ items) (subst (All (IsExactIn h.0)) link.order link.exact)) in (
-      taking h.0 more,
-      inr (
-        h.0,
-        h.1,
-        more,
-        record {
-          both = λ i. set (link.both i) (here.0 i) (taking h.0 more);
-          order = link.order ∙ sym (append_assoc h.2 (x ∷ []) items);
-          exact = link.exact;
-        },
+    let h = takes (x ∷ items) views port v kept at role in
+    let d = h.0 in let m = h.1 in
+    let more : List Piece = h.3 ++ x ∷ [] in (
+      taking d m more,
+      inr (d, m, h.2, more, goes_over d m h.2 h.3 items x h.4, inl (λ i. set (h.5.0 i) (h.5.1 i) (taking d m more))),
+      (
+        ap (λ (u : End). taking u.design u.capacity (u.received ++ x ∷ [])) h.5.2,
+        subst (λ (e : Design). IsExactIn e x) (ap (λ (u : End). u.design) h.5.2) (first_exact d m h.2 h.3 items x h.4),
       ),
-      (sym (ap (λ (u : End). taking u.design (u.pieces ++ x ∷ [])) here.1), subst (λ (d : Design). IsExactIn d x) (sym (ap (λ (u : End). u.design) here.1)) exact),
     )
 
-pub learns_sent : (port : ℕ) (v : End) → v ≡ putting v.design v.pieces → Learns IsLinked port v (λ held. EndsWith v.pieces held)
-learns_sent port v role items views kept at =
-    let h = opened_to_put items views port v kept at role in
-    let here = put_end h.0 h.1 h.2 port v (ap (λ l. get_elem? l port) (sym h.3.both) ∙ at) role in
-    (h.2, ap (λ (u : End). u.pieces) here.1 ∙ h.3.order)
+pub empties : (port : ℕ) (v : End) → v.role ≡ Closes → Pops IsLinked port v (Empties v)
+empties port v role x items views kept at =
+    let h = closes (x ∷ items) views port v kept at role in
+    let d = h.0 in let m = h.1 in
+    let more : List Piece = h.3 ++ x ∷ [] in
+    let order = ap length h.4.order in (
+      closing d m h.2 more,
+      inr (d, m, h.2, more, goes_over d m h.2 h.3 items x h.4, inr (λ i. set (h.5.0 i) (h.5.1 i) (closing d m h.2 more))),
+      (
+        ap (λ (u : End). closing u.design u.capacity u.sent (u.received ++ x ∷ [])) h.5.2,
+        subst (λ (e : Design). IsExactIn e x) (ap (λ (u : End). u.design) h.5.2) (first_exact d m h.2 h.3 items x h.4),
+        subst (λ (u : End). length u.received < length u.sent) h.5.2 (omega (arith, length-append h.3 (x ∷ items))),
+      ),
+    )
 
-pub learns_left : (port : ℕ) (v : End) → v ≡ taking v.design v.pieces → Learns IsLinked port v (λ held. GoesOn v.design v.pieces held)
-learns_left port v role items views kept at =
-    let h = opened_to_take items views port v kept at role in
-    let here = take_end h.0 h.1 h.2 port v (ap (λ l. get_elem? l port) (sym h.3.both) ∙ at) role in
-    (h.1, h.3.order ∙ ap (λ (u : End). u.pieces ++ items) (sym here.1), subst (λ (d : Design). All (IsExactIn d) h.1) (sym (ap (λ (u : End). u.design) here.1)) h.3.exact)
+-- the end that puts takes in the end that takes
+pub merges : (port : ℕ) (v : End) (two : ℕ) (w : End) → v.role ≡ Puts → w.role ≡ Takes → Merges IsLinked port v two w (closing v.design v.capacity v.sent w.received) spent
+merges port v two w puts_role takes_role items views kept at apart at' =
+    let h = puts items views port v kept at puts_role in
+    let d = h.0 in let m = h.1 in let sent = h.2 in let received = h.3 in
+    let both : End = closing v.design v.capacity v.sent w.received in
+    let there : (two ≡ 1) × (taking d m received ≡ w) = ⊎_elim
+    (λ (e : (two ≡ 0) × (both ≡ w)). absurd (apart (e.0 ∙ sym h.5.1)))
+    (λ (e : (two ≡ 1) × (taking d m received ≡ w)). e)
+    (one_of_two both (taking d m received) w two (ap (λ l. get_elem? l two) (λ i. set (sym h.5.0 i) (sym h.5.1 i) both) ∙ at')) in
+    let is : both ≡ closing d m sent received = λ i. closing (sym h.5.2 i).design (sym h.5.2 i).capacity (sym h.5.2 i).sent (sym there.1 i).received in
+    inr (d, m, sent, received, h.4, inr (λ i. set (set (h.5.0 i) (h.5.1 i) (is i)) (there.0 i) spent))
+
+pub learns_sent : (port : ℕ) (v : End) → v.role ≡ Puts → Learns IsLinked port v (λ held. length held ≤ length v.sent)
+learns_sent port v role items views kept at =
+    let h = puts items views port v kept at role in
+    let order = ap length h.4.order in
+    subst (λ (u : End). length items ≤ length u.sent) h.5.2 (omega (arith, length-append h.3 items))
+
+pub learns_left : (port : ℕ) (v : End) → v.role ≡ Closes → Learns IsLinked port v (Leaves v)
+learns_left port v role items views kept at = let h = closes items views port v kept at role in subst (λ (u : End). Leaves u items) h.5.2 (h.4.order, h.4.room)

@@ -2,7 +2,7 @@
 
 use cmb_design::Design;
 use cmb_wave::Piece;
-use crossbeam_queue::protocol::{Lesson, Outcome, Protocol, Split};
+use crossbeam_queue::protocol::{Join, Lesson, Outcome, Protocol, Split};
 use std::collections::LinkedList;
 use std::marker::{Brand, PhantomData};
 
@@ -10,26 +10,35 @@ pub enum Role {
     Fresh,
     Puts,
     Takes,
+    Closes,
+    Spent,
 }
 
-/// The design of a link, and what was put or taken at this end, in order.
+/// The design of a link, how many pieces it holds at most, and what was put and taken at this end, in order.
 pub struct End {
     pub role: Role,
     pub design: Design,
-    pub pieces: LinkedList<Piece>,
+    pub capacity: usize,
+    pub sent: LinkedList<Piece>,
+    pub received: LinkedList<Piece>,
 }
 
-/// Names a design. `Brand` stands for any one that a call picks.
+/// Names a design and a capacity. `Brand` stands for any that a call picks.
 pub trait Naming {
+    ghost use Rattle.std.specs.Prelude.{ℕ};
     ghost use Rattle.cmb_design.specs.Design.{Design};
 
     ghost design: { Design };
+
+    ghost capacity: { ℕ };
 }
 
 impl Naming for Brand {
     ghost use Rattle.cmb_links.specs.Links.{no_design};
 
     ghost design = { no_design };
+
+    ghost capacity = { 0 };
 }
 
 pub struct InOrder;
@@ -51,9 +60,20 @@ impl<D: Naming> Split<End> for Ends<D> {
     ghost use Rattle.std.specs.Prelude.{[]};
     ghost use Rattle.cmb_links.specs.Links.{putting, taking};
 
-    ghost left = { λ v. putting D.design [] };
+    ghost left = { λ v. putting D.design D.capacity [] };
 
-    ghost right = { λ v. taking D.design [] };
+    ghost right = { λ v. taking D.design D.capacity [] };
+}
+
+// How the two ends of a link become the one that closes it.
+pub struct Closing;
+
+impl Join<End> for Closing {
+    ghost use Rattle.cmb_links.specs.Links.{closing, spent};
+
+    ghost both = { λ v w. closing v.design v.capacity v.sent w.received };
+
+    ghost spent = { spent };
 }
 
 pub struct Sent;
@@ -65,9 +85,9 @@ impl Outcome<Piece, End> for Sent {
 }
 
 impl Lesson<Piece, End> for Sent {
-    ghost use Rattle.cmb_links.specs.Links.{EndsWith};
+    ghost use Rattle.std.specs.Prelude.{◌≤◌, length};
 
-    ghost fact = { λ v held. EndsWith v.pieces held };
+    ghost fact = { λ v held. length held ≤ length v.sent };
 }
 
 pub struct Received;
@@ -79,7 +99,21 @@ impl Outcome<Piece, End> for Received {
 }
 
 impl Lesson<Piece, End> for Received {
-    ghost use Rattle.cmb_links.specs.Links.{GoesOn};
+    ghost use Rattle.std.specs.Prelude.{⊤};
 
-    ghost fact = { λ v held. GoesOn v.design v.pieces held };
+    ghost fact = { λ v held. ⊤ };
+}
+
+pub struct Left;
+
+impl Outcome<Piece, End> for Left {
+    ghost use Rattle.cmb_links.specs.Links.{Empties};
+
+    ghost then = { Empties };
+}
+
+impl Lesson<Piece, End> for Left {
+    ghost use Rattle.cmb_links.specs.Links.{Leaves};
+
+    ghost fact = { Leaves };
 }

@@ -1,6 +1,6 @@
 //! A link hands the pieces of one design from one thread to another, whole and in order.
 
-use crate::end::{End, Ends, InOrder, Naming, Received, Sent};
+use crate::end::{Closing, End, Ends, InOrder, Left, Naming, Received, Sent};
 use crate::fault::LinkFault;
 use cmb_design::Design;
 use cmb_wave::Piece;
@@ -28,11 +28,14 @@ pub struct Link {
 }
 
 impl Model for Link {
+    ghost use Rattle.std.specs.Prelude.{◌≡◌};
     ghost use Rattle.cmb_links.specs.Links.{LinkData};
 
     ghost Value = { LinkData };
 
     ghost view = { λ l. record { link = l.queue.table.shared.table_id; capacity = l.queue.cap } };
+
+    ghost invariant = { λ l. l.queue.table.shared.table_id.slots ≡ l.queue.cap };
 }
 
 impl fmt::Debug for Link {
@@ -48,14 +51,16 @@ pub struct PutPass {
 }
 
 impl Model for PutPass {
-    ghost use Rattle.std.specs.Prelude.{◌≡◌, []};
+    ghost use Rattle.std.specs.Prelude.{◌≡◌, [], All};
+    ghost use Rattle.cmb_design.specs.Exact.{IsExactIn};
     ghost use Rattle.cmb_links.specs.Links.{PutData, putting};
 
     ghost Value = { PutData };
 
-    ghost view = { λ p. record { link = p.pass.table_id; design = p.pass.me.0.client.design; sent = p.pass.me.0.client.pieces } };
+    ghost view = { λ p. record { link = p.pass.table_id; design = p.pass.me.0.client.design; sent = p.pass.me.0.client.sent } };
 
-    ghost invariant = { λ p. (p.pass.me.1 ≡ []) × (p.pass.me.0.client ≡ putting p.pass.me.0.client.design p.pass.me.0.client.pieces) };
+    // All that was put is exact.
+    ghost invariant = { λ p. (p.pass.me.1 ≡ []) × (p.pass.me.0.client ≡ putting p.pass.me.0.client.design p.pass.table_id.slots p.pass.me.0.client.sent) × All (IsExactIn p.pass.me.0.client.design) p.pass.me.0.client.sent };
 }
 
 impl fmt::Debug for PutPass {
@@ -71,14 +76,16 @@ pub struct TakePass {
 }
 
 impl Model for TakePass {
-    ghost use Rattle.std.specs.Prelude.{◌≡◌, []};
+    ghost use Rattle.std.specs.Prelude.{◌≡◌, [], All};
+    ghost use Rattle.cmb_design.specs.Exact.{IsExactIn};
     ghost use Rattle.cmb_links.specs.Links.{TakeData, taking};
 
     ghost Value = { TakeData };
 
-    ghost view = { λ p. record { link = p.pass.table_id; design = p.pass.me.0.client.design; received = p.pass.me.0.client.pieces } };
+    ghost view = { λ p. record { link = p.pass.table_id; design = p.pass.me.0.client.design; received = p.pass.me.0.client.received } };
 
-    ghost invariant = { λ p. (p.pass.me.1 ≡ []) × (p.pass.me.0.client ≡ taking p.pass.me.0.client.design p.pass.me.0.client.pieces) };
+    // All that was taken is exact.
+    ghost invariant = { λ p. (p.pass.me.1 ≡ []) × (p.pass.me.0.client ≡ taking p.pass.me.0.client.design p.pass.table_id.slots p.pass.me.0.client.received) × All (IsExactIn p.pass.me.0.client.design) p.pass.me.0.client.received };
 }
 
 impl fmt::Debug for TakePass {
@@ -88,9 +95,9 @@ impl fmt::Debug for TakePass {
 }
 
 impl Link {
-    ghost use Rattle.std.specs.Prelude.{◌≡◌, ◌<◌, ◌↔◌, ◌⊎◌, IfOk, OnOk, IfErr, IfSome, IfNone, Err};
+    ghost use Rattle.std.specs.Prelude.{◌≡◌, ◌<◌, ◌≤◌, ◌↔◌, ◌⊎◌, ◌++◌, All, length, vec_len, IfOk, OnOk, IfErr, OnErr, IfSome, IfNone, Err};
     ghost use Rattle.cmb_design.specs.Exact.{IsExactIn};
-    ghost use Rattle.cmb_links.specs.Links.{IsNewLink, MayBeEmpty, MayBeFull, after_put, after_take};
+    ghost use Rattle.cmb_links.specs.Links.{IsNewLink, after_put, after_take};
 
     /// A link with nothing in it, the end that puts and the end that takes. Fault 48 where the capacity isn't 1 to 65,536 pieces, 70
     /// where memory was refused.
@@ -108,13 +115,14 @@ impl Link {
         Ok(Link::named::<Brand>(alloc, design, capacity)?)
     }
 
-    // The same, for the design that D names.
+    // The same, for the design and the capacity that D names.
     fn named<D: Naming>(
         alloc: Global,
         design: &Design,
         capacity: usize,
     ) -> Result<(Link, PutPass, TakePass), AllocError>
-        requires capacity { 0 < capacity }
+        requires some { 0 < capacity }
+        requires capacity { capacity ≡ D.capacity }
         requires design { design.now ≡ D.design }
         ensures { IfOk result (λ opened. IsNewLink design.now capacity opened.0 opened.1 opened.2) }
     {
@@ -129,14 +137,15 @@ impl Link {
     }
 
     /// Puts a piece, exact in the pass's design, behind the others. Gives it back where the queue was full. The contract says that
-    /// the piece comes back unchanged and that at least as many were put before as the link holds; that it comes back only from a
-    /// full queue is tested, not proved.
+    /// it comes back unchanged, and that at least as many were put before as the link holds; that it comes back only from a full
+    /// queue is tested, not proved.
     pub fn put<R: Wait>(&self, rt: &R, pass: &mut PutPass, piece: Piece) -> Result<(), Full>
         requires link { pass.old.link ≡ self.now.link }
         requires exact { IsExactIn pass.old.design piece }
         ensures ok { OnOk result (pass.new ≡ after_put pass.old piece) }
         ensures back { IfErr result (λ full. full.0 ≡ piece) }
-        ensures full { IfErr result (λ full. (pass.new ≡ pass.old) × MayBeFull self.now.capacity pass.old.sent) }
+        ensures same { OnErr result (pass.new ≡ pass.old) }
+        ensures full { OnErr result (self.now.capacity ≤ length pass.old.sent) }
     {
         match self.queue.push_as::<Sent, R>(rt, &mut pass.pass, piece) {
             Ok(()) => Ok(()),
@@ -150,8 +159,35 @@ impl Link {
         requires link { pass.old.link ≡ self.now.link }
         ensures some { IfSome result (λ piece. pass.new ≡ after_take pass.old piece) }
         ensures exact { IfSome result (λ piece. IsExactIn pass.old.design piece) }
-        ensures none { IfNone result ((pass.new ≡ pass.old) × MayBeEmpty pass.old.design pass.old.received) }
+        ensures none { IfNone result (pass.new ≡ pass.old) }
     {
         self.queue.pop_as::<Received, R>(rt, &mut pass.pass)
+    }
+
+    /// Ends the link, and answers what was put and not taken, in order: with what was taken it is all that was put. There are no more
+    /// pieces than the link holds. Where memory is refused they are given up with the link.
+    pub fn close<R: Wait>(
+        self,
+        rt: &R,
+        alloc: Global,
+        put: PutPass,
+        take: TakePass,
+    ) -> Result<Vec<Piece>, AllocError>
+        requires put { put.link ≡ self.link }
+        requires take { take.link ≡ self.link }
+        ensures order { IfOk result (λ left. put.sent ≡ take.received ++ left.items) }
+        ensures room { IfOk result (λ left. vec_len left ≤ self.capacity) }
+        ensures exact { IfOk result (λ left. All (IsExactIn put.design) left.items) }
+    {
+        let Link { queue } = self;
+        let PutPass { pass: mut both } = put;
+        let TakePass { pass: other } = take;
+        queue.absorb::<Closing>(&mut both, other);
+        queue.learn_as::<Left>(&mut both);
+        let mut left = Vec::with_capacity(alloc, queue.capacity())?;
+        while let Some(piece) = queue.pop_as::<Left, R>(rt, &mut both) {
+            left.push_reserved(piece);
+        }
+        Ok(left)
     }
 }

@@ -3,3 +3,4 @@ pub mod Outcomes
 pub mod PlainRuns
 pub mod RoundRuns
 pub mod FreeTexts
+pub mod Explained

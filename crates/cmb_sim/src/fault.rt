@@ -23,19 +23,19 @@ pub enum Fault {
     #[error("the number of clusters isn't from 1 to 64")]
     Clusters,
     /// 53: the run was stopped, and this net is known only below a tick.
-    #[error("net {net} is known only below {upto}")]
+    #[error("net {net} is known only below {upto}: the run was stopped")]
     Incomplete { net: u32, upto: u32 },
     /// 54: the number of workers isn't from 1 to 64.
     #[error("the number of workers isn't from 1 to 64")]
     Workers,
     /// 60: an input has more than 16,777,216 bytes.
-    #[error("input {input} has more than 16,777,216 bytes")]
+    #[error("input {input}: more than 16,777,216 bytes")]
     TooLong { input: u32 },
     /// 61: an input couldn't be read.
-    #[error("input {input} couldn't be read")]
+    #[error("input {input}: couldn't be read")]
     Read { input: u32 },
     /// 62: the output failed after it took so many bytes.
-    #[error("the output failed after {written} bytes")]
+    #[error("after {written} bytes: the output failed")]
     Write { written: u64 },
     /// 70: memory or a worker's thread was refused.
     #[error("out of memory")]

@@ -1,9 +1,42 @@
 //! The texts of help.
 
+/// The program's version.
+pub const VERSION: &str = "0.9";
+
+/// The usual case, above all else that help says.
+pub const USUAL: &str = "\
+The usual case, where flip-flops sample at the ticks 9, 19, 29 and so on:
+    cmbsim run --horizon 1000 --clock 9:10 --stimuli stimuli.csv < netlist.bench > waves.vcd";
+
+/// What is said to a line without a command.
+pub const BEGIN: &str = "\
+error: no command was given
+
+To simulate a netlist for 1,000 ticks, with what drives its inputs in a table:
+    cmbsim run --horizon 1000 --stimuli stimuli.csv < netlist.bench > waves.vcd
+Where it has flip-flops, --clock 9:10 makes them sample at the ticks 9, 19, 29 and so on.
+
+To read what a fault means:
+    cmbsim explain
+
+For more information, try 'cmbsim --help'.
+";
+
+/// What is said further where a word stands in the line that belongs to no option.
+pub const NETLIST_HINT: &str = "
+The netlist is read from standard input, and the waveforms go to standard output:
+    cmbsim run --horizon 1000 < netlist.bench > waves.vcd
+";
+
 pub const ABOUT: &str = "Simulates a gate-level netlist and writes the waveforms of its nets";
 
 pub const RUN: &str =
     "Reads a netlist from standard input and writes a value change dump (VCD) to standard output";
+
+pub const EXPLAIN: &str =
+    "Says what a fault means and what to do about it; without N it lists all faults";
+
+pub const EXPLAIN_NUMBER: &str = "The fault's number, as in `cmbsim: fault N at P`";
 
 pub const HORIZON: &str = "Simulates the ticks 0 to N-1, N from 1 to 1,000,000";
 
@@ -63,7 +96,7 @@ Status 1: a fault, told by one line on standard error, `cmbsim: fault N at P`. B
     60, 61              1 the netlist, 2 delays, 3 stimuli, 4 clocks: too long, or not readable
     62                  the number of bytes after which the output failed
     70                  0: memory was wanting
-README.md and docs/GUIDE.md of the repository have each number.
+`cmbsim explain N` says what fault N means and what to do, and `cmbsim explain` lists all.
 
 Example, in the repository's folder examples/inverter:
     cmbsim run --horizon 10 --stimuli stimuli.csv < netlist.bench > inverter.vcd";

@@ -2,8 +2,10 @@
 #![tactic(auto)]
 
 mod clock;
+mod explaining;
 pub mod fault;
 mod help;
+pub mod laws;
 pub mod line;
 pub mod mode;
 pub mod reading;
@@ -13,7 +15,7 @@ pub mod source;
 
 pub use cmb_bench::{BenchFault, FaultKind};
 pub use cmb_design::{DesignFault, Settings};
-pub use cmb_run::{Failed, Limited, Room, Sink, ToWriter};
+pub use cmb_run::{Failed, Limited, Room, Sink, ToWriter, write_whole};
 pub use cmb_wave::Level;
 pub use fault::{Fault, fault_line};
 pub use line::{Line, LineFault, line_message, read_line};

@@ -4,8 +4,10 @@ ghost use Rattle.std.specs.Prelude.{◌≡◌, ◌≤◌, IfOk};
 ghost use Rattle.cmb_sim.specs.Simulation.{IsLawful};
 
 use crate::clock::clock_of;
+use crate::explaining::{explain_command, explain_fault, explain_message};
 use crate::help::{
-    ABOUT, CLOCK, CLOCKS, DELAYS, FILES, HORIZON, INIT, MODE, PARTS, RUN, STIMULI, WORKERS,
+    ABOUT, BEGIN, CLOCK, CLOCKS, DELAYS, FILES, HORIZON, INIT, MODE, NETLIST_HINT, PARTS, RUN,
+    STIMULI, USUAL, VERSION, WORKERS,
 };
 use crate::mode::Mode;
 use clap::builder::ValueParser;
@@ -31,9 +33,9 @@ pub struct Line {
 /// Why the words ask for no run.
 #[derive(Clone, Copy, Debug, PartialEq, Eq)]
 pub enum LineFault {
-    /// They ask for help.
+    /// They ask for help, for the version, or for the explanation of a fault.
     Help,
-    /// They aren't a line of the program.
+    /// They aren't a line of the program. To ask for a fault that there isn't is none.
     Wrong,
     /// The value of `--clock` isn't `F:P`, in a line that isn't otherwise wrong.
     Clock,
@@ -104,20 +106,27 @@ fn with_mode<'a>(alloc: Global, command: Command<'a>) -> Result<Command<'a>, All
 
 // The command line of `run`.
 fn run_command<'a>(alloc: Global) -> Result<Command<'a>, AllocError> {
-    let command = Command::new(alloc, "run").about(RUN).after_help(FILES);
+    let command = Command::new(alloc, "run")
+        .about(RUN)
+        .before_help(USUAL)
+        .after_help(FILES);
     with_mode(alloc, with_settings(alloc, command)?)
 }
 
 // The whole command line.
 fn whole_command<'a>(alloc: Global) -> Result<Command<'a>, AllocError> {
     let run = run_command(alloc)?;
+    let explain = explain_command(alloc)?;
     Command::new(alloc, "cmbsim")
+        .version(VERSION)
         .about(ABOUT)
+        .before_help(USUAL)
         .after_help(FILES)
         .bin_name("cmbsim")?
         .no_binary_name(true)
         .subcommand_required(true)
-        .subcommand(run)
+        .subcommand(run)?
+        .subcommand(explain)
 }
 
 fn parse<'a>(alloc: Global, words: &'a [String]) -> Result<ArgMatches<'a>, Error> {
@@ -126,7 +135,7 @@ fn parse<'a>(alloc: Global, words: &'a [String]) -> Result<ArgMatches<'a>, Error
 
 fn fault_of(kind: ErrorKind) -> LineFault {
     match kind {
-        ErrorKind::DisplayHelp => LineFault::Help,
+        ErrorKind::DisplayHelp | ErrorKind::DisplayVersion => LineFault::Help,
         ErrorKind::OutOfMemory => LineFault::Memory,
         _ => LineFault::Wrong,
     }
@@ -224,9 +233,17 @@ fn line_of(alloc: Global, matches: &ArgMatches<'_>) -> Result<Line, LineFault>
     })
 }
 
+// What a line without `run` asks for.
+fn asked(matches: &ArgMatches<'_>) -> LineFault {
+    match matches.subcommand_matches("explain") {
+        Some(explain) => explain_fault(explain),
+        None => LineFault::Wrong,
+    }
+}
+
 /// Reads the words after the program's name: `run` and its options. The horizon of a line is 1 to 1,000,000 ticks,
-/// and it has 1 to 64 workers and clusters. Errors: `Help` where the words ask for help, `Wrong` where they
-/// aren't a line of the program, `Clock` where only the value of `--clock` has another form, and `Memory`.
+/// and it has 1 to 64 workers and clusters. Errors: `Help` where the words ask for help, the version or the explanation of a
+/// fault, `Wrong` where they aren't a line of the program, `Clock` where only the value of `--clock` has another form, and `Memory`.
 pub fn read_line(alloc: Global, words: &[String]) -> Result<Line, LineFault>
     ensures horizon { IfOk result (λ line. (1 ≤ line.settings.horizon) × (line.settings.horizon ≤ 1000000)) }
     ensures mode { IfOk result (λ line. IsLawful line.mode) }
@@ -234,20 +251,42 @@ pub fn read_line(alloc: Global, words: &[String]) -> Result<Line, LineFault>
     match parse(alloc, words) {
         Ok(matches) => match matches.subcommand_matches("run") {
             Some(run) => line_of(alloc, run),
-            None => Err(LineFault::Wrong),
+            None => Err(asked(&matches)),
         },
         Err(error) => Err(fault_of(error.kind())),
     }
 }
 
-/// What the program says of words that ask for no run: the text of help where they ask for that,
+// What is said further of a wrong line, by what clap says of it.
+fn hint(kind: ErrorKind, text: &str) -> &'static str {
+    match kind {
+        ErrorKind::InvalidSubcommand => NETLIST_HINT,
+        ErrorKind::UnknownArgument if !text.starts_with("error: unexpected argument '-") => {
+            NETLIST_HINT
+        }
+        _ => "",
+    }
+}
+
+fn error_message(alloc: Global, error: &Error) -> Result<String, AllocError> {
+    let mut text = format!(in alloc; "{error}")?;
+    let more = hint(error.kind(), text.as_str());
+    text.push_str(more)?;
+    Ok(text)
+}
+
+/// What the program says of words that ask for no run: the text of help, the version or the explanation where they ask for that,
 /// else what is wrong with them and how they are written. Of other words it is empty.
 pub fn line_message(alloc: Global, words: &[String]) -> Result<String, AllocError> {
     match parse(alloc, words) {
-        Ok(_) => Ok(String::new(alloc)),
+        Ok(matches) => match matches.subcommand_matches("explain") {
+            Some(explain) => explain_message(alloc, explain),
+            None => Ok(String::new(alloc)),
+        },
         Err(error) => match error.kind() {
             ErrorKind::OutOfMemory => Err(AllocError),
-            _ => format!(in alloc; "{error}"),
+            ErrorKind::MissingSubcommand => String::from_str(alloc, BEGIN),
+            _ => error_message(alloc, &error),
         },
     }
 }

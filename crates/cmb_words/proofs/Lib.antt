@@ -1,6 +1,5 @@
 pub mod BitFacts
 pub mod GateFacts
-pub mod HoldFacts
 pub mod LevelFacts
 pub mod MaskFacts
 pub mod PeriodFacts

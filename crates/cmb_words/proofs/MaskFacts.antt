@@ -8,18 +8,9 @@ use Rattle.std.proofs.lemmas.Nat.Bits.{bit_at_and, bit_at_cat_low, bit_at_cat_hi
 use Rattle.std.proofs.Math.Nat.{two-pow-succ}
 use Rattle.cmb_words.specs.Bits.{is_set_at, places_in, places_set, IsLowestSet}
 use Rattle.cmb_words.proofs.LevelFacts.{none_set}
-use Rattle.cmb_words.proofs.BitFacts.{mod_bit, masked_below, masked_from}
+use Rattle.cmb_words.proofs.BitFacts.{mod_bit}
 use Rattle.std.specs.List.{AllByRecursion}
 use Rattle.std.proofs.lemmas.List.Elements.{All-from_recursion, Contains-append_left, Contains-append_right, Contains-push}
-
--- a mask cut at a place
-pub cut_none : (n place i : ℕ) → place < 64 → i < place → is_set_at (bit_and n ((2 ^ 64 - 1) * 2 ^ place % 2 ^ 64)) i ≡ false
-unfolding is_set_at
-cut_none n place i fits below = ap (λ b. b == 1) (masked_below n place i fits below)
-
-pub cut_same : (n place i : ℕ) → place ≤ i → i < 64 → is_set_at (bit_and n ((2 ^ 64 - 1) * 2 ^ place % 2 ^ 64)) i ≡ is_set_at n i
-unfolding is_set_at
-cut_same n place i from small = ap (λ b. b == 1) (masked_from n place i from small)
 
 places_in-none : (from count : ℕ) → places_in 0 from count ≡ []
 unfolding places_in

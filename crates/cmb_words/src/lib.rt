@@ -20,7 +20,7 @@ pub mod word;
 
 pub use changed::Changed;
 pub use gates::{completed, gate1, gate2, gate2_known, join};
-pub use hold::{held, held_every};
+pub use hold::held;
 pub use masks::{every, lowest, without_lowest};
 pub use places::Places;
 pub use splice::spliced;

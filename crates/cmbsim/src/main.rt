@@ -5,7 +5,7 @@ ghost use Rattle.std.specs.Prelude.{◌≡◌, IfOk};
 
 use cmb_sim::{
     DesignFault, Fault, FromReader, Line, LineFault, Report, Sink, Source, ToWriter, fault_line,
-    line_message, read_line, simulate,
+    line_message, read_line, simulate, write_whole,
 };
 use std::fs::File;
 use std::io::{Read, Write};
@@ -71,12 +71,20 @@ fn tell(rt: &HostRuntime, fault: &Fault) -> ExitCode {
     ExitCode::from(1)
 }
 
-// The text of help goes to standard output.
+// The text of help goes to standard output. Where that doesn't take it, this is a fault, as of any text.
 fn help(rt: &HostRuntime, words: &[String]) -> ExitCode {
-    if let Ok(text) = line_message(rt.alloc(), words) {
-        let _ = rt.stdout().write_all(text.as_bytes());
+    let Ok(text) = line_message(rt.alloc(), words) else {
+        return tell(rt, &Fault::Memory);
+    };
+    match write_whole(&mut ToWriter::new(rt.stdout()), text.as_bytes()) {
+        Ok(()) => ExitCode::SUCCESS,
+        Err(written) => tell(
+            rt,
+            &Fault::Write {
+                written: written as u64,
+            },
+        ),
     }
-    ExitCode::SUCCESS
 }
 
 // What is wrong with a line goes to standard error.

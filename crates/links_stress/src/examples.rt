@@ -11,7 +11,7 @@ use crate::exact::ExactCluster;
 use crate::trouble::Trouble;
 use boards::{board_threads, board_words};
 use cmb_core::Clustering;
-use links::{capacities, full_link, link_threads};
+use links::{capacities, closed_link, full_link, link_threads};
 use std::alloc::Global;
 use std::sync::Wait;
 use std::thread::Threads;
@@ -55,6 +55,7 @@ fn run_over<R: Print + Threads + Wait + Sync>(rt: &R, alloc: Global, circuit: &C
     tell(rt, "board_words", board_words(alloc, circuit))
         && tell(rt, "board_threads", board_threads(rt, alloc, circuit))
         && tell(rt, "full_link", full_link(rt, alloc, circuit))
+        && tell(rt, "closed_link", closed_link(rt, alloc, circuit))
         && tell(rt, "capacities", capacities(alloc, circuit))
         && tell(rt, "link_threads", link_threads(rt, alloc, circuit))
 }

@@ -50,6 +50,8 @@ pub enum Trouble {
     Empty,
     #[error("a link gives a piece though it is empty")]
     NotEmpty,
+    #[error("a closed link doesn't give what was put and not taken")]
+    Left,
     #[error("a link's capacity isn't judged as worked out")]
     Capacity,
     #[error("a number of workers isn't judged as worked out")]

@@ -129,11 +129,22 @@ fn words_put_together(rt: HostRuntime) {
     begins_with(&rt, word.repeated_from(2), &[One, One, One, One]);
 }
 
-// The flip-flop samples, with a delay of 2, at the places 3, 5 and 6.
+// The flip-flop gets samples, with a delay of 2, at place 3 and every third place after it: 1 at place 3, x at place 6, and
+// 0 at place 9 and from there on.
 #[test]
 fn a_flip_flop(rt: HostRuntime) {
     let own = word_of(&rt, &[Zero, Zero]);
-    let data = word_of(&rt, &[X, One, Zero, Zero, X, One]);
-    let word = held(own, data, 2, 0b0110_1001, 2);
-    begins_with(&rt, word, &[Zero, Zero, Zero, One, One, Zero, X, X]);
+    let data = word_of(&rt, &[X, One, Zero, Zero, X, One, One, Zero]);
+    let word = held(own, data, 2, 3, 3, 2);
+    let levels = [Zero, Zero, Zero, One, One, One, X, X, X, Zero];
+    begins_with(&rt, word, &levels);
+    is_at(&rt, word, 63, Zero);
+}
+
+// Where no sample arrives before the last place, the flip-flop keeps its level.
+#[test]
+fn a_flip_flop_without_a_sample(rt: HostRuntime) {
+    let own = word_of(&rt, &[Zero, Zero]);
+    let data = word_of(&rt, &[X, One, Zero, Zero, X, One, One, Zero]);
+    is_at(&rt, held(own, data, 2, 64, 3, 2), 63, Zero);
 }

@@ -1,7 +1,7 @@
 //! Links that hold one piece: what they do when they are full or empty, and what they hand from one thread to another. And which
 //! capacities of links and numbers of workers are refused.
 
-ghost use Rattle.std.specs.Prelude.{◌≡◌, IfOk};
+ghost use Rattle.std.specs.Prelude.{◌≡◌, [], ◌∷◌, IfOk};
 ghost use Rattle.cmb_design.specs.Exact.{IsExactIn};
 
 use super::{expect, source};
@@ -11,7 +11,7 @@ use crate::exact::ExactCluster;
 use crate::trouble::Trouble;
 use crate::worker::TURNS;
 use cmb_design::Design;
-use cmb_links::{Full, Link, LinkFault, Workers, WorkersFault};
+use cmb_links::{Full, Link, LinkFault, PutPass, TakePass, Workers, WorkersFault};
 use cmb_wave::{Piece, Wave};
 use std::alloc::Global;
 use std::sync::Wait;
@@ -128,6 +128,54 @@ fn full_link_by<R: Wait>(
 pub fn full_link<R: Wait>(rt: &R, alloc: Global, circuit: &Circuit) -> Result<(), Trouble> {
     full_link_by(rt, alloc, circuit, false)?;
     full_link_by(rt, alloc, circuit, true)
+}
+
+// Over a link that holds two: puts two pieces and takes one, and closes it. What was taken and what is left is what was put.
+fn close_over<R: Wait>(
+    rt: &R,
+    alloc: Global,
+    link: Link,
+    put: PutPass,
+    take: TakePass,
+    pieces: Pieces,
+) -> Result<(Piece, Vec<Piece>), Trouble>
+    requires put { (put.link ≡ link.link) × (put.sent ≡ []) }
+    requires take { (take.link ≡ link.link) × (take.received ≡ []) }
+    requires first { IsExactIn put.design pieces.first }
+    requires second { IsExactIn put.design pieces.second }
+    ensures { IfOk result (λ taken. pieces.first ∷ pieces.second ∷ [] ≡ taken.0 ∷ taken.1.items) }
+{
+    let Pieces {
+        first,
+        second,
+        longer: _,
+    } = pieces;
+    let (mut put, mut take) = (put, take);
+    if link.put(rt, &mut put, first).is_err() || link.put(rt, &mut put, second).is_err() {
+        return Err(Trouble::NoRoom);
+    }
+    let Some(taken) = link.take(rt, &mut take) else {
+        return Err(Trouble::Empty);
+    };
+    let left = link.close(rt, alloc, put, take)?;
+    Ok((taken, left))
+}
+
+/// A link that is closed gives what was put and not taken.
+pub fn closed_link<R: Wait>(rt: &R, alloc: Global, circuit: &Circuit) -> Result<(), Trouble> {
+    let pieces = pieces_of_q(alloc, circuit)?;
+    let Ok((link, put, take)) = Link::open(alloc, &circuit.design, 2) else {
+        return Err(Trouble::Memory);
+    };
+    let (taken, left) = close_over(rt, alloc, link, put, take, pieces)?;
+    let is_left = match left.first() {
+        Some(piece) => is_span(piece, 3, 7, 1),
+        None => false,
+    };
+    expect(
+        is_span(&taken, 0, 3, 1) && left.len() == 1 && is_left,
+        Trouble::Left,
+    )
 }
 
 fn are_capacities_right(alloc: Global, design: &Design) -> bool {

@@ -47,6 +47,17 @@ fn command_line(rt: HostRuntime) -> Result<(), Fail> {
         ("help", LineFault::Help),
         ("help run", LineFault::Help),
         ("run --help", LineFault::Help),
+        ("--version", LineFault::Help),
+        ("-V", LineFault::Help),
+        ("run --version", LineFault::Wrong),
+        ("run --horizon 10 netlist.bench", LineFault::Wrong),
+        ("netlist.bench", LineFault::Wrong),
+        ("explain", LineFault::Help),
+        ("explain 23", LineFault::Help),
+        ("explain --help", LineFault::Help),
+        ("explain 9", LineFault::Wrong),
+        ("explain all", LineFault::Wrong),
+        ("explain 1 2", LineFault::Wrong),
     ] {
         let words = words(alloc, line)?;
         match read_line(alloc, words.as_slice()) {
@@ -135,10 +146,28 @@ fn messages(rt: HostRuntime) -> Result<(), Fail> {
             "error: invalid value 'slow'",
         ),
         ("run --mode plain", "--horizon <N>"),
+        ("", "cmbsim run --horizon 1000 --stimuli stimuli.csv <"),
+        ("--help", "The usual case"),
+        ("run --help", "The usual case"),
+        ("run --horizon 10 n.bench", "< netlist.bench"),
+        ("netlist.bench", "< netlist.bench"),
+        ("explain", "\n70  0       out of memory\n"),
+        ("explain 70", "Fault 70 at P: out of memory\n"),
+        ("explain 9", "error: no fault has the number '9'\n"),
     ] {
         let message = message_of(alloc, line)?;
         assert!(rt; message.as_str().contains(part), "{message}");
     }
+    Ok(())
+}
+
+#[test]
+fn version(rt: HostRuntime) -> Result<(), Fail> {
+    let alloc = rt.alloc();
+    let message = message_of(alloc, "--version")?;
+    assert_eq!(rt; message.as_str(), "cmbsim 0.9\n");
+    let message = message_of(alloc, "run --horizon 10 --slow")?;
+    assert!(rt; !message.as_str().contains("< netlist.bench"), "{message}");
     Ok(())
 }
 

@@ -4,4 +4,4 @@ use Rattle.cmb_bench.specs.Inner.Building.{built, with_drivers}
 use Rattle.cmb_bench.proofs.build.build.Given as goal
 
 abbrev pub invariant-loop-item : goal.invariant-loop-item
-invariant-loop-item l = with_drivers l.drivers.items (built (map (λ k. k.items) l.fn.names.keys) l.outputs.keys (map statement (drop l.item-index l.items))) ≡ built (map (λ k. k.items) l.fn.names.keys) [] (map statement l.items)
+invariant-loop-item l = with_drivers l.drivers.items (built l.fn.names.keys l.outputs.keys (map statement (drop l.item-index l.items))) ≡ built l.fn.names.keys [] (map statement l.items)

@@ -8,7 +8,7 @@ use Rattle.cmb_bench.proofs.parser.parse.Given as goal
 abbrev pub invariant-loop-cursor : goal.invariant-loop-cursor
 invariant-loop-cursor l = record {
   parsed : Parses [] (scan l.initial.cursor) (map statement l.items.items) (scan l.cursor);
-  named : map (λ k. k.now) l.names.keys ≡ driven (map statement l.items.items);
+  named : l.names.keys ≡ driven (map statement l.items.items);
   fits : l.cursor.line + length l.cursor.rest.now ≤ l.initial.cursor.line + length l.initial.cursor.rest.now;
 }
 

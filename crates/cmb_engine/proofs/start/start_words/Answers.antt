@@ -8,7 +8,8 @@ use Rattle.cmb_engine.specs.Circuits.{Shows}
 use Rattle.cmb_engine.specs.Traces.{trace_of}
 use Rattle.cmb_engine.specs.Windows.{in_place}
 use Rattle.cmb_engine.specs.Words.{levels_of}
-use Rattle.cmb_engine.proofs.ZeroFacts.{lines-start, shows-push, trace-net}
+use Rattle.cmb_engine.proofs.SlotFacts.{trace-net}
+use Rattle.cmb_engine.proofs.ZeroFacts.{lines-start, shows-push}
 use Rattle.cmb_engine.proofs.start.start_words.Goals as goal
 
 pub loop-init : goal.loop-init

@@ -11,5 +11,5 @@ returns-clause-from c = λ place from small.
     let sees : level_at_place c.index-words-pin.result (place - c.args.pin.delay) ≡ seen (levels_of c.args.words.now) place c.args.pin =
     ap (λ word. level_at_place word (place - c.args.pin.delay)) c.index-words-pin.is
     ∙ sym (levels_of-get_or c.args.words.now c.args.pin.net c.index-words-pin.result (place - c.args.pin.delay) c.requires.net) in
-    c.held_every.ensures.from place from small
-    ∙ ap₂ (λ b level. if b then level else level_at_place c.held_every.result (place - 1)) arrives sees
+    c.held.ensures.from place from small
+    ∙ ap₂ (λ b level. if b then level else level_at_place c.held.result (place - 1)) arrives sees

@@ -5,8 +5,8 @@ use Rattle.cmb_words.proofs.gates.gate2_known.Goals as goal
 
 pub returns : goal.returns
 returns c i small =
-    let word = c.gate2.result in
-    let made = c.gate2.ensures i small in
+    let word = c.gate2_any.result in
+    let made = c.gate2_any.ensures i small in
     let known : is_known (level_in word.ones word.unknown i) ≡ true =
     ap is_known made
     ∙ gate-known c.args.kind (level_in c.args.a 0 i) (level_in c.args.b 0 i) (known-level c.args.a i) (known-level c.args.b i) in

@@ -1,39 +1,26 @@
-use Rattle.std.proofs.Common.{◌≡◌, ◌<◌, ◌-◌, ◌∙◌, ℕ, false, ap, arith, rules, w64}
-use Rattle.std.specs.Prelude.{bit_and}
-use Rattle.std.specs.Int.{trailing_zeros}
-use Rattle.cmb_words.specs.Bits.{is_set_at}
+use Rattle.std.proofs.Common.{◌≤◌, ◌∙◌, ⊎_elim, arith}
+use Rattle.std.proofs.lemmas.Bool.{cases_lt}
 use Rattle.cmb_words.specs.Word.{level_at_place}
-use Rattle.cmb_words.proofs.HoldFacts.{held-init, held-more, held-all, held-delayed}
-use Rattle.cmb_words.proofs.LevelFacts.{none_set}
-use Rattle.cmb_words.proofs.MaskFacts.{is_lowest, cut_none, cut_same}
+use Rattle.cmb_words.proofs.SpanFacts.{every-none, every-some}
 use Rattle.cmb_words.proofs.hold.held.Goals as goal
 
-pub samples-init : goal.samples-init
-samples-init c =
-    held-init (level_at_place c.args.own) (level_at_place c.delayed-seen.result) (level_at_place c.repeated_from-word.result)
-    (is_set_at c.args.samples) (is_set_at _) c.args.from c.requires.least
-    c.repeated_from-word.ensures.below c.repeated_from-word.ensures.from
-    (λ i below. cut_none c.args.samples c.args.from i c.requires.most below)
-    (λ i from small. cut_same c.args.samples c.args.from i from small)
+pub returns-then-arrival-lt64-clause-from : goal.returns-then-arrival-lt64-clause-from
+returns-then-arrival-lt64-clause-from c i from small =
+    ⊎_elim
+    (λ below.
+    every-none (level_at_place c.args.own) (level_at_place c.spliced.result) (level_at_place c.args.input) c.args.delay c.args.arrival c.args.period
+    c.args.from i c.requires.least
+    (λ j low. c.spliced.ensures.below j (omega (arith, c.requires.arrival, low)) ∙ c.repeated_from-before.ensures.below j low)
+    (λ j above under fits. c.spliced.ensures.below j under ∙ c.repeated_from-before.ensures.from j above fits)
+    from below small)
+    (λ above.
+    every-some (level_at_place c.carried.result) (level_at_place c.delayed.result) (level_at_place c.spliced.result) (level_at_place c.args.input)
+    c.args.delay c.args.arrival c.args.period i c.requires.period c.carried.ensures c.spliced.ensures.from
+    (c.delayed.ensures i (let h : c.args.delay ≤ i = omega (arith, c.requires.delay, from) in h) small) above small)
+    (cases_lt i c.args.arrival)
 
-pub samples-preserved : goal.samples-preserved
-samples-preserved c =
-    let left : ℕ = c.samples.left in
-    let some : 0 < left = omega arith in
-    let place : ℕ = trailing_zeros w64 left in
-    let h = is_lowest left some (search rules) in
-    held-more (level_at_place c.args.own) (level_at_place c.delayed-seen.result) (level_at_place c.samples.word) (level_at_place c.spliced-word.result)
-    (is_set_at c.args.samples) (is_set_at left) (is_set_at (bit_and left (left - 1))) c.args.from place
-    c.samples.invariant h.inside h.one h.low
-    c.spliced-word.ensures.below
-    (λ i from small. c.spliced-word.ensures.from i from small ∙ c.everywhere.ensures i small)
-    h.gone h.other
-
-pub returns-clause-from : goal.returns-clause-from
-returns-clause-from c i from small =
-    let none : is_set_at c.samples.left i ≡ false = ap (λ n. is_set_at n i) c.samples-test.false ∙ none_set i in
-    held-all (level_at_place c.args.own) (level_at_place c.delayed-seen.result) (level_at_place c.samples.word)
-    (is_set_at c.args.samples) (is_set_at c.samples.left) c.args.from i c.samples.invariant none from small
-    ∙ held-delayed (is_set_at c.args.samples i) (level_at_place c.delayed-seen.result i) (level_at_place c.args.input (i - c.args.delay))
-    (level_at_place c.samples.word (i - 1))
-    (λ yes. c.delayed-seen.ensures i (c.requires.reach i from small yes) small)
+pub returns-else-arrival-lt64-clause-from : goal.returns-else-arrival-lt64-clause-from
+returns-else-arrival-lt64-clause-from c i from small =
+    every-none (level_at_place c.args.own) (level_at_place c.repeated_from-before.result) (level_at_place c.args.input) c.args.delay c.args.arrival
+    c.args.period c.args.from i c.requires.least c.repeated_from-before.ensures.below (λ j above under fits. c.repeated_from-before.ensures.from j above fits)
+    from (omega (arith, c.if-arrival-lt64.false, small)) small

@@ -1,7 +1,7 @@
 use Rattle.std.proofs.Common.{◌≡◌, ◌<◌, ◌≤◌, ℕ, List, ◌∙◌, ap, sym, subst, arith, length}
 use Rattle.std.specs.Prelude.{Option, Some, None, MatchOption}
 use Rattle.cmb_bench.specs.Netlist.{Netlist, number_of}
-use Rattle.cmb_bench.proofs.Names.{number_name, position_names}
+use Rattle.cmb_bench.proofs.Names.{number_name}
 use Rattle.cmb_bench.proofs.netlist.Netlist.number.Goals as goal
 
 bounded : (netlist : Netlist) (name : List ℕ) (r : Option ℕ) → r ≡ number_of netlist name → length netlist.names ≤ 65535 → MatchOption r (Unit {0}) (λ net. (net < length netlist.names) × (net < 65535))
@@ -10,10 +10,10 @@ bounded netlist name (Some k) e h = let b : k < length netlist.names = (number_n
 
 pub returns-clause-value : goal.returns-clause-value
 unfolding number_of
-returns-clause-value c = c.get_index_of.ensures.index ∙ position_names c.args.name.now c.self.inside.names.keys ∙ ap (λ n. number_of n c.args.name.now) c.self.view_is
+returns-clause-value c = c.get_index_of.ensures.index ∙ ap (λ n. number_of n c.args.name.now) c.self.view_is
 
 pub returns-clause-below : goal.returns-clause-below
 unfolding number_of
 returns-clause-below c =
-    let e = c.get_index_of.ensures.index ∙ position_names c.args.name.now c.self.inside.names.keys ∙ ap (λ n. number_of n c.args.name.now) c.self.view_is in
+    let e = c.get_index_of.ensures.index ∙ ap (λ n. number_of n c.args.name.now) c.self.view_is in
     bounded c.args.self.now c.args.name.now c.get_index_of.result e (subst (λ n. length n.names ≤ 65535) c.self.view_is c.self.invariant.few)

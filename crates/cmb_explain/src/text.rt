@@ -1,0 +1,96 @@
+//! The texts of `cmbsim explain`.
+
+ghost use Rattle.std.specs.Prelude.{◌↔◌, IfOk, IsSome};
+ghost use Rattle.cmb_explain.specs.Known.{IsFaultNumber};
+
+use crate::explanation::{Explanation, Place, explanation_of};
+use std::alloc::{AllocError, Global};
+
+// The greatest number of a fault.
+const LAST: u32 = 70;
+
+const LIST_HEAD: &str = "\
+A fault is told by one line on standard error, `cmbsim: fault N at P`, with status 1:
+
+ N  P       is
+";
+
+const LIST_END: &str = "
+The inputs are 1 the netlist, 2 the delays, 3 the stimuli and 4 the clocks. The record of a table
+is counted from 1, its header being the first; lines that are empty don't count. Delays are read
+first, then stimuli, then clocks, and their rows are then checked in that order.
+
+`cmbsim explain N` has an example of fault N, and says what to do. An empty netlist is no fault:
+its waveforms have no nets, and some viewers refuse to open them.
+";
+
+// What P is, in a word.
+fn place_word(place: Place) -> &'static str {
+    match place {
+        Place::Line => "line",
+        Place::Record => "record",
+        Place::Net => "net",
+        Place::Input => "input",
+        Place::Bytes => "bytes",
+        Place::Nowhere => "0",
+    }
+}
+
+// What P is.
+fn place_words(place: Place) -> &'static str {
+    match place {
+        Place::Line => "the line of the netlist",
+        Place::Record => {
+            "the record of the table, its header being 1; lines that are empty don't count"
+        }
+        Place::Net => "the number of a net that wasn't complete, the first of the netlist being 0",
+        Place::Input => "the input: 1 the netlist, 2 the delays, 3 the stimuli, 4 the clocks",
+        Place::Bytes => "how many bytes were written",
+        Place::Nowhere => "always 0",
+    }
+}
+
+fn push_explanation(text: &mut String, entry: Explanation) -> Result<(), AllocError> {
+    let number = entry.number;
+    let place = place_words(entry.place);
+    let meaning = entry.meaning;
+    write!(text, "Fault {number} at P: {meaning}\n")?;
+    write!(text, "P is {place}.\n\nAn example:\n")?;
+    for line in entry.example.lines() {
+        write!(text, "    {line}\n")?;
+    }
+    let advice = entry.advice;
+    write!(text, "\n{advice}\n")
+}
+
+/// All that there is to say about the fault with this number: what it means, what its place is, what gives it, and what
+/// to do. `None` where a simulation has no such fault.
+pub fn explained(alloc: Global, number: u32) -> Result<Option<String>, AllocError>
+    ensures { IfOk result (λ text. IsSome text ↔ IsFaultNumber number) }
+{
+    let Some(entry) = explanation_of(number) else {
+        return Ok(None);
+    };
+    let mut text = String::new(alloc);
+    push_explanation(&mut text, entry)?;
+    Ok(Some(text))
+}
+
+fn push_row(text: &mut String, entry: Explanation) -> Result<(), AllocError> {
+    let number = entry.number;
+    let place = place_word(entry.place);
+    let meaning = entry.meaning;
+    write!(text, "{number:>2}  {place:<7} {meaning}\n")
+}
+
+/// The list of all faults by rising numbers, a line for each.
+pub fn fault_list(alloc: Global) -> Result<String, AllocError> {
+    let mut text = String::from_str(alloc, LIST_HEAD)?;
+    for number in 1..=LAST {
+        if let Some(entry) = explanation_of(number) {
+            push_row(&mut text, entry)?;
+        }
+    }
+    text.push_str(LIST_END)?;
+    Ok(text)
+}

@@ -1,0 +1,139 @@
+//! The worked example of the engine and of the text that is made as it goes on: an inverter's run.
+//!
+//! The input `a` is 0, and 1 from tick 5 on. The inverter's delay is one tick, so its output `y` is x at tick 0, 1 from
+//! tick 1 on and 0 from tick 6 on. The engine goes from tick 1 to the horizon, tick 10, in one window. Where a window
+//! ends at tick 10, tick 9 stands at place 63 of a word and tick 0 at place 54. The stored text is that of the example
+//! `inverter`.
+#![tactic(auto)]
+
+ghost use Rattle.std.specs.Prelude.{◌≡◌, ◌<◌, IfSome};
+ghost use Rattle.cmb_design.specs.Exact.{nets_of};
+
+use cmb_bench::read_bench;
+use cmb_design::{Design, Settings, read_clocks, read_delays, read_stimuli};
+use cmb_engine::Engine;
+use cmb_stream::{StreamFault, stream_text, write_stream};
+use cmb_vcd::{Limited, Room};
+use cmb_wave::Level;
+use cmb_wave::Level::{One, X, Zero};
+use cmb_words::Changed;
+use std::alloc::{AllocError, Global};
+use std::io::Write;
+use std::process::ExitCode;
+
+const HORIZON: u32 = 10;
+
+const A: u16 = 0;
+
+const Y: u16 = 1;
+
+// The place of tick 0, where a window ends at the horizon.
+const START: u32 = 54;
+
+/// The inverter, where it was read as such.
+fn inverter(alloc: Global) -> Option<Design>
+    ensures nets { IfSome result (λ design. nets_of design ≡ 2) }
+    ensures horizon { IfSome result (λ design. design.horizon ≡ HORIZON) }
+{
+    let netlist = read_bench(alloc, b"INPUT(a)\nOUTPUT(y)\ny = NOT(a)\n").ok()?;
+    let delays = read_delays(alloc, b"").ok()?;
+    let stimuli = read_stimuli(alloc, b"tick,net,value\n0,a,0\n5,a,1\n").ok()?;
+    let clocks = read_clocks(alloc, b"").ok()?;
+    let settings = Settings {
+        horizon: HORIZON,
+        clock: None,
+        init: Level::X,
+    };
+    let design = Design::new(alloc, netlist, delays, stimuli, clocks, settings).ok()?;
+    if design.netlist().len() == 2 && design.horizon() == HORIZON {
+        return Some(design);
+    }
+    None
+}
+
+/// Whether a net changed in the window up to the horizon, and has these levels from tick 0 on.
+fn has_levels(changed: &Changed, net: u16, levels: &[Level]) -> bool {
+    for (tick, level) in levels.iter().enumerate() {
+        if tick >= HORIZON as usize || changed.word.level(START + tick as u32) != *level {
+            return false;
+        }
+    }
+    changed.net == net
+}
+
+/// Whether an engine is at a clock, with these levels of `a` and `y` at the tick before it.
+fn shows(engine: &Engine<'_>, clock: u32, a: Level, y: Level) -> bool
+    requires { nets_of engine.now.design ≡ 2 }
+{
+    engine.clock() == clock && engine.level(A as usize) == a && engine.level(Y as usize) == y
+}
+
+/// Whether a window tells that `a` changed at tick 5 and `y` at ticks 1 and 6.
+fn are_told(changed: &[Changed]) -> bool {
+    let [a, y] = changed else {
+        return false;
+    };
+    has_levels(
+        a,
+        A,
+        &[Zero, Zero, Zero, Zero, Zero, One, One, One, One, One],
+    ) && has_levels(y, Y, &[X, One, One, One, One, One, Zero, Zero, Zero, Zero])
+}
+
+/// Whether the engine's only window is as it should be.
+fn goes_on(alloc: Global, design: &Design) -> Result<bool, AllocError>
+    requires nets { nets_of design.now ≡ 2 }
+    requires horizon { design.now.horizon ≡ HORIZON }
+{
+    let engine = Engine::open(alloc, design)?;
+    let begins = shows(&engine, 1, Zero, X);
+    let mut changed = Vec::new(alloc);
+    let last = engine.advance(&mut changed)?;
+    let ends = shows(&last, HORIZON, One, Zero);
+    Ok(begins && ends && are_told(&changed))
+}
+
+/// The text is written whole, and its length is the answer.
+fn is_written(alloc: Global, design: &Design, text: &[u8]) -> Option<()> {
+    let mut room = Room::new(alloc, text.len()).ok()?;
+    let written = write_stream(alloc, design, &mut room).ok()?;
+    if written == text.len() as u64 && room.bytes.as_slice() == text && room.failures == 0 {
+        Some(())
+    } else {
+        None
+    }
+}
+
+/// A sink that fails after 17 bytes took the first 17 of the text, and the answer tells so.
+fn is_broken_off(alloc: Global, design: &Design, text: &[u8]) -> Option<()> {
+    let mut sink = Limited::new(alloc, 17);
+    let answer = write_stream(alloc, design, &mut sink);
+    let beginning = text.get(..17)?;
+    if answer == Err(StreamFault::Write { written: 17 }) && sink.bytes.as_slice() == beginning {
+        Some(())
+    } else {
+        None
+    }
+}
+
+/// The text, where all that was tried answers as it should.
+fn text_of(alloc: Global) -> Option<Vec<u8>> {
+    let design = inverter(alloc)?;
+    if !goes_on(alloc, &design).ok()? {
+        return None;
+    }
+    let text = stream_text(alloc, &design).ok()?;
+    is_written(alloc, &design, &text)?;
+    is_broken_off(alloc, &design, &text)?;
+    Some(text)
+}
+
+fn main(rt: HostRuntime) -> ExitCode {
+    let Some(text) = text_of(rt.alloc()) else {
+        return ExitCode::from(1);
+    };
+    match rt.stdout().write_all(&text) {
+        Ok(()) => ExitCode::SUCCESS,
+        Err(_) => ExitCode::from(2),
+    }
+}
