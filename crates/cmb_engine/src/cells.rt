@@ -2,10 +2,12 @@
 
 ghost use Rattle.std.specs.Prelude.{◌≡◌, ℕ, ◌+◌, ◌^◌, ◌<◌, ◌≤◌, ◌++◌, ◌∷◌, [], true, false, All, IfOk, OnOk, MatchOption, length, map, replicate, slice_index_or};
 ghost use Rattle.cmb_words.specs.Word.{level_at_place};
+ghost use Rattle.cmb_engine.specs.Arrivals.{IsArrival};
 ghost use Rattle.cmb_engine.specs.Cells.{Told, Gate, Flop, cell_at, is_made, pins_of as pins_of_cell, reads, AreBelow, IsListed, IsMade, IsLawful};
 ghost use Rattle.cmb_engine.specs.Circuits.{is_flop};
 ghost use Rattle.cmb_engine.specs.Words.{levels_of};
 
+use crate::arrivals::Arrival;
 use crate::cell::Pin;
 use crate::readers::push_pins;
 use crate::visit::{double_word, flop_word, gate_word, single_word};
@@ -196,14 +198,23 @@ impl Cells {
 
     /// What the cell of a net makes of the words from a place on, with what stands below it.
     #[inline]
-    pub(crate) fn word(&self, net: usize, words: &[Word], to: u32, first: u32) -> Word
+    pub(crate) fn word(
+        &self,
+        net: usize,
+        words: &[Word],
+        last: &mut Arrival,
+        to: u32,
+        first: u32,
+    ) -> Word
         requires net { net < length words.now }
+        requires last { IsArrival last.old to first }
         requires cell { IsLawful (length words.now) first (slice_index_or self.now net Told) }
         requires nets { length self.now ≡ length words.now }
         requires to { to ≤ 1000000 }
         requires begun { 1 ≤ first }
         requires first { first < 64 }
         requires inside { 64 ≤ to + first }
+        ensures last { IsArrival last.new to first }
         ensures below { (place : ℕ) → place < first → level_at_place result place ≡ levels_of words.now net place }
         ensures made { IsMade (levels_of words.now) (level_at_place result) to first
             (slice_index_or self.now net Told) }
@@ -222,7 +233,7 @@ impl Cells {
                 let pins = &self.pins[begin..begin + part.count as usize];
                 spliced(own, gate_word(kind, pins, words, first), first)
             }
-            Rule::Flop(clock, pin) => flop_word(clock, pin, own, words, to, first),
+            Rule::Flop(clock, pin) => flop_word(clock, pin, own, words, last, to, first),
         }
     }
 }

@@ -2,10 +2,12 @@
 
 ghost use Rattle.std.specs.Prelude.{◌≡◌, ◌≢◌, ℕ, ◌+◌, ◌*◌, ◌<◌, ◌≤◌, true, false, [], All, length, slice_index, slice_index_or};
 ghost use Rattle.cmb_wave.specs.declared.level.Level.{Level};
+ghost use Rattle.cmb_engine.specs.Arrivals.{IsArrival};
 ghost use Rattle.cmb_engine.specs.Bits.{has};
 ghost use Rattle.cmb_engine.specs.Cells.{Told, IsMade, IsLawful, IsReady, IsTrueBelow, IsWired, AreReaders, AreSettled, KeepsTold, cell_at, is_made, reads};
 ghost use Rattle.cmb_engine.specs.Words.{levels_of};
 
+use crate::arrivals::{Arrival, any_arrival};
 use crate::cells::Cells;
 use crate::marks::Marks;
 use crate::readers::Readers;
@@ -32,10 +34,12 @@ pub(crate) fn visit(
     readers: &Readers,
     words: &mut [Word],
     marks: &mut Marks,
+    last: &mut Arrival,
     net: usize,
     to: u32,
     first: u32,
 ) -> bool
+    requires last { IsArrival last.old to first }
     requires net { net < length words.old }
     requires cell { IsLawful (length words.old) first (slice_index_or cells.now net Told) }
     requires nets { length cells.now ≡ length words.old }
@@ -47,6 +51,7 @@ pub(crate) fn visit(
     requires begun { 1 ≤ first }
     requires first { first < 64 }
     requires inside { 64 ≤ to + first }
+    ensures last { IsArrival last.new to first }
     ensures room { length marks.new ≡ length marks.old }
     ensures others { (m place : ℕ) → m ≢ net → levels_of words.new m place ≡ levels_of words.old m place }
     ensures past { (place : ℕ) → place < first → levels_of words.new net place ≡ levels_of words.old net place }
@@ -69,7 +74,7 @@ pub(crate) fn visit(
         → AreSettled (levels_of words.new) (has marks.new) (cell_at cells.now) to first }
 {
     marks.remove(net);
-    let made = cells.word(net, words, to, first);
+    let made = cells.word(net, words, last, to, first);
     if !made.differs_from(words[net], first) {
         return false;
     }
@@ -110,12 +115,13 @@ pub(crate) fn sweep(
         → IsTrueBelow (levels_of words.old) truth (cell_at cells.now) upto
         → IsTrueBelow (levels_of words.new) truth (cell_at cells.now) (upto + 1) }
 {
+    let mut last = any_arrival(to, first);
     let mut from = 0;
     'nets: while let Some(net) = marks.next_from(from) {
         if net >= words.len() {
             break;
         }
-        if visit(cells, readers, words, marks, net, to, first) {
+        if visit(cells, readers, words, marks, &mut last, net, to, first) {
             live.insert(net);
         }
         from = net + 1;

@@ -3,11 +3,12 @@
 ghost use Rattle.std.specs.Prelude.{◌≡◌, ℕ, ◌+◌, ◌-◌, ◌<◌, ◌≤◌, List, [], ◌∷◌, All, length, map, if◌then◌else◌};
 ghost use Rattle.cmb_design.specs.Gate.{gate};
 ghost use Rattle.cmb_words.specs.Word.{level_at_place};
+ghost use Rattle.cmb_engine.specs.Arrivals.{IsArrival};
 ghost use Rattle.cmb_engine.specs.Cells.{seen, IsPace};
 ghost use Rattle.cmb_engine.specs.Rows.{arrives_by};
 ghost use Rattle.cmb_engine.specs.Words.{levels_of};
 
-use crate::arrivals::first_arrival;
+use crate::arrivals::{Arrival, arrival_of};
 use crate::cell::Pin;
 use cmb_bench::Kind;
 use cmb_design::Clock;
@@ -70,9 +71,11 @@ pub(crate) fn flop_word(
     pin: Pin,
     own: Word,
     words: &[Word],
+    last: &mut Arrival,
     to: u32,
     first: u32,
 ) -> Word
+    requires last { IsArrival last.old to first }
     requires clock { IsPace clock }
     requires net { pin.net < length words.now }
     requires delay { pin.delay ≤ first }
@@ -80,6 +83,7 @@ pub(crate) fn flop_word(
     requires begun { 1 ≤ first }
     requires first { first < 64 }
     requires inside { 64 ≤ to + first }
+    ensures last { IsArrival last.new to first }
     ensures below { (place : ℕ) → place < first → level_at_place result place ≡ level_at_place own place }
     ensures from { (place : ℕ) → first ≤ place → place < 64
         → level_at_place result place
@@ -87,12 +91,13 @@ pub(crate) fn flop_word(
         then seen (levels_of words.now) place pin
         else level_at_place result (place - 1)) }
 {
-    let arrival = first_arrival(clock, pin.delay, to, first);
+    let arrival = arrival_of(*last, clock, pin.delay, to, first);
+    *last = arrival;
     held(
         own,
         words[pin.net as usize],
         pin.delay,
-        arrival,
+        arrival.place,
         clock.period,
         first,
     )

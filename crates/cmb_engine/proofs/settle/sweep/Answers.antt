@@ -36,6 +36,7 @@ nets-preserved c =
       })
     ] in
     record {
+      last = c.visit.ensures.last;
       room = c.visit.ensures.room ∙ c.nets.invariant.room;
       live = list.len ∙ c.nets.invariant.live;
       told = λ m place is. told-visit (levels_of c.nets.words) (levels_of c.visit.new.words) (cell_at c.args.cells.now) c.in-Some.net c.visit.ensures.others c.visit.ensures.told m place is

@@ -1,5 +1,6 @@
 use Rattle.std.proofs.Common.{◌≡◌, ◌-◌, ℕ, true, false, length}
 use Rattle.cmb_wave.specs.declared.level.Level.{Level}
+use Rattle.cmb_engine.specs.Arrivals.{IsArrival}
 use Rattle.cmb_engine.specs.Bits.{has}
 use Rattle.cmb_engine.specs.Cells.{AreSettled, KeepsTold, cell_at}
 use Rattle.cmb_engine.specs.Words.{levels_of}
@@ -8,6 +9,7 @@ use Rattle.cmb_engine.proofs.settle.sweep.Given as goal
 
 abbrev pub invariant-nets : goal.invariant-nets
 invariant-nets l = record {
+  last : IsArrival l.last l.to l.first;
   room : length l.marks ≡ length l.initial.marks;
   live : length l.live ≡ length l.initial.live;
   told : KeepsTold (levels_of l.initial.words) (levels_of l.words) (cell_at l.cells);
