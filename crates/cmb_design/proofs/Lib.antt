@@ -21,3 +21,4 @@ pub mod TableFacts
 pub mod RangeFacts
 pub mod LawfulFacts
 pub mod PlainFacts
+pub mod PartFacts
