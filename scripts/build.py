@@ -1,15 +1,13 @@
 #!/usr/bin/env python3
-"""build.py PROGRAM: proves and builds the program and all crates that it stands on, and puts it at out/PROGRAM. Where
-nothing is kept of an earlier check, all is proved from nothing, as the gate does it, in a copy of the repository that
-has these crates alone. Else what has changed is proved over what is kept. Where neither a source nor the toolchain
-has changed since the last time, nothing is done. What the toolchain says goes to standard error, so that standard
-output stays the program's own."""
+"""build.py PROGRAM: proves and builds the program and all crates that it stands on, and puts it at out/PROGRAM. What has
+changed is proved, over what an earlier run left: the first time that is all of it. Crates that don't stand on one another
+are proved side by side. Where neither a source nor the toolchain has changed since the last time, nothing is done. What the
+toolchain says goes to standard error, so that standard output stays the program's own."""
 import hashlib
 import os
 import shutil
 import subprocess
 import sys
-import tempfile
 
 import crates
 import prove
@@ -32,17 +30,7 @@ def run(words, folder):
     return subprocess.run(words, cwd=folder, stdin=subprocess.DEVNULL, stdout=sys.stderr).returncode
 
 
-def from_nothing(name, names, made):
-    """Proves these crates and builds the program by the toolchain's gate, in a copy that holds no others."""
-    with tempfile.TemporaryDirectory(prefix="fresh-", dir=f"{crates.TOP}/out") as room:
-        crates.copy_whole(f"{room}/copy", names)
-        status = run(["rt", "ci"], f"{room}/copy")
-        if status == 0:
-            shutil.copy2(f"{room}/copy/crates/{name}/out/{name}", made)
-        return status
-
-
-def over_kept(name, below, made):
+def build(name, below, made):
     """Proves what has changed, and builds the program."""
     status = prove.prove(set(crates.all_below(name, below)), below)
     folder = f"{crates.TOP}/crates/{name}"
@@ -62,8 +50,7 @@ def main(name):
         with open(f"{made}.sum", encoding="utf-8") as it:
             if it.read() == now:
                 return 0
-    has_kept = any(os.path.isdir(f"{crates.TOP}/crates/{it}/out/incremental") for it in names)
-    status = over_kept(name, below, made) if has_kept else from_nothing(name, names, made)
+    status = build(name, below, made)
     if status == 0:
         with open(f"{made}.sum", "w", encoding="utf-8") as it:
             it.write(now)

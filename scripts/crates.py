@@ -43,17 +43,6 @@ def copy_sources(room):
                 shutil.copytree(f"{TOP}/crates/{name}/{part}", f"{room}/crates/{name}/{part}")
 
 
-def copy_whole(room, names):
-    """A copy of these crates alone, with all that the toolchain's gate reads of them but their edits."""
-    os.makedirs(f"{room}/.git")  # the gate wants crates.txt at the top of a repository
-    shutil.copy2(f"{TOP}/HANDLES", room)
-    with open(f"{TOP}/crates.txt", encoding="utf-8") as lines, open(f"{room}/crates.txt", "w", encoding="utf-8") as kept:
-        kept.writelines(it for it in lines if it.partition(":")[0].split()[:1] in [[name] for name in names])
-    for name in names:
-        leave = shutil.ignore_patterns("out", "must-fail", "audit")
-        shutil.copytree(f"{TOP}/crates/{name}", f"{room}/crates/{name}", ignore=leave)
-
-
 def link_libraries(top, room, names):
     """Gives a copy the built libraries of another, as far as they are there."""
     for name in names:

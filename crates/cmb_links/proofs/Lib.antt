@@ -1,4 +1,5 @@
 pub mod Lists
+pub mod Joined
 pub mod Newest
 pub mod NetWords
 pub mod StopWord
@@ -7,4 +8,5 @@ pub mod Steps
 pub mod Allowed
 pub mod Seats
 pub mod Loads
+pub mod Closing
 pub mod Links

@@ -47,7 +47,7 @@ pub record Checked (v : View) (b : Bool) : Type 0 where
   pub stays : Contains v.stops.loads true → b ≡ true
   pub moment : Moment (after_check v b) (λ s. b ≡ some_raised s.views)
 
-one_or_none : (c : Bool) (x : ℕ) → x ≡ (if c then 1 else 0) → (x == 1) ≡ c
+pub one_or_none : (c : Bool) (x : ℕ) → x ≡ (if c then 1 else 0) → (x == 1) ≡ c
 one_or_none true x e = ap (λ (k : ℕ). k == 1) e
 one_or_none false x e = ap (λ (k : ℕ). k == 1) e
 

@@ -7,7 +7,7 @@ use mathlib.Core.Option.{some, some-ne-none, some-injective}
 use lib.ListN.{get_elem?}
 use Rattle.std.specs.List.{range_with_len}
 use Rattle.atomic_table.specs.Seated.{TableId}
-use Rattle.atomic_table.specs.Table.{opening, Splits}
+use Rattle.atomic_table.specs.Table.{opening, Splits, Joins}
 use Rattle.atomic_table.proofs.Lists.{at_set}
 use Rattle.cmb_wave.specs.Waveform.{count_below}
 use Rattle.cmb_wave.specs.declared.level.Promise.{Promise}
@@ -15,10 +15,12 @@ use Rattle.cmb_wave.proofs.Waveforms.{changes_between-same}
 use Rattle.cmb_design.specs.Design.{Design}
 use Rattle.cmb_design.specs.Exact.{nets_of}
 use Rattle.cmb_design.specs.Value.{value, count}
-use Rattle.cmb_links.specs.Seats.{SeatData, driver, new_view, cut_left, cut_right, new_seat, new_seats, IsSeatOf}
-use Rattle.cmb_links.specs.Boards.{MayPublish, IsSeated, IsKnown, IsBoard, published_at}
+use Rattle.cmb_links.specs.Seats.{SeatData, driver, new_view, cut_left, cut_right, new_seat, new_seats, IsSeatOf, only, joined}
+use Rattle.cmb_links.specs.Boards.{MayPublish, IsSeated, IsKnown, IsBoard, published_at, seats_of}
 use Rattle.cmb_links.specs.declared.view.Terms.{Terms}
 use Rattle.cmb_links.specs.declared.view.View.{View}
+use Rattle.cmb_links.proofs.Allowed.{Law}
+use Rattle.cmb_links.proofs.Joined.{place_of, at_joined, joined-set, joined-push, joined-moved}
 use Rattle.cmb_links.proofs.Lists.{at_push, map-set_unseen, get_or-push_default}
 use Rattle.cmb_links.proofs.Steps.{log, loads, net_along, stop_along, end_along}
 use Rattle.cmb_links.proofs.NetWords as net
@@ -52,7 +54,7 @@ nothing : (n i : ℕ) (l : List Promise) → get_elem? ([] ∷ []) i ≡ some l 
 nothing n zero l at = subst (All (λ q. q.net ≡ n → IsKnown n [] q)) (some-injective [] l at) (All-nil (λ q. q.net ≡ n → IsKnown n [] q))
 nothing n (suc i) l at = absurd (some-ne-none l (sym at))
 
-pub opens : (t : Terms) → 1 ≤ t.workers → t.workers ≤ 64 → IsBoard t (opening (replicate (nets_of t.design + 2) 0) [] (new_view t 0 true))
+pub opens : (t : Terms) → 1 ≤ t.workers → t.workers ≤ 64 → Law t (opening (replicate (nets_of t.design + 2) 0) [] (new_view t 0 true ∷ []))
 opens t some_workers few_workers = let v : View = new_view t 0 true in record {
   some_workers = some_workers;
   few_workers = few_workers;
@@ -78,7 +80,7 @@ cut-map : {B : Type 0} (f : View → B) (views : List View) (id : ℕ) (v : View
 cut-map f views id v at same = map-append f (set views id (cut_left v)) (cut_right v ∷ []) ∙ ap (λ l. l ++ f (cut_right v) ∷ []) (map-set_unseen f views id v (cut_left v) at same)
 
 -- a seat that is the last cuts the next one
-pub splits : (t : Terms) (id : ℕ) (v : View) → v.is_last ≡ true → v.place < v.terms.workers → Splits (IsBoard t) id v (cut_left v) (cut_right v)
+splits : (t : Terms) (id : ℕ) (v : View) → v.is_last ≡ true → v.place < v.terms.workers → Splits (IsBoard t) id v (cut_left v) (cut_right v)
 splits t id v is_last room s kept at =
     let mine = kept.seats id v at in
     let left : View = cut_left v in
@@ -130,6 +132,26 @@ splits t id v is_last room s kept at =
       finished = end_along (slice_index s.words (nets_of t.design + 1)) (slice_index s.words (nets_of t.design + 1)) (map (λ (u : View). u.endings) s.views ++ right.endings ∷ []) (map (λ (u : View). u.endings) after) refl
           (cut-map (λ (u : View). u.endings) s.views id v at refl) (end.seated (slice_index s.words (nets_of t.design + 1)) (map (λ (u : View). u.endings) s.views) kept.finished);
     }
+
+pub cuts : (t : Terms) (id : ℕ) (l : List View) → l ≡ only l ∷ [] → (only l).is_last ≡ true → (only l).place < (only l).terms.workers
+    → Splits (Law t) id l (cut_left (only l) ∷ []) (cut_right (only l) ∷ [])
+cuts t id l one is_last room s kept at =
+    let v : View = only l in let left : View = cut_left v in let right : View = cut_right v in
+    let at' = at ∙ ap some one in
+    let i = place_of s.views id in
+    let same : joined (set s.views id (left ∷ []) ++ (right ∷ []) ∷ []) ≡ set (joined s.views) i left ++ right ∷ [] =
+    joined-push (set s.views id (left ∷ [])) (right ∷ []) ∙ ap (λ (m : List View). m ++ right ∷ []) (joined-set s.views id v left at') in
+    subst (λ (vs : List View). IsBoard t record { words = s.words; homes = s.homes; views = vs }) (sym same)
+    (splits t i v is_last room (seats_of s) kept (at_joined s.views id v [] at'))
+
+-- a seat takes over the view of the one that was cut before it
+pub gathers : (t : Terms) (id two : ℕ) (u a : View) (l : List View) → a.place ≡ u.place + 1 → Joins (Law t) id (a ∷ l) two (u ∷ []) (u ∷ a ∷ l) []
+gathers t id two u a l next s kept at apart at' =
+    let was : get_elem? s.views two ≡ some (u ∷ []) = ⊎_elim (λ h. absurd (apart h.0)) (λ h. h.1) (at_set s.views id two (u ∷ a ∷ l) (u ∷ []) at') in
+    let mine = (kept.seats (place_of s.views id) a (at_joined s.views id a l at)).place in
+    let theirs = (kept.seats (place_of s.views two) u (at_joined s.views two u [] was)).place in
+    let beside : place_of s.views id ≡ place_of s.views two + 1 = omega arith in
+    subst (λ (vs : List View). IsBoard t record { words = s.words; homes = s.homes; views = vs }) (sym (joined-moved s.views id two u a l at was beside)) kept
 
 pub all_seats : (b : TableId) (t : Terms) → All (IsSeatOf b t) (new_seats b t)
 all_seats b t = All-push (IsSeatOf b t) (map (new_seat b t false) (range_with_len 0 t.workers)) (new_seat b t true t.workers)

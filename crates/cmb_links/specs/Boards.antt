@@ -1,5 +1,5 @@
 -- What holds of a board between any two of its atomic steps, and what a step tells the seat that makes it.
-use Rattle.std.specs.Prelude.{◌≡◌, ℕ, ◌+◌, ◌%◌, ◌^◌, ◌<◌, ◌≤◌, Bool, true, List, [], ◌⊎◌, map, length, slice_index, slice_index_or, if◌then◌else◌, ◌==◌, All}
+use Rattle.std.specs.Prelude.{◌≡◌, ℕ, ◌+◌, ◌%◌, ◌^◌, ◌<◌, ◌≤◌, Bool, true, List, [], ◌∷◌, ◌⊎◌, map, length, slice_index, slice_index_or, if◌then◌else◌, ◌==◌, All}
 use Rattle.std.specs.List.{Contains, count_by, list_any}
 use mathlib.Core.Option.{some}
 use lib.ListN.{get_elem?}
@@ -9,7 +9,7 @@ use Rattle.cmb_wave.specs.declared.level.Promise.{Promise}
 use Rattle.cmb_design.specs.Design.{Design}
 use Rattle.cmb_design.specs.Exact.{nets_of, IsRightIn}
 use Rattle.cmb_links.specs.Promises.{promise, promise_of, newest, NeverFalls}
-use Rattle.cmb_links.specs.Seats.{driver, after_publish, after_look, after_raise, after_check, after_finish, after_count}
+use Rattle.cmb_links.specs.Seats.{driver, after_publish, after_look, after_raise, after_check, after_finish, after_count, only, joined}
 use Rattle.cmb_links.specs.declared.view.Terms.{Terms}
 use Rattle.cmb_links.specs.declared.view.Stops.{Stops}
 use Rattle.cmb_links.specs.declared.view.Endings.{Endings}
@@ -87,6 +87,10 @@ pub record IsBoard (t : Terms) (s : State (Unit {0}) View) : Type 0 where
   pub stop : IsStopKept (slice_index s.words (nets_of t.design)) (map (λ (v : View). v.stops) s.views)
   pub finished : IsEndKept (slice_index s.words (nets_of t.design + 1)) (map (λ (v : View). v.endings) s.views)
 
+-- the words, and the views of all seats in order
+abbrev pub seats_of : State (Unit {0}) (List View) → State (Unit {0}) View
+seats_of s = record { words = s.words; homes = s.homes; views = joined s.views }
+
 -- ---- steps
 
 -- some state of words and views that the board's rule allows has this view at the seat's place, and P holds of it
@@ -94,23 +98,37 @@ abbrev pub Moment : View → (State (Unit {0}) View → Type 0) → Type 0
 Moment v P = (s : State (Unit {0}) View) × IsBoard v.terms s × (get_elem? s.views v.place ≡ some v) × P s
 
 -- after its step on a word the seat has the view w, and some state that the rule allows has that view and x in the word
-abbrev pub Leaves : ℕ → ℕ → View → Me (Unit {0}) View → Me (Unit {0}) View → Type 0
-Leaves word x w m m' = (m' ≡ (w, m.1)) × Moment w (λ s. slice_index s.words word ≡ x)
+abbrev pub Leaves : ℕ → ℕ → View → Me (Unit {0}) (List View) → Me (Unit {0}) (List View) → Type 0
+Leaves word x w m m' = (m' ≡ (w ∷ [], m.1)) × Moment w (λ s. slice_index s.words word ≡ x)
 
-abbrev pub Publishes : Step (Unit {0}) → Me (Unit {0}) View → ℕ → Me (Unit {0}) View → Type 0
-Publishes step m found m' = Leaves step.word step.first (after_publish m.0 (promise_of step.word step.first)) m m'
+abbrev pub Publishes : Step (Unit {0}) → Me (Unit {0}) (List View) → ℕ → Me (Unit {0}) (List View) → Type 0
+Publishes step m found m' = Leaves step.word step.first (after_publish (only m.0) (promise_of step.word step.first)) m m'
 
-abbrev pub Looks : Step (Unit {0}) → Me (Unit {0}) View → ℕ → Me (Unit {0}) View → Type 0
-Looks step m found m' = Leaves step.word found (after_look m.0 (promise_of step.word found)) m m'
+abbrev pub Looks : Step (Unit {0}) → Me (Unit {0}) (List View) → ℕ → Me (Unit {0}) (List View) → Type 0
+Looks step m found m' = Leaves step.word found (after_look (only m.0) (promise_of step.word found)) m m'
 
-abbrev pub Raises : Step (Unit {0}) → Me (Unit {0}) View → ℕ → Me (Unit {0}) View → Type 0
-Raises step m found m' = Leaves step.word 1 (after_raise m.0) m m'
+abbrev pub Raises : Step (Unit {0}) → Me (Unit {0}) (List View) → ℕ → Me (Unit {0}) (List View) → Type 0
+Raises step m found m' = Leaves step.word 1 (after_raise (only m.0)) m m'
 
-abbrev pub Checks : Step (Unit {0}) → Me (Unit {0}) View → ℕ → Me (Unit {0}) View → Type 0
-Checks step m found m' = Leaves step.word found (after_check m.0 (found == 1)) m m'
+abbrev pub Checks : Step (Unit {0}) → Me (Unit {0}) (List View) → ℕ → Me (Unit {0}) (List View) → Type 0
+Checks step m found m' = Leaves step.word found (after_check (only m.0) (found == 1)) m m'
 
-abbrev pub Finishes : Step (Unit {0}) → Me (Unit {0}) View → ℕ → Me (Unit {0}) View → Type 0
-Finishes step m found m' = Leaves step.word ((found + 1) % 2 ^ 64) (after_finish m.0) m m'
+abbrev pub Finishes : Step (Unit {0}) → Me (Unit {0}) (List View) → ℕ → Me (Unit {0}) (List View) → Type 0
+Finishes step m found m' = Leaves step.word ((found + 1) % 2 ^ 64) (after_finish (only m.0)) m m'
 
-abbrev pub Counts : Step (Unit {0}) → Me (Unit {0}) View → ℕ → Me (Unit {0}) View → Type 0
-Counts step m found m' = Leaves step.word found (after_count m.0 found) m m'
+abbrev pub Counts : Step (Unit {0}) → Me (Unit {0}) (List View) → ℕ → Me (Unit {0}) (List View) → Type 0
+Counts step m found m' = Leaves step.word found (after_count (only m.0) found) m m'
+
+-- ---- the end
+
+-- the promise of a net in a list of one for each net
+abbrev pub promise_at : List Promise → ℕ → Promise
+promise_at promises net = slice_index_or promises net (promise net 0 0)
+
+-- What a board's words held at the end, and what a seat knows: of each net that the seat drives they have its newest promise, and no
+-- load of the seat found more than they have
+pub record EndsAs (promises : List Promise) (raised : Bool) (finished : ℕ) (v : View) : Type 0 where
+  pub newest_own : (net : ℕ) → net < nets_of v.terms.design → driver v.terms net ≡ v.place → promise_at promises net ≡ newest net v.promised.published
+  pub found : (net : ℕ) → net < nets_of v.terms.design → All (λ q. q.net ≡ net → q.upto ≤ (promise_at promises net).upto) v.promised.loads
+  pub stops : Contains v.stops.loads true → raised ≡ true
+  pub counts : All (λ k. k ≤ finished) v.endings.loads

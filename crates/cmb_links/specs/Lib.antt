@@ -1,6 +1,6 @@
 pub mod Faults
 pub mod Workers
 pub mod Promises
+pub mod Links
 pub mod Seats
 pub mod Boards
-pub mod Links

@@ -1,10 +1,11 @@
 -- What a seat of a board knows, and how each step of the seat changes that.
-use Rattle.std.specs.Prelude.{ℕ, ◌+◌, Bool, true, false, List, [], ◌∷◌, ◌++◌, map, ◌≡◌}
+use Rattle.std.specs.Prelude.{ℕ, ◌+◌, ◌<◌, Bool, true, false, List, [], ◌∷◌, ◌++◌, map, length, ◌≡◌, All}
 use Rattle.std.specs.List.{range_with_len}
 use Rattle.atomic_table.specs.Seated.{TableId}
 use Rattle.cmb_wave.specs.declared.level.Promise.{Promise}
 use Rattle.cmb_design.specs.Design.{Design}
 use Rattle.cmb_core.specs.Clustering.{Clustering, cluster_of}
+use Rattle.cmb_links.specs.Links.{no_design}
 use Rattle.cmb_links.specs.Workers.{worker_of}
 use Rattle.cmb_links.specs.declared.view.Terms.{Terms}
 use Rattle.cmb_links.specs.declared.view.Told.{Told}
@@ -30,6 +31,19 @@ new_view t place last = record {
   stops = record { raised = false; loads = [] };
   endings = record { finished = false; loads = [] };
 }
+
+-- What the table keeps for a seat is a list: its one view. The seat that closes the board has the views of all, and a seat that was
+-- joined to it has none
+abbrev pub no_view : View
+no_view = new_view (terms no_design record { clusters = 0; assign = [] } 0) 0 false
+
+abbrev pub only : List View → View
+only [] = no_view
+only (v ∷ vs) = v
+
+abbrev pub joined : List (List View) → List View
+joined [] = []
+joined (x ∷ xs) = x ++ joined xs
 
 -- after it published p
 abbrev pub after_publish : View → Promise → View
@@ -73,6 +87,13 @@ new_seats board t = map (new_seat board t false) (range_with_len 0 t.workers) ++
 -- the seat is of this board, which was opened for these terms
 abbrev pub IsSeatOf : TableId → Terms → SeatData → Type 0
 IsSeatOf board t seat = (seat.board ≡ board) × (seat.view.terms ≡ t)
+
+-- the seats of a board, all of them, as they were cut
+pub record AreAllSeats (board : TableId) (seats : List SeatData) : Type 0 where
+  pub some : 0 < length seats
+  pub same : All (λ (s : SeatData). s.board ≡ board) seats
+  pub order : map (λ (s : SeatData). s.view.place) seats ≡ range_with_len 0 (length seats)
+  pub all : All (λ (s : SeatData). length seats ≡ s.view.terms.workers + 1) seats
 
 -- the last seat cuts another, which is then the last
 abbrev pub cut_left : View → View

@@ -1,34 +1,41 @@
 //! The board: each net's newest promise, a stop word and the number of finished workers, in words that change in atomic steps.
 
+ghost use Rattle.std.specs.Prelude.{◌≡◌, ◌<◌, [], map, vec_len};
+ghost use Rattle.std.specs.List.{All, range_with_len};
+
 use crate::view::{Told, View};
 use crate::workers::Workers;
-use atomic_table::{Play, Split, Table, TableRule};
+use atomic_table::{Join, Play, Split, Table, TableRule};
 use cmb_core::Clustering;
 use cmb_design::Design;
 use cmb_wave::Promise;
 use std::alloc::{AllocError, Global};
+use std::collections::LinkedList;
 use std::fmt;
 use std::marker::Model;
 use std::mem::replace;
 use std::snapshot::Snapshot;
 
+// What the table keeps for a seat: its view. The seat that closes the board has the views of all.
+type Views = LinkedList<View>;
+
 // What holds of the words and the views between any two steps.
 struct Law;
 
-impl TableRule<(), View, Told> for Law {
-    ghost use Rattle.std.specs.Prelude.{true};
+impl TableRule<(), Views, Told> for Law {
+    ghost use Rattle.std.specs.Prelude.{true, [], ◌∷◌};
     ghost use Rattle.cmb_links.specs.Seats.{terms_of, new_view};
-    ghost use Rattle.cmb_links.specs.Boards.{IsBoard};
+    ghost use Rattle.cmb_links.specs.Boards.{IsBoard, seats_of};
 
-    ghost holds = { λ told s. IsBoard (terms_of told) s };
+    ghost holds = { λ told s. IsBoard (terms_of told) (seats_of s) };
 
-    ghost first = { λ told. new_view (terms_of told) 0 true };
+    ghost first = { λ told. new_view (terms_of told) 0 true ∷ [] };
 }
 
 // What the steps tell. These types are for the proofs alone.
 struct Publish;
 
-impl Play<(), View> for Publish {
+impl Play<(), Views> for Publish {
     ghost use Rattle.cmb_links.specs.Boards.{Publishes};
 
     ghost then = { Publishes };
@@ -36,7 +43,7 @@ impl Play<(), View> for Publish {
 
 struct Look;
 
-impl Play<(), View> for Look {
+impl Play<(), Views> for Look {
     ghost use Rattle.cmb_links.specs.Boards.{Looks};
 
     ghost then = { Looks };
@@ -44,7 +51,7 @@ impl Play<(), View> for Look {
 
 struct Raise;
 
-impl Play<(), View> for Raise {
+impl Play<(), Views> for Raise {
     ghost use Rattle.cmb_links.specs.Boards.{Raises};
 
     ghost then = { Raises };
@@ -52,7 +59,7 @@ impl Play<(), View> for Raise {
 
 struct Check;
 
-impl Play<(), View> for Check {
+impl Play<(), Views> for Check {
     ghost use Rattle.cmb_links.specs.Boards.{Checks};
 
     ghost then = { Checks };
@@ -60,7 +67,7 @@ impl Play<(), View> for Check {
 
 struct Finish;
 
-impl Play<(), View> for Finish {
+impl Play<(), Views> for Finish {
     ghost use Rattle.cmb_links.specs.Boards.{Finishes};
 
     ghost then = { Finishes };
@@ -68,7 +75,7 @@ impl Play<(), View> for Finish {
 
 struct Count;
 
-impl Play<(), View> for Count {
+impl Play<(), Views> for Count {
     ghost use Rattle.cmb_links.specs.Boards.{Counts};
 
     ghost then = { Counts };
@@ -77,18 +84,32 @@ impl Play<(), View> for Count {
 // How the last seat cuts another.
 struct Cut;
 
-impl Split<View> for Cut {
-    ghost use Rattle.cmb_links.specs.Seats.{cut_left, cut_right};
+impl Split<Views> for Cut {
+    ghost use Rattle.std.specs.Prelude.{[], ◌∷◌};
+    ghost use Rattle.cmb_links.specs.Seats.{cut_left, cut_right, only};
 
-    ghost left = { cut_left };
+    ghost left = { λ v. cut_left (only v) ∷ [] };
 
-    ghost right = { cut_right };
+    ghost right = { λ v. cut_right (only v) ∷ [] };
 }
+
+// How a seat takes over the view of the one that was cut before it.
+struct Gather;
+
+impl Join<Views> for Gather {
+    ghost use Rattle.std.specs.Prelude.{[], ◌++◌};
+
+    ghost both = { λ v w. w ++ v };
+
+    ghost spent = { [] };
+}
+
+type Words = Table<(), Views, Told, Law, Global>;
 
 /// The words that all threads share. Contracts see which board it is.
 #[derive(Drop)]
 pub struct Board {
-    table: Table<(), View, Told, Law, Global>,
+    table: Words,
     nets: usize,
 }
 
@@ -100,7 +121,7 @@ impl Model for Board {
 
     ghost view = { λ b. b.table.shared.table_id };
 
-    ghost invariant = { λ b. (b.table.shared.table_id.words ≡ b.nets + 2) × (b.nets < 2 ^ 32) };
+    ghost invariant = { λ b. (b.table.shared.table_id.words ≡ b.nets + 2) × (b.nets < 2 ^ 32) × (b.table.shared.table_id.slots ≡ 0) };
 }
 
 impl fmt::Debug for Board {
@@ -112,19 +133,19 @@ impl fmt::Debug for Board {
 /// A thread's place at a board, with which it makes its steps. Contracts see which board it is of, and what it knows.
 #[derive(Drop)]
 pub struct Seat {
-    inner: atomic_table::Seat<(), View>,
+    inner: atomic_table::Seat<(), Views>,
 }
 
 impl Model for Seat {
-    ghost use Rattle.std.specs.Prelude.{◌≡◌, ◌+◌, []};
+    ghost use Rattle.std.specs.Prelude.{◌≡◌, ◌+◌, [], ◌∷◌};
     ghost use Rattle.cmb_design.specs.Exact.{nets_of};
-    ghost use Rattle.cmb_links.specs.Seats.{SeatData};
+    ghost use Rattle.cmb_links.specs.Seats.{SeatData, only};
 
     ghost Value = { SeatData };
 
-    ghost view = { λ s. record { board = s.inner.table_id; view = s.inner.me.0 } };
+    ghost view = { λ s. record { board = s.inner.table_id; view = only s.inner.me.0 } };
 
-    ghost invariant = { λ s. (s.inner.me.1 ≡ []) × (s.inner.table_id.words ≡ nets_of s.inner.me.0.terms.design + 2) };
+    ghost invariant = { λ s. (s.inner.me ≡ (only s.inner.me.0 ∷ [], [])) × (s.inner.table_id.words ≡ nets_of (only s.inner.me.0).terms.design + 2) };
 }
 
 impl fmt::Debug for Seat {
@@ -133,14 +154,23 @@ impl fmt::Debug for Seat {
     }
 }
 
+/// What the words of a board hold when it is closed: a promise for each net, in order, whether a seat raised the stop word, and how
+/// many workers finished.
+#[derive(Debug, Drop)]
+pub struct Ending {
+    pub promises: Vec<Promise>,
+    pub is_raised: bool,
+    pub finished: u32,
+}
+
 impl Board {
-    ghost use Rattle.std.specs.Prelude.{◌≡◌, ◌+◌, ◌<◌, ◌≤◌, true, false, IfOk, slice_index, vec_len};
+    ghost use Rattle.std.specs.Prelude.{◌≡◌, ◌+◌, ◌<◌, ◌≤◌, true, false, map, IfOk, slice_index, vec_len};
     ghost use Rattle.std.specs.List.{All, Contains};
     ghost use Rattle.cmb_wave.specs.Calls.{word_of};
     ghost use Rattle.cmb_design.specs.Exact.{nets_of, IsRightIn};
     ghost use Rattle.cmb_links.specs.Promises.{newest};
-    ghost use Rattle.cmb_links.specs.Seats.{driver, after_publish, after_look, after_raise, after_check, after_finish, after_count, with_view, terms, new_seats, IsSeatOf};
-    ghost use Rattle.cmb_links.specs.Boards.{Moment, IsKnown, published_at, some_raised, number_finished};
+    ghost use Rattle.cmb_links.specs.Seats.{driver, after_publish, after_look, after_raise, after_check, after_finish, after_count, with_view, terms, new_seats, IsSeatOf, AreAllSeats};
+    ghost use Rattle.cmb_links.specs.Boards.{Moment, IsKnown, published_at, some_raised, number_finished, any_raised, count_finished, EndsAs};
 
     /// A board on which nothing stands, and its seats: one for each worker, in order, and a last one that drives no net.
     pub fn open(
@@ -256,4 +286,51 @@ impl Board {
             .shared
             .load::<Count>(&mut seat.inner, self.nets + 1) as u32
     }
+
+    /// Ends the board, and answers what its words hold. `seats` are all of its seats, in order. Of each net that is the newest promise
+    /// of its driving seat, (0, 0) where there is none; no load of any seat found more. Where memory is refused, the board is given up.
+    pub fn close(self, alloc: Global, seats: Vec<Seat>) -> Result<Ending, AllocError>
+        requires seats { AreAllSeats self seats.items }
+        ensures nets { IfOk result (λ end. All (λ s. vec_len end.promises ≡ nets_of s.view.terms.design) seats.items) }
+        ensures words { IfOk result (λ end. All (λ s. EndsAs end.promises.items end.is_raised end.finished s.view) seats.items) }
+        ensures raised { IfOk result (λ end. end.is_raised ≡ any_raised (map (λ s. s.view.stops) seats.items)) }
+        ensures finished { IfOk result (λ end. end.finished ≡ count_finished (map (λ s. s.view.endings) seats.items)) }
+    {
+        let Board { table, nets } = self;
+        let mut promises = Vec::with_capacity(alloc, nets)?;
+        let all = join_all(&table, seats);
+        let closed = table.close_with(all);
+        for net in 0..nets {
+            promises.push_reserved(Promise::of_word(net as u32, closed.word(net)));
+        }
+        let is_raised = closed.word(nets) == 1;
+        let finished = closed.word(nets + 1) as u32;
+        closed.free();
+        Ok(Ending {
+            promises,
+            is_raised,
+            finished,
+        })
+    }
+}
+
+// Joins the seats of a table in one, which then has the views of all.
+fn join_all(table: &Words, seats: Vec<Seat>) -> atomic_table::Seat<(), Views>
+    requires some { 0 < vec_len seats }
+    requires words { 0 < table.now.shared.table_id.words }
+    requires same { All (λ s. s.board ≡ table.now.shared.table_id) seats.items }
+    requires order { map (λ s. s.view.place) seats.items ≡ range_with_len 0 (vec_len seats) }
+    ensures same { result.table_id ≡ table.now.shared.table_id }
+    ensures all { result.me ≡ (map (λ s. s.view) seats.items, []) }
+{
+    let mut seats = seats;
+    let Some(last) = seats.pop() else {
+        unreachable!()
+    };
+    let Seat { inner: mut all } = last;
+    while let Some(seat) = seats.pop() {
+        let Seat { inner } = seat;
+        table.shared.join_seat::<Gather>(&mut all, inner);
+    }
+    all
 }

@@ -8,7 +8,7 @@ mod link;
 mod view;
 mod workers;
 
-pub use board::{Board, Seat};
+pub use board::{Board, Ending, Seat};
 pub use fault::{LinkFault, WorkersFault};
 pub use link::{Full, Link, PutPass, TakePass};
 pub use workers::Workers;

@@ -1,5 +1,5 @@
 -- The text of a run that is written while it is collected. No public contract cites these.
-use Rattle.std.specs.Prelude.{◌≡◌, ℕ, ◌≤◌, List, length, Option, None, Some, Result, Ok, Err, ⊤}
+use Rattle.std.specs.Prelude.{◌≡◌, ℕ, ◌≤◌, Bool, if◌then◌else◌, List, length, Option, None, Some, Result, Ok, Err, ⊤}
 use Rattle.std.specs.Io.KnownBytes.{Appends}
 use Rattle.cmb_design.specs.Design.{Design}
 use Rattle.cmb_design.specs.Lawful.{IsDesign}
@@ -8,7 +8,7 @@ use Rattle.cmb_vcd.specs.Collector.{Collector}
 use Rattle.cmb_vcd.specs.Writer.{Writer, done_text}
 use Rattle.cmb_run.specs.FreeRuns.{IsStoppedAt}
 use Rattle.cmb_run.specs.declared.run_fault.RunFault.{RunFault}
-use Rattle.cmb_run.specs.declared.run_fault.RunFault.TheVariants.{Write, Memory}
+use Rattle.cmb_run.specs.declared.run_fault.RunFault.TheVariants.{Incomplete, Write, Memory}
 
 -- the design's text up to a tick, nothing where no tick is given
 abbrev pub told : Design → Option ℕ → List ℕ
@@ -39,6 +39,14 @@ pub record IsGiven (design : Design) (old new : Option (List ℕ)) (before after
   pub count : given ≡ length (told design (Some done))
   pub text : Appends old new (told design (Some done))
   pub no_failure : after ≡ before
+
+-- what a text comes to whose run met want of memory or didn't: a failed write is the answer before all else, and
+-- want of memory before the rest
+abbrev pub decision : Result ℕ RunFault → Bool → Result ℕ RunFault
+decision (Ok given) refused = if refused then Err Memory else Ok given
+decision (Err (Incomplete net upto collector)) refused = if refused then Err Memory else Err (Incomplete net upto collector)
+decision (Err (Write written)) refused = Err (Write written)
+decision (Err Memory) refused = Err Memory
 
 -- the fault of a run is that of its text; want of memory may come in the place of all but a failed write
 abbrev pub IsDecided : Result ℕ RunFault → RunFault → Type 0

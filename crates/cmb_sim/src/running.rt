@@ -118,7 +118,9 @@ fn write_by_workers<R: AllocGlobal + Threads + Wait + Sync, O: Sink>(
     let alloc = rt.alloc();
     let clustering = spread(alloc, design, clusters)?;
     let workers = workers_of(workers)?;
-    let written = run_free_text(rt, alloc, design, &clustering, workers, &OpenGate, out)?;
+    // A worker without a cluster would have nothing to do.
+    let busy = workers.at_most(clustering.clusters());
+    let written = run_free_text(rt, alloc, design, &clustering, busy, &OpenGate, out)?;
     Ok(written)
 }
 

@@ -9,7 +9,7 @@ mod links;
 use crate::circuit::Circuit;
 use crate::exact::ExactCluster;
 use crate::trouble::Trouble;
-use boards::{board_threads, board_words};
+use boards::{board_threads, board_words, closed_board};
 use cmb_core::Clustering;
 use links::{capacities, closed_link, full_link, link_threads};
 use std::alloc::Global;
@@ -54,6 +54,7 @@ fn tell(rt: &impl Print, name: &str, outcome: Result<(), Trouble>) -> bool {
 fn run_over<R: Print + Threads + Wait + Sync>(rt: &R, alloc: Global, circuit: &Circuit) -> bool {
     tell(rt, "board_words", board_words(alloc, circuit))
         && tell(rt, "board_threads", board_threads(rt, alloc, circuit))
+        && tell(rt, "closed_board", closed_board(alloc, circuit))
         && tell(rt, "full_link", full_link(rt, alloc, circuit))
         && tell(rt, "closed_link", closed_link(rt, alloc, circuit))
         && tell(rt, "capacities", capacities(alloc, circuit))

@@ -40,6 +40,8 @@ pub enum Trouble {
     SecondSeat,
     #[error("what was published isn't what was worked out")]
     Published,
+    #[error("a closed board doesn't tell what was worked out")]
+    Ending,
     #[error("a piece isn't the one that was worked out")]
     Span,
     #[error("a link refuses a piece though it has room")]

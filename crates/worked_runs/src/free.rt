@@ -63,14 +63,15 @@ fn spread_toggle(rt: &impl Abort, alloc: Global) -> Result<Spread, Fail> {
     Ok(Spread { design, clustering })
 }
 
-// A run by two workers.
-fn run_by_two<G: Turnstile + Sync, R: Threads + Wait + Sync>(
+// A run by so many workers.
+fn run_by<G: Turnstile + Sync, R: Threads + Wait + Sync>(
     rt: &R,
     alloc: Global,
     spread: &Spread,
+    workers: u32,
     gate: &G,
 ) -> Result<Result<Collector, RunFault>, Fail> {
-    let workers = Workers::new(2)?;
+    let workers = Workers::new(workers)?;
     Ok(run_free(rt, alloc, &spread.design, &spread.clustering, workers, gate))
 }
 
@@ -81,7 +82,7 @@ fn two_workers<G: Turnstile + Sync, R: Abort + Threads + Wait + Sync>(
     gate: &G,
 ) -> Result<Result<Collector, RunFault>, Fail> {
     let toggle = spread_toggle(rt, alloc)?;
-    run_by_two(rt, alloc, &toggle, gate)
+    run_by(rt, alloc, &toggle, 2, gate)
 }
 
 // The same, with its text.
@@ -161,6 +162,73 @@ fn workers_meet(rt: HostRuntime) -> Result<(), Fail> {
     };
     assert!(rt; two_workers(&rt, rt.alloc(), &meeting)?.is_ok());
     assert_eq!(rt; meeting.missed.load(SeqCst), 0);
+    Ok(())
+}
+
+// Each worker counts itself before its first turn, and goes on once all have.
+#[derive(Drop)]
+struct Assembly {
+    here: AtomicU64,
+    others: u64,
+    missed: AtomicU64,
+}
+
+impl Turnstile for Assembly {
+    fn pass(&self, _worker: u32, turn: u32) -> bool {
+        if turn == 0 {
+            self.here.fetch_add(1, SeqCst);
+            if !waits_above(&self.here, self.others) {
+                self.missed.store(1, SeqCst);
+            }
+        }
+        true
+    }
+}
+
+#[test]
+fn workers_without_clusters_meet_too(rt: HostRuntime) -> Result<(), Fail> {
+    let assembly = Assembly {
+        here: AtomicU64::new(0),
+        others: 4,
+        missed: AtomicU64::new(0),
+    };
+    let toggle = spread_toggle(&rt, rt.alloc())?;
+    assert!(rt; run_by(&rt, rt.alloc(), &toggle, 5, &assembly)?.is_ok());
+    assert_eq!(rt; assembly.here.load(SeqCst), 5);
+    assert_eq!(rt; assembly.missed.load(SeqCst), 0);
+    Ok(())
+}
+
+// Each of three workers expects its turns one by one, from turn 0 on.
+#[derive(Drop)]
+struct Counted {
+    next: [AtomicU64; 3],
+    missed: AtomicU64,
+}
+
+impl Turnstile for Counted {
+    fn pass(&self, worker: u32, turn: u32) -> bool {
+        let mine = (worker % 3) as usize;
+        if worker > 2 || self.next[mine].load(SeqCst) != turn as u64 {
+            self.missed.store(1, SeqCst);
+        }
+        self.next[mine].store(turn as u64 + 1, SeqCst);
+        true
+    }
+}
+
+#[test]
+fn turns_rise_by_one(rt: HostRuntime) -> Result<(), Fail> {
+    let counted = Counted {
+        next: [AtomicU64::new(0), AtomicU64::new(0), AtomicU64::new(0)],
+        missed: AtomicU64::new(0),
+    };
+    let toggle = spread_toggle(&rt, rt.alloc())?;
+    assert!(rt; run_by(&rt, rt.alloc(), &toggle, 3, &counted)?.is_ok());
+    assert_eq!(rt; counted.missed.load(SeqCst), 0);
+    for next in &counted.next {
+        assert!(rt; next.load(SeqCst) > 0);
+    }
     Ok(())
 }
 
@@ -305,7 +373,7 @@ fn halved_buffers(rt: &impl Abort, alloc: Global) -> Result<Spread, Fail> {
 fn early_reader(rt: HostRuntime) -> Result<(), Fail> {
     let alloc = rt.alloc();
     let buffers = halved_buffers(&rt, alloc)?;
-    let answer = run_by_two(&rt, alloc, &buffers, &Patience)?;
+    let answer = run_by(&rt, alloc, &buffers, 2, &Patience)?;
     assert!(rt; answer.is_ok());
     Ok(())
 }

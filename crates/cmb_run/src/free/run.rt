@@ -1,9 +1,11 @@
 //! A free run.
 
-ghost use Rattle.std.specs.Prelude.{◌≡◌, length, IfOk, IfErr, IfSome, IfNone};
+ghost use Rattle.std.specs.Prelude.{◌≡◌, true, false, length, Err, IfOk, IfErr, IfSome, IfNone};
+ghost use Rattle.cmb_design.specs.Design.{Design};
 ghost use Rattle.cmb_design.specs.Exact.{nets_of};
 ghost use Rattle.cmb_vcd.specs.Collector.{IsComplete, IsExactFor};
 ghost use Rattle.cmb_run.specs.FreeRuns.{IsLeastBehind, IsStopped, IsStoppedAt};
+ghost use Rattle.cmb_run.specs.declared.run_fault.RunFault.TheVariants.{Memory};
 
 use crate::collected::Collected;
 use crate::free::collect::collect;
@@ -50,6 +52,20 @@ pub fn ended(collector: Collector) -> Result<Collector, RunFault>
             collector,
         }),
     }
+}
+
+// What a run that ended comes to: 70 where memory or a thread was refused, whatever was collected.
+fn settled(refused: bool, collector: Collector) -> Result<Collector, RunFault>
+    ensures refused { refused ≡ true → result ≡ Err Memory }
+    ensures same { IfOk result (λ whole. whole ≡ collector) }
+    ensures complete { IfOk result (λ whole. IsComplete whole) }
+    ensures fault { refused ≡ false → IfErr result (IsStoppedAt collector) }
+    ensures stopped { (design : Design) → IsExactFor design collector → IfErr result (IsStopped design) }
+{
+    if refused {
+        return Err(RunFault::Memory);
+    }
+    ended(collector)
 }
 
 // Runs each worker in a thread of the scope, and collects in this one. Says whether memory or a thread was refused.
@@ -112,16 +128,13 @@ fn run_named<T: Terms + Send + Sync, G: Turnstile + Sync, R: Threads + Wait + Sy
     let crew = Crew::<T>::open(alloc, design, clustering, workers)?;
     let collected = Collected::open(alloc, design)?;
     let (collected, refused) = run_crew(rt, alloc, crew, collected, gate);
-    if refused {
-        return Err(RunFault::Memory);
-    }
-    ended(collected.into_collector())
+    settled(refused, collected.into_collector())
 }
 
 /// Simulates a design by workers that run freely, and collects the waves of all its nets, up to the
 /// horizon. Cluster c belongs to worker `c mod workers`; a worker whose number isn't below that of the
-/// clusters has none, and no part in the run. Each other worker has a thread of its own, in which
-/// it takes turn after turn; the calling thread collects what they put. Before each of its turns a worker
+/// clusters has none. Each worker, that one too, has a thread of its own, in which it takes turn after
+/// turn; the calling thread collects what they put. Before each of its turns, from turn 0 on, a worker
 /// asks the turnstile, and where that refuses, the run is stopped. What comes out doesn't change with clustering,
 /// workers or turns. It may wait without end. Faults: 70 where memory or a worker's thread was
 /// refused, and 53 where the run was stopped before all was known.
@@ -138,7 +151,6 @@ pub fn run_free<G: Turnstile + Sync, R: Threads + Wait + Sync>(
     ensures complete { IfOk result (λ collector. IsComplete collector) }
     ensures fault { IfErr result (IsStopped design.now) }
 {
-    let workers = workers.at_most(clustering.clusters());
     let merged = clustering.merged(alloc, workers.count())?;
     run_named::<Brand, G, R>(rt, alloc, design, &merged, workers, gate)
 }

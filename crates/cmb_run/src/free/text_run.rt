@@ -6,7 +6,7 @@ ghost use Rattle.cmb_design.specs.Exact.{nets_of};
 ghost use Rattle.cmb_vcd.specs.Collector.{IsComplete, least};
 ghost use Rattle.cmb_vcd.specs.Vcd.{vcd};
 ghost use Rattle.cmb_run.specs.FreeRuns.{IsCutAt};
-ghost use Rattle.cmb_run.specs.Tellers.{IsDecided, IsGiven, IsUnfinished, IsWithin, told};
+ghost use Rattle.cmb_run.specs.Tellers.{decision, IsDecided, IsGiven, IsUnfinished, IsWithin, told};
 
 use crate::collected::Collected;
 use crate::free::collect::take_round;
@@ -88,6 +88,7 @@ fn tell_all<T: Terms, S: Sink, R: Wait>(
 
 // Why a text isn't whole: a failed write comes before all else, and want of memory before the rest.
 fn decided(given: Result<u64, RunFault>, refused: bool) -> Result<u64, RunFault>
+    ensures exact { result ≡ decision given refused }
     ensures ok { IfOk result (λ now. given ≡ Ok now) }
     ensures fault { IfErr result (IsDecided given) }
 {
@@ -254,7 +255,6 @@ pub fn run_free_text<G: Turnstile + Sync, S: Sink, R: Threads + Wait + Sync>(
     ensures no_failure { OnOk result (S.failures sink.new ≡ S.failures sink.old) }
     ensures fault { IfErr result (IsCutAt design.now (S.taken sink.old) (S.taken sink.new) (S.failures sink.old) (S.failures sink.new)) }
 {
-    let workers = workers.at_most(clustering.clusters());
     let merged = clustering.merged(alloc, workers.count())?;
     run_named::<Brand, G, S, R>(rt, alloc, design, &merged, workers, gate, sink)
 }

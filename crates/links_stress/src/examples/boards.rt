@@ -1,6 +1,6 @@
 //! What two seats of a board find of one another's words, in one thread and in two.
 
-ghost use Rattle.std.specs.Prelude.{◌≡◌, false};
+ghost use Rattle.std.specs.Prelude.{◌≡◌, true, false, IfOk};
 ghost use Rattle.cmb_links.specs.Seats.{new_seat, terms};
 
 use super::{expect, source};
@@ -10,7 +10,7 @@ use crate::run::{Table, open_board};
 use crate::trouble::Trouble;
 use crate::watch::Watch;
 use crate::worker::TURNS;
-use cmb_links::Workers;
+use cmb_links::{Ending, Workers};
 use cmb_wave::Promise;
 use std::alloc::Global;
 use std::thread;
@@ -81,6 +81,7 @@ struct Setting<'a> {
     ghost two: { workers ≡ 2 },
     ghost first: { table.first ≡ new_seat table.board (terms circuit.now.design circuit.now.clustering 2) false 0 },
     ghost second: { table.second ≡ new_seat table.board (terms circuit.now.design circuit.now.clustering 2) false 1 },
+    ghost last: { table.last ≡ new_seat table.board (terms circuit.now.design circuit.now.clustering 2) true 2 },
     ghost same: { cluster ≡ circuit.now.design },
 }
 
@@ -129,6 +130,56 @@ fn in_one_thread(alloc: Global, setting: Setting<'_>) -> Result<(), Trouble> {
 pub fn board_words(alloc: Global, circuit: &Circuit) -> Result<(), Trouble> {
     let setting = open_setting(alloc, circuit)?;
     in_one_thread(alloc, setting)
+}
+
+// Closes a board on which the first seat published how far its net is known, and finished, and the second one raised.
+fn close_over(alloc: Global, setting: Setting<'_>) -> Result<Ending, Trouble>
+    ensures raised { IfOk result (λ end. end.is_raised ≡ true) }
+    ensures finished { IfOk result (λ end. end.finished ≡ 1) }
+{
+    let Setting {
+        circuit,
+        workers,
+        table,
+        mut cluster,
+    } = setting;
+    let Table {
+        board,
+        mut first,
+        mut second,
+        last,
+    } = table;
+    cluster.step()?;
+    let Some(promise) = cluster.promise(0) else {
+        return Err(Trouble::NotDriven);
+    };
+    if workers.of(circuit.clustering.of(promise.net)) != 0 {
+        return Err(Trouble::NotDriven);
+    }
+    board.publish(&mut first, promise);
+    board.finish(&mut first);
+    board.raise(&mut second);
+    let mut seats = Vec::with_capacity(alloc, 3)?;
+    seats.push_reserved(first);
+    seats.push_reserved(second);
+    seats.push_reserved(last);
+    Ok(board.close(alloc, seats)?)
+}
+
+/// A closed board tells what was published last of each net, that somebody raised, and how many workers finished.
+pub fn closed_board(alloc: Global, circuit: &Circuit) -> Result<(), Trouble> {
+    let setting = open_setting(alloc, circuit)?;
+    let end = close_over(alloc, setting)?;
+    let none = Promise {
+        net: 1,
+        count: 0,
+        upto: 0,
+    };
+    let are_told = end.promises.as_slice() == [promise(1, 3), none].as_slice();
+    expect(
+        are_told && end.is_raised && end.finished == 1,
+        Trouble::Ending,
+    )
 }
 
 // Publishes four promises, the last of them up to the horizon.

@@ -1,5 +1,5 @@
 use Rattle.std.proofs.Common.{◌≡◌, ◌+◌, rules, arith, ap, sym, subst, ◌∙◌}
-use Rattle.cmb_links.specs.Seats.{after_count}
+use Rattle.cmb_links.specs.Seats.{after_count, only}
 use Rattle.cmb_links.specs.Boards.{Moment, number_finished}
 use Rattle.cmb_links.specs.declared.view.View.{View}
 use Rattle.cmb_links.proofs.Allowed.{count_allowed}
@@ -12,11 +12,11 @@ load-requires c =
     let wide' = c.self.invariant.0 in
     let board : c.seat.inside.inner.table_id ≡ c.self.inside.table.shared.table_id = ap (λ s. s.board) c.seat.view_is ∙ c.requires.board ∙ sym c.self.view_is in
     let width = ap (λ t. t.words) board in
-    (board, omega arith, count_allowed _ _ _ _ _ (omega arith))
+    (board, omega arith, count_allowed _ _ _ _ _ (ap (λ m. m.0) c.seat.invariant.0) (omega arith))
 
 pub returns : goal.returns
 returns c =
-    let v = c.seat.inside.inner.me.0 in
+    let v = only c.seat.inside.inner.me.0 in
     let seen : v ≡ c.args.seat.now.view = ap (λ s. s.view) c.seat.view_is in
     let wide = c.seat.invariant.1 in
     let wide' = c.self.invariant.0 in
@@ -25,7 +25,7 @@ returns c =
     let told = c.load.ensures.2 in
     let told' = looks_at_end v (c.self.inside.nets + 1) c.load.result (omega arith) told.1 in
     let h = subst (λ (z : View). Counted z c.load.result) seen told' in
-    let now : after_count c.args.seat.now.view c.load.result ≡ c.load.new.seat.me.0 = sym (ap (λ m. m.0) told.0 ∙ (λ i. after_count (seen i) c.load.result)) in
+    let now : after_count c.args.seat.now.view c.load.result ≡ only c.load.new.seat.me.0 = sym (ap (λ m. only m.0) told.0 ∙ (λ i. after_count (seen i) c.load.result)) in
     record {
       entry = search rules;
       rising = h.rising;

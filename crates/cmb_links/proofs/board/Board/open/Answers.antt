@@ -1,10 +1,10 @@
 use Rattle.std.proofs.Common.{◌≡◌, ◌+◌, ◌<◌, ◌≤◌, ◌++◌, [], ◌∷◌, true, false, replicate, rules, arith, ap, sym, ◌∙◌}
 use Rattle.std.proofs.lemmas.List.FromFn.{map-range_with_len_more}
 use Rattle.cmb_design.specs.Exact.{nets_of}
-use Rattle.cmb_links.specs.Seats.{new_view, new_seat, new_seats, terms, cut_left, cut_right}
+use Rattle.cmb_links.specs.Seats.{new_view, new_seat, new_seats, terms, cut_left, cut_right, only}
 use Rattle.cmb_links.specs.declared.view.Terms.{Terms}
 use Rattle.cmb_links.specs.declared.view.View.{View}
-use Rattle.cmb_links.proofs.Seats.{opens, splits, all_seats}
+use Rattle.cmb_links.proofs.Seats.{opens, cuts, all_seats}
 use Rattle.cmb_links.proofs.board.Board.open.Goals as goal
 
 pub of_words-requires : goal.of_words-requires
@@ -19,11 +19,12 @@ of_words-requires c =
 pub split_seat-next-requires : goal.split_seat-next-requires
 split_seat-next-requires c =
     let kept = c.loop-place.invariant in
-    let v = c.loop-place.last.me.0 in
+    let one = ap (λ m. m.0) kept.me in
+    let v = only c.loop-place.last.me.0 in
     let wide = kept.words in
-    let is : v ≡ new_view (terms c.args.design.now c.args.clustering.now c.args.workers) c.loop-place._place true = ap (λ m. m.0) kept.me in
+    let is : v ≡ new_view (terms c.args.design.now c.args.clustering.now c.args.workers) c.loop-place._place true = ap only one in
     let room : v.place < v.terms.workers = rw is (omega arith) in
-    (kept.board, omega arith, splits _ _ _ (ap (λ (u : View). u.is_last) is) room)
+    (kept.board, omega arith, cuts _ _ _ (one ∙ ap (λ u. u ∷ []) (sym is)) (ap (λ (u : View). u.is_last) is) room)
 
 pub loop-place-preserved : goal.loop-place-preserved
 loop-place-preserved c =
@@ -33,7 +34,7 @@ loop-place-preserved c =
     let board = c.in_ok-table.table.shared.table_id in
     let cut = c.split_seat-next.ensures in
     let b : c.replace.result.table_id ≡ board = ap (λ s. s.table_id) c.replace.ensures.value ∙ cut.0 ∙ kept.board in
-    let v : c.replace.result.me.0 ≡ new_view t place false = ap (λ s. s.me.0) c.replace.ensures.value ∙ ap (λ m. m.0) cut.2 ∙ ap (λ m. cut_left m.0) kept.me in
+    let v : only c.replace.result.me.0 ≡ new_view t place false = ap (λ s. only s.me.0) c.replace.ensures.value ∙ ap (λ m. only m.0) cut.2 ∙ ap (λ m. cut_left (only m.0)) kept.me in
     record {
       seats = c.push_reserved.ensures.items ∙ (λ i. kept.seats i ++ record { board = b i; view = v i } ∷ []) ∙ sym (map-range_with_len_more (new_seat board t false) 0 place place (omega arith));
       len = search rules;
@@ -41,7 +42,7 @@ loop-place-preserved c =
       key = kept.key;
       words = kept.words;
       board = ap (λ s. s.table_id) c.replace.ensures.after ∙ cut.3 ∙ kept.board;
-      me = ap (λ s. s.me) c.replace.ensures.after ∙ cut.4 ∙ (λ i. (cut_right (kept.me i).0, []));
+      me = ap (λ s. s.me) c.replace.ensures.after ∙ cut.4 ∙ (λ i. (cut_right (only (kept.me i).0) ∷ [], []));
     }
 
 pub returns-clause-board : goal.returns-clause-board

@@ -1,4 +1,4 @@
-use Rattle.std.proofs.Common.{◌≡◌, ◌+◌, true, false, [], map, vec_len, vec_capacity}
+use Rattle.std.proofs.Common.{◌≡◌, ◌+◌, true, false, [], ◌∷◌, map, vec_len, vec_capacity}
 use Rattle.std.specs.List.{range_with_len}
 use Rattle.cmb_design.specs.Exact.{nets_of}
 use Rattle.cmb_links.specs.Seats.{new_view, new_seat, terms, terms_of}
@@ -12,5 +12,5 @@ invariant-loop-place l = record {
   key : terms_of l.table.shared.key ≡ terms l.design l.clustering l.fn.workers;
   words : l.table.shared.table_id.words ≡ (nets_of l.design) + 2;
   board : l.last.table_id ≡ l.table.shared.table_id;
-  me : l.last.me ≡ (new_view (terms l.design l.clustering l.fn.workers) l._place true, []);
+  me : l.last.me ≡ (new_view (terms l.design l.clustering l.fn.workers) l._place true ∷ [], []);
 }

@@ -1,13 +1,13 @@
 use Rattle.std.proofs.Common.{◌≡◌, ◌≤◌, rules, arith, ap, sym, ◌∙◌}
 use Rattle.cmb_design.specs.Exact.{IsRightIn}
 use Rattle.cmb_links.specs.Promises.{newest}
-use Rattle.cmb_links.specs.Seats.{driver}
+use Rattle.cmb_links.specs.Seats.{driver, only}
 use Rattle.cmb_links.proofs.Allowed.{publish_allowed}
 use Rattle.cmb_links.proofs.board.Board.publish.Goals as goal
 
 pub store-requires : goal.store-requires
 store-requires c =
-    let v = c.seat.inside.inner.me.0 in
+    let v = only c.seat.inside.inner.me.0 in
     let p = c.args.promise in
     let is = c.seat.view_is in
     let seen : v ≡ c.args.seat.now.view = ap (λ s. s.view) is in
@@ -19,5 +19,5 @@ store-requires c =
     let width = ap (λ t. t.words) board in (
       board,
       omega arith,
-      rw c.word-word.ensures.word (publish_allowed _ _ _ _ p drives right (search rules) rises),
+      rw c.word-word.ensures.word (publish_allowed _ _ _ _ p (ap (λ m. m.0) c.seat.invariant.0) drives right (search rules) rises),
     )

@@ -1,5 +1,5 @@
 use Rattle.std.proofs.Common.{◌≡◌, ◌==◌, rules, arith, ap, sym, subst, ◌∙◌}
-use Rattle.cmb_links.specs.Seats.{after_check}
+use Rattle.cmb_links.specs.Seats.{after_check, only}
 use Rattle.cmb_links.specs.Boards.{Moment, some_raised}
 use Rattle.cmb_links.specs.declared.view.View.{View}
 use Rattle.cmb_links.proofs.Allowed.{check_allowed}
@@ -12,11 +12,11 @@ load-requires c =
     let wide' = c.self.invariant.0 in
     let board : c.seat.inside.inner.table_id ≡ c.self.inside.table.shared.table_id = ap (λ s. s.board) c.seat.view_is ∙ c.requires.board ∙ sym c.self.view_is in
     let width = ap (λ t. t.words) board in
-    (board, omega arith, check_allowed _ _ _ _ _ (omega arith))
+    (board, omega arith, check_allowed _ _ _ _ _ (ap (λ m. m.0) c.seat.invariant.0) (omega arith))
 
 pub returns : goal.returns
 returns c =
-    let v = c.seat.inside.inner.me.0 in
+    let v = only c.seat.inside.inner.me.0 in
     let seen : v ≡ c.args.seat.now.view = ap (λ s. s.view) c.seat.view_is in
     let wide = c.seat.invariant.1 in
     let wide' = c.self.invariant.0 in
@@ -25,7 +25,7 @@ returns c =
     let told = c.load.ensures.2 in
     let told' = looks_at_stop v c.self.inside.nets c.load.result (omega arith) told.1 in
     let h = subst (λ (z : View). Checked z (c.load.result == 1)) seen told' in
-    let now : after_check c.args.seat.now.view (c.load.result == 1) ≡ c.load.new.seat.me.0 = sym (ap (λ m. m.0) told.0 ∙ (λ i. after_check (seen i) (c.load.result == 1))) in
+    let now : after_check c.args.seat.now.view (c.load.result == 1) ≡ only c.load.new.seat.me.0 = sym (ap (λ m. only m.0) told.0 ∙ (λ i. after_check (seen i) (c.load.result == 1))) in
     record {
       entry = search rules;
       own = h.own;
