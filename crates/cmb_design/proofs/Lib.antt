@@ -20,3 +20,4 @@ pub mod TableFacts
 pub mod RangeFacts
 pub mod LawfulFacts
 pub mod PlainFacts
+pub mod BoundFacts
