@@ -1,10 +1,11 @@
 //! What a netlist is.
 
-ghost use Rattle.std.specs.Prelude.{◌≡◌, ◌<◌, ◌≤◌, ◌==◌, ℕ, List, length, MatchOption};
+ghost use Rattle.std.specs.Prelude.{◌≡◌, ◌<◌, ◌≤◌, ◌==◌, ℕ, List, length, IfOk, MatchOption};
 
 use crate::name::{Name, Spelled};
 use indexmap::IndexSet;
 use smallvec::SmallVec;
+use std::alloc::{AllocError, Global};
 use std::marker::Model;
 
 /// A gate's function.
@@ -52,6 +53,15 @@ impl Operands {
         Operands { nets }
     }
 
+    /// Operands by the numbers of their nets. They are refused only where memory runs out.
+    pub fn from_slice(alloc: Global, nets: &[u32]) -> Result<Operands, AllocError>
+        ensures { IfOk result (λ operands. operands ≡ nets.now) }
+    {
+        Ok(Operands {
+            nets: SmallVec::from_slice(alloc, nets)?,
+        })
+    }
+
     /// The numbers of the nets, in the order of the pins.
     pub fn as_slice(&self) -> &[u32]
         ensures { result.now ≡ self.now }
@@ -90,12 +100,8 @@ impl Model for Netlist {
 impl Netlist {
     ghost use Rattle.cmb_bench.specs.Netlist.{driver_of, name_of, number_of, IsNetlist};
 
-    // A netlist of its parts.
-    pub(crate) fn new(
-        names: IndexSet<Name>,
-        drivers: Vec<Driver>,
-        outputs: IndexSet<u32>,
-    ) -> Netlist
+    /// A netlist of its parts: the nets' names and drivers, by number, and its outputs.
+    pub fn new(names: IndexSet<Name>, drivers: Vec<Driver>, outputs: IndexSet<u32>) -> Netlist
         requires { IsNetlist (record { names = names.keys; drivers = drivers.items; outputs = outputs.keys }) }
         ensures { result ≡ record { names = names.keys; drivers = drivers.items; outputs = outputs.keys } }
     {

@@ -4,7 +4,6 @@ pub mod ClusterLemmas
 pub mod GateLemmas
 pub mod Merging
 pub mod PinLists
-pub mod Settles
 pub mod Samples
 pub mod Skips
 pub mod Slots
@@ -13,7 +12,6 @@ pub mod Progress
 pub mod Steps
 pub mod SweepFacts
 pub mod Sweeps
-pub mod Passes
 pub mod TrimFacts
 pub mod Commute
 pub mod Driven
@@ -32,8 +30,4 @@ pub mod Turns
 pub mod RoundFacts
 pub mod Opens
 pub mod TrimLaws
-pub mod TipFacts
-pub mod Ends
-pub mod NodeFacts
 pub mod StretchFacts
-pub mod Steady

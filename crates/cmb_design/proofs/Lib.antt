@@ -6,6 +6,7 @@ pub mod DelayFacts
 pub mod LevelFacts
 pub mod ToldFacts
 pub mod StimulusFacts
+pub mod SettleFacts
 pub mod SettingFacts
 pub mod WholeFacts
 pub mod AskFacts
@@ -21,3 +22,4 @@ pub mod RangeFacts
 pub mod LawfulFacts
 pub mod PlainFacts
 pub mod BoundFacts
+pub mod PartFacts

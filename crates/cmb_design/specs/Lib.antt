@@ -20,3 +20,4 @@ pub mod Readers
 pub mod Records
 pub mod Plain
 pub mod PlainTable
+pub mod Part

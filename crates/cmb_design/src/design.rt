@@ -1,6 +1,6 @@
 //! The design as one value.
 
-ghost use Rattle.std.specs.Prelude.{◌≡◌, ◌⊎◌, ◌<◌, ◌≤◌, length, IfOk, IfErr, IfSome};
+ghost use Rattle.std.specs.Prelude.{◌≡◌, ◌⊎◌, ◌<◌, ◌≤◌, length, option_map, IfOk, IfErr, IfSome};
 ghost use Rattle.cmb_design.specs.Checks.{FollowsChecks, first_fault};
 ghost use Rattle.cmb_design.specs.declared.fault.DesignFault.TheVariants as fault;
 ghost use Rattle.cmb_design.specs.Inside.{AreTables};
@@ -9,16 +9,19 @@ ghost use Rattle.cmb_design.specs.Timing.{clock_of, delay as design_delay, last_
 ghost use Rattle.cmb_design.specs.Lawful.{IsDesign};
 ghost use Rattle.cmb_design.specs.Ranges.{IsDelay};
 ghost use Rattle.cmb_wave.specs.Waveform.{changes_between};
-ghost use Rattle.cmb_design.specs.Design.{design_of};
+ghost use Rattle.cmb_design.specs.Design.{clock_given, design_of};
+ghost use Rattle.cmb_design.specs.Part.{design_on};
 ghost use Rattle.cmb_design.specs.Settings.{design_checks};
 
 use crate::clocks::take_clocks;
-use crate::delays::{all_delays, lay_out, take_delays};
+use crate::delays::{lay_out, pin_delays};
 use crate::fault::DesignFault;
+use crate::part::{clocks_on, delays_on, stimuli_on};
 use crate::rows::{Clock, ClockRows, DelayRows, StimulusRows};
 use crate::samples::{clock_for_all, last_at, level_told, next_at, told_before};
 use crate::settings::{Settings, check_settings};
 use crate::stimuli::stimuli_changes;
+use crate::told::Told;
 use cmb_bench::Netlist;
 use cmb_wave::{Change, Level};
 use std::alloc::Global;
@@ -29,7 +32,7 @@ use std::marker::Model;
 pub(crate) struct Tables {
     starts: Vec<usize>,
     delays: Vec<u32>,
-    changes: Vec<Vec<Change>>,
+    changes: Vec<Told>,
     own_clocks: Vec<Option<Clock>>,
 }
 
@@ -56,15 +59,12 @@ fn make_tables(
     )?;
     let layout = lay_out(alloc, netlist)?;
     let delay_rows = delays.as_slice();
-    let places = take_delays(alloc, netlist, &layout.starts, layout.size, delay_rows)?;
+    let delays = pin_delays(alloc, netlist, &layout, delay_rows)?;
     let changes = stimuli_changes(alloc, netlist, stimuli.as_slice())?;
     let own_clocks = take_clocks(alloc, netlist, clock_rows)?;
-    let Ok(pin_delays) = all_delays(alloc, netlist, &layout.starts, &places, delay_rows) else {
-        return Err(DesignFault::Memory);
-    };
     Ok(Tables {
         starts: layout.starts,
-        delays: pin_delays,
+        delays,
         changes,
         own_clocks,
     })
@@ -123,6 +123,34 @@ impl Design {
         })
     }
 
+    /// What was given beside the netlist and the rows.
+    fn settings(&self) -> Settings
+        ensures { (result.horizon ≡ self.now.horizon) × (result.init ≡ self.now.init) × (option_map clock_given result.clock ≡ self.now.clock) }
+    {
+        Settings {
+            horizon: self.horizon,
+            clock: self.clock.map(|clock| (clock.first, clock.period)),
+            init: self.init,
+        }
+    }
+
+    /// The design of another netlist with this one's settings, and with its rows but for those that are about a net which
+    /// the other netlist lacks; or the first fault there, as `new` answers it.
+    pub fn on(&self, alloc: Global, netlist: Netlist) -> Result<Design, DesignFault>
+        ensures { let design = design_on self.now netlist in FollowsChecks (design_checks design) design result }
+    {
+        let Ok(delays) = delays_on(alloc, &netlist, &self.delays) else {
+            return Err(DesignFault::Memory);
+        };
+        let Ok(stimuli) = stimuli_on(alloc, &netlist, &self.stimuli) else {
+            return Err(DesignFault::Memory);
+        };
+        let Ok(clocks) = clocks_on(alloc, &netlist, &self.clocks) else {
+            return Err(DesignFault::Memory);
+        };
+        Design::new(alloc, netlist, delays, stimuli, clocks, self.settings())
+    }
+
     /// The horizon in ticks, 1 to 1,000,000: the ticks below it are simulated.
     pub fn horizon(&self) -> u32
         ensures value { result ≡ self.now.horizon }
@@ -164,7 +192,7 @@ impl Design {
         ensures value { result.now ≡ changes_between (stimulus self.now net) 0 4294967296 }
         ensures lawful { IsDesign self.now }
     {
-        self.tables.changes[net].as_slice()
+        self.tables.changes[net].changes()
     }
 
     /// The changes below the horizon of an input net by its stimulus; none for any other net.

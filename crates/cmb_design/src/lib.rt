@@ -10,6 +10,7 @@ mod fields;
 pub mod gates;
 pub mod laws;
 mod nets;
+mod part;
 pub mod plain;
 mod plain_cells;
 mod plain_table;

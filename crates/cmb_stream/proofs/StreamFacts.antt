@@ -6,27 +6,25 @@ use Rattle.std.proofs.lemmas.List.{append-nil, length-take-le, take_at}
 use Rattle.std.proofs.Math.Seq.{take-length}
 use Rattle.cmb_design.specs.Design.{Design}
 use Rattle.cmb_design.specs.Value.{value}
-use Rattle.cmb_dump.specs.Dumps.{Dump}
-use Rattle.cmb_engine.specs.Engines.{Engine}
-use Rattle.cmb_stream.specs.Parts.{IsStream, made_text}
+use Rattle.cmb_stream.specs.Parts.{IsKept, made_text}
 use Rattle.cmb_vcd.specs.Beginnings.{IsCutOff}
 use Rattle.cmb_vcd.specs.Vcd.{vcd}
 use Rattle.cmb_vcd.proofs.BeginFacts.{IsCutOff-front, part_text-begins, part_text-whole}
 use Rattle.cmb_vcd.proofs.TextSizes.{part_text-fits}
 
-module _ (design : Design) (engine : Engine) (dump : Dump) (given : ℕ) (text : List ℕ) (h : IsStream design engine dump given text) where
+module _ (design : Design) (clock given : ℕ) (text : List ℕ) (h : IsKept design clock given text) where
   -- the length of what was made
-  pub made-length : given + length text ≡ length (made_text design engine.clock)
+  pub made-length : given + length text ≡ length (made_text design clock)
   made-length = omega (arith, length-take-le given (vcd design) h.handed, length-append (take given (vcd design)) text, ap length h.made)
 
   pub made-fits : given + length text < 2 ^ 64
-  made-fits = omega (arith, made-length, part_text-fits design.netlist design.horizon (value design) engine.clock h.lawful.netlist h.lawful.horizon.1 h.within)
+  made-fits = omega (arith, made-length, part_text-fits design.netlist design.horizon (value design) clock h.lawful.netlist h.lawful.horizon.1 h.within)
 
   -- the rest of the text
   pub made-rest : (rest : List ℕ) × (vcd design ≡ take given (vcd design) ++ (text ++ rest))
   made-rest =
-      let more = part_text-begins design engine.clock h.within in
-      let all : vcd design ≡ made_text design engine.clock ++ more.0 = more.1 in
+      let more = part_text-begins design clock h.within in
+      let all : vcd design ≡ made_text design clock ++ more.0 = more.1 in
       (more.0, all ∙ ap (λ l. l ++ more.0) (sym h.made) ∙ append_assoc (take given (vcd design)) text more.0)
 
   -- all that was made, where what is kept is handed on
@@ -38,12 +36,9 @@ module _ (design : Design) (engine : Engine) (dump : Dump) (given : ℕ) (text :
       let all : vcd design ≡ front ++ more.0 = more.1 ∙ sym (append_assoc (take given (vcd design)) text more.0) in
       ap (take (given + length text)) all ∙ take_at front more.0 (given + length text) long
 
-  pub IsStream-given : (now : ℕ) (left : List ℕ) → now ≡ given + length text → left ≡ [] → IsStream design engine dump now left
-  IsStream-given now left n l = record {
+  pub IsKept-given : (now : ℕ) (left : List ℕ) → now ≡ given + length text → left ≡ [] → IsKept design clock now left
+  IsKept-given now left n l = record {
     lawful = h.lawful;
-    engaged = h.engaged;
-    dumped = h.dumped;
-    same = h.same;
     begun = h.begun;
     within = h.within;
     handed =
@@ -66,8 +61,8 @@ module _ (design : Design) (engine : Engine) (dump : Dump) (given : ℕ) (text :
       IsCutOff-front design (take given (vcd design)) text more.0 start old new before later given n more.1 (sym (length-take-le given (vcd design) h.handed)) short a b failed
 
   -- the whole text, where nothing was handed on
-  pub text-whole : engine.clock ≡ design.horizon → given ≡ 0 → text ≡ vcd design
-  text-whole done none = sym (ap (λ k. take k (vcd design) ++ text) none) ∙ h.made ∙ part_text-whole design engine.clock done
+  pub text-whole : clock ≡ design.horizon → given ≡ 0 → text ≡ vcd design
+  text-whole done none = sym (ap (λ k. take k (vcd design) ++ text) none) ∙ h.made ∙ part_text-whole design clock done
 
 pub made-whole : (design own : Design) (upto : ℕ) → own ≡ design → upto ≡ own.horizon → made_text own upto ≡ vcd design
 made-whole design own upto same done = part_text-whole own upto done ∙ ap vcd same

@@ -12,11 +12,12 @@ ghost use Rattle.cmb_vcd.specs.Vcd.{vcd};
 ghost use Rattle.cmb_words.specs.Changes.{RisesWithin, Tells};
 
 use crate::fault::StreamFault;
+use crate::first::{first_dump, tell_window};
+use crate::kept::Kept;
 use cmb_design::Design;
 use cmb_dump::Dump;
 use cmb_engine::Engine;
-use cmb_vcd::{Sink, write_whole};
-use cmb_wave::Level;
+use cmb_vcd::Sink;
 use cmb_words::Changed;
 use std::alloc::{AllocError, Global};
 use std::marker::Model;
@@ -24,76 +25,20 @@ use std::marker::Model;
 /// The text of a design, made window by window. What was made of it and not handed on is kept.
 #[derive(Drop)]
 pub struct Stream<'a> {
-    design: &'a Design,
     engine: Engine<'a>,
     dump: Dump<'a>,
     changed: Vec<Changed>,
-    text: Vec<u8>,
-    given: u64,
+    kept: Kept<'a>,
 }
 
 impl<'a> Model for Stream<'a> {
-    ghost use Rattle.cmb_stream.specs.Parts.{IsStream, Stream};
+    ghost use Rattle.cmb_stream.specs.Parts.{IsStream, Kept};
 
-    ghost Value = { Stream };
+    ghost Value = { Kept };
 
-    ghost view = { λ s. record { design = s.design.now; clock = s.engine.clock; given = s.given; text = s.text.items } };
+    ghost view = { λ s. s.kept };
 
-    ghost invariant = { λ s. IsStream s.design.now s.engine s.dump s.given s.text.items };
-}
-
-// The levels of all nets at tick 0, as the engine begins.
-fn first_levels(
-    alloc: Global,
-    design: &Design,
-    engine: &Engine<'_>,
-) -> Result<Vec<Level>, AllocError>
-    requires design { engine.now.design ≡ design.now }
-    requires clock { engine.now.clock ≡ 1 }
-    ensures count { IfOk result (λ levels. length levels.items ≡ nets_of design.now) }
-    ensures levels { IfOk result (λ levels. (net : ℕ) → net < nets_of design.now → slice_index_or levels.items net X ≡ value design.now net 0) }
-{
-    let nets = design.netlist().len();
-    let mut levels = Vec::with_capacity(alloc, nets)?;
-    for net in 0..nets {
-        levels.push(engine.level(net))?;
-    }
-    Ok(levels)
-}
-
-// The dump of a design, where its engine begins.
-fn first_dump<'a>(
-    alloc: Global,
-    design: &'a Design,
-    engine: &Engine<'_>,
-) -> Result<Dump<'a>, AllocError>
-    requires design { engine.now.design ≡ design.now }
-    requires clock { engine.now.clock ≡ 1 }
-    ensures design { IfOk result (λ dump. dump.design ≡ design.entry.now) }
-    ensures clock { IfOk result (λ dump. dump.clock ≡ 1) }
-    ensures text { IfOk result (λ dump. dump.text ≡ made_text design.entry.now 1) }
-{
-    let levels = first_levels(alloc, design, engine)?;
-    Dump::open(alloc, design, &levels)
-}
-
-// The text of a window: where no net changes, that costs nothing.
-fn tell_window(dump: &mut Dump<'_>, changed: &[Changed], upto: u32) -> Result<(), AllocError>
-    requires late { 1 ≤ dump.old.clock }
-    requires order { dump.old.clock < upto }
-    requires short { upto ≤ dump.old.clock + 63 }
-    requires within { upto ≤ dump.old.design.horizon }
-    requires nets { RisesWithin 0 (nets_of dump.old.design) changed.now }
-    requires tells { Tells (value dump.old.design) (nets_of dump.old.design) dump.old.clock upto changed.now }
-    ensures text { OnOk result (made_text dump.old.design upto ≡ made_text dump.old.design dump.old.clock ++ dump.new.text) }
-    ensures clock { OnOk result (dump.new.clock ≡ upto) }
-    ensures design { dump.new.design ≡ dump.old.design }
-{
-    if changed.is_empty() {
-        dump.pass(upto)
-    } else {
-        dump.window(changed, upto)
-    }
+    ghost invariant = { λ s. IsStream s.engine s.dump s.kept };
 }
 
 impl<'a> Stream<'a> {
@@ -102,18 +47,14 @@ impl<'a> Stream<'a> {
         ensures design { IfOk result (λ stream. stream.design ≡ design.entry.now) }
         ensures given { IfOk result (λ stream. stream.given ≡ 0) }
     {
-        // The proof learns here that the design is lawful.
-        let _horizon = design.horizon();
         let engine = Engine::open(alloc, design)?;
         let dump = first_dump(alloc, design, &engine)?;
-        let text = dump.text().to_vec(alloc)?;
+        let kept = Kept::open(alloc, design, &dump)?;
         Ok(Stream {
-            design,
             engine,
             dump,
             changed: Vec::new(alloc),
-            text,
-            given: 0,
+            kept,
         })
     }
 
@@ -122,7 +63,7 @@ impl<'a> Stream<'a> {
         ensures done { result ≡ true → self.now.clock ≡ self.now.design.horizon }
         ensures open { result ≡ false → self.now.clock < self.now.design.horizon }
     {
-        self.engine.clock() >= self.design.horizon()
+        self.kept.is_done()
     }
 
     /// Goes on by a window, whose text comes behind what is kept.
@@ -133,36 +74,32 @@ impl<'a> Stream<'a> {
         ensures later { IfOk result (λ stream. self.entry.clock < stream.clock) }
     {
         let Stream {
-            design,
             engine,
             mut dump,
             mut changed,
-            mut text,
-            given,
+            mut kept,
         } = self;
         let engine = engine.advance(&mut changed)?;
         tell_window(&mut dump, &changed, engine.clock())?;
-        text.extend_from_slice(dump.text())?;
+        kept.grow(dump.text(), engine.clock())?;
         Ok(Stream {
-            design,
             engine,
             dump,
             changed,
-            text,
-            given,
+            kept,
         })
     }
 
     /// How many bytes are kept.
     pub fn kept(&self) -> usize {
-        self.text.len()
+        self.kept.len()
     }
 
     /// How many bytes were handed on.
     pub fn given(&self) -> u64
         ensures { result ≡ self.now.given }
     {
-        self.given
+        self.kept.given()
     }
 
     /// Hands on what is kept. After an Err the stream isn't to be used again.
@@ -175,16 +112,7 @@ impl<'a> Stream<'a> {
         ensures no_failure { OnOk result (S.failures sink.new ≡ S.failures sink.old) }
         ensures fault { (start : Option (List ℕ)) → Appends start (S.taken sink.old) (take self.old.given (vcd self.old.design)) → IfErr result (IsBrokenOff self.old.design start (S.taken sink.new) (S.failures sink.old) (S.failures sink.new)) }
     {
-        match write_whole(sink, &self.text) {
-            Ok(()) => {
-                self.given += self.text.len() as u64;
-                self.text.clear();
-                Ok(())
-            }
-            Err(count) => Err(StreamFault::Write {
-                written: self.given + count as u64,
-            }),
-        }
+        self.kept.give(sink)
     }
 
     /// The whole text, of which nothing was handed on.
@@ -193,6 +121,6 @@ impl<'a> Stream<'a> {
         requires all { self.given ≡ 0 }
         ensures { result.items ≡ vcd self.entry.design }
     {
-        self.text
+        self.kept.into_text()
     }
 }

@@ -5,9 +5,6 @@ use Rattle.cmb_core.specs.Step.{wave_at}
 use Rattle.cmb_core.proofs.Skips.{level_at_rest}
 use Rattle.cmb_core.proofs.pins.operand_left.Goals as goal
 
-pub returns-in-Some : goal.returns-in-Some
-returns-in-Some c = λ t h. c.in-Some.ensures _ c.operand_tail.ensures t h
-
 pub returns : goal.returns
 returns c = λ t h.
     let wave : Wave = c.operand_wave-wave.result.now in

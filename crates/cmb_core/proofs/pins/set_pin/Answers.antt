@@ -1,11 +1,15 @@
-use Rattle.std.proofs.Common.{◌≡◌, ◌-◌, ◌≤◌, nat_lt, false, arith, ◌∙◌}
-use Rattle.std.proofs.lemmas.Bool.Decides.{nat_tests}
-use Rattle.cmb_core.proofs.Skips.{arrived_delay}
+use Rattle.std.proofs.Common.{◌≡◌, ◌<◌, ap, arith, sym, ◌∙◌}
+use Rattle.cmb_wave.specs.declared.level.Level.TheVariants.{X}
+use Rattle.cmb_wave.specs.Wave.{Wave}
+use Rattle.cmb_core.specs.Rows.{delayed}
+use Rattle.cmb_core.proofs.Skips.{delayed_rest}
 use Rattle.cmb_core.proofs.pins.set_pin.Goals as goal
 
-pub returns-in-Some : goal.returns-in-Some
-returns-in-Some c = λ t h.
-    let late : c.args.operand.delay ≤ t = omega (arith, h) in
-    let known : nat_lt t c.args.operand.delay ≡ false = grind (arith, nat_tests) in
-    let after : c.args.clock - c.args.operand.delay ≤ t - c.args.operand.delay = omega (arith, h) in
-    rw (c.set.ensures.level, c.set.ensures.lag, c.set.ensures.rest, known) (arrived_delay c.args.operand.delay c.in-Some.left.level c.in-Some.left.changes.now t late ∙ c.in-Some.ensures _ c.operand_tail.ensures _ after)
+pub returns : goal.returns
+returns c = λ t h.
+    let wave : Wave = c.operand_wave-wave.result.now in
+    let known : t < c.args.operand.delay → wave.kept ≡ X =
+    λ early. let none : wave.base ≡ 0 = omega (arith, early, h, c.requires.1, ap (λ (w : Wave). w.base) c.operand_wave-wave.ensures) in sym c.kept.ensures.kept ∙ c.kept.ensures.first none
+    in
+    rw (c.set.ensures.level, c.set.ensures.lag, c.set.ensures.rest, c.left_near_end-left.ensures.level, c.left_near_end-left.ensures.changes, c.saturating_sub-reached.ensures, c.kept.ensures.kept, c.changes.ensures.changes)
+    (delayed_rest wave.kept wave.changes c.args.clock c.args.operand.delay t h known ∙ ap (λ w. delayed w c.args.operand.delay t) c.operand_wave-wave.ensures)

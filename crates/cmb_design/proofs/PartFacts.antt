@@ -1,0 +1,43 @@
+-- Some rows of a table are few and small as all are; a design for another netlist by its parts.
+use Rattle.std.proofs.Common.{◌≡◌, ◌≤◌, ℕ, List, length, take, Bool, refl, sym, subst, arith}
+use Rattle.std.specs.List.{filter}
+use Rattle.std.proofs.lemmas.List.{length-take}
+use Rattle.std.proofs.lemmas.List.Elements.{All-filter, All-take}
+use Rattle.std.proofs.lemmas.List.Sums.{length-filter, count_by-le-length}
+use Rattle.std.specs.Prelude.{option_map}
+use Rattle.cmb_bench.specs.Netlist.{Netlist}
+use Rattle.cmb_design.specs.Design.{Design, clock_given, design_of}
+use Rattle.cmb_design.specs.Part.{has_net, has_delayed, design_on}
+use Rattle.cmb_design.specs.declared.settings.Settings.{Settings}
+use Rattle.cmb_design.specs.Ranges.{AreDelayRows, AreStimulusRows, AreClockRows, IsDelay, AreTicks}
+use Rattle.cmb_design.specs.declared.rows.DelayRow.{DelayRow}
+use Rattle.cmb_design.specs.declared.rows.StimulusRow.{StimulusRow}
+use Rattle.cmb_design.specs.declared.rows.ClockRow.{ClockRow}
+
+few_kept : {X : Type 0} (p : X → Bool) (xs : List X) (i : ℕ) → length (filter p (take i xs)) ≤ length xs
+few_kept p xs i =
+    let a = length-filter p (take i xs) in
+    let b = count_by-le-length p (take i xs) in
+    let c = length-take i xs in
+    omega arith
+
+pub delays_kept : (p : DelayRow → Bool) (rows kept : List DelayRow) (i : ℕ) → AreDelayRows rows → kept ≡ filter p (take i rows) → AreDelayRows kept
+delays_kept p rows kept i are e = subst AreDelayRows (sym e) (record {
+  few = let a = few_kept p rows i in omega (arith, are.few);
+  small = All-filter p (λ row. IsDelay row.delay) (take i rows) (All-take (λ row. IsDelay row.delay) i rows are.small);
+})
+
+pub stimuli_kept : (p : StimulusRow → Bool) (rows kept : List StimulusRow) (i : ℕ) → AreStimulusRows rows → kept ≡ filter p (take i rows) → AreStimulusRows kept
+stimuli_kept p rows kept i are e = subst AreStimulusRows (sym e) (record { few = let a = few_kept p rows i in omega (arith, are.few) })
+
+pub clocks_kept : (p : ClockRow → Bool) (rows kept : List ClockRow) (i : ℕ) → AreClockRows rows → kept ≡ filter p (take i rows) → AreClockRows kept
+clocks_kept p rows kept i are e = subst AreClockRows (sym e) (record {
+  few = let a = few_kept p rows i in omega (arith, are.few);
+  small = All-filter p (λ row. AreTicks row.first row.period) (take i rows) (All-take (λ row. AreTicks row.first row.period) i rows are.small);
+})
+
+pub design_on-is : (design : Design) (netlist : Netlist) (settings : Settings) (delays : List DelayRow) (stimuli : List StimulusRow) (clocks : List ClockRow)
+    → settings.horizon ≡ design.horizon → settings.init ≡ design.init → option_map clock_given settings.clock ≡ design.clock
+    → delays ≡ filter (λ row. has_delayed netlist row.what) design.delays → stimuli ≡ filter (λ row. has_net netlist row.net) design.stimuli → clocks ≡ filter (λ row. has_net netlist row.net) design.clocks
+    → design_of netlist settings delays stimuli clocks ≡ design_on design netlist
+design_on-is design netlist settings delays stimuli clocks a b c d e f = rw (a, b, c, d, e, f) refl

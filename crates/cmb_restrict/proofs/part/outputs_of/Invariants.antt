@@ -1,0 +1,11 @@
+use Rattle.std.proofs.Common.{◌≡◌, map, take, get_or}
+use Rattle.std.specs.Prelude.{nat_eq}
+use Rattle.std.specs.List.{IsDistinct, filter}
+use Rattle.cmb_restrict.specs.Restriction.{is_among}
+use Rattle.cmb_restrict.proofs.part.outputs_of.Given as goal
+
+abbrev pub invariant-loop-net : goal.invariant-loop-net
+invariant-loop-net l = record {
+  kept : l.outputs.keys ≡ map (λ n. get_or l.places n 0) (filter (is_among l.nets) (take l.net-index l.all));
+  distinct : IsDistinct nat_eq l.outputs.keys;
+}

@@ -1,0 +1,6 @@
+pub mod Closed
+pub mod Restriction
+pub mod Found
+pub mod Places
+pub mod Components
+pub mod Forest

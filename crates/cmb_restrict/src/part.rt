@@ -1,0 +1,140 @@
+//! A netlist of some nets of another one, numbered in their order.
+
+ghost use Rattle.std.specs.Prelude.{◌≡◌, ℕ, ◌<◌, ◌≤◌, length, map, slice_index, nat_eq, All, IfOk};
+ghost use Rattle.std.specs.List.{IsDistinct, filter};
+ghost use Rattle.std.specs.List.Sorted.{IsStrictlyIncreasing};
+ghost use Rattle.cmb_bench.specs.Netlist.{IsNetlist, driver_of, name_of, pins_of};
+ghost use Rattle.cmb_restrict.specs.Closed.{IsClosed};
+ghost use Rattle.cmb_restrict.specs.Restriction.{IsPart, is_among, with_nets};
+ghost use Rattle.cmb_restrict.specs.Places.{ArePlaces};
+
+use cmb_bench::{Driver, Name, Netlist, Operands};
+use indexmap::IndexSet;
+use std::alloc::{AllocError, Global};
+
+/// For each net of a list its place there; for each other net anything.
+fn places_of(alloc: Global, count: usize, nets: &[u32]) -> Result<Vec<u32>, AllocError>
+    requires nets { All (λ net. net < count) nets.now }
+    requires rising { IsStrictlyIncreasing nets.now }
+    requires few { length nets.now ≤ 65535 }
+    ensures { IfOk result (λ v. (length v.items ≡ count) × ArePlaces nets.now v.items) }
+{
+    let mut places = vec![in alloc; 0u32; count]?;
+    for (i, net) in nets.iter().enumerate() {
+        places[*net as usize] = i as u32;
+    }
+    Ok(places)
+}
+
+/// Whether a net is in the list.
+fn is_kept(nets: &[u32], places: &[u32], net: u32) -> bool
+    requires net { net < length places.now }
+    requires places { ArePlaces nets.now places.now }
+    ensures { result ≡ is_among nets.now net }
+{
+    let place = places[net as usize] as usize;
+    if place < nets.len() {
+        nets[place] == net
+    } else {
+        false
+    }
+}
+
+fn renumbered_all(alloc: Global, nets: &[u32], places: &[u32]) -> Result<Vec<u32>, AllocError>
+    requires { All (λ net. net < length places.now) nets.now }
+    ensures { IfOk result (λ v. v.items ≡ map (slice_index places.now) nets.now) }
+{
+    let mut numbers = Vec::with_capacity(alloc, nets.len())?;
+    for net in nets {
+        numbers.push(places[*net as usize])?;
+    }
+    Ok(numbers)
+}
+
+/// A driver with the places of its nets in their stead.
+fn renumbered(alloc: Global, driver: &Driver, places: &[u32]) -> Result<Driver, AllocError>
+    requires { All (λ net. net < length places.now) (pins_of driver.now) }
+    ensures { IfOk result (λ d. d ≡ with_nets (slice_index places.now) driver.now) }
+{
+    match driver {
+        Driver::Input => Ok(Driver::Input),
+        Driver::Gate(kind, operands) => {
+            let numbers = renumbered_all(alloc, operands.as_slice(), places)?;
+            let operands = Operands::from_slice(alloc, numbers.as_slice())?;
+            Ok(Driver::Gate(*kind, operands))
+        }
+        Driver::Flop(source) => Ok(Driver::Flop(places[*source as usize])),
+    }
+}
+
+fn names_of(alloc: Global, netlist: &Netlist, nets: &[u32]) -> Result<IndexSet<Name>, AllocError>
+    requires sound { IsNetlist netlist.now }
+    requires closed { IsClosed netlist.now nets.now }
+    ensures { IfOk result (λ names. names.keys ≡ map (name_of netlist.now) nets.now) }
+{
+    let mut names = IndexSet::with_capacity(alloc, nets.len())?;
+    for net in nets {
+        let name = Name::new(alloc, netlist.name(*net as usize))?;
+        names.insert(name)?;
+    }
+    Ok(names)
+}
+
+fn drivers_of(
+    alloc: Global,
+    netlist: &Netlist,
+    nets: &[u32],
+    places: &[u32],
+) -> Result<Vec<Driver>, AllocError>
+    requires closed { IsClosed netlist.now nets.now }
+    requires long { length places.now ≡ length netlist.now.names }
+    requires places { ArePlaces nets.now places.now }
+    ensures { IfOk result (λ drivers. drivers.items ≡ map (λ net. with_nets (slice_index places.now) (driver_of netlist.now net)) nets.now) }
+{
+    let mut drivers = Vec::with_capacity(alloc, nets.len())?;
+    for net in nets {
+        let driver = renumbered(alloc, netlist.driver(*net as usize), places)?;
+        drivers.push(driver)?;
+    }
+    Ok(drivers)
+}
+
+fn outputs_of(
+    alloc: Global,
+    netlist: &Netlist,
+    nets: &[u32],
+    places: &[u32],
+) -> Result<IndexSet<u32>, AllocError>
+    requires closed { IsClosed netlist.now nets.now }
+    requires long { length places.now ≡ length netlist.now.names }
+    requires places { ArePlaces nets.now places.now }
+    requires sound { IsNetlist netlist.now }
+    ensures kept { IfOk result (λ outputs. outputs.keys ≡ map (slice_index places.now) (filter (is_among nets.now) netlist.now.outputs)) }
+    ensures distinct { IfOk result (λ outputs. IsDistinct nat_eq outputs.keys) }
+{
+    let mut outputs = IndexSet::new(alloc);
+    let all = netlist.outputs();
+    for net in all {
+        if is_kept(nets, places, *net) {
+            outputs.insert(places[*net as usize])?;
+        }
+    }
+    Ok(outputs)
+}
+
+/// The netlist of a closed set of nets, numbered in their order.
+pub(crate) fn netlist_of(
+    alloc: Global,
+    netlist: &Netlist,
+    nets: &[u32],
+) -> Result<Netlist, AllocError>
+    requires { IsClosed netlist.now nets.now }
+    ensures part { IfOk result (λ part. IsPart netlist.now nets.now part) }
+    ensures sound { IfOk result IsNetlist }
+{
+    let places = places_of(alloc, netlist.len(), nets)?;
+    let names = names_of(alloc, netlist, nets)?;
+    let drivers = drivers_of(alloc, netlist, nets, places.as_slice())?;
+    let outputs = outputs_of(alloc, netlist, nets, places.as_slice())?;
+    Ok(Netlist::new(names, drivers, outputs))
+}

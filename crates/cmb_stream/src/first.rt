@@ -1,0 +1,69 @@
+//! The dump of a design from its beginning on.
+
+ghost use Rattle.std.specs.Prelude.{◌≡◌, ℕ, ◌+◌, ◌<◌, ◌≤◌, ◌++◌, length, slice_index_or, IfOk, OnOk};
+ghost use Rattle.cmb_wave.specs.declared.level.Level.TheVariants.{X};
+ghost use Rattle.cmb_design.specs.Exact.{nets_of};
+ghost use Rattle.cmb_design.specs.Value.{value};
+ghost use Rattle.cmb_stream.specs.Parts.{made_text};
+ghost use Rattle.cmb_words.specs.Changes.{RisesWithin, Tells};
+
+use cmb_design::Design;
+use cmb_dump::Dump;
+use cmb_engine::Engine;
+use cmb_wave::Level;
+use cmb_words::Changed;
+use std::alloc::{AllocError, Global};
+
+// The levels of all nets at tick 0, as the engine begins.
+fn first_levels(
+    alloc: Global,
+    design: &Design,
+    engine: &Engine<'_>,
+) -> Result<Vec<Level>, AllocError>
+    requires design { engine.now.design ≡ design.now }
+    requires clock { engine.now.clock ≡ 1 }
+    ensures count { IfOk result (λ levels. length levels.items ≡ nets_of design.now) }
+    ensures levels { IfOk result (λ levels. (net : ℕ) → net < nets_of design.now → slice_index_or levels.items net X ≡ value design.now net 0) }
+{
+    let nets = design.netlist().len();
+    let mut levels = Vec::with_capacity(alloc, nets)?;
+    for net in 0..nets {
+        levels.push(engine.level(net))?;
+    }
+    Ok(levels)
+}
+
+/// The dump of a design, where its engine begins: it has the text up to tick 1.
+pub fn first_dump<'a>(
+    alloc: Global,
+    design: &'a Design,
+    engine: &Engine<'_>,
+) -> Result<Dump<'a>, AllocError>
+    requires design { engine.now.design ≡ design.now }
+    requires clock { engine.now.clock ≡ 1 }
+    ensures design { IfOk result (λ dump. dump.design ≡ design.entry.now) }
+    ensures clock { IfOk result (λ dump. dump.clock ≡ 1) }
+    ensures text { IfOk result (λ dump. dump.text ≡ made_text design.entry.now 1) }
+{
+    let levels = first_levels(alloc, design, engine)?;
+    Dump::open(alloc, design, &levels)
+}
+
+/// The text of a window, by the nets that changed in it: where there are none, that costs nothing.
+pub fn tell_window(dump: &mut Dump<'_>, changed: &[Changed], upto: u32) -> Result<(), AllocError>
+    requires late { 1 ≤ dump.old.clock }
+    requires order { dump.old.clock < upto }
+    requires short { upto ≤ dump.old.clock + 63 }
+    requires within { upto ≤ dump.old.design.horizon }
+    requires nets { RisesWithin 0 (nets_of dump.old.design) changed.now }
+    requires tells { Tells (value dump.old.design) (nets_of dump.old.design) dump.old.clock upto changed.now }
+    ensures text { OnOk result (made_text dump.old.design upto ≡ made_text dump.old.design dump.old.clock ++ dump.new.text) }
+    ensures clock { OnOk result (dump.new.clock ≡ upto) }
+    ensures design { dump.new.design ≡ dump.old.design }
+{
+    if changed.is_empty() {
+        dump.pass(upto)
+    } else {
+        dump.window(changed, upto)
+    }
+}
