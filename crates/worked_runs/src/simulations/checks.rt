@@ -58,12 +58,12 @@ fn counts(rt: HostRuntime) -> Result<(), Fail> {
 fn faults_of_checks(rt: HostRuntime) -> Result<(), Fail> {
     let alloc = rt.alloc();
     for (delays, stimuli, number) in [
-        (b"by,name,delay\nkind,MUX,3\n".as_slice(), b"".as_slice(), 27),
         (
+            b"by,name,delay\nkind,MUX,3\n".as_slice(),
             b"".as_slice(),
-            b"tick,net,value\n0,y,1\n".as_slice(),
-            30,
+            27,
         ),
+        (b"".as_slice(), b"tick,net,value\n0,y,1\n".as_slice(), 30),
     ] {
         match told(alloc, delays, stimuli)? {
             Ok(text) => assert!(rt; false, "{text}"),
