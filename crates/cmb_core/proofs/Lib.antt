@@ -1,10 +1,8 @@
 pub mod AdvanceLemmas
 pub mod Changes
 pub mod ClusterLemmas
-pub mod GateLemmas
 pub mod Merging
 pub mod PinLists
-pub mod Samples
 pub mod Skips
 pub mod Slots
 pub mod Machine
@@ -30,4 +28,3 @@ pub mod Turns
 pub mod RoundFacts
 pub mod Opens
 pub mod TrimLaws
-pub mod StretchFacts

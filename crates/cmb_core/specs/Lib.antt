@@ -5,7 +5,6 @@ pub mod Clusters
 pub mod Deliveries
 pub mod Exactness
 pub mod Faults
-pub mod Gates
 pub mod Rows
 pub mod Opened
 pub mod Opening

@@ -10,8 +10,8 @@ ghost use Rattle.cmb_core.specs.Arrivals.{last_sample};
 ghost use Rattle.cmb_core.specs.Rows.{gate_reach, gate_row, sampled, AreReady, IsThere, flop_reach};
 ghost use Rattle.cmb_core.specs.Step.{wave_at};
 
-use crate::merge::{Lag, Pin, differ, follow, merge};
-use crate::pins::{fill_pins, gate_pins, operand_left, operand_wave};
+use crate::merge::{Lag, differ, follow, merge};
+use crate::pins::{gate_pins, operand_left, operand_wave};
 use crate::process::Operand;
 use cmb_bench::netlist::Kind;
 use cmb_wave::search::{Rest, left_from};
@@ -79,29 +79,6 @@ fn held_changes(room: &mut Vec<Change>, level: Level, span: Span) -> Result<(), 
     Ok(())
 }
 
-/// So many pins of a gate need no list of their own.
-const FEW: usize = 4;
-
-// Adds the changes of the output of a gate with few operands.
-fn few_changes(
-    room: &mut Vec<Change>,
-    kind: Kind,
-    operands: &[Operand],
-    waves: &[Wave],
-    span: Span,
-) -> Result<(), AllocError>
-    requires few { length operands.now ≤ 4 }
-    requires ready { AreReady waves.now span.from operands.now }
-    requires takes { MayTake kind (length operands.now) }
-    requires ordered { span.from ≤ span.until }
-    ensures { OnOk result (room.new.items ≡ room.old.items ++ changes_from (gate_row kind waves.now operands.now) span.before span.from (span.until - span.from)) }
-{
-    let mut all = [Pin::held(Level::X); FEW];
-    let pins = &mut all[..operands.len()];
-    fill_pins(pins, operands, waves, span.from);
-    merge(kind, pins, room, span.before, span.from, span.until)
-}
-
 /// Adds the changes of a gate's output in a span to a list.
 pub fn gate_changes(
     room: &mut Vec<Change>,
@@ -115,9 +92,6 @@ pub fn gate_changes(
     requires ordered { span.from ≤ span.until }
     ensures { OnOk result (room.new.items ≡ room.old.items ++ changes_from (gate_row kind waves.now operands.now) span.before span.from (span.until - span.from)) }
 {
-    if operands.len() <= FEW {
-        return few_changes(room, kind, operands, waves, span);
-    }
     let mut pins = gate_pins(*room.allocator(), operands, waves, span.from)?;
     merge(kind, &mut pins, room, span.before, span.from, span.until)
 }

@@ -8,9 +8,8 @@ ghost use Rattle.cmb_core.specs.Step.{wave_at};
 
 use crate::merge::{Lag, Pin};
 use crate::process::Operand;
-use crate::recent::left_near_end;
-use cmb_wave::search::Rest;
-use cmb_wave::{Level, Wave};
+use cmb_wave::Wave;
+use cmb_wave::search::{Rest, left_from};
 use std::alloc::{AllocError, Global};
 
 /// The wave that an operand reads.
@@ -28,18 +27,22 @@ pub fn operand_left(waves: &[Wave], operand: Operand, tick: u32) -> Rest<'_>
     ensures { (t : ℕ) → tick ≤ t → level_at result.level result.changes.now t ≡ level_at (wave_at waves.now operand.net).kept (wave_at waves.now operand.net).changes t }
 {
     let wave = operand_wave(waves, operand);
-    left_near_end(wave.kept(), wave.changes(), tick)
+    left_from(wave.kept(), wave.changes(), tick)
 }
 
-/// Sets the pin of an operand that reaches the output with a delay, from the output's clock on.
-pub fn set_pin<'a>(pin: &mut Pin<'a>, waves: &'a [Wave], operand: Operand, clock: u32)
+/// The pin of an operand that reaches the output with a delay, from the output's clock on.
+pub fn pin_of(waves: &[Wave], operand: Operand, clock: u32) -> Pin<'_>
     requires { IsReady waves.now clock operand }
-    ensures { (t : ℕ) → clock ≤ t → pin_at pin.new t ≡ delayed (wave_at waves.now operand.net) operand.delay t }
+    ensures { (t : ℕ) → clock ≤ t → pin_at result t ≡ delayed (wave_at waves.now operand.net) operand.delay t }
 {
     let wave = operand_wave(waves, operand);
     let reached = clock.saturating_sub(operand.delay);
-    let left = left_near_end(wave.kept(), wave.changes(), reached);
-    pin.set(left.level, Lag::Delay(operand.delay), left.changes);
+    let left = left_from(wave.kept(), wave.changes(), reached);
+    Pin {
+        rest: left.changes,
+        lag: Lag::Delay(operand.delay),
+        level: left.level,
+    }
 }
 
 /// The pins of a gate, from the output's clock on.
@@ -53,19 +56,9 @@ pub fn gate_pins<'a>(
     ensures levels { IfOk result (λ pins. (t : ℕ) → clock ≤ t → pins_at pins.items t ≡ delayed_levels waves.now operands.now t) }
     ensures count { IfOk result (λ pins. length pins.items ≡ length operands.now) }
 {
-    let mut pins = Vec::from_elem(alloc, Pin::held(Level::X), operands.len())?;
-    fill_pins(&mut pins, operands, waves, clock);
-    Ok(pins)
-}
-
-/// The pins of a gate, from the output's clock on, put in the place of as many others.
-pub fn fill_pins<'a>(pins: &mut [Pin<'a>], operands: &[Operand], waves: &'a [Wave], clock: u32)
-    requires ready { AreReady waves.now clock operands.now }
-    requires room { length pins.old ≡ length operands.now }
-    ensures levels { (t : ℕ) → clock ≤ t → pins_at pins.new t ≡ delayed_levels waves.now operands.now t }
-    ensures count { length pins.new ≡ length operands.now }
-{
-    for i in 0..operands.len() {
-        set_pin(&mut pins[i], waves, operands[i], clock);
+    let mut pins = Vec::with_capacity(alloc, operands.len())?;
+    for operand in operands {
+        pins.push(pin_of(waves, *operand, clock))?;
     }
+    Ok(pins)
 }

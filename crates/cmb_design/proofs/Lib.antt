@@ -21,4 +21,5 @@ pub mod TableFacts
 pub mod RangeFacts
 pub mod LawfulFacts
 pub mod PlainFacts
+pub mod BoundFacts
 pub mod PartFacts
