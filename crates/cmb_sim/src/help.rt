@@ -36,7 +36,7 @@ pub const RUN: &str =
 pub const CHECK: &str =
     "Reads what run would simulate, and prints how many nets, gates and flip-flops it has";
 
-pub const EXPLAIN_FAULT: &str = "Says a fault in words too, with its file, line and net";
+pub const EXPLAIN_FAULT: &str = "Says a fault in words too, with its file and its line or record";
 
 pub const EXPLAIN: &str =
     "Says what a fault means and what to do about it; without N it lists all faults";
