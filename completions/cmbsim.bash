@@ -10,10 +10,10 @@ _cmbsim() {
         --mode) mapfile -t COMPREPLY < <(compgen -W "rounds free plain" -- "$current") ;;
         --init) mapfile -t COMPREPLY < <(compgen -W "0 1 x" -- "$current") ;;
         --delays | --stimuli | --clocks) mapfile -t COMPREPLY < <(compgen -f -- "$current") ;;
-        --horizon | --clock | --workers | --clusters) COMPREPLY=() ;;
+        --horizon | --clock | --threads | --workers | --clusters) COMPREPLY=() ;;
         explain) mapfile -t COMPREPLY < <(compgen -W "$(echo {1..8} {20..37} 40 53 54 {60..62} 70)" -- "$current") ;;
         help) mapfile -t COMPREPLY < <(compgen -W "run explain" -- "$current") ;;
-        *) mapfile -t COMPREPLY < <(compgen -W "--horizon --clock --init --delays --stimuli --clocks --mode --workers --clusters --help" -- "$current") ;;
+        *) mapfile -t COMPREPLY < <(compgen -W "--horizon --clock --init --delays --stimuli --clocks --mode --threads --workers --clusters --help" -- "$current") ;;
     esac
 }
 
