@@ -41,6 +41,27 @@ words_of() { # words_of CASE WORDS..: what the case is run with, a word a line
     [ $# = 0 ] || printf '%s\n' "$@" >"$cases/$name.args"
 }
 
+inverter_counts='       2  nets
+       1  inputs
+       1  inputs that are x at all ticks
+       0  gates AND
+       0  gates NAND
+       0  gates OR
+       0  gates NOR
+       0  gates XOR
+       0  gates XNOR
+       1  gates NOT
+       0  gates BUFF
+       0  flip-flops
+       1  ticks in the largest delay
+'
+
+counted() { # counted NAME TEXT WORDS..: the text is on standard output, of the netlist of the example
+    local name=$1
+    answered "$name.counts" "${@:2}"
+    cp "$examples/$name/netlist.bench" "$cases/$name.counts"
+}
+
 answered() { # answered NAME TEXT WORDS..: the text is on standard output
     local name=$1
     statuses[$name]=0
@@ -73,6 +94,10 @@ version=$(sed -n 's/^\.TH CMBSIM 1 "" "\(cmbsim [0-9.]*\)".*/\1/p' docs/cmbsim.1
 answered version "$version"$'\n' --version
 refused no_words 2
 refused fault_that_is_none 2 explain 9
+refused check_with_a_mode 2 check --horizon 10 --mode plain
+refused check_of_a_missing_file 1 check --horizon 10 --stimuli missing.csv
+refused check_of_a_netlist_as_a_table 1 check --horizon 10 --delays inverter.netlist.csv
+counted inverter "$inverter_counts" check --horizon 10
 refused netlist_as_a_word 2 run --horizon 10 netlist.bench
 refused horizon_of_0 2 run --horizon 0
 refused no_horizon 2 run --mode rounds

@@ -314,8 +314,9 @@ def completed(*words):
 
 
 def test_completions():
-    see("commands", completed("cmbsim", ""), ["run", "explain", "help", "--help", "--version"])
+    see("commands", completed("cmbsim", ""), ["run", "check", "explain", "help", "--help", "--version"])
     see("options", completed("cmbsim", "run", "--horizon", "9", "--cl"), ["--clock", "--clocks", "--clusters"])
+    see("options of check", completed("cmbsim", "check", "--horizon", "9", "--cl"), ["--clock", "--clocks"])
     see("modes", completed("cmbsim", "run", "--mode", ""), ["rounds", "free", "plain"])
     see("a mode", completed("cmbsim", "run", "--mode", "f"), ["free"])
     see("levels", completed("cmbsim", "run", "--init", ""), ["0", "1", "x"])
@@ -328,12 +329,12 @@ def test_words():
     words = set()
     for name in ("line", "explaining"):
         with open(f"{TOP}/crates/cmb_sim/src/{name}.rt", encoding="utf-8") as file:
-            words |= set(re.findall(r'(?:Command::new|option|choice)\(alloc, "([a-z-]+)"', file.read())) - {"cmbsim"}
+            words |= set(re.findall(r'(?:Command::new|option|choice|flag)\(alloc, "([a-z-]+)"', file.read())) - {"cmbsim"}
     with open(f"{TOP}/docs/cmbsim.1", encoding="ascii") as file:
         manual = file.read().replace("\\-", "-")
     with open(f"{TOP}/completions/cmbsim.bash", encoding="ascii") as file:
         completions = file.read()
-    see("the line has words", {"run", "explain", "horizon", "clocks"} <= words, True)
+    see("the line has words", {"run", "check", "explain", "horizon", "clocks"} <= words, True)
     for name, text in (("the manual page", manual), ("completions", completions)):
         see(f"words that {name} lacks", [word for word in sorted(words) if not re.search(rf"\b{word}\b", text)], [])
 

@@ -1,8 +1,7 @@
 -- Names and their numbers.
-use Rattle.std.proofs.Common.{◌≡◌, ◌<◌, ◌+◌, ℕ, suc, List, [], ◌∷◌, Vec, Global, Bool, true, false, map, refl, sym, ap, ◌∙◌, arith, get_or}
-use Rattle.std.specs.Prelude.{Ok, Err, ◌||◌, if◌then◌else◌, ◌++◌, cond, not, length, nat_lt, Some, None, position, bytes_eq}
-use Rattle.std.specs.List.{position_or_len, list_any}
-use Rattle.std.proofs.lemmas.List.{length-map, map-append}
+use Rattle.std.proofs.Common.{◌≡◌, ◌<◌, ◌+◌, ℕ, suc, List, [], ◌∷◌, Bool, true, false, refl, sym, ap, ◌∙◌, arith, get_or}
+use Rattle.std.specs.Prelude.{Ok, Err, cond, not, length, nat_lt, Some, None, position, bytes_eq}
+use Rattle.std.specs.List.{position_or_len}
 use Rattle.std.proofs.lemmas.Bool.Decides.{nat_tests}
 use Rattle.std.proofs.lemmas.Slice.Eq.{bytes_eq-Decides}
 use Rattle.std.proofs.lemmas.Bool.{lt-ltb}
@@ -12,7 +11,7 @@ use Rattle.std.specs.List.{IsDistinct}
 use Rattle.cmb_bench.specs.declared.fault.FaultKind.TheVariants as faults
 use Rattle.std.specs.Cmp.Lexicographic.{nat_list_eq_equiv}
 use Rattle.cmb_bench.specs.Netlist.{Netlist, name_of, number_of}
-use Rattle.cmb_bench.specs.Statement.{Mention, is_member}
+use Rattle.cmb_bench.specs.Statement.{Mention}
 use Rattle.cmb_bench.specs.Inner.Building.{number_in, numbered}
 
 first_name : (names : List (List ℕ)) (name : List ℕ) → position_or_len (bytes_eq name) names < length names → get_or names (position_or_len (bytes_eq name) names) [] ≡ name

@@ -1,7 +1,6 @@
 -- From the loops to the theorem about whole texts.
-use Rattle.std.proofs.Common.{◌≡◌, ℕ, ◌≤◌, List, [], ◌∷◌, ◌++◌, length, refl, sym, ap, ◌∙◌, subst, Result, Ok, Err, arith, append_assoc, append-nil, length-append, Vec, Global, map, inl, inr}
+use Rattle.std.proofs.Common.{◌≡◌, ℕ, ◌≤◌, List, [], ◌∷◌, ◌++◌, length, refl, sym, ap, ◌∙◌, subst, Result, Ok, Err, arith, append_assoc, append-nil, length-append, inl, inr}
 use Rattle.std.specs.Result.{IfOk, IfErr}
-use Rattle.std.proofs.lemmas.List.{length-map}
 use Rattle.cmb_bench.specs.declared.fault.ReadError.{ReadError}
 use Rattle.cmb_bench.specs.declared.fault.ReadError.TheVariants as errors
 use Rattle.cmb_bench.specs.declared.text.Class.TheVariants.{End}

@@ -1,10 +1,16 @@
-//! Laws: each text spells one netlist or has one first fault, and never both; numbers and names of
+//! Laws: each text has one cutting, and spells one netlist or has one first fault, and never both; numbers and names of
 //! nets belong together.
 ghost use Rattle.std.specs.Prelude.{◌≡◌, ◌<◌, ℕ, List, length, Some, ◌⊎◌};
 ghost use Rattle.cmb_bench.specs.declared.fault.BenchFault.{BenchFault};
 ghost use Rattle.cmb_bench.specs.Netlist.{Netlist, IsNetlist, name_of, number_of};
 ghost use Rattle.cmb_bench.specs.Meaning.{Reads};
 ghost use Rattle.cmb_bench.specs.FirstFault.{IsFirstFault};
+ghost use Rattle.cmb_bench.specs.Text.{Part, IsCutting};
+
+/// Each text has one cutting into parts, and no other.
+pub fn one_cutting()
+    ensures { (bytes : List ℕ) → (parts : List Part) × IsCutting bytes parts × ((others : List Part) → IsCutting bytes others → others ≡ parts) }
+{}
 
 /// Each text spells a netlist or has a first fault.
 pub fn either_one()

@@ -34,6 +34,7 @@ pub struct Cursor<'a> {
     pub last: u32,
 }
 
+#[inline(always)]
 fn class_of(byte: u8) -> Class
     ensures { result ≡ class_of byte }
 {
@@ -57,6 +58,7 @@ fn class_of(byte: u8) -> Class
 }
 
 /// Whether a part of this class goes on with this byte.
+#[inline(always)]
 fn continues(class: Class, byte: u8) -> bool
     ensures { result ≡ continues class byte }
 {

@@ -1,8 +1,8 @@
 -- A step keeps a cluster sound.
-use Rattle.std.proofs.Common.{◌≡◌, ℕ, ◌+◌, ◌-◌, ◌<◌, ◌≤◌, inl, inr, length, List, [], ◌∷◌, get_or, set, refl, sym, ◌∙◌, subst, arith}
+use Rattle.std.proofs.Common.{◌≡◌, ℕ, ◌+◌, ◌-◌, ◌<◌, ◌≤◌, inl, inr, length, List, [], ◌∷◌, get_or, set, refl, sym, ◌∙◌, ap, subst, arith}
 use Rattle.std.proofs.lemmas.Bool.{cases_eq}
 use Rattle.std.proofs.lemmas.Bool.Decides.{nat_tests}
-use Rattle.std.proofs.lemmas.List.{get_or-set_same, get_or-set_other, length-set}
+use Rattle.std.proofs.lemmas.List.{get_or_read, get_or-set_same, get_or-set_other, length-set}
 use Rattle.cmb_wave.specs.declared.level.Level.{Level}
 use Rattle.cmb_wave.specs.declared.level.Change.{Change}
 use Rattle.cmb_wave.specs.Waveform.{IsTrace}
@@ -107,3 +107,11 @@ kept_by_set horizon processes tables old new n w e h net base later sound listed
       listed = tables_still processes old (set old n w) tables gone.nets listed;
       nets = gone.nets;
     })
+
+-- the same of a wave that was lent, and came back later
+pub kept_by_loan : (horizon : ℕ) (processes : List Process) (tables : Tables) (old : List Wave) (n : ℕ) (lent w : Wave) → n < length old → lent ≡ get_or old n lent
+    → w.net ≡ lent.net → w.base ≡ lent.base → lent.clock ≤ w.clock
+    → IsSound (record { horizon = horizon; processes = processes; waves = old }) → AreTables processes (wave_nets old) tables → IsKept horizon processes tables old (set old n w)
+kept_by_loan horizon processes tables old n lent w h was net base later sound listed =
+    let is : lent ≡ get_or old n (new_wave 0) = get_or_read old n lent h was (new_wave 0) in
+    kept_by_set horizon processes tables old (set old n w) n w refl h (net ∙ ap (λ (v : Wave). v.net) is) (base ∙ ap (λ (v : Wave). v.base) is) (omega (arith, later, ap (λ (v : Wave). v.clock) is)) sound listed

@@ -1,11 +1,8 @@
 pub mod AdvanceLemmas
 pub mod Changes
 pub mod ClusterLemmas
-pub mod GateLemmas
 pub mod Merging
 pub mod PinLists
-pub mod Settles
-pub mod Samples
 pub mod Skips
 pub mod Slots
 pub mod Machine
@@ -13,7 +10,6 @@ pub mod Progress
 pub mod Steps
 pub mod SweepFacts
 pub mod Sweeps
-pub mod Passes
 pub mod TrimFacts
 pub mod Commute
 pub mod Driven
@@ -32,8 +28,3 @@ pub mod Turns
 pub mod RoundFacts
 pub mod Opens
 pub mod TrimLaws
-pub mod TipFacts
-pub mod Ends
-pub mod NodeFacts
-pub mod StretchFacts
-pub mod Steady

@@ -10,17 +10,14 @@ use Rattle.cmb_wave.specs.Waveform.{last_level, level_at, level_before}
 use Rattle.cmb_wave.specs.Wave.{Wave, new_wave}
 use Rattle.cmb_design.specs.Design.{Design}
 use Rattle.cmb_design.specs.Exact.{nets_of}
-use Rattle.cmb_core.specs.declared.process.Operand.{Operand}
-use Rattle.cmb_core.specs.declared.process.Rule.{Rule}
-use Rattle.cmb_core.specs.declared.process.Rule.TheVariants.{Given, Input, Gate, Flop}
+use Rattle.cmb_core.specs.declared.process.Rule.TheVariants.{Given}
 use Rattle.cmb_core.specs.Clustering.{Clustering, cluster_of, has_input}
 use Rattle.cmb_core.specs.Clusters.{Cluster, IsSameButWaves, slot_wave, process_at, new_waves_at, reach_at, step_waves}
 use Rattle.cmb_core.specs.Opened.{IsProcessOf, AreProcessesOf, IsClusterOf, is_own, own_nets, held_nets}
-use Rattle.cmb_core.specs.Rows.{Process, slot_of, reach}
+use Rattle.cmb_core.specs.Rows.{Process, slot_of}
 use Rattle.cmb_core.specs.Step.{wave_at, step_reach}
 use Rattle.cmb_core.specs.Sweep.{stepped_waves, some_rises}
 use Rattle.cmb_core.specs.Tables.{place_in}
-use Rattle.cmb_core.proofs.AdvanceLemmas.{gate_reach_le}
 use Rattle.cmb_core.proofs.ClusterLemmas.{slot_place}
 use Rattle.cmb_core.proofs.Driven.{Drives, step_waves_are, reach_is, wave_here}
 use Rattle.cmb_core.proofs.ReadFacts.{held_own}
@@ -145,46 +142,6 @@ module _ (design : Design) (clustering : Clustering) (cluster : ℕ) (s : Cluste
             let list : own_after ≡ own_before = more ∙ ap (λ b. own_before ++ cond b (get_or (held_nets design clustering cluster) i 0 ∷ []) []) test ∙ append-nil own_before in
             let still : ltb (slot_wave s i).clock (reach_at s i) ≡ false = le-ltb _ _ (omega (arith, given_reach other)) in
             rw still (or-false rose ∙ r ∙ sym (ap (some_rises design start) list))
-
--- no process goes on beyond the horizon
-pub reach_within : (horizon : ℕ) (waves : List Wave) (rule : Rule) (os : List Operand) → reach horizon waves rule os ≤ horizon
-reach_within horizon waves Given os = omega arith
-reach_within horizon waves Input os = omega arith
-reach_within horizon waves (Gate kind) os = gate_reach_le horizon waves os
-reach_within horizon waves (Flop first period init) [] = omega arith
-reach_within horizon waves (Flop first period init) (o ∷ os) = omega arith
-
--- where no step goes on at some places, the waves stand as after their steps too
-module _ (design : Design) (clustering : Clustering) (cluster : ℕ) (s : Cluster) (of : IsClusterOf design clustering cluster s) (start : List Wave) where
-  abbrev own_to : ℕ → List ℕ
-  own_to n = filter (is_own clustering cluster) (take n (held_nets design clustering cluster))
-
-  module _ (i : ℕ) (h : i < length s.waves) (idle : reach_at s i ≤ (slot_wave s i).clock) where
-    never : (slot_wave s i).clock < reach_at s i → last_level (slot_wave s i).kept (slot_wave s i).changes ≡ level_before (level_at (slot_wave s i).kept (slot_wave s i).changes) (slot_wave s i).clock
-    never more = absurd (omega (arith, more, idle))
-
-    idle_waves : s.waves ≡ stepped_waves design start (own_to i) → s.waves ≡ stepped_waves design start (own_to (i + 1))
-    idle_waves e =
-        let still : leb (reach_at s i) (slot_wave s i).clock ≡ true = le-leb _ _ idle in
-        let same : new_waves_at s i ≡ s.waves = rw still refl in
-        sym same ∙ swept_waves design clustering cluster s of i h never start e
-
-    idle_rose : (rose : Bool) → s.waves ≡ stepped_waves design start (own_to i) → rose ≡ some_rises design start (own_to i) → rose ≡ some_rises design start (own_to (i + 1))
-    idle_rose rose e r =
-        let still : ltb (slot_wave s i).clock (reach_at s i) ≡ false = le-ltb _ _ idle in
-        sym (or-false rose) ∙ ap (λ b. rose || b) (sym still) ∙ swept_rises design clustering cluster s of i h never start rose e r
-
-  module _ (rose : Bool) where
-    abbrev pub Stands : ℕ → Type 0
-    Stands n = (s.waves ≡ stepped_waves design start (own_to n)) × (rose ≡ some_rises design start (own_to n))
-
-    pub skipped : (from count to : ℕ) → to ≡ from + count → to ≤ length s.waves → ((j : ℕ) → from ≤ j → j < to → reach_at s j ≤ (slot_wave s j).clock) → Stands from → Stands to
-    skipped from zero to at h idle e = subst Stands (omega (arith, at)) e
-    skipped from (suc count) to at h idle e =
-        let more : Stands (from + count) = skipped from count (from + count) refl (omega (arith, h, at)) (λ j k l. idle j k (omega (arith, l, at))) e in
-        let here : reach_at s (from + count) ≤ (slot_wave s (from + count)).clock = idle (from + count) (omega arith) (omega (arith, at)) in
-        let there : from + count < length s.waves = omega (arith, h, at) in
-        subst Stands (omega (arith, at)) (idle_waves (from + count) there here more.0, idle_rose (from + count) there here rose more.0 more.1)
 
 -- all of them, and the first few
 pub all_own : (design : Design) (clustering : Clustering) (cluster n : ℕ) → length (held_nets design clustering cluster) ≤ n → filter (is_own clustering cluster) (take n (held_nets design clustering cluster)) ≡ own_nets design clustering cluster

@@ -1,11 +1,8 @@
 -- Steps of several nets, one after the other, each over the waves that the ones before it left.
-use Rattle.std.specs.Prelude.{◌≡◌, ℕ, Bool, false, ◌||◌, nat_lt, List, [], ◌∷◌, All}
-use Rattle.std.specs.List.{Contains}
+use Rattle.std.specs.Prelude.{ℕ, Bool, false, ◌||◌, nat_lt, List, [], ◌∷◌}
 use Rattle.cmb_wave.specs.Wave.{Wave}
 use Rattle.cmb_design.specs.Design.{Design}
-use Rattle.cmb_core.specs.Clustering.{Clustering}
 use Rattle.cmb_core.specs.Clusters.{step_waves}
-use Rattle.cmb_core.specs.Opened.{IsOwnNet}
 use Rattle.cmb_core.specs.Step.{wave_at, step_reach}
 
 -- the waves after a step of each of these nets in order
@@ -18,14 +15,3 @@ abbrev pub some_rises : Design → List Wave → List ℕ → Bool
 some_rises design waves [] = false
 some_rises design waves (net ∷ nets) =
     nat_lt (wave_at waves net).clock (step_reach design waves (wave_at waves net).net) || some_rises design (step_waves design waves (wave_at waves net)) nets
-
--- steps of some of the cluster's own nets, in some order and each as often as one likes, lead from these waves to the later ones
-pub record AreReached (design : Design) (clustering : Clustering) (cluster : ℕ) (waves later : List Wave) : Type 0 where
-  pub nets : List ℕ
-  pub own : All (IsOwnNet design clustering cluster) nets
-  pub steps : later ≡ stepped_waves design waves nets
-
--- the same, and each of the cluster's own nets is stepped at least once
-pub record AreSwept (design : Design) (clustering : Clustering) (cluster : ℕ) (waves later : List Wave) : Type 0 where
-  pub reached : AreReached design clustering cluster waves later
-  pub each : (net : ℕ) → IsOwnNet design clustering cluster net → Contains reached.nets net

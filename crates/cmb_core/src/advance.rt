@@ -7,16 +7,15 @@ ghost use Rattle.cmb_wave.specs.declared.level.Level.TheVariants.{X};
 ghost use Rattle.cmb_core.specs.Spans.{changes_from};
 ghost use Rattle.cmb_bench.specs.Netlist.{MayTake};
 ghost use Rattle.cmb_core.specs.Arrivals.{last_sample};
-ghost use Rattle.cmb_core.specs.Rows.{gate_row, sampled, AreReady, IsThere, flop_reach};
+ghost use Rattle.cmb_core.specs.Rows.{gate_reach, gate_row, sampled, AreReady, IsThere, flop_reach};
 ghost use Rattle.cmb_core.specs.Step.{wave_at};
 
-use crate::merge::{Lag, Pin, differ, follow, merge};
-use crate::pins::{fill_pins, gate_pins, operand_left, operand_tip};
+use crate::merge::{Lag, differ, follow, merge};
+use crate::pins::{gate_pins, operand_left, operand_wave};
 use crate::process::Operand;
-use crate::waves::Waves;
 use cmb_bench::netlist::Kind;
 use cmb_wave::search::{Rest, left_from};
-use cmb_wave::{Change, Level};
+use cmb_wave::{Change, Level, Wave};
 use std::alloc::AllocError;
 
 /// The span of an output's new ticks, and the level before it.
@@ -25,6 +24,19 @@ pub struct Span {
     pub before: Level,
     pub from: u32,
     pub until: u32,
+}
+
+/// The tick up to which a gate's operands are known at its output.
+pub fn reach_of_gate(horizon: u32, operands: &[Operand], waves: &[Wave]) -> u32
+    requires { (clock : ℕ) × AreReady waves.now clock operands.now }
+    ensures { result ≡ gate_reach horizon waves.now operands.now }
+{
+    let mut reach = horizon;
+    for operand in operands {
+        let known = operand_wave(waves, *operand).clock();
+        reach = reach.min(known.saturating_add(operand.delay));
+    }
+    reach
 }
 
 /// The tick up to which a flip-flop's data is known at its output.
@@ -52,9 +64,9 @@ fn begins_anew(level: Level, span: Span) -> bool
     span.from < span.until && differ(level, span.before)
 }
 
-/// Adds the changes of an output that stays at a level: one at most.
+// Adds the changes of an output that stays at a level: one at most.
 #[tactic(auto, using(crate::proofs::Changes::changes_from_held))]
-pub fn held_changes(room: &mut Vec<Change>, level: Level, span: Span) -> Result<(), AllocError>
+fn held_changes(room: &mut Vec<Change>, level: Level, span: Span) -> Result<(), AllocError>
     requires { span.from ≤ span.until }
     ensures { (row : ℕ → Level) → ((t : ℕ) → span.from ≤ t → row t ≡ level) → OnOk result (room.new.items ≡ room.old.items ++ changes_from row span.before span.from (span.until - span.from)) }
 {
@@ -67,35 +79,12 @@ pub fn held_changes(room: &mut Vec<Change>, level: Level, span: Span) -> Result<
     Ok(())
 }
 
-/// So many pins of a gate need no list of their own.
-const FEW: usize = 4;
-
-// Adds the changes of the output of a gate with few operands.
-fn few_changes(
-    room: &mut Vec<Change>,
-    kind: Kind,
-    operands: &[Operand],
-    waves: &Waves,
-    span: Span,
-) -> Result<(), AllocError>
-    requires few { length operands.now ≤ 4 }
-    requires ready { AreReady waves.now span.from operands.now }
-    requires takes { MayTake kind (length operands.now) }
-    requires ordered { span.from ≤ span.until }
-    ensures { OnOk result (room.new.items ≡ room.old.items ++ changes_from (gate_row kind waves.now operands.now) span.before span.from (span.until - span.from)) }
-{
-    let mut all = [Pin::held(Level::X); FEW];
-    let pins = &mut all[..operands.len()];
-    fill_pins(pins, operands, waves, span.from);
-    merge(kind, pins, room, span.before, span.from, span.until)
-}
-
 /// Adds the changes of a gate's output in a span to a list.
 pub fn gate_changes(
     room: &mut Vec<Change>,
     kind: Kind,
     operands: &[Operand],
-    waves: &Waves,
+    waves: &[Wave],
     span: Span,
 ) -> Result<(), AllocError>
     requires ready { AreReady waves.now span.from operands.now }
@@ -103,9 +92,6 @@ pub fn gate_changes(
     requires ordered { span.from ≤ span.until }
     ensures { OnOk result (room.new.items ≡ room.old.items ++ changes_from (gate_row kind waves.now operands.now) span.before span.from (span.until - span.from)) }
 {
-    if operands.len() <= FEW {
-        return few_changes(room, kind, operands, waves, span);
-    }
     let mut pins = gate_pins(*room.allocator(), operands, waves, span.from)?;
     merge(kind, &mut pins, room, span.before, span.from, span.until)
 }
@@ -127,7 +113,7 @@ fn seen_upto(first: u32, period: u32, delay: u32, clock: u32) -> u32
 // Adds the changes of a flip-flop's output in a span that its first sample has reached.
 fn sampled_changes(
     room: &mut Vec<Change>,
-    waves: &Waves,
+    waves: &[Wave],
     operand: Operand,
     first: u32,
     period: u32,
@@ -159,7 +145,7 @@ fn sampled_changes(
 /// Adds the changes of a flip-flop's output in a span to a list.
 pub fn flop_changes(
     room: &mut Vec<Change>,
-    waves: &Waves,
+    waves: &[Wave],
     operand: Operand,
     first: u32,
     period: u32,

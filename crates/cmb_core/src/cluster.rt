@@ -5,47 +5,33 @@ ghost use Rattle.std.specs.Prelude.{◌≡◌, ◌≢◌, ◌<◌, ◌≤◌, �
 use crate::advance::Span;
 use crate::clustering::Clustering;
 use crate::delivery::{DeliverFault, Stranger, refusal};
-use crate::loops::stretches_of;
-use crate::nodes::Nodes;
-use crate::open::{nets_held, nodes_of, places_among, sides_of};
+use crate::node::Node;
+use crate::open::{nets_held, nodes_of, places_among, sides_of, waves_of};
 use crate::readers::readers_among;
 use crate::tables::{Tables, place_of};
-use crate::waves::Waves;
 use cmb_design::Design;
-use cmb_wave::{Heard, Level, Piece, Promise, WaveFault};
+use cmb_wave::{Heard, Piece, Promise, Wave, WaveFault};
 use std::alloc::{AllocError, Global};
 use std::marker::Model;
-
-// What a step adds to a wave: its span, and the level of all of it where that is plain to see.
-#[derive(Clone, Copy)]
-pub(crate) struct Next {
-    pub(crate) span: Span,
-    pub(crate) held: Option<Level>,
-}
 
 /// Processes with their waves, and the waves that they are given.
 #[derive(Drop)]
 pub struct Cluster {
     pub(crate) horizon: u32,
-    pub(crate) processes: Nodes,
-    pub(crate) waves: Waves,
+    pub(crate) processes: Vec<Node>,
+    pub(crate) waves: Vec<Wave>,
     pub(crate) tables: Tables,
-    // Nothing was delivered, promised or forgotten: each gate's wave ends with what the gate makes of
-    // its operands there.
-    pub(crate) is_closed: bool,
 }
 
 impl Model for Cluster {
     ghost use Rattle.cmb_core.specs.Clusters.{Cluster, IsSound, wave_nets};
-    ghost use Rattle.cmb_core.specs.Steady.{AreSteady};
     ghost use Rattle.cmb_core.specs.Tables.{AreTables};
-    ghost use Rattle.std.specs.Prelude.{◌≡◌, true};
 
     ghost Value = { Cluster };
 
-    ghost view = { λ c. record { horizon = c.horizon; processes = c.processes; waves = c.waves } };
+    ghost view = { λ c. record { horizon = c.horizon; processes = c.processes.items; waves = c.waves.items } };
 
-    ghost invariant = { λ c. record { sound : IsSound (record { horizon = c.horizon; processes = c.processes; waves = c.waves }); tables : AreTables c.processes (wave_nets c.waves) c.tables; steady : c.is_closed ≡ true → AreSteady c.processes c.waves } };
+    ghost invariant = { λ c. record { sound : IsSound (record { horizon = c.horizon; processes = c.processes.items; waves = c.waves.items }); tables : AreTables c.processes.items (wave_nets c.waves.items) c.tables } };
 }
 
 impl Cluster {
@@ -58,7 +44,7 @@ impl Cluster {
     ghost use Rattle.cmb_core.specs.Opened.{IsClusterOf, IsOwnNet, held_nets};
     ghost use Rattle.cmb_core.specs.Step.{wave_at};
     ghost use Rattle.cmb_core.specs.Rows.{slot_of};
-    ghost use Rattle.cmb_core.specs.Clusters.{slot_wave, new_part, new_waves_at, step_answer, step_waves, IsSound, input_slot, output_slot, delivered, RefusesDelivery, heard_at, IsSameButWaves, IsNextSpan, reach_at, row_at};
+    ghost use Rattle.cmb_core.specs.Clusters.{slot_wave, process_at, new_part, new_waves_at, step_answer, step_waves, IsSound, input_slot, output_slot, delivered, RefusesDelivery, heard_at, IsSameButWaves, IsNextSpan, reach_at, row_at};
     ghost use Rattle.cmb_wave.specs.Calls.{taken, RefusesAs, hears, heard_wave};
     ghost use Rattle.cmb_core.specs.World.{with_wave};
     ghost use Rattle.cmb_core.specs.declared.delivery.DeliverFault.TheVariants.{Clash};
@@ -78,12 +64,10 @@ impl Cluster {
     {
         let nets = nets_held(alloc, design, clustering, cluster)?;
         let places = places_among(alloc, &nets, design.netlist().len())?;
-        let nodes = nodes_of(alloc, design, clustering, cluster, &nets, &places)?;
-        let (driven, inputs) = sides_of(alloc, &nodes, &nets)?;
-        let readers = readers_among(alloc, &nodes)?;
-        let processes = Nodes::of(alloc, &nodes)?;
-        let waves = Waves::new(alloc, &nets, design.horizon())?;
-        let stretches = stretches_of(alloc, &nodes)?;
+        let processes = nodes_of(alloc, design, clustering, cluster, &nets, &places)?;
+        let (driven, inputs) = sides_of(alloc, &processes, &nets)?;
+        let readers = readers_among(alloc, &processes)?;
+        let waves = waves_of(alloc, &nets)?;
         Ok(Cluster {
             horizon: design.horizon(),
             processes,
@@ -93,9 +77,7 @@ impl Cluster {
                 driven,
                 inputs,
                 readers,
-                stretches,
             },
-            is_closed: true,
         })
     }
 
@@ -129,34 +111,44 @@ impl Cluster {
         }
     }
 
-    // The span of a wave's new ticks, None where its process can't go on.
-    pub(crate) fn next_span(&self, slot: usize) -> Option<Next>
+    // The wave in a place.
+    pub(crate) fn wave(&self, slot: usize) -> &Wave
         requires { slot < length self.now.waves }
-        ensures span { MatchOption result (reach_at self.now slot ≤ (slot_wave self.now slot).clock) (λ next. IsNextSpan self.now slot next.span) }
-        ensures held { IfSome result (λ next. IfSome next.held (λ level. (t : ℕ) → next.span.from ≤ t → row_at self.now slot t ≡ level)) }
+        ensures wave { result.now ≡ slot_wave self.now slot }
         ensures sound { IsSound self.now }
     {
-        let from = self.waves.tip(slot).clock;
-        let before = self.waves.last_level(slot);
-        let own = if self.is_closed { Some(before) } else { None };
-        let look = self
-            .processes
-            .look(slot, self.horizon, &self.waves, from, own);
-        if look.reach <= from {
+        &self.waves[slot]
+    }
+
+    // The process of the wave in a place.
+    pub(crate) fn process(&self, slot: usize) -> &Node
+        requires { slot < length self.now.waves }
+        ensures { result.now ≡ process_at self.now slot }
+    {
+        &self.processes[slot]
+    }
+
+    // The span of a wave's new ticks, None where its process can't go on.
+    pub(crate) fn next_span(&self, slot: usize) -> Option<Span>
+        requires { slot < length self.now.waves }
+        ensures span { MatchOption result (reach_at self.now slot ≤ (slot_wave self.now slot).clock) (IsNextSpan self.now slot) }
+        ensures sound { IsSound self.now }
+    {
+        let wave = self.wave(slot);
+        let from = wave.clock();
+        let until = self.process(slot).reach(self.horizon, &self.waves);
+        if until <= from {
             return None;
         }
-        Some(Next {
-            span: Span {
-                before,
-                from,
-                until: look.reach,
-            },
-            held: look.held,
+        Some(Span {
+            before: wave.last_level(),
+            from,
+            until,
         })
     }
 
     // The same by the place of the net's wave.
-    fn step_at(&mut self, slot: usize) -> Result<Option<Piece>, AllocError>
+    pub(crate) fn step_at(&mut self, slot: usize) -> Result<Option<Piece>, AllocError>
         requires { slot < length self.old.waves }
         ensures sound { IsSound self.old }
         ensures part { IfOk result (λ part. part ≡ new_part self.old slot) }
@@ -167,13 +159,12 @@ impl Cluster {
         ensures unchanged { OnErr result (self.new ≡ self.old) }
         ensures same { IsSameButWaves self.old self.new }
     {
-        let Some(Next { span, held }) = self.next_span(slot) else {
+        let Some(span) = self.next_span(slot) else {
             return Ok(None);
         };
-        let mut changes = Vec::new(self.waves.allocator());
-        self.processes
-            .changes(slot, &mut changes, &self.waves, span, held)?;
-        let piece = self.waves.grow(slot, span.until, changes)?;
+        let mut changes = Vec::new(*self.waves.allocator());
+        self.process(slot).changes(&mut changes, &self.waves, span)?;
+        let piece = self.waves[slot].grow(span.until, changes)?;
         Ok(Some(piece))
     }
 
@@ -184,7 +175,7 @@ impl Cluster {
     {
         match self.place(net) {
             Some(slot) => {
-                if self.processes.is_given(slot) {
+                if self.process(slot).is_given() {
                     Some(slot)
                 } else {
                     None
@@ -201,7 +192,7 @@ impl Cluster {
     {
         match self.place(net) {
             Some(slot) => {
-                if self.processes.is_given(slot) {
+                if self.process(slot).is_given() {
                     None
                 } else {
                     Some(slot)
@@ -244,8 +235,7 @@ impl Cluster {
         ensures unchanged { OnErr result (self.new ≡ self.old) }
         ensures same { IsSameButWaves self.old self.new }
     {
-        self.is_closed = false;
-        self.waves.take(slot, piece)
+        self.waves[slot].take(piece)
     }
 
     /// Tells a promise to the input wave of its net. Refused by 44 where the cluster has no such wave, and
@@ -270,7 +260,6 @@ impl Cluster {
         ensures waves { self.new.waves ≡ slice_set self.old.waves slot (heard_wave (slot_wave self.old slot) promise) }
         ensures same { IsSameButWaves self.old self.new }
     {
-        self.is_closed = false;
-        self.waves.hear(slot, promise)
+        self.waves[slot].hear(promise)
     }
 }

@@ -1,12 +1,17 @@
-//! A process as it is opened: an input, a gate or a flip-flop, with its operands.
+//! A process of a cluster: how a net is driven, what it reads, and what it makes of the cluster's waves.
 
 ghost use Rattle.std.specs.Prelude.{◌≡◌};
 
+use crate::advance::{
+    Span, flop_changes, gate_changes, input_changes, reach_of_flop, reach_of_gate,
+};
+use crate::pins::operand_wave;
 use crate::process::{Operand, Rule};
-use cmb_wave::Change;
+use cmb_wave::{Change, Wave};
+use std::alloc::AllocError;
 use std::marker::Model;
 
-/// How a net is driven, what it reads, and the changes of an input: no more than its rule takes.
+/// How a net is driven, what it reads, and the changes of an input.
 #[derive(Drop)]
 pub struct Node {
     rule: Rule,
@@ -15,22 +20,19 @@ pub struct Node {
 }
 
 impl Model for Node {
-    ghost use Rattle.cmb_core.specs.Nodes.{IsLean};
     ghost use Rattle.cmb_core.specs.Rows.{Process};
 
     ghost Value = { Process };
 
     ghost view = { λ n. record { rule = n.rule; operands = n.operands.items; stimulus = n.stimulus.items } };
-
-    ghost invariant = { λ n. IsLean n.rule n.operands.items n.stimulus.items };
 }
 
 impl Node {
-    ghost use Rattle.cmb_core.specs.Nodes.{IsLean};
-    ghost use Rattle.cmb_core.specs.Rows.{is_given};
+    ghost use Rattle.std.specs.Prelude.{◌≡◌, ◌≤◌, ◌-◌, ◌++◌, ℕ, OnOk};
+    ghost use Rattle.cmb_core.specs.Rows.{IsReadyFor, is_given, row, reach};
+    ghost use Rattle.cmb_core.specs.Spans.{changes_from};
 
     pub fn new(rule: Rule, operands: Vec<Operand>, stimulus: Vec<Change>) -> Node
-        requires { IsLean rule operands.items stimulus.items }
         ensures { result ≡ record { rule = rule; operands = operands.items; stimulus = stimulus.items } }
     {
         Node {
@@ -42,8 +44,7 @@ impl Node {
 
     /// How the process makes its level.
     pub fn rule(&self) -> Rule
-        ensures rule { result ≡ self.now.rule }
-        ensures lean { IsLean self.now.rule self.now.operands self.now.stimulus }
+        ensures { result ≡ self.now.rule }
     {
         self.rule
     }
@@ -55,13 +56,6 @@ impl Node {
         self.operands.as_slice()
     }
 
-    /// The changes of an input.
-    pub fn stimulus(&self) -> &[Change]
-        ensures { result.now ≡ self.now.stimulus }
-    {
-        self.stimulus.as_slice()
-    }
-
     /// Whether the net is not driven here.
     pub fn is_given(&self) -> bool
         ensures { result ≡ is_given self.now.rule }
@@ -69,6 +63,46 @@ impl Node {
         match self.rule {
             Rule::Given => true,
             _ => false,
+        }
+    }
+
+    /// The tick up to which the output can go on.
+    pub fn reach(&self, horizon: u32, waves: &[Wave]) -> u32
+        requires { (clock : ℕ) × IsReadyFor waves.now clock self.now.rule self.now.operands self.now.stimulus }
+        ensures { result ≡ reach horizon waves.now self.now.rule self.now.operands }
+    {
+        match self.rule {
+            Rule::Given => 0,
+            Rule::Input => horizon,
+            Rule::Gate(_) => reach_of_gate(horizon, &self.operands, waves),
+            Rule::Flop { first, period, .. } => {
+                let source = self.operands[0];
+                let known = operand_wave(waves, source).clock();
+                reach_of_flop(horizon, first, period, source.delay, known)
+            }
+        }
+    }
+
+    /// Adds the changes of the output in a span to a list.
+    pub fn changes(
+        &self,
+        room: &mut Vec<Change>,
+        waves: &[Wave],
+        span: Span,
+    ) -> Result<(), AllocError>
+        requires ready { IsReadyFor waves.now span.from self.now.rule self.now.operands self.now.stimulus }
+        requires ordered { span.from ≤ span.until }
+        ensures { OnOk result (room.new.items ≡ room.old.items ++ changes_from (row waves.now self.now.rule self.now.operands self.now.stimulus) span.before span.from (span.until - span.from)) }
+    {
+        match self.rule {
+            Rule::Given => input_changes(room, &[], span),
+            Rule::Input => input_changes(room, &self.stimulus, span),
+            Rule::Gate(kind) => gate_changes(room, kind, &self.operands, waves, span),
+            Rule::Flop {
+                first,
+                period,
+                init,
+            } => flop_changes(room, waves, self.operands[0], first, period, init, span),
         }
     }
 }

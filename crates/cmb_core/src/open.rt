@@ -1,7 +1,8 @@
 //! The parts of opening a cluster: its nets, its processes and its tables.
 
-ghost use Rattle.std.specs.Prelude.{◌≡◌, ◌<◌, ◌≤◌, ◌==◌, ◌||◌, ◌∷◌, [], ℕ, false, None, List, Option, IfOk, length, filter, slice_index_or, All};
+ghost use Rattle.std.specs.Prelude.{◌≡◌, ◌<◌, ◌≤◌, ◌==◌, ◌||◌, ◌∷◌, [], ℕ, false, None, List, Option, IfOk, length, filter, map, slice_index_or, All};
 ghost use Rattle.std.specs.List.{list_any, range_with_len};
+ghost use Rattle.cmb_wave.specs.Wave.{new_wave};
 ghost use Rattle.cmb_bench.specs.declared.netlist.Driver.TheVariants.{Input, Gate, Flop};
 ghost use Rattle.cmb_bench.specs.Netlist.{driver_of, pins_of, MayTake, IsWired, IsNetlist};
 ghost use Rattle.cmb_design.specs.Exact.{nets_of};
@@ -16,6 +17,7 @@ use crate::node::Node;
 use crate::process::{Operand, Rule};
 use cmb_bench::netlist::{Driver, Kind};
 use cmb_design::Design;
+use cmb_wave::Wave;
 use std::alloc::{AllocError, Global};
 
 // Marks these nets.
@@ -301,4 +303,15 @@ pub(crate) fn sides_of(
         }
     }
     Ok((driven, given))
+}
+
+/// New waves of these nets, of which nothing is known yet.
+pub(crate) fn waves_of(alloc: Global, nets: &[u32]) -> Result<Vec<Wave>, AllocError>
+    ensures { IfOk result (λ waves. waves.items ≡ map new_wave nets.now) }
+{
+    let mut waves = Vec::with_capacity(alloc, nets.len())?;
+    for net in nets {
+        waves.push(Wave::new(alloc, *net))?;
+    }
+    Ok(waves)
 }

@@ -1,109 +1,64 @@
 //! The pins of a process as its step begins.
 
-ghost use Rattle.std.specs.Prelude.{◌≡◌, ℕ, ◌-◌, ◌≤◌, IfOk, length};
+ghost use Rattle.std.specs.Prelude.{◌≡◌, ℕ, ◌≤◌, IfOk, length};
 ghost use Rattle.cmb_wave.specs.Waveform.{level_at};
 ghost use Rattle.cmb_core.specs.Arrivals.{pin_at, pins_at};
 ghost use Rattle.cmb_core.specs.Rows.{delayed, delayed_levels, IsReady, AreReady, IsThere};
 ghost use Rattle.cmb_core.specs.Step.{wave_at};
-ghost use Rattle.cmb_core.specs.Tips.{IsTail, IsTip};
-ghost use Rattle.cmb_wave.specs.Wave.{wave_up_to};
 
 use crate::merge::{Lag, Pin};
 use crate::process::Operand;
-use crate::recent::left_near_end;
-use crate::tip::{Tail, Tip};
-use crate::waves::Waves;
-use cmb_wave::search::Rest;
-use cmb_wave::{Level, Wave};
+use cmb_wave::Wave;
+use cmb_wave::search::{Rest, left_from};
 use std::alloc::{AllocError, Global};
 
-/// The wave that an operand reads, but for its clock.
+/// The wave that an operand reads.
 #[tactic(auto, using(crate::proofs::Slots::slot_there, crate::proofs::Slots::slot_wave))]
-pub fn operand_wave(waves: &Waves, operand: Operand) -> &Wave
+pub fn operand_wave(waves: &[Wave], operand: Operand) -> &Wave
     requires { IsThere waves.now operand }
-    ensures { wave_up_to result.now (wave_at waves.now operand.net).clock ≡ wave_at waves.now operand.net }
+    ensures { result.now ≡ wave_at waves.now operand.net }
 {
-    waves.at(operand.slot as usize)
-}
-
-/// The clock and the newest change of the wave that an operand reads.
-#[tactic(auto, using(crate::proofs::Slots::slot_there, crate::proofs::Slots::slot_wave))]
-pub fn operand_tip(waves: &Waves, operand: Operand) -> &Tip
-    requires { IsThere waves.now operand }
-    ensures { IsTip result.now (wave_at waves.now operand.net) }
-{
-    waves.tip(operand.slot as usize)
-}
-
-/// The newest changes of the wave that an operand reads.
-#[tactic(auto, using(crate::proofs::Slots::slot_there, crate::proofs::Slots::slot_wave))]
-pub fn operand_tail(waves: &Waves, operand: Operand) -> &Tail
-    requires { IsThere waves.now operand }
-    ensures { IsTail result.now (wave_at waves.now operand.net) }
-{
-    waves.tail(operand.slot as usize)
+    &waves[operand.slot as usize]
 }
 
 /// What is left from a tick on of the wave that an operand reads.
-pub fn operand_left(waves: &Waves, operand: Operand, tick: u32) -> Rest<'_>
+pub fn operand_left(waves: &[Wave], operand: Operand, tick: u32) -> Rest<'_>
     requires { IsThere waves.now operand }
     ensures { (t : ℕ) → tick ≤ t → level_at result.level result.changes.now t ≡ level_at (wave_at waves.now operand.net).kept (wave_at waves.now operand.net).changes t }
 {
-    if let Some(left) = operand_tail(waves, operand).left_from(tick) {
-        return left;
-    }
     let wave = operand_wave(waves, operand);
-    left_near_end(wave.kept(), wave.changes(), tick)
+    left_from(wave.kept(), wave.changes(), tick)
 }
 
-// Sets the pin of an operand that reaches the output with a delay, from the output's clock on.
-fn set_delayed<'a>(pin: &mut Pin<'a>, wave: &'a Wave, delay: u32, clock: u32)
-    requires { wave.now.base ≤ clock - delay }
-    ensures { (t : ℕ) → clock ≤ t → pin_at pin.new t ≡ delayed wave.now delay t }
-{
-    let left = left_near_end(wave.kept(), wave.changes(), clock.saturating_sub(delay));
-    pin.set(left.level, Lag::Delay(delay), left.changes);
-}
-
-/// Sets the pin of an operand that reaches the output with a delay, from the output's clock on.
-pub fn set_pin<'a>(pin: &mut Pin<'a>, waves: &'a Waves, operand: Operand, clock: u32)
+/// The pin of an operand that reaches the output with a delay, from the output's clock on.
+pub fn pin_of(waves: &[Wave], operand: Operand, clock: u32) -> Pin<'_>
     requires { IsReady waves.now clock operand }
-    ensures { (t : ℕ) → clock ≤ t → pin_at pin.new t ≡ delayed (wave_at waves.now operand.net) operand.delay t }
+    ensures { (t : ℕ) → clock ≤ t → pin_at result t ≡ delayed (wave_at waves.now operand.net) operand.delay t }
 {
-    if operand.delay <= clock {
-        let reached = clock - operand.delay;
-        if let Some(left) = operand_tail(waves, operand).left_from(reached) {
-            pin.set(left.level, Lag::Delay(operand.delay), left.changes);
-            return;
-        }
+    let wave = operand_wave(waves, operand);
+    let reached = clock.saturating_sub(operand.delay);
+    let left = left_from(wave.kept(), wave.changes(), reached);
+    Pin {
+        rest: left.changes,
+        lag: Lag::Delay(operand.delay),
+        level: left.level,
     }
-    set_delayed(pin, operand_wave(waves, operand), operand.delay, clock);
 }
 
 /// The pins of a gate, from the output's clock on.
 pub fn gate_pins<'a>(
     alloc: Global,
     operands: &[Operand],
-    waves: &'a Waves,
+    waves: &'a [Wave],
     clock: u32,
 ) -> Result<Vec<Pin<'a>>, AllocError>
     requires { AreReady waves.now clock operands.now }
     ensures levels { IfOk result (λ pins. (t : ℕ) → clock ≤ t → pins_at pins.items t ≡ delayed_levels waves.now operands.now t) }
     ensures count { IfOk result (λ pins. length pins.items ≡ length operands.now) }
 {
-    let mut pins = Vec::from_elem(alloc, Pin::held(Level::X), operands.len())?;
-    fill_pins(&mut pins, operands, waves, clock);
-    Ok(pins)
-}
-
-/// The pins of a gate, from the output's clock on, put in the place of as many others.
-pub fn fill_pins<'a>(pins: &mut [Pin<'a>], operands: &[Operand], waves: &'a Waves, clock: u32)
-    requires ready { AreReady waves.now clock operands.now }
-    requires room { length pins.old ≡ length operands.now }
-    ensures levels { (t : ℕ) → clock ≤ t → pins_at pins.new t ≡ delayed_levels waves.now operands.now t }
-    ensures count { length pins.new ≡ length operands.now }
-{
-    for i in 0..operands.len() {
-        set_pin(&mut pins[i], waves, operands[i], clock);
+    let mut pins = Vec::with_capacity(alloc, operands.len())?;
+    for operand in operands {
+        pins.push(pin_of(waves, *operand, clock))?;
     }
+    Ok(pins)
 }

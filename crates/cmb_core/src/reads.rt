@@ -6,34 +6,31 @@ ghost use Rattle.cmb_wave.specs.Calls.{cut, promised};
 ghost use Rattle.cmb_design.specs.Design.{Design};
 ghost use Rattle.cmb_design.specs.Exact.{IsExactIn, IsExactWaveIn, IsRightIn};
 ghost use Rattle.cmb_core.specs.Clustering.{Clustering as Clusters};
-ghost use Rattle.cmb_core.specs.Clusters.{IsDrivenHere, driven_waves, inputs_of, input_slot, is_complete, nth_process, output_slot, outputs_of, told_at};
+ghost use Rattle.cmb_core.specs.Clusters.{IsDrivenHere, driven_waves, inputs_of, input_slot, is_complete, output_slot, outputs_of, told_at};
 ghost use Rattle.cmb_core.specs.Exactness.{IsExactCluster};
 ghost use Rattle.cmb_core.specs.Opened.{IsClusterOf, own_nets, read_nets};
 ghost use Rattle.cmb_core.specs.Rows.{is_given};
 ghost use Rattle.cmb_core.specs.Step.{wave_at};
 
 use crate::cluster::Cluster;
-use crate::nodes::Nodes;
-use crate::tip::Tip;
-use crate::waves::Waves;
+use crate::node::Node;
 use cmb_wave::{Piece, Promise, Wave};
 use std::alloc::AllocError;
 
 // Whether a wave that is not given is not known up to a tick.
-fn is_behind(nodes: &Nodes, slot: usize, tip: &Tip, upto: u32) -> bool
-    requires { slot < length nodes.now }
-    ensures { result ≡ (not (is_given (nth_process nodes.now slot).rule) && not (tip.now.clock == upto)) }
+fn is_behind(node: &Node, wave: &Wave, upto: u32) -> bool
+    ensures { result ≡ (not (is_given node.now.rule) && not (wave.now.clock == upto)) }
 {
-    !nodes.is_given(slot) && tip.clock != upto
+    !node.is_given() && wave.clock() != upto
 }
 
 // Whether every wave that is not given is known up to a tick.
-fn all_known(nodes: &Nodes, waves: &Waves, upto: u32) -> bool
+fn all_known(nodes: &[Node], waves: &[Wave], upto: u32) -> bool
     requires { length waves.now ≡ length nodes.now }
     ensures { result ≡ list_all (λ wave. wave.clock == upto) (driven_waves nodes.now waves.now) }
 {
     for slot in 0..waves.len() {
-        if is_behind(nodes, slot, waves.tip(slot), upto) {
+        if is_behind(&nodes[slot], &waves[slot], upto) {
             return false;
         }
     }
@@ -61,7 +58,7 @@ impl Cluster {
         ensures cut { IfOk result (λ piece. piece ≡ cut (wave_at self.now.waves net) from) }
         ensures sent { (design : Design) (clustering : Clusters) (cluster : ℕ) → IsExactCluster design clustering cluster self.now → IfOk result (λ piece. IfSome piece (IsExactIn design)) }
     {
-        self.waves.cut(self.driven_place(net), from)
+        self.wave(self.driven_place(net)).cut(from)
     }
 
     /// How far a net that is driven here is known, and how many changes it has there. Of exact waves it
@@ -71,7 +68,7 @@ impl Cluster {
         ensures promised { result ≡ promised (wave_at self.now.waves net) }
         ensures right { (design : Design) (clustering : Clusters) (cluster : ℕ) → IsExactCluster design clustering cluster self.now → IsRightIn design result }
     {
-        self.waves.promise(self.driven_place(net))
+        self.wave(self.driven_place(net)).promise()
     }
 
     /// The clock of a net that is driven here, None of any other.
@@ -79,7 +76,7 @@ impl Cluster {
         ensures { result ≡ told_at (λ wave. wave.clock) self.now net (output_slot self.now net) }
     {
         match self.output_place(net) {
-            Some(slot) => Some(self.waves.tip(slot).clock),
+            Some(slot) => Some(self.wave(slot).clock()),
             None => None,
         }
     }
@@ -89,7 +86,7 @@ impl Cluster {
         ensures { result ≡ told_at (λ wave. wave.clock) self.now net (input_slot self.now net) }
     {
         match self.input_place(net) {
-            Some(place) => Some(self.waves.tip(place).clock),
+            Some(place) => Some(self.wave(place).clock()),
             None => None,
         }
     }
@@ -99,7 +96,7 @@ impl Cluster {
         ensures { result ≡ told_at (λ wave. wave.base) self.now net (input_slot self.now net) }
     {
         match self.input_place(net) {
-            Some(slot) => Some(self.waves.at(slot).base()),
+            Some(slot) => Some(self.wave(slot).base()),
             None => None,
         }
     }
@@ -133,6 +130,7 @@ impl Cluster {
         ensures waves { result.items ≡ self.waves }
         ensures exact { (design : Design) (clustering : Clusters) (cluster : ℕ) → IsExactCluster design clustering cluster self → AllByRecursion (IsExactWaveIn design) result.items }
     {
-        self.waves.into_list()
+        let Cluster { waves, .. } = self;
+        waves
     }
 }

@@ -20,7 +20,7 @@ impl Cluster {
         ensures { result ≡ ((wave_at self.now.waves net).clock == self.now.horizon) }
     {
         match self.output_place(net) {
-            Some(slot) => self.waves.tip(slot).clock == self.horizon,
+            Some(slot) => self.wave(slot).clock() == self.horizon,
             None => unreachable!(),
         }
     }

@@ -1,23 +1,15 @@
 //! Stepping every net of a cluster, in place.
 
-ghost use Rattle.std.specs.Prelude.{◌≡◌, ◌<◌, ◌≤◌, ℕ, [], ◌||◌, nat_lt, length, take, IfOk, OnOk, OnErr};
-ghost use Rattle.cmb_wave.specs.Waveform.{last_level, level_at, level_before};
+ghost use Rattle.std.specs.Prelude.{◌≡◌, ℕ, ◌||◌, length, take, IfOk, OnOk, OnErr};
 ghost use Rattle.cmb_design.specs.Design.{Design};
 ghost use Rattle.cmb_core.specs.Clustering.{Clustering as Clusters};
-ghost use Rattle.cmb_core.specs.Clusters.{IsSameButWaves, IsSound, new_waves_at, reach_at, slot_wave};
+ghost use Rattle.cmb_core.specs.Clusters.{IsSameButWaves};
 ghost use Rattle.cmb_core.specs.Exactness.{IsExactCluster};
 ghost use Rattle.cmb_core.specs.Opened.{IsClusterOf, own_nets};
-ghost use Rattle.cmb_core.specs.Passes.{AreSweptBetween, IsPass};
-ghost use Rattle.cmb_core.specs.Sweep.{some_rises, stepped_waves, AreReached, AreSwept};
+ghost use Rattle.cmb_core.specs.Sweep.{some_rises, stepped_waves};
 
-use crate::cluster::{Cluster, Next};
-use crate::loops::stretch_within;
-use cmb_wave::Change;
+use crate::cluster::Cluster;
 use std::alloc::AllocError;
-
-// So often at most a loop, as `loops` cuts it out, is gone over again at once, which makes 64 times in all:
-// its waves are near then, and others don't wait long for it. Only speed depends on the number.
-const AGAIN: usize = 63;
 
 fn either(a: bool, b: bool) -> bool
     ensures { result ≡ (a || b) }
@@ -33,46 +25,6 @@ impl Cluster {
         self.waves.len()
     }
 
-    // An empty list for changes.
-    fn empty_room(&self) -> Vec<Change>
-        ensures { result.items ≡ [] }
-    {
-        Vec::new(self.waves.allocator())
-    }
-
-    // Lets the wave in a place go on as far as its process can, and says whether it did. The list is
-    // room for the changes.
-    fn advance(&mut self, slot: usize, room: &mut Vec<Change>) -> Result<bool, AllocError>
-        requires slot { slot < length self.old.waves }
-        requires empty { room.old.items ≡ [] }
-        ensures sound { IsSound self.old }
-        ensures rose { IfOk result (λ rose. rose ≡ nat_lt (slot_wave self.old slot).clock (reach_at self.old slot)) }
-        ensures room { OnOk result (room.new.items ≡ []) }
-        ensures waves { OnOk result (self.new.waves ≡ new_waves_at self.old slot) }
-        ensures before { (slot_wave self.old slot).clock < reach_at self.old slot → last_level (slot_wave self.old slot).kept (slot_wave self.old slot).changes ≡ level_before (level_at (slot_wave self.old slot).kept (slot_wave self.old slot).changes) (slot_wave self.old slot).clock }
-        ensures unchanged { OnErr result (self.new ≡ self.old) }
-        ensures same { IsSameButWaves self.old self.new }
-    {
-        let Some(Next { span, held }) = self.next_span(slot) else {
-            return Ok(false);
-        };
-        self.processes.changes(slot, room, &self.waves, span, held)?;
-        self.waves.extend(slot, span.until, room)?;
-        room.clear();
-        Ok(true)
-    }
-
-    // A place behind this one, such that no step goes on at the places between the two.
-    fn next_short(&mut self, slot: usize) -> usize
-        requires { slot < length self.old.waves }
-        ensures later { slot < result }
-        ensures within { result ≤ length self.old.waves }
-        ensures idle { (j : ℕ) → slot < j → j < result → reach_at self.old j ≤ (slot_wave self.old j).clock }
-        ensures unchanged { self.new ≡ self.old }
-    {
-        self.waves.next_short(slot, self.horizon)
-    }
-
     /// Steps each net that is driven here once, in order, and says whether a clock rose. Where there
     /// is no memory the cluster stands as after the first few of these steps.
     pub fn step_all(&mut self) -> Result<bool, AllocError>
@@ -82,90 +34,10 @@ impl Cluster {
         ensures same { IsSameButWaves self.old self.new }
         ensures exact { (design : Design) (clustering : Clusters) (cluster : ℕ) → IsExactCluster design clustering cluster self.old → IsExactCluster design clustering cluster self.new }
     {
-        let mut room = self.empty_room();
         let mut rose = false;
-        let mut slot = 0;
-        while slot < self.slots() {
-            let moved = self.advance(slot, &mut room)?;
+        for slot in 0..self.slots() {
+            let moved = self.step_at(slot)?.is_some();
             rose = either(rose, moved);
-            slot = self.next_short(slot);
-        }
-        Ok(rose)
-    }
-
-    // Steps the nets in the places from one up to another once, in order, and says whether a clock rose.
-    fn pass(&mut self, begin: usize, end: usize, room: &mut Vec<Change>) -> Result<bool, AllocError>
-        requires some { begin < end }
-        requires within { end ≤ length self.old.waves }
-        requires empty { room.old.items ≡ [] }
-        ensures pass { IfOk result (λ rose. IsPass self.old self.new begin end rose) }
-        ensures room { OnOk result (room.new.items ≡ []) }
-        ensures waves { (design : Design) (clustering : Clusters) (cluster : ℕ) → IsClusterOf design clustering cluster self.old → AreReached design clustering cluster self.old.waves self.new.waves }
-        ensures swept { (design : Design) (clustering : Clusters) (cluster : ℕ) → IsClusterOf design clustering cluster self.old → OnOk result (AreSweptBetween design clustering cluster begin end self.old.waves self.new.waves) }
-        ensures same { IsSameButWaves self.old self.new }
-        ensures exact { (design : Design) (clustering : Clusters) (cluster : ℕ) → IsExactCluster design clustering cluster self.old → IsExactCluster design clustering cluster self.new }
-    {
-        let mut rose = false;
-        let mut slot = begin;
-        while slot < end {
-            let went = self.advance(slot, room)?;
-            rose = either(rose, went);
-            slot = self.next_short(slot);
-        }
-        Ok(rose)
-    }
-
-    // The same, and while a clock rises again, so many times at most.
-    fn passes(
-        &mut self,
-        begin: usize,
-        end: usize,
-        again: usize,
-        room: &mut Vec<Change>,
-    ) -> Result<bool, AllocError>
-        requires some { begin < end }
-        requires within { end ≤ length self.old.waves }
-        requires empty { room.old.items ≡ [] }
-        ensures pass { IfOk result (λ rose. IsPass self.old self.new begin end rose) }
-        ensures room { OnOk result (room.new.items ≡ []) }
-        ensures waves { (design : Design) (clustering : Clusters) (cluster : ℕ) → IsClusterOf design clustering cluster self.old → AreReached design clustering cluster self.old.waves self.new.waves }
-        ensures swept { (design : Design) (clustering : Clusters) (cluster : ℕ) → IsClusterOf design clustering cluster self.old → OnOk result (AreSweptBetween design clustering cluster begin end self.old.waves self.new.waves) }
-        ensures same { IsSameButWaves self.old self.new }
-        ensures exact { (design : Design) (clustering : Clusters) (cluster : ℕ) → IsExactCluster design clustering cluster self.old → IsExactCluster design clustering cluster self.new }
-    {
-        let rose = self.pass(begin, end, room)?;
-        let mut goes = rose;
-        let mut left = again;
-        while goes && left > 0 {
-            goes = self.pass(begin, end, room)?;
-            left -= 1;
-        }
-        Ok(rose)
-    }
-
-    /// Steps each net that is driven here at least once, and says whether a clock rose. It goes by the
-    /// nets' numbers, and over a stretch of them whose processes read forward within it, as those of a
-    /// feedback loop do, up to 64 times in a row while a clock rises there, unless they wait for an input
-    /// wave. Only speed depends on that. Where there is no memory the cluster stands as after some of
-    /// these steps.
-    pub fn step_loops(&mut self) -> Result<bool, AllocError>
-        ensures rose { (design : Design) (clustering : Clusters) (cluster : ℕ) → IsClusterOf design clustering cluster self.old → IfOk result (λ rose. rose ≡ some_rises design self.old.waves (own_nets design clustering cluster)) }
-        ensures waves { (design : Design) (clustering : Clusters) (cluster : ℕ) → IsClusterOf design clustering cluster self.old → AreReached design clustering cluster self.old.waves self.new.waves }
-        ensures swept { (design : Design) (clustering : Clusters) (cluster : ℕ) → IsClusterOf design clustering cluster self.old → OnOk result (AreSwept design clustering cluster self.old.waves self.new.waves) }
-        ensures same { IsSameButWaves self.old self.new }
-        ensures exact { (design : Design) (clustering : Clusters) (cluster : ℕ) → IsExactCluster design clustering cluster self.old → IsExactCluster design clustering cluster self.new }
-    {
-        let mut room = self.empty_room();
-        let mut rose = false;
-        let mut begin = 0;
-        let mut number = 0;
-        while begin < self.slots() {
-            let stretch = stretch_within(&self.tables.stretches, number, begin, self.slots());
-            let again = if stretch.is_loop { AGAIN } else { 0 };
-            let risen = self.passes(begin, stretch.end, again, &mut room)?;
-            rose = either(rose, risen);
-            begin = stretch.end;
-            number += 1;
         }
         Ok(rose)
     }

@@ -2,8 +2,6 @@
 
 ghost use Rattle.std.specs.Prelude.{◌≡◌, None, slice_index_or};
 
-use crate::loops::Stretch;
-
 /// A pin that reads a wave: the place of its process, and its delay.
 #[derive(Clone, Copy)]
 pub struct Reader {
@@ -11,15 +9,14 @@ pub struct Reader {
     pub delay: u32,
 }
 
-/// The place of each net's wave, the nets that are driven and those that are given, who reads each given
-/// wave, and the stretches that a sweep takes one after the other.
+/// The place of each net's wave, the nets that are driven and those that are given, and who reads each
+/// given wave.
 #[derive(Drop)]
 pub struct Tables {
     pub places: Vec<Option<u16>>,
     pub driven: Vec<u32>,
     pub inputs: Vec<u32>,
     pub readers: Vec<Vec<Reader>>,
-    pub stretches: Vec<Stretch>,
 }
 
 /// The place of a net's wave.

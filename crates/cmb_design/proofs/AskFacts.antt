@@ -1,5 +1,5 @@
 -- What a design's tables say when they are asked.
-use Rattle.std.proofs.Common.{◌≡◌, ◌≤◌, ◌<◌, ℕ, zero, suc, List, [], ◌∷◌, Option, Some, None, Vec, Global, length, get_or, map, true, false, refl, sym, ap, arith, ◌∙◌}
+use Rattle.std.proofs.Common.{◌≡◌, ◌≤◌, ◌<◌, ℕ, zero, suc, List, [], ◌∷◌, Option, Some, None, length, get_or, map, true, false, refl, sym, ap, arith, ◌∙◌}
 use Rattle.std.specs.Prelude.{find, option_map, unwrap_or, nat_le}
 use Rattle.std.specs.List.Sorted.{IsNonDecreasingBy, IsPartitionPoint}
 use Rattle.std.proofs.Common.{◌-◌}
@@ -10,6 +10,8 @@ use Rattle.cmb_wave.specs.declared.level.Change.{Change}
 use Rattle.cmb_wave.specs.Waveform.{Rises, changes_between, level_at}
 use Rattle.cmb_wave.proofs.Spans.{RisesWithin}
 use Rattle.cmb_bench.specs.Netlist.{Netlist, number_of}
+use Rattle.cmb_design.specs.Told.{changes_in}
+use Rattle.cmb_design.specs.declared.told.Told.{Told}
 use Rattle.cmb_design.specs.Design.{Design}
 use Rattle.cmb_design.specs.Nets.{is_at}
 use Rattle.cmb_design.specs.Stimuli.{stimulus_changes}
@@ -38,19 +40,19 @@ pub clock_of-positive : (design : Design) (net : ℕ) → 1 ≤ (clock_of design
 unfolding clock_of
 clock_of-positive design net = positive (find (λ row. is_at (number_of design.netlist row.net) net) design.clocks) design.clock
 
-pub length-changes : (netlist : Netlist) (rows : List StimulusRow) (horizon : ℕ) (lists : List (Vec Change Global)) → map (λ list. list.items) lists ≡ stimulus_changes netlist rows horizon
+pub length-changes : (netlist : Netlist) (rows : List StimulusRow) (horizon : ℕ) (lists : List Told) → map changes_in lists ≡ stimulus_changes netlist rows horizon
     → length lists ≡ length netlist.names
 unfolding stimulus_changes
 length-changes netlist rows horizon lists h =
-    sym (length-map lists (λ list. list.items)) ∙ ap length h ∙ length-map-range_with_len (λ net. changes_between (level_by (row_level netlist rows net)) 0 horizon) 0 (length netlist.names)
+    sym (length-map lists changes_in) ∙ ap length h ∙ length-map-range_with_len (λ net. changes_between (level_by (row_level netlist rows net)) 0 horizon) 0 (length netlist.names)
 
-pub changes-at : (netlist : Netlist) (rows : List StimulusRow) (horizon : ℕ) (lists : List (Vec Change Global)) (net : ℕ) (v : Vec Change Global)
-    → map (λ list. list.items) lists ≡ stimulus_changes netlist rows horizon → net < length netlist.names → v ≡ get_or lists net v
-    → v.items ≡ changes_between (level_by (row_level netlist rows net)) 0 horizon
+pub changes-at : (netlist : Netlist) (rows : List StimulusRow) (horizon : ℕ) (lists : List Told) (net : ℕ) (v : Told)
+    → map changes_in lists ≡ stimulus_changes netlist rows horizon → net < length netlist.names → v ≡ get_or lists net v
+    → changes_in v ≡ changes_between (level_by (row_level netlist rows net)) 0 horizon
 unfolding stimulus_changes
 changes-at netlist rows horizon lists net v h b e =
     let n : net < length lists = omega (arith, length-changes netlist rows horizon lists h) in
-    sym (map_at (λ list. list.items) lists net v [] (get_some lists net v n e)) ∙ ap (λ t. get_or t net []) h
+    sym (map_at changes_in lists net v [] (get_some lists net v n e)) ∙ ap (λ t. get_or t net []) h
     ∙ get_or-map-range_with_len (λ k. changes_between (level_by (row_level netlist rows k)) 0 horizon) 0 (length netlist.names) net net [] b (omega arith)
 
 rises_at : (from to : ℕ) (cs : List Change) (j : ℕ) (d : Change) → RisesWithin from to cs → j < length cs → from ≤ (get_or cs j d).tick

@@ -6,6 +6,7 @@ pub mod DelayFacts
 pub mod LevelFacts
 pub mod ToldFacts
 pub mod StimulusFacts
+pub mod SettleFacts
 pub mod SettingFacts
 pub mod WholeFacts
 pub mod AskFacts
@@ -20,4 +21,5 @@ pub mod TableFacts
 pub mod RangeFacts
 pub mod LawfulFacts
 pub mod PlainFacts
+pub mod BoundFacts
 pub mod PartFacts

@@ -58,7 +58,7 @@ length-table_rows row (h ∷ rs) = omega (arith, length-map rs row)
 pub within : (low high n : ℕ) → not (is_within low high n) ≡ false → (low ≤ n) × (n ≤ high)
 within low high n h = (grind (arith, nat_tests), grind (arith, nat_tests))
 
-delay_good : (n : ℕ) (f : List (List ℕ)) → first_fault (delay_record_checks n f) ≡ None → IsDelay (delay_row_of f).delay
+pub delay_good : (n : ℕ) (f : List (List ℕ)) → first_fault (delay_record_checks n f) ≡ None → IsDelay (delay_row_of f).delay
 unfolding delay_record_checks delay_row_of
 delay_good n f h =
     let a = first_passes _ _ h in
@@ -70,7 +70,7 @@ delay_good n f h =
 pub ticks_within : (first period : ℕ) → not (nat_le first 1000000 && is_within 1 1000000 period) ≡ false → AreTicks first period
 ticks_within first period h = (grind (arith, nat_tests), grind (arith, nat_tests), grind (arith, nat_tests))
 
-clock_good : (n : ℕ) (f : List (List ℕ)) → first_fault (clock_record_checks n f) ≡ None → AreTicks (clock_row_of f).first (clock_row_of f).period
+pub clock_good : (n : ℕ) (f : List (List ℕ)) → first_fault (clock_record_checks n f) ≡ None → AreTicks (clock_row_of f).first (clock_row_of f).period
 unfolding clock_record_checks clock_row_of
 clock_good n f h =
     let a = first_passes _ _ h in

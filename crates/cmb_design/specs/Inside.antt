@@ -5,12 +5,13 @@ use Rattle.cmb_design.specs.Tables.{clock_places, starts_of, table_size}
 use Rattle.cmb_design.specs.Timing.{flat_delays}
 use Rattle.cmb_design.specs.Lawful.{IsDesign}
 use Rattle.cmb_design.specs.Stimuli.{stimulus_changes}
+use Rattle.cmb_design.specs.Told.{changes_in}
 use Rattle.cmb_design.specs.declared.design.Tables.{Tables}
 
 pub record AreTables (design : Design) (tables : Tables) : Type 0 where
   pub starts : tables.starts.items ≡ starts_of design.netlist
   pub room : table_size design.netlist < 2 ^ 64
   pub delays : tables.delays.items ≡ flat_delays design.netlist design.delays (length design.netlist.names)
-  pub changes : map (λ list. list.items) tables.changes.items ≡ stimulus_changes design.netlist design.stimuli 4294967296
+  pub changes : map changes_in tables.changes.items ≡ stimulus_changes design.netlist design.stimuli 4294967296
   pub own_clocks : tables.own_clocks.items ≡ clock_places design.netlist design.clocks
   pub lawful : IsDesign design

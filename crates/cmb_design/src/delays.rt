@@ -118,7 +118,7 @@ fn take_delay(
 }
 
 /// For each kind, net and pin the delay of its row, if it has one.
-pub(crate) fn take_delays(
+fn take_delays(
     alloc: Global,
     netlist: &Netlist,
     starts: &[usize],
@@ -199,7 +199,7 @@ fn of_kind(
 }
 
 /// The delay of a net's pin.
-pub(crate) fn delay_at(
+fn delay_at(
     netlist: &Netlist,
     starts: &[usize],
     places: &Vec<Option<u32>>,
@@ -244,7 +244,7 @@ fn push_delays(
 }
 
 /// The delays of all pins, net by net.
-pub(crate) fn all_delays(
+fn all_delays(
     alloc: Global,
     netlist: &Netlist,
     starts: &[usize],
@@ -260,5 +260,26 @@ pub(crate) fn all_delays(
     for net in 0..netlist.len() {
         push_delays(netlist, starts, places, rows, net, &mut flat)?;
     }
+    Ok(flat)
+}
+
+/// The delays of all pins, net by net, by these rows.
+pub(crate) fn pin_delays(
+    alloc: Global,
+    netlist: &Netlist,
+    layout: &Layout,
+    rows: &[DelayRow],
+) -> Result<Vec<u32>, DesignFault>
+    requires few { length rows.now ≤ 16777216 }
+    requires starts { layout.now.starts.items ≡ starts_of netlist.now }
+    requires size { layout.now.size ≡ table_size netlist.now }
+    requires room { table_size netlist.now < 2 ^ 64 }
+    ensures ok { IfOk result (λ v. (first_fault (rows_checks (delay_row_checks netlist.now) rows.now) ≡ None) × (v.items ≡ flat_delays netlist.now rows.now (length netlist.now.names))) }
+    ensures err { IfErr result (λ e. (e ≡ fault.Memory) ⊎ (first_fault (rows_checks (delay_row_checks netlist.now) rows.now) ≡ Some e)) }
+{
+    let places = take_delays(alloc, netlist, &layout.starts, layout.size, rows)?;
+    let Ok(flat) = all_delays(alloc, netlist, &layout.starts, &places, rows) else {
+        return Err(DesignFault::Memory);
+    };
     Ok(flat)
 }

@@ -14,13 +14,14 @@ ghost use Rattle.cmb_design.specs.Part.{design_on};
 ghost use Rattle.cmb_design.specs.Settings.{design_checks};
 
 use crate::clocks::take_clocks;
-use crate::delays::{all_delays, lay_out, take_delays};
+use crate::delays::{lay_out, pin_delays};
 use crate::fault::DesignFault;
 use crate::part::{clocks_on, delays_on, stimuli_on};
 use crate::rows::{Clock, ClockRows, DelayRows, StimulusRows};
 use crate::samples::{clock_for_all, last_at, level_told, next_at, told_before};
 use crate::settings::{Settings, check_settings};
 use crate::stimuli::stimuli_changes;
+use crate::told::Told;
 use cmb_bench::Netlist;
 use cmb_wave::{Change, Level};
 use std::alloc::Global;
@@ -31,7 +32,7 @@ use std::marker::Model;
 pub(crate) struct Tables {
     starts: Vec<usize>,
     delays: Vec<u32>,
-    changes: Vec<Vec<Change>>,
+    changes: Vec<Told>,
     own_clocks: Vec<Option<Clock>>,
 }
 
@@ -58,15 +59,12 @@ fn make_tables(
     )?;
     let layout = lay_out(alloc, netlist)?;
     let delay_rows = delays.as_slice();
-    let places = take_delays(alloc, netlist, &layout.starts, layout.size, delay_rows)?;
+    let delays = pin_delays(alloc, netlist, &layout, delay_rows)?;
     let changes = stimuli_changes(alloc, netlist, stimuli.as_slice())?;
     let own_clocks = take_clocks(alloc, netlist, clock_rows)?;
-    let Ok(pin_delays) = all_delays(alloc, netlist, &layout.starts, &places, delay_rows) else {
-        return Err(DesignFault::Memory);
-    };
     Ok(Tables {
         starts: layout.starts,
-        delays: pin_delays,
+        delays,
         changes,
         own_clocks,
     })
@@ -194,7 +192,7 @@ impl Design {
         ensures value { result.now ≡ changes_between (stimulus self.now net) 0 4294967296 }
         ensures lawful { IsDesign self.now }
     {
-        self.tables.changes[net].as_slice()
+        self.tables.changes[net].changes()
     }
 
     /// The changes below the horizon of an input net by its stimulus; none for any other net.

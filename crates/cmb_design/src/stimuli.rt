@@ -7,14 +7,13 @@ ghost use Rattle.cmb_design.specs.declared.fault.DesignFault.TheVariants as faul
 ghost use Rattle.cmb_design.specs.Rows.{stimulus_row_checks};
 ghost use Rattle.cmb_design.specs.Timing.{level_by};
 ghost use Rattle.cmb_design.specs.Stimuli.{AllEmpty, AllTold, AreStimuli, stimulus_changes};
-ghost use Rattle.cmb_design.specs.Told.{told_at};
+ghost use Rattle.cmb_design.specs.Told.{changes_in, told_at};
 
 use crate::fault::DesignFault;
 use crate::nets::is_input_driver;
 use crate::rows::StimulusRow;
-use crate::told::{ALL_TICKS, Told, add_level, changes_told};
+use crate::told::{ALL_TICKS, Told, add_level, settle};
 use cmb_bench::Netlist;
-use cmb_wave::Change;
 use std::alloc::{AllocError, Global};
 
 fn take_stimulus(
@@ -51,7 +50,7 @@ fn no_levels(alloc: Global, count: usize) -> Result<Vec<Told>, AllocError>
 {
     let mut table = Vec::with_capacity(alloc, count)?;
     for _ in 0..count {
-        table.push(Told::Rising(Vec::new(alloc)))?;
+        table.push(Told::Changes(Vec::new(alloc)))?;
     }
     Ok(table)
 }
@@ -75,16 +74,15 @@ fn take_stimuli(
     Ok(table)
 }
 
-fn all_changes(alloc: Global, table: &[Told]) -> Result<Vec<Vec<Change>>, AllocError>
-    requires { AllTold table.now }
-    ensures { IfOk result (λ v. map (λ list. list.items) v.items ≡ map (λ levels. changes_between (level_by (told_at levels)) 0 ALL_TICKS) table.now) }
+/// Makes lists of what the nets' rows told.
+fn settle_all(alloc: Global, table: &mut Vec<Told>) -> Result<(), AllocError>
+    requires { AllTold table.old.items }
+    ensures { OnOk result (map changes_in table.new.items ≡ map (λ levels. changes_between (level_by (told_at levels)) 0 ALL_TICKS) table.old.items) }
 {
-    let mut lists = Vec::with_capacity(alloc, table.len())?;
-    for levels in table {
-        let list = changes_told(alloc, levels)?;
-        lists.push(list)?;
+    for i in 0..table.len() {
+        settle(alloc, &mut table[i])?;
     }
-    Ok(lists)
+    Ok(())
 }
 
 /// For each net its changes, as an input with these rows.
@@ -92,14 +90,14 @@ pub(crate) fn stimuli_changes(
     alloc: Global,
     netlist: &Netlist,
     rows: &[StimulusRow],
-) -> Result<Vec<Vec<Change>>, DesignFault>
+) -> Result<Vec<Told>, DesignFault>
     requires { length rows.now ≤ 16777216 }
-    ensures ok { IfOk result (λ v. (first_fault (rows_checks (stimulus_row_checks netlist.now) rows.now) ≡ None) × (map (λ list. list.items) v.items ≡ stimulus_changes netlist.now rows.now ALL_TICKS)) }
+    ensures ok { IfOk result (λ v. (first_fault (rows_checks (stimulus_row_checks netlist.now) rows.now) ≡ None) × (map changes_in v.items ≡ stimulus_changes netlist.now rows.now ALL_TICKS)) }
     ensures err { IfErr result (λ e. (e ≡ fault.Memory) ⊎ (first_fault (rows_checks (stimulus_row_checks netlist.now) rows.now) ≡ Some e)) }
 {
-    let table = take_stimuli(alloc, netlist, rows)?;
-    let Ok(lists) = all_changes(alloc, &table) else {
+    let mut table = take_stimuli(alloc, netlist, rows)?;
+    let Ok(()) = settle_all(alloc, &mut table) else {
         return Err(DesignFault::Memory);
     };
-    Ok(lists)
+    Ok(table)
 }

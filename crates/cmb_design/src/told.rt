@@ -6,29 +6,81 @@ ghost use Rattle.std.specs.BTreeMap.{get};
 ghost use Rattle.cmb_wave.specs.Waveform.{changes_between, same_level};
 ghost use Rattle.cmb_design.specs.declared.fault.DesignFault.TheVariants as fault;
 ghost use Rattle.cmb_design.specs.Timing.{level_by};
-ghost use Rattle.cmb_design.specs.Told.{Below, IsTold, Rises, row_in, told_at};
+ghost use Rattle.cmb_design.specs.Told.{AreChanges, Below, IsTold, changes_in, level_after, row_in, rows_of, told_at};
+ghost use Rattle.cmb_wave.specs.declared.level.Level.TheVariants.{X};
 
 use crate::fault::DesignFault;
 use cmb_wave::{Change, Level};
 use std::alloc::{AllocError, Global};
 use std::collections::BTreeMap;
 
-/// The levels of a net's rows by their ticks: a list while the ticks rise from row to row, as they do in most tables, and a map else.
+/// The ticks that a `u32` counts.
+pub(crate) const ALL_TICKS: u64 = 4_294_967_296;
+
+/// What the rows of a net tell: a list while each row makes a change behind those of the rows before it, as in most tables; and
+/// else a map from ticks to levels, until all rows are told.
 #[derive(Drop)]
 pub(crate) enum Told {
-    Rising(Vec<(u64, Level)>),
-    Others(BTreeMap<u64, Level>),
+    Changes(Vec<Change>),
+    Rows(BTreeMap<u64, Level>),
 }
 
-/// Whether a tick lies beyond those of the rows.
-fn rises_to(rows: &[(u64, Level)], tick: u64) -> bool
-    requires { Rises 0 rows.now }
-    ensures { result ≡ true → Below tick rows.now }
+impl Told {
+    /// The changes, once all rows are told.
+    pub(crate) fn changes(&self) -> &[Change]
+        ensures { result.now ≡ changes_in self.now }
+    {
+        match self {
+            Told::Changes(list) => list.as_slice(),
+            Told::Rows(_) => &[],
+        }
+    }
+}
+
+fn is_same(a: Level, b: Level) -> bool
+    ensures { result ≡ same_level a b }
 {
-    match rows.last() {
-        Some(last) => last.0 < tick,
+    a == b
+}
+
+/// Whether a tick lies behind those of all changes.
+fn is_behind(changes: &[Change], tick: u64) -> bool
+    requires { AreChanges (rows_of changes.now) }
+    ensures { result ≡ true → Below tick (rows_of changes.now) }
+{
+    match changes.last() {
+        Some(last) => u64::from(last.tick) < tick,
         None => true,
     }
+}
+
+/// The level behind all changes.
+fn last_level(changes: &[Change]) -> Level
+    ensures { result ≡ level_after X (rows_of changes.now) }
+{
+    match changes.last() {
+        Some(last) => last.level,
+        None => Level::X,
+    }
+}
+
+/// Whether a row makes a change behind these.
+fn goes_on(changes: &[Change], tick: u64, level: Level) -> bool
+    requires { AreChanges (rows_of changes.now) }
+    ensures small { result ≡ true → tick < ALL_TICKS }
+    ensures behind { result ≡ true → Below tick (rows_of changes.now) }
+    ensures changes { result ≡ true → AreChanges (rows_of changes.now ++ (tick, level) ∷ []) }
+{
+    if tick >= ALL_TICKS {
+        return false;
+    }
+    if !is_behind(changes, tick) {
+        return false;
+    }
+    if is_same(level, last_level(changes)) {
+        return false;
+    }
+    true
 }
 
 /// Sets the level at a tick, and gives the one that was set there before, if any.
@@ -47,36 +99,51 @@ fn insert_level(
     }
 }
 
-fn row_at(rows: &[(u64, Level)], i: usize) -> (u64, Level)
-    requires { i < length rows.now }
-    ensures { result ≡ slice_index_or rows.now i result }
+fn change_at(changes: &[Change], i: usize) -> Change
+    requires { i < length changes.now }
+    ensures { result ≡ slice_index_or changes.now i result }
 {
-    rows[i]
+    changes[i]
 }
 
-/// The map of rows of rising ticks.
-fn map_of(alloc: Global, rows: &[(u64, Level)]) -> Result<BTreeMap<u64, Level>, DesignFault>
-    requires { Rises 0 rows.now }
-    ensures map { IfOk result (λ map. (t : ℕ) → get nat_cmp map t ≡ row_in rows.now t) }
+/// The map of rows that say just these changes.
+fn map_of(alloc: Global, changes: &[Change]) -> Result<BTreeMap<u64, Level>, DesignFault>
+    requires { AreChanges (rows_of changes.now) }
+    ensures map { IfOk result (λ map. (t : ℕ) → get nat_cmp map t ≡ row_in (rows_of changes.now) t) }
     ensures err { IfErr result (λ e. e ≡ fault.Memory) }
 {
     let mut map = BTreeMap::new(alloc);
-    for i in 0..rows.len() {
-        let row = row_at(rows, i);
-        insert_level(&mut map, row.0, row.1)?;
+    for i in 0..changes.len() {
+        let change = change_at(changes, i);
+        insert_level(&mut map, u64::from(change.tick), change.level)?;
     }
     Ok(map)
 }
 
-/// Adds a row beyond all others.
-fn push_row(rows: &mut Vec<(u64, Level)>, tick: u64, level: Level) -> Result<(), DesignFault>
-    ensures rows { OnOk result (rows.new.items ≡ rows.old.items ++ (tick, level) ∷ []) }
+/// Adds a change behind all others.
+fn push_change(changes: &mut Vec<Change>, change: Change) -> Result<(), DesignFault>
+    ensures changes { OnOk result (changes.new.items ≡ changes.old.items ++ change ∷ []) }
     ensures err { IfErr result (λ e. e ≡ fault.Memory) }
 {
-    if rows.push((tick, level)).is_err() {
+    if changes.push(change).is_err() {
         return Err(DesignFault::Memory);
     }
     Ok(())
+}
+
+/// Adds a row that makes a change behind all others.
+fn push_row(changes: &mut Vec<Change>, tick: u64, level: Level) -> Result<(), DesignFault>
+    requires { tick < ALL_TICKS }
+    ensures rows { OnOk result (rows_of changes.new.items ≡ rows_of changes.old.items ++ (tick, level) ∷ []) }
+    ensures err { IfErr result (λ e. e ≡ fault.Memory) }
+{
+    push_change(
+        changes,
+        Change {
+            tick: tick as u32,
+            level,
+        },
+    )
 }
 
 /// Sets the level at a tick, and gives the one that was set there before, if any.
@@ -93,47 +160,18 @@ pub(crate) fn add_level(
     ensures err { IfErr result (λ e. e ≡ fault.Memory) }
 {
     match told {
-        Told::Rising(rows) => {
-            if rises_to(rows, tick) {
-                push_row(rows, tick, level)?;
+        Told::Changes(list) => {
+            if goes_on(list, tick, level) {
+                push_row(list, tick, level)?;
                 return Ok(None);
             }
-            let mut map = map_of(alloc, rows)?;
+            let mut map = map_of(alloc, list)?;
             let old = insert_level(&mut map, tick, level)?;
-            *told = Told::Others(map);
+            *told = Told::Rows(map);
             Ok(old)
         }
-        Told::Others(map) => insert_level(map, tick, level),
+        Told::Rows(map) => insert_level(map, tick, level),
     }
-}
-
-fn is_same(a: Level, b: Level) -> bool
-    ensures { result ≡ same_level a b }
-{
-    a == b
-}
-
-/// The ticks that a `u32` counts.
-pub(crate) const ALL_TICKS: u64 = 4_294_967_296;
-
-/// The changes that rows of rising ticks make.
-fn changes_of_rows(alloc: Global, rows: &[(u64, Level)]) -> Result<Vec<Change>, AllocError>
-    requires { Rises 0 rows.now }
-    ensures { IfOk result (λ v. v.items ≡ changes_between (level_by (row_in rows.now)) 0 ALL_TICKS) }
-{
-    let mut list = Vec::with_capacity(alloc, rows.len())?;
-    let mut before = Level::X;
-    for i in 0..rows.len() {
-        let row = row_at(rows, i);
-        if row.0 < ALL_TICKS && !is_same(row.1, before) {
-            list.push(Change {
-                tick: row.0 as u32,
-                level: row.1,
-            })?;
-            before = row.1;
-        }
-    }
-    Ok(list)
 }
 
 /// The changes that the rows of a map make.
@@ -154,13 +192,17 @@ fn changes_of_map(alloc: Global, rows: &BTreeMap<u64, Level>) -> Result<Vec<Chan
     Ok(list)
 }
 
-/// The changes that a net's rows make, by their ticks.
-pub(crate) fn changes_told(alloc: Global, told: &Told) -> Result<Vec<Change>, AllocError>
-    requires { IsTold told.now }
-    ensures { IfOk result (λ v. v.items ≡ changes_between (level_by (told_at told.now)) 0 ALL_TICKS) }
+/// Makes a list of what a net's rows told, where it is a map.
+pub(crate) fn settle(alloc: Global, told: &mut Told) -> Result<(), AllocError>
+    requires { IsTold told.old }
+    ensures { OnOk result (changes_in told.new ≡ changes_between (level_by (told_at told.old)) 0 ALL_TICKS) }
 {
     match told {
-        Told::Rising(rows) => changes_of_rows(alloc, rows),
-        Told::Others(rows) => changes_of_map(alloc, rows),
+        Told::Changes(_) => Ok(()),
+        Told::Rows(rows) => {
+            let list = changes_of_map(alloc, rows)?;
+            *told = Told::Changes(list);
+            Ok(())
+        }
     }
 }

@@ -6,9 +6,11 @@ use Rattle.std.proofs.lemmas.Bool.{cases_eq, false≢true}
 use Rattle.std.proofs.lemmas.List.{get_or_default}
 use Rattle.std.proofs.lemmas.List.Elements.{All-push, Contains-append_left, Contains-push}
 use Rattle.std.proofs.lemmas.List.Sorted.{All-permutation, Contains-permutation}
+use Rattle.cmb_wave.specs.declared.level.Level.{Level}
 use Rattle.cmb_design.specs.declared.rows.Clock.{Clock}
 use Rattle.cmb_engine.specs.Cells.{Cell, Told, Gate, Flop, IsLawful, IsPace, cell_at, is_made}
-use Rattle.cmb_engine.specs.Circuits.{AreFlops, AreMembers, Arrives, IsFlopOf, IsGroup, IsInGroup, is_flop}
+use Rattle.cmb_engine.specs.Bits.{has}
+use Rattle.cmb_engine.specs.Circuits.{AreFlops, AreMembers, Arrives, IsFlopOf, IsGroup, IsInGroup, IsMarkedOrRests, is_flop}
 use Rattle.cmb_engine.specs.Rows.{arrives_by}
 use Rattle.cmb_engine.specs.declared.cell.Pin.{Pin}
 use Rattle.cmb_engine.specs.declared.group.Group.{Group}
@@ -192,3 +194,9 @@ flops-whole cells members groups right grouped each = record {
       subst (λ (m : Member). IsInGroup m.clock m.delay m.slot groups) at.2 (grouped at.0 (record { clock = clock; delay = delay; slot = slot }) at.1);
   each = each;
 }
+
+-- marks are kept
+pub rests-kept : (old new : List ℕ) (words : ℕ → ℕ → Level) (first : ℕ) (cells : List Cell) (slot : ℕ) → ((m : ℕ) → has old m ≡ true → has new m ≡ true)
+    → IsMarkedOrRests (has old) words first cells slot → IsMarkedOrRests (has new) words first cells slot
+rests-kept old new words first cells slot kept (inl marked) = inl (kept slot marked)
+rests-kept old new words first cells slot kept (inr rests) = inr rests

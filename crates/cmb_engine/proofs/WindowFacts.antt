@@ -9,7 +9,7 @@ use Rattle.cmb_design.specs.Gate.{gate}
 use Rattle.cmb_design.specs.Value.{delayed}
 use Rattle.cmb_engine.specs.Bits.{has}
 use Rattle.cmb_engine.specs.Cells.{Cell, Told, Gate, Flop, is_made, seen, IsSteady, IsSteadyFrom, IsReadable, IsReady, IsTrueBelow, IsWired, AreMarked, AreSettled, KeepsTold, cell_at, pins_of, reads}
-use Rattle.cmb_engine.specs.Circuits.{cell_row, Arrives, AreQuiet, IsWiring, MeetsCells, Shows}
+use Rattle.cmb_engine.specs.Circuits.{cell_row, Arrives, AreQuiet, IsMarkedOrRests, IsWiring, MeetsCells, Shows}
 use Rattle.cmb_engine.specs.Tells.{told_level, AreOfWindow}
 use Rattle.cmb_engine.specs.Windows.{in_place}
 use Rattle.cmb_engine.specs.declared.cell.Pin.{Pin}
@@ -82,7 +82,7 @@ pub record IsBegun (cells : List Cell) (readers : List (List ℕ)) (most : ℕ) 
   pub news : (slot : ℕ) → slot < length cells → has live slot ≡ true → IsSteadyFrom (moved slot) (first - most) ⊎ AreMarked (has marks) (get_or readers slot [])
   pub told_words : (slot place : ℕ) → slot < length cells → place < 64 → told slot place ≡ told_level tells slot (moved slot place) (to + place - 64)
   pub told_news : (tell : Tell) → Contains tells tell → AreMarked (has marks) (get_or readers tell.slot [])
-  pub arrivals : (slot place : ℕ) → first ≤ place → place < 64 → Arrives (cell_at cells slot) (to + place - 64) → has marks slot ≡ true
+  pub arrivals : (slot place : ℕ) → first ≤ place → place < 64 → Arrives (cell_at cells slot) (to + place - 64) → IsMarkedOrRests (has marks) told first cells slot
 
 module _ (trace : ℕ → ℕ → Level) (cells : List Cell) (readers : List (List ℕ)) (flops : List Group) (most : ℕ) (wiring : IsWiring cells readers flops most)
     (meets : MeetsCells trace (cell_at cells)) (from ticks to first : ℕ) (window : IsWindow from ticks to first most) (old moved told : ℕ → ℕ → Level)
@@ -139,7 +139,7 @@ module _ (trace : ℕ → ℕ → Level) (cells : List Cell) (readers : List (Li
       so.0.0 (first - 1 - pin.delay) (omega arith) ∙ moved-below trace from ticks to first most (length cells) window old moved shows moves pin.net (first - 1 - pin.delay) so.1 (omega arith)
 
   steady-cell : (slot : ℕ) (cell : Cell) → told slot (first - 1) ≡ cell_row trace slot (to + (first - 1) - 64) cell → AllByRecursion IsCalmPin (pins_of cell)
-      → ((place : ℕ) → first ≤ place → place < 64 → Arrives cell (to + place - 64) → ⊥) → IsSteady told to first slot cell
+      → ((place : ℕ) → first ≤ place → place < 64 → Arrives cell (to + place - 64) → IsSteady told to first slot cell) → IsSteady told to first slot cell
   steady-cell slot Told row pins none = tt
   steady-cell slot (Gate kind pins) row so none = (
     row
@@ -147,7 +147,7 @@ module _ (trace : ℕ → ℕ → Level) (cells : List Cell) (readers : List (Li
         ∙ ap (gate kind) (sym (seen-same told (shown trace to) (first - 1) pins (all-weaker IsCalmPin (λ pin. seen told (first - 1) pin ≡ seen (shown trace to) (first - 1) pin) pins calm-shown so))),
     λ place late small. all-weaker IsCalmPin (λ pin. seen told place pin ≡ seen told (first - 1) pin) pins (λ pin h. calm-seen pin h place late small) so,
   )
-  steady-cell slot (Flop clock pin) row so none = λ place late small a. absurd (none place late small a)
+  steady-cell slot (Flop clock pin) row so none = λ place late small a. none place late small a place late small a
 
   -- a made slot isn't told
   made-kept : (slot place : ℕ) → is_made (cell_at cells slot) ≡ true → place < 64 → told slot place ≡ moved slot place
@@ -161,6 +161,11 @@ module _ (trace : ℕ → ℕ → Level) (cells : List Cell) (readers : List (Li
       made-kept slot place made (omega arith)
       ∙ moved-below trace from ticks to first most (length cells) window old moved shows moves slot place (made-inside cells slot made) below
 
+  -- the samples of a slot that isn't marked bring the level that it has
+  rests : (slot : ℕ) → has marks slot ≡ false → IsMarkedOrRests (has marks) told first cells slot → IsSteady told to first slot (cell_at cells slot)
+  rests slot none (inl marked) = absurd (false≢true (sym none ∙ marked))
+  rests slot none (inr steady) = steady to
+
   -- what isn't marked is settled
   begun-settled : AreSettled told (has marks) (cell_at cells) to first
   begun-settled slot made none =
@@ -172,7 +177,7 @@ module _ (trace : ℕ → ℕ → Level) (cells : List Cell) (readers : List (Li
       (steady-cell slot (cell_at cells slot)
       (made-below slot (first - 1) made (omega arith) ∙ in_place-tick (trace slot) to (first - 1) (omega arith) ∙ meets slot (to + (first - 1) - 64) made)
       (pins-calm slot made none)
-      (λ place late small a. false≢true (sym none ∙ begun.arrivals slot place late small a)))
+      (λ place late small a. rests slot none (begun.arrivals slot place late small a)))
 
   -- the told words show the trace
   told-early : (slot place : ℕ) → slot < length cells → place < first → told slot place ≡ moved slot place

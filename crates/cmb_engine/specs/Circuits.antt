@@ -1,11 +1,11 @@
 -- Traces: the level of each slot at each tick, and when a circuit of cells allows them. Only contracts inside this crate cite these.
-use Rattle.std.specs.Prelude.{◌≡◌, ℕ, ◌-◌, ◌<◌, ◌≤◌, Bool, true, false, List, [], All, Contains, length, map, slice_index_or, if◌then◌else◌}
+use Rattle.std.specs.Prelude.{◌≡◌, ℕ, ◌-◌, ◌<◌, ◌≤◌, ◌⊎◌, Bool, true, false, List, [], All, Contains, length, map, slice_index_or, if◌then◌else◌}
 use Rattle.std.specs.List.{AllByRecursion}
 use Rattle.cmb_wave.specs.declared.level.Level.{Level}
 use Rattle.cmb_design.specs.declared.rows.Clock.{Clock}
 use Rattle.cmb_design.specs.Gate.{gate}
 use Rattle.cmb_design.specs.Value.{delayed}
-use Rattle.cmb_engine.specs.Cells.{Cell, Told, Gate, Flop, is_made, cell_at, pins_of, AreBelow, AreReaders, IsLawful}
+use Rattle.cmb_engine.specs.Cells.{Cell, Told, Gate, Flop, is_made, cell_at, pins_of, AreBelow, AreReaders, IsLawful, IsSteady}
 use Rattle.cmb_engine.specs.Rows.{arrives_by}
 use Rattle.cmb_engine.specs.Windows.{in_place}
 use Rattle.cmb_engine.specs.declared.cell.Pin.{Pin}
@@ -51,6 +51,10 @@ abbrev pub IsFlopOf : Cell → Clock → ℕ → Type 0
 IsFlopOf Told clock delay = ⊥
 IsFlopOf (Gate kind pins) clock delay = ⊥
 IsFlopOf (Flop own pin) clock delay = (own ≡ clock) × (pin.delay ≡ delay)
+
+-- a slot is marked, or in a window from a place on its samples bring the level that it has
+abbrev pub IsMarkedOrRests : (ℕ → Bool) → (ℕ → ℕ → Level) → ℕ → List Cell → ℕ → Type 0
+IsMarkedOrRests marked words first cells slot = (marked slot ≡ true) ⊎ ((to : ℕ) → IsSteady words to first slot (cell_at cells slot))
 
 -- a flip-flop is in a group that has its clock and delay
 pub record IsInGroup (clock : Clock) (delay slot : ℕ) (groups : List Group) : Type 0 where

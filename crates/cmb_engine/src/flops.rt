@@ -1,17 +1,18 @@
 //! The flip-flops among cells, in groups, and which of them get a sample in a window.
 
-ghost use Rattle.std.specs.Prelude.{◌≡◌, ℕ, ◌+◌, ◌-◌, ◌*◌, ◌^◌, ◌<◌, ◌≤◌, List, true, All, Contains, IfOk, OnOk, length, slice_index_or};
+ghost use Rattle.std.specs.Prelude.{◌≡◌, ℕ, ◌+◌, ◌-◌, ◌*◌, ◌^◌, ◌<◌, ◌≤◌, List, false, true, All, Contains, IfOk, OnOk, length, slice_index_or};
 ghost use Rattle.cmb_design.specs.declared.rows.Clock.{Clock};
 ghost use Rattle.cmb_engine.specs.Bits.{has};
-ghost use Rattle.cmb_engine.specs.Cells.{Cell, IsPace, cell_at};
-ghost use Rattle.cmb_engine.specs.Circuits.{AreFlops, AreMembers, IsFlopOf, IsGroup, IsInGroup};
+ghost use Rattle.cmb_engine.specs.Cells.{Cell, IsLawful, IsPace, IsSteady, cell_at};
+ghost use Rattle.cmb_engine.specs.Circuits.{AreFlops, AreMembers, IsFlopOf, IsGroup, IsInGroup, IsMarkedOrRests};
 ghost use Rattle.cmb_engine.specs.Rows.{arrives_by};
+ghost use Rattle.cmb_engine.specs.Words.{levels_of};
 
 use crate::arrivals::first_arrival;
 use crate::cells::Cells;
 use crate::group::{Group, Member};
 use crate::marks::Marks;
-use crate::settle::mark_all;
+use cmb_words::Word;
 use std::alloc::{AllocError, Global};
 
 // The flip-flops among cells, those that get their samples at the same ticks side by side.
@@ -82,11 +83,103 @@ pub(crate) fn flops_of(alloc: Global, cells: &Cells) -> Result<Vec<Group>, Alloc
     Ok(groups)
 }
 
-/// Marks the flip-flops that get a sample in the window, from a place on.
-pub(crate) fn mark_arrivals(groups: &[Group], marks: &mut Marks, to: u32, first: u32)
-    requires paces { All (λ group. IsPace group.clock × (group.delay ≤ 1000000)) groups.now }
-    requires room { All (λ group. All (λ slot. slot < 64 * length marks.old) group.flops.items) groups.now }
+// Whether a flip-flop may get another level by its samples in a window, from a place on: it gets none where its data
+// have the level that it has, as far back as the samples were taken.
+#[inline]
+fn may_change(cells: &Cells, words: &[Word], slot: usize, first: u32) -> bool
+    requires slot { slot < length cells.now }
+    requires nets { length cells.now ≡ length words.now }
+    requires lawful { IsLawful (length words.now) first (cell_at cells.now slot) }
+    requires begun { 1 ≤ first }
+    requires first { first < 64 }
+    ensures { result ≡ false → (to : ℕ) → IsSteady (levels_of words.now) to first slot (cell_at cells.now slot) }
+{
+    match cells.flop(slot) {
+        Some((_, pin)) => {
+            let own = words[slot].everywhere(first - 1);
+            words[pin.net as usize].differs_from(own, first - pin.delay)
+        }
+        None => true,
+    }
+}
+
+// Marks a flip-flop that may get another level.
+#[inline]
+fn mark_flop(cells: &Cells, words: &[Word], slot: usize, marks: &mut Marks, first: u32)
+    requires slot { slot < length cells.now }
+    requires nets { length cells.now ≡ length words.now }
+    requires lawful { IsLawful (length words.now) first (cell_at cells.now slot) }
+    requires room { length words.now ≤ 64 * length marks.old }
+    requires begun { 1 ≤ first }
+    requires first { first < 64 }
+    ensures room { length marks.new ≡ length marks.old }
+    ensures kept { (m : ℕ) → has marks.old m ≡ true → has marks.new m ≡ true }
+    ensures marked { IsMarkedOrRests (has marks.new) (levels_of words.now) first cells.now slot }
+{
+    if !may_change(cells, words, slot, first) {
+        return;
+    }
+    marks.insert(slot);
+}
+
+// Marks those of some flip-flops that may get another level.
+fn mark_flops(cells: &Cells, words: &[Word], flops: &[u32], marks: &mut Marks, first: u32)
+    requires slots { All (λ slot. slot < length cells.now) flops.now }
+    requires nets { length cells.now ≡ length words.now }
+    requires lawful { (slot : ℕ) → slot < length words.now → IsLawful (length words.now) first (cell_at cells.now slot) }
+    requires room { length words.now ≤ 64 * length marks.old }
+    requires begun { 1 ≤ first }
+    requires first { first < 64 }
+    ensures room { length marks.new ≡ length marks.old }
+    ensures kept { (m : ℕ) → has marks.old m ≡ true → has marks.new m ≡ true }
+    ensures marked { All (IsMarkedOrRests (has marks.new) (levels_of words.now) first cells.now) flops.now }
+{
+    for slot in flops {
+        mark_flop(cells, words, *slot as usize, marks, first);
+    }
+}
+
+// Marks the flip-flops of a group that may get another level, where a sample arrives.
+fn mark_group(group: &Group, cells: &Cells, words: &[Word], marks: &mut Marks, to: u32, first: u32)
+    requires pace { IsPace group.now.clock }
+    requires delay { group.now.delay ≤ 1000000 }
+    requires slots { All (λ slot. slot < length cells.now) group.now.flops.items }
+    requires nets { length cells.now ≡ length words.now }
+    requires lawful { (slot : ℕ) → slot < length words.now → IsLawful (length words.now) first (cell_at cells.now slot) }
+    requires room { length words.now ≤ 64 * length marks.old }
     requires to { to ≤ 1000000 }
+    requires begun { 1 ≤ first }
+    requires first { first < 64 }
+    requires inside { 64 ≤ to + first }
+    ensures room { length marks.new ≡ length marks.old }
+    ensures kept { (m : ℕ) → has marks.old m ≡ true → has marks.new m ≡ true }
+    ensures arrivals { (slot place : ℕ) → Contains group.now.flops.items slot → first ≤ place → place < 64
+        → arrives_by group.now.clock group.now.delay (to + place - 64) ≡ true
+        → IsMarkedOrRests (has marks.new) (levels_of words.now) first cells.now slot }
+{
+    if first_arrival(group.clock, group.delay, to, first) >= 64 {
+        return;
+    }
+    mark_flops(cells, words, group.flops.as_slice(), marks, first);
+}
+
+/// Marks the flip-flops that get a sample in the window, from a place on, but those whose samples can only bring the
+/// level that they have.
+pub(crate) fn mark_arrivals(
+    groups: &[Group],
+    cells: &Cells,
+    words: &[Word],
+    marks: &mut Marks,
+    to: u32,
+    first: u32,
+)
+    requires paces { All (λ group. IsPace group.clock × (group.delay ≤ 1000000)) groups.now }
+    requires slots { All (λ group. All (λ slot. slot < length cells.now) group.flops.items) groups.now }
+    requires nets { length cells.now ≡ length words.now }
+    requires lawful { (slot : ℕ) → slot < length words.now → IsLawful (length words.now) first (cell_at cells.now slot) }
+    requires room { length words.now ≤ 64 * length marks.old }
+    requires to { to ≤ 1000000 }
+    requires begun { 1 ≤ first }
     requires first { first < 64 }
     requires inside { 64 ≤ to + first }
     ensures room { length marks.new ≡ length marks.old }
@@ -94,11 +187,10 @@ pub(crate) fn mark_arrivals(groups: &[Group], marks: &mut Marks, to: u32, first:
     ensures arrivals { (clock : Clock) (delay slot place : ℕ)
         → IsInGroup clock delay slot groups.now
         → first ≤ place → place < 64
-        → arrives_by clock delay (to + place - 64) ≡ true → has marks.new slot ≡ true }
+        → arrives_by clock delay (to + place - 64) ≡ true
+        → IsMarkedOrRests (has marks.new) (levels_of words.now) first cells.now slot }
 {
     for group in groups {
-        if first_arrival(group.clock, group.delay, to, first) < 64 {
-            mark_all(marks, group.flops.as_slice());
-        }
+        mark_group(group, cells, words, marks, to, first);
     }
 }

@@ -69,6 +69,13 @@ pub(crate) fn go_on(
     move_on(words, live, ticks);
     mark_news(readers, words, live, marks, first - wiring.most);
     write_told(tells, readers, words, live, marks, to);
-    mark_arrivals(wiring.flops.as_slice(), marks, to, first);
+    mark_arrivals(
+        wiring.flops.as_slice(),
+        &wiring.cells,
+        words,
+        marks,
+        to,
+        first,
+    );
     settle(&wiring.cells, readers, words, marks, live, to, first);
 }

@@ -118,13 +118,13 @@ impl<T: Terms> Part<T> {
         self.horizon
     }
 
-    /// Steps each net that is driven here at least once, as `Cluster::step_loops` does, and says whether a
-    /// clock rose. Once as many pieces were given as nets are read, what nobody needs any more is forgotten.
+    /// Steps each net that is driven here once, in order, and says whether a clock rose. Once as many pieces
+    /// were given as nets are read, what nobody needs any more is forgotten.
     pub fn step(&mut self) -> Result<bool, AllocError>
         ensures rose { (cluster : ℕ) → IsClusterOf T.design T.clustering cluster self.old → IfOk result (λ rose. rose ≡ some_rises T.design self.old.waves (own_nets T.design T.clustering cluster)) }
         ensures same { IsSameButWaves self.old self.new }
     {
-        let rose = self.cluster.step_loops()?;
+        let rose = self.cluster.step_all()?;
         if rose && self.given > 0 && self.given >= self.cluster.inputs().len() {
             self.cluster.trim();
             self.given = 0;

@@ -259,8 +259,7 @@ fn run_named<T: Terms + Send + Sync, R: Threads + Wait + Sync>(
 /// Simulates a design in rounds and collects the waves of all its nets, up to the horizon. The nets
 /// of cluster c belong to worker `c mod workers`, which treats all its nets as one cluster; a worker
 /// whose number isn't below that of the clusters has none, and no part in the run. In each round
-/// every net is stepped, and those of a loop within one worker up to 64 times in a row; then what is
-/// new is posted to the workers that read it. Where there are several, and a round has enough to do that
+/// every net is stepped once; then what is new is posted to the workers that read it. Where there are several, and a round has enough to do that
 /// threads are worth their start, each steps its nets in a thread of its own, one of them in the calling
 /// thread, and all are joined before pieces are passed on; else, and where a thread is refused, they step one
 /// after the other. What comes out is the same for any clustering and any number of workers. The only refusal

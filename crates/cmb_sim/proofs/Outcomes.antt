@@ -18,7 +18,7 @@ use Rattle.cmb_design.specs.declared.settings.Settings.{Settings}
 use Rattle.cmb_vcd.specs.Vcd.{vcd}
 use Rattle.cmb_sim.specs.Numbers.{design_as_fault}
 use Rattle.cmb_sim.specs.Simulation.{AreTexts, HaveDesign, Inputs, IsAnswer, IsOutcome, IsUntouched, NoneFailedBut, Output, SpellDesign, Texts, design_in, failed_input, mode_checks, output, report_of, text_checks}
-use Rattle.cmb_sim.specs.Stages.{CanRun, FoundDesign, HaveTextFault, IsUnrun, IsUnwritten, LacksDesign}
+use Rattle.cmb_sim.specs.Stages.{CanRun, FoundDesign, HaveTextFault, IsUnrun, IsUnwritten, LacksDesign, LacksTexts}
 use Rattle.cmb_sim.specs.declared.fault.Fault.{Fault}
 use Rattle.cmb_sim.specs.declared.fault.Fault.TheVariants as fault
 use Rattle.cmb_sim.specs.declared.mode.Mode.{Mode}
@@ -68,6 +68,33 @@ LacksDesign-of settings i texts are (fault.Incomplete n t) h = absurd h
 LacksDesign-of settings i texts are fault.Clusters h = absurd h
 LacksDesign-of settings i texts are fault.Workers h = absurd h
 LacksDesign-of settings i texts are fault.Memory h = tt
+
+-- what keeps an input from being read whole keeps the design from being found
+pub LacksDesign-unread : (settings : Settings) (i : Inputs) (f : Fault) → LacksTexts i f → LacksDesign settings i f
+LacksDesign-unread settings i (fault.TooLong n) h = h
+LacksDesign-unread settings i (fault.Read n) h = h
+LacksDesign-unread settings i fault.Memory h = tt
+LacksDesign-unread settings i (fault.Bench f) h = absurd h
+LacksDesign-unread settings i (fault.Design f) h = absurd h
+LacksDesign-unread settings i (fault.Write n) h = absurd h
+LacksDesign-unread settings i (fault.Incomplete n t) h = absurd h
+LacksDesign-unread settings i fault.Clusters h = absurd h
+LacksDesign-unread settings i fault.Workers h = absurd h
+
+-- the input that a fault names, whatever the answer would have been
+failed_input-any : (A B : Type 0) (f : Fault) → failed_input {A = A} (Err f) ≡ failed_input {A = B} (Err f)
+failed_input-any A B (fault.Read n) = refl
+failed_input-any A B (fault.TooLong n) = refl
+failed_input-any A B fault.Memory = refl
+failed_input-any A B (fault.Bench f) = refl
+failed_input-any A B (fault.Design f) = refl
+failed_input-any A B (fault.Write n) = refl
+failed_input-any A B (fault.Incomplete n t) = refl
+failed_input-any A B fault.Clusters = refl
+failed_input-any A B fault.Workers = refl
+
+pub NoneFailedBut-same : (A B : Type 0) (f : Fault) (i : Inputs) → NoneFailedBut (failed_input {A = A} (Err f)) i → NoneFailedBut (failed_input {A = B} (Err f)) i
+NoneFailedBut-same A B f i h = subst (λ n. NoneFailedBut n i) (failed_input-any A B f) h
 
 -- ---- the whole
 

@@ -1,3 +1,4 @@
+pub mod Checking
 pub mod Numbers
 pub mod Simulation
 pub mod Sources

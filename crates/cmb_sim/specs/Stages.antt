@@ -1,4 +1,4 @@
--- What the stages of a simulation answer, each as a part of the whole's outcome. No public contract cites these.
+-- What the stages of a simulation answer, each as a part of the whole's outcome. Of public contracts only those of reading and of `check` cite these.
 use Rattle.std.specs.Prelude.{◌≡◌, ℕ, ◌+◌, ◌<◌, ◌⊎◌, List, length, take, Some, None, ⊤}
 use Rattle.std.specs.Io.KnownBytes.{Appends}
 use Rattle.cmb_bench.specs.Netlist.{Netlist}
@@ -21,6 +21,13 @@ IsUnread number i (fault.TooLong n) = (n ≡ number) × HasTooMany i
 IsUnread number i (fault.Read n) = (n ≡ number) × HasFailed i
 IsUnread number i fault.Memory = ⊤
 IsUnread number i _ = ⊥
+
+-- why an input wasn't read whole
+abbrev pub LacksTexts : Inputs → Fault → Type 0
+LacksTexts i (fault.TooLong n) = StopsAt HasTooMany i n
+LacksTexts i (fault.Read n) = StopsAt HasFailed i n
+LacksTexts i fault.Memory = ⊤
+LacksTexts i _ = ⊥
 
 abbrev pub texts_of : List ℕ → List ℕ → List ℕ → List ℕ → Texts
 texts_of bench delays stimuli clocks = record { bench = bench; delays = delays; stimuli = stimuli; clocks = clocks }

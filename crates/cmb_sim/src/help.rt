@@ -33,6 +33,11 @@ pub const ABOUT: &str = "Simulates a gate-level netlist and writes the waveforms
 pub const RUN: &str =
     "Reads a netlist from standard input and writes a value change dump (VCD) to standard output";
 
+pub const CHECK: &str =
+    "Reads what run would simulate, and prints how many nets, gates and flip-flops it has";
+
+pub const EXPLAIN_FAULT: &str = "Says a fault in words too, with its file, line and net";
+
 pub const EXPLAIN: &str =
     "Says what a fault means and what to do about it; without N it lists all faults";
 

@@ -6,20 +6,32 @@ ghost use Rattle.cmb_sim.specs.Simulation.{IsLawful};
 use crate::clock::clock_of;
 use crate::explaining::{explain_command, explain_fault, explain_message};
 use crate::help::{
-    ABOUT, BEGIN, CLOCK, CLOCKS, DELAYS, FILES, HORIZON, INIT, MODE, NETLIST_HINT, PARTS, RUN,
-    STIMULI, THREADS, USUAL, VERSION, WORKERS,
+    ABOUT, BEGIN, CHECK, CLOCK, CLOCKS, DELAYS, EXPLAIN_FAULT, FILES, HORIZON, INIT, MODE,
+    NETLIST_HINT, PARTS, RUN, STIMULI, THREADS, USUAL, VERSION, WORKERS,
 };
 use crate::mode::Mode;
 use clap::builder::ValueParser;
 use clap::error::ErrorKind;
-use clap::{Arg, ArgMatches, Command, Error};
+use clap::{Arg, ArgAction, ArgMatches, Command, Error};
 use cmb_design::Settings;
 use cmb_wave::Level;
 use std::alloc::{AllocError, Global};
 
+/// What is done with a design.
+#[derive(Clone, Copy, Debug, PartialEq, Eq)]
+pub enum Task {
+    /// It is simulated.
+    Run,
+    /// It is read and counted.
+    Check,
+}
+
 /// What the words ask for.
 #[derive(Debug, Drop)]
 pub struct Line {
+    pub task: Task,
+    /// A fault is told in words too.
+    pub explain: bool,
     pub settings: Settings,
     pub mode: Mode,
     /// The file of the delay table. The table is empty where no file is given.
@@ -30,7 +42,7 @@ pub struct Line {
     pub clocks: Option<String>,
 }
 
-/// Why the words ask for no run.
+/// Why the words ask for no run and no check.
 #[derive(Clone, Copy, Debug, PartialEq, Eq)]
 pub enum LineFault {
     /// They ask for help, for the version, or for the explanation of a fault.
@@ -81,6 +93,14 @@ fn choice<'a>(
         .hide_possible_values(true)
 }
 
+// An option without a value.
+fn flag<'a>(alloc: Global, name: &'a str, help: &'a str) -> Arg<'a> {
+    Arg::new(alloc, name)
+        .long(name)
+        .action(ArgAction::SetTrue)
+        .help(help)
+}
+
 // What is simulated.
 fn with_settings<'a>(alloc: Global, command: Command<'a>) -> Result<Command<'a>, AllocError> {
     command
@@ -93,7 +113,8 @@ fn with_settings<'a>(alloc: Global, command: Command<'a>) -> Result<Command<'a>,
         .arg(choice(alloc, "init", "LEVEL", INIT, LEVELS.as_slice()))?
         .arg(option(alloc, "delays", "FILE", DELAYS))?
         .arg(option(alloc, "stimuli", "FILE", STIMULI))?
-        .arg(option(alloc, "clocks", "FILE", CLOCKS))
+        .arg(option(alloc, "clocks", "FILE", CLOCKS))?
+        .arg(flag(alloc, "explain", EXPLAIN_FAULT))
 }
 
 // How many threads share the work, where nobody says who has which nets.
@@ -121,9 +142,15 @@ fn run_command<'a>(alloc: Global) -> Result<Command<'a>, AllocError> {
     with_mode(alloc, with_settings(alloc, command)?)
 }
 
+// The command line of `check`.
+fn check_command<'a>(alloc: Global) -> Result<Command<'a>, AllocError> {
+    with_settings(alloc, Command::new(alloc, "check").about(CHECK))
+}
+
 // The whole command line.
 fn whole_command<'a>(alloc: Global) -> Result<Command<'a>, AllocError> {
     let run = run_command(alloc)?;
+    let check = check_command(alloc)?;
     let explain = explain_command(alloc)?;
     Command::new(alloc, "cmbsim")
         .version(VERSION)
@@ -134,6 +161,7 @@ fn whole_command<'a>(alloc: Global) -> Result<Command<'a>, AllocError> {
         .no_binary_name(true)
         .subcommand_required(true)
         .subcommand(run)?
+        .subcommand(check)?
         .subcommand(explain)
 }
 
@@ -235,7 +263,7 @@ fn file_of(
     }
 }
 
-fn line_of(alloc: Global, matches: &ArgMatches<'_>) -> Result<Line, LineFault>
+fn line_of(alloc: Global, task: Task, matches: &ArgMatches<'_>) -> Result<Line, LineFault>
     ensures horizon { IfOk result (λ line. (1 ≤ line.settings.horizon) × (line.settings.horizon ≤ 1000000)) }
     ensures mode { IfOk result (λ line. IsLawful line.mode) }
 {
@@ -244,6 +272,8 @@ fn line_of(alloc: Global, matches: &ArgMatches<'_>) -> Result<Line, LineFault>
     let clock = common_clock(matches)?;
     let init = init_of(matches);
     Ok(Line {
+        task,
+        explain: matches.get_flag("explain"),
         settings: Settings {
             horizon,
             clock,
@@ -256,15 +286,23 @@ fn line_of(alloc: Global, matches: &ArgMatches<'_>) -> Result<Line, LineFault>
     })
 }
 
-// What a line without `run` asks for.
-fn asked(matches: &ArgMatches<'_>) -> LineFault {
-    match matches.subcommand_matches("explain") {
-        Some(explain) => explain_fault(explain),
-        None => LineFault::Wrong,
+// The line of the command that is met.
+fn line_in(alloc: Global, matches: &ArgMatches<'_>) -> Result<Line, LineFault>
+    ensures horizon { IfOk result (λ line. (1 ≤ line.settings.horizon) × (line.settings.horizon ≤ 1000000)) }
+    ensures mode { IfOk result (λ line. IsLawful line.mode) }
+{
+    if let Some(run) = matches.subcommand_matches("run") {
+        line_of(alloc, Task::Run, run)
+    } else if let Some(check) = matches.subcommand_matches("check") {
+        line_of(alloc, Task::Check, check)
+    } else if let Some(explain) = matches.subcommand_matches("explain") {
+        Err(explain_fault(explain))
+    } else {
+        Err(LineFault::Wrong)
     }
 }
 
-/// Reads the words after the program's name: `run` and its options. The horizon of a line is 1 to 1,000,000 ticks,
+/// Reads the words after the program's name: `run` or `check`, and its options. The horizon of a line is 1 to 1,000,000 ticks,
 /// and it has 1 to 64 threads, or workers and clusters. Errors: `Help` where the words ask for help, the version or the explanation of a
 /// fault, `Wrong` where they aren't a line of the program, `Clock` where only the value of `--clock` has another form, and `Memory`.
 pub fn read_line(alloc: Global, words: &[String]) -> Result<Line, LineFault>
@@ -272,10 +310,7 @@ pub fn read_line(alloc: Global, words: &[String]) -> Result<Line, LineFault>
     ensures mode { IfOk result (λ line. IsLawful line.mode) }
 {
     match parse(alloc, words) {
-        Ok(matches) => match matches.subcommand_matches("run") {
-            Some(run) => line_of(alloc, run),
-            None => Err(asked(&matches)),
-        },
+        Ok(matches) => line_in(alloc, &matches),
         Err(error) => Err(fault_of(error.kind())),
     }
 }
@@ -298,7 +333,7 @@ fn error_message(alloc: Global, error: &Error) -> Result<String, AllocError> {
     Ok(text)
 }
 
-/// What the program says of words that ask for no run: the text of help, the version or the explanation where they ask for that,
+/// What the program says of words that ask for no run and no check: the text of help, the version or the explanation where they ask for that,
 /// else what is wrong with them and how they are written. Of other words it is empty.
 pub fn line_message(alloc: Global, words: &[String]) -> Result<String, AllocError> {
     match parse(alloc, words) {

@@ -4,14 +4,14 @@ ghost use Rattle.std.specs.Prelude.{◌≡◌, ◌-◌, ◌^◌, ◌<◌, ◌≤
 ghost use Rattle.std.specs.Io.KnownBytes.{Appends};
 ghost use Rattle.cmb_vcd.specs.Vcd.{vcd};
 ghost use Rattle.cmb_sim.specs.Simulation.{IsOutcome, NoneFailedBut, failed_input, input, inputs_of, output, report_of};
-ghost use Rattle.cmb_sim.specs.Sources.{IsWhole, input_limit};
-ghost use Rattle.cmb_sim.specs.Stages.{CanRun, FoundDesign, HaveTextFault, IsUnread, IsUnwritten, LacksDesign, SpellAny, texts_of};
+ghost use Rattle.cmb_sim.specs.Sources.{input_limit};
+ghost use Rattle.cmb_sim.specs.Stages.{CanRun, FoundDesign, HaveTextFault, IsUnwritten, LacksDesign, SpellAny, texts_of};
 
 use crate::fault::Fault;
 use crate::mode::Mode;
-use crate::reading::{ReadFault, read_whole};
 use crate::running::write_by;
 use crate::source::Source;
+use crate::texts::read_texts;
 use cmb_bench::read_bench;
 use cmb_design::{Design, Settings, read_clocks, read_delays, read_stimuli};
 use cmb_run::Sink;
@@ -28,21 +28,6 @@ pub struct Report {
     pub horizon: u32,
     /// How many bytes the text has.
     pub written: u64,
-}
-
-// The whole text of the input with this number.
-fn read_input<S: Source>(alloc: Global, source: &mut S, number: u32) -> Result<Vec<u8>, Fault>
-    requires { S.failures source.old < 2 ^ 64 - 1 }
-    ensures whole { IfOk result (λ text. IsWhole (S.remaining source.old) text.items) }
-    ensures fault { IfErr result (IsUnread number (input (S.remaining source.old) (S.failures source.old) (S.failures source.new))) }
-    ensures failures { (failed_input result ≡ number → ⊥) → S.failures source.new ≡ S.failures source.old }
-{
-    match read_whole(alloc, source) {
-        Ok(text) => Ok(text),
-        Err(ReadFault::TooLong) => Err(Fault::TooLong { input: number }),
-        Err(ReadFault::Failed) => Err(Fault::Read { input: number }),
-        Err(ReadFault::Memory) => Err(Fault::Memory),
-    }
 }
 
 // The design that four texts spell.
@@ -77,7 +62,7 @@ fn spelled_design(
 }
 
 // Reads the four inputs in order, and makes the design that they spell.
-fn read_design<B: Source, D: Source, S: Source, C: Source>(
+pub(crate) fn read_design<B: Source, D: Source, S: Source, C: Source>(
     alloc: Global,
     bench: &mut B,
     delays: &mut D,
@@ -105,16 +90,13 @@ fn read_design<B: Source, D: Source, S: Source, C: Source>(
         (input (S.remaining stimuli.old) (S.failures stimuli.old) (S.failures stimuli.new))
         (input (C.remaining clocks.old) (C.failures clocks.old) (C.failures clocks.new))) }
 {
-    let first = read_input(alloc, bench, 1)?;
-    let second = read_input(alloc, delays, 2)?;
-    let third = read_input(alloc, stimuli, 3)?;
-    let fourth = read_input(alloc, clocks, 4)?;
+    let texts = read_texts(alloc, bench, delays, stimuli, clocks)?;
     spelled_design(
         alloc,
-        first.as_slice(),
-        second.as_slice(),
-        third.as_slice(),
-        fourth.as_slice(),
+        texts.bench.as_slice(),
+        texts.delays.as_slice(),
+        texts.stimuli.as_slice(),
+        texts.clocks.as_slice(),
         settings,
     )
 }

@@ -84,9 +84,9 @@ impl Word {
         }
     }
 
-    // The level at a place, at all places.
+    /// The level at a place, at all places.
     #[inline]
-    pub(crate) fn everywhere(self, place: u32) -> Word
+    pub fn everywhere(self, place: u32) -> Word
         requires { place < 64 }
         ensures { (i : ℕ) → i < 64 → level_at_place result i ≡ level_at_place self place }
     {

@@ -81,11 +81,6 @@ fn all_stepped(cluster: &mut Cluster) -> Result<bool, Fail> {
     Ok(cluster.step_all()?)
 }
 
-// The same where loops go on at once.
-fn loops_stepped(cluster: &mut Cluster) -> Result<bool, Fail> {
-    Ok(cluster.step_loops()?)
-}
-
 // The output clocks of nets 0 and 1.
 fn clocks(cluster: &Cluster) -> (Option<u32>, Option<u32>) {
     (cluster.out_clock(0), cluster.out_clock(1))
@@ -216,24 +211,24 @@ fn rounds_of_one_cluster(rt: HostRuntime) -> Result<(), Fail> {
     rounds(&rt, &mut all)
 }
 
-// What a step of all nets, in which loops go on at once, raises the clocks to, and what is left after it.
+// What a step of all nets raises the clocks to, and whether another one goes on.
 fn goes_to(
     rt: &impl Abort,
     cluster: &mut Cluster,
     after: (Option<u32>, Option<u32>),
     more: bool,
 ) -> Result<(), Fail> {
-    assert!(rt; loops_stepped(cluster)?);
+    assert!(rt; all_stepped(cluster)?);
     assert_eq!(rt; clocks(cluster), after);
-    assert_eq!(rt; loops_stepped(cluster)?, more);
+    assert_eq!(rt; all_stepped(cluster)?, more);
     Ok(())
 }
 
-// The loop is known up to the horizon at once.
+// A loop is gone over once.
 #[test]
 fn loop_of_one_cluster(rt: HostRuntime) -> Result<(), Fail> {
     let mut all = toggle(&rt, rt.alloc(), 1, 0)?;
-    goes_to(&rt, &mut all, (Some(12), Some(12)), false)
+    goes_to(&rt, &mut all, (Some(3), Some(4)), true)
 }
 
 fn is_wave(rt: &impl Abort, wave: &Wave, net: u32, changes: &[Change]) {
@@ -259,7 +254,7 @@ fn are_toggling(rt: &impl Abort, waves: &[Wave]) {
 #[test]
 fn waves_given_up(rt: HostRuntime) -> Result<(), Fail> {
     let mut all = toggle(&rt, rt.alloc(), 1, 0)?;
-    goes_to(&rt, &mut all, (Some(12), Some(12)), false)?;
+    rounds(&rt, &mut all)?;
     are_toggling(&rt, &all.into_waves());
     Ok(())
 }
@@ -271,12 +266,12 @@ fn loop_of_two_clusters(rt: HostRuntime) -> Result<(), Fail> {
     goes_to(&rt, &mut first, (Some(3), None), false)
 }
 
-// A ring of one tick goes on by 64 ticks, and then others have their turn.
+// A ring of one tick goes on by one tick, and then others have their turn.
 #[test]
 fn turns_of_a_loop(rt: HostRuntime) -> Result<(), Fail> {
     let texts = bare(b"n = NOT(n)\n");
     let mut all = cluster_of(&rt, rt.alloc(), texts, (100, None), 1, 0)?;
-    goes_to(&rt, &mut all, (Some(64), None), true)
+    goes_to(&rt, &mut all, (Some(1), None), true)
 }
 
 fn wrong_steps(rt: &impl Abort, alloc: Global, second: &mut Cluster) -> Result<(), Fail> {

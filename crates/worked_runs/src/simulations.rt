@@ -1,5 +1,6 @@
 //! Worked examples as tests, by topic. A case has the texts of a simulation and its settings.
 
+mod checks;
 mod ends;
 mod explanations;
 mod faults;

@@ -1,7 +1,7 @@
 //! The command line, and the line of a fault.
 
 use crate::simulations::{bench_case, run};
-use cmb_sim::{Level, LineFault, Mode, fault_line, line_message, read_line};
+use cmb_sim::{Level, LineFault, Mode, Task, fault_line, line_message, read_line};
 use std::alloc::{AllocError, Global};
 use std::test::Fail;
 
@@ -59,6 +59,10 @@ fn command_line(rt: HostRuntime) -> Result<(), Fail> {
         ("run --version", LineFault::Wrong),
         ("run --horizon 10 netlist.bench", LineFault::Wrong),
         ("netlist.bench", LineFault::Wrong),
+        ("check", LineFault::Wrong),
+        ("check --horizon 10 --mode plain", LineFault::Wrong),
+        ("check --horizon 10 --clock 2-4", LineFault::Clock),
+        ("run --horizon 10 --explain yes", LineFault::Wrong),
         ("explain", LineFault::Help),
         ("explain 23", LineFault::Help),
         ("explain --help", LineFault::Help),
@@ -94,6 +98,27 @@ fn whole_line(rt: HostRuntime) -> Result<(), Fail> {
             assert!(rt; line.clocks.is_none());
         }
         Err(_) => assert!(rt; false),
+    }
+    Ok(())
+}
+
+#[test]
+fn tasks_of_lines(rt: HostRuntime) -> Result<(), Fail> {
+    let alloc = rt.alloc();
+    for (line, task, explain) in [
+        ("run --horizon 10", Task::Run, false),
+        ("run --explain --horizon 10", Task::Run, true),
+        ("check --horizon 10 --clock 2:4", Task::Check, false),
+        ("check --horizon 10 --explain", Task::Check, true),
+    ] {
+        let words = words(alloc, line)?;
+        match read_line(alloc, words.as_slice()) {
+            Ok(read) => {
+                assert_eq!(rt; read.task, task, "{line}");
+                assert_eq!(rt; read.explain, explain, "{line}");
+            }
+            Err(_) => assert!(rt; false, "{line} is refused"),
+        }
     }
     Ok(())
 }
@@ -226,6 +251,7 @@ fn help_has_each_option(rt: HostRuntime) -> Result<(), Fail> {
     let alloc = rt.alloc();
     let message = message_of(alloc, "run --help")?;
     for option in [
+        "--explain",
         "--horizon <N>",
         "--clock <F:P>",
         "--init <LEVEL>",

@@ -1,11 +1,7 @@
 use Rattle.std.proofs.Common.{◌≡◌, ℕ, ◌≤◌, ◌<◌, take, length, arith, sym, ◌∙◌, ap}
 use Rattle.std.proofs.lemmas.List.{take_all}
 use Rattle.cmb_core.specs.Arrivals.{pins_at, levels, least_due}
-use Rattle.cmb_design.specs.Gate.{gate}
-use Rattle.cmb_bench.specs.Netlist.{MayTake}
-use Rattle.cmb_core.specs.Gates.{Counts}
-use Rattle.cmb_core.proofs.GateLemmas.{counts_push, level_of_counts}
-use Rattle.cmb_core.proofs.Merging.{same_step, steady_step, rest_step, levels_step, length_levels, due_step}
+use Rattle.cmb_core.proofs.Merging.{same_step, steady_step, rest_step, due_step}
 use Rattle.cmb_core.proofs.merge.pass.Goals as goal
 use Rattle.cmb_core.proofs.merge.pass.Goals.{then-arrival-from, else-arrival-from}
 
@@ -24,7 +20,6 @@ loop-pin-preserved c =
       same = λ t h. same_step _ _ _ _ _ t within_new within_old c.loop-pin.invariant.rest (c.loop-pin.invariant.same t h) (c.advance-arrival.ensures.same t h);
       steady = λ t h k. steady_step _ _ _ t within_new (c.loop-pin.invariant.steady t h (omega arith)) (c.advance-arrival.ensures.steady t h (omega arith));
       rest = rest_step c.loop-pin.pins c.args.pins.now c.loop-pin.pin-index c.advance-arrival.new.self c.loop-pin.invariant.rest;
-      counted = rw (levels_step c.loop-pin.pins c.loop-pin.pin-index c.advance-arrival.new.self within_new, c.add.ensures) (counts_push _ _ _ c.loop-pin.invariant.counted);
       later = bounds.2;
       within = omega arith;
       due = elim c.if-arrival-from.branch [
@@ -43,12 +38,9 @@ returns c =
     let steady : (t : ℕ) → c.args.now ≤ t → t < c.loop-pin.next → pins_at c.loop-pin.pins t ≡ levels c.loop-pin.pins =
     λ t h k. ap (λ ps. pins_at ps t) (sym whole_new) ∙ c.loop-pin.invariant.steady t h k ∙ ap levels whole_new
     in
-    let count : length (levels c.loop-pin.pins) ≡ length c.args.pins.now = length_levels c.loop-pin.pins ∙ (omega arith) in
-    let takes : MayTake c.args.kind (length (levels c.loop-pin.pins)) = rw count c.requires.takes in
-    let counted : Counts c.loop-pin.tally (levels c.loop-pin.pins) = rw (sym whole_new) c.loop-pin.invariant.counted in
     record {
       same = same;
-      steady = λ t h k. ap (gate c.args.kind) (sym (same t h) ∙ steady t h k) ∙ sym (level_of_counts c.args.kind c.loop-pin.tally (levels c.loop-pin.pins) takes counted) ∙ sym c.level.ensures;
+      steady = λ t h k. sym (same t h) ∙ steady t h k;
       later = c.loop-pin.invariant.later;
       within = c.loop-pin.invariant.within;
       due = c.loop-pin.invariant.due ∙ ap (λ ps. least_due ps c.args.until) whole_new;

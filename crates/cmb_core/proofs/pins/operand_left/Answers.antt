@@ -5,11 +5,8 @@ use Rattle.cmb_core.specs.Step.{wave_at}
 use Rattle.cmb_core.proofs.Skips.{level_at_rest}
 use Rattle.cmb_core.proofs.pins.operand_left.Goals as goal
 
-pub returns-in-Some : goal.returns-in-Some
-returns-in-Some c = λ t h. c.in-Some.ensures _ c.operand_tail.ensures t h
-
 pub returns : goal.returns
 returns c = λ t h.
     let wave : Wave = c.operand_wave-wave.result.now in
     let at : level_at wave.kept wave.changes t ≡ level_at (wave_at c.args.waves.now c.args.operand.net).kept (wave_at c.args.waves.now c.args.operand.net).changes t = ap (λ (w : Wave). level_at w.kept w.changes t) c.operand_wave-wave.ensures in
-    rw (c.left_near_end.ensures.level, c.left_near_end.ensures.changes, c.kept.ensures.kept, c.changes.ensures.changes) (level_at_rest c.args.tick wave.kept wave.changes t (omega arith) ∙ at)
+    rw (c.left_from.ensures.level, c.left_from.ensures.changes, c.kept.ensures.kept, c.changes.ensures.changes) (level_at_rest c.args.tick wave.kept wave.changes t (omega arith) ∙ at)

@@ -14,19 +14,19 @@ returns-in_err-check_settings-clause-err c =
     let fault = rw (c.as_slice-clock_rows.ensures.value, c.common_clock.ensures) at c.in_err-check_settings.ensures.err in
     rw (p.1, p.2) (⊎_elim (λ m. inl m) (λ x. inr (in_settings d c.in_err-check_settings.field-0.0 x)) fault)
 
-pub returns-in_err-places-clause-err : goal.returns-in_err-places-clause-err
-returns-in_err-places-clause-err c =
+pub returns-in_err-delays-clause-err : goal.returns-in_err-delays-clause-err
+returns-in_err-delays-clause-err c =
     let d : Design = design_of c.args.netlist.now c.args.settings c.args.delays.now c.args.stimuli.now c.args.clocks.now in
     let settings : first_fault (of_settings d) ≡ None = rw (c.as_slice-clock_rows.ensures.value, c.common_clock.ensures) at c.in_ok-check_settings.ensures.ok in
-    let p = err_from_is_err_and c.from_residual-in_err-places.result c.from_residual-in_err-places.ensures.1 in
-    let fault = rw c.as_slice-delay_rows.ensures.value at c.in_err-places.ensures.err in
-    rw (p.1, p.2) (⊎_elim (λ m. inl m) (λ x. inr (in_delays d c.in_err-places.field-0.0 settings x)) fault)
+    let p = err_from_is_err_and c.from_residual-in_err-delays.result c.from_residual-in_err-delays.ensures.1 in
+    let fault = rw c.as_slice-delay_rows.ensures.value at c.in_err-delays.ensures.err in
+    rw (p.1, p.2) (⊎_elim (λ m. inl m) (λ x. inr (in_delays d c.in_err-delays.field-0.0 settings x)) fault)
 
 pub returns-in_err-changes-clause-err : goal.returns-in_err-changes-clause-err
 returns-in_err-changes-clause-err c =
     let d : Design = design_of c.args.netlist.now c.args.settings c.args.delays.now c.args.stimuli.now c.args.clocks.now in
     let settings : first_fault (of_settings d) ≡ None = rw (c.as_slice-clock_rows.ensures.value, c.common_clock.ensures) at c.in_ok-check_settings.ensures.ok in
-    let delays : first_fault (of_delays d) ≡ None = rw c.as_slice-delay_rows.ensures.value at c.in_ok-places.ensures.ok.0 in
+    let delays : first_fault (of_delays d) ≡ None = rw c.as_slice-delay_rows.ensures.value at c.in_ok-delays.ensures.ok.0 in
     let p = err_from_is_err_and c.from_residual-in_err-changes.result c.from_residual-in_err-changes.ensures.1 in
     let fault = rw c.as_slice.ensures.value at c.in_err-changes.ensures.err in
     rw (p.1, p.2) (⊎_elim (λ m. inl m) (λ x. inr (in_stimuli d c.in_err-changes.field-0.0 settings delays x)) fault)
@@ -35,7 +35,7 @@ pub returns-in_err-own_clocks-clause-err : goal.returns-in_err-own_clocks-clause
 returns-in_err-own_clocks-clause-err c =
     let d : Design = design_of c.args.netlist.now c.args.settings c.args.delays.now c.args.stimuli.now c.args.clocks.now in
     let settings : first_fault (of_settings d) ≡ None = rw (c.as_slice-clock_rows.ensures.value, c.common_clock.ensures) at c.in_ok-check_settings.ensures.ok in
-    let delays : first_fault (of_delays d) ≡ None = rw c.as_slice-delay_rows.ensures.value at c.in_ok-places.ensures.ok.0 in
+    let delays : first_fault (of_delays d) ≡ None = rw c.as_slice-delay_rows.ensures.value at c.in_ok-delays.ensures.ok.0 in
     let stimuli : first_fault (of_stimuli d) ≡ None = rw c.as_slice.ensures.value at c.in_ok-changes.ensures.ok.0 in
     let p = err_from_is_err_and c.from_residual-in_err-own_clocks.result c.from_residual-in_err-own_clocks.ensures.1 in
     let fault = rw c.as_slice-clock_rows.ensures.value at c.in_err-own_clocks.ensures.err in
@@ -45,7 +45,7 @@ pub returns-clause-ok : goal.returns-clause-ok
 returns-clause-ok c =
     let d : Design = design_of c.args.netlist.now c.args.settings c.args.delays.now c.args.stimuli.now c.args.clocks.now in
     let settings : first_fault (of_settings d) ≡ None = rw (c.as_slice-clock_rows.ensures.value, c.common_clock.ensures) at c.in_ok-check_settings.ensures.ok in
-    let delays : first_fault (of_delays d) ≡ None = rw c.as_slice-delay_rows.ensures.value at c.in_ok-places.ensures.ok.0 in
+    let delays : first_fault (of_delays d) ≡ None = rw c.as_slice-delay_rows.ensures.value at c.in_ok-delays.ensures.ok.0 in
     let stimuli : first_fault (of_stimuli d) ≡ None = rw c.as_slice.ensures.value at c.in_ok-changes.ensures.ok.0 in
     let clocks : first_fault (of_clocks d) ≡ None = rw c.as_slice-clock_rows.ensures.value at c.in_ok-own_clocks.ensures.ok.0 in
     let passes = in_clocks d settings delays stimuli ∙ clocks in
@@ -55,7 +55,7 @@ returns-clause-ok c =
       record {
         starts = c.in_ok-layout.ensures.ok.0;
         room = c.in_ok-layout.ensures.ok.2;
-        delays = rw c.as_slice-delay_rows.ensures.value at c.in-Ok.ensures;
+        delays = rw c.as_slice-delay_rows.ensures.value at c.in_ok-delays.ensures.ok.1;
         changes = rw c.as_slice.ensures.value at c.in_ok-changes.ensures.ok.1;
         own_clocks = rw c.as_slice-clock_rows.ensures.value at c.in_ok-own_clocks.ensures.ok.1;
         lawful = lawful d c.in_ok-layout.ensures.lawful delay_rows clock_rows passes;

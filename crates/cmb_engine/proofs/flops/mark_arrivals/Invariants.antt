@@ -1,7 +1,9 @@
 use Rattle.std.proofs.Common.{◌≡◌, ℕ, ◌+◌, ◌-◌, ◌<◌, ◌≤◌, true, length, get_or}
 use Rattle.std.specs.Prelude.{Contains}
 use Rattle.cmb_engine.specs.Bits.{has}
+use Rattle.cmb_engine.specs.Circuits.{IsMarkedOrRests}
 use Rattle.cmb_engine.specs.Rows.{arrives_by}
+use Rattle.cmb_engine.specs.Words.{levels_of}
 use Rattle.cmb_engine.specs.declared.group.Group.{Group}
 use Rattle.cmb_engine.proofs.flops.mark_arrivals.Given as goal
 
@@ -10,5 +12,6 @@ invariant-loop-group l = record {
   room : length l.marks ≡ length l.initial.marks;
   kept : (m : ℕ) → has l.initial.marks m ≡ true → has l.marks m ≡ true;
   arrivals : (k : ℕ) (d : Group) (slot place : ℕ) → k < l.group-index → Contains (get_or l.groups k d).flops.items slot → l.first ≤ place → place < 64
-      → arrives_by (get_or l.groups k d).clock (get_or l.groups k d).delay (l.to + place - 64) ≡ true → has l.marks slot ≡ true;
+      → arrives_by (get_or l.groups k d).clock (get_or l.groups k d).delay (l.to + place - 64) ≡ true
+      → IsMarkedOrRests (has l.marks) (levels_of l.words) l.first l.cells slot;
 }

@@ -27,12 +27,16 @@ mark_arrivals-requires-clause-paces c =
     (groups-paced c.args.wiring.now.cells c.args.wiring.now.flops.items c.requires.wiring.flip_flops c.args.wiring.now.most c.requires.wiring.lawful) in
     λ k d l. ((paced k d l).0, omega (arith, (paced k d l).1, c.requires.fits))
 
-pub mark_arrivals-requires-clause-room : goal.mark_arrivals-requires-clause-room
-mark_arrivals-requires-clause-room c =
-    let inside : All (λ group. All (λ slot. slot < length c.args.wiring.now.cells) group.flops.items) c.as_slice.result.now =
+pub mark_arrivals-requires-clause-slots : goal.mark_arrivals-requires-clause-slots
+mark_arrivals-requires-clause-slots c =
     subst (λ (groups : List Group). All (λ group. All (λ slot. slot < length c.args.wiring.now.cells) group.flops.items) groups) (sym c.as_slice.ensures.value)
-    (groups-inside c.args.wiring.now.cells c.args.wiring.now.flops.items c.requires.wiring.flip_flops) in
-    λ k d l n e m. omega (arith, inside k d l n e m, c.requires.nets, c.requires.room, c.mark_news.ensures.room, c.write_told.ensures.room)
+    (groups-inside c.args.wiring.now.cells c.args.wiring.now.flops.items c.requires.wiring.flip_flops)
+
+pub mark_arrivals-requires-clause-lawful : goal.mark_arrivals-requires-clause-lawful
+mark_arrivals-requires-clause-lawful c =
+    (window-wired c.args.wiring.now.cells c.args.wiring.now.readers c.args.wiring.now.flops.items c.args.wiring.now.most
+    c.requires.wiring
+    (length c.write_told.new.words) (64 - c.args.ticks) (omega (arith, c.requires.nets, c.move_on.ensures.len, c.write_told.ensures.len)) (omega (arith, c.requires.fits))).lawful
 
 pub returns-clause-shows : goal.returns-clause-shows
 returns-clause-shows c = λ trace meets shows right slot place inside small.

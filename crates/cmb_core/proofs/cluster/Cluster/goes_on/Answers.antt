@@ -2,7 +2,7 @@ use Rattle.std.proofs.Common.{◌≡◌, ℕ, ◌≤◌, ltb, Option, Some, None
 use Rattle.std.specs.Prelude.{is_some}
 use Rattle.std.proofs.lemmas.Bool.{lt-ltb, le-ltb}
 use Rattle.cmb_design.specs.Design.{Design}
-use Rattle.cmb_core.specs.declared.cluster.Next.{Next}
+use Rattle.cmb_core.specs.declared.advance.Span.{Span}
 use Rattle.cmb_core.specs.Clusters.{Cluster, IsNextSpan, output_slot, reach_at, slot_wave}
 use Rattle.cmb_core.specs.Step.{wave_at, step_reach}
 use Rattle.cmb_core.proofs.Driven.{Drives, wave_here, net_here, reach_is}
@@ -11,13 +11,13 @@ use Rattle.cmb_core.proofs.OwnFacts.{drives_own}
 use Rattle.cmb_core.proofs.cluster.Cluster.goes_on.Goals as goal
 
 -- a span to go on by is there just where the reach is above the clock
-span_there : (design : Design) (s : Cluster) (net slot : ℕ) (d : Drives design s net slot) (r : Option Next) → MatchOption r (reach_at s slot ≤ (slot_wave s slot).clock) (λ next. IsNextSpan s slot next.span)
+span_there : (design : Design) (s : Cluster) (net slot : ℕ) (d : Drives design s net slot) (r : Option Span) → MatchOption r (reach_at s slot ≤ (slot_wave s slot).clock) (IsNextSpan s slot)
     → is_some r ≡ ltb (wave_at s.waves net).clock (step_reach design s.waves net)
 span_there design s net slot d None h =
     let reach = reach_is design s net slot d (λ more. absurd (omega arith)) ∙ ap (step_reach design s.waves) (net_here design s net slot d (λ more. absurd (omega arith))) in
     let clock = ap (λ w. w.clock) (wave_here design s net slot d (λ more. absurd (omega arith))) in
     sym (le-ltb _ _ (omega (arith, h, reach, clock)))
-span_there design s net slot d (Some next) h =
+span_there design s net slot d (Some span) h =
     let reach = reach_is design s net slot d (λ more. sym h.before ∙ h.told) ∙ ap (step_reach design s.waves) (net_here design s net slot d (λ more. sym h.before ∙ h.told)) in
     let clock = ap (λ w. w.clock) (wave_here design s net slot d (λ more. sym h.before ∙ h.told)) in
     sym (lt-ltb _ _ (omega (arith, h.later, h.from, h.until, reach, clock)))

@@ -1,5 +1,5 @@
 use Rattle.std.proofs.Common.{◌≡◌, Some, eqb, sym, ◌∙◌, ap}
-use Rattle.cmb_core.specs.Clusters.{output_slot, slot_wave}
+use Rattle.cmb_core.specs.Clusters.{output_slot}
 use Rattle.cmb_core.specs.Step.{wave_at}
 use Rattle.cmb_core.proofs.Inputs.{output_wave}
 use Rattle.cmb_core.proofs.cluster.Cluster.is_done.Goals as goal
@@ -7,6 +7,5 @@ use Rattle.cmb_core.proofs.cluster.Cluster.is_done.Goals as goal
 pub returns : goal.returns
 returns c =
     let place : output_slot c.args.self.now c.args.net ≡ Some c.in-Some.slot = sym c.output_place.ensures.place ∙ c.in-Some.is in
-    let same = ap (λ s. slot_wave s c.in-Some.slot) c.self.view_is in
-    ap (λ t. eqb t c.self.inside.horizon) (c.tip.ensures.clock ∙ ap (λ w. w.clock) (same ∙ output_wave c.args.self.now c.args.net c.in-Some.slot place))
+    ap (λ t. eqb t c.self.inside.horizon) (c.clock.ensures ∙ ap (λ w. w.clock) (c.wave.ensures.wave ∙ output_wave c.args.self.now c.args.net c.in-Some.slot place))
     ∙ ap (λ s. eqb (wave_at c.args.self.now.waves c.args.net).clock s.horizon) c.self.view_is

@@ -1,14 +1,13 @@
 use Rattle.std.proofs.Common.{◌≡◌, ap, sym, ◌∙◌, subst}
 use Rattle.cmb_wave.specs.Calls.{promised}
 use Rattle.cmb_design.specs.Exact.{IsRightIn}
-use Rattle.cmb_core.specs.Clusters.{slot_wave}
 use Rattle.cmb_core.specs.Step.{wave_at}
 use Rattle.cmb_core.proofs.ExactFacts.{placed_exact}
 use Rattle.cmb_core.proofs.Inputs.{output_slot_is, output_wave}
 use Rattle.cmb_core.proofs.cluster.Cluster.promise.Goals as goal
 
 is : (c : goal.After-promise) → c.promise.result ≡ promised (wave_at c.args.self.now.waves c.args.net)
-is c = c.promise.ensures ∙ ap promised (ap (λ s. slot_wave s c.driven_place.result) c.self.view_is ∙ output_wave c.args.self.now c.args.net c.driven_place.result c.driven_place.ensures.place)
+is c = c.promise.ensures ∙ ap promised (c.wave.ensures.wave ∙ output_wave c.args.self.now c.args.net c.driven_place.result c.driven_place.ensures.place)
 
 pub returns-clause-promised : goal.returns-clause-promised
 returns-clause-promised c = is c

@@ -13,4 +13,4 @@ returns-clause-value c =
     let i = c.self.inside in
     let h : c.args.net < length i.netlist.names = rw (sym c.self.view_is) at c.requires in
     let e = changes-at i.netlist i.stimuli 4294967296 i.tables.changes.items c.args.net c.index.result.now c.self.invariant.changes h c.index.ensures in
-    rw (← c.self.view_is) (c.as_slice.ensures.value ∙ e)
+    rw (← c.self.view_is) (c.changes.ensures ∙ e)

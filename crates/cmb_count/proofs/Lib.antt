@@ -1,0 +1,2 @@
+mod BelowFacts
+mod LargestFacts

@@ -1,0 +1,29 @@
+-- What there is of each part of a design.
+use Rattle.std.specs.Prelude.{◌≡◌, ℕ, length}
+use Rattle.cmb_bench.specs.Netlist.{Netlist}
+use Rattle.cmb_bench.specs.declared.netlist.Kind.TheVariants as kind
+use Rattle.cmb_design.specs.Design.{Design}
+use Rattle.cmb_count.specs.Largest.{IsLargestDelay}
+use Rattle.cmb_count.specs.Parts.{part_count, silent_count}
+use Rattle.cmb_count.specs.declared.counts.Counts.{Counts}
+use Rattle.cmb_count.specs.declared.counts.GateCounts.{GateCounts}
+use Rattle.cmb_count.specs.declared.drivers.Part.TheVariants.{Inputs, Gates, Flops}
+
+-- the gates of each kind
+pub record AreGateCounts (netlist : Netlist) (gates : GateCounts) : Type 0 where
+  pub and : gates.and ≡ part_count netlist (Gates kind.And)
+  pub nand : gates.nand ≡ part_count netlist (Gates kind.Nand)
+  pub or : gates.or ≡ part_count netlist (Gates kind.Or)
+  pub nor : gates.nor ≡ part_count netlist (Gates kind.Nor)
+  pub xor : gates.xor ≡ part_count netlist (Gates kind.Xor)
+  pub xnor : gates.xnor ≡ part_count netlist (Gates kind.Xnor)
+  pub not : gates.not ≡ part_count netlist (Gates kind.Not)
+  pub buff : gates.buff ≡ part_count netlist (Gates kind.Buff)
+
+pub record AreCounts (design : Design) (counts : Counts) : Type 0 where
+  pub nets : counts.nets ≡ length design.netlist.names
+  pub inputs : counts.inputs ≡ part_count design.netlist Inputs
+  pub silent : counts.silent ≡ silent_count design
+  pub gates : AreGateCounts design.netlist counts.gates
+  pub flops : counts.flops ≡ part_count design.netlist Flops
+  pub largest_delay : IsLargestDelay design counts.largest_delay

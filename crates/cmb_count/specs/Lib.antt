@@ -1,0 +1,4 @@
+pub mod Below
+pub mod Parts
+pub mod Largest
+pub mod Counting

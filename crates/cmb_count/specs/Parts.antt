@@ -1,0 +1,28 @@
+-- Nets by what drives them.
+use Rattle.std.specs.Prelude.{ℕ, Bool, ◌==◌, ◌&&◌, length}
+use Rattle.cmb_bench.specs.Netlist.{Netlist, driver_of}
+use Rattle.cmb_bench.specs.declared.netlist.Driver.{Driver}
+use Rattle.cmb_design.specs.Design.{Design}
+use Rattle.cmb_design.specs.Nets.{driver_cell, is_at, is_flop, is_input, kind_number}
+use Rattle.cmb_design.specs.Timing.{stimulus}
+use Rattle.cmb_wave.specs.Waveform.{changes_between}
+use Rattle.cmb_count.specs.Below.{count_below}
+use Rattle.cmb_count.specs.declared.drivers.Part.{Part}
+use Rattle.cmb_count.specs.declared.drivers.Part.TheVariants.{Inputs, Gates, Flops}
+
+-- the driver is of this part: an INPUT, a gate of this kind, or a flip-flop
+abbrev pub is_part : Part → Driver → Bool
+is_part Inputs driver = is_input driver
+is_part (Gates kind) driver = is_at (driver_cell driver) (kind_number kind)
+is_part Flops driver = is_flop driver
+
+-- how many nets are driven by a part
+abbrev pub part_count : Netlist → Part → ℕ
+part_count netlist part = count_below (λ net. is_part part (driver_of netlist net)) (length netlist.names)
+
+-- an input that is x at each tick below the horizon
+abbrev pub is_silent : Design → ℕ → Bool
+is_silent design net = is_input (driver_of design.netlist net) && length (changes_between (stimulus design net) 0 design.horizon) == 0
+
+abbrev pub silent_count : Design → ℕ
+silent_count design = count_below (is_silent design) (length design.netlist.names)

@@ -1,0 +1,65 @@
+//! All counts of a design.
+
+ghost use Rattle.cmb_count.specs.Counting.{AreCounts, AreGateCounts};
+
+use crate::drivers::{Part, count_drivers, count_silent};
+use crate::largest::largest_delay;
+use cmb_bench::{Kind, Netlist};
+use cmb_design::Design;
+
+/// How many gates of each kind there are.
+#[derive(Clone, Copy, Debug, PartialEq, Eq)]
+pub struct GateCounts {
+    pub and: usize,
+    pub nand: usize,
+    pub or: usize,
+    pub nor: usize,
+    pub xor: usize,
+    pub xnor: usize,
+    pub not: usize,
+    pub buff: usize,
+}
+
+/// What a design is made of.
+#[derive(Clone, Copy, Debug, PartialEq, Eq)]
+pub struct Counts {
+    pub nets: usize,
+    pub inputs: usize,
+    /// Inputs that are x at each tick below the horizon.
+    pub silent: usize,
+    pub gates: GateCounts,
+    /// Flip-flops.
+    pub flops: usize,
+    /// The largest delay of a pin, in ticks; 0 where there are no pins.
+    pub largest_delay: u32,
+}
+
+fn count_gates(netlist: &Netlist) -> GateCounts
+    ensures { AreGateCounts netlist.now result }
+{
+    GateCounts {
+        and: count_drivers(netlist, &Part::Gates(Kind::And)),
+        nand: count_drivers(netlist, &Part::Gates(Kind::Nand)),
+        or: count_drivers(netlist, &Part::Gates(Kind::Or)),
+        nor: count_drivers(netlist, &Part::Gates(Kind::Nor)),
+        xor: count_drivers(netlist, &Part::Gates(Kind::Xor)),
+        xnor: count_drivers(netlist, &Part::Gates(Kind::Xnor)),
+        not: count_drivers(netlist, &Part::Gates(Kind::Not)),
+        buff: count_drivers(netlist, &Part::Gates(Kind::Buff)),
+    }
+}
+
+/// Counts what a design is made of.
+pub fn count_design(design: &Design) -> Counts
+    ensures { AreCounts design.now result }
+{
+    let netlist = design.netlist();
+    Counts {
+        nets: netlist.len(),
+        inputs: count_drivers(netlist, &Part::Inputs),
+        silent: count_silent(design),
+        gates: count_gates(netlist),
+        flops: count_drivers(netlist, &Part::Flops),
+        largest_delay: largest_delay(design),
+    }
+}

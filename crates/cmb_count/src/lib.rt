@@ -1,0 +1,12 @@
+//! What a design is made of, in numbers: nets by their drivers, inputs that nothing drives, and the largest delay.
+#![tactic(auto)]
+
+pub mod counts;
+pub mod drivers;
+mod largest;
+mod text;
+
+pub use counts::{Counts, GateCounts, count_design};
+pub use drivers::{Part, count_drivers, count_silent};
+pub use largest::largest_delay;
+pub use text::counts_text;

@@ -1,0 +1,35 @@
+//! The counts as a text.
+
+use crate::counts::{Counts, GateCounts};
+use std::alloc::{AllocError, Global};
+
+fn push_row(text: &mut String, number: usize, what: &str) -> Result<(), AllocError> {
+    write!(text, "{number:>8}  {what}\n")
+}
+
+fn push_gates(text: &mut String, gates: GateCounts) -> Result<(), AllocError> {
+    push_row(text, gates.and, "gates AND")?;
+    push_row(text, gates.nand, "gates NAND")?;
+    push_row(text, gates.or, "gates OR")?;
+    push_row(text, gates.nor, "gates NOR")?;
+    push_row(text, gates.xor, "gates XOR")?;
+    push_row(text, gates.xnor, "gates XNOR")?;
+    push_row(text, gates.not, "gates NOT")?;
+    push_row(text, gates.buff, "gates BUFF")
+}
+
+/// The counts as a text, each on a line of its own.
+pub fn counts_text(alloc: Global, counts: &Counts) -> Result<String, AllocError> {
+    let mut text = String::new(alloc);
+    push_row(&mut text, counts.nets, "nets")?;
+    push_row(&mut text, counts.inputs, "inputs")?;
+    push_row(&mut text, counts.silent, "inputs that are x at all ticks")?;
+    push_gates(&mut text, counts.gates)?;
+    push_row(&mut text, counts.flops, "flip-flops")?;
+    push_row(
+        &mut text,
+        counts.largest_delay as usize,
+        "ticks in the largest delay",
+    )?;
+    Ok(text)
+}

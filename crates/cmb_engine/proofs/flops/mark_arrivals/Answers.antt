@@ -1,0 +1,34 @@
+use Rattle.std.proofs.Common.{◌≡◌, ◌+◌, ◌-◌, ◌<◌, ◌≤◌, ◌⊎◌, inl, inr, ℕ, true, length, get_or, sym, ap, subst, ◌∙◌, arith}
+use Rattle.std.specs.Prelude.{Contains}
+use Rattle.std.proofs.lemmas.Bool.{cases_lt}
+use Rattle.std.proofs.lemmas.List.{get_or_default}
+use Rattle.cmb_engine.specs.Bits.{has}
+use Rattle.cmb_engine.specs.Circuits.{IsMarkedOrRests}
+use Rattle.cmb_engine.specs.Rows.{arrives_by}
+use Rattle.cmb_engine.specs.Words.{levels_of}
+use Rattle.cmb_engine.specs.declared.group.Group.{Group}
+use Rattle.cmb_engine.proofs.GroupFacts.{rests-kept}
+use Rattle.cmb_engine.proofs.flops.mark_arrivals.Goals as goal
+
+pub loop-group-preserved : goal.loop-group-preserved
+loop-group-preserved c = record {
+  room = c.mark_group.ensures.room ∙ c.loop-group.invariant.room;
+  kept = λ m h. c.mark_group.ensures.kept m (c.loop-group.invariant.kept m h);
+  arrivals = λ k d slot place below among from small arrives. go k d slot place below among from small arrives (cases_lt k c.loop-group.group-index);
+}
+  where
+    go : (k : ℕ) → (d : Group) → (slot place : ℕ) → k < c.loop-group.group-index + 1 → Contains (get_or c.args.groups.now k d).flops.items slot → c.args.first ≤ place → place < 64
+        → arrives_by (get_or c.args.groups.now k d).clock (get_or c.args.groups.now k d).delay (c.args.to + place - 64) ≡ true
+        → (k < c.loop-group.group-index) ⊎ (c.loop-group.group-index ≤ k)
+        → IsMarkedOrRests (has c.mark_group.new.marks) (levels_of c.args.words.now) c.args.first c.args.cells.now slot
+    go k d slot place below among from small arrives (inl l) =
+        rests-kept c.loop-group.marks c.mark_group.new.marks (levels_of c.args.words.now) c.args.first c.args.cells.now slot c.mark_group.ensures.kept
+        (c.loop-group.invariant.arrivals k d slot place l among from small arrives)
+    go k d slot place below among from small arrives (inr l) =
+        let at : k ≡ c.loop-group.group-index = omega (arith, l, below) in
+        let inside : k < length c.args.groups.now = omega (arith, below, c.loop-group-test.true) in
+        let is : get_or c.args.groups.now k d ≡ c.group-item.result =
+        get_or_default c.args.groups.now k d c.group-item.result inside ∙ ap (λ n. get_or c.args.groups.now n c.group-item.result) at ∙ sym c.group-item.is in
+        c.mark_group.ensures.arrivals slot place
+        (subst (λ (group : Group). Contains group.flops.items slot) is among) from small
+        (subst (λ (group : Group). arrives_by group.clock group.delay (c.args.to + place - 64) ≡ true) is arrives)

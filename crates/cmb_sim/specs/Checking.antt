@@ -1,0 +1,11 @@
+-- What is told of a design that isn't simulated.
+use Rattle.cmb_count.specs.Counting.{AreCounts}
+use Rattle.cmb_count.specs.declared.counts.Counts.{Counts}
+use Rattle.cmb_design.specs.Design.{Design}
+use Rattle.cmb_design.specs.declared.settings.Settings.{Settings}
+use Rattle.cmb_sim.specs.Simulation.{Inputs}
+use Rattle.cmb_sim.specs.Stages.{FoundDesign}
+
+-- the counts are those of the design that the inputs spell
+abbrev pub IsChecked : Settings → Inputs → Counts → Type 0
+IsChecked settings inputs counts = (design : Design) × FoundDesign settings inputs design × AreCounts design counts

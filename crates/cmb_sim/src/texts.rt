@@ -1,0 +1,73 @@
+//! The four texts of a simulation, read whole.
+
+ghost use Rattle.std.specs.Prelude.{◌≡◌, ◌-◌, ◌^◌, ◌<◌, IfOk, IfErr};
+ghost use Rattle.cmb_sim.specs.Simulation.{AreTexts, NoneFailedBut, failed_input, input, inputs_of};
+ghost use Rattle.cmb_sim.specs.Sources.{IsWhole};
+ghost use Rattle.cmb_sim.specs.Stages.{IsUnread, LacksTexts, texts_of};
+
+use crate::fault::Fault;
+use crate::reading::{ReadFault, read_whole};
+use crate::source::Source;
+use std::alloc::Global;
+
+/// What the four inputs have.
+#[derive(Drop)]
+pub struct InputTexts {
+    pub bench: Vec<u8>,
+    pub delays: Vec<u8>,
+    pub stimuli: Vec<u8>,
+    pub clocks: Vec<u8>,
+}
+
+// The whole text of the input with this number.
+fn read_input<S: Source>(alloc: Global, source: &mut S, number: u32) -> Result<Vec<u8>, Fault>
+    requires { S.failures source.old < 2 ^ 64 - 1 }
+    ensures whole { IfOk result (λ text. IsWhole (S.remaining source.old) text.items) }
+    ensures fault { IfErr result (IsUnread number (input (S.remaining source.old) (S.failures source.old) (S.failures source.new))) }
+    ensures failures { (failed_input result ≡ number → ⊥) → S.failures source.new ≡ S.failures source.old }
+{
+    match read_whole(alloc, source) {
+        Ok(text) => Ok(text),
+        Err(ReadFault::TooLong) => Err(Fault::TooLong { input: number }),
+        Err(ReadFault::Failed) => Err(Fault::Read { input: number }),
+        Err(ReadFault::Memory) => Err(Fault::Memory),
+    }
+}
+
+/// Reads the four inputs whole, in order: 60 where one has more than 16,777,216 bytes, 61 where a read of it failed, 70
+/// where memory was refused.
+pub fn read_texts<B: Source, D: Source, S: Source, C: Source>(
+    alloc: Global,
+    bench: &mut B,
+    delays: &mut D,
+    stimuli: &mut S,
+    clocks: &mut C,
+) -> Result<InputTexts, Fault>
+    requires bench { B.failures bench.old < 2 ^ 64 - 1 }
+    requires delays { D.failures delays.old < 2 ^ 64 - 1 }
+    requires stimuli { S.failures stimuli.old < 2 ^ 64 - 1 }
+    requires clocks { C.failures clocks.old < 2 ^ 64 - 1 }
+    ensures ok { IfOk result (λ texts. AreTexts (inputs_of
+        (input (B.remaining bench.old) (B.failures bench.old) (B.failures bench.new))
+        (input (D.remaining delays.old) (D.failures delays.old) (D.failures delays.new))
+        (input (S.remaining stimuli.old) (S.failures stimuli.old) (S.failures stimuli.new))
+        (input (C.remaining clocks.old) (C.failures clocks.old) (C.failures clocks.new)))
+        (texts_of texts.bench.items texts.delays.items texts.stimuli.items texts.clocks.items)) }
+    ensures fault { IfErr result (LacksTexts (inputs_of
+        (input (B.remaining bench.old) (B.failures bench.old) (B.failures bench.new))
+        (input (D.remaining delays.old) (D.failures delays.old) (D.failures delays.new))
+        (input (S.remaining stimuli.old) (S.failures stimuli.old) (S.failures stimuli.new))
+        (input (C.remaining clocks.old) (C.failures clocks.old) (C.failures clocks.new)))) }
+    ensures failures { NoneFailedBut (failed_input result) (inputs_of
+        (input (B.remaining bench.old) (B.failures bench.old) (B.failures bench.new))
+        (input (D.remaining delays.old) (D.failures delays.old) (D.failures delays.new))
+        (input (S.remaining stimuli.old) (S.failures stimuli.old) (S.failures stimuli.new))
+        (input (C.remaining clocks.old) (C.failures clocks.old) (C.failures clocks.new))) }
+{
+    Ok(InputTexts {
+        bench: read_input(alloc, bench, 1)?,
+        delays: read_input(alloc, delays, 2)?,
+        stimuli: read_input(alloc, stimuli, 3)?,
+        clocks: read_input(alloc, clocks, 4)?,
+    })
+}
