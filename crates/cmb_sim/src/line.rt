@@ -121,7 +121,8 @@ fn with_settings<'a>(alloc: Global, command: Command<'a>) -> Result<Command<'a>,
 fn threads_option<'a>(alloc: Global) -> Result<Arg<'a>, AllocError> {
     option(alloc, "threads", "N", THREADS)
         .value_parser(ValueParser::unsigned(1, 64))
-        .conflicts_with_all(&["workers", "clusters"])
+        .conflicts_with("workers")?
+        .conflicts_with("clusters")
 }
 
 // How it is run.
