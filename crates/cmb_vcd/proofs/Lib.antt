@@ -13,3 +13,4 @@ pub mod TextSizes
 pub mod Texts
 pub mod TickFacts
 pub mod TraceFacts
+pub mod ChosenFacts

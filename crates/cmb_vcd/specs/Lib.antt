@@ -1,4 +1,5 @@
 pub mod Beginnings
+pub mod Chosen
 pub mod Collector
 pub mod Ends
 pub mod Events

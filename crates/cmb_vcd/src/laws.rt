@@ -1,16 +1,18 @@
 //! The laws of the text.
 
-ghost use Rattle.std.specs.Prelude.{◌≡◌, ◌≢◌, ℕ, ◌+◌, ◌<◌, ◌≤◌, List, ◌++◌, length, Ok, Err};
+ghost use Rattle.std.specs.Prelude.{◌≡◌, ◌≢◌, ℕ, ◌+◌, ◌<◌, ◌≤◌, List, ◌++◌, length, map, slice_index, All, Ok, Err};
+ghost use Rattle.std.specs.List.{range_with_len};
 ghost use Rattle.cmb_wave.specs.declared.level.Level.{Level};
 ghost use Rattle.cmb_wave.specs.Wave.{IsExactWave, Piece, Wave, cut_of};
-ghost use Rattle.cmb_bench.specs.Netlist.{Netlist};
+ghost use Rattle.cmb_bench.specs.Netlist.{Netlist, name_of};
 ghost use Rattle.cmb_design.specs.Design.{Design};
-ghost use Rattle.cmb_design.specs.Exact.{IsExactIn};
+ghost use Rattle.cmb_design.specs.Exact.{IsExactIn, nets_of};
 ghost use Rattle.cmb_design.specs.Plain.{whole_waves};
 ghost use Rattle.cmb_design.specs.Value.{value};
 ghost use Rattle.cmb_vcd.specs.declared.fault.CollectFault.TheVariants.{Clash};
+ghost use Rattle.cmb_vcd.specs.Chosen.{vcd_of};
 ghost use Rattle.cmb_vcd.specs.Collector.{Collector, IsComplete, IsExactFor, adopted, collected, collected_level, least, new_collector, wave_of};
-ghost use Rattle.cmb_vcd.specs.Vcd.{code, part_text, ticks_text};
+ghost use Rattle.cmb_vcd.specs.Vcd.{code, part_text, ticks_text, vcd};
 
 /// Codes of different nets differ.
 pub fn codes_differ()
@@ -41,4 +43,14 @@ pub fn exact_collectors_stay_exact()
 pub fn whole_waves_are_collected()
     ensures exact { (design : Design) → IsExactFor design (record { waves = whole_waves design; horizon = design.horizon }) }
     ensures complete { (design : Design) → IsComplete (record { waves = whole_waves design; horizon = design.horizon }) }
+{}
+
+/// The text of all nets is that of the design. And where a design is a part of another, with the names and the levels of some of its
+/// nets, nets that are chosen from the part have the text there that they have in the whole.
+pub fn chosen_nets_have_their_text()
+    ensures all { (design : Design) → vcd_of design (range_with_len 0 (nets_of design)) ≡ vcd design }
+    ensures part { (design part : Design) (nets chosen : List ℕ) → part.horizon ≡ design.horizon
+        → ((net : ℕ) → net < length nets → name_of part.netlist net ≡ name_of design.netlist (slice_index nets net))
+        → ((net tick : ℕ) → net < length nets → value part net tick ≡ value design (slice_index nets net) tick)
+        → All (λ net. net < length nets) chosen → vcd_of part chosen ≡ vcd_of design (map (slice_index nets) chosen) }
 {}
