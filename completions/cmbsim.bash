@@ -10,12 +10,12 @@ _cmbsim() {
         --mode) mapfile -t COMPREPLY < <(compgen -W "rounds free plain" -- "$current") ;;
         --init) mapfile -t COMPREPLY < <(compgen -W "0 1 x" -- "$current") ;;
         --delays | --stimuli | --clocks) mapfile -t COMPREPLY < <(compgen -f -- "$current") ;;
-        --horizon | --clock | --workers | --clusters) COMPREPLY=() ;;
+        --horizon | --clock | --threads | --workers | --clusters) COMPREPLY=() ;;
         explain) mapfile -t COMPREPLY < <(compgen -W "$(echo {1..8} {20..37} 40 53 54 {60..62} 70)" -- "$current") ;;
         help) mapfile -t COMPREPLY < <(compgen -W "run check explain" -- "$current") ;;
         *)
             local options="--horizon --clock --init --delays --stimuli --clocks --explain --help"
-            [ "${COMP_WORDS[1]}" = check ] || options+=" --mode --workers --clusters"
+            [ "${COMP_WORDS[1]}" = check ] || options+=" --mode --threads --workers --clusters"
             mapfile -t COMPREPLY < <(compgen -W "$options" -- "$current")
             ;;
     esac

@@ -87,6 +87,8 @@ for expected in "$examples"/*/expected.vcd; do
     example "$name" default
     example "$name" rounds --mode rounds --workers 3 --clusters 5
     example "$name" free --mode free --workers 3 --clusters 5
+    example "$name" threads --threads 3
+    example "$name" free_threads --mode free --threads 64
 done
 version=$(sed -n 's/^\.TH CMBSIM 1 "" "\(cmbsim [0-9.]*\)".*/\1/p' docs/cmbsim.1)
 answered version "$version"$'\n' --version
@@ -101,6 +103,8 @@ refused horizon_of_0 2 run --horizon 0
 refused no_horizon 2 run --mode rounds
 refused no_such_mode 2 run --horizon 10 --mode slow
 refused too_many_workers 2 run --horizon 10 --workers 65
+refused too_many_threads 2 run --horizon 10 --threads 65
+refused threads_and_workers 2 run --horizon 10 --threads 2 --workers 2
 refused clock_of_another_form 1 run --horizon 10 --clock 2-4
 refused period_of_0 1 run --horizon 10 --clock 2:0
 refused missing_file 1 run --horizon 10 --stimuli missing.csv
@@ -162,6 +166,7 @@ for name in aes128 sha256; do
     real "$name"
     real "$name" --mode rounds --workers 2 --clusters 2
     real "$name" --mode free
+    real "$name" --threads 4
     real "$name" --mode free --workers 2 --clusters 2
 done
 echo "$passed passed, $failed failed"

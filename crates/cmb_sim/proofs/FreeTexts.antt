@@ -8,8 +8,9 @@ use Rattle.cmb_stream.specs.Streams.{IsBrokenOff}
 use Rattle.cmb_stream.specs.declared.fault.StreamFault.{StreamFault}
 use Rattle.cmb_stream.specs.declared.fault.StreamFault.TheVariants as stream_fault
 use Rattle.cmb_sim.specs.Numbers.{run_as_fault, stream_as_fault}
-use Rattle.cmb_sim.specs.Simulation.{output}
+use Rattle.cmb_sim.specs.Simulation.{IsFree, output}
 use Rattle.cmb_sim.specs.Stages.{CanRun, IsUnwritten}
+use Rattle.cmb_sim.specs.declared.mode.Mode.{Mode}
 use Rattle.cmb_sim.specs.declared.mode.Mode.TheVariants.{Free}
 
 pub IsUnwritten-cut : (workers clusters : ℕ) (design : Design) (old new : Option (List ℕ)) (before after : ℕ) (f : RunFault)
@@ -19,7 +20,7 @@ IsUnwritten-cut workers clusters design old new before after (Incomplete net upt
 IsUnwritten-cut workers clusters design old new before after (Write n) runs h = (runs, h.short, h.begun, h.failed)
 IsUnwritten-cut workers clusters design old new before after Memory runs h = inr (runs, tt, h.0, h.1)
 
-pub IsUnwritten-broken : (workers clusters : ℕ) (design : Design) (old new : Option (List ℕ)) (before after : ℕ) (f : StreamFault)
-    → CanRun (Free workers clusters) design → IsBrokenOff design old new before after f → IsUnwritten (Free workers clusters) design (output old new before after) (stream_as_fault f)
-IsUnwritten-broken workers clusters design old new before after (stream_fault.Write n) runs h = (runs, h.short, h.begun, h.failed)
-IsUnwritten-broken workers clusters design old new before after stream_fault.Memory runs h = inr (runs, tt, h.0, h.1)
+pub IsUnwritten-broken : (mode : Mode) (design : Design) (old new : Option (List ℕ)) (before after : ℕ) (f : StreamFault)
+    → CanRun mode design → IsFree mode → IsBrokenOff design old new before after f → IsUnwritten mode design (output old new before after) (stream_as_fault f)
+IsUnwritten-broken mode design old new before after (stream_fault.Write n) runs free h = (runs, h.short, h.begun, h.failed)
+IsUnwritten-broken mode design old new before after stream_fault.Memory runs free h = inr (runs, free, h.0, h.1)

@@ -19,7 +19,7 @@ use Rattle.cmb_sim.specs.Sources.{IsTooLong, IsWhole}
 use Rattle.cmb_sim.specs.declared.fault.Fault.{Fault}
 use Rattle.cmb_sim.specs.declared.fault.Fault.TheVariants as fault
 use Rattle.cmb_sim.specs.declared.mode.Mode.{Mode}
-use Rattle.cmb_sim.specs.declared.mode.Mode.TheVariants.{Plain, Rounds, Free}
+use Rattle.cmb_sim.specs.declared.mode.Mode.TheVariants.{Plain, Rounds, Free, Shared, SharedFree}
 use Rattle.cmb_sim.specs.declared.simulation.Report.{Report}
 
 -- ---- the texts
@@ -38,26 +38,33 @@ design_in texts settings netlist =
     (table_rows stimulus_row_of (table_records texts.stimuli))
     (table_rows clock_row_of (table_records texts.clocks))
 
--- what a mode can run: by a table of all levels, at most 16,777,216 of them; by clusters, all
+-- what a mode can run: by a table of all levels, at most 16,777,216 of them; by clusters or by threads that share the work, all
 abbrev pub mode_checks : Mode → Design → List Check
 mode_checks Plain design = check TableTooLarge (nat_lt 16777216 (cells_of design)) ∷ []
 mode_checks (Rounds workers clusters) design = []
 mode_checks (Free workers clusters) design = []
+mode_checks (Shared threads) design = []
+mode_checks (SharedFree threads) design = []
 
--- how many clusters and workers a mode asks for
+-- how many clusters and workers a mode asks for: threads that share the work are workers
 abbrev pub clusters_of : Mode → ℕ
 clusters_of Plain = 1
 clusters_of (Rounds workers clusters) = clusters
 clusters_of (Free workers clusters) = clusters
+clusters_of (Shared threads) = 1
+clusters_of (SharedFree threads) = 1
 
 abbrev pub workers_of : Mode → ℕ
 workers_of Plain = 1
 workers_of (Rounds workers clusters) = workers
 workers_of (Free workers clusters) = workers
+workers_of (Shared threads) = threads
+workers_of (SharedFree threads) = threads
 
 -- the text is written while the run goes on
 abbrev pub IsFree : Mode → Type 0
 IsFree (Free workers clusters) = ⊤
+IsFree (SharedFree threads) = ⊤
 IsFree _ = ⊥
 
 -- there can be so many clusters, or workers

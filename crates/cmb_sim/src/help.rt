@@ -58,9 +58,11 @@ pub const CLOCKS: &str = "Table of when single flip-flops sample, in the place o
 
 pub const MODE: &str = "How the run is made: rounds, free or plain [default: rounds]";
 
-pub const WORKERS: &str = "Threads in the modes rounds and free, 1 to 64 [default: 1]";
+pub const THREADS: &str = "Threads that share the work as it pays, 1 to 64 [default: 1]";
 
-pub const PARTS: &str = "Clusters of nets that the threads share out, 1 to 64 [default: 1]";
+pub const WORKERS: &str = "Or: workers with nets of their own, 1 to 64 [default: 1]";
+
+pub const PARTS: &str = "Clusters of nets that workers share out, 1 to 64 [default: 1]";
 
 /// What stands below the options: the files, the modes, the statuses and a line to begin with.
 pub const FILES: &str = "\
@@ -90,6 +92,8 @@ Modes; each writes the same text:
     rounds  threads carry their clusters on by changes, and hand over what is new after each round
     free    threads run freely, and promise one another up to which tick a net doesn't change
     plain   one thread fills a table with a place for each net and tick, at most 16,777,216
+With --threads, in modes rounds and free, one thread carries all nets on and others make the text;
+in mode free it is written meanwhile. --workers and --clusters say instead who has which nets.
 A worker without a cluster gets no thread: give at least as many --clusters as --workers.
 
 Status 0: the text was written. Status 2: the command line is wrong.

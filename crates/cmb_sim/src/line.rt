@@ -7,7 +7,7 @@ use crate::clock::clock_of;
 use crate::explaining::{explain_command, explain_fault, explain_message};
 use crate::help::{
     ABOUT, BEGIN, CHECK, CLOCK, CLOCKS, DELAYS, EXPLAIN_FAULT, FILES, HORIZON, INIT, MODE,
-    NETLIST_HINT, PARTS, RUN, STIMULI, USUAL, VERSION, WORKERS,
+    NETLIST_HINT, PARTS, RUN, STIMULI, THREADS, USUAL, VERSION, WORKERS,
 };
 use crate::mode::Mode;
 use clap::builder::ValueParser;
@@ -117,10 +117,19 @@ fn with_settings<'a>(alloc: Global, command: Command<'a>) -> Result<Command<'a>,
         .arg(flag(alloc, "explain", EXPLAIN_FAULT))
 }
 
+// How many threads share the work, where nobody says who has which nets.
+fn threads_option<'a>(alloc: Global) -> Result<Arg<'a>, AllocError> {
+    option(alloc, "threads", "N", THREADS)
+        .value_parser(ValueParser::unsigned(1, 64))
+        .conflicts_with("workers")?
+        .conflicts_with("clusters")
+}
+
 // How it is run.
 fn with_mode<'a>(alloc: Global, command: Command<'a>) -> Result<Command<'a>, AllocError> {
     command
         .arg(choice(alloc, "mode", "MODE", MODE, MODES.as_slice()))?
+        .arg(threads_option(alloc)?)?
         .arg(option(alloc, "workers", "W", WORKERS).value_parser(ValueParser::unsigned(1, 64)))?
         .arg(option(alloc, "clusters", "K", PARTS).value_parser(ValueParser::unsigned(1, 64)))
 }
@@ -188,7 +197,7 @@ fn horizon_of(matches: &ArgMatches<'_>) -> Result<u32, LineFault>
     }
 }
 
-// How many workers or clusters there are, 1 where the line doesn't say.
+// How many threads, workers or clusters there are, 1 where the line doesn't say.
 fn parts_of(matches: &ArgMatches<'_>, name: &str) -> Result<u32, LineFault>
     ensures { IfOk result (λ n. (1 ≤ n) × (n ≤ 64)) }
 {
@@ -198,10 +207,25 @@ fn parts_of(matches: &ArgMatches<'_>, name: &str) -> Result<u32, LineFault>
     }
 }
 
+// How the design is run where threads share the work.
+fn shared_mode(matches: &ArgMatches<'_>) -> Result<Mode, LineFault>
+    ensures { IfOk result IsLawful }
+{
+    let threads = parts_of(matches, "threads")?;
+    match matches.get_str("mode") {
+        Some("plain") => Ok(Mode::Plain),
+        Some("free") => Ok(Mode::SharedFree { threads }),
+        _ => Ok(Mode::Shared { threads }),
+    }
+}
+
 // How the design is run.
 fn mode_of(matches: &ArgMatches<'_>) -> Result<Mode, LineFault>
     ensures { IfOk result IsLawful }
 {
+    if matches.get_str("threads").is_some() {
+        return shared_mode(matches);
+    }
     let workers = parts_of(matches, "workers")?;
     let clusters = parts_of(matches, "clusters")?;
     match matches.get_str("mode") {
@@ -280,7 +304,7 @@ fn line_in(alloc: Global, matches: &ArgMatches<'_>) -> Result<Line, LineFault>
 }
 
 /// Reads the words after the program's name: `run` or `check`, and its options. The horizon of a line is 1 to 1,000,000 ticks,
-/// and it has 1 to 64 workers and clusters. Errors: `Help` where the words ask for help, the version or the explanation of a
+/// and it has 1 to 64 threads, or workers and clusters. Errors: `Help` where the words ask for help, the version or the explanation of a
 /// fault, `Wrong` where they aren't a line of the program, `Clock` where only the value of `--clock` has another form, and `Memory`.
 pub fn read_line(alloc: Global, words: &[String]) -> Result<Line, LineFault>
     ensures horizon { IfOk result (λ line. (1 ≤ line.settings.horizon) × (line.settings.horizon ≤ 1000000)) }

@@ -14,6 +14,7 @@ use cmb_design::{Design, plain_waves};
 use cmb_links::Workers;
 use cmb_run::{Collector, OpenGate, Sink, run_free_text, run_rounds, vcd_text, write_whole};
 use cmb_stream::{stream_text, write_stream};
+use cmb_team::{team_text, write_team};
 use std::alloc::Global;
 use std::sync::Wait;
 use std::thread::Threads;
@@ -147,6 +148,40 @@ fn write_free<R: AllocGlobal + Threads + Wait + Sync, O: Sink>(
     write_by_workers(rt, workers, clusters, design, out)
 }
 
+// The text of a design, by so many threads at most.
+fn shared_text<R: AllocGlobal + Threads + Wait + Sync>(
+    rt: &R,
+    threads: u32,
+    design: &Design,
+) -> Result<Vec<u8>, Fault>
+    ensures text { IfOk result (λ text. text.items ≡ vcd design.now) }
+    ensures fits { OnOk result (CanRun (Mode.Shared threads) design.now) }
+    ensures fault { IfErr result (IsUnrun (Mode.Shared threads) design.now) }
+{
+    let _lawful = workers_of(threads)?;
+    let text = team_text(rt, rt.alloc(), design, threads)?;
+    Ok(text)
+}
+
+// Writes the text of a design while it is made, by so many threads at most, and gives its length.
+fn write_shared<R: AllocGlobal + Threads + Wait + Sync, O: Sink>(
+    rt: &R,
+    threads: u32,
+    design: &Design,
+    out: &mut O,
+) -> Result<u64, Fault>
+    requires room { O.failures out.old < 2 ^ 64 - 1 }
+    ensures length { IfOk result (λ written. written ≡ length (vcd design.now)) }
+    ensures text { OnOk result (Appends (O.taken out.old) (O.taken out.new) (vcd design.now)) }
+    ensures no_failure { OnOk result (O.failures out.new ≡ O.failures out.old) }
+    ensures fits { OnOk result (CanRun (Mode.SharedFree threads) design.now) }
+    ensures fault { IfErr result (IsUnwritten (Mode.SharedFree threads) design.now (output (O.taken out.old) (O.taken out.new) (O.failures out.old) (O.failures out.new))) }
+{
+    let _lawful = workers_of(threads)?;
+    let written = write_team(rt, rt.alloc(), design, threads, out)?;
+    Ok(written)
+}
+
 // Writes the text of a design, and gives its length.
 pub(crate) fn write_by<R: AllocGlobal + Threads + Wait + Sync, O: Sink>(
     rt: &R,
@@ -165,6 +200,8 @@ pub(crate) fn write_by<R: AllocGlobal + Threads + Wait + Sync, O: Sink>(
         Mode::Plain => plain_text(rt.alloc(), design)?,
         Mode::Rounds { workers, clusters } => rounds_text(rt, workers, clusters, design)?,
         Mode::Free { workers, clusters } => return write_free(rt, workers, clusters, design, out),
+        Mode::Shared { threads } => shared_text(rt, threads, design)?,
+        Mode::SharedFree { threads } => return write_shared(rt, threads, design, out),
     };
     match write_whole(out, text.as_slice()) {
         Ok(()) => Ok(text.len() as u64),

@@ -96,8 +96,9 @@ pub fn text_of(alloc: Global, references: &str, body: &str) -> Result<String, Al
     Ok(text)
 }
 
-/// All modes, with one worker and with more, and with each net in a cluster of its own and empty clusters besides.
-pub const MODES: [Mode; 10] = [
+/// All modes, with one worker and with more, with each net in a cluster of its own and empty clusters besides, and by
+/// threads that share the work.
+pub const MODES: [Mode; 14] = [
     Mode::Plain,
     Mode::Rounds {
         workers: 1,
@@ -135,6 +136,10 @@ pub const MODES: [Mode; 10] = [
         workers: 64,
         clusters: 64,
     },
+    Mode::Shared { threads: 1 },
+    Mode::Shared { threads: 3 },
+    Mode::SharedFree { threads: 2 },
+    Mode::SharedFree { threads: 64 },
 ];
 
 /// Simulates over memory, and gives the answer and what was written.

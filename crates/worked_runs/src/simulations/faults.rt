@@ -71,6 +71,11 @@ fn refused_numbers(rt: HostRuntime) -> Result<(), Fail> {
         refuses_in(&rt, inverter(), mode, number, 0)?;
         refuses_in(&rt, toggle(), mode, 22, 0)?;
     }
+    for threads in [0, 65] {
+        refuses_in(&rt, inverter(), Mode::Shared { threads }, 54, 0)?;
+        refuses_in(&rt, inverter(), Mode::SharedFree { threads }, 54, 0)?;
+        refuses_in(&rt, toggle(), Mode::SharedFree { threads }, 22, 0)?;
+    }
     Ok(())
 }
 

@@ -27,6 +27,13 @@ fn command_line(rt: HostRuntime) -> Result<(), Fail> {
         ("run --horizon 10 --workers 65", LineFault::Wrong),
         ("run --horizon 10 --clusters 0", LineFault::Wrong),
         ("run --horizon 10 --clusters 65", LineFault::Wrong),
+        ("run --horizon 10 --threads 0", LineFault::Wrong),
+        ("run --horizon 10 --threads 65", LineFault::Wrong),
+        ("run --horizon 10 --threads 2 --workers 2", LineFault::Wrong),
+        (
+            "run --horizon 10 --clusters 1 --threads 2",
+            LineFault::Wrong,
+        ),
         ("run --horizon 10 --mode plain --init y", LineFault::Wrong),
         (
             "run --horizon 10 --mode plain --clock 2-4",
@@ -133,6 +140,26 @@ fn modes_of_lines(rt: HostRuntime) -> Result<(), Fail> {
     Ok(())
 }
 
+#[test]
+fn threads_of_lines(rt: HostRuntime) -> Result<(), Fail> {
+    let alloc = rt.alloc();
+    for (line, mode) in [
+        ("run --horizon 10 --threads 1", Mode::Shared { threads: 1 }),
+        (
+            "run --horizon 10 --mode free --threads 64",
+            Mode::SharedFree { threads: 64 },
+        ),
+        ("run --horizon 10 --threads 4 --mode plain", Mode::Plain),
+    ] {
+        let words = words(alloc, line)?;
+        match read_line(alloc, words.as_slice()) {
+            Ok(line) => assert_eq!(rt; line.mode, mode),
+            Err(_) => assert!(rt; false, "{line} is refused"),
+        }
+    }
+    Ok(())
+}
+
 fn message_of(alloc: Global, line: &str) -> Result<String, AllocError> {
     let words = words(alloc, line)?;
     line_message(alloc, words.as_slice())
@@ -232,6 +259,7 @@ fn help_has_each_option(rt: HostRuntime) -> Result<(), Fail> {
         "--stimuli <FILE>",
         "--clocks <FILE>",
         "--mode <MODE>",
+        "--threads <N>",
         "--workers <W>",
         "--clusters <K>",
     ] {

@@ -1,4 +1,5 @@
 use Rattle.std.proofs.lemmas.Result.{err_from_is_err_and}
+use Rattle.cmb_sim.specs.declared.mode.Mode.TheVariants.{Free}
 use Rattle.cmb_sim.proofs.FreeTexts.{IsUnwritten-broken}
 use Rattle.cmb_sim.proofs.RoundRuns.{no_checks}
 use Rattle.cmb_sim.proofs.running.write_free.Goals as goal
@@ -7,7 +8,7 @@ pub returns-in_err-written-clause-fault : goal.returns-in_err-written-clause-fau
 returns-in_err-written-clause-fault g c =
     let p = err_from_is_err_and c.from_residual.result c.from_residual.ensures.1 in
     let lawful = c.has_one_worker.ensures c.if-has_one_worker.true in
-    rw (p.1, p.2) (IsUnwritten-broken c.args.workers c.args.clusters c.args.design.now _ _ _ _ _ (record { fits = no_checks; clusters = lawful.0; workers = lawful.1 }) c.in_err-written.ensures.fault)
+    rw (p.1, p.2) (IsUnwritten-broken (Free c.args.workers c.args.clusters) c.args.design.now _ _ _ _ _ (record { fits = no_checks; clusters = lawful.0; workers = lawful.1 }) tt c.in_err-written.ensures.fault)
 
 pub returns-then-has_one_worker-clause-fits : goal.returns-then-has_one_worker-clause-fits
 returns-then-has_one_worker-clause-fits g c =
