@@ -19,6 +19,8 @@ pub mod OpenedFacts
 pub mod ReadFacts
 pub mod ReaderFacts
 pub mod Worlds
+pub mod OnwardFacts
+pub mod OwnWaves
 pub mod OwnFacts
 pub mod ExactFacts
 pub mod Homes

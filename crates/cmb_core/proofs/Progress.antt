@@ -80,7 +80,7 @@ pins_reach-at_least design clock net most pin tick (operand ∷ operands) all wi
     omega (arith, all.0, delay-positive design net pin, pins_reach-at_least design clock net most (suc pin) tick operands all.1 within)
 
 -- where all that is read is known up to a tick, a process reaches a tick more
-driver_reach-at_least : (design : Design) (clock : ℕ → ℕ) (net tick : ℕ) (driver : Driver) → AllByRecursion (λ m. tick ≤ clock m) (pins_of driver) → suc tick ≤ design.horizon → suc tick ≤ driver_reach design clock net driver
+pub driver_reach-at_least : (design : Design) (clock : ℕ → ℕ) (net tick : ℕ) (driver : Driver) → AllByRecursion (λ m. tick ≤ clock m) (pins_of driver) → suc tick ≤ design.horizon → suc tick ≤ driver_reach design clock net driver
 driver_reach-at_least design clock net tick Input all within = within
 driver_reach-at_least design clock net tick (Gate kind operands) all within = pins_reach-at_least design clock net design.horizon 1 tick operands all within
 driver_reach-at_least design clock net tick (Flop source) all within =

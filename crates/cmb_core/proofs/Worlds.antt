@@ -35,7 +35,7 @@ use Rattle.cmb_core.proofs.Steps.{wave_at-net, wave_at-exact, IsKept-at_zero, st
 
 -- ---- a wave put in its place among waves
 
-abbrev has_wave : List Wave → ℕ → Bool
+abbrev pub has_wave : List Wave → ℕ → Bool
 has_wave waves net = list_any (λ wave. eqb wave.net net) waves
 
 -- the clusters have their waves
@@ -44,7 +44,7 @@ pub record HasWaves (design : Design) (clustering : Clustering) (world : World) 
   pub outs : (net : ℕ) → net < nets_of design → has_wave (waves_of world (cluster_of clustering net)) net ≡ true
   pub ins : (cluster net : ℕ) → cluster < clustering.clusters → net < nets_of design → has_input design clustering cluster net ≡ true → has_wave (waves_of world cluster) net ≡ true
 
-wave_at-with_same : (waves : List Wave) (wave : Wave) → has_wave waves wave.net ≡ true → wave_at (with_wave waves wave) wave.net ≡ wave
+pub wave_at-with_same : (waves : List Wave) (wave : Wave) → has_wave waves wave.net ≡ true → wave_at (with_wave waves wave) wave.net ≡ wave
 wave_at-with_same [] wave has = cc
 wave_at-with_same (first ∷ waves) wave has = go (eqb first.net wave.net) refl (wave_at-with_same waves wave) has
   where
@@ -52,7 +52,7 @@ wave_at-with_same (first ∷ waves) wave has = go (eqb first.net wave.net) refl 
     go true e rest h = let same : eqb wave.net wave.net ≡ true = eq-eqb wave.net wave.net refl in rw same
     go false e rest h = rw e (rest h)
 
-wave_at-with_other : (waves : List Wave) (wave : Wave) (other : ℕ) → (other ≡ wave.net → ⊥) → wave_at (with_wave waves wave) other ≡ wave_at waves other
+pub wave_at-with_other : (waves : List Wave) (wave : Wave) (other : ℕ) → (other ≡ wave.net → ⊥) → wave_at (with_wave waves wave) other ≡ wave_at waves other
 wave_at-with_other [] wave other ne = refl
 wave_at-with_other (first ∷ waves) wave other ne = go (eqb first.net wave.net) refl (wave_at-with_other waves wave other ne)
   where
@@ -64,7 +64,7 @@ wave_at-with_other (first ∷ waves) wave other ne = go (eqb first.net wave.net)
         rw (a, b)
     go false e rest = ap (λ (w : Wave). cond (eqb first.net other) first w) rest
 
-has_wave-with : (waves : List Wave) (wave : Wave) (net : ℕ) → has_wave (with_wave waves wave) net ≡ has_wave waves net
+pub has_wave-with : (waves : List Wave) (wave : Wave) (net : ℕ) → has_wave (with_wave waves wave) net ≡ has_wave waves net
 has_wave-with [] wave net = refl
 has_wave-with (first ∷ waves) wave net = go (eqb first.net wave.net) refl (has_wave-with waves wave net)
   where
@@ -79,7 +79,7 @@ all-with P (first ∷ waves) wave p all =
 
 -- ---- a wave put in its place in a world
 
-has_input-not_own : (design : Design) (clustering : Clustering) (cluster net : ℕ) → has_input design clustering cluster net ≡ true → cluster_of clustering net ≡ cluster → ⊥
+pub has_input-not_own : (design : Design) (clustering : Clustering) (cluster net : ℕ) → has_input design clustering cluster net ≡ true → cluster_of clustering net ≡ cluster → ⊥
 unfolding has_input
 has_input-not_own design clustering cluster net reads same = go (eqb (cluster_of clustering net) cluster) (eq-eqb _ _ same) (and_parts _ _ reads).0
   where

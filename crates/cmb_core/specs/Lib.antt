@@ -6,6 +6,7 @@ pub mod Deliveries
 pub mod Exactness
 pub mod Faults
 pub mod Rows
+pub mod Onward
 pub mod Opened
 pub mod Opening
 pub mod Spans

@@ -143,6 +143,7 @@ impl Clustering {
         ensures count { result ≡ self.now.clusters }
         ensures some { 1 ≤ self.now.clusters }
         ensures few { self.now.clusters ≤ 64 }
+        ensures lawful { IsClustering (length self.now.assign) self.now }
     {
         self.clusters
     }

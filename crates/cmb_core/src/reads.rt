@@ -1,6 +1,6 @@
 //! What a cluster answers of its waves as they stand.
 
-ghost use Rattle.std.specs.Prelude.{◌≡◌, ◌<◌, ◌≤◌, ◌==◌, ◌&&◌, not, ℕ, IfOk, IfSome, map, length, Some};
+ghost use Rattle.std.specs.Prelude.{◌≡◌, ◌<◌, ◌≤◌, ◌==◌, ◌&&◌, not, ℕ, true, IfOk, IfSome, map, length, Some};
 ghost use Rattle.std.specs.List.{AllByRecursion, list_all};
 ghost use Rattle.cmb_wave.specs.Calls.{cut, promised};
 ghost use Rattle.cmb_design.specs.Design.{Design};
@@ -8,7 +8,7 @@ ghost use Rattle.cmb_design.specs.Exact.{IsExactIn, IsExactWaveIn, IsRightIn};
 ghost use Rattle.cmb_core.specs.Clustering.{Clustering as Clusters};
 ghost use Rattle.cmb_core.specs.Clusters.{IsDrivenHere, driven_waves, inputs_of, input_slot, is_complete, output_slot, outputs_of, told_at};
 ghost use Rattle.cmb_core.specs.Exactness.{IsExactCluster};
-ghost use Rattle.cmb_core.specs.Opened.{IsClusterOf, own_nets, read_nets};
+ghost use Rattle.cmb_core.specs.Opened.{IsClusterOf, IsOwnNet, own_nets, read_nets};
 ghost use Rattle.cmb_core.specs.Rows.{is_given};
 ghost use Rattle.cmb_core.specs.Step.{wave_at};
 
@@ -119,15 +119,17 @@ impl Cluster {
 
     /// Whether every net that is driven here is known up to the horizon.
     pub fn complete(&self) -> bool
-        ensures { result ≡ is_complete self.now }
+        ensures complete { result ≡ is_complete self.now }
+        ensures known { (design : Design) (clustering : Clusters) (cluster net : ℕ) → IsClusterOf design clustering cluster self.now → IsOwnNet design clustering cluster net → result ≡ true → (wave_at self.now.waves net).clock ≡ design.horizon }
     {
         all_known(&self.processes, &self.waves, self.horizon)
     }
 
     /// All waves of the cluster, given up: those of the nets that are driven here, and those that it was
-    /// given. Copies no change.
+    /// given. Copies no change. Of a net that is driven here nothing was forgotten.
     pub fn into_waves(self) -> Vec<Wave>
         ensures waves { result.items ≡ self.waves }
+        ensures whole { (design : Design) (clustering : Clusters) (cluster net : ℕ) → IsClusterOf design clustering cluster self → IsOwnNet design clustering cluster net → (wave_at self.waves net).base ≡ 0 }
         ensures exact { (design : Design) (clustering : Clusters) (cluster : ℕ) → IsExactCluster design clustering cluster self → AllByRecursion (IsExactWaveIn design) result.items }
     {
         let Cluster { waves, .. } = self;

@@ -1,0 +1,51 @@
+-- The waves of the nets that a cluster drives.
+use Rattle.std.proofs.Common.{◌≡◌, ℕ, zero, suc, ◌<◌, Bool, true, false, not, ◌&&◌, cond, eqb, List, [], ◌∷◌, length, get_or, Option, Some, None, IsSome, refl, sym, ◌∙◌, ap, arith}
+use Rattle.std.specs.List.{list_all}
+use Rattle.std.proofs.lemmas.Bool.{and_parts, eqb-true, eq-eqb}
+use Rattle.cmb_wave.specs.Wave.{Wave, new_wave}
+use Rattle.cmb_design.specs.Design.{Design}
+use Rattle.cmb_core.specs.declared.process.Rule.TheVariants.{Given}
+use Rattle.cmb_core.specs.Clustering.{Clustering}
+use Rattle.cmb_core.specs.Clusters.{Cluster, IsSound, driven_waves, is_complete, process_at, slot_wave}
+use Rattle.cmb_core.specs.Opened.{IsClusterOf, IsOwnNet, is_own}
+use Rattle.cmb_core.specs.Rows.{Process, is_given, slot_of}
+use Rattle.cmb_core.specs.Step.{wave_at}
+use Rattle.cmb_core.proofs.Slots.{slot_is}
+use Rattle.cmb_core.proofs.OwnFacts.{own_placed, given_here}
+
+-- what all driven waves pass the one in a place does
+driven_passes : (test : Wave → Bool) (processes : List Process) (waves : List Wave) (i : ℕ) (p : Process) (w : Wave) → i < length processes → i < length waves
+    → is_given (get_or processes i p).rule ≡ false → list_all test (driven_waves processes waves) ≡ true → test (get_or waves i w) ≡ true
+driven_passes test [] waves i p w h k own all = absurd (omega arith)
+driven_passes test (q ∷ processes) [] i p w h k own all = absurd (omega arith)
+driven_passes test (q ∷ processes) (v ∷ waves) zero p w h k own all = let all' : list_all test (v ∷ driven_waves processes waves) ≡ true = rw own at all in (and_parts _ _ all').0
+driven_passes test (q ∷ processes) (v ∷ waves) (suc i) p w h k own all = driven_passes test processes waves i p w (omega arith) (omega arith) own (rest (is_given q.rule) all)
+  where
+    rest : (b : Bool) → list_all test (cond b (driven_waves processes waves) (v ∷ driven_waves processes waves)) ≡ true → list_all test (driven_waves processes waves) ≡ true
+    rest true e = e
+    rest false e = (and_parts _ _ e).1
+
+module _ (design : Design) (clustering : Clustering) (cluster : ℕ) (s : Cluster) (of : IsClusterOf design clustering cluster s) (paired : length s.waves ≡ length s.processes) (net : ℕ) (own : IsOwnNet design clustering cluster net) where
+  -- the wave of one of its own nets stands in a place that isn't given
+  pub own_wave : (slot : ℕ) × (slot < length s.waves) × (slot_wave s slot ≡ wave_at s.waves net) × (is_given (process_at s slot).rule ≡ false)
+  own_wave = go (slot_of s.waves net) refl (own_placed design clustering cluster s of net own)
+    where
+      go : (o : Option ℕ) → slot_of s.waves net ≡ o → IsSome o → (slot : ℕ) × (slot < length s.waves) × (slot_wave s slot ≡ wave_at s.waves net) × (is_given (process_at s slot).rule ≡ false)
+      go None e h = cc
+      go (Some slot) e h =
+          let wave = slot_is s.waves net slot (new_wave 0) e in
+          let test : is_own clustering cluster net ≡ true = eq-eqb _ _ own.own in
+          (slot, wave.0, wave.1, given_here design clustering cluster s of net slot e ∙ ap not test)
+
+  pub own_known : is_complete s ≡ true → (wave_at s.waves net).clock ≡ design.horizon
+  own_known all =
+      let here = own_wave in
+      let inside : here.0 < length s.processes = omega (arith, here.1, paired) in
+      let known : (slot_wave s here.0).clock ≡ s.horizon = eqb-true _ _ (driven_passes (λ wave. eqb wave.clock s.horizon) s.processes s.waves here.0 _ _ inside here.1 here.3 all) in
+      sym (ap (λ (w : Wave). w.clock) here.2) ∙ known ∙ of.horizon
+
+  pub own_whole : IsSound s → (wave_at s.waves net).base ≡ 0
+  own_whole sound =
+      let here = own_wave in
+      let inside : here.0 < length s.processes = omega (arith, here.1, paired) in
+      sym (ap (λ (w : Wave). w.base) here.2) ∙ sound.whole here.0 inside here.3
