@@ -1,9 +1,9 @@
 //! A run's collector, exact in the run's design by its type.
 
-ghost use Rattle.std.specs.Prelude.{◌≡◌, Ok, Err, OnOk};
+ghost use Rattle.std.specs.Prelude.{◌≡◌, ◌≤◌, ℕ, Ok, Err, OnOk};
 ghost use Rattle.std.specs.List.{AllByRecursion};
 ghost use Rattle.cmb_design.specs.Exact.{IsExactWaveIn};
-ghost use Rattle.cmb_vcd.specs.Collector.{Collector as CollectorOf, IsExactFor, collected};
+ghost use Rattle.cmb_vcd.specs.Collector.{Collector as CollectorOf, IsExactFor, collected, wave_of};
 ghost use Rattle.cmb_vcd.specs.declared.fault.CollectFault.{CollectFault as Refusal};
 
 use crate::part::Posted;
@@ -58,6 +58,8 @@ impl<T: Terms> Collected<T> {
     /// Takes waves over, where nothing of them was forgotten.
     pub fn adopt_all(&mut self, mut waves: Vec<Wave>)
         requires { AllByRecursion (IsExactWaveIn T.design) waves.items }
+        ensures keeps { (net : ℕ) → (wave_of self.old.waves net).clock ≤ (wave_of self.new.waves net).clock }
+        ensures given { AllByRecursion (λ wave. wave.base ≡ 0 → wave.clock ≤ (wave_of self.new.waves wave.net).clock) waves.items }
     {
         while let Some(wave) = waves.pop() {
             self.adopt(wave);
@@ -67,6 +69,8 @@ impl<T: Terms> Collected<T> {
     // Takes a wave over, where nothing of it was forgotten.
     fn adopt(&mut self, wave: Wave)
         requires { IsExactWaveIn T.design wave }
+        ensures keeps { (net : ℕ) → (wave_of self.old.waves net).clock ≤ (wave_of self.new.waves net).clock }
+        ensures given { wave.base ≡ 0 → wave.clock ≤ (wave_of self.new.waves wave.net).clock }
     {
         if wave.base() == 0 {
             self.collector.adopt(wave);

@@ -1,28 +1,41 @@
-//! What a worker of a run has in its hands.
+//! What a worker of a run in rounds has in its hands.
 
-ghost use Rattle.std.specs.Prelude.{◌≡◌, ◌<◌, length};
+ghost use Rattle.std.specs.Prelude.{◌≡◌, ◌<◌, ◌≤◌, ◌↔◌, ℕ, false, true, length, map, IfOk, IfSome, IsSome, OnOk};
+ghost use Rattle.cmb_bench.specs.Netlist.{IsNetlist};
+ghost use Rattle.cmb_wave.specs.Wave.{cut_of, new_wave};
 ghost use Rattle.cmb_design.specs.Exact.{nets_of};
+ghost use Rattle.cmb_core.specs.Clustering.{has_input};
+ghost use Rattle.cmb_core.specs.Clusters.{IsDrivenHere, IsSameButWaves, input_slot, told_at};
+ghost use Rattle.cmb_core.specs.Onward.{GoesOn};
+ghost use Rattle.cmb_core.specs.Opened.{IsClusterOf, IsOwnNet, held_nets, read_nets};
+ghost use Rattle.cmb_core.specs.Step.{wave_at};
+ghost use Rattle.cmb_vcd.specs.Collector.{wave_of};
+ghost use Rattle.cmb_run.specs.Rounds.{HasWorked, IsPassed};
 
 use crate::collected::Collected;
 use crate::gauge::Gauge;
-use crate::outlet::Outlet;
 use crate::part::{Part, Posted};
 use crate::terms::Terms;
 use cmb_core::Clustering;
 use cmb_design::Design;
 use std::alloc::{AllocError, Global};
-use std::mem::replace;
+use std::marker::Model;
 
-/// A worker's cluster, what was posted of it, and how the worker stands.
+/// A worker's cluster, and how the worker stands.
 #[derive(Drop)]
 pub struct Hand<T: Terms> {
     part: Part<T>,
-    outlets: Vec<Outlet>,
-    posted: Vec<Posted<T>>,
     gauge: Gauge,
     load: usize,
-    complete: bool,
     refused: bool,
+}
+
+impl<T: Terms> Model for Hand<T> {
+    ghost use Rattle.cmb_run.specs.Rounds.{Hand};
+
+    ghost Value = { Hand };
+
+    ghost view = { λ h. record { cluster = h.part; refused = h.refused } };
 }
 
 impl<T: Terms> Hand<T> {
@@ -37,55 +50,45 @@ impl<T: Terms> Hand<T> {
         requires clustering { clustering.now ≡ T.clustering }
         requires nets { length clustering.now.assign ≡ nets_of design.now }
         requires worker { worker < clustering.now.clusters }
+        ensures of { IfOk result (λ hand. IsClusterOf T.design T.clustering worker hand.cluster) }
+        ensures new { IfOk result (λ hand. hand.cluster.waves ≡ map new_wave (held_nets design.now clustering.now worker)) }
     {
         let part = Part::open(alloc, design, clustering, worker)?;
         let gauge = Gauge::open(alloc, &part)?;
         Ok(Hand {
             part,
-            outlets: Vec::new(alloc),
-            posted: Vec::new(alloc),
             gauge,
             load: usize::MAX,
-            complete: false,
             refused: false,
         })
     }
 
     /// A worker's part of a round. Where it meets want of memory it notes so, and stops.
-    pub fn work(&mut self) {
+    pub fn work(&mut self)
+        ensures { HasWorked T.design T.clustering self.old self.new }
+    {
         self.refused = self.step().is_err();
     }
 
-    // Steps the cluster, and posts what is new to those that read it.
-    fn step(&mut self) -> Result<(), AllocError> {
-        if self.complete {
+    // Steps each net of the cluster once, unless all are known to their end.
+    fn step(&mut self) -> Result<(), AllocError>
+        ensures same { IsSameButWaves self.old.cluster self.new.cluster }
+        ensures on { (worker : ℕ) → IsNetlist T.design.netlist → IsClusterOf T.design T.clustering worker self.old.cluster → OnOk result (GoesOn T.design T.clustering worker self.old.cluster.waves self.new.cluster.waves) }
+    {
+        self.load = 0;
+        if self.part.complete() {
             return Ok(());
         }
         if self.part.step()? {
-            self.post_all()?;
             self.load = self.gauge.read(&self.part);
-        } else {
-            self.load = 0;
-            self.complete = self.part.complete();
         }
         Ok(())
     }
 
-    // Posts what is new. Nothing comes of a net any more once it is known to its end.
-    fn post_all(&mut self) -> Result<(), AllocError> {
-        for outlet in self.outlets.iter_mut() {
-            if let Some(new) = self.part.post(outlet.net, outlet.sent)? {
-                outlet.sent = new.piece().to();
-                self.posted.push(new)?;
-            }
-        }
-        let horizon = self.part.horizon();
-        self.outlets.retain(|outlet| outlet.sent < horizon);
-        Ok(())
-    }
-
-    /// Whether the worker met want of memory.
-    pub fn refused(&self) -> bool {
+    /// Whether the worker met want of memory in its last round.
+    pub fn refused(&self) -> bool
+        ensures { result ≡ self.now.refused }
+    {
         self.refused
     }
 
@@ -95,47 +98,48 @@ impl<T: Terms> Hand<T> {
         self.load
     }
 
-    /// What was posted and not yet taken.
-    pub fn take_posted(&mut self, alloc: Global) -> Vec<Posted<T>> {
-        replace(&mut self.posted, Vec::new(alloc))
+    /// The nets that the worker reads and doesn't drive, by rising number.
+    pub fn inputs(&self) -> &[u32]
+        ensures { (worker : ℕ) → IsClusterOf T.design T.clustering worker self.now.cluster → result.now ≡ read_nets T.design T.clustering worker }
+    {
+        self.part.inputs()
+    }
+
+    /// How far such a net is known to the worker, None of any other.
+    pub fn in_clock(&self, net: u32) -> Option<u32>
+        ensures { result ≡ told_at (λ wave. wave.clock) self.now.cluster net (input_slot self.now.cluster net) }
+    {
+        self.part.in_clock(net)
+    }
+
+    /// The piece of a net from a tick up to its clock, none where it isn't known further or isn't driven here.
+    pub fn post(&self, net: u32, from: u32) -> Result<Option<Posted<T>>, AllocError>
+        ensures cut { IfOk result (λ posted. IfSome posted (λ piece. piece ≡ cut_of (wave_at self.now.cluster.waves net) from)) }
+        ensures new { IfOk result (λ posted. IsSome posted ↔ (IsDrivenHere self.now.cluster net × (from < (wave_at self.now.cluster.waves net).clock))) }
+    {
+        self.part.post(net, from)
     }
 
     /// Gives a piece to the cluster.
-    pub fn deliver(&mut self, posted: &Posted<T>) -> Result<(), AllocError> {
+    pub fn deliver(&mut self, posted: &Posted<T>) -> Result<(), AllocError>
+        ensures passed { IsSome (input_slot self.old.cluster posted.now.net) → posted.now.from ≤ (wave_at self.old.cluster.waves posted.now.net).clock → (wave_at self.old.cluster.waves posted.now.net).clock < posted.now.to → OnOk result (IsPassed posted.now.net posted.now.to self.old.cluster.waves self.new.cluster.waves) }
+        ensures same { IsSameButWaves self.old.cluster self.new.cluster }
+    {
         self.part.deliver(posted)
     }
 
-    /// Notes the worker as a reader of each net that its cluster is given.
-    pub fn add_reader(&self, worker: usize, readers: &mut [Vec<usize>]) -> Result<(), AllocError> {
-        for net in self.part.inputs() {
-            if let Some(workers) = readers.get_mut(*net as usize) {
-                workers.push(worker)?;
-            }
-        }
-        Ok(())
-    }
-
-    /// Notes which of the cluster's nets others read.
-    pub fn connect(&mut self, readers: &[Vec<usize>]) -> Result<(), AllocError> {
-        for net in self.part.driven() {
-            if readers
-                .get(*net as usize)
-                .is_some_and(|workers| !workers.is_empty())
-            {
-                self.outlets.push(Outlet { net: *net, sent: 0 })?;
-            }
-        }
-        Ok(())
-    }
-
-    /// Gives the waves of the cluster to what is collected.
-    pub fn hand_over(self, collected: &mut Collected<T>) {
+    /// Gives the waves of the cluster to what is collected, which then knows each net that is driven here as far.
+    pub fn hand_over(self, collected: &mut Collected<T>)
+        ensures keeps { (net : ℕ) → (wave_of collected.old.waves net).clock ≤ (wave_of collected.new.waves net).clock }
+        ensures given { (worker net : ℕ) → IsClusterOf T.design T.clustering worker self.cluster → IsOwnNet T.design T.clustering worker net → (wave_at self.cluster.waves net).clock ≤ (wave_of collected.new.waves net).clock }
+    {
         collected.adopt_all(self.part.into_waves());
     }
 
-    /// Whether the worker has nothing more to do: in its last round no clock rose, and all its nets were
-    /// known up to the horizon.
-    pub fn complete(&self) -> bool {
-        self.complete
+    /// Whether each net that is driven here is known up to the horizon.
+    pub fn complete(&self) -> bool
+        ensures { (worker net : ℕ) → IsClusterOf T.design T.clustering worker self.now.cluster → IsOwnNet T.design T.clustering worker net → result ≡ true → (wave_at self.now.cluster.waves net).clock ≡ T.design.horizon }
+    {
+        self.part.complete()
     }
 }

@@ -1,17 +1,18 @@
 //! What a run's workers hold and hand on: all of it is exact in the run's design, by its type.
 
-ghost use Rattle.std.specs.Prelude.{◌≡◌, ◌<◌, ◌↔◌, ℕ, length, map, IfOk, IfSome, IsSome, OnOk, Ok, Err};
+ghost use Rattle.std.specs.Prelude.{◌≡◌, ◌<◌, ◌↔◌, ◌≤◌, ℕ, true, length, map, IfOk, IfSome, IsSome, OnOk, Ok, Err};
 ghost use Rattle.cmb_wave.specs.Calls.{heard_wave, promised};
 ghost use Rattle.cmb_wave.specs.Wave.{Wave as WaveOf, cut_of, new_wave};
 ghost use Rattle.cmb_wave.specs.declared.level.Heard.{Heard as Hearing};
 ghost use Rattle.std.specs.List.{AllByRecursion};
 ghost use Rattle.cmb_design.specs.Exact.{IsExactIn, IsExactWaveIn, IsRightIn, nets_of};
-ghost use Rattle.cmb_core.specs.Clusters.{IsDrivenHere, IsSameButWaves, delivered, heard_at, input_slot, inputs_of, is_complete, outputs_of};
-ghost use Rattle.cmb_core.specs.Opened.{IsClusterOf, held_nets, own_nets};
-ghost use Rattle.cmb_core.specs.Sweep.{some_rises};
+ghost use Rattle.cmb_core.specs.Clusters.{IsDrivenHere, IsSameButWaves, delivered, heard_at, input_slot, inputs_of, is_complete, outputs_of, told_at};
+ghost use Rattle.cmb_core.specs.Opened.{IsClusterOf, IsOwnNet, held_nets, own_nets, read_nets};
+ghost use Rattle.cmb_core.specs.Sweep.{some_rises, stepped_waves};
 ghost use Rattle.cmb_core.specs.Step.{wave_at};
 ghost use Rattle.cmb_core.specs.World.{with_wave};
 ghost use Rattle.cmb_core.specs.declared.delivery.DeliverFault.{DeliverFault as Refusal};
+ghost use Rattle.cmb_run.specs.Rounds.{IsPassed};
 
 use crate::terms::Terms;
 use cmb_core::{Cluster, Clustering, DeliverFault};
@@ -101,7 +102,8 @@ impl<T: Terms> Part<T> {
         requires clustering { clustering.now ≡ T.clustering }
         requires nets { length clustering.now.assign ≡ nets_of design.now }
         requires number { number < clustering.now.clusters }
-        ensures { IfOk result (λ part. part.waves ≡ map new_wave (held_nets design.now clustering.now number)) }
+        ensures new { IfOk result (λ part. part.waves ≡ map new_wave (held_nets design.now clustering.now number)) }
+        ensures of { IfOk result (λ part. IsClusterOf T.design T.clustering number part) }
     {
         let cluster = Cluster::open(alloc, design, clustering, number)?;
         Ok(Part {
@@ -122,6 +124,7 @@ impl<T: Terms> Part<T> {
     /// were given as nets are read, what nobody needs any more is forgotten.
     pub fn step(&mut self) -> Result<bool, AllocError>
         ensures rose { (cluster : ℕ) → IsClusterOf T.design T.clustering cluster self.old → IfOk result (λ rose. rose ≡ some_rises T.design self.old.waves (own_nets T.design T.clustering cluster)) }
+        ensures clocks { (cluster net : ℕ) → IsClusterOf T.design T.clustering cluster self.old → OnOk result ((wave_at self.new.waves net).clock ≡ (wave_at (stepped_waves T.design self.old.waves (own_nets T.design T.clustering cluster)) net).clock) }
         ensures same { IsSameButWaves self.old self.new }
     {
         let rose = self.cluster.step_all()?;
@@ -153,6 +156,7 @@ impl<T: Terms> Part<T> {
     pub fn deliver(&mut self, posted: &Posted<T>) -> Result<(), AllocError>
         ensures taken { (wave : WaveOf) → delivered self.old posted.now ≡ Ok wave → OnOk result (self.new.waves ≡ with_wave self.old.waves wave) }
         ensures refused { (fault : Refusal) → delivered self.old posted.now ≡ Err fault → self.new ≡ self.old }
+        ensures passed { IsSome (input_slot self.old posted.now.net) → posted.now.from ≤ (wave_at self.old.waves posted.now.net).clock → (wave_at self.old.waves posted.now.net).clock < posted.now.to → OnOk result (IsPassed posted.now.net posted.now.to self.old.waves self.new.waves) }
         ensures same { IsSameButWaves self.old self.new }
     {
         self.given = self.given.saturating_add(1);
@@ -198,14 +202,23 @@ impl<T: Terms> Part<T> {
 
     /// The other nets that they read, by rising number.
     pub fn inputs(&self) -> &[u32]
-        ensures { result.now ≡ map (λ wave. wave.net) (inputs_of self.now) }
+        ensures nets { result.now ≡ map (λ wave. wave.net) (inputs_of self.now) }
+        ensures read { (cluster : ℕ) → IsClusterOf T.design T.clustering cluster self.now → result.now ≡ read_nets T.design T.clustering cluster }
     {
         self.cluster.inputs()
     }
 
+    /// How far an input wave is known, None where there is none of the net.
+    pub fn in_clock(&self, net: u32) -> Option<u32>
+        ensures { result ≡ told_at (λ wave. wave.clock) self.now net (input_slot self.now net) }
+    {
+        self.cluster.in_clock(net)
+    }
+
     /// Whether every net that is driven here is known up to the horizon.
     pub fn complete(&self) -> bool
-        ensures { result ≡ is_complete self.now }
+        ensures complete { result ≡ is_complete self.now }
+        ensures known { (cluster net : ℕ) → IsClusterOf T.design T.clustering cluster self.now → IsOwnNet T.design T.clustering cluster net → result ≡ true → (wave_at self.now.waves net).clock ≡ T.design.horizon }
     {
         self.cluster.complete()
     }
@@ -213,6 +226,7 @@ impl<T: Terms> Part<T> {
     /// The waves of the nets that are driven here and of the others that they read, given up.
     pub fn into_waves(self) -> Vec<Wave>
         ensures waves { result.items ≡ self.waves }
+        ensures whole { (cluster net : ℕ) → IsClusterOf T.design T.clustering cluster self → IsOwnNet T.design T.clustering cluster net → (wave_at self.waves net).base ≡ 0 }
         ensures exact { AllByRecursion (IsExactWaveIn T.design) result.items }
     {
         self.cluster.into_waves()

@@ -1,14 +1,17 @@
 //! A run in rounds: the workers step their clusters, each in a thread of its own where that is worth it,
-//! and between two rounds what they posted is passed on.
+//! and between two rounds each is given what is new of the nets that it reads.
 
-ghost use Rattle.std.specs.Prelude.{◌≡◌, length, IfOk, IfErr};
+ghost use Rattle.std.specs.Prelude.{◌≡◌, ◌≤◌, ◌<◌, ℕ, suc, true, length, IfOk, IfErr, OnOk};
+ghost use Rattle.std.specs.List.{list_any};
 ghost use Rattle.cmb_design.specs.Exact.{nets_of};
-ghost use Rattle.cmb_vcd.specs.Collector.{IsComplete, IsExactFor};
+ghost use Rattle.cmb_core.specs.Clustering.{cluster_of, has_input};
+ghost use Rattle.cmb_core.specs.Onward.{GoesOn};
+ghost use Rattle.cmb_vcd.specs.Collector.{IsComplete, IsExactFor, wave_of};
+ghost use Rattle.cmb_run.specs.Rounds.{AreComplete, AreHandsOf, AreKnownTo, HasWorked, IsExchanged, IsPassedOn, IsServed, hand_at, known_at_home};
 ghost use Rattle.cmb_run.specs.declared.run_fault.RunFault.TheVariants.{Memory};
 
 use crate::collected::Collected;
 use crate::hand::Hand;
-use crate::part::Posted;
 use crate::run_fault::RunFault;
 use crate::terms::Terms;
 use cmb_core::Clustering;
@@ -17,18 +20,11 @@ use cmb_links::Workers;
 use cmb_vcd::Collector;
 use std::alloc::{AllocError, Global};
 use std::marker::Brand;
-use std::sync::Wait;
 use std::thread;
 use std::thread::Threads;
 
 // A thread is started and joined in about the time of so many looks at a net. This is an estimate.
 const THREAD: usize = 1_000;
-
-// Where a piece of a net goes: the workers that read the net.
-#[derive(Drop)]
-struct Routes {
-    readers: Vec<Vec<usize>>,
-}
 
 // A cluster for each worker.
 fn deal<T: Terms>(
@@ -39,7 +35,10 @@ fn deal<T: Terms>(
     requires design { design.now ≡ T.design }
     requires clustering { clustering.now ≡ T.clustering }
     requires nets { length clustering.now.assign ≡ nets_of design.now }
+    ensures { IfOk result (λ hands. AreHandsOf T.design T.clustering hands.items) }
 {
+    // What every netlist keeps is told by the contract of its length.
+    let _nets = design.netlist().len();
     let count = clustering.clusters();
     let mut hands = Vec::with_capacity(alloc, count as usize)?;
     for worker in 0..count {
@@ -61,155 +60,162 @@ fn is_worth_threads<T: Terms>(hands: &[Hand<T>]) -> bool {
     beside > hands.len().saturating_sub(1).saturating_mul(THREAD)
 }
 
-// The round's steps, one worker's after the other's.
-fn here<T: Terms>(hands: &mut [Hand<T>]) {
-    for hand in hands {
-        hand.work();
+// In how many threads a round is done soonest: one for each worker, or the calling one alone.
+fn threads_for<T: Terms>(hands: &[Hand<T>]) -> usize
+    ensures { 0 < result }
+{
+    if is_worth_threads(hands) {
+        hands.len().max(1)
+    } else {
+        1
     }
 }
 
-// The round's steps, each worker's in a thread of its own where one can be had.
-fn in_threads<T: Terms + Send + Sync, R: Threads + Sync>(rt: &R, hands: &mut [Hand<T>]) {
-    let threads = hands.len().max(1);
+// The workers' parts of a round, in at most so many threads.
+fn work_all<T: Terms + Send + Sync, R: Threads + Sync>(
+    rt: &R,
+    hands: &mut [Hand<T>],
+    threads: usize,
+)
+    requires { 0 < threads }
+    ensures count { length hands.new ≡ length hands.old }
+    ensures each { (worker : ℕ) → worker < length hands.old → HasWorked T.design T.clustering (hand_at hands.old worker) (hand_at hands.new worker) }
+{
     thread::for_each_mut(rt, hands, threads, &|_, hand| hand.work());
+}
+
+// Whether one of them met want of memory.
+fn some_refused<T: Terms>(hands: &[Hand<T>]) -> bool
+    ensures { result ≡ list_any (λ hand. hand.refused) hands.now }
+{
+    hands.iter().any(|hand| hand.refused())
 }
 
 // The round's steps.
 fn step<T: Terms + Send + Sync, R: Threads + Sync>(
     rt: &R,
     hands: &mut [Hand<T>],
-) -> Result<(), AllocError> {
-    if is_worth_threads(hands) {
-        in_threads(rt, hands);
-    } else {
-        here(hands);
-    }
-    if hands.iter().any(|hand| hand.refused()) {
+) -> Result<(), AllocError>
+    requires { AreHandsOf T.design T.clustering hands.old }
+    ensures kept { OnOk result (AreHandsOf T.design T.clustering hands.new) }
+    ensures on { OnOk result ((worker : ℕ) → worker < T.clustering.clusters → GoesOn T.design T.clustering worker (hand_at hands.old worker).cluster.waves (hand_at hands.new worker).cluster.waves) }
+{
+    let threads = threads_for(hands);
+    work_all(rt, hands, threads);
+    if some_refused(hands) {
         return Err(AllocError);
     }
     Ok(())
 }
 
-// No readers for each of so many nets.
-fn no_readers(alloc: Global, nets: usize) -> Result<Vec<Vec<usize>>, AllocError> {
-    let mut readers = Vec::with_capacity(alloc, nets)?;
-    for _ in 0..nets {
-        readers.push(Vec::new(alloc))?;
-    }
-    Ok(readers)
-}
-
-impl Routes {
-    // The readers of each net, by what the clusters are given.
-    fn open<T: Terms>(alloc: Global, nets: usize, hands: &[Hand<T>]) -> Result<Routes, AllocError> {
-        let mut readers = no_readers(alloc, nets)?;
-        for (worker, hand) in hands.iter().enumerate() {
-            hand.add_reader(worker, &mut readers)?;
-        }
-        Ok(Routes { readers })
-    }
-
-    // Gives a piece to each worker that reads its net.
-    fn deliver<T: Terms>(
-        &self,
-        hands: &mut [Hand<T>],
-        posted: &Posted<T>,
-    ) -> Result<(), AllocError> {
-        let Some(workers) = self.readers.get(posted.piece().net() as usize) else {
-            return Ok(());
-        };
-        for worker in workers {
-            if let Some(hand) = hands.get_mut(*worker) {
-                hand.deliver(posted)?;
-            }
-        }
-        Ok(())
-    }
-
-    // Passes on what a worker posted.
-    fn deliver_all<T: Terms>(
-        &self,
-        hands: &mut [Hand<T>],
-        posted: &[Posted<T>],
-    ) -> Result<(), AllocError> {
-        for one in posted {
-            self.deliver(hands, one)?;
-        }
-        Ok(())
-    }
-
-    // Passes on what all workers posted.
-    fn pass_on<T: Terms>(&self, alloc: Global, hands: &mut [Hand<T>]) -> Result<(), AllocError> {
-        for worker in 0..hands.len() {
-            let posted = match hands.get_mut(worker) {
-                Some(hand) => hand.take_posted(alloc),
-                None => return Ok(()),
-            };
-            self.deliver_all(hands, &posted)?;
-        }
-        Ok(())
-    }
-}
-
-// The routes between the workers, each of whom now knows which of its nets others read.
-fn connected<T: Terms>(
-    alloc: Global,
-    nets: usize,
+// Gives a worker what is new of a net that it reads, by the worker that drives the net.
+fn pass_net<T: Terms>(
     hands: &mut [Hand<T>],
-) -> Result<Routes, AllocError> {
-    let routes = Routes::open(alloc, nets, hands)?;
-    for hand in hands {
-        hand.connect(&routes.readers)?;
+    home: usize,
+    reader: usize,
+    net: u32,
+) -> Result<(), AllocError>
+    requires hands { AreHandsOf T.design T.clustering hands.old }
+    requires home { home ≡ cluster_of T.clustering net }
+    requires reader { reader < T.clustering.clusters }
+    requires reads { has_input T.design T.clustering reader net ≡ true }
+    ensures kept { OnOk result (AreHandsOf T.design T.clustering hands.new) }
+    ensures passed { OnOk result (IsPassedOn T.clustering reader net hands.old hands.new) }
+{
+    let Some(known) = hands[reader].in_clock(net) else {
+        return Ok(());
+    };
+    match hands[home].post(net, known)? {
+        Some(new) => hands[reader].deliver(&new),
+        None => Ok(()),
     }
-    Ok(routes)
 }
 
-// A round: the steps, and then what was posted is passed on.
+// Gives a worker what is new of all nets that it reads.
+fn pass_to<T: Terms>(
+    clustering: &Clustering,
+    hands: &mut [Hand<T>],
+    reader: usize,
+) -> Result<(), AllocError>
+    requires clustering { clustering.now ≡ T.clustering }
+    requires hands { AreHandsOf T.design T.clustering hands.old }
+    requires reader { reader < T.clustering.clusters }
+    ensures kept { OnOk result (AreHandsOf T.design T.clustering hands.new) }
+    ensures served { OnOk result (IsServed T.design T.clustering reader hands.old hands.new) }
+{
+    for place in 0..hands[reader].inputs().len() {
+        let net = hands[reader].inputs()[place];
+        pass_net(hands, clustering.of(net) as usize, reader, net)?;
+    }
+    Ok(())
+}
+
+// Gives each worker what is new of the nets that it reads.
+fn pass_on<T: Terms>(clustering: &Clustering, hands: &mut [Hand<T>]) -> Result<(), AllocError>
+    requires clustering { clustering.now ≡ T.clustering }
+    requires hands { AreHandsOf T.design T.clustering hands.old }
+    ensures kept { OnOk result (AreHandsOf T.design T.clustering hands.new) }
+    ensures exchanged { OnOk result (IsExchanged T.design T.clustering hands.new) }
+    ensures homes { OnOk result ((net : ℕ) → known_at_home T.clustering hands.new net ≡ known_at_home T.clustering hands.old net) }
+{
+    for reader in 0..hands.len() {
+        pass_to(clustering, hands, reader)?;
+    }
+    Ok(())
+}
+
+// A round: the steps, and then the exchange. It brings every clock on by a tick at least.
 fn round<T: Terms + Send + Sync, R: Threads + Sync>(
     rt: &R,
-    alloc: Global,
-    routes: &Routes,
+    clustering: &Clustering,
     hands: &mut [Hand<T>],
-) -> Result<(), AllocError> {
+) -> Result<(), AllocError>
+    requires clustering { clustering.now ≡ T.clustering }
+    requires hands { AreHandsOf T.design T.clustering hands.old }
+    ensures kept { OnOk result (AreHandsOf T.design T.clustering hands.new) }
+    ensures further { (tick : ℕ) → AreKnownTo T.design T.clustering tick hands.old → suc tick ≤ T.design.horizon → OnOk result (AreKnownTo T.design T.clustering (suc tick) hands.new) }
+{
     step(rt, hands)?;
-    routes.pass_on(alloc, hands)
+    pass_on(clustering, hands)
 }
 
-// Rounds by new workers until each of them is complete.
-fn all_rounds<T: Terms + Send + Sync, R: Threads + Wait + Sync>(
+// Whether each net is known up to the horizon where it is driven.
+fn all_complete<T: Terms>(hands: &[Hand<T>]) -> bool
+    requires { AreHandsOf T.design T.clustering hands.now }
+    ensures { result ≡ true → AreComplete T.design T.clustering hands.now }
+{
+    for hand in hands {
+        if !hand.complete() {
+            return false;
+        }
+    }
+    true
+}
+
+// Rounds by new workers until all is known. There are no more of them than ticks.
+fn all_rounds<T: Terms + Send + Sync, R: Threads + Sync>(
     rt: &R,
-    alloc: Global,
     design: &Design,
+    clustering: &Clustering,
     hands: &mut [Hand<T>],
-) -> Result<(), AllocError> {
-    let routes = connected(alloc, design.netlist().len(), hands)?;
-    for _ in rt.forever() {
-        round(rt, alloc, &routes, hands)?;
-        if hands.iter().all(|hand| hand.complete()) {
+) -> Result<(), AllocError>
+    requires design { design.now ≡ T.design }
+    requires clustering { clustering.now ≡ T.clustering }
+    requires hands { AreHandsOf T.design T.clustering hands.old }
+    ensures kept { OnOk result (AreHandsOf T.design T.clustering hands.new) }
+    ensures complete { OnOk result (AreComplete T.design T.clustering hands.new) }
+{
+    for _tick in 0..design.horizon() {
+        round(rt, clustering, hands)?;
+        if all_complete(hands) {
             return Ok(());
         }
     }
-    unreachable!()
+    Ok(())
 }
 
-// What the clusters know of all nets.
-fn collect<T: Terms>(
-    alloc: Global,
-    design: &Design,
-    hands: Vec<Hand<T>>,
-) -> Result<Collector, AllocError>
-    requires { design.now ≡ T.design }
-    ensures { IfOk result (λ collector. IsExactFor design.now collector) }
-{
-    let mut collected = Collected::open(alloc, design)?;
-    for hand in hands {
-        hand.hand_over(&mut collected);
-    }
-    Ok(collected.into_collector())
-}
-
-// The workers of the clusters, once each of them is complete.
-fn worked<T: Terms + Send + Sync, R: Threads + Wait + Sync>(
+// The workers of the clusters, once all is known.
+fn worked<T: Terms + Send + Sync, R: Threads + Sync>(
     rt: &R,
     alloc: Global,
     design: &Design,
@@ -218,28 +224,44 @@ fn worked<T: Terms + Send + Sync, R: Threads + Wait + Sync>(
     requires design { design.now ≡ T.design }
     requires clustering { clustering.now ≡ T.clustering }
     requires nets { length clustering.now.assign ≡ nets_of design.now }
+    ensures kept { IfOk result (λ hands. AreHandsOf T.design T.clustering hands.items) }
+    ensures complete { IfOk result (λ hands. AreComplete T.design T.clustering hands.items) }
 {
     let mut hands = deal::<T>(alloc, design, clustering)?;
-    all_rounds(rt, alloc, design, &mut hands)?;
+    all_rounds(rt, design, clustering, &mut hands)?;
     Ok(hands)
 }
 
-// A run's collector. Every net is driven in one of the clusters, so it is complete; no contract says so,
-// and for one that isn't this would never return.
-fn whole<R: Wait>(rt: &R, collector: Collector) -> Collector
-    ensures same { result ≡ collector }
-    ensures complete { IsComplete result }
+// Gives the waves of all clusters to what is collected.
+fn hand_over_all<T: Terms>(mut hands: Vec<Hand<T>>, collected: &mut Collected<T>)
+    requires hands { AreHandsOf T.design T.clustering hands.items }
+    requires known { AreComplete T.design T.clustering hands.items }
+    ensures { (net : ℕ) → net < nets_of T.design → T.design.horizon ≤ (wave_of collected.new.waves net).clock }
 {
-    for _ in rt.forever() {
-        if collector.complete() {
-            return collector;
-        }
+    while let Some(hand) = hands.pop() {
+        hand.hand_over(collected);
     }
-    unreachable!()
+}
+
+// What the clusters know of all nets.
+fn collect<T: Terms>(
+    alloc: Global,
+    design: &Design,
+    hands: Vec<Hand<T>>,
+) -> Result<Collector, AllocError>
+    requires design { design.now ≡ T.design }
+    requires hands { AreHandsOf T.design T.clustering hands.items }
+    requires known { AreComplete T.design T.clustering hands.items }
+    ensures exact { IfOk result (λ collector. IsExactFor design.now collector) }
+    ensures complete { IfOk result (λ collector. IsComplete collector) }
+{
+    let mut collected = Collected::open(alloc, design)?;
+    hand_over_all(hands, &mut collected);
+    Ok(collected.into_collector())
 }
 
 // The run of the design by one worker for each cluster of the clustering that T names.
-fn run_named<T: Terms + Send + Sync, R: Threads + Wait + Sync>(
+fn run_named<T: Terms + Send + Sync, R: Threads + Sync>(
     rt: &R,
     alloc: Global,
     design: &Design,
@@ -252,19 +274,19 @@ fn run_named<T: Terms + Send + Sync, R: Threads + Wait + Sync>(
     ensures complete { IfOk result (λ collector. IsComplete collector) }
 {
     let hands = worked::<T, R>(rt, alloc, design, clustering)?;
-    let collector = collect(alloc, design, hands)?;
-    Ok(whole(rt, collector))
+    collect(alloc, design, hands)
 }
 
 /// Simulates a design in rounds and collects the waves of all its nets, up to the horizon. The nets
 /// of cluster c belong to worker `c mod workers`, which treats all its nets as one cluster; a worker
 /// whose number isn't below that of the clusters has none, and no part in the run. In each round
-/// every net is stepped once; then what is new is posted to the workers that read it. Where there are several, and a round has enough to do that
-/// threads are worth their start, each steps its nets in a thread of its own, one of them in the calling
-/// thread, and all are joined before pieces are passed on; else, and where a thread is refused, they step one
-/// after the other. What comes out is the same for any clustering and any number of workers. The only refusal
-/// is 70, where memory was refused.
-pub fn run_rounds<R: Threads + Wait + Sync>(
+/// every net is stepped once; then each worker is given what is new of the nets that it reads. Where there are
+/// several workers, and a round has enough to do that threads are worth their start, each steps its nets in a thread
+/// of its own, one of them in the calling thread, and all are joined before pieces are passed on; else, and where a
+/// thread is refused, they step one after the other. What comes out is the same for any clustering and any number of
+/// workers. There are no more rounds than ticks below the horizon: each brings every clock on by a tick at least. So
+/// the call ends, and without the bound `Wait`. The only refusal is 70, where memory was refused.
+pub fn run_rounds<R: Threads + Sync>(
     rt: &R,
     alloc: Global,
     design: &Design,

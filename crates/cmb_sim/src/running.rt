@@ -59,7 +59,7 @@ fn workers_of(workers: u32) -> Result<Workers, Fault>
 }
 
 // The text of a design, by rounds of several workers.
-fn workers_text<R: AllocGlobal + Threads + Wait + Sync>(
+fn workers_text<R: AllocGlobal + Threads + Sync>(
     rt: &R,
     workers: u32,
     clusters: u32,
@@ -84,7 +84,7 @@ fn has_one_worker(workers: u32, clusters: u32) -> bool
 }
 
 // The text of a design, by rounds of workers: by the engine where one worker has all nets.
-fn rounds_text<R: AllocGlobal + Threads + Wait + Sync>(
+fn rounds_text<R: AllocGlobal + Threads + Sync>(
     rt: &R,
     workers: u32,
     clusters: u32,
