@@ -7,7 +7,6 @@ use Rattle.cmb_vcd.specs.Chosen.{chosen_from}
 use Rattle.cmb_vcd.specs.Vcd.{part_text}
 use Rattle.cmb_words.specs.declared.changed.Changed.{Changed}
 use Rattle.cmb_dump.specs.declared.tail.Tail.{Tail}
-use Rattle.cmb_dump.specs.Buckets.{Filled}
 use Rattle.cmb_dump.specs.Ready.{IsReady}
 
 -- nets among so many, by rising number
@@ -45,7 +44,7 @@ picked_of places count (changed ∷ rest) =
     else picked_of places count rest
 
 -- what an excerpt keeps from window to window: the nets' places, and a tail for each
-pub record IsExcerpt (count : ℕ) (nets places : List ℕ) (tails : List Tail) (buckets : List Filled) : Type 0 where
+pub record IsExcerpt (count : ℕ) (nets places : List ℕ) (tails : List Tail) (buckets : List (List ℕ)) : Type 0 where
   pub among : AreAmong count nets
   pub placed : ArePlaces count nets places
   pub ready : IsReady (length nets) tails buckets
