@@ -1,16 +1,16 @@
 -- A step of each net that a cluster drives brings these a tick further than all was known before.
-use Rattle.std.proofs.Common.{◌≡◌, ℕ, zero, suc, ◌+◌, ◌<◌, ◌≤◌, Bool, true, false, ◌||◌, cond, eqb, ltb, List, [], ◌∷◌, ◌⊎◌, inl, inr, map, refl, sym, ◌∙◌, ap, subst, arith}
+use Rattle.std.proofs.Common.{◌≡◌, ℕ, zero, suc, ◌+◌, ◌<◌, ◌≤◌, Bool, true, false, ◌||◌, cond, eqb, ltb, List, [], ◌∷◌, ◌⊎◌, inl, inr, refl, sym, ◌∙◌, ap, subst, arith}
 use Rattle.std.specs.Prelude.{filter}
 use Rattle.std.specs.List.{AllByRecursion, list_any, range_with_len}
-use Rattle.std.proofs.lemmas.Bool.{eq-eqb, eqb-true, eqb-false, ltb-true, ltb-false, or_left, or_right, cases_eq}
+use Rattle.std.proofs.lemmas.Bool.{eq-eqb, eqb-true, ltb-true, ltb-false, or_left, or_right, cases_eq}
 use Rattle.cmb_wave.specs.Wave.{Wave, wave_with_piece}
 use Rattle.cmb_bench.specs.Netlist.{driver_of, pins_of, IsNetlist}
 use Rattle.cmb_design.specs.Design.{Design}
 use Rattle.cmb_design.specs.Exact.{nets_of}
-use Rattle.cmb_core.specs.Clustering.{Clustering, IsClustering, cluster_of, has_input}
+use Rattle.cmb_core.specs.Clustering.{Clustering, cluster_of, has_input}
 use Rattle.cmb_core.specs.Clusters.{Cluster, wave_nets, step_waves}
 use Rattle.cmb_core.specs.Onward.{IsHeldTo, GoesOn}
-use Rattle.cmb_core.specs.Opened.{IsClusterOf, IsOwnNet, is_own, own_nets, held_nets}
+use Rattle.cmb_core.specs.Opened.{IsClusterOf, IsOwnNet, is_own, own_nets}
 use Rattle.cmb_core.specs.Step.{wave_at, told_upto, step_reach, step_piece}
 use Rattle.cmb_core.specs.Sweep.{stepped_waves}
 use Rattle.cmb_core.specs.World.{with_wave}

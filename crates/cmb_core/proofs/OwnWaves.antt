@@ -1,10 +1,9 @@
 -- The waves of the nets that a cluster drives.
-use Rattle.std.proofs.Common.{◌≡◌, ℕ, zero, suc, ◌<◌, Bool, true, false, not, ◌&&◌, cond, eqb, List, [], ◌∷◌, length, get_or, Option, Some, None, IsSome, refl, sym, ◌∙◌, ap, arith}
+use Rattle.std.proofs.Common.{◌≡◌, ℕ, zero, suc, ◌<◌, Bool, true, false, not, cond, eqb, List, [], ◌∷◌, length, get_or, Option, Some, None, IsSome, refl, sym, ◌∙◌, ap, arith}
 use Rattle.std.specs.List.{list_all}
 use Rattle.std.proofs.lemmas.Bool.{and_parts, eqb-true, eq-eqb}
 use Rattle.cmb_wave.specs.Wave.{Wave, new_wave}
 use Rattle.cmb_design.specs.Design.{Design}
-use Rattle.cmb_core.specs.declared.process.Rule.TheVariants.{Given}
 use Rattle.cmb_core.specs.Clustering.{Clustering}
 use Rattle.cmb_core.specs.Clusters.{Cluster, IsSound, driven_waves, is_complete, process_at, slot_wave}
 use Rattle.cmb_core.specs.Opened.{IsClusterOf, IsOwnNet, is_own}

@@ -2,7 +2,6 @@
 use Rattle.std.proofs.Common.{◌≡◌, ℕ, zero, suc, ◌+◌, ◌<◌, ◌≤◌, Bool, true, false, cond, eqb, ltb, leb, List, [], ◌∷◌, ◌++◌, length, get_or, map, Option, Some, None, IsSome, Result, Ok, Err, OnOk, refl, sym, ◌∙◌, ap, subst, arith}
 use Rattle.std.specs.List.{AllByRecursion, range_with_len}
 use Rattle.std.proofs.lemmas.Bool.{le-ltb, lt-leb}
-use Rattle.cmb_wave.specs.declared.wave.WaveFault.TheVariants.{Clash as WaveClash}
 use Rattle.cmb_wave.specs.Waveform.{at_or_after, clash, last_level}
 use Rattle.cmb_wave.specs.Wave.{Piece, Wave, new_wave, wave_with_piece}
 use Rattle.cmb_wave.specs.Calls.{joined, taken}

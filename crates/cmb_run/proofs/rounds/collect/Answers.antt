@@ -1,7 +1,6 @@
 use Rattle.std.proofs.Common.{◌≤◌, ◌<◌, ℕ, sym, subst}
-use Rattle.cmb_design.specs.Design.{Design}
 use Rattle.cmb_design.specs.Exact.{nets_of}
-use Rattle.cmb_vcd.specs.Collector.{Collector, IsExactFor, wave_of}
+use Rattle.cmb_vcd.specs.Collector.{Collector, wave_of}
 use Rattle.cmb_run.proofs.RoundFacts.{complete_at}
 use Rattle.cmb_run.proofs.rounds.collect.Goals as goal
 

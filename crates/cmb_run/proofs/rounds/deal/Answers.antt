@@ -1,4 +1,4 @@
-use Rattle.std.proofs.Common.{◌≡◌, ℕ, length, map, ap, arith, subst, ◌∙◌}
+use Rattle.std.proofs.Common.{◌≡◌, ℕ, map, ap, arith, subst, ◌∙◌}
 use Rattle.cmb_wave.specs.Wave.{new_wave}
 use Rattle.cmb_bench.specs.Netlist.{IsNetlist}
 use Rattle.cmb_design.specs.Design.{Design}

@@ -1,9 +1,7 @@
-use Rattle.std.proofs.Common.{◌≡◌, rules, Ok, subst}
+use Rattle.std.proofs.Common.{rules, subst}
 use Rattle.std.specs.List.{AllByRecursion}
-use Rattle.cmb_wave.specs.Wave.{Wave, wave_with_piece}
 use Rattle.cmb_design.specs.Exact.{IsExactIn, IsExactWaveIn}
-use Rattle.cmb_core.specs.Clusters.{Cluster, delivered}
-use Rattle.cmb_core.specs.Step.{wave_at}
+use Rattle.cmb_core.specs.Clusters.{Cluster}
 use Rattle.cmb_run.proofs.HandFacts.{on_ok, delivers_exact, passes}
 use Rattle.cmb_run.proofs.part.Part.deliver.Goals as goal
 
