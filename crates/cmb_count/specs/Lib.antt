@@ -2,3 +2,4 @@ pub mod Below
 pub mod Parts
 pub mod Largest
 pub mod Counting
+pub mod Texts
