@@ -3,3 +3,4 @@ pub mod Parts
 pub mod Largest
 pub mod Counting
 pub mod Texts
+pub mod Unused

@@ -19,4 +19,5 @@ abbrev pub counts_rows : Counts → List ℕ
 counts_rows counts =
     row counts.nets (codes "nets") ++ (row counts.inputs (codes "inputs")
     ++ (row counts.silent (codes "inputs that are x at all ticks") ++ (gate_rows counts.gates
-    ++ (row counts.flops (codes "flip-flops") ++ row counts.largest_delay (codes "ticks in the largest delay")))))
+    ++ (row counts.flops (codes "flip-flops") ++ (row counts.still (codes "flip-flops that never sample")
+    ++ (row counts.unused (codes "nets that drive nothing and are no outputs") ++ row counts.largest_delay (codes "ticks in the largest delay")))))))

@@ -35,6 +35,12 @@ pub fn counts_text(alloc: Global, counts: &Counts) -> Result<String, AllocError>
     push_row(&mut text, counts.silent, "inputs that are x at all ticks")?;
     push_gates(&mut text, counts.gates)?;
     push_row(&mut text, counts.flops, "flip-flops")?;
+    push_row(&mut text, counts.still, "flip-flops that never sample")?;
+    push_row(
+        &mut text,
+        counts.unused,
+        "nets that drive nothing and are no outputs",
+    )?;
     push_row(
         &mut text,
         counts.largest_delay as usize,
