@@ -12,7 +12,7 @@ program=$(realpath -m "${1:-out/cmbsim}")
 cases=$(mktemp -d)
 faulty=$(mktemp -d)
 report=$(mktemp)
-trap 'rm -rf "$cases" "$faulty" "$report"' EXIT
+trap 'rm -rf "$cases" "$cases.long" "$faulty" "$report"' EXIT
 data=()
 declare -A statuses
 
@@ -293,6 +293,22 @@ told_in_words() {
     fi
 }
 
+# shared WORDS..: a run with so much to write that threads share it, told as it is by one
+shared() {
+    if [ "$(long "$@")" = "$one" ]; then
+        passed=$((passed + 1))
+    else
+        failed=$((failed + 1))
+        echo "end to end: a long run $* FAILED"
+    fi
+}
+
+long() { # long WORDS..: the sum of the text of 600 registers of 16 bits with feedback, some 13 MB
+    local options
+    read -r -a options <"$cases.long/options"
+    "$program" run "${options[@]}" --clocks "$cases.long/clocks.csv" "$@" <"$cases.long/netlist.bench" | cksum
+}
+
 [ -x "$program" ] || echo "end to end: the real designs need a built program, and there is no $program: run make build"
 if scripts/fault_tables.py "$program" --check; then
     passed=$((passed + 1))
@@ -315,6 +331,13 @@ for name in aes128 sha256; do
     real "$name" --mode free
     real "$name" --threads 4
     real "$name" --mode free --workers 2 --clusters 2
+done
+bench/circuits.py write "600 LFSRs of 16" "$cases.long"
+one=$(long)
+shared --mode free
+for threads in 2 4 64; do
+    shared --threads "$threads"
+    shared --mode free --threads "$threads"
 done
 echo "$passed passed, $failed failed"
 [ "$failed" = 0 ]
