@@ -19,7 +19,7 @@ const PART: usize = 65_536;
 const FIRST: usize = 524_288;
 
 // What is left has so many bytes at least, where threads pay for it: an estimate.
-const LEAST: u64 = 6_291_456;
+const LEAST: u64 = 8_388_608;
 
 // So many bytes a tick, where windows are large enough to be told apart: an estimate.
 const DENSE: u64 = 64;
