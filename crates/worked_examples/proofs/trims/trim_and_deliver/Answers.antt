@@ -1,4 +1,4 @@
-use Rattle.std.proofs.Common.{◌≡◌, Ok, Err, Result, IfErr, ap, sym, ◌∙◌, subst}
+use Rattle.std.proofs.Common.{Ok, Err, Result, IfErr, refl, ap, sym, ◌∙◌, subst}
 use Rattle.cmb_wave.specs.Wave.{Wave}
 use Rattle.cmb_core.specs.declared.delivery.DeliverFault.{DeliverFault}
 use Rattle.cmb_core.specs.declared.delivery.DeliverFault.TheVariants.{Stranger, Gap, Old, Clash, Memory}
@@ -12,12 +12,12 @@ if_err (Err e) P Q f h = f e h
 
 -- what is answered alike is refused alike
 refuses : (one other : Result Wave DeliverFault) → AreAlike one other → (fault : DeliverFault) → RefusesDelivery fault other → RefusesDelivery fault one
-refuses (Ok w) (Ok v) t Memory r = tt
+refuses (Ok w) (Ok v) t Memory r = refl
 refuses (Ok w) (Ok v) t Stranger r = absurd (cc)
 refuses (Ok w) (Ok v) t (Gap clock) r = absurd (cc)
 refuses (Ok w) (Ok v) t (Old clock) r = absurd (cc)
 refuses (Ok w) (Ok v) t (Clash tick) r = absurd (cc)
-refuses (Err e) (Err f) t Memory r = absurd r
+refuses (Err e) (Err f) t Memory r = r
 refuses (Err e) (Err f) t Stranger r = ap Err (sym t) ∙ r
 refuses (Err e) (Err f) t (Gap clock) r = ap Err (sym t) ∙ r
 refuses (Err e) (Err f) t (Old clock) r = ap Err (sym t) ∙ r
@@ -29,5 +29,5 @@ pub returns : goal.returns
 returns c = λ design clustering number exact.
     let law = c.trims_change_no_answer.ensures in
     let traces = law.traces design clustering number c.args.cluster.now exact in
-    let less : IsTrimOf c.args.cluster.now c.trim.new.cluster = subst (IsTrimOf c.args.cluster.now) (sym c.trim.ensures.trimmed) (law.trims c.args.cluster.now c.args.cluster.now traces (law.same c.args.cluster.now)) in
-    if_err c.deliver.result _ _ (refuses (delivered c.args.cluster.now c.args.piece.now) (delivered c.trim.new.cluster c.args.piece.now) (law.delivers c.args.cluster.now c.trim.new.cluster c.args.piece.now traces less)) c.deliver.ensures.fault
+    let less : IsTrimOf c.args.cluster.now c.trim.new.self = subst (IsTrimOf c.args.cluster.now) (sym c.trim.ensures.trimmed) (law.trims c.args.cluster.now c.args.cluster.now traces (law.same c.args.cluster.now)) in
+    if_err c.deliver.result _ _ (refuses (delivered c.args.cluster.now c.args.piece.now) (delivered c.trim.new.self c.args.piece.now) (law.delivers c.args.cluster.now c.trim.new.self c.args.piece.now traces less)) c.deliver.ensures.fault

@@ -11,7 +11,7 @@ on_ok (Ok a) P Q f h = f h
 on_ok (Err e) P Q f h = tt
 
 -- the cluster after the trim is the one before, less what it forgot
-trim : (c : After-step) → AreTraces c.args.cluster.now.waves → IsTrimOf c.args.cluster.now c.trim.new.cluster
+trim : (c : After-step) → AreTraces c.args.cluster.now.waves → IsTrimOf c.args.cluster.now c.trim.new.self
 trim c traces =
     let law = c.trims_change_no_answer.ensures in
     subst (IsTrimOf c.args.cluster.now) (sym c.trim.ensures.trimmed) (law.trims c.args.cluster.now c.args.cluster.now traces (law.same c.args.cluster.now))
@@ -22,7 +22,7 @@ returns-clause-answer c = λ design clustering number exact own.
     let traces = law.traces design clustering number c.args.cluster.now exact in
     let of = (c.trim.ensures.exact design clustering number exact).of in
     let P : Option Piece → Type 0 = λ answer. IfOk c.step.result (λ part. part ≡ answer) in
-    subst P (law.steps design clustering number c.args.cluster.now c.trim.new.cluster c.args.net of c.inputs.ensures.sound traces (trim c traces) own)
+    subst P (law.steps design clustering number c.args.cluster.now c.trim.new.self c.args.net of c.inputs.ensures.sound traces (trim c traces) own)
     (c.step.ensures.piece design clustering number of own)
 
 pub returns-clause-after : goal.returns-clause-after
@@ -31,8 +31,8 @@ returns-clause-after c = λ design clustering number exact own.
     let traces = law.traces design clustering number c.args.cluster.now exact in
     let of = (c.trim.ensures.exact design clustering number exact).of in
     let less = trim c traces in
-    let went : AreTrims (step_waves design c.args.cluster.now.waves (wave_at c.args.cluster.now.waves c.args.net)) (step_waves design c.trim.new.cluster.waves (wave_at c.trim.new.cluster.waves c.args.net)) =
-    law.stepped design clustering number c.args.cluster.now c.trim.new.cluster c.args.net of c.inputs.ensures.sound traces less own
+    let went : AreTrims (step_waves design c.args.cluster.now.waves (wave_at c.args.cluster.now.waves c.args.net)) (step_waves design c.trim.new.self.waves (wave_at c.trim.new.self.waves c.args.net)) =
+    law.stepped design clustering number c.args.cluster.now c.trim.new.self c.args.net of c.inputs.ensures.sound traces less own
     in
     on_ok c.step.result _ _ (λ waves. record {
       horizon = c.step.ensures.same.horizon ∙ less.horizon;
