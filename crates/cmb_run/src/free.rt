@@ -4,6 +4,7 @@ mod collect;
 mod crew;
 mod desk;
 mod ends;
+mod idle;
 pub mod run;
 mod teller;
 pub mod text_run;

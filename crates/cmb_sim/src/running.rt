@@ -76,14 +76,26 @@ fn workers_text<R: AllocGlobal + Threads + Wait + Sync>(
     Ok(text)
 }
 
-// Whether one worker has all nets. Where so, the numbers are lawful.
-fn has_one_worker(workers: u32, clusters: u32) -> bool
-    ensures { result ≡ true → IsLawfulCount clusters × IsLawfulCount workers }
-{
-    workers.min(clusters) == 1 && workers.max(clusters) <= MOST_PARTS
+// Net and tick pairs up to which several workers run as they are asked to. Above it, what they hand to one another takes longer
+// than the engine takes for all nets.
+const MOST_SHARED: u64 = 262_144;
+
+// Whether a run is so short that it doesn't matter who has which nets.
+fn is_short(design: &Design) -> bool {
+    let nets = design.netlist().len() as u64;
+    nets.saturating_mul(u64::from(design.horizon())) <= MOST_SHARED
 }
 
-// The text of a design, by rounds of workers: by the engine where one worker has all nets.
+// Whether the engine carries all nets: where one worker has them all, and where several wouldn't pay. Where so, the numbers are
+// lawful.
+fn suits_engine(workers: u32, clusters: u32, design: &Design) -> bool
+    ensures { result ≡ true → IsLawfulCount clusters × IsLawfulCount workers }
+{
+    let least = workers.min(clusters);
+    least >= 1 && workers.max(clusters) <= MOST_PARTS && (least == 1 || !is_short(design))
+}
+
+// The text of a design, by rounds of workers: by the engine where it carries all nets.
 fn rounds_text<R: AllocGlobal + Threads + Wait + Sync>(
     rt: &R,
     workers: u32,
@@ -94,7 +106,7 @@ fn rounds_text<R: AllocGlobal + Threads + Wait + Sync>(
     ensures fits { OnOk result (CanRun (Mode.Rounds workers clusters) design.now) }
     ensures fault { IfErr result (IsUnrun (Mode.Rounds workers clusters) design.now) }
 {
-    if has_one_worker(workers, clusters) {
+    if suits_engine(workers, clusters, design) {
         let text = stream_text(rt.alloc(), design)?;
         return Ok(text);
     }
@@ -125,8 +137,8 @@ fn write_by_workers<R: AllocGlobal + Threads + Wait + Sync, O: Sink>(
     Ok(written)
 }
 
-// Writes the text of a design while its workers run, and gives the text's length: while the engine goes on, where one
-// worker has all nets.
+// Writes the text of a design while its workers run, and gives the text's length: while the engine goes on, where it
+// carries all nets.
 fn write_free<R: AllocGlobal + Threads + Wait + Sync, O: Sink>(
     rt: &R,
     workers: u32,
@@ -141,7 +153,7 @@ fn write_free<R: AllocGlobal + Threads + Wait + Sync, O: Sink>(
     ensures fits { OnOk result (CanRun (Mode.Free workers clusters) design.now) }
     ensures fault { IfErr result (IsUnwritten (Mode.Free workers clusters) design.now (output (O.taken out.old) (O.taken out.new) (O.failures out.old) (O.failures out.new))) }
 {
-    if has_one_worker(workers, clusters) {
+    if suits_engine(workers, clusters, design) {
         let written = write_stream(rt.alloc(), design, out)?;
         return Ok(written);
     }

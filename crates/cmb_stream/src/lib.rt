@@ -4,10 +4,11 @@
 pub mod fault;
 pub mod first;
 pub mod kept;
-mod stream;
+pub mod stream;
 pub mod text;
 
 pub use fault::StreamFault;
 pub use first::{first_dump, tell_window};
 pub use kept::Kept;
-pub use text::{stream_text, write_stream};
+pub use stream::Stream;
+pub use text::{stream_rest, stream_text, write_rest, write_stream};

@@ -6,7 +6,7 @@ ghost use Rattle.cmb_wave.specs.declared.level.Level.TheVariants.{X};
 ghost use Rattle.cmb_design.specs.Exact.{nets_of};
 ghost use Rattle.cmb_design.specs.Value.{value};
 ghost use Rattle.cmb_dump.specs.Dumps.{text_upto};
-ghost use Rattle.cmb_stream.specs.Parts.{made_text};
+ghost use Rattle.cmb_stream.specs.Parts.{IsStream, made_text};
 ghost use Rattle.cmb_stream.specs.Streams.{IsBrokenOff};
 ghost use Rattle.cmb_vcd.specs.Vcd.{vcd};
 ghost use Rattle.cmb_words.specs.Changes.{RisesWithin, Tells};
@@ -90,6 +90,14 @@ impl<'a> Stream<'a> {
         })
     }
 
+    /// The tick below which the text was made.
+    pub fn clock(&self) -> u32
+        ensures value { result ≡ self.now.clock }
+        ensures begun { 1 ≤ result }
+    {
+        self.engine.clock()
+    }
+
     /// How many bytes are kept.
     pub fn kept(&self) -> usize {
         self.kept.len()
@@ -113,6 +121,20 @@ impl<'a> Stream<'a> {
         ensures fault { (start : Option (List ℕ)) → Appends start (S.taken sink.old) (take self.old.given (vcd self.old.design)) → IfErr result (IsBrokenOff self.old.design start (S.taken sink.new) (S.failures sink.old) (S.failures sink.new)) }
     {
         self.kept.give(sink)
+    }
+
+    /// The engine, the dump and what is kept, for one who goes on with them otherwise.
+    pub fn into_parts(self) -> (Engine<'a>, Dump<'a>, Kept<'a>)
+        ensures parts { IsStream result.0 result.1 result.2 }
+        ensures kept { result.2 ≡ self.entry }
+    {
+        let Stream {
+            engine,
+            dump,
+            kept,
+            ..
+        } = self;
+        (engine, dump, kept)
     }
 
     /// The whole text, of which nothing was handed on.

@@ -14,19 +14,27 @@ use std::alloc::{AllocError, Global};
 // What is written at a time has so many bytes at least.
 const PART: usize = 65_536;
 
-/// The VCD text of a design's run, whole in memory.
-pub fn stream_text(alloc: Global, design: &Design) -> Result<Vec<u8>, AllocError>
-    ensures { IfOk result (λ text. text.items ≡ vcd design.now) }
+/// Makes the rest of a text of which nothing was handed on, whole in memory.
+pub fn stream_rest(stream: Stream<'_>) -> Result<Vec<u8>, AllocError>
+    requires { stream.given ≡ 0 }
+    ensures { IfOk result (λ text. text.items ≡ vcd stream.entry.design) }
 {
-    let mut stream = Stream::open(alloc, design)?;
+    let mut stream = stream;
     while !stream.is_done() {
         stream = stream.step()?;
     }
     Ok(stream.into_text())
 }
 
-// Makes the rest of a text and writes it, part after part. Gives the text's length.
-fn write_rest<S: Sink>(stream: Stream<'_>, sink: &mut S) -> Result<u64, StreamFault>
+/// The VCD text of a design's run, whole in memory.
+pub fn stream_text(alloc: Global, design: &Design) -> Result<Vec<u8>, AllocError>
+    ensures { IfOk result (λ text. text.items ≡ vcd design.now) }
+{
+    stream_rest(Stream::open(alloc, design)?)
+}
+
+/// Makes the rest of a text and writes it, part after part. Gives the text's length.
+pub fn write_rest<S: Sink>(stream: Stream<'_>, sink: &mut S) -> Result<u64, StreamFault>
     requires room { S.failures sink.old < 2 ^ 64 - 1 }
     requires all { stream.given ≡ 0 }
     ensures length { IfOk result (λ written. written ≡ length (vcd stream.entry.design)) }

@@ -2,10 +2,10 @@
 
 use crate::collected::Collected;
 use crate::free::crew::Lookout;
+use crate::free::idle::Idle;
 use crate::terms::Terms;
 use std::alloc::AllocError;
 use std::sync::Wait;
-use std::thread;
 
 // How many pieces are taken from a link before the next one has its turn.
 const MOST: u32 = 64;
@@ -48,14 +48,16 @@ pub(crate) fn collect<T: Terms, R: Wait>(
     started: usize,
     collected: &mut Collected<T>,
 ) -> Result<(), AllocError> {
+    let mut idle = Idle::new();
     for _ in rt.forever() {
         let over = lookout.finished() as usize >= started;
         let found = take_round(rt, lookout, collected)?;
-        if !found {
-            if over {
-                return Ok(());
-            }
-            thread::yield_now();
+        if found {
+            idle.end();
+        } else if over {
+            return Ok(());
+        } else {
+            idle.rest(rt);
         }
     }
     unreachable!()

@@ -11,6 +11,7 @@ ghost use Rattle.cmb_run.specs.Tellers.{decision, IsDecided, IsGiven, IsUnfinish
 use crate::collected::Collected;
 use crate::free::collect::take_round;
 use crate::free::crew::{Crew, Lookout};
+use crate::free::idle::Idle;
 use crate::free::run::ended;
 use crate::free::teller::Teller;
 use crate::free::threads::start;
@@ -47,6 +48,7 @@ fn tell_meanwhile<T: Terms, S: Sink, R: Wait>(
     ensures fault { IfErr result (IsCutAt T.design (S.taken sink.old) (S.taken sink.new) (S.failures sink.old) (S.failures sink.new)) }
 {
     let mut fresh = 0;
+    let mut idle = Idle::new();
     for _ in rt.forever() {
         let over = lookout.finished() as usize >= started;
         let found = take_round(rt, lookout, collected)?;
@@ -55,13 +57,14 @@ fn tell_meanwhile<T: Terms, S: Sink, R: Wait>(
         }
         if found {
             fresh += 1;
+            idle.end();
         }
         if fresh >= ROUNDS || (!found && fresh > 0) {
             teller.tell(collected, sink)?;
             fresh = 0;
         }
         if !found {
-            thread::yield_now();
+            idle.rest(rt);
         }
     }
     unreachable!()

@@ -4,6 +4,7 @@ ghost use Rattle.std.specs.Prelude.{◌≡◌};
 
 use crate::free::desk::{Desk, Own};
 use crate::free::ends::{PutEnd, TakeEnd, open_link};
+use crate::free::idle::Idle;
 use crate::free::turnstile::Turnstile;
 use crate::outlet::Outlet;
 use crate::part::{Part, Posted};
@@ -13,7 +14,6 @@ use cmb_design::Design;
 use cmb_wave::Heard;
 use std::alloc::{AllocError, Global};
 use std::sync::Wait;
-use std::thread;
 
 /// How many pieces a worker takes from a link in one turn.
 const AT_ONCE: u32 = 64;
@@ -252,6 +252,7 @@ impl<T: Terms> Worker<T> {
     // One turn after the other, up to the end of the run.
     fn turns<G: Turnstile, R: Wait>(&mut self, rt: &R, gate: &G) -> Result<(), AllocError> {
         let mut turn = 0u32;
+        let mut idle = Idle::new();
         for _ in rt.forever() {
             if !gate.pass(self.desk.number(), turn) {
                 self.desk.raise();
@@ -259,7 +260,7 @@ impl<T: Terms> Worker<T> {
             if self.desk.raised() {
                 return Ok(());
             }
-            self.turn(rt)?;
+            self.turn(rt, &mut idle)?;
             if self.desk.all_finished() {
                 return Ok(());
             }
@@ -269,7 +270,7 @@ impl<T: Terms> Worker<T> {
     }
 
     // What a worker does in a turn.
-    fn turn<R: Wait>(&mut self, rt: &R) -> Result<(), AllocError> {
+    fn turn<R: Wait>(&mut self, rt: &R, idle: &mut Idle) -> Result<(), AllocError> {
         self.take_all(rt)?;
         self.look_all();
         let stepped = self.is_new;
@@ -283,8 +284,10 @@ impl<T: Terms> Worker<T> {
         if self.is_complete && !self.outs.iter().any(|out| out.is_left) {
             self.desk.finish();
         }
-        if !stepped {
-            thread::yield_now();
+        if stepped {
+            idle.end();
+        } else {
+            idle.rest(rt);
         }
         Ok(())
     }

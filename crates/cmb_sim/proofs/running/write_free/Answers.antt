@@ -7,10 +7,10 @@ use Rattle.cmb_sim.proofs.running.write_free.Goals as goal
 pub returns-in_err-written-clause-fault : goal.returns-in_err-written-clause-fault
 returns-in_err-written-clause-fault g c =
     let p = err_from_is_err_and c.from_residual.result c.from_residual.ensures.1 in
-    let lawful = c.has_one_worker.ensures c.if-has_one_worker.true in
+    let lawful = c.suits_engine.ensures c.if-suits_engine.true in
     rw (p.1, p.2) (IsUnwritten-broken (Free c.args.workers c.args.clusters) c.args.design.now _ _ _ _ _ (record { fits = no_checks; clusters = lawful.0; workers = lawful.1 }) tt c.in_err-written.ensures.fault)
 
-pub returns-then-has_one_worker-clause-fits : goal.returns-then-has_one_worker-clause-fits
-returns-then-has_one_worker-clause-fits g c =
-    let lawful = c.has_one_worker.ensures c.if-has_one_worker.true in
+pub returns-then-suits_engine-clause-fits : goal.returns-then-suits_engine-clause-fits
+returns-then-suits_engine-clause-fits g c =
+    let lawful = c.suits_engine.ensures c.if-suits_engine.true in
     record { fits = no_checks; clusters = lawful.0; workers = lawful.1 }

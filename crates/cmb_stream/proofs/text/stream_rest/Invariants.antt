@@ -1,11 +1,11 @@
 use Rattle.std.proofs.Common.{◌≡◌, ◌-◌}
-use Rattle.cmb_stream.proofs.text.stream_text.Given as goal
+use Rattle.cmb_stream.proofs.text.stream_rest.Given as goal
 
 abbrev pub invariant-loop-stream : goal.invariant-loop-stream
 invariant-loop-stream l = record {
-  design : l.stream.design ≡ l.design;
+  design : l.stream.design ≡ l.initial.stream.design;
   given : l.stream.given ≡ 0;
 }
 
 abbrev pub decreases-loop-stream : goal.decreases-loop-stream
-decreases-loop-stream l = l.design.horizon - l.stream.clock
+decreases-loop-stream l = l.initial.stream.design.horizon - l.stream.clock
