@@ -50,7 +50,13 @@ impl Started {
 }
 
 /// Runs each worker in a thread of its own. Where one is refused the stop word is raised.
-pub(crate) fn start<'s, E, T: Terms + Send + Sync + 's, G: Turnstile + Sync, R: Threads + Wait + Sync>(
+pub(crate) fn start<
+    's,
+    E,
+    T: Terms + Send + Sync + 's,
+    G: Turnstile + Sync,
+    R: Threads + Wait + Sync,
+>(
     rt: &'s R,
     alloc: Global,
     scope: &Scope<'s, E>,

@@ -160,7 +160,11 @@ pub struct Worker<T: Terms> {
 
 impl<T: Terms> Worker<T> {
     /// A worker with its cluster, which isn't linked to the collector and to others yet.
-    pub(crate) fn open(alloc: Global, desk: Desk<T>, part: Part<T>) -> Result<Worker<T>, AllocError> {
+    pub(crate) fn open(
+        alloc: Global,
+        desk: Desk<T>,
+        part: Part<T>,
+    ) -> Result<Worker<T>, AllocError> {
         let inlets = inlets_of(alloc, part.inputs())?;
         Ok(Worker {
             desk,
@@ -226,7 +230,11 @@ impl<T: Terms> Worker<T> {
     }
 
     /// Notes which of the worker's nets others read, by a table with a place for each net.
-    pub(crate) fn note_read(&mut self, clustering: &Clustering, is_read: &[bool]) -> Result<(), AllocError>
+    pub(crate) fn note_read(
+        &mut self,
+        clustering: &Clustering,
+        is_read: &[bool],
+    ) -> Result<(), AllocError>
         requires { clustering.now ≡ T.clustering }
     {
         for net in self.part.driven() {

@@ -25,5 +25,5 @@ returns-in-Err-clause-played c = λ design clustering of.
     let here : C c.in-Some.cluster = subst C (sym at.1) home.0 in (
       ap shown c.in-Err.ensures.unchanged,
       step_wants design clustering c.args.self.now c.args.net c.in-Some.cluster at.0 c.in-Some.ensures.there at.1
-      (λ none. let idle = c.in-Err.ensures.still design clustering (cluster_of clustering c.args.net) here home.1 none in cc),
+          (λ none. let idle = c.in-Err.ensures.still design clustering (cluster_of clustering c.args.net) here home.1 none in cc),
     )
