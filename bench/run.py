@@ -28,8 +28,12 @@ WAYS = {
     "rounds 1": mode("rounds", 1),
     "rounds 2": mode("rounds", 2),
     "rounds 4": mode("rounds", 4),
+    "free 1": mode("free", 1),
     "free 2": mode("free", 2),
-    "free 4": mode("free", 4)}
+    "free 4": mode("free", 4),
+    "threads 2": ["--mode", "free", "--threads", "2"],
+    "threads 4": ["--mode", "free", "--threads", "4"],
+    "threads 64": ["--mode", "free", "--threads", "64"]}
 
 
 class Text:

@@ -3,14 +3,16 @@
 # has just proved (proving them once more for this would take as long again). The waveforms of each
 # example have to be those of its expected.vcd, byte for byte, in each mode; a wrong use has to write nothing and to
 # end with its status. The real designs, whose texts are longer than what `rt try` gives out, are run by PROGRAM, out/cmbsim if not
-# given: what their expected.txt says has to be read off their waveforms. The last line is 'N passed, M failed'.
+# given: what their expected.txt says has to be read off their waveforms. PROGRAM also has to tell each fault that files, settings
+# and the machine can give, by the very line. The last line is 'N passed, M failed'.
 set -uo pipefail
 cd "$(dirname "$0")/.."
 examples=$PWD/examples
 program=$(realpath -m "${1:-out/cmbsim}")
 cases=$(mktemp -d)
+faulty=$(mktemp -d)
 report=$(mktemp)
-trap 'rm -rf "$cases" "$report"' EXIT
+trap 'rm -rf "$cases" "$cases.long" "$faulty" "$report"' EXIT
 data=()
 declare -A statuses
 
@@ -53,6 +55,8 @@ inverter_counts='       2  nets
        1  gates NOT
        0  gates BUFF
        0  flip-flops
+       0  flip-flops that never sample
+       0  nets that drive nothing and are no outputs
        1  ticks in the largest delay
 '
 
@@ -151,6 +155,160 @@ on_full_disk() {
     fi
 }
 
+# the netlist that faults of tables and settings are told of: an input, a gate and a flip-flop
+clocked='INPUT(a)\ny = AND(a, q)\nq = DFF(y)\n'
+
+# told N P NETLIST WORDS..: of the netlist the status is 1, nothing is on standard output, and on standard error the one line of fault N at P
+told() {
+    local want="cmbsim: fault $1 at $2" netlist=$3 said status
+    shift 3
+    said=$(cd "$faulty" && printf "$netlist" | "$program" run --horizon 10 "$@" 2>&1 >written)
+    status=$?
+    if [ "$status" = 1 ] && [ "$said" = "$want" ] && [ ! -s "$faulty/written" ]; then
+        passed=$((passed + 1))
+    else
+        failed=$((failed + 1))
+        echo "end to end: $want FAILED: status $status, $said"
+    fi
+}
+
+# told_of_table N P TABLE ROWS: the same of a table, whose header stands before the rows
+told_of_table() {
+    local headers
+    declare -A headers=([delays]=by,name,delay [stimuli]=tick,net,value [clocks]=net,first,period)
+    printf "${headers[$3]}\n$4\n" >"$faulty/$3.csv"
+    told "$1" "$2" "$clocked" --clock 2:4 "--$3" "$3.csv"
+}
+
+told_of_netlists() { # the faults 1 to 8
+    told 1 1 'INPUT(\303\244)\n'
+    told 1 1 '\357\273\277INPUT(a)\n'
+    told 2 2 'INPUT(a)\ny = NOT(a'
+    told 3 1 'k = vdd\n'
+    told 4 2 'INPUT(a)\ny = NOT(a, a)\n'
+    told 5 2 'INPUT(a)\na = NOT(a)\n'
+    told 6 2 'INPUT(a)\ny = NOT(b)\n'
+    told 7 65536 "$(seq -f 'INPUT(n%.0f)' 65536)\n"
+    told 8 1 "INPUT($(printf 'n%.0s' {1..256}))\n"
+}
+
+told_of_settings() { # the faults 21, 22 and 33
+    told 21 0 "$clocked" --clock 2-4
+    told 21 0 "$clocked" --clock 2:0
+    told 21 0 "$clocked" --clock 1000001:1
+    told 22 0 "$clocked"
+    local said
+    said=$(seq -f 'INPUT(n%.0f)' 17 | "$program" run --horizon 1000000 --mode plain 2>&1)
+    if [ "$said" = "cmbsim: fault 33 at 0" ]; then
+        passed=$((passed + 1))
+    else
+        failed=$((failed + 1))
+        echo "end to end: fault 33 FAILED: $said"
+    fi
+}
+
+told_of_tables() { # the faults 23 to 32 and 34 to 37
+    local table
+    for table in delays stimuli clocks; do
+        printf 'a;b;c\n' >"$faulty/header.csv"
+        told 23 1 "$clocked" --clock 2:4 "--$table" header.csv
+        told_of_table 24 2 "$table" 'y,1'
+    done
+    told_of_table 25 2 delays 'net,y,3ns'
+    told_of_table 25 2 stimuli '-1,a,0'
+    told_of_table 25 2 clocks 'q,1,'
+    told_of_table 26 3 delays 'net,y,3\nnet,Y,3'
+    told_of_table 26 3 stimuli '1,a,0\n2,A,0'
+    told_of_table 26 2 clocks 'Q,1,2'
+    told_of_table 27 2 delays 'kind,MUX,3'
+    told_of_table 28 2 delays 'net,y,0'
+    told_of_table 29 3 delays 'net,y,2\nnet,y,3'
+    told_of_table 29 3 stimuli '1,a,0\n1,a,1'
+    told_of_table 29 3 clocks 'q,1,2\nq,1,3'
+    told_of_table 30 2 stimuli '1,y,0'
+    told_of_table 31 2 stimuli '1,a,z'
+    told_of_table 32 2 delays 'net,a,2'
+    told_of_table 34 2 delays 'pin,y,2'
+    told_of_table 35 2 delays 'pin,y:3,2'
+    told_of_table 36 2 clocks 'q,1,0'
+    told_of_table 37 2 clocks 'y,1,2'
+}
+
+told_of_the_machine() { # the faults 60, 61 and 70; 62 is that of a full disk
+    local said
+    head -c 16777217 /dev/zero >"$faulty/long.csv"
+    told 60 2 "$clocked" --delays long.csv
+    told 60 3 "$clocked" --stimuli long.csv
+    told 60 4 "$clocked" --clocks long.csv
+    told 61 2 "$clocked" --delays missing.csv
+    told 61 3 "$clocked" --stimuli missing.csv
+    told 61 4 "$clocked" --clocks .
+    said=$(cd "$faulty" && {
+        "$program" run --horizon 10 <long.csv
+        "$program" run --horizon 10 <&-
+        ulimit -v 16000
+        head -c 16777216 long.csv | "$program" run --horizon 10
+    } 2>&1)
+    if [ "$said" = $'cmbsim: fault 60 at 1\ncmbsim: fault 61 at 1\ncmbsim: fault 70 at 0' ]; then
+        passed=$((passed + 1))
+    else
+        failed=$((failed + 1))
+        echo "end to end: faults of the netlist's bytes FAILED: $said"
+    fi
+}
+
+# in_words WANT NETLIST WORDS..: with --explain the fault's line is followed by this one
+in_words() {
+    local want="cmbsim: $1" netlist=$2 said
+    shift 2
+    said=$(cd "$faulty" && printf "$netlist" | "$program" run --horizon 10 --explain "$@" 2>&1 >/dev/null | tail -n +2)
+    if [ "$said" = "$want" ]; then
+        passed=$((passed + 1))
+    else
+        failed=$((failed + 1))
+        echo "end to end: $want FAILED: $said"
+    fi
+}
+
+told_in_words() {
+    in_words 'the netlist, line 2: not driven: b, in y = NOT(b)' 'INPUT(a)\ny = NOT(b)\n'
+    in_words 'the netlist, line 1: a byte that no netlist has: \xef\xbb\xbfINPUT(a)' '\357\273\277INPUT(a)\n'
+    in_words 'a flip-flop has no clock row, and there is no common clock: q' "$clocked"
+    in_words 'missing.csv: No such file or directory (os error 2)' "$clocked" --clock 2:4 --delays missing.csv
+    printf 'tick,net,value\n\n0,a,0\r\n\r\n5,A,1\n' >"$faulty/stimuli.csv"
+    in_words "stimuli.csv, line 5: the netlist hasn't this net: A" "$clocked" --clock 2:4 --stimuli stimuli.csv
+    printf 'net,first,period\nQ,1,2\n' >"$faulty/clocks.csv"
+    in_words "clocks.csv, line 2: the netlist hasn't this net: Q" "$clocked" --clock 2:4 --clocks clocks.csv
+    printf 'by,name,delay\nnet,y,2\nnet,y,3\n' >"$faulty/delays.csv"
+    in_words "delays.csv, line 3: an earlier row is about the same: net,y,3" "$clocked" --clock 2:4 --delays delays.csv
+    printf 'net;first;period\n' >"$faulty/clocks.csv"
+    in_words "clocks.csv, line 1: not the table's header: net;first;period" "$clocked" --clock 2:4 --clocks clocks.csv
+    local said
+    said=$("$program" run --horizon 10 --explain 2>&1 >/dev/null </dev/null)
+    if [ "$said" = "cmbsim: the netlist has no nets, so its waveforms have none, and some viewers refuse to open them" ]; then
+        passed=$((passed + 1))
+    else
+        failed=$((failed + 1))
+        echo "end to end: an empty netlist in words FAILED: $said"
+    fi
+}
+
+# shared WORDS..: a run with so much to write that threads share it, told as it is by one
+shared() {
+    if [ "$(long "$@")" = "$one" ]; then
+        passed=$((passed + 1))
+    else
+        failed=$((failed + 1))
+        echo "end to end: a long run $* FAILED"
+    fi
+}
+
+long() { # long WORDS..: the sum of the text of 600 registers of 16 bits with feedback, some 13 MB
+    local options
+    read -r -a options <"$cases.long/options"
+    "$program" run "${options[@]}" --clocks "$cases.long/clocks.csv" "$@" <"$cases.long/netlist.bench" | cksum
+}
+
 [ -x "$program" ] || echo "end to end: the real designs need a built program, and there is no $program: run make build"
 if scripts/fault_tables.py "$program" --check; then
     passed=$((passed + 1))
@@ -158,6 +316,11 @@ else
     failed=$((failed + 1))
     echo "end to end: the table of faults FAILED"
 fi
+told_of_netlists
+told_of_settings
+told_of_tables
+told_of_the_machine
+told_in_words
 on_full_disk run --horizon 10
 on_full_disk --help
 on_full_disk --version
@@ -168,6 +331,13 @@ for name in aes128 sha256; do
     real "$name" --mode free
     real "$name" --threads 4
     real "$name" --mode free --workers 2 --clusters 2
+done
+bench/circuits.py write "600 LFSRs of 16" "$cases.long"
+one=$(long)
+shared --mode free
+for threads in 2 4 64; do
+    shared --threads "$threads"
+    shared --mode free --threads "$threads"
 done
 echo "$passed passed, $failed failed"
 [ "$failed" = 0 ]

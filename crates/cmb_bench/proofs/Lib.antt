@@ -21,3 +21,4 @@ pub mod Machine
 pub mod Alone
 pub mod Sound
 pub mod Either
+pub mod ListedFacts

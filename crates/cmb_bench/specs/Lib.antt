@@ -6,5 +6,6 @@ pub mod Statement
 pub mod Grammar
 pub mod Meaning
 pub mod FirstFault
+pub mod Listed
 -- what the functions inside the crate promise each other
 pub mod Inner

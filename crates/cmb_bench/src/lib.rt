@@ -6,6 +6,7 @@ mod build;
 mod fault;
 mod kinds;
 pub mod laws;
+mod listed;
 mod name;
 pub mod netlist;
 mod parser;
@@ -14,6 +15,7 @@ mod text;
 
 pub use fault::{BenchFault, FaultKind};
 pub use kinds::cell_named;
+pub use listed::{ListFault, read_list};
 pub use name::Name;
 pub use netlist::{Cell, Driver, Kind, Netlist, Operands};
 pub use reader::read_bench;

@@ -1,5 +1,5 @@
 -- One number more, below which the numbers that pass a test are counted.
-use Rattle.std.proofs.Common.{◌≡◌, ℕ, ◌+◌, ◌≤◌, Bool, true, false, add-one, arith, refl}
+use Rattle.std.proofs.Common.{◌≡◌, ℕ, zero, suc, ◌+◌, ◌<◌, ◌≤◌, Bool, true, false, add-one, arith, refl}
 use Rattle.std.specs.Prelude.{if◌then◌else◌}
 use Rattle.cmb_count.specs.Below.{count_below}
 
@@ -18,3 +18,9 @@ count_below-fail test n fails =
 pub count_below-none : (test : ℕ → Bool) → count_below test 0 ≡ 0
 unfolding count_below
 count_below-none test = refl
+
+-- tests that agree below a number count the same
+pub count_below-same : (f g : ℕ → Bool) (n : ℕ) → ((k : ℕ) → k < n → f k ≡ g k) → count_below f n ≡ count_below g n
+unfolding count_below
+count_below-same f g zero same = refl
+count_below-same f g (suc n) same = rw (same n (omega arith), count_below-same f g n (λ k h. same k (omega arith))) refl

@@ -1,2 +1,3 @@
 mod BelowFacts
 mod LargestFacts
+mod MarkFacts

@@ -4,7 +4,8 @@ use Rattle.cmb_bench.specs.Netlist.{Netlist}
 use Rattle.cmb_bench.specs.declared.netlist.Kind.TheVariants as kind
 use Rattle.cmb_design.specs.Design.{Design}
 use Rattle.cmb_count.specs.Largest.{IsLargestDelay}
-use Rattle.cmb_count.specs.Parts.{part_count, silent_count}
+use Rattle.cmb_count.specs.Parts.{part_count, silent_count, still_count}
+use Rattle.cmb_count.specs.Unused.{unused_count}
 use Rattle.cmb_count.specs.declared.counts.Counts.{Counts}
 use Rattle.cmb_count.specs.declared.counts.GateCounts.{GateCounts}
 use Rattle.cmb_count.specs.declared.drivers.Part.TheVariants.{Inputs, Gates, Flops}
@@ -26,4 +27,6 @@ pub record AreCounts (design : Design) (counts : Counts) : Type 0 where
   pub silent : counts.silent ≡ silent_count design
   pub gates : AreGateCounts design.netlist counts.gates
   pub flops : counts.flops ≡ part_count design.netlist Flops
+  pub still : counts.still ≡ still_count design
+  pub unused : counts.unused ≡ unused_count design.netlist
   pub largest_delay : IsLargestDelay design counts.largest_delay

@@ -2,3 +2,5 @@ pub mod Below
 pub mod Parts
 pub mod Largest
 pub mod Counting
+pub mod Texts
+pub mod Unused

@@ -1,10 +1,10 @@
 -- Nets by what drives them.
-use Rattle.std.specs.Prelude.{ℕ, Bool, ◌==◌, ◌&&◌, length}
+use Rattle.std.specs.Prelude.{ℕ, Bool, ◌==◌, ◌&&◌, length, nat_le}
 use Rattle.cmb_bench.specs.Netlist.{Netlist, driver_of}
 use Rattle.cmb_bench.specs.declared.netlist.Driver.{Driver}
 use Rattle.cmb_design.specs.Design.{Design}
 use Rattle.cmb_design.specs.Nets.{driver_cell, is_at, is_flop, is_input, kind_number}
-use Rattle.cmb_design.specs.Timing.{stimulus}
+use Rattle.cmb_design.specs.Timing.{clock_of, stimulus}
 use Rattle.cmb_wave.specs.Waveform.{changes_between}
 use Rattle.cmb_count.specs.Below.{count_below}
 use Rattle.cmb_count.specs.declared.drivers.Part.{Part}
@@ -26,3 +26,10 @@ is_silent design net = is_input (driver_of design.netlist net) && length (change
 
 abbrev pub silent_count : Design → ℕ
 silent_count design = count_below (is_silent design) (length design.netlist.names)
+
+-- a flip-flop with no sample tick below the horizon
+abbrev pub is_still : Design → ℕ → Bool
+is_still design net = is_flop (driver_of design.netlist net) && nat_le design.horizon (clock_of design net).first
+
+abbrev pub still_count : Design → ℕ
+still_count design = count_below (is_still design) (length design.netlist.names)

@@ -1,11 +1,14 @@
 //! All counts of a design.
 
+ghost use Rattle.std.specs.Prelude.{IfOk};
 ghost use Rattle.cmb_count.specs.Counting.{AreCounts, AreGateCounts};
 
-use crate::drivers::{Part, count_drivers, count_silent};
+use crate::drivers::{Part, count_drivers, count_silent, count_still};
 use crate::largest::largest_delay;
+use crate::unused::count_unused;
 use cmb_bench::{Kind, Netlist};
 use cmb_design::Design;
+use std::alloc::{AllocError, Global};
 
 /// How many gates of each kind there are.
 #[derive(Clone, Copy, Debug, PartialEq, Eq)]
@@ -30,6 +33,10 @@ pub struct Counts {
     pub gates: GateCounts,
     /// Flip-flops.
     pub flops: usize,
+    /// Flip-flops with no sample tick below the horizon.
+    pub still: usize,
+    /// Nets that no pin reads and that are no outputs.
+    pub unused: usize,
     /// The largest delay of a pin, in ticks; 0 where there are no pins.
     pub largest_delay: u32,
 }
@@ -50,16 +57,18 @@ fn count_gates(netlist: &Netlist) -> GateCounts
 }
 
 /// Counts what a design is made of.
-pub fn count_design(design: &Design) -> Counts
-    ensures { AreCounts design.now result }
+pub fn count_design(alloc: Global, design: &Design) -> Result<Counts, AllocError>
+    ensures { IfOk result (AreCounts design.now) }
 {
     let netlist = design.netlist();
-    Counts {
+    Ok(Counts {
         nets: netlist.len(),
         inputs: count_drivers(netlist, &Part::Inputs),
         silent: count_silent(design),
         gates: count_gates(netlist),
         flops: count_drivers(netlist, &Part::Flops),
+        still: count_still(design),
+        unused: count_unused(alloc, netlist)?,
         largest_delay: largest_delay(design),
-    }
+    })
 }

@@ -3,7 +3,7 @@
 ghost use Rattle.std.specs.Prelude.{◌≡◌, ◌<◌, ◌≤◌, ◌==◌, length};
 ghost use Rattle.cmb_bench.specs.Netlist.{driver_of};
 ghost use Rattle.cmb_design.specs.Nets.{driver_cell, is_at, kind_number};
-ghost use Rattle.cmb_count.specs.Parts.{is_part, is_silent, part_count, silent_count};
+ghost use Rattle.cmb_count.specs.Parts.{is_part, is_silent, is_still, part_count, silent_count, still_count};
 
 use cmb_bench::{Driver, Kind, Netlist};
 use cmb_design::Design;
@@ -85,6 +85,27 @@ pub fn count_silent(design: &Design) -> usize
     let mut count = 0;
     for net in 0..design.netlist().len() {
         if is_silent_input(design, net) {
+            count += 1;
+        }
+    }
+    count
+}
+
+fn is_still_flop(design: &Design, net: usize) -> bool
+    requires { net < length design.now.netlist.names }
+    ensures { result ≡ is_still design.now net }
+{
+    is_of_part(&Part::Flops, design.netlist().driver(net))
+        && design.horizon() <= design.clock(net).first
+}
+
+/// How many flip-flops have no sample tick below the horizon.
+pub fn count_still(design: &Design) -> usize
+    ensures { result ≡ still_count design.now }
+{
+    let mut count = 0;
+    for net in 0..design.netlist().len() {
+        if is_still_flop(design, net) {
             count += 1;
         }
     }

@@ -5,8 +5,10 @@ pub mod counts;
 pub mod drivers;
 mod largest;
 mod text;
+pub mod unused;
 
 pub use counts::{Counts, GateCounts, count_design};
-pub use drivers::{Part, count_drivers, count_silent};
+pub use drivers::{Part, count_drivers, count_silent, count_still};
 pub use largest::largest_delay;
 pub use text::counts_text;
+pub use unused::count_unused;

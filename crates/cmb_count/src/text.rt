@@ -1,13 +1,20 @@
 //! The counts as a text.
 
+ghost use Rattle.std.specs.Prelude.{◌≡◌, ◌++◌, IfOk, OnOk, string_bytes};
+ghost use Rattle.cmb_count.specs.Texts.{counts_rows, gate_rows, row};
+
 use crate::counts::{Counts, GateCounts};
 use std::alloc::{AllocError, Global};
 
-fn push_row(text: &mut String, number: usize, what: &str) -> Result<(), AllocError> {
+fn push_row(text: &mut String, number: usize, what: &str) -> Result<(), AllocError>
+    ensures { OnOk result (string_bytes text.new ≡ string_bytes text.old ++ row number what.now) }
+{
     write!(text, "{number:>8}  {what}\n")
 }
 
-fn push_gates(text: &mut String, gates: GateCounts) -> Result<(), AllocError> {
+fn push_gates(text: &mut String, gates: GateCounts) -> Result<(), AllocError>
+    ensures { OnOk result (string_bytes text.new ≡ string_bytes text.old ++ gate_rows gates) }
+{
     push_row(text, gates.and, "gates AND")?;
     push_row(text, gates.nand, "gates NAND")?;
     push_row(text, gates.or, "gates OR")?;
@@ -19,13 +26,21 @@ fn push_gates(text: &mut String, gates: GateCounts) -> Result<(), AllocError> {
 }
 
 /// The counts as a text, each on a line of its own.
-pub fn counts_text(alloc: Global, counts: &Counts) -> Result<String, AllocError> {
+pub fn counts_text(alloc: Global, counts: &Counts) -> Result<String, AllocError>
+    ensures { IfOk result (λ text. string_bytes text ≡ counts_rows counts.now) }
+{
     let mut text = String::new(alloc);
     push_row(&mut text, counts.nets, "nets")?;
     push_row(&mut text, counts.inputs, "inputs")?;
     push_row(&mut text, counts.silent, "inputs that are x at all ticks")?;
     push_gates(&mut text, counts.gates)?;
     push_row(&mut text, counts.flops, "flip-flops")?;
+    push_row(&mut text, counts.still, "flip-flops that never sample")?;
+    push_row(
+        &mut text,
+        counts.unused,
+        "nets that drive nothing and are no outputs",
+    )?;
     push_row(
         &mut text,
         counts.largest_delay as usize,

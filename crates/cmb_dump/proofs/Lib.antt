@@ -1,2 +1,3 @@
 pub mod FillFacts
 pub mod WindowFacts
+pub mod PickFacts

@@ -1,4 +1,5 @@
 pub mod Buckets
 pub mod Dumps
+pub mod Excerpts
 pub mod Ready
 pub mod Tails

@@ -3,9 +3,12 @@
 
 mod bucket;
 pub mod dump;
+pub mod excerpt;
 mod fill;
+mod pick;
 mod tail;
 mod tails;
 mod text;
 
 pub use dump::Dump;
+pub use excerpt::Excerpt;

@@ -6,3 +6,4 @@ pub mod FoundFacts
 pub mod ForestFacts
 pub mod RestrictFacts
 pub mod ComponentFacts
+pub mod ChosenFacts

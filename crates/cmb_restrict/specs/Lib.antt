@@ -1,5 +1,6 @@
 pub mod Closed
 pub mod Restriction
+pub mod Chosen
 pub mod Found
 pub mod Places
 pub mod Components

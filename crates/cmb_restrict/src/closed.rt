@@ -2,7 +2,9 @@
 
 ghost use Rattle.std.specs.Prelude.{◌≡◌, ◌∷◌, [], ℕ, ◌<◌, ◌≤◌, ◌^◌, false, length, filter, slice_index_or, All, IfOk, OnOk};
 ghost use Rattle.std.specs.List.{range_with_len};
+ghost use Rattle.std.specs.List.Sorted.{IsStrictlyIncreasing};
 ghost use Rattle.cmb_bench.specs.Netlist.{IsNetlist};
+ghost use Rattle.cmb_restrict.specs.Chosen.{each_once};
 ghost use Rattle.cmb_restrict.specs.Closed.{IsClosure, asked_by};
 ghost use Rattle.cmb_restrict.specs.Found.{IsFound, Gains, Follows};
 
@@ -117,5 +119,19 @@ pub fn closure(alloc: Global, netlist: &Netlist, wanted: &[u32]) -> Result<Vec<u
     let mut found = nothing(alloc, netlist.len())?;
     found.add_all(wanted)?;
     follow(netlist, &mut found)?;
+    marked(alloc, found.marks.as_slice())
+}
+
+/// The nets of a list, each once, by rising number, of `count` nets in all.
+pub fn rising(alloc: Global, count: usize, nets: &[u32]) -> Result<Vec<u32>, AllocError>
+    requires nets { All (λ net. net < count) nets.now }
+    requires few { count ≤ 65535 }
+    ensures once { IfOk result (λ chosen. chosen.items ≡ each_once count nets.now) }
+    ensures rising { IfOk result (λ chosen. IsStrictlyIncreasing chosen.items) }
+    ensures within { IfOk result (λ chosen. All (λ net. net < count) chosen.items) }
+    ensures few { IfOk result (λ chosen. length chosen.items ≤ 65535) }
+{
+    let mut found = nothing(alloc, count)?;
+    found.add_all(nets)?;
     marked(alloc, found.marks.as_slice())
 }

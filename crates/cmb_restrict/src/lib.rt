@@ -7,6 +7,7 @@ mod part;
 pub mod restriction;
 pub mod split;
 
-pub use closed::closure;
+pub use closed::{closure, rising};
+pub use part::places_in;
 pub use restriction::restrict;
 pub use split::{Numbering, components};

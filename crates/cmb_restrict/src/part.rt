@@ -1,6 +1,6 @@
 //! A netlist of some nets of another one, numbered in their order.
 
-ghost use Rattle.std.specs.Prelude.{◌≡◌, ℕ, ◌<◌, ◌≤◌, length, map, slice_index, nat_eq, All, IfOk};
+ghost use Rattle.std.specs.Prelude.{◌≡◌, ℕ, ◌<◌, ◌≤◌, length, map, slice_index, nat_eq, All, Contains, IfOk};
 ghost use Rattle.std.specs.List.{IsDistinct, filter};
 ghost use Rattle.std.specs.List.Sorted.{IsStrictlyIncreasing};
 ghost use Rattle.cmb_bench.specs.Netlist.{IsNetlist, driver_of, name_of, pins_of};
@@ -137,4 +137,25 @@ pub(crate) fn netlist_of(
     let drivers = drivers_of(alloc, netlist, nets, places.as_slice())?;
     let outputs = outputs_of(alloc, netlist, nets, places.as_slice())?;
     Ok(Netlist::new(names, drivers, outputs))
+}
+
+/// The places of some nets in a list that has them all. Both rise, and there are `count` nets.
+pub fn places_in(
+    alloc: Global,
+    count: usize,
+    nets: &[u32],
+    some: &[u32],
+) -> Result<Vec<u32>, AllocError>
+    requires nets { All (λ net. net < count) nets.now }
+    requires rising { IsStrictlyIncreasing nets.now }
+    requires few { length nets.now ≤ 65535 }
+    requires there { All (Contains nets.now) some.now }
+    requires some { IsStrictlyIncreasing some.now }
+    ensures back { IfOk result (λ places. map (slice_index nets.now) places.items ≡ some.now) }
+    ensures within { IfOk result (λ places. All (λ place. place < length nets.now) places.items) }
+    ensures rising { IfOk result (λ places. IsStrictlyIncreasing places.items) }
+    ensures count { IfOk result (λ places. length places.items ≡ length some.now) }
+{
+    let places = places_of(alloc, count, nets)?;
+    renumbered_all(alloc, some, places.as_slice())
 }

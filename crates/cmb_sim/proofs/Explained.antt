@@ -1,14 +1,13 @@
 -- The faults of a simulation and the explanations of faults have the same numbers.
-use Rattle.std.proofs.Common.{◌≡◌, ℕ, ◌+◌, ◌<◌, ◌≤◌, ◌⊎◌, Bool, true, false, nat_lt, inl, inr, refl, arith, subst, sym}
+use Rattle.std.proofs.Common.{◌≡◌, ℕ, ◌+◌, ◌<◌, ◌≤◌, Bool, true, false, nat_lt, inl, inr, refl, arith, subst, sym}
 use Rattle.std.proofs.lemmas.Bool.{ltb-true, ltb-false}
-use Rattle.cmb_bench.specs.declared.fault.BenchFault.{BenchFault}
 use Rattle.cmb_bench.specs.declared.fault.FaultKind.{FaultKind}
 use Rattle.cmb_bench.specs.declared.fault.FaultKind.TheVariants as kind
 use Rattle.cmb_bench.specs.FirstFault.{number_of_fault}
 use Rattle.cmb_design.specs.declared.fault.DesignFault.{DesignFault}
 use Rattle.cmb_design.specs.declared.fault.DesignFault.TheVariants as design
 use Rattle.cmb_design.specs.Faults.{fault_number}
-use Rattle.cmb_explain.specs.Known.{IsFaultNumber, IsNetlistFault, IsRunningFault, IsSettingsFault, IsTableFault, Within}
+use Rattle.cmb_explain.specs.Known.{IsFaultNumber, IsNetlistFault, IsSettingsFault, IsTableFault, Within}
 use Rattle.cmb_sim.specs.Numbers.{number_of}
 use Rattle.cmb_sim.specs.declared.fault.Fault.{Fault}
 use Rattle.cmb_sim.specs.declared.fault.Fault.TheVariants.{Bench, Design, Clusters, Incomplete, Workers, TooLong, Read, Write, Memory}

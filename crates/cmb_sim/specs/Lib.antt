@@ -3,3 +3,4 @@ pub mod Numbers
 pub mod Simulation
 pub mod Sources
 pub mod Stages
+pub mod Tasks

@@ -36,7 +36,13 @@ pub fn check_design<B: Source, D: Source, S: Source, C: Source>(
         (input (D.remaining delays.old) (D.failures delays.old) (D.failures delays.new))
         (input (S.remaining stimuli.old) (S.failures stimuli.old) (S.failures stimuli.new))
         (input (C.remaining clocks.old) (C.failures clocks.old) (C.failures clocks.new)))) }
+    ensures failures { NoneFailedBut (failed_input result) (inputs_of
+        (input (B.remaining bench.old) (B.failures bench.old) (B.failures bench.new))
+        (input (D.remaining delays.old) (D.failures delays.old) (D.failures delays.new))
+        (input (S.remaining stimuli.old) (S.failures stimuli.old) (S.failures stimuli.new))
+        (input (C.remaining clocks.old) (C.failures clocks.old) (C.failures clocks.new))) }
 {
     let design = read_design(alloc, bench, delays, stimuli, clocks, settings)?;
-    Ok(count_design(&design))
+    let counts = count_design(alloc, &design)?;
+    Ok(counts)
 }

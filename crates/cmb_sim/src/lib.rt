@@ -1,6 +1,7 @@
 //! A whole simulation: from four texts to the text of its waveforms, with the program's command line.
 #![tactic(auto)]
 
+pub mod carrying;
 pub mod check;
 mod clock;
 mod explaining;
@@ -15,6 +16,7 @@ pub mod simulation;
 pub mod source;
 pub mod texts;
 
+pub use carrying::{Done, carry_out};
 pub use check::check_design;
 pub use cmb_bench::{BenchFault, FaultKind};
 pub use cmb_count::{Counts, counts_text};

@@ -15,8 +15,7 @@ use crate::round::{pays, round};
 use crate::shares::cuts_of;
 use crate::teller::Teller;
 use cmb_design::Design;
-use cmb_engine::Engine;
-use cmb_stream::{Kept, StreamFault, first_dump};
+use cmb_stream::{Kept, Stream, StreamFault};
 use cmb_vcd::Sink;
 use std::alloc::{AllocError, Global};
 use std::marker::Model;
@@ -93,19 +92,19 @@ fn with_tellers<'a>(
 }
 
 impl<'a> Team<'a> {
-    /// The text up to tick 1, and the first windows, which are made in the calling thread.
-    pub(crate) fn open(
+    /// Goes on with a stream's text: the first windows behind it are made in the calling thread.
+    pub(crate) fn of(
         alloc: Global,
         design: &'a Design,
+        stream: Stream<'a>,
         threads: usize,
     ) -> Result<Team<'a>, AllocError>
-        requires { 1 ≤ threads }
+        requires threads { 1 ≤ threads }
+        requires design { stream.design ≡ design.now }
         ensures design { IfOk result (λ team. team.design ≡ design.entry.now) }
-        ensures given { IfOk result (λ team. team.given ≡ 0) }
+        ensures given { IfOk result (λ team. team.given ≡ stream.entry.given) }
     {
-        let engine = Engine::open(alloc, design)?;
-        let dump = first_dump(alloc, design, &engine)?;
-        let kept = Kept::open(alloc, design, &dump)?;
+        let (engine, dump, kept) = stream.into_parts();
         let mut tellers = Vec::new(alloc);
         tellers.push(Teller::of(alloc, dump))?;
         let maker = Maker::open(alloc, design, engine)?.fill()?;

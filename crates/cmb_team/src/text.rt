@@ -1,19 +1,82 @@
 //! The whole text of a design, by several threads.
 
-ghost use Rattle.std.specs.Prelude.{◌≡◌, ◌-◌, ◌^◌, ◌<◌, length, IfErr, IfOk, OnOk};
+ghost use Rattle.std.specs.Prelude.{◌≡◌, ◌-◌, ◌^◌, ◌<◌, ◌≤◌, length, IfErr, IfOk, OnOk};
 ghost use Rattle.std.specs.Io.KnownBytes.{Appends};
 ghost use Rattle.cmb_stream.specs.Streams.{IsBrokenOff};
 ghost use Rattle.cmb_vcd.specs.Vcd.{vcd};
 
 use crate::team::Team;
 use cmb_design::Design;
-use cmb_stream::{StreamFault, stream_text, write_stream};
+use cmb_stream::{Stream, StreamFault, stream_rest, stream_text, write_rest, write_stream};
 use cmb_vcd::Sink;
 use std::alloc::{AllocError, Global};
 use std::thread::Threads;
 
 // What is written at a time has so many bytes at least.
 const PART: usize = 65_536;
+
+// So many bytes of the text are made in one thread before it is asked whether more of them pay.
+const FIRST: usize = 524_288;
+
+// What is left has so many bytes at least, where threads pay for it: an estimate.
+const LEAST: u64 = 6_291_456;
+
+// So many bytes a tick, where windows are large enough to be told apart: an estimate.
+const DENSE: u64 = 64;
+
+// The first part of a text, in one thread.
+fn begin(alloc: Global, design: &Design) -> Result<Stream<'_>, AllocError>
+    ensures design { IfOk result (λ stream. stream.design ≡ design.entry.now) }
+    ensures given { IfOk result (λ stream. stream.given ≡ 0) }
+{
+    let mut stream = Stream::open(alloc, design)?;
+    while !stream.is_done() {
+        if stream.kept() >= FIRST {
+            return Ok(stream);
+        }
+        stream = stream.step()?;
+    }
+    Ok(stream)
+}
+
+// Whether more than one thread pays for the rest of a text, going by what was made of it.
+fn pays(stream: &Stream<'_>, design: &Design) -> bool {
+    let made = u64::from(stream.clock());
+    let left = u64::from(design.horizon()).saturating_sub(made);
+    let dense = stream.kept() as u64 / made;
+    dense >= DENSE && dense.saturating_mul(left) >= LEAST
+}
+
+// Makes the rest of a team's text, of which nothing was handed on.
+fn team_rest<R: Threads + Sync>(rt: &R, team: Team<'_>) -> Result<Vec<u8>, AllocError>
+    requires { team.given ≡ 0 }
+    ensures { IfOk result (λ text. text.items ≡ vcd team.entry.design) }
+{
+    let mut team = team;
+    while !team.is_done() {
+        team = team.step(rt)?;
+    }
+    Ok(team.into_text())
+}
+
+// Makes the rest of a stream's text, of which nothing was handed on, by a team where that pays.
+fn text_rest<R: Threads + Sync>(
+    rt: &R,
+    alloc: Global,
+    design: &Design,
+    threads: u32,
+    stream: Stream<'_>,
+) -> Result<Vec<u8>, AllocError>
+    requires threads { 1 ≤ threads }
+    requires design { stream.design ≡ design.now }
+    requires all { stream.given ≡ 0 }
+    ensures { IfOk result (λ text. text.items ≡ vcd design.now) }
+{
+    if !pays(&stream, design) {
+        return stream_rest(stream);
+    }
+    team_rest(rt, Team::of(alloc, design, stream, threads as usize)?)
+}
 
 /// The VCD text of a design's run, whole in memory, by so many threads at most; with one thread, or none, by
 /// `stream_text`. Threads are started only where there is enough to do for them. The text is the same for any number.
@@ -28,15 +91,12 @@ pub fn team_text<R: Threads + Sync>(
     if threads < 2 {
         return stream_text(alloc, design);
     }
-    let mut team = Team::open(alloc, design, threads as usize)?;
-    while !team.is_done() {
-        team = team.step(rt)?;
-    }
-    Ok(team.into_text())
+    let stream = begin(alloc, design)?;
+    text_rest(rt, alloc, design, threads, stream)
 }
 
 // Makes the rest of a text and writes it, part after part. Gives the text's length.
-fn write_rest<R: Threads + Sync, S: Sink>(
+fn write_by_team<R: Threads + Sync, S: Sink>(
     rt: &R,
     team: Team<'_>,
     sink: &mut S,
@@ -59,6 +119,31 @@ fn write_rest<R: Threads + Sync, S: Sink>(
     Ok(team.given())
 }
 
+// Writes a stream's text, of which nothing was handed on, by a team where that pays. Gives its length.
+fn write_on<R: Threads + Sync, S: Sink>(
+    rt: &R,
+    alloc: Global,
+    design: &Design,
+    threads: u32,
+    stream: Stream<'_>,
+    sink: &mut S,
+) -> Result<u64, StreamFault>
+    requires room { S.failures sink.old < 2 ^ 64 - 1 }
+    requires threads { 1 ≤ threads }
+    requires design { stream.design ≡ design.now }
+    requires all { stream.given ≡ 0 }
+    ensures length { IfOk result (λ written. written ≡ length (vcd design.now)) }
+    ensures text { OnOk result (Appends (S.taken sink.old) (S.taken sink.new) (vcd design.now)) }
+    ensures no_failure { OnOk result (S.failures sink.new ≡ S.failures sink.old) }
+    ensures fault { IfErr result (IsBrokenOff design.now (S.taken sink.old) (S.taken sink.new) (S.failures sink.old) (S.failures sink.new)) }
+{
+    if !pays(&stream, design) {
+        return write_rest(stream, sink);
+    }
+    let team = Team::of(alloc, design, stream, threads as usize)?;
+    write_by_team(rt, team, sink)
+}
+
 /// Writes the VCD text of a design's run while it is made, by so many threads at most, and gives its length; with one
 /// thread, or none, by `write_stream`. What it needs of memory doesn't grow with the horizon. Whatever the fault, the
 /// sink took a beginning of the text. A failed write is the answer then and only then; else memory was refused.
@@ -78,6 +163,6 @@ pub fn write_team<R: Threads + Sync, S: Sink>(
     if threads < 2 {
         return write_stream(alloc, design, sink);
     }
-    let team = Team::open(alloc, design, threads as usize)?;
-    write_rest(rt, team, sink)
+    let stream = begin(alloc, design)?;
+    write_on(rt, alloc, design, threads, stream, sink)
 }

@@ -1,7 +1,9 @@
 //! The lines of the text.
 
-ghost use Rattle.std.specs.Prelude.{◌≡◌, ◌++◌, OnOk};
+ghost use Rattle.std.specs.Prelude.{◌≡◌, ◌<◌, ◌≤◌, ◌++◌, length, map, All, OnOk};
 ghost use Rattle.std.specs.List.{list_all};
+ghost use Rattle.cmb_bench.specs.Netlist.{name_of};
+ghost use Rattle.cmb_vcd.specs.Chosen.{chosen_from};
 ghost use Rattle.cmb_vcd.specs.Vcd.{begins_identifier, code, continues_identifier, header, is_identifier, level_byte, reference, tick_line, var_line, var_lines};
 
 use cmb_bench::Netlist;
@@ -111,6 +113,36 @@ pub fn push_header(out: &mut Vec<u8>, netlist: &Netlist) -> Result<(), AllocErro
         b"$version cmbsim 1 $end\n$timescale 1 ns $end\n$scope module top $end\n",
     )?;
     push_vars(out, netlist)?;
+    out.extend_from_slice(b"$upscope $end\n$enddefinitions $end\n")?;
+    Ok(())
+}
+
+/// The declarations of chosen nets, each with the code of its place in the list.
+fn push_chosen_vars(out: &mut Vec<u8>, netlist: &Netlist, nets: &[u32]) -> Result<(), AllocError>
+    requires nets { All (λ net. net < length netlist.now.names) nets.now }
+    requires few { length nets.now ≤ 65535 }
+    ensures { OnOk result (out.new.items ≡ out.old.items ++ var_lines 0 (map (name_of netlist.now) nets.now)) }
+{
+    for (place, net) in nets.iter().enumerate() {
+        push_var(out, place as u32, netlist.name(*net as usize))?;
+    }
+    Ok(())
+}
+
+/// The same lines where some nets are chosen.
+pub fn push_chosen_header(
+    out: &mut Vec<u8>,
+    netlist: &Netlist,
+    nets: &[u32],
+) -> Result<(), AllocError>
+    requires nets { All (λ net. net < length netlist.now.names) nets.now }
+    requires few { length nets.now ≤ 65535 }
+    ensures { OnOk result (out.new.items ≡ out.old.items ++ header (chosen_from netlist.now nets.now)) }
+{
+    out.extend_from_slice(
+        b"$version cmbsim 1 $end\n$timescale 1 ns $end\n$scope module top $end\n",
+    )?;
+    push_chosen_vars(out, netlist, nets)?;
     out.extend_from_slice(b"$upscope $end\n$enddefinitions $end\n")?;
     Ok(())
 }

@@ -3,11 +3,11 @@
 
 ghost use Rattle.std.specs.Prelude.{◌≡◌, ◌-◌, ◌^◌, ◌<◌, IfOk};
 
-use cmb_explain::{Place, explanation_of};
 use cmb_sim::{
-    DesignFault, Fault, FromReader, Line, LineFault, Sink, Source, Task, ToWriter, check_design,
-    counts_text, fault_line, line_message, read_line, simulate, write_whole,
+    DesignFault, Done, Fault, FromReader, Line, LineFault, Source, ToWriter, carry_out, fault_line,
+    line_message, read_line, write_whole,
 };
+use cmb_tell::{Given, Kept, done_words, fault_words};
 use std::fs::File;
 use std::io::{Read, Write};
 use std::process::ExitCode;
@@ -97,106 +97,50 @@ fn print(rt: &HostRuntime, text: &str) -> Result<(), Fault> {
     }
 }
 
-// Does what the line asks for, with what these sources have. Only `main` may lend the runtime as one that starts threads, so
-// it comes once more as that.
-fn carry_out<R: AllocGlobal + Threads + Wait + Sync, B: Source, D: Source, S: Source, C: Source>(
-    rt: &HostRuntime,
-    threads: &R,
-    line: &Line,
-    bench: &mut B,
-    delays: &mut D,
-    stimuli: &mut S,
-    clocks: &mut C,
-) -> Result<(), Fault>
-    requires bench { B.failures bench.old < 2 ^ 64 - 1 }
-    requires delays { D.failures delays.old < 2 ^ 64 - 1 }
-    requires stimuli { S.failures stimuli.old < 2 ^ 64 - 1 }
-    requires clocks { C.failures clocks.old < 2 ^ 64 - 1 }
+// A source whose bytes are kept where the line wants a fault in words.
+fn kept<S: Source>(rt: &HostRuntime, line: &Line, source: S) -> Kept<S>
+    requires { S.failures source < 2 ^ 64 - 1 }
+    ensures { ⟦<Kept<S> as Source>⟧.failures result < 2 ^ 64 - 1 }
 {
-    let settings = line.settings;
-    match line.task {
-        Task::Run => {
-            let mut out = ToWriter::new(rt.stdout());
-            simulate(
-                threads, bench, delays, stimuli, clocks, settings, line.mode, &mut out,
-            )?;
-            Ok(())
-        }
-        Task::Check => {
-            let counts = check_design(rt.alloc(), bench, delays, stimuli, clocks, settings)?;
-            let text = counts_text(rt.alloc(), &counts)?;
-            print(rt, text.as_str())
-        }
-    }
+    Kept::new(rt.alloc(), source, line.explain)
 }
 
-// How the input with this number is called: by its path where it is a file.
-fn input_name(line: &Line, input: u64) -> &str {
-    let file = match input {
-        2 => &line.delays,
-        3 => &line.stimuli,
-        4 => &line.clocks,
-        _ => return "the netlist",
-    };
-    match file {
-        Some(name) => name.as_str(),
-        None => "a table",
-    }
-}
-
-// How the table is called in which the fault with this number stands, where just one can have it.
-fn table_name(line: &Line, number: u32) -> &str {
-    match number {
-        27 | 28 | 32 | 34 | 35 => input_name(line, 2),
-        30 | 31 => input_name(line, 3),
-        36 | 37 => input_name(line, 4),
-        _ => "a table",
-    }
-}
-
-// A fault in words: where it stands, and what is wrong there.
-fn words_of(rt: &HostRuntime, line: &Line, number: u32, place: u64) -> Option<String> {
-    let entry = explanation_of(number)?;
-    let meaning = entry.meaning;
-    let words = match entry.place {
-        Place::Line => format!(in rt.alloc(); "cmbsim: the netlist, line {place}: {meaning}\n"),
-        Place::Record => {
-            let name = table_name(line, number);
-            format!(in rt.alloc(); "cmbsim: {name}, record {place}: {meaning}\n")
-        }
-        Place::Input => {
-            let name = input_name(line, place);
-            format!(in rt.alloc(); "cmbsim: {name}: {meaning}\n")
-        }
-        Place::Bytes => format!(in rt.alloc(); "cmbsim: after {place} bytes: {meaning}\n"),
-        Place::Net | Place::Nowhere => format!(in rt.alloc(); "cmbsim: {meaning}\n"),
-    };
-    words.ok()
-}
-
-// Opens the tables, reads the inputs, and does what the line asks for.
+// Opens the tables, and hands all over to what the line asks for. Only `main` may lend the runtime as one that starts threads, so
+// it comes once more as that.
 fn do_line<R: AllocGlobal + Threads + Wait + Sync>(
     rt: &HostRuntime,
     threads: &R,
     line: &Line,
-) -> Result<(), Told> {
-    let mut tables = open_tables(rt, line)?;
+) -> Result<Done, Told> {
+    let tables = open_tables(rt, line)?;
+    let mut bench = kept(rt, line, FromReader::new(rt.stdin()));
+    let mut delays = kept(rt, line, tables.delays);
+    let mut stimuli = kept(rt, line, tables.stimuli);
+    let mut clocks = kept(rt, line, tables.clocks);
     let done = carry_out(
-        rt,
         threads,
         line,
-        &mut FromReader::new(rt.stdin()),
-        &mut tables.delays,
-        &mut tables.stimuli,
-        &mut tables.clocks,
+        &mut bench,
+        &mut delays,
+        &mut stimuli,
+        &mut clocks,
+        &mut ToWriter::new(rt.stdout()),
     );
-    match done {
-        Ok(()) => Ok(()),
-        Err(fault) => {
-            let words = words_of(rt, line, fault.number(), fault.place());
-            Err(Told { fault, words })
-        }
-    }
+    let fault = match done {
+        Ok(done) => return Ok(done),
+        Err(fault) if !line.explain => return Err(Told::from(fault)),
+        Err(fault) => fault,
+    };
+    let given = Given {
+        line,
+        settings: line.settings,
+        bench: bench.given(),
+        delays: delays.given(),
+        stimuli: stimuli.given(),
+        clocks: clocks.given(),
+    };
+    let words = fault_words(rt.alloc(), &given, &fault).ok();
+    Err(Told { fault, words })
 }
 
 // Prints the fault, if memory allows.
@@ -208,18 +152,24 @@ fn tell(rt: &HostRuntime, fault: &Fault) -> ExitCode {
 }
 
 // The status of a line that was done, and what is told where it wasn't.
-fn status_of(rt: &HostRuntime, line: &Line, done: Result<(), Told>) -> ExitCode {
-    let told = match done {
-        Ok(()) => return ExitCode::SUCCESS,
-        Err(told) => told,
-    };
-    let status = tell(rt, &told.fault);
-    if let Some(words) = &told.words {
-        if line.explain {
-            let _ = rt.stderr().write_all(words.as_bytes());
+fn status_of(rt: &HostRuntime, line: &Line, done: Result<Done, Told>) -> ExitCode {
+    match done {
+        Ok(done) => {
+            if line.explain {
+                let _ = rt.stderr().write_all(done_words(&done).as_bytes());
+            }
+            ExitCode::SUCCESS
+        }
+        Err(told) => {
+            let status = tell(rt, &told.fault);
+            if let Some(words) = &told.words {
+                if line.explain {
+                    let _ = rt.stderr().write_all(words.as_bytes());
+                }
+            }
+            status
         }
     }
-    status
 }
 
 // The text of help goes to standard output. Where that doesn't take it, this is a fault, as of any text.

@@ -43,7 +43,8 @@ fn counts(rt: HostRuntime) -> Result<(), Fail> {
                 "       1  gates NAND\n",
                 "       0  gates XOR\n",
                 "       2  gates NOT\n",
-                "       1  flip-flops\n",
+                "       1  flip-flops\n       0  flip-flops that never sample\n",
+                "       1  nets that drive nothing and are no outputs\n",
                 "       7  ticks in the largest delay\n",
             ] {
                 assert!(rt; text.as_str().contains(row), "{text}");

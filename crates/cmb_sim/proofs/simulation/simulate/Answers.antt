@@ -1,4 +1,3 @@
-use Rattle.std.proofs.Common.{◌≡◌}
 use Rattle.std.proofs.lemmas.Result.{err_from_is_err_and}
 use Rattle.cmb_sim.proofs.Outcomes.{IsOutcome-unread, IsOutcome-written_or_not}
 use Rattle.cmb_sim.proofs.simulation.simulate.Goals as goal

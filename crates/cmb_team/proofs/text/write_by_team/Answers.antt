@@ -4,7 +4,7 @@ use Rattle.std.proofs.lemmas.Result.{err_from_is_err_and}
 use Rattle.cmb_design.specs.Design.{Design}
 use Rattle.cmb_stream.proofs.StreamFacts.{Appends-whole, made-whole}
 use Rattle.cmb_stream.specs.Streams.{IsBrokenOff}
-use Rattle.cmb_team.proofs.text.write_rest.Goals as goal
+use Rattle.cmb_team.proofs.text.write_by_team.Goals as goal
 use Rattle.cmb_vcd.specs.Vcd.{vcd}
 
 pub returns-clause-length : goal.returns-clause-length

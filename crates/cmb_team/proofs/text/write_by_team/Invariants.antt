@@ -1,7 +1,7 @@
 use Rattle.std.proofs.Common.{◌≡◌, ◌-◌, take}
 use Rattle.std.specs.Io.KnownBytes.{Appends}
 use Rattle.cmb_vcd.specs.Vcd.{vcd}
-use Rattle.cmb_team.proofs.text.write_rest.Given as goal
+use Rattle.cmb_team.proofs.text.write_by_team.Given as goal
 
 -- the sink took what was handed on
 abbrev pub invariant-loop-team : goal.invariant-loop-team

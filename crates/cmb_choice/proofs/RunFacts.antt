@@ -1,0 +1,59 @@
+-- The text of chosen nets as it is made, and the part of a design in which they have the text that they have in the whole.
+use Rattle.std.proofs.Common.{◌≡◌, ◌∙◌, ℕ, ◌<◌, ◌≤◌, List, [], ◌++◌, length, map, get_or, ap, append_assoc, arith, sym, subst}
+use Rattle.std.specs.Prelude.{All}
+use Rattle.std.specs.List.Sorted.{IsStrictlyIncreasing}
+use Rattle.std.proofs.lemmas.List.{get_or-map, length-map}
+use Rattle.std.proofs.lemmas.List.Elements.{All-weaker}
+use Rattle.cmb_bench.specs.Netlist.{name_of}
+use Rattle.cmb_design.specs.Design.{Design}
+use Rattle.cmb_design.specs.Exact.{nets_of}
+use Rattle.cmb_design.specs.Value.{value}
+use Rattle.cmb_dump.specs.Excerpts.{AreAmong}
+use Rattle.cmb_restrict.specs.Restriction.{IsRestriction}
+use Rattle.cmb_vcd.specs.Chosen.{vcd_of}
+use Rattle.cmb_words.specs.Changes.{Tells}
+use Rattle.cmb_words.specs.declared.changed.Changed.{Changed}
+use Rattle.cmb_vcd.proofs.ChosenFacts.{vcd_of-part}
+use Rattle.cmb_choice.specs.Runs.{shown_text}
+
+-- at the horizon the text is whole
+pub shown-whole : (design own : Design) (nets shown : List ℕ) (upto : ℕ) (text : List ℕ) → own ≡ design → shown ≡ nets → upto ≡ design.horizon → text ≡ shown_text design nets upto → text ≡ vcd_of design nets
+unfolding vcd_of
+shown-whole design own nets shown upto text a b done is = is ∙ ap (shown_text design nets) done
+
+-- a window more
+pub shown-more : (front text more all old new : List ℕ) → all ≡ text ++ more → new ≡ old ++ more → front ++ text ≡ old → front ++ all ≡ new
+shown-more front text more all old new a b is = ap (λ t. front ++ t) a ∙ sym (append_assoc front text more) ∙ ap (λ t. t ++ more) is ∙ sym b
+
+-- chosen nets in a part
+pub part-text : (design part : Design) (nets chosen places : List ℕ) → IsRestriction design nets part
+    → ((i tick : ℕ) → i < length nets → value part i tick ≡ value design (get_or nets i 0) tick)
+    → All (λ place. place < length nets) places → map (λ place. get_or nets place 0) places ≡ chosen → vcd_of part places ≡ vcd_of design chosen
+part-text design part nets chosen places is values within same =
+    vcd_of-part design part nets places is.horizon (λ net h. ap (λ names. get_or names net []) is.netlist.names ∙ get_or-map (name_of design.netlist) nets net 0 [] h) values within
+    ∙ ap (vcd_of design) same
+
+-- what an engine tells, as an excerpt is told it
+pub tells-as : (own shown design : Design) (from clock upto end : ℕ) (changed read : List Changed) → own ≡ design → shown ≡ design → from ≡ clock → end ≡ upto → read ≡ changed
+    → Tells (value own) (nets_of own) from upto changed → Tells (value shown) (nets_of shown) clock end read
+tells-as own shown design from clock upto end changed read a b f u r told = rw (b, sym f, u, r) (rw a at told)
+
+-- a step more, where nothing was handed on
+pub next-text : (design own : Design) (nets shown : List ℕ) (clock later : ℕ) (text more : List ℕ) → own ≡ design → shown ≡ nets → text ≡ shown_text design nets clock
+    → ((front : List ℕ) → front ++ text ≡ shown_text own shown clock → front ++ more ≡ shown_text own shown later) → more ≡ shown_text design nets later
+next-text design own nets shown clock later text more a b is step =
+    let OfDesign : Design → Type 0 = λ d. (front : List ℕ) → front ++ text ≡ shown_text d shown clock → front ++ more ≡ shown_text d shown later in
+    let OfNets : List ℕ → Type 0 = λ n. (front : List ℕ) → front ++ text ≡ shown_text design n clock → front ++ more ≡ shown_text design n later in
+    subst OfNets b (subst OfDesign a step) [] is
+
+-- the chosen nets are nets of the part
+pub part-among : (design part : Design) (nets read places : List ℕ) → IsRestriction design nets part → read ≡ nets → IsStrictlyIncreasing places → All (λ place. place < length read) places → length places ≤ 65535
+    → AreAmong (nets_of part) places
+part-among design part nets read places is same rising within few = record {
+  rising = rising;
+  within =
+      let long : length part.netlist.names ≡ length nets = ap length is.netlist.names ∙ length-map nets (name_of design.netlist) in
+      let same : length read ≡ length nets = ap length same in
+      All-weaker (λ place. place < length read) (λ place. place < length part.netlist.names) (λ place h. omega (arith, long, same)) places within;
+  few = few;
+}

@@ -1,0 +1,14 @@
+use Rattle.std.proofs.Common.{◌≡◌, ◌≤◌, ◌-◌}
+use Rattle.cmb_choice.specs.Runs.{shown_text}
+use Rattle.cmb_choice.proofs.text.shown_text.Given as goal
+
+abbrev pub invariant-loop-run : goal.invariant-loop-run
+invariant-loop-run l = record {
+  design : l.run.design ≡ l.design;
+  nets : l.run.nets ≡ l.nets;
+  within : l.run.clock ≤ l.design.horizon;
+  text : l.run.text ≡ shown_text l.design l.nets l.run.clock;
+}
+
+abbrev pub decreases-loop-run : goal.decreases-loop-run
+decreases-loop-run l = l.design.horizon - l.run.clock

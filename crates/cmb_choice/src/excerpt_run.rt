@@ -1,0 +1,122 @@
+//! The text of chosen nets as the engine goes on.
+
+ghost use Rattle.std.specs.Prelude.{◌≡◌, ℕ, ◌<◌, ◌≤◌, ◌++◌, List, false, true, length, slice_index, slice_index_or, All, IfOk};
+ghost use Rattle.cmb_wave.specs.declared.level.Level.TheVariants.{X};
+ghost use Rattle.cmb_design.specs.Exact.{nets_of};
+ghost use Rattle.cmb_design.specs.Value.{value};
+ghost use Rattle.cmb_choice.specs.Runs.{shown_text};
+ghost use Rattle.cmb_dump.specs.Excerpts.{AreAmong};
+
+use cmb_design::Design;
+use cmb_dump::Excerpt;
+use cmb_engine::Engine;
+use cmb_wave::Level;
+use cmb_words::Changed;
+use std::alloc::{AllocError, Global};
+use std::marker::Model;
+
+// The levels of chosen nets at tick 0, as the engine begins.
+fn first_levels(alloc: Global, nets: &[u32], engine: &Engine<'_>) -> Result<Vec<Level>, AllocError>
+    requires nets { All (λ net. net < nets_of engine.now.design) nets.now }
+    requires clock { engine.now.clock ≡ 1 }
+    ensures count { IfOk result (λ levels. length levels.items ≡ length nets.now) }
+    ensures levels { IfOk result (λ levels. (place : ℕ) → place < length nets.now → slice_index_or levels.items place X ≡ value engine.now.design (slice_index nets.now place) 0) }
+{
+    let mut levels = Vec::with_capacity(alloc, nets.len())?;
+    for net in nets {
+        levels.push(engine.level(*net as usize))?;
+    }
+    Ok(levels)
+}
+
+/// The text of chosen nets of a design, as far as it was made.
+#[derive(Drop)]
+pub(crate) struct Run<'a> {
+    design: &'a Design,
+    engine: Engine<'a>,
+    excerpt: Excerpt<'a>,
+    changed: Vec<Changed>,
+    text: Vec<u8>,
+}
+
+impl<'a> Model for Run<'a> {
+    ghost use Rattle.cmb_choice.specs.Runs.{IsRun, Run};
+
+    ghost Value = { Run };
+
+    ghost view = { λ r. record { design = r.excerpt.design; nets = r.excerpt.nets; clock = r.excerpt.clock; text = r.text.items } };
+
+    ghost invariant = { λ r. IsRun r.design.now r.engine r.excerpt };
+}
+
+impl<'a> Run<'a> {
+    /// The text up to tick 1: the declarations, and the levels at tick 0.
+    pub(crate) fn open(
+        alloc: Global,
+        design: &'a Design,
+        nets: &'a [u32],
+    ) -> Result<Run<'a>, AllocError>
+        requires { AreAmong (nets_of design.now) nets.now }
+        ensures design { IfOk result (λ run. run.design ≡ design.entry.now) }
+        ensures nets { IfOk result (λ run. run.nets ≡ nets.entry.now) }
+        ensures text { IfOk result (λ run. run.text ≡ shown_text design.entry.now nets.entry.now run.clock) }
+        ensures within { IfOk result (λ run. run.clock ≤ design.entry.now.horizon) }
+    {
+        let engine = Engine::open(alloc, design)?;
+        let levels = first_levels(alloc, nets, &engine)?;
+        let excerpt = Excerpt::open(alloc, design, nets, &levels)?;
+        let text = excerpt.text().to_vec(alloc)?;
+        let _begun = engine.clock();
+        Ok(Run {
+            design,
+            engine,
+            excerpt,
+            changed: Vec::new(alloc),
+            text,
+        })
+    }
+
+    /// Whether the whole text was made.
+    pub(crate) fn is_done(&self) -> bool
+        ensures done { result ≡ true → self.now.design.horizon ≤ self.now.clock }
+        ensures open { result ≡ false → self.now.clock < self.now.design.horizon }
+    {
+        self.excerpt.clock() >= self.design.horizon()
+    }
+
+    /// Goes on by a window, whose text comes behind what there is.
+    pub(crate) fn step(self) -> Result<Run<'a>, AllocError>
+        requires { self.clock < self.design.horizon }
+        ensures design { IfOk result (λ run. run.design ≡ self.entry.design) }
+        ensures nets { IfOk result (λ run. run.nets ≡ self.entry.nets) }
+        ensures later { IfOk result (λ run. self.entry.clock < run.clock) }
+        ensures within { IfOk result (λ run. run.clock ≤ self.entry.design.horizon) }
+        ensures text { (front : List ℕ) → front ++ self.entry.text ≡ shown_text self.entry.design self.entry.nets self.entry.clock
+            → IfOk result (λ run. front ++ run.text ≡ shown_text self.entry.design self.entry.nets run.clock) }
+    {
+        let Run {
+            design,
+            engine,
+            mut excerpt,
+            mut changed,
+            mut text,
+        } = self;
+        let engine = engine.advance(&mut changed)?;
+        excerpt.window(&changed, engine.clock())?;
+        text.extend_from_slice(excerpt.text())?;
+        Ok(Run {
+            design,
+            engine,
+            excerpt,
+            changed,
+            text,
+        })
+    }
+
+    /// The text.
+    pub(crate) fn into_text(self) -> Vec<u8>
+        ensures { result.items ≡ self.entry.text }
+    {
+        self.text
+    }
+}

@@ -1,0 +1,59 @@
+//! The text of chosen nets.
+
+ghost use Rattle.std.specs.Prelude.{◌≡◌, ◌<◌, ◌≤◌, length, map, slice_index, All, IfOk};
+ghost use Rattle.cmb_choice.specs.Runs.{IsPartOf};
+ghost use Rattle.cmb_design.specs.Exact.{nets_of};
+ghost use Rattle.cmb_dump.specs.Excerpts.{AreAmong};
+ghost use Rattle.cmb_vcd.specs.Chosen.{vcd_of};
+
+use crate::excerpt_run::Run;
+use cmb_design::Design;
+use cmb_restrict::{closure, places_in, restrict};
+use std::alloc::{AllocError, Global};
+
+/// The part of a design on which chosen nets depend, and the numbers there of the chosen nets, in their order.
+#[derive(Drop)]
+pub struct Part {
+    pub design: Design,
+    pub nets: Vec<u32>,
+}
+
+/// The least part of a design that has the chosen nets, which rise, and with each net those that its value rule asks for. The
+/// chosen nets have the same text there.
+pub fn part_of(alloc: Global, design: &Design, chosen: &[u32]) -> Result<Part, AllocError>
+    requires { AreAmong (nets_of design.now) chosen.now }
+    ensures part { IfOk result (λ part. IsPartOf design.now chosen.now part.design part.nets.items) }
+    ensures among { IfOk result (λ part. AreAmong (nets_of part.design) part.nets.items) }
+    ensures text { IfOk result (λ part. vcd_of part.design part.nets.items ≡ vcd_of design.now chosen.now) }
+{
+    let count = design.netlist().len();
+    let nets = closure(alloc, design.netlist(), chosen)?;
+    let part = restrict(alloc, design, &nets)?;
+    let places = places_in(alloc, count, &nets, chosen)?;
+    Ok(Part {
+        design: part,
+        nets: places,
+    })
+}
+
+/// The VCD text of some nets of a design's run, which rise, whole in memory. All nets of the design are simulated.
+fn shown_text(alloc: Global, design: &Design, nets: &[u32]) -> Result<Vec<u8>, AllocError>
+    requires { AreAmong (nets_of design.now) nets.now }
+    ensures { IfOk result (λ text. text.items ≡ vcd_of design.now nets.now) }
+{
+    let mut run = Run::open(alloc, design, nets)?;
+    while !run.is_done() {
+        run = run.step()?;
+    }
+    Ok(run.into_text())
+}
+
+/// The VCD text of chosen nets of a design's run, which rise, whole in memory. Only nets on which a chosen one depends are
+/// simulated. Errors: memory was refused.
+pub fn chosen_text(alloc: Global, design: &Design, chosen: &[u32]) -> Result<Vec<u8>, AllocError>
+    requires { AreAmong (nets_of design.now) chosen.now }
+    ensures { IfOk result (λ text. text.items ≡ vcd_of design.now chosen.now) }
+{
+    let part = part_of(alloc, design, chosen)?;
+    shown_text(alloc, &part.design, &part.nets)
+}

@@ -1,0 +1,68 @@
+-- Marks of nets.
+use Rattle.std.proofs.Common.{◌≡◌, ◌||◌, ◌∙◌, ℕ, ◌+◌, ◌<◌, ◌≤◌, Bool, true, false, not, List, [], ◌∷◌, length, get_or, set, take, nat_eq, add-one, ap, sym, refl, subst, arith, rules, inl, inr, ⊎_elim}
+use Rattle.std.specs.List.{list_any}
+use Rattle.std.specs.Prelude.{All}
+use Rattle.std.proofs.Math.Bool.{or_assoc}
+use Rattle.std.proofs.lemmas.List.Elements.{All-cons, All-nil}
+use Rattle.cmb_bench.specs.Netlist.{Netlist, IsNetlist, IsWired, driver_of, pins_of}
+use Rattle.cmb_bench.specs.declared.netlist.Driver.{Driver}
+use Rattle.cmb_bench.specs.declared.netlist.Driver.TheVariants.{Input, Gate, Flop}
+use Rattle.cmb_design.specs.Settings.{any_below}
+use Rattle.cmb_design.proofs.PlainFacts.{driver-wired}
+use Rattle.std.proofs.lemmas.Bool.{eqb-false, eqb-true}
+use Rattle.std.proofs.lemmas.Grind.{get_or-set_at}
+use Rattle.std.proofs.lemmas.List.{get_or-set_other}
+use Rattle.std.proofs.lemmas.List.Folds.{list_any_more}
+use Rattle.cmb_count.specs.Unused.{is_among, is_read_by, is_used_below}
+
+or_true : (a b : Bool) → (a || (b || true)) ≡ true
+or_true true b = refl
+or_true false true = refl
+or_true false false = refl
+
+or_false : (a b : Bool) → (a || (b || false)) ≡ (a || b)
+or_false true b = refl
+or_false false true = refl
+or_false false false = refl
+
+-- one more mark of a list
+pub marked_more : (marks : List Bool) (old : Bool) (nets : List ℕ) (i net : ℕ) → i < length nets → get_or nets i 0 < length marks
+    → get_or marks net false ≡ (old || is_among (take i nets) net)
+    → get_or (set marks (get_or nets i 0) true) net false ≡ (old || is_among (take (i + 1) nets) net)
+marked_more marks old nets i net within low before = by (nat_eq net (get_or nets i 0)) refl
+  where
+    more : is_among (take (i + 1) nets) net ≡ (is_among (take i nets) net || nat_eq net (get_or nets i 0))
+    more = list_any_more (nat_eq net) nets i 0 within
+
+    by : (b : Bool) → nat_eq net (get_or nets i 0) ≡ b → get_or (set marks (get_or nets i 0) true) net false ≡ (old || is_among (take (i + 1) nets) net)
+    by true e =
+        get_or-set_at marks (get_or nets i 0) net true false (eqb-true _ _ e) low
+        ∙ sym (ap (λ x. old || x) (more ∙ ap (λ x. is_among (take i nets) net || x) e) ∙ or_true old (is_among (take i nets) net))
+    by false e =
+        get_or-set_other marks (get_or nets i 0) net true false (eqb-false _ _ e)
+        ∙ before ∙ sym (ap (λ x. old || x) (more ∙ ap (λ x. is_among (take i nets) net || x) e) ∙ or_false old (is_among (take i nets) net))
+
+-- the pins of a netlist's drivers are nets
+pins_wired : (nets : ℕ) (driver : Driver) → IsWired nets driver → All (λ net. net < nets) (pins_of driver)
+pins_wired nets Input w = All-nil (λ net. net < nets)
+pins_wired nets (Gate kind operands) w = w.1
+pins_wired nets (Flop source) w = All-cons (λ net. net < nets) source [] w (All-nil (λ net. net < nets))
+
+pub pins_are_nets : (netlist : Netlist) (net : ℕ) (driver : Driver) → IsNetlist netlist → net < length netlist.names → driver ≡ driver_of netlist net
+    → All (λ pin. pin < length netlist.names) (pins_of driver)
+pins_are_nets netlist net driver lawful within is = pins_wired (length netlist.names) driver (driver-wired netlist net driver lawful within is)
+
+-- the nets that one more net reads
+pub used_more : (netlist : Netlist) (net readers : ℕ) (driver : Driver) (old new : Bool) → driver ≡ driver_of netlist readers
+    → old ≡ is_used_below netlist readers net → new ≡ (old || is_among (pins_of driver) net) → new ≡ is_used_below netlist (readers + 1) net
+unfolding any_below
+used_more netlist net readers driver old new is before more = more ∙ rw (before, is, add-one) (or_assoc (is_among netlist.outputs net) (any_below (is_read_by netlist net) readers) (is_read_by netlist net readers))
+
+-- what no one of the first nets reads
+pub used_none : (netlist : Netlist) (net : ℕ) → (false || is_among netlist.outputs net) ≡ is_used_below netlist 0 net
+unfolding any_below
+used_none netlist net = by (is_among netlist.outputs net)
+  where
+    by : (b : Bool) → (false || b) ≡ (b || false)
+    by true = refl
+    by false = refl

@@ -1,0 +1,8 @@
+use Rattle.std.proofs.Common.{◌≡◌, ◌++◌, List, ℕ, OnOk, append_assoc, refl, subst, string_bytes}
+use Rattle.cmb_count.specs.Texts.{gate_rows}
+use Rattle.cmb_count.proofs.text.push_gates.Goals as goal
+
+pub returns : goal.returns
+returns c =
+    let all = rw (c.in_ok-push_row-7.ensures, c.in_ok-push_row-6.ensures, c.in_ok-push_row-5.ensures, c.in_ok-push_row-4.ensures, c.in_ok-push_row-3.ensures, c.in_ok-push_row-2.ensures, c.in_ok-push_row.ensures) at c.push_row-8.ensures in
+    rw (append_assoc, append_assoc, append_assoc, append_assoc, append_assoc, append_assoc, append_assoc) at all

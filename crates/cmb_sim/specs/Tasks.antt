@@ -1,0 +1,49 @@
+-- What comes of a line's task: the outcome of its run, or the counts of what its inputs spell.
+use Rattle.std.specs.Prelude.{◌≡◌, ◌+◌, ◌<◌, length, take, Result, Ok, Err}
+use Rattle.std.specs.Io.KnownBytes.{Appends}
+use Rattle.cmb_count.specs.Texts.{counts_rows}
+use Rattle.cmb_count.specs.declared.counts.Counts.{Counts}
+use Rattle.cmb_design.specs.declared.settings.Settings.{Settings}
+use Rattle.cmb_sim.specs.Checking.{IsChecked}
+use Rattle.cmb_sim.specs.Simulation.{Inputs, IsOutcome, IsUntouched, NoneFailedBut, Output, failed_input}
+use Rattle.cmb_sim.specs.Stages.{LacksDesign}
+use Rattle.cmb_sim.specs.declared.carrying.Done.{Done}
+use Rattle.cmb_sim.specs.declared.carrying.Done.TheVariants.{Ran, Checked}
+use Rattle.cmb_sim.specs.declared.fault.Fault.{Fault}
+use Rattle.cmb_sim.specs.declared.fault.Fault.TheVariants as fault
+use Rattle.cmb_sim.specs.declared.line.Line.{Line}
+use Rattle.cmb_sim.specs.declared.line.Task.{Task}
+use Rattle.cmb_sim.specs.declared.line.Task.TheVariants.{Run, Check}
+
+-- a run answers as a simulation does
+abbrev pub IsRun : Line → Inputs → Output → Result Done Fault → Type 0
+IsRun line i o (Ok (Ran report)) = IsOutcome line.settings line.mode i o (Ok report)
+IsRun line i o (Ok (Checked counts)) = ⊥
+IsRun line i o (Err f) = IsOutcome line.settings line.mode i o (Err f)
+
+-- The counts of the design that the inputs spell were written; or a beginning of them, and then a write failed; or there is no design,
+-- or no memory, and nothing was written.
+abbrev pub IsShown : Settings → Inputs → Output → Result Counts Fault → Type 0
+IsShown settings i o (Ok counts) = IsChecked settings i counts × Appends o.old o.new (counts_rows counts) × (o.after ≡ o.before)
+IsShown settings i o (Err (fault.Write n)) =
+    (counts : Counts) × IsChecked settings i counts
+    × (n < length (counts_rows counts)) × Appends o.old o.new (take n (counts_rows counts)) × (o.after ≡ o.before + 1)
+IsShown settings i o (Err f) = LacksDesign settings i f × IsUntouched o
+
+-- a read fails only where that is the answer
+abbrev pub IsCheck : Settings → Inputs → Output → Result Counts Fault → Type 0
+IsCheck settings i o answer = NoneFailedBut (failed_input answer) i × IsShown settings i o answer
+
+abbrev pub IsCheckOf : Line → Inputs → Output → Result Done Fault → Type 0
+IsCheckOf line i o (Ok (Ran report)) = ⊥
+IsCheckOf line i o (Ok (Checked counts)) = IsCheck line.settings i o (Ok counts)
+IsCheckOf line i o (Err f) = IsCheck line.settings i o (Err f)
+
+-- what comes of the task
+abbrev pub IsDoneBy : Task → Line → Inputs → Output → Result Done Fault → Type 0
+IsDoneBy Run line i o answer = IsRun line i o answer
+IsDoneBy Check line i o answer = IsCheckOf line i o answer
+
+-- what comes of a line, with its settings, its mode and its task
+abbrev pub IsDone : Line → Inputs → Output → Result Done Fault → Type 0
+IsDone line i o answer = IsDoneBy line.task line i o answer

@@ -1,0 +1,88 @@
+//! In which table a fault stands.
+
+ghost use Rattle.std.specs.Prelude.{◌≤◌, length};
+
+use crate::words::Given;
+use cmb_bench::read_bench;
+use cmb_design::{Design, DesignFault, Settings, read_clocks, read_delays, read_stimuli};
+use cmb_sim::reading::INPUT_LIMIT;
+use std::alloc::Global;
+
+/// A table.
+#[derive(Clone, Copy, Debug, PartialEq, Eq)]
+pub(crate) enum Table {
+    Delays,
+    Stimuli,
+    Clocks,
+}
+
+/// The tables in the order in which they are read and checked.
+const TABLES: [Table; 3] = [Table::Delays, Table::Stimuli, Table::Clocks];
+
+/// The text of a table.
+pub(crate) fn text_of<'a>(given: &Given<'a>, table: Table) -> &'a [u8] {
+    match table {
+        Table::Delays => given.delays,
+        Table::Stimuli => given.stimuli,
+        Table::Clocks => given.clocks,
+    }
+}
+
+// The text, where it is this table's; else that of a table which isn't given.
+fn text_if<'a>(given: &Given<'a>, table: Table, wanted: Table) -> &'a [u8]
+    ensures { length result.now ≤ 16777216 }
+{
+    let text = text_of(given, table);
+    if table == wanted && text.len() <= INPUT_LIMIT {
+        text
+    } else {
+        &[]
+    }
+}
+
+// A design of the netlist with one table alone, each flip-flop having a clock. Without a netlist it is out of memory.
+fn design_with(alloc: Global, given: &Given<'_>, table: Table) -> Result<Design, DesignFault> {
+    if given.bench.len() > INPUT_LIMIT {
+        return Err(DesignFault::Memory);
+    }
+    let Ok(netlist) = read_bench(alloc, given.bench) else {
+        return Err(DesignFault::Memory);
+    };
+    Design::new(
+        alloc,
+        netlist,
+        read_delays(alloc, text_if(given, Table::Delays, table))?,
+        read_stimuli(alloc, text_if(given, Table::Stimuli, table))?,
+        read_clocks(alloc, text_if(given, Table::Clocks, table))?,
+        Settings {
+            clock: Some((0, 1)),
+            ..given.settings
+        },
+    )
+}
+
+// The fault of a table's text alone.
+fn reading_fault(alloc: Global, given: &Given<'_>, table: Table) -> Option<DesignFault> {
+    let text = text_if(given, table, table);
+    match table {
+        Table::Delays => read_delays(alloc, text).err(),
+        Table::Stimuli => read_stimuli(alloc, text).err(),
+        Table::Clocks => read_clocks(alloc, text).err(),
+    }
+}
+
+/// The table in which a fault stands that was found by reading and checking: all tables are read in order, and then their rows are
+/// checked in order, so it is the first that has a fault there. `None` where memory was wanting, or where none has this fault.
+pub(crate) fn table_of(alloc: Global, given: &Given<'_>, fault: DesignFault) -> Option<Table> {
+    for table in TABLES {
+        if let Some(found) = reading_fault(alloc, given, table) {
+            return Some(table).filter(|_| found == fault);
+        }
+    }
+    for table in TABLES {
+        if let Err(found) = design_with(alloc, given, table) {
+            return Some(table).filter(|_| found == fault);
+        }
+    }
+    None
+}

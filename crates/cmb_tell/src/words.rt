@@ -1,0 +1,146 @@
+//! A fault in words.
+
+use crate::clocks::unclocked;
+use crate::netlist::{line_at, undriven};
+use crate::record::{push_wrong, record_at};
+use crate::table::{Table, table_of, text_of};
+use cmb_bench::read_bench;
+use cmb_explain::{Explanation, Place, explanation_of};
+use cmb_sim::reading::INPUT_LIMIT;
+use cmb_sim::{Done, Fault, Line, Settings};
+use std::alloc::{AllocError, Global};
+
+/// What a run or a check was given. A text that wasn't kept is empty.
+#[derive(Clone, Copy)]
+pub struct Given<'a> {
+    pub line: &'a Line,
+    pub settings: Settings,
+    pub bench: &'a [u8],
+    pub delays: &'a [u8],
+    pub stimuli: &'a [u8],
+    pub clocks: &'a [u8],
+}
+
+// How an input is called: a table by its path.
+fn input_name(line: &Line, input: u64) -> &str {
+    let file = match input {
+        2 => &line.delays,
+        3 => &line.stimuli,
+        4 => &line.clocks,
+        _ => return "the netlist",
+    };
+    match file {
+        Some(name) => name.as_str(),
+        None => "a table",
+    }
+}
+
+fn number_of(table: Table) -> u64 {
+    match table {
+        Table::Delays => 2,
+        Table::Stimuli => 3,
+        Table::Clocks => 4,
+    }
+}
+
+// A line of the netlist: what is wrong there, and what stands there.
+fn push_line(
+    text: &mut String,
+    given: &Given<'_>,
+    place: u64,
+    entry: Explanation,
+) -> Result<(), AllocError> {
+    let meaning = entry.meaning;
+    let line = line_at(given.bench, place);
+    write!(text, "the netlist, line {place}: {meaning}")?;
+    if line.is_empty() {
+        return Ok(());
+    }
+    let is_undriven = entry.number == 6;
+    if let Some(name) = undriven(given.bench, line).filter(|_| is_undriven) {
+        write!(text, ": {}, in", name.escape_ascii())?;
+    } else {
+        text.push_str(":")?;
+    }
+    write!(text, " {}", line.escape_ascii())
+}
+
+// A record of a table: the file and its line, and what is wrong there.
+fn push_record(
+    alloc: Global,
+    text: &mut String,
+    given: &Given<'_>,
+    fault: &Fault,
+    meaning: &str,
+) -> Result<(), AllocError> {
+    let place = fault.place();
+    let Fault::Design(fault) = fault else {
+        return write!(text, "a table, record {place}: {meaning}");
+    };
+    let Some(table) = table_of(alloc, given, *fault) else {
+        return write!(text, "a table, record {place}: {meaning}");
+    };
+    let name = input_name(given.line, number_of(table));
+    let Some(found) = record_at(alloc, text_of(given, table), place) else {
+        return write!(text, "{name}, record {place}: {meaning}");
+    };
+    let line = found.line;
+    write!(text, "{name}, line {line}: {meaning}: ")?;
+    push_wrong(text, table, *fault, &found.fields)
+}
+
+// A fault that stands at no one place. Of a flip-flop without a clock its net is named.
+fn push_nowhere(
+    alloc: Global,
+    text: &mut String,
+    given: &Given<'_>,
+    entry: Explanation,
+) -> Result<(), AllocError> {
+    text.push_str(entry.meaning)?;
+    if entry.number != 22 || given.bench.len() > INPUT_LIMIT {
+        return Ok(());
+    }
+    let Ok(netlist) = read_bench(alloc, given.bench) else {
+        return Ok(());
+    };
+    match unclocked(alloc, &netlist, given.clocks) {
+        Some(name) => write!(text, ": {}", name.escape_ascii()),
+        None => Ok(()),
+    }
+}
+
+/// A fault in words, on a line of its own: the input by its path, the line of the file, what is wrong, and what stands there.
+pub fn fault_words(alloc: Global, given: &Given<'_>, fault: &Fault) -> Result<String, AllocError> {
+    let mut text = String::from_str(alloc, "cmbsim: ")?;
+    let place = fault.place();
+    let Some(entry) = explanation_of(fault.number()) else {
+        return Ok(text);
+    };
+    let meaning = entry.meaning;
+    match entry.place {
+        Place::Line => push_line(&mut text, given, place, entry)?,
+        Place::Record => push_record(alloc, &mut text, given, fault, meaning)?,
+        Place::Input => {
+            let name = input_name(given.line, place);
+            write!(text, "{name}: {meaning}")?;
+        }
+        Place::Bytes => write!(text, "after {place} bytes: {meaning}")?,
+        Place::Net | Place::Nowhere => push_nowhere(alloc, &mut text, given, entry)?,
+    }
+    text.push_str("\n")?;
+    Ok(text)
+}
+
+// What is said of a netlist without nets.
+const NO_NETS: &str = "\
+cmbsim: the netlist has no nets, so its waveforms have none, and some viewers refuse to open them
+";
+
+/// What there is to say of what was done; empty where there is nothing.
+pub fn done_words(done: &Done) -> &'static str {
+    let nets = match done {
+        Done::Ran(report) => report.nets as usize,
+        Done::Checked(counts) => counts.nets,
+    };
+    if nets == 0 { NO_NETS } else { "" }
+}
