@@ -1,5 +1,5 @@
 use Rattle.std.proofs.Common.{◌≡◌, Option, Ok, Err, Result, IfOk, OnOk, sym, ◌∙◌, subst}
-use Rattle.cmb_wave.specs.Wave.{Piece, Wave}
+use Rattle.cmb_wave.specs.Wave.{Piece}
 use Rattle.cmb_core.specs.Clusters.{Cluster, step_waves}
 use Rattle.cmb_core.specs.Step.{wave_at}
 use Rattle.cmb_core.specs.Trims.{AreTraces, AreTrims, IsTrimOf}
