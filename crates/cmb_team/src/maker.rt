@@ -10,9 +10,6 @@ use cmb_words::Changed;
 use std::alloc::{AllocError, Global};
 use std::marker::Model;
 
-// What a batch weighs at least, where it ends before the horizon: some milliseconds of an engine's work.
-const FULL: usize = 100_000;
-
 /// An engine, and the windows that it made last.
 #[derive(Drop)]
 pub(crate) struct Maker<'a> {
@@ -87,17 +84,18 @@ impl<'a> Maker<'a> {
         self.engine.clock() >= self.design.horizon()
     }
 
-    /// Makes windows until the batch is full, one at least below the horizon.
-    pub(crate) fn fill(self) -> Result<Maker<'a>, AllocError>
+    /// Makes windows until they are so many ticks long, one at least below the horizon.
+    pub(crate) fn fill(self, ticks: u32) -> Result<Maker<'a>, AllocError>
         requires { clock_at self 0 ≡ last_clock self }
         ensures design { IfOk result (λ maker. maker.design ≡ self.entry.design) }
         ensures first { IfOk result (λ maker. clock_at maker 0 ≡ clock_at self.entry 0) }
         ensures later { IfOk result (λ maker. clock_at maker 0 < maker.design.horizon → clock_at maker 0 < last_clock maker) }
     {
+        let end = self.engine.clock().saturating_add(ticks);
         let mut maker = self;
         while !maker.is_done() {
             maker = maker.step()?;
-            if maker.batch.weight() >= FULL {
+            if maker.engine.clock() >= end {
                 return Ok(maker);
             }
         }

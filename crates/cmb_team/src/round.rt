@@ -13,7 +13,7 @@ use std::thread;
 use std::thread::Threads;
 
 // What a batch weighs at least, where threads pay for it: an estimate.
-const LEAST: usize = 50_000;
+const LEAST: usize = 8_192;
 
 /// Whether threads pay for a batch.
 pub(crate) fn pays(batch: &Batch<'_>) -> bool {
@@ -45,13 +45,15 @@ fn told<'a, R: Threads + Sync>(
     tellers
 }
 
-/// Tells a batch, by the tellers' shares, while the next one is made: side by side where the batch is large enough.
+/// Tells a batch, by the tellers' shares, while the next one is made, so many ticks long: side by side where the batch
+/// is large enough.
 pub(crate) fn round<'a, R: Threads + Sync>(
     rt: &R,
     maker: Maker<'a>,
     tellers: Vec<Teller<'a>>,
     batch: &Batch<'_>,
     cuts: &[usize],
+    ticks: u32,
 ) -> (Vec<Teller<'a>>, Result<Maker<'a>, AllocError>)
     requires some { 1 ≤ vec_len tellers }
     requires count { length cuts.now ≡ suc (vec_len tellers) }
@@ -65,7 +67,7 @@ pub(crate) fn round<'a, R: Threads + Sync>(
     ensures later { IfOk result.1 (λ next. clock_at next 0 < next.design.horizon → clock_at next 0 < last_clock next) }
 {
     if !pays(batch) {
-        return (told(rt, tellers, batch, cuts), maker.fill());
+        return (told(rt, tellers, batch, cuts), maker.fill(ticks));
     }
     thread::join(
         rt,
@@ -74,6 +76,6 @@ pub(crate) fn round<'a, R: Threads + Sync>(
         { told(rt, tellers, batch, cuts) },
         move || -> Result<Maker<'_>, AllocError>
             requires { clock_at maker 0 ≡ last_clock maker }
-        { maker.fill() },
+        { maker.fill(ticks) },
     )
 }

@@ -24,6 +24,18 @@ use std::thread::Threads;
 // The most threads that a team has use for: more than so few tellers are never behind the engine. An estimate.
 const MOST: usize = 8;
 
+// About how many bytes of text a batch has: so many that threads pay, and so few that they stay in caches. An estimate.
+const PART: usize = 2_097_152;
+
+// The least ticks of a batch: some windows for each teller.
+const SHORT: usize = 256;
+
+// How long batches are to be, going by what was made of a text.
+fn ticks_of(stream: &Stream<'_>) -> u32 {
+    let dense = (stream.kept() / stream.clock() as usize).max(1);
+    (PART / dense).max(SHORT) as u32
+}
+
 /// The text of a design, by a maker of windows and tellers of their text. What was made of it and not handed on is kept.
 #[derive(Drop)]
 pub(crate) struct Team<'a> {
@@ -32,6 +44,8 @@ pub(crate) struct Team<'a> {
     maker: Maker<'a>,
     tellers: Vec<Teller<'a>>,
     most: usize,
+    /// How many ticks a batch is long.
+    ticks: u32,
     kept: Kept<'a>,
 }
 
@@ -104,16 +118,18 @@ impl<'a> Team<'a> {
         ensures design { IfOk result (λ team. team.design ≡ design.entry.now) }
         ensures given { IfOk result (λ team. team.given ≡ stream.entry.given) }
     {
+        let ticks = ticks_of(&stream);
         let (engine, dump, kept) = stream.into_parts();
         let mut tellers = Vec::new(alloc);
         tellers.push(Teller::of(alloc, dump))?;
-        let maker = Maker::open(alloc, design, engine)?.fill()?;
+        let maker = Maker::open(alloc, design, engine)?.fill(ticks)?;
         Ok(Team {
             alloc,
             design,
             maker,
             tellers,
             most: threads.min(MOST) - 1,
+            ticks,
             kept,
         })
     }
@@ -139,13 +155,14 @@ impl<'a> Team<'a> {
             maker,
             tellers,
             most,
+            ticks,
             mut kept,
         } = self;
         let (batch, maker) = maker.part()?;
         let count = if pays(&batch) { most } else { 1 };
         let tellers = with_tellers(alloc, design, tellers, count)?;
         let cuts = cuts_of(alloc, &batch, tellers.len())?;
-        let (tellers, maker) = round(rt, maker, tellers, &batch, &cuts);
+        let (tellers, maker) = round(rt, maker, tellers, &batch, &cuts, ticks);
         let maker = maker?;
         gather(&mut kept, &tellers, &batch, &cuts)?;
         Ok(Team {
@@ -154,6 +171,7 @@ impl<'a> Team<'a> {
             maker,
             tellers,
             most,
+            ticks,
             kept,
         })
     }
