@@ -59,7 +59,7 @@ fn workers_of(workers: u32) -> Result<Workers, Fault>
 }
 
 // The text of a design, by rounds of several workers.
-fn workers_text<R: AllocGlobal + Threads + Sync>(
+fn workers_text<R: AllocGlobal + Threads + Wait + Sync>(
     rt: &R,
     workers: u32,
     clusters: u32,
@@ -96,7 +96,7 @@ fn suits_engine(workers: u32, clusters: u32, design: &Design) -> bool
 }
 
 // The text of a design, by rounds of workers: by the engine where it carries all nets.
-fn rounds_text<R: AllocGlobal + Threads + Sync>(
+fn rounds_text<R: AllocGlobal + Threads + Wait + Sync>(
     rt: &R,
     workers: u32,
     clusters: u32,
