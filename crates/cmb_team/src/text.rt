@@ -24,27 +24,29 @@ const LEAST: u64 = 8_388_608;
 // So many bytes a tick, where windows are large enough to be told apart: an estimate.
 const DENSE: u64 = 64;
 
-// The first part of a text, in one thread.
-fn begin(alloc: Global, design: &Design) -> Result<Stream<'_>, AllocError>
-    ensures design { IfOk result (λ stream. stream.design ≡ design.entry.now) }
-    ensures given { IfOk result (λ stream. stream.given ≡ 0) }
-{
-    let mut stream = Stream::open(alloc, design)?;
-    while !stream.is_done() {
-        if stream.kept() >= FIRST {
-            return Ok(stream);
-        }
-        stream = stream.step()?;
-    }
-    Ok(stream)
+// How many bytes a stream told of a tick, but for those that it began with.
+fn dense_of(stream: &Stream<'_>, first: usize) -> u64 {
+    stream.kept().saturating_sub(first) as u64 / u64::from(stream.clock())
 }
 
-// Whether more than one thread pays for the rest of a text, going by what was made of it.
-fn pays(stream: &Stream<'_>, design: &Design) -> bool {
-    let made = u64::from(stream.clock());
-    let left = u64::from(design.horizon()).saturating_sub(made);
-    let dense = stream.kept() as u64 / made;
-    dense >= DENSE && dense.saturating_mul(left) >= LEAST
+// The first part of a text, in one thread, and how many bytes it told of a tick behind the declarations and tick 0.
+fn begin(alloc: Global, design: &Design) -> Result<(Stream<'_>, u64), AllocError>
+    ensures design { IfOk result (λ begun. begun.0.design ≡ design.entry.now) }
+    ensures given { IfOk result (λ begun. begun.0.given ≡ 0) }
+{
+    let mut stream = Stream::open(alloc, design)?;
+    let first = stream.kept();
+    while !stream.is_done() && stream.kept() < first.saturating_add(FIRST) {
+        stream = stream.step()?;
+    }
+    let dense = dense_of(&stream, first);
+    Ok((stream, dense))
+}
+
+// Whether more than one thread pays for the rest of a text, of which so many bytes were told of a tick.
+fn pays(stream: &Stream<'_>, design: &Design, dense: u64) -> bool {
+    let left = design.horizon().saturating_sub(stream.clock());
+    dense >= DENSE && dense.saturating_mul(u64::from(left)) >= LEAST
 }
 
 // Makes the rest of a team's text, of which nothing was handed on.
@@ -66,13 +68,14 @@ fn text_rest<R: Threads + Sync>(
     design: &Design,
     threads: u32,
     stream: Stream<'_>,
+    dense: u64,
 ) -> Result<Vec<u8>, AllocError>
     requires threads { 1 ≤ threads }
     requires design { stream.design ≡ design.now }
     requires all { stream.given ≡ 0 }
     ensures { IfOk result (λ text. text.items ≡ vcd design.now) }
 {
-    if !pays(&stream, design) {
+    if !pays(&stream, design, dense) {
         return stream_rest(stream);
     }
     team_rest(rt, Team::of(alloc, design, stream, threads as usize)?)
@@ -91,8 +94,8 @@ pub fn team_text<R: Threads + Sync>(
     if threads < 2 {
         return stream_text(alloc, design);
     }
-    let stream = begin(alloc, design)?;
-    text_rest(rt, alloc, design, threads, stream)
+    let (stream, dense) = begin(alloc, design)?;
+    text_rest(rt, alloc, design, threads, stream, dense)
 }
 
 // Makes the rest of a text and writes it, part after part. Gives the text's length.
@@ -126,6 +129,7 @@ fn write_on<R: Threads + Sync, S: Sink>(
     design: &Design,
     threads: u32,
     stream: Stream<'_>,
+    dense: u64,
     sink: &mut S,
 ) -> Result<u64, StreamFault>
     requires room { S.failures sink.old < 2 ^ 64 - 1 }
@@ -137,7 +141,7 @@ fn write_on<R: Threads + Sync, S: Sink>(
     ensures no_failure { OnOk result (S.failures sink.new ≡ S.failures sink.old) }
     ensures fault { IfErr result (IsBrokenOff design.now (S.taken sink.old) (S.taken sink.new) (S.failures sink.old) (S.failures sink.new)) }
 {
-    if !pays(&stream, design) {
+    if !pays(&stream, design, dense) {
         return write_rest(stream, sink);
     }
     let team = Team::of(alloc, design, stream, threads as usize)?;
@@ -163,6 +167,6 @@ pub fn write_team<R: Threads + Sync, S: Sink>(
     if threads < 2 {
         return write_stream(alloc, design, sink);
     }
-    let stream = begin(alloc, design)?;
-    write_on(rt, alloc, design, threads, stream, sink)
+    let (stream, dense) = begin(alloc, design)?;
+    write_on(rt, alloc, design, threads, stream, dense, sink)
 }
