@@ -1,6 +1,6 @@
 -- An event on a world of clusters is that event on its waves, and the world stays one of its design.
 use Rattle.std.proofs.Common.{◌≡◌, ℕ, ◌<◌, ◌≤◌, Bool, true, false, cond, ltb, leb, eqb, length, List, [], ◌∷◌, ◌⊎◌, inl, inr, get_or, set, Option, Some, None, Result, Ok, Err, refl, sym, ◌∙◌, ap, subst, arith, get_or-set_other, length-set}
-use Rattle.std.specs.Prelude.{is_some, slice_get}
+use Rattle.std.specs.Prelude.{is_some, IsOk, slice_get}
 use Rattle.std.proofs.lemmas.Option.{slice_get_within, slice_get-get_or, get_or_from_slice_get}
 use Rattle.std.proofs.lemmas.List.{get_or-map, map-set}
 use Rattle.std.proofs.lemmas.Bool.{lt-ltb, le-ltb, eq-eqb, cases_eq, cases_lt}
@@ -27,7 +27,7 @@ use Rattle.cmb_core.specs.Step.{wave_at, step_reach, step_piece}
 use Rattle.cmb_core.specs.Clusters.{Cluster, step_answer, step_waves, input_slot, IsDrivenHere, delivered, delivered_at, as_delivery, heard_at, told_at, RefusesDelivery}
 use Rattle.cmb_core.specs.Opened.{IsClusterOf, IsOwnNet}
 use Rattle.cmb_core.specs.World.{World as Waves, Played, answered, turned_down, taken as took, deliver_in, look_in, waves_of, out_wave, in_wave, with_wave, play_world}
-use Rattle.cmb_core.specs.Play.{World, shown, cluster_at, home_wave, IsWorldOf, HasDesign, IsSameBut, Plays, known_in}
+use Rattle.cmb_core.specs.Play.{World, shown, cluster_at, home_wave, IsWorldOf, HasDesign, IsSameBut, Plays, takes_memory, known_in}
 use Rattle.cmb_core.proofs.Steps.{wave_at-net}
 use Rattle.cmb_core.proofs.SweepFacts.{still_of}
 use Rattle.cmb_core.proofs.Homes.{input_home}
@@ -149,6 +149,24 @@ step_plays design clustering w new net c part h there own same answer waves =
     in
     rw is (stepped_in_is design w new c net part same answer waves)
 
+-- where memory was wanted for a step, something was new
+pub step_wants : (design : Design) (clustering : Clustering) (w : World) (net c : ℕ)
+    → net < nets_of design → c < length w.clusters → c ≡ cluster_of clustering net
+    → (step_answer design (cluster_at w c).waves (wave_at (cluster_at w c).waves net) ≡ None → ⊥)
+    → takes_memory (play_world design clustering (shown w) (Step net)).reply ≡ true
+unfolding stepped_in
+step_wants design clustering w net c h there own new =
+    let test : ltb net (nets_of design) ≡ true = lt-ltb net (nets_of design) h in
+    let played : play_world design clustering (shown w) (Step net) ≡ stepped_in design (shown w) (cluster_of clustering net) net (waves_of (shown w) (cluster_of clustering net)) = rw test refl in
+    let is : play_world design clustering (shown w) (Step net) ≡ stepped_in design (shown w) c net (cluster_at w c).waves =
+    played ∙ ap (λ k. stepped_in design (shown w) k net (waves_of (shown w) k)) (sym own) ∙ ap (stepped_in design (shown w) c net) (waves_are w c there)
+    in
+    ap (λ p. takes_memory p.reply) is ∙ go (ltb (wave_at (cluster_at w c).waves net).clock (step_reach design (cluster_at w c).waves (wave_at (cluster_at w c).waves net).net)) _ _ _ new
+  where
+    go : (b : Bool) (more less : Waves) (part : Piece) → (cond b (Some part) None ≡ None → ⊥) → takes_memory (cond b (answered more (Stepped (Some part))) (answered less (Stepped None))).reply ≡ true
+    go true more less part new = refl
+    go false more less part new = absurd (new refl)
+
 -- the wave of a net in the cluster that drives it
 pub home_wave_at : (w : World) (net c : ℕ) → slice_get w.assign net ≡ Some c → wave_at (cluster_at w c).waves net ≡ home_wave w net
 home_wave_at w net c e = ap (λ k. wave_at (cluster_at w k).waves net) (sym (get_or_from_slice_get w.assign net c 0 e))
@@ -226,7 +244,11 @@ module _ (design : Design) (clustering : Clustering) (w : World) (of : IsWorldOf
     pub deliver_refuses : (new : World) (fault : DeliverFault) → RefusesDelivery fault (delivered (cluster_at w c) piece) → new ≡ w
         → Plays (play_world design clustering (shown w) (Deliver c number)) (shown w) (shown new) (Err (fault_of_event fault))
     unfolding reply_of
-    deliver_refuses new Memory r same = ap shown same
+    deliver_refuses new Memory r same = (ap shown same, wants (delivered (cluster_at w c) piece) deliver_played r)
+      where
+        wants : (result : Result Wave DeliverFault) → play_world design clustering (shown w) (Deliver c number) ≡ reply_of (shown w) c (cluster_at w c).waves result → IsOk result → takes_memory (play_world design clustering (shown w) (Deliver c number)).reply ≡ true
+        wants (Ok v) is ok = ap (λ p. takes_memory p.reply) is
+        wants (Err fault) is ok = cc
     deliver_refuses new Stranger r same = let is = deliver_played ∙ ap (reply_of (shown w) c (cluster_at w c).waves) r in (ap (λ p. p.world) is ∙ ap shown (sym same), ap (λ p. p.reply) is)
     deliver_refuses new (Gap clock) r same = let is = deliver_played ∙ ap (reply_of (shown w) c (cluster_at w c).waves) r in (ap (λ p. p.world) is ∙ ap shown (sym same), ap (λ p. p.reply) is)
     deliver_refuses new (Old clock) r same = let is = deliver_played ∙ ap (reply_of (shown w) c (cluster_at w c).waves) r in (ap (λ p. p.world) is ∙ ap shown (sym same), ap (λ p. p.reply) is)

@@ -1,21 +1,24 @@
 -- A trim changes no answer: a cluster that was trimmed goes on as the same cluster would that never was, less what it forgot.
 use Rattle.std.proofs.Common.{◌≡◌, ℕ, zero, suc, ◌+◌, ◌<◌, ◌≤◌, Bool, true, false, cond, eqb, ltb, leb, List, [], ◌∷◌, ◌++◌, ◌⊎◌, inl, inr, length, get_or, map, Option, Some, None, IsSome, Result, Ok, Err, refl, sym, ◌∙◌, ap, subst, arith}
-use Rattle.std.specs.List.{range_with_len}
+use Rattle.std.specs.List.{AllByRecursion, range_with_len}
 use Rattle.std.specs.Result.{result_map_both}
 use Rattle.std.proofs.lemmas.Bool.{lt-ltb, le-ltb, ltb-true, leb-false, cases_lt}
 use Rattle.std.proofs.lemmas.List.Elements.{filter-append}
 use Rattle.cmb_wave.specs.declared.level.Change.{Change}
+use Rattle.cmb_wave.specs.declared.level.Level.{Level}
 use Rattle.cmb_wave.specs.declared.level.Promise.{Promise}
 use Rattle.cmb_wave.specs.declared.wave.WaveFault.{WaveFault}
-use Rattle.cmb_wave.specs.Waveform.{level_at, last_level, at_or_after, changes_below, IsTrace}
-use Rattle.cmb_wave.specs.Wave.{Piece, Wave, new_wave, wave_with_piece, wave_up_to, wave_from}
+use Rattle.cmb_wave.specs.Waveform.{level_at, level_before, last_level, at_or_after, changes_below, changes_between, IsTrace}
+use Rattle.cmb_wave.specs.Wave.{Piece, Wave, IsExactWave, new_wave, wave_with_piece, wave_up_to, wave_from}
 use Rattle.cmb_wave.specs.Calls.{taken, hears, heard_wave}
 use Rattle.cmb_wave.proofs.Forgets.{at_or_after-later, changes_below-append, heard-from, level_at-from, taken-from}
 use Rattle.cmb_wave.proofs.Lists.{last_level_append, rises_of_trace}
-use Rattle.cmb_wave.proofs.Spans.{trace-rises}
-use Rattle.cmb_wave.proofs.Waveforms.{changes_between-agree}
+use Rattle.cmb_wave.proofs.Spans.{trace-both, trace-rises}
+use Rattle.cmb_wave.proofs.Waveforms.{changes_between-agree, changes_between-alternates, changes_between-rises}
 use Rattle.cmb_bench.specs.Netlist.{driver_of}
 use Rattle.cmb_design.specs.Design.{Design}
+use Rattle.cmb_design.specs.Exact.{IsExactWaveIn}
+use Rattle.cmb_design.specs.Value.{value}
 use Rattle.cmb_core.specs.declared.process.Rule.TheVariants.{Given}
 use Rattle.cmb_core.specs.Clustering.{Clustering}
 use Rattle.cmb_core.specs.Clusters.{Cluster, IsSound, process_at, slot_wave, given_only, input_slot, as_delivery, delivered_at, delivered, heard_at, step_answer, step_waves}
@@ -42,6 +45,20 @@ trim_zero wave = let e : ltb wave.base 0 ≡ false = le-ltb _ _ (omega arith) in
 
 pub trim_same : (wave : Wave) → IsTrim wave wave
 trim_same wave = (0, omega arith, trim_zero wave)
+
+pub trims_same : (waves : List Wave) → AreTrims waves waves
+trims_same [] = tt
+trims_same (w ∷ ws) = (trim_same w, trims_same ws)
+
+-- the changes of an exact wave are a trace
+exact_trace : (level : ℕ → Level) (horizon : ℕ) (w : Wave) → IsExactWave level horizon w → IsTrace w.kept w.base w.changes w.clock
+exact_trace level horizon w e =
+    rw (e.changes, e.kept) (trace-both (level_before level w.base) w.base w.clock (changes_between level w.base w.clock) e.base
+    (changes_between-rises level w.base w.clock e.base) (changes_between-alternates level w.base w.clock))
+
+pub exact_traces : (design : Design) (waves : List Wave) → AllByRecursion (IsExactWaveIn design) waves → AreTraces waves
+exact_traces design [] e = tt
+exact_traces design (w ∷ ws) e = (exact_trace (value design w.net) design.horizon w e.0.exact, exact_traces design ws e.1)
 
 trim_count : (least : ℕ) (w : Wave) → (trimmed_to least w).count ≡ w.count
 trim_count least w = go (ltb w.base least)

@@ -1,5 +1,5 @@
 -- The world as contracts see it: its clusters with their processes, and what a call on it comes to.
-use Rattle.std.specs.Prelude.{◌≡◌, ℕ, ◌<◌, ◌&&◌, nat_lt, List, [], length, map, slice_index, slice_index_or, slice_set, Option, Some, None, Result, Err, if◌then◌else◌}
+use Rattle.std.specs.Prelude.{◌≡◌, ℕ, ◌<◌, ◌&&◌, Bool, true, false, nat_lt, List, [], length, map, slice_index, slice_index_or, slice_set, Option, Some, None, is_some, Result, Ok, Err, if◌then◌else◌}
 use Rattle.cmb_wave.specs.declared.level.Promise.{Promise}
 use Rattle.cmb_wave.specs.Wave.{Piece, Wave}
 use Rattle.cmb_bench.specs.Netlist.{IsNetlist}
@@ -7,6 +7,7 @@ use Rattle.cmb_design.specs.Design.{Design}
 use Rattle.cmb_design.specs.Exact.{nets_of}
 use Rattle.cmb_core.specs.declared.event.Event.{Event}
 use Rattle.cmb_core.specs.declared.event.Reply.{Reply}
+use Rattle.cmb_core.specs.declared.event.Reply.TheVariants.{Stepped, Posted, Delivered, Promised, Looked}
 use Rattle.cmb_core.specs.declared.event.PlayFault.{PlayFault}
 use Rattle.cmb_core.specs.declared.event.PlayFault.TheVariants.{Memory}
 use Rattle.cmb_core.specs.Clustering.{Clustering, IsClustering, has_input}
@@ -62,9 +63,18 @@ pub record IsSameSize (old new : World) : Type 0 where
   pub nets : length new.assign ≡ length old.assign
   pub clusters : length new.clusters ≡ length old.clusters
 
--- the event went as it is defined, and where memory was wanted nothing changed
+-- to give this reply something has to be kept: a new part of a wave, a post or a promise
+abbrev pub takes_memory : Result Reply PlayFault → Bool
+takes_memory (Ok (Stepped part)) = is_some part
+takes_memory (Ok (Posted number)) = is_some number
+takes_memory (Ok (Delivered clock)) = true
+takes_memory (Ok (Promised number promise)) = true
+takes_memory (Ok (Looked heard)) = false
+takes_memory (Err fault) = false
+
+-- the event went as it is defined; where memory was wanted nothing changed, and the reply would have been one that takes some
 abbrev pub Plays : Played → Waves → Waves → Result Reply PlayFault → Type 0
-Plays played before after (Err Memory) = after ≡ before
+Plays played before after (Err Memory) = (after ≡ before) × (takes_memory played.reply ≡ true)
 Plays played before after reply = (played.world ≡ after) × (played.reply ≡ reply)
 
 -- the world came about from newly opened clusters by these events

@@ -27,7 +27,7 @@ pub struct Span {
 }
 
 /// The tick up to which a gate's operands are known at its output.
-pub fn reach_of_gate(horizon: u32, operands: &[Operand], waves: &[Wave]) -> u32
+pub(crate) fn reach_of_gate(horizon: u32, operands: &[Operand], waves: &[Wave]) -> u32
     requires { (clock : ℕ) × AreReady waves.now clock operands.now }
     ensures { result ≡ gate_reach horizon waves.now operands.now }
 {
@@ -40,7 +40,7 @@ pub fn reach_of_gate(horizon: u32, operands: &[Operand], waves: &[Wave]) -> u32
 }
 
 /// The tick up to which a flip-flop's data is known at its output.
-pub fn reach_of_flop(horizon: u32, first: u32, period: u32, delay: u32, known: u32) -> u32
+pub(crate) fn reach_of_flop(horizon: u32, first: u32, period: u32, delay: u32, known: u32) -> u32
     requires { 0 < period }
     ensures { result ≡ flop_reach horizon first period delay known }
 {
@@ -80,7 +80,7 @@ fn held_changes(room: &mut Vec<Change>, level: Level, span: Span) -> Result<(), 
 }
 
 /// Adds the changes of a gate's output in a span to a list.
-pub fn gate_changes(
+pub(crate) fn gate_changes(
     room: &mut Vec<Change>,
     kind: Kind,
     operands: &[Operand],
@@ -143,7 +143,7 @@ fn sampled_changes(
 }
 
 /// Adds the changes of a flip-flop's output in a span to a list.
-pub fn flop_changes(
+pub(crate) fn flop_changes(
     room: &mut Vec<Change>,
     waves: &[Wave],
     operand: Operand,
@@ -181,7 +181,7 @@ pub fn flop_changes(
 }
 
 /// Adds the changes of an input in a span to a list.
-pub fn input_changes(
+pub(crate) fn input_changes(
     room: &mut Vec<Change>,
     stimulus: &[Change],
     span: Span,

@@ -82,11 +82,12 @@ impl Cluster {
     }
 
     /// Lets a net of the cluster's own go on as far as its operands are known, and answers what is new
-    /// of it, None where nothing is. Of exact waves the new part is exact, and they stay so. Of a net
-    /// that isn't driven here nothing is new.
+    /// of it, None where nothing is, also where there is no memory. Of exact waves the new part is exact,
+    /// and they stay so. Of a net that isn't driven here nothing is new.
     pub fn step(&mut self, net: u32) -> Result<Option<Piece>, AllocError>
         ensures piece { (design : Design) (clustering : Clusters) (cluster : ℕ) → IsClusterOf design clustering cluster self.old → IsOwnNet design clustering cluster net → IfOk result (λ part. part ≡ step_answer design self.old.waves (wave_at self.old.waves net)) }
         ensures waves { (design : Design) (clustering : Clusters) (cluster : ℕ) → IsClusterOf design clustering cluster self.old → IsOwnNet design clustering cluster net → OnOk result (self.new.waves ≡ step_waves design self.old.waves (wave_at self.old.waves net)) }
+        ensures still { (design : Design) (clustering : Clusters) (cluster : ℕ) → IsClusterOf design clustering cluster self.old → IsOwnNet design clustering cluster net → step_answer design self.old.waves (wave_at self.old.waves net) ≡ None → result ≡ Ok None }
         ensures exact { (design : Design) (clustering : Clusters) (cluster : ℕ) → IsExactCluster design clustering cluster self.old → IsExactCluster design clustering cluster self.new }
         ensures sent { (design : Design) (clustering : Clusters) (cluster : ℕ) → IsExactCluster design clustering cluster self.old → IsOwnNet design clustering cluster net → IfOk result (λ part. IfSome part (IsExactIn design)) }
         ensures other { output_slot self.old net ≡ None → result ≡ Ok None }

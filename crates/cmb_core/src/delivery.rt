@@ -49,7 +49,7 @@ impl DeliverFault {
 pub struct Stranger;
 
 /// A wave's fault as that of its cluster.
-pub fn refusal(fault: WaveFault) -> DeliverFault
+pub(crate) fn refusal(fault: WaveFault) -> DeliverFault
     ensures { result ≡ delivery_fault fault }
 {
     match fault {
@@ -61,7 +61,7 @@ pub fn refusal(fault: WaveFault) -> DeliverFault
 }
 
 /// A cluster's fault as that of an event.
-pub fn play_fault(fault: DeliverFault) -> PlayFault
+pub(crate) fn play_fault(fault: DeliverFault) -> PlayFault
     ensures { result ≡ fault_of_event fault }
 {
     match fault {

@@ -19,7 +19,7 @@ pub enum Lag {
 }
 
 impl Lag {
-    pub fn arrival(&self, tick: u32) -> u64
+    pub(crate) fn arrival(&self, tick: u32) -> u64
         ensures { result ≡ arrives self.now tick }
     {
         let tick = u64::from(tick);
@@ -104,14 +104,14 @@ fn read_levels(pins: &[Pin], seen: &mut Vec<Level>) -> Result<(), AllocError>
 }
 
 /// Whether two levels are different ones.
-pub fn differ(level: Level, other: Level) -> bool
+pub(crate) fn differ(level: Level, other: Level) -> bool
     ensures { result ≡ not (same_level level other) }
 {
     level != other
 }
 
 /// Goes on with a gate's changes over the span from `from` to `until`.
-pub fn merge(
+pub(crate) fn merge(
     kind: Kind,
     pins: &mut [Pin],
     changes: &mut Vec<Change>,
@@ -141,7 +141,7 @@ pub fn merge(
 
 /// Goes on with the changes of an output that shows what its only operand is, over the span from
 /// `from` to `until`: `level` has reached it, and `rest` hasn't yet.
-pub fn follow(
+pub(crate) fn follow(
     lag: Lag,
     level: Level,
     rest: &[Change],

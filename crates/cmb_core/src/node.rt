@@ -13,7 +13,7 @@ use std::marker::Model;
 
 /// How a net is driven, what it reads, and the changes of an input.
 #[derive(Drop)]
-pub struct Node {
+pub(crate) struct Node {
     rule: Rule,
     operands: Vec<Operand>,
     stimulus: Vec<Change>,
@@ -32,7 +32,7 @@ impl Node {
     ghost use Rattle.cmb_core.specs.Rows.{IsReadyFor, is_given, row, reach};
     ghost use Rattle.cmb_core.specs.Spans.{changes_from};
 
-    pub fn new(rule: Rule, operands: Vec<Operand>, stimulus: Vec<Change>) -> Node
+    pub(crate) fn new(rule: Rule, operands: Vec<Operand>, stimulus: Vec<Change>) -> Node
         ensures { result ≡ record { rule = rule; operands = operands.items; stimulus = stimulus.items } }
     {
         Node {
@@ -43,21 +43,21 @@ impl Node {
     }
 
     /// How the process makes its level.
-    pub fn rule(&self) -> Rule
+    pub(crate) fn rule(&self) -> Rule
         ensures { result ≡ self.now.rule }
     {
         self.rule
     }
 
     /// What the process reads.
-    pub fn operands(&self) -> &[Operand]
+    pub(crate) fn operands(&self) -> &[Operand]
         ensures { result.now ≡ self.now.operands }
     {
         self.operands.as_slice()
     }
 
     /// Whether the net is not driven here.
-    pub fn is_given(&self) -> bool
+    pub(crate) fn is_given(&self) -> bool
         ensures { result ≡ is_given self.now.rule }
     {
         match self.rule {
@@ -67,7 +67,7 @@ impl Node {
     }
 
     /// The tick up to which the output can go on.
-    pub fn reach(&self, horizon: u32, waves: &[Wave]) -> u32
+    pub(crate) fn reach(&self, horizon: u32, waves: &[Wave]) -> u32
         requires { (clock : ℕ) × IsReadyFor waves.now clock self.now.rule self.now.operands self.now.stimulus }
         ensures { result ≡ reach horizon waves.now self.now.rule self.now.operands }
     {
@@ -84,7 +84,7 @@ impl Node {
     }
 
     /// Adds the changes of the output in a span to a list.
-    pub fn changes(
+    pub(crate) fn changes(
         &self,
         room: &mut Vec<Change>,
         waves: &[Wave],

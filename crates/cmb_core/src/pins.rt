@@ -14,7 +14,7 @@ use std::alloc::{AllocError, Global};
 
 /// The wave that an operand reads.
 #[tactic(auto, using(crate::proofs::Slots::slot_there, crate::proofs::Slots::slot_wave))]
-pub fn operand_wave(waves: &[Wave], operand: Operand) -> &Wave
+pub(crate) fn operand_wave(waves: &[Wave], operand: Operand) -> &Wave
     requires { IsThere waves.now operand }
     ensures { result.now ≡ wave_at waves.now operand.net }
 {
@@ -22,7 +22,7 @@ pub fn operand_wave(waves: &[Wave], operand: Operand) -> &Wave
 }
 
 /// What is left from a tick on of the wave that an operand reads.
-pub fn operand_left(waves: &[Wave], operand: Operand, tick: u32) -> Rest<'_>
+pub(crate) fn operand_left(waves: &[Wave], operand: Operand, tick: u32) -> Rest<'_>
     requires { IsThere waves.now operand }
     ensures { (t : ℕ) → tick ≤ t → level_at result.level result.changes.now t ≡ level_at (wave_at waves.now operand.net).kept (wave_at waves.now operand.net).changes t }
 {
@@ -31,7 +31,7 @@ pub fn operand_left(waves: &[Wave], operand: Operand, tick: u32) -> Rest<'_>
 }
 
 /// The pin of an operand that reaches the output with a delay, from the output's clock on.
-pub fn pin_of(waves: &[Wave], operand: Operand, clock: u32) -> Pin<'_>
+pub(crate) fn pin_of(waves: &[Wave], operand: Operand, clock: u32) -> Pin<'_>
     requires { IsReady waves.now clock operand }
     ensures { (t : ℕ) → clock ≤ t → pin_at result t ≡ delayed (wave_at waves.now operand.net) operand.delay t }
 {
@@ -46,7 +46,7 @@ pub fn pin_of(waves: &[Wave], operand: Operand, clock: u32) -> Pin<'_>
 }
 
 /// The pins of a gate, from the output's clock on.
-pub fn gate_pins<'a>(
+pub(crate) fn gate_pins<'a>(
     alloc: Global,
     operands: &[Operand],
     waves: &'a [Wave],

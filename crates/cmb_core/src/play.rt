@@ -39,8 +39,8 @@ impl World {
 
     /// What an event does: the call on its cluster, over that cluster's own waves as they stand. 45 where the net, the
     /// cluster or the number isn't there, 46 where a piece would begin beyond the clock, and then as the cluster
-    /// refuses: 44, 42, 43, and 47, which doesn't come over exact waves. 70 where there is no memory. A refusal
-    /// changes nothing. Over a world that came about from newly opened clusters, the reply and the clocks after the
+    /// refuses: 44, 42, 43, and 47, which doesn't come over exact waves. 70 where there is no memory for what a reply
+    /// keeps, and never in the place of another refusal. A refusal changes nothing. Over a world that came about from newly opened clusters, the reply and the clocks after the
     /// event are those of the machine of clocks, and every wave is exact.
     pub fn play(&mut self, event: Event) -> Result<Reply, PlayFault>
         ensures played { (design : Design) (clustering : Clustering) → IsWorldOf design clustering self.old → Plays (play_world design clustering (shown self.old) event) (shown self.old) (shown self.new) result }
@@ -84,6 +84,7 @@ impl World {
         requires { cluster < length self.old.clusters }
         ensures part { (design : Design) (clustering : Clustering) (number : ℕ) → IsClusterOf design clustering number (cluster_at self.old cluster) → IsOwnNet design clustering number net → IfOk result (λ part. part ≡ step_answer design (cluster_at self.old cluster).waves (wave_at (cluster_at self.old cluster).waves net)) }
         ensures waves { (design : Design) (clustering : Clustering) (number : ℕ) → IsClusterOf design clustering number (cluster_at self.old cluster) → IsOwnNet design clustering number net → OnOk result ((cluster_at self.new cluster).waves ≡ step_waves design (cluster_at self.old cluster).waves (wave_at (cluster_at self.old cluster).waves net)) }
+        ensures still { (design : Design) (clustering : Clustering) (number : ℕ) → IsClusterOf design clustering number (cluster_at self.old cluster) → IsOwnNet design clustering number net → step_answer design (cluster_at self.old cluster).waves (wave_at (cluster_at self.old cluster).waves net) ≡ None → result ≡ Ok None }
         ensures unchanged { OnErr result (self.new ≡ self.old) }
         ensures same { IsSameBut cluster self.old self.new }
     {
@@ -109,7 +110,8 @@ impl World {
     fn part_from(&self, net: u32, from: u32) -> Result<Option<Piece>, AllocError>
         requires there { net < length self.now.assign }
         requires known { from ≤ (home_wave self.now net).clock }
-        ensures { IfOk result (λ piece. piece ≡ cut (home_wave self.now net) from) }
+        ensures cut { IfOk result (λ piece. piece ≡ cut (home_wave self.now net) from) }
+        ensures idle { from ≡ (home_wave self.now net).clock → result ≡ Ok None }
     {
         match self.home(net) {
             Some(cluster) => self.clusters[cluster].post(net, from),

@@ -1,12 +1,12 @@
 //! What a cluster answers of its waves as they stand.
 
-ghost use Rattle.std.specs.Prelude.{◌≡◌, ◌<◌, ◌≤◌, ◌==◌, ◌&&◌, not, ℕ, IfOk, IfSome, map, length, Some};
+ghost use Rattle.std.specs.Prelude.{◌≡◌, ◌<◌, ◌≤◌, ◌==◌, ◌&&◌, not, ℕ, IfOk, IfSome, map, length, Ok, Some, None};
 ghost use Rattle.std.specs.List.{AllByRecursion, list_all};
 ghost use Rattle.cmb_wave.specs.Calls.{cut, promised};
 ghost use Rattle.cmb_design.specs.Design.{Design};
 ghost use Rattle.cmb_design.specs.Exact.{IsExactIn, IsExactWaveIn, IsRightIn};
 ghost use Rattle.cmb_core.specs.Clustering.{Clustering as Clusters};
-ghost use Rattle.cmb_core.specs.Clusters.{IsDrivenHere, driven_waves, inputs_of, input_slot, is_complete, output_slot, outputs_of, told_at};
+ghost use Rattle.cmb_core.specs.Clusters.{IsDrivenHere, IsSound, driven_waves, inputs_of, input_slot, is_complete, output_slot, outputs_of, told_at};
 ghost use Rattle.cmb_core.specs.Exactness.{IsExactCluster};
 ghost use Rattle.cmb_core.specs.Opened.{IsClusterOf, own_nets, read_nets};
 ghost use Rattle.cmb_core.specs.Rows.{is_given};
@@ -50,12 +50,13 @@ impl Cluster {
         }
     }
 
-    /// The piece of a net that is driven here from a tick up to its clock, none where that is its clock.
-    /// Of exact waves it is exact.
+    /// The piece of a net that is driven here from a tick up to its clock, none where that is its clock,
+    /// also where there is no memory. Of exact waves it is exact.
     pub fn post(&self, net: u32, from: u32) -> Result<Option<Piece>, AllocError>
         requires driven { IsDrivenHere self.now net }
         requires known { from ≤ (wave_at self.now.waves net).clock }
         ensures cut { IfOk result (λ piece. piece ≡ cut (wave_at self.now.waves net) from) }
+        ensures idle { from ≡ (wave_at self.now.waves net).clock → result ≡ Ok None }
         ensures sent { (design : Design) (clustering : Clusters) (cluster : ℕ) → IsExactCluster design clustering cluster self.now → IfOk result (λ piece. IfSome piece (IsExactIn design)) }
     {
         self.wave(self.driven_place(net)).cut(from)
@@ -109,9 +110,10 @@ impl Cluster {
         self.tables.driven.as_slice()
     }
 
-    /// The other nets that they read, by rising number.
+    /// The other nets that they read, by rising number. The waves of these keep what is still needed of them.
     pub fn inputs(&self) -> &[u32]
         ensures nets { result.now ≡ map (λ wave. wave.net) (inputs_of self.now) }
+        ensures sound { IsSound self.now }
         ensures read { (design : Design) (clustering : Clusters) (cluster : ℕ) → IsClusterOf design clustering cluster self.now → result.now ≡ read_nets design clustering cluster }
     {
         self.tables.inputs.as_slice()

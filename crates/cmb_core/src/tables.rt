@@ -20,7 +20,7 @@ pub struct Tables {
 }
 
 /// The place of a net's wave.
-pub fn place_of(places: &[Option<u16>], net: u32) -> Option<u16>
+pub(crate) fn place_of(places: &[Option<u16>], net: u32) -> Option<u16>
     ensures { result ≡ slice_index_or places.now net None }
 {
     let net = net as usize;

@@ -35,11 +35,13 @@ abbrev pub lacks_clock : Netlist → Option Clock → List ClockRow → Bool
 lacks_clock netlist None rows = any_below (is_unclocked netlist rows) (length netlist.names)
 lacks_clock netlist (Some clock) rows = false
 
--- of the settings: the horizon is 1 to 1,000,000 (20), a common clock's first tick is at most 1,000,000 and its period 1 to 1,000,000 (21),
--- and without a common clock each flip-flop's net is named by a clock row (22)
+-- of the settings alone: the horizon is 1 to 1,000,000 (20), a common clock's first tick is at most 1,000,000 and its period 1 to 1,000,000 (21)
+abbrev pub range_checks : ℕ → Option Clock → List Check
+range_checks horizon clock = check fault.Horizon (not (is_within 1 1000000 horizon)) ∷ check fault.Clock (is_bad_clock clock) ∷ []
+
+-- of the settings: those, and without a common clock each flip-flop's net is named by a clock row (22)
 unfoldable pub setting_checks : Netlist → ℕ → Option Clock → List ClockRow → List Check
-setting_checks netlist horizon clock rows =
-    check fault.Horizon (not (is_within 1 1000000 horizon)) ∷ check fault.Clock (is_bad_clock clock) ∷ check fault.NoClock (lacks_clock netlist clock rows) ∷ []
+setting_checks netlist horizon clock rows = range_checks horizon clock ++ check fault.NoClock (lacks_clock netlist clock rows) ∷ []
 
 -- all checks of a design in their order: those of the settings, of the delay rows, of the stimulus rows, of the clock rows
 abbrev pub design_checks : Design → List Check

@@ -1,7 +1,8 @@
 //! The design as one value.
 
-ghost use Rattle.std.specs.Prelude.{◌≡◌, ◌⊎◌, ◌<◌, ◌≤◌, length, option_map, IfOk, IfErr, IfSome};
+ghost use Rattle.std.specs.Prelude.{◌≡◌, ◌⊎◌, ◌<◌, ◌≤◌, length, option_map, IfOk, IfErr, IfSome, Some, Err};
 ghost use Rattle.cmb_design.specs.Checks.{FollowsChecks, first_fault};
+ghost use Rattle.cmb_design.specs.declared.fault.DesignFault.{DesignFault};
 ghost use Rattle.cmb_design.specs.declared.fault.DesignFault.TheVariants as fault;
 ghost use Rattle.cmb_design.specs.Inside.{AreTables};
 ghost use Rattle.cmb_design.specs.Nets.{pins_at};
@@ -11,7 +12,7 @@ ghost use Rattle.cmb_design.specs.Ranges.{IsDelay};
 ghost use Rattle.cmb_wave.specs.Waveform.{changes_between};
 ghost use Rattle.cmb_design.specs.Design.{clock_given, design_of};
 ghost use Rattle.cmb_design.specs.Part.{design_on};
-ghost use Rattle.cmb_design.specs.Settings.{design_checks};
+ghost use Rattle.cmb_design.specs.Settings.{design_checks, range_checks};
 
 use crate::clocks::take_clocks;
 use crate::delays::{lay_out, pin_delays};
@@ -48,6 +49,8 @@ fn make_tables(
         IfOk result (λ tables. (first_fault (design_checks design) ≡ None) × AreTables design tables) }
     ensures err { let design = design_of netlist.now settings delays.now stimuli.now clocks.now in
         IfErr result (λ e. (e ≡ fault.Memory) ⊎ (first_fault (design_checks design) ≡ Some e)) }
+    ensures ranges { let design = design_of netlist.now settings delays.now stimuli.now clocks.now in
+        (e : DesignFault) → first_fault (range_checks design.horizon design.clock) ≡ Some e → result ≡ Err e }
 {
     let clock_rows = clocks.as_slice();
     check_settings(
@@ -98,7 +101,8 @@ impl Model for Design {
 impl Design {
     /// A design, or the first fault of its settings and rows: 20, 21 and 22 in order; then the delay rows in order, each
     /// by 26, 29, 32 and 35; then the stimulus rows, each by 26, 29 and 30; then the clock rows, each by 26, 29 and 37.
-    /// `Memory` (70) comes where a growth was refused. The values are given up on a refusal.
+    /// `Memory` (70) comes where a growth was refused, and never in the place of 20 or 21. The values are given up on a
+    /// refusal.
     pub fn new(
         alloc: Global,
         netlist: Netlist,
@@ -107,8 +111,10 @@ impl Design {
         clocks: ClockRows,
         settings: Settings,
     ) -> Result<Design, DesignFault>
-        ensures { let design = design_of netlist settings delays stimuli clocks in
+        ensures checks { let design = design_of netlist settings delays stimuli clocks in
             FollowsChecks (design_checks design) design result }
+        ensures ranges { let design = design_of netlist settings delays stimuli clocks in
+            (e : DesignFault) → first_fault (range_checks design.horizon design.clock) ≡ Some e → result ≡ Err e }
     {
         let tables = make_tables(alloc, &netlist, &delays, &stimuli, &clocks, settings)?;
         Ok(Design {

@@ -33,7 +33,7 @@ impl<T: Terms> Model for Collected<T> {
 
 impl<T: Terms> Collected<T> {
     /// Nothing is known.
-    pub fn open(alloc: Global, design: &Design) -> Result<Collected<T>, AllocError>
+    pub(crate) fn open(alloc: Global, design: &Design) -> Result<Collected<T>, AllocError>
         requires { design.now ≡ T.design }
     {
         let collector = Collector::open(alloc, design)?;
@@ -45,7 +45,7 @@ impl<T: Terms> Collected<T> {
 
     /// Goes on by a piece of a net. What the collector refuses (49 to 52) changes nothing and isn't told;
     /// of the pieces of a run none is.
-    pub fn take(&mut self, posted: &Posted<T>) -> Result<(), AllocError>
+    pub(crate) fn take(&mut self, posted: &Posted<T>) -> Result<(), AllocError>
         ensures taken { (collector : CollectorOf) → collected self.old posted.now ≡ Ok collector → OnOk result (self.new ≡ collector) }
         ensures refused { (fault : Refusal) → collected self.old posted.now ≡ Err fault → self.new ≡ self.old }
     {
@@ -56,7 +56,7 @@ impl<T: Terms> Collected<T> {
     }
 
     /// Takes waves over, where nothing of them was forgotten.
-    pub fn adopt_all(&mut self, mut waves: Vec<Wave>)
+    pub(crate) fn adopt_all(&mut self, mut waves: Vec<Wave>)
         requires { AllByRecursion (IsExactWaveIn T.design) waves.items }
     {
         while let Some(wave) = waves.pop() {
@@ -74,7 +74,7 @@ impl<T: Terms> Collected<T> {
     }
 
     /// What is known so far.
-    pub fn collector(&self) -> &Collector
+    pub(crate) fn collector(&self) -> &Collector
         ensures collector { result.now ≡ self.now }
         ensures exact { IsExactFor T.design result.now }
     {
@@ -82,7 +82,7 @@ impl<T: Terms> Collected<T> {
     }
 
     /// The collector.
-    pub fn into_collector(self) -> Collector
+    pub(crate) fn into_collector(self) -> Collector
         ensures collector { result ≡ self }
         ensures exact { IsExactFor T.design result }
     {

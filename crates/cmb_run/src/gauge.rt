@@ -19,7 +19,7 @@ pub struct Gauge {
 
 impl Gauge {
     /// The nets of a newly opened cluster that stand for all of them.
-    pub fn open<T: Terms>(alloc: Global, part: &Part<T>) -> Result<Gauge, AllocError> {
+    pub(crate) fn open<T: Terms>(alloc: Global, part: &Part<T>) -> Result<Gauge, AllocError> {
         let driven = part.driven();
         let each = (driven.len() / SAMPLES).max(1);
         let mut nets = Vec::new(alloc);
@@ -35,7 +35,7 @@ impl Gauge {
 
     /// About how many looks at a net the next round takes, if it is like the one before it: one for each
     /// net that isn't known to its end, and one for each change that came since the gauge was last read.
-    pub fn read<T: Terms>(&mut self, part: &Part<T>) -> usize {
+    pub(crate) fn read<T: Terms>(&mut self, part: &Part<T>) -> usize {
         let mut looks = 0_usize;
         let mut changes = 0_usize;
         for net in &self.nets {

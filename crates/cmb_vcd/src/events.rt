@@ -66,7 +66,7 @@ fn add_part<'a>(
 }
 
 /// The changes of the nets at ticks of [from, to), net by net, of those nets that have any.
-pub fn parts_within<'a>(
+pub(crate) fn parts_within<'a>(
     alloc: Global,
     waves: &'a [Wave],
     from: u32,
@@ -99,7 +99,7 @@ fn add_events(events: &mut Vec<Event>, part: Part) -> Result<(), AllocError>
 }
 
 /// The changes of parts, part by part.
-pub fn gather(alloc: Global, parts: &[Part]) -> Result<Vec<Event>, AllocError>
+pub(crate) fn gather(alloc: Global, parts: &[Part]) -> Result<Vec<Event>, AllocError>
     ensures events { IfOk result (λ events. events.items ≡ part_events parts.now) }
 {
     let mut events = Vec::new(alloc);
@@ -110,7 +110,7 @@ pub fn gather(alloc: Global, parts: &[Part]) -> Result<Vec<Event>, AllocError>
 }
 
 /// Puts changes in the order of their ticks; those of one tick stay in the order of their nets.
-pub fn sort_events(events: &mut Vec<Event>) -> Result<(), AllocError>
+pub(crate) fn sort_events(events: &mut Vec<Event>) -> Result<(), AllocError>
     ensures moved { IsPermutation events.old.items events.new.items }
     ensures sorted { OnOk result (IsNonDecreasingBy tick_of events.new.items) }
     ensures stable { OnOk result ((tick : ℕ) → filter (is_at tick) events.new.items ≡ filter (is_at tick) events.old.items) }
@@ -130,7 +130,7 @@ fn push_event(out: &mut Vec<u8>, codes: &Codes, last: u32, event: Event) -> Resu
 }
 
 /// The text of changes by rising tick, where the line of the tick `first` is written already.
-pub fn push_events(
+pub(crate) fn push_events(
     out: &mut Vec<u8>,
     codes: &Codes,
     first: u32,

@@ -70,7 +70,7 @@ fn push_line(out: &mut Vec<u8>, first: u8, code: Code) -> Result<(), AllocError>
 
 impl Codes {
     /// The codes of so many nets.
-    pub fn new(alloc: Global, nets: u16) -> Result<Codes, AllocError>
+    pub(crate) fn new(alloc: Global, nets: u16) -> Result<Codes, AllocError>
         ensures { IfOk result (λ codes. length codes ≡ nets) }
     {
         let mut codes = Vec::with_capacity(alloc, nets as usize)?;
@@ -93,7 +93,7 @@ impl Codes {
 
     /// The line of a net's level.
     #[tactic(auto, unfolding(crate::specs::Vcd::level_line))]
-    pub fn push(&self, out: &mut Vec<u8>, level: Level, net: u16) -> Result<(), AllocError>
+    pub(crate) fn push(&self, out: &mut Vec<u8>, level: Level, net: u16) -> Result<(), AllocError>
         ensures { OnOk result (out.new.items ≡ out.old.items ++ level_line level net) }
     {
         push_line(out, byte_of(level), self.of(net))?;

@@ -164,7 +164,7 @@ pub fn push_end(out: &mut Vec<u8>, horizon: u32, from: u32, upto: u32) -> Result
 }
 
 /// What the text gains when the levels are known up to `upto`, where they were known up to `from`.
-pub fn push_part(
+pub(crate) fn push_part(
     out: &mut Vec<u8>,
     codes: &Codes,
     waves: &[Wave],

@@ -1,6 +1,6 @@
 //! Waves: the waveform of a net as far as it is known.
 
-ghost use Rattle.std.specs.Prelude.{◌≡◌, ◌+◌, ◌≤◌, ◌<◌, IfOk, IfErr, OnOk, OnErr, length, ◌++◌};
+ghost use Rattle.std.specs.Prelude.{◌≡◌, ◌+◌, ◌≤◌, ◌<◌, IfOk, IfErr, OnOk, OnErr, Ok, None, length, ◌++◌};
 ghost use Rattle.cmb_wave.specs.Waveform.{level_at, level_before, last_level, clash, IsTrace, Rises};
 ghost use Rattle.cmb_wave.specs.declared.level.Level.TheVariants.{X};
 ghost use Rattle.cmb_wave.specs.Wave.{new_wave, grown, wave_from, wave_up_to};
@@ -272,11 +272,13 @@ impl Wave {
         }
     }
 
-    /// The piece from the tick `from` up to the clock, None where they are one.
+    /// The piece from the tick `from` up to the clock, None where they are one, also where there is no
+    /// memory.
     pub fn cut(&self, from: u32) -> Result<Option<Piece>, AllocError>
         requires known { from ≤ self.now.clock }
         requires kept { self.now.base ≤ from }
-        ensures { IfOk result (λ piece. piece ≡ cut self.now from) }
+        ensures cut { IfOk result (λ piece. piece ≡ cut self.now from) }
+        ensures idle { from ≡ self.now.clock → result ≡ Ok None }
     {
         self.cut_up_to(from, self.clock)
     }
@@ -288,7 +290,8 @@ impl Wave {
         requires later { self.now.clock ≤ upto }
         requires known { from ≤ upto }
         requires kept { self.now.base ≤ from }
-        ensures { IfOk result (λ piece. piece ≡ cut (wave_up_to self.now upto) from) }
+        ensures cut { IfOk result (λ piece. piece ≡ cut (wave_up_to self.now upto) from) }
+        ensures idle { from ≡ upto → result ≡ Ok None }
     {
         if from == upto {
             return Ok(None);

@@ -12,6 +12,8 @@ mod netlists;
 #[cfg(test)]
 mod texts;
 #[cfg(test)]
+mod trims;
+#[cfg(test)]
 mod waves;
 #[cfg(test)]
 mod worlds;

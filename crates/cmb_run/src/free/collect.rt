@@ -29,7 +29,7 @@ fn take_some<T: Terms, R: Wait>(
 }
 
 /// Takes what waits in the links, up to so many pieces each, and says whether there was one.
-pub fn take_round<T: Terms, R: Wait>(
+pub(crate) fn take_round<T: Terms, R: Wait>(
     rt: &R,
     lookout: &mut Lookout<T>,
     collected: &mut Collected<T>,
@@ -42,7 +42,7 @@ pub fn take_round<T: Terms, R: Wait>(
 }
 
 /// Collects until all workers that were started have finished, and the links are empty.
-pub fn collect<T: Terms, R: Wait>(
+pub(crate) fn collect<T: Terms, R: Wait>(
     rt: &R,
     lookout: &mut Lookout<T>,
     started: usize,

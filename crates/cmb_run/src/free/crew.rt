@@ -34,22 +34,24 @@ impl<T: Terms> Lookout<T> {
     }
 
     /// Raises the stop word.
-    pub fn raise(&mut self) {
+    pub(crate) fn raise(&mut self) {
         self.board.raise(&mut self.seat);
     }
 
     /// How many workers have finished.
-    pub fn finished(&mut self) -> u32 {
+    pub(crate) fn finished(&mut self) -> u32 {
         self.board.finished(&mut self.seat)
     }
 
     /// How many links there are to take from, one for each worker.
-    pub fn links(&self) -> usize {
+    pub(crate) fn links(&self) -> usize
+        ensures { result ≡ vec_len self.now.ends }
+    {
         self.ends.len()
     }
 
     /// Takes the next piece from a link, none where it was empty.
-    pub fn take<R: Wait>(&mut self, rt: &R, link: usize) -> Option<Posted<T>> {
+    pub(crate) fn take<R: Wait>(&mut self, rt: &R, link: usize) -> Option<Posted<T>> {
         match self.ends.get_mut(link) {
             Some(end) => end.take(rt),
             None => None,
@@ -252,7 +254,7 @@ fn open_board(
 
 impl<T: Terms> Crew<T> {
     /// One cluster of T's clustering for each worker, newly opened, with its seat and its ends of links.
-    pub fn open(
+    pub(crate) fn open(
         alloc: Global,
         design: &Design,
         clustering: &Clustering,

@@ -26,8 +26,9 @@ pub struct Own<T: Terms> {
 
 impl<T: Terms> Own<T> {
     /// A net of which nothing was told, None where it is another worker's.
-    pub fn new(clustering: &Clustering, net: u32, worker: u32) -> Option<Own<T>>
+    pub(crate) fn new(clustering: &Clustering, net: u32, worker: u32) -> Option<Own<T>>
         requires { clustering.now ≡ T.clustering }
+        ensures { IfSome result (λ own. (own.net ≡ net) × (own.told ≡ 0)) }
     {
         if net as usize >= clustering.nets() || clustering.of(net) != worker {
             return None;
@@ -61,7 +62,7 @@ pub struct Desk<T: Terms> {
 
 impl<T: Terms> Desk<T> {
     /// The desk of the worker with this number, who has a new seat.
-    pub fn new(
+    pub(crate) fn new(
         board: Arc<Board>,
         seat: Seat,
         design: &Design,
@@ -84,7 +85,9 @@ impl<T: Terms> Desk<T> {
     }
 
     /// The worker's number.
-    pub fn number(&self) -> u32 {
+    pub(crate) fn number(&self) -> u32
+        ensures { result ≡ self.now.number }
+    {
         self.number
     }
 
@@ -96,7 +99,7 @@ impl<T: Terms> Desk<T> {
     }
 
     /// Tells the board how far an own net is known, where that is further than it knew.
-    pub fn publish(&mut self, own: &mut Own<T>, promise: Promise)
+    pub(crate) fn publish(&mut self, own: &mut Own<T>, promise: Promise)
         requires { IsRightIn T.design promise }
     {
         if promise.upto <= own.told || !self.drives(own, promise.net) {
@@ -110,7 +113,7 @@ impl<T: Terms> Desk<T> {
     }
 
     /// What the board says of a net, None where it was told nothing yet.
-    pub fn look(&mut self, net: u32) -> Option<Promise>
+    pub(crate) fn look(&mut self, net: u32) -> Option<Promise>
         ensures { IfSome result (λ promise. IsRightIn T.design promise) }
     {
         if net as usize >= self.nets {
@@ -124,17 +127,17 @@ impl<T: Terms> Desk<T> {
     }
 
     /// Raises the stop word.
-    pub fn raise(&mut self) {
+    pub(crate) fn raise(&mut self) {
         self.board.raise(&mut self.seat);
     }
 
     /// Whether the stop word was raised.
-    pub fn raised(&mut self) -> bool {
+    pub(crate) fn raised(&mut self) -> bool {
         self.board.raised(&mut self.seat)
     }
 
     /// Counts the worker as finished, once.
-    pub fn finish(&mut self) {
+    pub(crate) fn finish(&mut self) {
         if !self.is_finished {
             self.board.finish(&mut self.seat);
             self.is_finished = true;
@@ -142,7 +145,7 @@ impl<T: Terms> Desk<T> {
     }
 
     /// Whether this worker and all others have finished.
-    pub fn all_finished(&mut self) -> bool {
+    pub(crate) fn all_finished(&mut self) -> bool {
         self.is_finished && self.board.finished(&mut self.seat) == self.workers
     }
 }

@@ -35,7 +35,7 @@ pub struct TakeEnd<T: Terms> {
 }
 
 /// The two ends of a new link.
-pub fn open_link<T: Terms>(
+pub(crate) fn open_link<T: Terms>(
     alloc: Global,
     design: &Design,
 ) -> Result<(PutEnd<T>, TakeEnd<T>), AllocError>
@@ -61,7 +61,7 @@ pub fn open_link<T: Terms>(
 
 impl<T: Terms> PutEnd<T> {
     /// Puts a piece, or gives it back where the link was full.
-    pub fn put<R: Wait>(&mut self, rt: &R, posted: Posted<T>) -> Result<(), Posted<T>> {
+    pub(crate) fn put<R: Wait>(&mut self, rt: &R, posted: Posted<T>) -> Result<(), Posted<T>> {
         match self.link.put(rt, &mut self.pass, posted.into_piece()) {
             Ok(()) => Ok(()),
             Err(Full(piece)) => Err(Posted::new(piece)),
@@ -71,7 +71,7 @@ impl<T: Terms> PutEnd<T> {
 
 impl<T: Terms> TakeEnd<T> {
     /// Takes the next piece, none where the link was empty.
-    pub fn take<R: Wait>(&mut self, rt: &R) -> Option<Posted<T>> {
+    pub(crate) fn take<R: Wait>(&mut self, rt: &R) -> Option<Posted<T>> {
         match self.link.take(rt, &mut self.pass) {
             Some(piece) => Some(Posted::new(piece)),
             None => None,

@@ -1,5 +1,7 @@
 //! The threads of a free run: one for each worker.
 
+ghost use Rattle.std.specs.Prelude.{◌≡◌, vec_len};
+
 use crate::free::crew::Lookout;
 use crate::free::turnstile::Turnstile;
 use crate::free::worker::Worker;
@@ -17,7 +19,9 @@ pub struct Started {
 
 impl Started {
     /// How many threads were started.
-    pub fn count(&self) -> usize {
+    pub(crate) fn count(&self) -> usize
+        ensures { result ≡ vec_len self.now.threads }
+    {
         self.threads.len()
     }
 
@@ -36,7 +40,7 @@ impl Started {
     }
 
     /// Waits for the threads' ends. Says whether memory or a thread was refused, here or in one of them.
-    pub fn join<R: Threads + Wait>(self, rt: &R) -> bool {
+    pub(crate) fn join<R: Threads + Wait>(self, rt: &R) -> bool {
         let mut refused = self.refused;
         for thread in self.threads {
             refused |= thread.join(rt);
@@ -46,7 +50,13 @@ impl Started {
 }
 
 /// Runs each worker in a thread of its own. Where one is refused the stop word is raised.
-pub fn start<'s, E, T: Terms + Send + Sync + 's, G: Turnstile + Sync, R: Threads + Wait + Sync>(
+pub(crate) fn start<
+    's,
+    E,
+    T: Terms + Send + Sync + 's,
+    G: Turnstile + Sync,
+    R: Threads + Wait + Sync,
+>(
     rt: &'s R,
     alloc: Global,
     scope: &Scope<'s, E>,

@@ -160,7 +160,11 @@ pub struct Worker<T: Terms> {
 
 impl<T: Terms> Worker<T> {
     /// A worker with its cluster, which isn't linked to the collector and to others yet.
-    pub fn open(alloc: Global, desk: Desk<T>, part: Part<T>) -> Result<Worker<T>, AllocError> {
+    pub(crate) fn open(
+        alloc: Global,
+        desk: Desk<T>,
+        part: Part<T>,
+    ) -> Result<Worker<T>, AllocError> {
         let inlets = inlets_of(alloc, part.inputs())?;
         Ok(Worker {
             desk,
@@ -175,7 +179,7 @@ impl<T: Terms> Worker<T> {
     }
 
     /// The nets that the worker is given.
-    pub fn inputs(&self) -> &[u32] {
+    pub(crate) fn inputs(&self) -> &[u32] {
         self.part.inputs()
     }
 
@@ -195,7 +199,7 @@ impl<T: Terms> Worker<T> {
     }
 
     /// Adds a link by which another worker is sent these nets, and gives that worker's end.
-    pub fn add_out(
+    pub(crate) fn add_out(
         &mut self,
         alloc: Global,
         design: &Design,
@@ -208,7 +212,7 @@ impl<T: Terms> Worker<T> {
     }
 
     /// Adds the link by which the collector is sent all nets of the worker, and gives the collector's end.
-    pub fn add_collector(
+    pub(crate) fn add_collector(
         &mut self,
         alloc: Global,
         design: &Design,
@@ -220,13 +224,17 @@ impl<T: Terms> Worker<T> {
     }
 
     /// Adds a link by which the worker is sent nets.
-    pub fn add_in(&mut self, end: TakeEnd<T>) -> Result<(), AllocError> {
+    pub(crate) fn add_in(&mut self, end: TakeEnd<T>) -> Result<(), AllocError> {
         self.ins.push(end)?;
         Ok(())
     }
 
     /// Notes which of the worker's nets others read, by a table with a place for each net.
-    pub fn note_read(&mut self, clustering: &Clustering, is_read: &[bool]) -> Result<(), AllocError>
+    pub(crate) fn note_read(
+        &mut self,
+        clustering: &Clustering,
+        is_read: &[bool],
+    ) -> Result<(), AllocError>
         requires { clustering.now ≡ T.clustering }
     {
         for net in self.part.driven() {
@@ -240,7 +248,7 @@ impl<T: Terms> Worker<T> {
     }
 
     /// Works until all workers have finished or the stop word is raised. Says whether memory was refused to it.
-    pub fn run<G: Turnstile, R: Wait>(mut self, rt: &R, gate: &G) -> bool {
+    pub(crate) fn run<G: Turnstile, R: Wait>(mut self, rt: &R, gate: &G) -> bool {
         let is_refused = self.turns(rt, gate).is_err();
         if is_refused {
             self.desk.raise();

@@ -31,7 +31,7 @@ returns-in_err-design-clause-fault c =
     let P : Design → Type 0 = λ d. Stops (design_checks d) c.in_err-design.field-0.0 in
     rw (p.1, p.2) (HaveTextFault-of (texts_of c.args.bench.now c.args.delays.now c.args.stimuli.now c.args.clocks.now) c.args.settings c.in_ok-netlist.netlist _ c.in_ok-netlist.ensures.found
     (Stops-behind _ _ _ c.in_ok-delay_rows.ensures.0 (Stops-behind _ _ _ c.in_ok-stimulus_rows.ensures.0 (Stops-behind _ _ _ c.in_ok-clock_rows.ensures.0
-    (subst P is c.in_err-design.ensures)))))
+    (subst P is c.in_err-design.ensures.checks)))))
 
 pub returns-clause-ok : goal.returns-clause-ok
 returns-clause-ok c =
@@ -40,6 +40,6 @@ returns-clause-ok c =
     record {
       netlist = c.in_ok-netlist.netlist;
       read = c.in_ok-netlist.ensures.found;
-      checked = none_behind _ _ c.in_ok-delay_rows.ensures.0 (none_behind _ _ c.in_ok-stimulus_rows.ensures.0 (none_behind _ _ c.in_ok-clock_rows.ensures.0 (subst P is c.in_ok-design.ensures.0)));
-      is = c.in_ok-design.ensures.1 ∙ is;
+      checked = none_behind _ _ c.in_ok-delay_rows.ensures.0 (none_behind _ _ c.in_ok-stimulus_rows.ensures.0 (none_behind _ _ c.in_ok-clock_rows.ensures.0 (subst P is c.in_ok-design.ensures.checks.0)));
+      is = c.in_ok-design.ensures.checks.1 ∙ is;
     }

@@ -25,7 +25,10 @@ pub cut-requires-clause-kept : goal.cut-requires-clause-kept
 cut-requires-clause-kept c = omega (arith, whole c, ap (λ (w : Wave). w.base) (is c))
 
 pub returns-clause-cut : goal.returns-clause-cut
-returns-clause-cut c = if_ok_map c.cut.result _ _ (λ piece e. e ∙ ap (λ w. cut w c.args.from) (is c.before)) c.cut.ensures
+returns-clause-cut c = if_ok_map c.cut.result _ _ (λ piece e. e ∙ ap (λ w. cut w c.args.from) (is c.before)) c.cut.ensures.cut
+
+pub returns-clause-idle : goal.returns-clause-idle
+returns-clause-idle c = λ e. c.cut.ensures.idle (e ∙ sym (ap (λ w. w.clock) (is c.before)))
 
 pub returns-clause-sent : goal.returns-clause-sent
 returns-clause-sent c = λ design clustering cluster exact.
@@ -33,4 +36,4 @@ returns-clause-sent c = λ design clustering cluster exact.
     let slot = c.driven_place.result in
     let low : (wave_at c.args.self.now.waves c.args.net).base ≤ c.args.from = omega (arith, whole c.before) in
     let wave = placed_exact design c.args.self.now.waves c.args.net slot exact.waves (output_slot_is c.args.self.now c.args.net slot c.driven_place.ensures.place) in
-    if_ok c.cut.result _ P c.cut.ensures (λ piece e. subst P (sym (e ∙ ap (λ w. cut w c.args.from) (is c.before))) (sent_exact design (wave_at c.args.self.now.waves c.args.net) wave c.args.from low c.requires.known))
+    if_ok c.cut.result _ P c.cut.ensures.cut (λ piece e. subst P (sym (e ∙ ap (λ w. cut w c.args.from) (is c.before))) (sent_exact design (wave_at c.args.self.now.waves c.args.net) wave c.args.from low c.requires.known))

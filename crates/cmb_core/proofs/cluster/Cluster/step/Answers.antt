@@ -1,5 +1,7 @@
 use Rattle.std.proofs.Common.{◌≡◌, ◌<◌, length, List, Option, Some, IfSome, arith, sym, ◌∙◌, ap, subst}
 use Rattle.std.specs.List.{AllByRecursion}
+use Rattle.std.specs.Prelude.{is_some}
+use Rattle.std.proofs.lemmas.Bool.{ltb-false}
 use Rattle.cmb_wave.specs.Wave.{Wave, Piece}
 use Rattle.cmb_design.specs.Exact.{IsExactIn, IsExactWaveIn}
 use Rattle.cmb_core.specs.Rows.{slot_of}
@@ -9,6 +11,7 @@ use Rattle.cmb_core.proofs.Slots.{slot_there}
 use Rattle.cmb_core.proofs.Driven.{Drives, step_part_is, step_waves_are}
 use Rattle.cmb_core.proofs.ExactFacts.{by_result, if_ok, none_some, kept_here, part_exact, moved_exact, still_exact}
 use Rattle.cmb_core.proofs.OwnFacts.{own_placed, drives_own}
+use Rattle.cmb_core.proofs.Sweeps.{part_rises}
 use Rattle.cmb_core.proofs.cluster.Cluster.step.Goals as goal
 
 pub step_at-requires : goal.step_at-requires
@@ -25,6 +28,16 @@ returns-in-Some-clause-waves c = λ design clustering cluster of own.
     let place : slot_of c.args.self.now.waves c.args.net ≡ Some c.in-Some.slot = sym c.place.ensures.place ∙ c.in-Some.is in
     let here : Drives design c.args.self.now c.args.net c.in-Some.slot = drives_own design clustering cluster c.args.self.now of c.args.net c.in-Some.slot place own.own in
     rw (step_waves_are design c.args.self.now c.args.net c.in-Some.slot here c.step_at.ensures.before) at c.step_at.ensures.waves
+
+pub returns-in-Some-clause-still : goal.returns-in-Some-clause-still
+returns-in-Some-clause-still c = λ design clustering cluster of own none.
+    let place : slot_of c.args.self.now.waves c.args.net ≡ Some c.in-Some.slot = sym c.place.ensures.place ∙ c.in-Some.is in
+    let here : Drives design c.args.self.now c.args.net c.in-Some.slot = drives_own design clustering cluster c.args.self.now of c.args.net c.in-Some.slot place own.own in
+    let idle = sym (part_rises c.args.self.now c.in-Some.slot) ∙ ap is_some (step_part_is design c.args.self.now c.args.net c.in-Some.slot here c.step_at.ensures.before ∙ none) in
+    c.step_at.ensures.none (ltb-false _ _ idle)
+
+pub returns-in-None-clause-still : goal.returns-in-None-clause-still
+returns-in-None-clause-still c = λ design clustering cluster of own none. absurd (none_some _ (sym c.place.ensures.place ∙ c.in-None.is) (own_placed design clustering cluster c.args.self.now of c.args.net own))
 
 pub returns-in-Some-clause-exact : goal.returns-in-Some-clause-exact
 returns-in-Some-clause-exact c = λ design clustering cluster exact.

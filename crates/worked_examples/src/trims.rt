@@ -1,0 +1,124 @@
+//! The law of trims, applied from outside: what a cluster answers behind a trim is what it would answer without it. The
+//! functions here are proved from the public contracts of clusters alone.
+
+ghost use Rattle.std.specs.Prelude.{◌≡◌, ℕ, IfOk, OnOk, IfErr};
+ghost use Rattle.cmb_design.specs.Design.{Design};
+ghost use Rattle.cmb_core.specs.Clustering.{Clustering};
+ghost use Rattle.cmb_core.specs.Clusters.{RefusesDelivery, delivered, heard_at, input_slot, step_answer, step_waves};
+ghost use Rattle.cmb_core.specs.Exactness.{IsExactCluster};
+ghost use Rattle.cmb_core.specs.Opened.{IsOwnNet};
+ghost use Rattle.cmb_core.specs.Step.{wave_at};
+ghost use Rattle.cmb_core.specs.Trims.{IsTrimOf};
+
+use crate::inputs::{bare, design_of};
+use cmb_core::laws::trims_change_no_answer;
+use cmb_core::{Cluster, Clustering, DeliverFault, Stranger};
+use cmb_design::{Design, Settings};
+use cmb_wave::{Change, Heard, Level, Piece, Promise};
+use std::alloc::{AllocError, Global};
+use std::process::Abort;
+use std::test::Fail;
+
+// Trims a cluster and then steps a net. The answer is that of the cluster as it was, and the cluster is then that one
+// after the same step, less what it forgot.
+fn trim_and_step(cluster: &mut Cluster, net: u32) -> Result<Option<Piece>, AllocError>
+    ensures answer { (design : Design) (clustering : Clustering) (number : ℕ) → IsExactCluster design clustering number cluster.old → IsOwnNet design clustering number net → IfOk result (λ part. part ≡ step_answer design cluster.old.waves (wave_at cluster.old.waves net)) }
+    ensures after { (design : Design) (clustering : Clustering) (number : ℕ) → IsExactCluster design clustering number cluster.old → IsOwnNet design clustering number net → OnOk result (IsTrimOf (record cluster.old { waves = step_waves design cluster.old.waves (wave_at cluster.old.waves net) }) cluster.new) }
+    ensures exact { (design : Design) (clustering : Clustering) (number : ℕ) → IsExactCluster design clustering number cluster.old → IsExactCluster design clustering number cluster.new }
+{
+    trims_change_no_answer();
+    cluster.trim();
+    // That a trimmed cluster keeps what it needs is told by the contract of `inputs`.
+    let _ = cluster.inputs();
+    cluster.step(net)
+}
+
+// Trims a cluster and then gives it a piece. It refuses what the cluster as it was refuses, and for the same reason.
+fn trim_and_deliver(cluster: &mut Cluster, piece: &Piece) -> Result<u32, DeliverFault>
+    ensures { (design : Design) (clustering : Clustering) (number : ℕ) → IsExactCluster design clustering number cluster.old → IfErr result (λ fault. RefusesDelivery fault (delivered cluster.old piece.now)) }
+{
+    trims_change_no_answer();
+    cluster.trim();
+    cluster.deliver(piece)
+}
+
+// Trims a cluster and then tells it a promise. The answer is that of the cluster as it was.
+fn trim_and_hear(cluster: &mut Cluster, promise: Promise) -> Result<Heard, Stranger>
+    ensures { (design : Design) (clustering : Clustering) (number : ℕ) → IsExactCluster design clustering number cluster.old → result ≡ heard_at cluster.old promise (input_slot cluster.old promise.net) }
+{
+    trims_change_no_answer();
+    cluster.trim();
+    cluster.hear(promise)
+}
+
+// The inverter d of a flip-flop q, in a cluster of its own.
+fn inverter(rt: &impl Abort, alloc: Global) -> Result<Cluster, Fail> {
+    let settings = Settings {
+        horizon: 12,
+        clock: Some((2, 4)),
+        init: Level::Zero,
+    };
+    let design = design_of(rt, alloc, bare(b"q = DFF(d)\nd = NOT(q)\n"), settings)?;
+    let clustering = Clustering::spread(alloc, 2, 2)?;
+    assert!(rt; clustering.nets() == design.netlist().len());
+    assert!(rt; clustering.clusters() == 2);
+    Ok(Cluster::open(alloc, &design, &clustering, 1)?)
+}
+
+// A piece of q with one change.
+fn piece_of(alloc: Global, from: u32, to: u32, level: Level) -> Result<Piece, Fail> {
+    let changes = vec![in alloc; Change { tick: from, level }]?;
+    Ok(Piece::new(0, from, to, changes)?)
+}
+
+// What d's new part spans, and its only change.
+fn is_part(rt: &impl Abort, part: Option<Piece>, span: (u32, u32), change: Change) {
+    let Some(piece) = part else {
+        panic!(rt; "no part");
+    };
+    assert_eq!(rt; (piece.from(), piece.to()), span);
+    assert!(rt; piece.changes() == [change].as_slice());
+}
+
+fn trimmed_steps(rt: &impl Abort, alloc: Global, cluster: &mut Cluster) -> Result<(), Fail> {
+    let first = piece_of(alloc, 0, 3, Level::Zero)?;
+    assert_eq!(rt; trim_and_deliver(cluster, &first), Ok(3));
+    let rise = Change {
+        tick: 1,
+        level: Level::One,
+    };
+    is_part(rt, trim_and_step(cluster, 1)?, (0, 4), rise);
+    let second = piece_of(alloc, 3, 7, Level::One)?;
+    assert_eq!(rt; trim_and_deliver(cluster, &second), Ok(7));
+    assert_eq!(rt; cluster.base(0), Some(3));
+    let fall = Change {
+        tick: 4,
+        level: Level::Zero,
+    };
+    is_part(rt, trim_and_step(cluster, 1)?, (4, 8), fall);
+    Ok(())
+}
+
+fn trimmed_answers(rt: &impl Abort, cluster: &mut Cluster) {
+    let early = Promise {
+        net: 0,
+        count: 2,
+        upto: 7,
+    };
+    let late = Promise {
+        net: 0,
+        count: 2,
+        upto: 9,
+    };
+    assert_eq!(rt; trim_and_hear(cluster, early), Ok(Heard::Old));
+    assert_eq!(rt; trim_and_hear(cluster, late), Ok(Heard::Extended));
+}
+
+// A cluster that is trimmed before each call answers as the same cluster that never is.
+#[test]
+fn trims_between_calls(rt: HostRuntime) -> Result<(), Fail> {
+    let mut cluster = inverter(&rt, rt.alloc())?;
+    trimmed_steps(&rt, rt.alloc(), &mut cluster)?;
+    trimmed_answers(&rt, &mut cluster);
+    Ok(())
+}
