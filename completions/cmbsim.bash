@@ -15,7 +15,7 @@ _cmbsim() {
         help) mapfile -t COMPREPLY < <(compgen -W "run check explain" -- "$current") ;;
         *)
             local options="--horizon --clock --init --delays --stimuli --clocks --explain --help"
-            [ "${COMP_WORDS[1]}" = check ] || options+=" --mode --threads --workers --clusters"
+            [ "${COMP_WORDS[1]}" = check ] || options+=" --mode --threads --workers --clusters --progress --stats"
             mapfile -t COMPREPLY < <(compgen -W "$options" -- "$current")
             ;;
     esac

@@ -98,6 +98,9 @@ version=$(sed -n 's/^\.TH CMBSIM 1 "" "\(cmbsim [0-9.]*\)".*/\1/p' docs/cmbsim.1
 answered version "$version"$'\n' --version
 refused no_words 2
 refused fault_that_is_none 2 explain 9
+refused check_with_stats 2 check --horizon 10 --stats
+refused check_with_progress 2 check --horizon 10 --progress
+refused stats_with_a_value 2 run --horizon 10 --stats yes
 refused check_with_a_mode 2 check --horizon 10 --mode plain
 refused check_of_a_missing_file 1 check --horizon 10 --stimuli missing.csv
 refused check_of_a_netlist_as_a_table 1 check --horizon 10 --delays inverter.netlist.csv
@@ -309,6 +312,30 @@ long() { # long WORDS..: the sum of the text of 600 registers of 16 bits with fe
     "$program" run "${options[@]}" --clocks "$cases.long/clocks.csv" "$@" <"$cases.long/netlist.bench" | cksum
 }
 
+# told_besides WANT WORDS..: of the inverter's run this is on standard error, its times left out, and the text is what it is without these words
+told_besides() {
+    local want=$1 said
+    shift
+    said=$("$program" run --horizon 1000 "$@" 2>&1 >"$faulty/told.vcd" <"$examples/inverter/netlist.bench" | grep -v "seconds\|memory")
+    "$program" run --horizon 1000 >"$faulty/plain.vcd" 2>&1 <"$examples/inverter/netlist.bench"
+    if [ "$said" = "$want" ] && cmp -s "$faulty/told.vcd" "$faulty/plain.vcd"; then
+        passed=$((passed + 1))
+    else
+        failed=$((failed + 1))
+        echo "end to end: $* FAILED: $said"
+    fi
+}
+
+told_meanwhile() {
+    local wipe=$'\r\e[K' stats
+    stats=$(printf '%16d  %s\n' 2 nets 1000 ticks 2 'changes, with the levels at tick 0' 174 'bytes written')
+    told_besides "$stats" --stats
+    told_besides "$stats" --stats --mode plain
+    told_besides "${wipe}cmbsim: tick 1000 of 1000, 2 changes$wipe" --progress
+    told_besides "${wipe}cmbsim: tick 1000 of 1000, 2 changes$wipe" --progress --mode rounds
+    told_besides "" --mode free
+}
+
 [ -x "$program" ] || echo "end to end: the real designs need a built program, and there is no $program: run make build"
 if scripts/fault_tables.py "$program" --check; then
     passed=$((passed + 1))
@@ -321,6 +348,7 @@ told_of_settings
 told_of_tables
 told_of_the_machine
 told_in_words
+told_meanwhile
 on_full_disk run --horizon 10
 on_full_disk --help
 on_full_disk --version

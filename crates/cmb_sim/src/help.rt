@@ -38,6 +38,11 @@ pub const CHECK: &str =
 
 pub const EXPLAIN_FAULT: &str = "Says a fault in words too, with its file and its line or record";
 
+pub const PROGRESS: &str =
+    "Shows meanwhile how far the text is; takes mode free where no mode is given";
+
+pub const STATS: &str = "Tells at the end, on standard error, what the run took";
+
 pub const EXPLAIN: &str =
     "Says what a fault means and what to do about it; without N it lists all faults";
 
@@ -105,7 +110,7 @@ Status 1: a fault, told by one line on standard error, `cmbsim: fault N at P`. B
     33                  0: mode plain would need more than 16,777,216 places
     60, 61              1 the netlist, 2 delays, 3 stimuli, 4 clocks: too long, or not readable
     62                  the number of bytes after which the output failed
-    70                  0: memory was wanting
+    70                  0: memory was wanting, or a thread was refused
 `cmbsim explain N` says what fault N means and what to do, and `cmbsim explain` lists all.
 
 Example, in the repository's folder examples/inverter:

@@ -7,7 +7,7 @@ use crate::clock::clock_of;
 use crate::explaining::{explain_command, explain_fault, explain_message};
 use crate::help::{
     ABOUT, BEGIN, CHECK, CLOCK, CLOCKS, DELAYS, EXPLAIN_FAULT, FILES, HORIZON, INIT, MODE,
-    NETLIST_HINT, PARTS, RUN, STIMULI, THREADS, USUAL, VERSION, WORKERS,
+    NETLIST_HINT, PARTS, PROGRESS, RUN, STATS, STIMULI, THREADS, USUAL, VERSION, WORKERS,
 };
 use crate::mode::Mode;
 use clap::builder::ValueParser;
@@ -32,6 +32,10 @@ pub struct Line {
     pub task: Task,
     /// A fault is told in words too.
     pub explain: bool,
+    /// How far the run is, is shown meanwhile.
+    pub progress: bool,
+    /// What the run took is told at its end.
+    pub stats: bool,
     pub settings: Settings,
     pub mode: Mode,
     /// The file of the delay table. The table is empty where no file is given.
@@ -134,13 +138,21 @@ fn with_mode<'a>(alloc: Global, command: Command<'a>) -> Result<Command<'a>, All
         .arg(option(alloc, "clusters", "K", PARTS).value_parser(ValueParser::unsigned(1, 64)))
 }
 
+// What is told of a run on standard error.
+fn with_telling<'a>(alloc: Global, command: Command<'a>) -> Result<Command<'a>, AllocError> {
+    command
+        .arg(flag(alloc, "progress", PROGRESS))?
+        .arg(flag(alloc, "stats", STATS))
+}
+
 // The command line of `run`.
 fn run_command<'a>(alloc: Global) -> Result<Command<'a>, AllocError> {
     let command = Command::new(alloc, "run")
         .about(RUN)
         .before_help(USUAL)
         .after_help(FILES);
-    with_mode(alloc, with_settings(alloc, command)?)
+    let command = with_mode(alloc, with_settings(alloc, command)?)?;
+    with_telling(alloc, command)
 }
 
 // The command line of `check`.
@@ -207,14 +219,23 @@ fn parts_of(matches: &ArgMatches<'_>, name: &str) -> Result<u32, LineFault>
     }
 }
 
+// The mode's name. Where none is given it is rounds, but free where progress is to be seen.
+fn mode_name<'a>(matches: &ArgMatches<'a>) -> &'a str {
+    match matches.get_str("mode") {
+        Some(name) => name,
+        None if matches.get_flag("progress") => "free",
+        None => "rounds",
+    }
+}
+
 // How the design is run where threads share the work.
 fn shared_mode(matches: &ArgMatches<'_>) -> Result<Mode, LineFault>
     ensures { IfOk result IsLawful }
 {
     let threads = parts_of(matches, "threads")?;
-    match matches.get_str("mode") {
-        Some("plain") => Ok(Mode::Plain),
-        Some("free") => Ok(Mode::SharedFree { threads }),
+    match mode_name(matches) {
+        "plain" => Ok(Mode::Plain),
+        "free" => Ok(Mode::SharedFree { threads }),
         _ => Ok(Mode::Shared { threads }),
     }
 }
@@ -228,9 +249,9 @@ fn mode_of(matches: &ArgMatches<'_>) -> Result<Mode, LineFault>
     }
     let workers = parts_of(matches, "workers")?;
     let clusters = parts_of(matches, "clusters")?;
-    match matches.get_str("mode") {
-        Some("plain") => Ok(Mode::Plain),
-        Some("free") => Ok(Mode::Free { workers, clusters }),
+    match mode_name(matches) {
+        "plain" => Ok(Mode::Plain),
+        "free" => Ok(Mode::Free { workers, clusters }),
         _ => Ok(Mode::Rounds { workers, clusters }),
     }
 }
@@ -275,6 +296,8 @@ fn line_of(alloc: Global, task: Task, matches: &ArgMatches<'_>) -> Result<Line, 
     Ok(Line {
         task,
         explain: matches.get_flag("explain"),
+        progress: matches.get_flag("progress"),
+        stats: matches.get_flag("stats"),
         settings: Settings {
             horizon,
             clock,

@@ -7,12 +7,15 @@ use cmb_sim::{
     DesignFault, Done, Fault, FromReader, Line, LineFault, Source, ToWriter, carry_out, fault_line,
     line_message, read_line, write_whole,
 };
-use cmb_tell::{Given, Kept, done_words, fault_words};
+use cmb_tell::{
+    Given, Kept, Stats, Timed, Watch, Watched, done_words, fault_words, peak_of, stats_text,
+};
 use std::fs::File;
-use std::io::{Read, Write};
+use std::io::{Read, Stderr, Write};
 use std::process::ExitCode;
 use std::sync::Wait;
 use std::thread::Threads;
+use std::time::Instant;
 use std::{env, io};
 
 // A fault, with what else there is to say of it where that was asked for and memory allows it.
@@ -105,6 +108,42 @@ fn kept<S: Source>(rt: &HostRuntime, line: &Line, source: S) -> Kept<S>
     Kept::new(rt.alloc(), source, line.explain)
 }
 
+// The most memory that the system saw this process use, in units of 1,024 bytes, where it tells.
+fn peak(rt: &HostRuntime) -> Option<u64> {
+    let mut file = File::open(rt, "/proc/self/status").ok()?;
+    let mut buffer = [0u8; 4096];
+    let count = file.read(&mut buffer).ok()?;
+    peak_of(&buffer[..count])
+}
+
+// Tells what a run took, if memory allows: when it began, when its inputs were read, and what was watched of its text.
+fn tell_stats(
+    rt: &HostRuntime,
+    done: &Done,
+    began: Option<Instant>,
+    read: Option<Instant>,
+    watch: &Watch<&HostRuntime, Stderr>,
+) {
+    let (Done::Ran(report), Some(began), Some(read)) = (done, began, read) else {
+        return;
+    };
+    let Ok(now) = Instant::now(rt) else {
+        return;
+    };
+    let stats = Stats {
+        nets: report.nets,
+        ticks: report.horizon,
+        tally: watch.tally,
+        reading: read.duration_since(began),
+        writing: watch.writing,
+        whole: now.duration_since(began),
+        peak: peak(rt),
+    };
+    if let Ok(text) = stats_text(rt.alloc(), &stats) {
+        let _ = rt.stderr().write_all(text.as_bytes());
+    }
+}
+
 // Opens the tables, and hands all over to what the line asks for. Only `main` may lend the runtime as one that starts threads, so
 // it comes once more as that.
 fn do_line<R: AllocGlobal + Threads + Wait + Sync>(
@@ -116,7 +155,16 @@ fn do_line<R: AllocGlobal + Threads + Wait + Sync>(
     let mut bench = kept(rt, line, FromReader::new(rt.stdin()));
     let mut delays = kept(rt, line, tables.delays);
     let mut stimuli = kept(rt, line, tables.stimuli);
-    let mut clocks = kept(rt, line, tables.clocks);
+    let mut clocks = Timed {
+        source: kept(rt, line, tables.clocks),
+        clock: rt,
+        read: None,
+    };
+    let mut out = Watched {
+        sink: ToWriter::new(rt.stdout()),
+        watch: Watch::new(rt.alloc(), rt, rt.stderr(), line),
+    };
+    let began = Instant::now(rt).ok();
     let done = carry_out(
         threads,
         line,
@@ -124,10 +172,16 @@ fn do_line<R: AllocGlobal + Threads + Wait + Sync>(
         &mut delays,
         &mut stimuli,
         &mut clocks,
-        &mut ToWriter::new(rt.stdout()),
+        &mut out,
     );
+    out.watch.wipe();
     let fault = match done {
-        Ok(done) => return Ok(done),
+        Ok(done) => {
+            if line.stats {
+                tell_stats(rt, &done, began, clocks.read, &out.watch);
+            }
+            return Ok(done);
+        }
         Err(fault) if !line.explain => return Err(Told::from(fault)),
         Err(fault) => fault,
     };
@@ -137,7 +191,7 @@ fn do_line<R: AllocGlobal + Threads + Wait + Sync>(
         bench: bench.given(),
         delays: delays.given(),
         stimuli: stimuli.given(),
-        clocks: clocks.given(),
+        clocks: clocks.source.given(),
     };
     let words = fault_words(rt.alloc(), &given, &fault).ok();
     Err(Told { fault, words })
