@@ -99,7 +99,7 @@ Modes; each writes the same text:
     plain   one thread fills a table with a place for each net and tick, at most 16,777,216
 With --threads, in modes rounds and free, one thread carries all nets on and others make the text;
 in mode free it is written meanwhile. --workers and --clusters say instead who has which nets
-in a run of at most 262,144 nets times ticks; one thread carries all nets of a longer one.
+in a run of at most 262,144 nets times ticks; a longer one is shared as with --threads.
 A worker without a cluster gets no thread: give at least as many --clusters as --workers.
 
 Status 0: the text was written. Status 2: the command line is wrong.

@@ -13,7 +13,6 @@ use cmb_core::{Clustering, ClusteringFault};
 use cmb_design::{Design, plain_waves};
 use cmb_links::Workers;
 use cmb_run::{Collector, OpenGate, Sink, run_free_text, run_rounds, vcd_text, write_whole};
-use cmb_stream::{stream_text, write_stream};
 use cmb_team::{team_text, write_team};
 use std::alloc::Global;
 use std::sync::Wait;
@@ -107,7 +106,7 @@ fn rounds_text<R: AllocGlobal + Threads + Wait + Sync>(
     ensures fault { IfErr result (IsUnrun (Mode.Rounds workers clusters) design.now) }
 {
     if suits_engine(workers, clusters, design) {
-        let text = stream_text(rt.alloc(), design)?;
+        let text = team_text(rt, rt.alloc(), design, workers.min(clusters))?;
         return Ok(text);
     }
     workers_text(rt, workers, clusters, design)
@@ -154,7 +153,7 @@ fn write_free<R: AllocGlobal + Threads + Wait + Sync, O: Sink>(
     ensures fault { IfErr result (IsUnwritten (Mode.Free workers clusters) design.now (output (O.taken out.old) (O.taken out.new) (O.failures out.old) (O.failures out.new))) }
 {
     if suits_engine(workers, clusters, design) {
-        let written = write_stream(rt.alloc(), design, out)?;
+        let written = write_team(rt, rt.alloc(), design, workers.min(clusters), out)?;
         return Ok(written);
     }
     write_by_workers(rt, workers, clusters, design, out)
