@@ -63,6 +63,10 @@ fn command_line(rt: HostRuntime) -> Result<(), Fail> {
         ("check --horizon 10 --mode plain", LineFault::Wrong),
         ("check --horizon 10 --clock 2-4", LineFault::Clock),
         ("run --horizon 10 --explain yes", LineFault::Wrong),
+        ("run --horizon 10 --stats yes", LineFault::Wrong),
+        ("run --horizon 10 --progress --progress", LineFault::Wrong),
+        ("check --horizon 10 --stats", LineFault::Wrong),
+        ("check --horizon 10 --progress", LineFault::Wrong),
         ("explain", LineFault::Help),
         ("explain 23", LineFault::Help),
         ("explain --help", LineFault::Help),
@@ -116,6 +120,52 @@ fn tasks_of_lines(rt: HostRuntime) -> Result<(), Fail> {
             Ok(read) => {
                 assert_eq!(rt; read.task, task, "{line}");
                 assert_eq!(rt; read.explain, explain, "{line}");
+            }
+            Err(_) => assert!(rt; false, "{line} is refused"),
+        }
+    }
+    Ok(())
+}
+
+#[test]
+fn telling_of_lines(rt: HostRuntime) -> Result<(), Fail> {
+    let alloc = rt.alloc();
+    let free = Mode::Free {
+        workers: 1,
+        clusters: 1,
+    };
+    let rounds = Mode::Rounds {
+        workers: 1,
+        clusters: 1,
+    };
+    for (line, mode, progress, stats) in [
+        ("run --horizon 10", rounds, false, false),
+        ("run --horizon 10 --stats", rounds, false, true),
+        ("run --horizon 10 --progress", free, true, false),
+        (
+            "run --horizon 10 --progress --mode rounds",
+            rounds,
+            true,
+            false,
+        ),
+        (
+            "run --horizon 10 --progress --stats --mode plain",
+            Mode::Plain,
+            true,
+            true,
+        ),
+        (
+            "run --horizon 10 --progress --threads 2",
+            Mode::SharedFree { threads: 2 },
+            true,
+            false,
+        ),
+    ] {
+        let words = words(alloc, line)?;
+        match read_line(alloc, words.as_slice()) {
+            Ok(read) => {
+                assert_eq!(rt; read.mode, mode, "{line}");
+                assert_eq!(rt; (read.progress, read.stats), (progress, stats), "{line}");
             }
             Err(_) => assert!(rt; false, "{line} is refused"),
         }
@@ -252,6 +302,8 @@ fn help_has_each_option(rt: HostRuntime) -> Result<(), Fail> {
     let message = message_of(alloc, "run --help")?;
     for option in [
         "--explain",
+        "--progress",
+        "--stats",
         "--horizon <N>",
         "--clock <F:P>",
         "--init <LEVEL>",
