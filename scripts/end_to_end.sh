@@ -306,10 +306,12 @@ shared() {
     fi
 }
 
-long() { # long WORDS..: the sum of the text of 600 registers of 16 bits with feedback, some 13 MB
+# long WORDS..: the sum of the text of 600 registers of 16 bits with feedback. It has some 25 MB: of half of that too little would be
+# left for threads to join. The horizon stands first among the circuit's own options.
+long() {
     local options
     read -r -a options <"$cases.long/options"
-    "$program" run "${options[@]}" --clocks "$cases.long/clocks.csv" "$@" <"$cases.long/netlist.bench" | cksum
+    "$program" run --horizon 4800 "${options[@]:2}" --clocks "$cases.long/clocks.csv" "$@" <"$cases.long/netlist.bench" | cksum
 }
 
 # told_besides WANT WORDS..: of the inverter's run this is on standard error, its times left out, and the text is what it is without these words
