@@ -121,7 +121,8 @@ pub(crate) fn merge(
 ) -> Result<(), AllocError>
     requires ordered { from ≤ until }
     requires takes { MayTake kind (length pins.old) }
-    ensures { OnOk result (changes.new.items ≡ changes.old.items ++ changes_from (gate_at kind pins.old) before from (until - from)) }
+    ensures { OnOk result (changes.new.items
+        ≡ changes.old.items ++ changes_from (gate_at kind pins.old) before from (until - from)) }
 {
     let mut seen = Vec::with_capacity(*changes.allocator(), pins.len())?;
     let mut last = before;
@@ -151,7 +152,8 @@ pub(crate) fn follow(
     until: u32,
 ) -> Result<(), AllocError>
     requires { from ≤ until }
-    ensures { OnOk result (changes.new.items ≡ changes.old.items ++ changes_from (arrived lag level rest.now) before from (until - from)) }
+    ensures { OnOk result (changes.new.items
+        ≡ changes.old.items ++ changes_from (arrived lag level rest.now) before from (until - from)) }
 {
     let mut pins = [Pin { rest, lag, level }];
     merge(Kind::Buff, &mut pins, changes, before, from, until)

@@ -92,7 +92,9 @@ impl Node {
     ) -> Result<(), AllocError>
         requires ready { IsReadyFor waves.now span.from self.now.rule self.now.operands self.now.stimulus }
         requires ordered { span.from ≤ span.until }
-        ensures { OnOk result (room.new.items ≡ room.old.items ++ changes_from (row waves.now self.now.rule self.now.operands self.now.stimulus) span.before span.from (span.until - span.from)) }
+        ensures { OnOk result (room.new.items
+            ≡ room.old.items ++ changes_from (row waves.now self.now.rule self.now.operands self.now.stimulus)
+            span.before span.from (span.until - span.from)) }
     {
         match self.rule {
             Rule::Given => input_changes(room, &[], span),

@@ -24,7 +24,8 @@ pub(crate) fn operand_wave(waves: &[Wave], operand: Operand) -> &Wave
 /// What is left from a tick on of the wave that an operand reads.
 pub(crate) fn operand_left(waves: &[Wave], operand: Operand, tick: u32) -> Rest<'_>
     requires { IsThere waves.now operand }
-    ensures { (t : ℕ) → tick ≤ t → level_at result.level result.changes.now t ≡ level_at (wave_at waves.now operand.net).kept (wave_at waves.now operand.net).changes t }
+    ensures { (t : ℕ) → tick ≤ t → level_at result.level result.changes.now t
+        ≡ level_at (wave_at waves.now operand.net).kept (wave_at waves.now operand.net).changes t }
 {
     let wave = operand_wave(waves, operand);
     left_from(wave.kept(), wave.changes(), tick)
@@ -53,7 +54,8 @@ pub(crate) fn gate_pins<'a>(
     clock: u32,
 ) -> Result<Vec<Pin<'a>>, AllocError>
     requires { AreReady waves.now clock operands.now }
-    ensures levels { IfOk result (λ pins. (t : ℕ) → clock ≤ t → pins_at pins.items t ≡ delayed_levels waves.now operands.now t) }
+    ensures levels { IfOk result (λ pins. (t : ℕ) → clock ≤ t
+        → pins_at pins.items t ≡ delayed_levels waves.now operands.now t) }
     ensures count { IfOk result (λ pins. length pins.items ≡ length operands.now) }
 {
     let mut pins = Vec::with_capacity(alloc, operands.len())?;

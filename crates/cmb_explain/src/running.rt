@@ -57,7 +57,7 @@ const MEMORY: Explanation = Explanation {
     number: 70,
     place: Place::Nowhere,
     meaning: "out of memory",
-    example: "(ulimit -v 20000; cmbsim run --horizon 1000000 < netlist.bench)",
+    example: "(ulimit -v 10000; cmbsim run --mode plain --horizon 900000 < netlist.bench) with 17 nets",
     advice: "\
 Memory was refused, or a thread was, as by a limit on a user's processes: take a smaller horizon
 or fewer workers. Mode free writes while it runs, and keeps less.",

@@ -58,7 +58,7 @@ fn workers_of(workers: u32) -> Result<Workers, Fault>
 }
 
 // The text of a design, by rounds of several workers.
-fn workers_text<R: AllocGlobal + Threads + Wait + Sync>(
+fn workers_text<R: AllocGlobal + Threads + Sync>(
     rt: &R,
     workers: u32,
     clusters: u32,
@@ -75,8 +75,8 @@ fn workers_text<R: AllocGlobal + Threads + Wait + Sync>(
     Ok(text)
 }
 
-// Net and tick pairs up to which several workers run as they are asked to. Above it, what they hand to one another takes longer
-// than the engine takes for all nets.
+// Net and tick pairs up to which several workers run as they are asked to. Above it, what they hand to one another
+// takes longer than the engine takes for all nets.
 const MOST_SHARED: u64 = 262_144;
 
 // Whether a run is so short that it doesn't matter who has which nets.
@@ -85,8 +85,8 @@ fn is_short(design: &Design) -> bool {
     nets.saturating_mul(u64::from(design.horizon())) <= MOST_SHARED
 }
 
-// Whether the engine carries all nets: where one worker has them all, and where several wouldn't pay. Where so, the numbers are
-// lawful.
+// Whether the engine carries all nets: where one worker has them all, and where several wouldn't pay. Where so, the
+// numbers are lawful.
 fn suits_engine(workers: u32, clusters: u32, design: &Design) -> bool
     ensures { result ≡ true → IsLawfulCount clusters × IsLawfulCount workers }
 {
@@ -95,7 +95,7 @@ fn suits_engine(workers: u32, clusters: u32, design: &Design) -> bool
 }
 
 // The text of a design, by rounds of workers: by the engine where it carries all nets.
-fn rounds_text<R: AllocGlobal + Threads + Wait + Sync>(
+fn rounds_text<R: AllocGlobal + Threads + Sync>(
     rt: &R,
     workers: u32,
     clusters: u32,
@@ -125,7 +125,8 @@ fn write_by_workers<R: AllocGlobal + Threads + Wait + Sync, O: Sink>(
     ensures text { OnOk result (Appends (O.taken out.old) (O.taken out.new) (vcd design.now)) }
     ensures no_failure { OnOk result (O.failures out.new ≡ O.failures out.old) }
     ensures fits { OnOk result (CanRun (Mode.Free workers clusters) design.now) }
-    ensures fault { IfErr result (IsUnwritten (Mode.Free workers clusters) design.now (output (O.taken out.old) (O.taken out.new) (O.failures out.old) (O.failures out.new))) }
+    ensures fault { IfErr result (IsUnwritten (Mode.Free workers clusters) design.now
+        (output (O.taken out.old) (O.taken out.new) (O.failures out.old) (O.failures out.new))) }
 {
     let alloc = rt.alloc();
     let clustering = spread(alloc, design, clusters)?;
@@ -150,7 +151,8 @@ fn write_free<R: AllocGlobal + Threads + Wait + Sync, O: Sink>(
     ensures text { OnOk result (Appends (O.taken out.old) (O.taken out.new) (vcd design.now)) }
     ensures no_failure { OnOk result (O.failures out.new ≡ O.failures out.old) }
     ensures fits { OnOk result (CanRun (Mode.Free workers clusters) design.now) }
-    ensures fault { IfErr result (IsUnwritten (Mode.Free workers clusters) design.now (output (O.taken out.old) (O.taken out.new) (O.failures out.old) (O.failures out.new))) }
+    ensures fault { IfErr result (IsUnwritten (Mode.Free workers clusters) design.now
+        (output (O.taken out.old) (O.taken out.new) (O.failures out.old) (O.failures out.new))) }
 {
     if suits_engine(workers, clusters, design) {
         let written = write_team(rt, rt.alloc(), design, workers.min(clusters), out)?;
@@ -160,7 +162,7 @@ fn write_free<R: AllocGlobal + Threads + Wait + Sync, O: Sink>(
 }
 
 // The text of a design, by so many threads at most.
-fn shared_text<R: AllocGlobal + Threads + Wait + Sync>(
+fn shared_text<R: AllocGlobal + Threads + Sync>(
     rt: &R,
     threads: u32,
     design: &Design,
@@ -175,7 +177,7 @@ fn shared_text<R: AllocGlobal + Threads + Wait + Sync>(
 }
 
 // Writes the text of a design while it is made, by so many threads at most, and gives its length.
-fn write_shared<R: AllocGlobal + Threads + Wait + Sync, O: Sink>(
+fn write_shared<R: AllocGlobal + Threads + Sync, O: Sink>(
     rt: &R,
     threads: u32,
     design: &Design,
@@ -186,7 +188,8 @@ fn write_shared<R: AllocGlobal + Threads + Wait + Sync, O: Sink>(
     ensures text { OnOk result (Appends (O.taken out.old) (O.taken out.new) (vcd design.now)) }
     ensures no_failure { OnOk result (O.failures out.new ≡ O.failures out.old) }
     ensures fits { OnOk result (CanRun (Mode.SharedFree threads) design.now) }
-    ensures fault { IfErr result (IsUnwritten (Mode.SharedFree threads) design.now (output (O.taken out.old) (O.taken out.new) (O.failures out.old) (O.failures out.new))) }
+    ensures fault { IfErr result (IsUnwritten (Mode.SharedFree threads) design.now
+        (output (O.taken out.old) (O.taken out.new) (O.failures out.old) (O.failures out.new))) }
 {
     let _lawful = workers_of(threads)?;
     let written = write_team(rt, rt.alloc(), design, threads, out)?;
@@ -205,7 +208,8 @@ pub(crate) fn write_by<R: AllocGlobal + Threads + Wait + Sync, O: Sink>(
     ensures text { OnOk result (Appends (O.taken out.old) (O.taken out.new) (vcd design.now)) }
     ensures no_failure { OnOk result (O.failures out.new ≡ O.failures out.old) }
     ensures fits { OnOk result (CanRun mode design.now) }
-    ensures fault { IfErr result (IsUnwritten mode design.now (output (O.taken out.old) (O.taken out.new) (O.failures out.old) (O.failures out.new))) }
+    ensures fault { IfErr result (IsUnwritten mode design.now
+        (output (O.taken out.old) (O.taken out.new) (O.failures out.old) (O.failures out.new))) }
 {
     let text = match mode {
         Mode::Plain => plain_text(rt.alloc(), design)?,

@@ -27,7 +27,8 @@ pub(crate) fn read_input<S: Source>(
 ) -> Result<Vec<u8>, Fault>
     requires { S.failures source.old < 2 ^ 64 - 1 }
     ensures whole { IfOk result (λ text. IsWhole (S.remaining source.old) text.items) }
-    ensures fault { IfErr result (IsUnread number (input (S.remaining source.old) (S.failures source.old) (S.failures source.new))) }
+    ensures fault { IfErr result (IsUnread number
+        (input (S.remaining source.old) (S.failures source.old) (S.failures source.new))) }
     ensures failures { (failed_input result ≡ number → ⊥) → S.failures source.new ≡ S.failures source.old }
 {
     match read_whole(alloc, source) {

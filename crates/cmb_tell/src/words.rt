@@ -128,7 +128,8 @@ fn push_nowhere(
     }
 }
 
-/// A fault in words, on a line of its own: the input by its path, the line of the file, what is wrong, and what stands there.
+/// A fault in words, on a line of its own: the input by its path, the line of the file, what is wrong, and what stands
+/// there.
 pub fn fault_words(alloc: Global, given: &Given<'_>, fault: &Fault) -> Result<String, AllocError> {
     let mut text = String::from_str(alloc, "cmbsim: ")?;
     let place = fault.place();

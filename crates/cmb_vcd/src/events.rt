@@ -3,7 +3,8 @@
 ghost use Rattle.std.specs.Prelude.{◌≡◌, ◌++◌, ◌≤◌, ℕ, drop, filter, length, IfOk, OnOk};
 ghost use Rattle.std.specs.List.Sorted.{IsNonDecreasingBy, IsPermutation};
 ghost use Rattle.cmb_wave.specs.Waveform.{IsTrace, Rises, below};
-ghost use Rattle.cmb_vcd.specs.Events.{AreFromStart, AreTraces, all_events, event_text, events_of, events_text, is_at, part_events, tick_of, within};
+ghost use Rattle.cmb_vcd.specs.Events.{AreFromStart, AreTraces, all_events, event_text, events_of, events_text, is_at};
+ghost use Rattle.cmb_vcd.specs.Events.{part_events, tick_of, within};
 
 use crate::lines::push_tick;
 use crate::ready_codes::Codes;
@@ -113,7 +114,8 @@ pub(crate) fn gather(alloc: Global, parts: &[Part]) -> Result<Vec<Event>, AllocE
 pub(crate) fn sort_events(events: &mut Vec<Event>) -> Result<(), AllocError>
     ensures moved { IsPermutation events.old.items events.new.items }
     ensures sorted { OnOk result (IsNonDecreasingBy tick_of events.new.items) }
-    ensures stable { OnOk result ((tick : ℕ) → filter (is_at tick) events.new.items ≡ filter (is_at tick) events.old.items) }
+    ensures stable { OnOk result ((tick : ℕ)
+        → filter (is_at tick) events.new.items ≡ filter (is_at tick) events.old.items) }
 {
     events.sort_by_key(|event| event.tick)?;
     Ok(())

@@ -37,7 +37,8 @@ fn first_level(wave: &Wave) -> Level
 fn push_levels(out: &mut Vec<u8>, codes: &Codes, waves: &[Wave]) -> Result<(), AllocError>
     requires few { length waves.now ≤ 65535 }
     requires whole { AreFromStart waves.now }
-    ensures { OnOk result (out.new.items ≡ out.old.items ++ level_lines (collected_level waves.now) 0 0 (length waves.now)) }
+    ensures { OnOk result (out.new.items
+        ≡ out.old.items ++ level_lines (collected_level waves.now) 0 0 (length waves.now)) }
 {
     for net in 0..waves.len() {
         codes.push(out, first_level(&waves[net]), net as u16)?;
@@ -50,7 +51,8 @@ fn push_levels(out: &mut Vec<u8>, codes: &Codes, waves: &[Wave]) -> Result<(), A
 fn push_first(out: &mut Vec<u8>, codes: &Codes, waves: &[Wave]) -> Result<(), AllocError>
     requires few { length waves.now ≤ 65535 }
     requires whole { AreFromStart waves.now }
-    ensures { OnOk result (out.new.items ≡ out.old.items ++ tick_text (length waves.now) (collected_level waves.now) 0) }
+    ensures { OnOk result (out.new.items
+        ≡ out.old.items ++ tick_text (length waves.now) (collected_level waves.now) 0) }
 {
     push_tick(out, 0)?;
     out.extend_from_slice(b"$dumpvars\n")?;
@@ -61,7 +63,8 @@ fn push_first(out: &mut Vec<u8>, codes: &Codes, waves: &[Wave]) -> Result<(), Al
 
 // The lines of changes, which are sorted by comparison: for few changes in a long span of ticks.
 fn push_compared(out: &mut Vec<u8>, codes: &Codes, parts: &[Part]) -> Result<(), AllocError>
-    ensures { (from to : ℕ) → 0 < from → from ≤ to → All (IsWithin from to) (part_events parts.now) → OnOk result (out.new.items ≡ out.old.items ++ span_lines (part_events parts.now) from to) }
+    ensures { (from to : ℕ) → 0 < from → from ≤ to → All (IsWithin from to) (part_events parts.now)
+        → OnOk result (out.new.items ≡ out.old.items ++ span_lines (part_events parts.now) from to) }
 {
     let mut events = gather(*out.allocator(), parts)?;
     sort_events(&mut events)?;
@@ -122,7 +125,8 @@ fn push_later(
     requires order { from ≤ to }
     requires few { length waves.now ≤ 65535 }
     requires whole { AreFromStart waves.now }
-    ensures { OnOk result (out.new.items ≡ out.old.items ++ ticks_between (length waves.now) (collected_level waves.now) from to) }
+    ensures { OnOk result (out.new.items
+        ≡ out.old.items ++ ticks_between (length waves.now) (collected_level waves.now) from to) }
 {
     let parts = parts_within(*out.allocator(), waves, from, to)?;
     push_parts(out, codes, &parts, from, to)?;
@@ -140,7 +144,8 @@ fn push_ticks(
     requires order { from ≤ to }
     requires few { length waves.now ≤ 65535 }
     requires whole { AreFromStart waves.now }
-    ensures { OnOk result (out.new.items ≡ out.old.items ++ ticks_between (length waves.now) (collected_level waves.now) from to) }
+    ensures { OnOk result (out.new.items
+        ≡ out.old.items ++ ticks_between (length waves.now) (collected_level waves.now) from to) }
 {
     if from == to {
         return Ok(());
@@ -175,7 +180,9 @@ pub(crate) fn push_part(
     requires order { from ≤ upto }
     requires few { length waves.now ≤ 65535 }
     requires whole { AreFromStart waves.now }
-    ensures { OnOk result (out.new.items ≡ out.old.items ++ (ticks_between (length waves.now) (collected_level waves.now) from upto ++ end_line horizon from upto)) }
+    ensures { OnOk result (out.new.items
+        ≡ out.old.items ++ (ticks_between (length waves.now) (collected_level waves.now) from upto
+        ++ end_line horizon from upto)) }
 {
     push_ticks(out, codes, waves, from, upto)?;
     push_end(out, horizon, from, upto)?;
@@ -190,7 +197,8 @@ pub fn vcd_text(
 ) -> Result<Vec<u8>, AllocError>
     requires opened { IsFor design.now collector.now }
     requires complete { IsComplete collector.now }
-    ensures text { IfOk result (λ text. text.items ≡ text_of design.now.netlist design.now.horizon (collected_level collector.now.waves)) }
+    ensures text { IfOk result (λ text.
+        text.items ≡ text_of design.now.netlist design.now.horizon (collected_level collector.now.waves)) }
     ensures exact { IsExactFor design.now collector.now → IfOk result (λ text. text.items ≡ vcd design.now) }
 {
     let horizon = design.horizon();
