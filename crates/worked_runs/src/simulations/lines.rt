@@ -1,7 +1,7 @@
 //! The command line, and the line of a fault.
 
 use crate::simulations::{bench_case, run};
-use cmb_sim::{Choice, Level, LineFault, Mode, Pick, Task, fault_line, line_message, read_line};
+use cmb_sim::{Level, LineFault, Mode, Task, fault_line, line_message, read_line};
 use std::alloc::{AllocError, Global};
 use std::test::Fail;
 
@@ -34,12 +34,6 @@ fn command_line(rt: HostRuntime) -> Result<(), Fail> {
             "run --horizon 10 --clusters 1 --threads 2",
             LineFault::Wrong,
         ),
-        (
-            "run --horizon 10 --only nets --only-outputs",
-            LineFault::Wrong,
-        ),
-        ("run --horizon 10 --only", LineFault::Wrong),
-        ("check --horizon 10 --only nets", LineFault::Wrong),
         ("run --horizon 10 --mode plain --init y", LineFault::Wrong),
         (
             "run --horizon 10 --mode plain --clock 2-4",
@@ -197,37 +191,6 @@ fn modes_of_lines(rt: HostRuntime) -> Result<(), Fail> {
 }
 
 #[test]
-fn choices_of_lines(rt: HostRuntime) -> Result<(), Fail> {
-    let alloc = rt.alloc();
-    for (line, choice, only) in [
-        ("run --horizon 10", Choice::All, None),
-        (
-            "run --horizon 10 --only nets",
-            Choice::Only(Pick::Listed),
-            Some("nets"),
-        ),
-        (
-            "run --horizon 10 --only-outputs",
-            Choice::Only(Pick::Outputs),
-            None,
-        ),
-    ] {
-        let words = words(alloc, line)?;
-        match read_line(alloc, words.as_slice()) {
-            Ok(read) => {
-                assert_eq!(rt; read.choice, choice, "{line}");
-                assert!(rt;
-                    read.only.as_ref().map(|name| name.as_str()) == only,
-                    "{line}"
-                );
-            }
-            Err(_) => assert!(rt; false, "{line} is refused"),
-        }
-    }
-    Ok(())
-}
-
-#[test]
 fn threads_of_lines(rt: HostRuntime) -> Result<(), Fail> {
     let alloc = rt.alloc();
     for (line, mode) in [
@@ -351,8 +314,6 @@ fn help_has_each_option(rt: HostRuntime) -> Result<(), Fail> {
         "--threads <N>",
         "--workers <W>",
         "--clusters <K>",
-        "--only <FILE>",
-        "--only-outputs",
     ] {
         assert!(rt; message.as_str().contains(option), "{option}");
     }
