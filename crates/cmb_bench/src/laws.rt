@@ -9,7 +9,8 @@ ghost use Rattle.cmb_bench.specs.Text.{Part, IsCutting};
 
 /// Each text has one cutting into parts, and no other.
 pub fn one_cutting()
-    ensures { (bytes : List ℕ) → (parts : List Part) × IsCutting bytes parts × ((others : List Part) → IsCutting bytes others → others ≡ parts) }
+    ensures { (bytes : List ℕ) → (parts : List Part) × IsCutting bytes parts
+        × ((others : List Part) → IsCutting bytes others → others ≡ parts) }
 {}
 
 /// Each text spells a netlist or has a first fault.
@@ -34,6 +35,8 @@ pub fn one_netlist()
 
 /// In a netlist the number of a net's name is the net, and a name that has a number is that net's.
 pub fn numbers_and_names()
-    ensures number { (netlist : Netlist) (net : ℕ) → IsNetlist netlist → net < length netlist.names → number_of netlist (name_of netlist net) ≡ Some net }
-    ensures name { (netlist : Netlist) (name : List ℕ) (net : ℕ) → number_of netlist name ≡ Some net → (net < length netlist.names) × (name_of netlist net ≡ name) }
+    ensures number { (netlist : Netlist) (net : ℕ) → IsNetlist netlist → net < length netlist.names
+        → number_of netlist (name_of netlist net) ≡ Some net }
+    ensures name { (netlist : Netlist) (name : List ℕ) (net : ℕ) → number_of netlist name ≡ Some net
+        → (net < length netlist.names) × (name_of netlist net ≡ name) }
 {}

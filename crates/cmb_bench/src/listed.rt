@@ -36,7 +36,8 @@ impl<T: Drop> From<AllocFailed<T>> for ListFault {
 fn number_in(netlist: &Netlist, token: Token) -> Option<usize>
     ensures value { result ≡ named_by netlist.now (lexeme token.entry).word }
     ensures below { IfSome result (λ net. (net < length netlist.now.names) × (net < 65535)) }
-    ensures unknown { is_end (lexeme token.entry).word ≡ false → is_unknown netlist.now (lexeme token.entry).word ≡ is_none result }
+    ensures unknown { is_end (lexeme token.entry).word ≡ false
+        → is_unknown netlist.now (lexeme token.entry).word ≡ is_none result }
 {
     match token.name() {
         Some(name) => netlist.number(name),
@@ -44,9 +45,9 @@ fn number_in(netlist: &Netlist, token: Token) -> Option<usize>
     }
 }
 
-/// The numbers of the nets that a list names, in its order. A list is a text of at most 16,777,216 bytes with the names of
-/// nets, each followed by a blank, the end of its line or a comment, as in a netlist. Errors: 38 `Unknown` at the first token that is no
-/// net's name, with its line, and 70 `Memory`.
+/// The numbers of the nets that a list names, in its order. A list is a text of at most 16,777,216 bytes with the names
+/// of nets, each followed by a blank, the end of its line or a comment, as in a netlist. Errors: 38 `Unknown` at the
+/// first token that is no net's name, with its line, and 70 `Memory`.
 pub fn read_list(alloc: Global, netlist: &Netlist, text: &[u8]) -> Result<Vec<u32>, ListFault>
     requires { length text.now ≤ 16777216 }
     ensures listed { IfOk result (λ numbers. Lists netlist.now text.now numbers.items) }

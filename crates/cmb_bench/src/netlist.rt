@@ -94,7 +94,11 @@ impl Model for Netlist {
 
     ghost view = { λ a. record { names = a.names.keys; drivers = a.drivers.items; outputs = a.outputs.keys } };
 
-    ghost invariant = { λ a. IsNetlist (record { names = a.names.keys; drivers = a.drivers.items; outputs = a.outputs.keys }) };
+    ghost invariant = { λ a. IsNetlist (record {
+      names = a.names.keys;
+      drivers = a.drivers.items;
+      outputs = a.outputs.keys;
+    }) };
 }
 
 impl Netlist {

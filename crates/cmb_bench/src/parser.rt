@@ -1,10 +1,13 @@
 //! From tokens to statements.
-ghost use Rattle.std.specs.Prelude.{◌≡◌, ◌+◌, ◌^◌, ◌<◌, ◌≤◌, ◌++◌, [], ◌∷◌, length, map, if◌then◌else◌, IfOk, IfErr, OnOk, IsOk, not, false};
+ghost use Rattle.std.specs.Prelude.{◌≡◌, ◌+◌, ◌^◌, ◌<◌, ◌≤◌, ◌++◌, [], ◌∷◌, length, map, if◌then◌else◌, IfOk, IfErr};
+ghost use Rattle.std.specs.Prelude.{OnOk, IsOk, not, false};
 ghost use Rattle.cmb_bench.specs.Inner.Word.{is_end};
 ghost use Rattle.cmb_bench.specs.declared.fault.ReadError.TheVariants.{Fault, Memory};
 ghost use Rattle.cmb_bench.specs.Inner.Scan.{scan, lexeme, behind};
 ghost use Rattle.cmb_bench.specs.Inner.Views.{mention, mentions, statement};
-ghost use Rattle.cmb_bench.specs.Inner.Reading.{Gives, fault_at, misplaced, opened, closed, used_name, with_net, short_name, operands_at, driver_at, input_at, output_at, keyword_at, statement_at};
+ghost use Rattle.cmb_bench.specs.Inner.Reading.{Gives, fault_at, misplaced, opened, closed, used_name, with_net};
+ghost use Rattle.cmb_bench.specs.Inner.Reading.{short_name, operands_at, driver_at, input_at, output_at, keyword_at};
+ghost use Rattle.cmb_bench.specs.Inner.Reading.{statement_at};
 ghost use Rattle.cmb_bench.specs.Statement.{driven_by, is_member, driven};
 ghost use Rattle.cmb_bench.specs.Inner.Building.{Stops};
 ghost use Rattle.cmb_bench.specs.Text.{tokens_of};
@@ -132,7 +135,8 @@ fn used_name<'a>(cursor: &mut Cursor<'a>) -> Result<Use<'a>, ReadError>
 /// Adds a name, and says whether it is new.
 fn insert_name(names: &mut IndexSet<Name>, name: &[u8]) -> Result<bool, ReadError>
     ensures new { IfOk result (λ new. new ≡ not (is_member name.now names.old.keys)) }
-    ensures names { IfOk result (λ new. names.new.keys ≡ (if new then names.old.keys ++ name.now ∷ [] else names.old.keys)) }
+    ensures names { IfOk result (λ new.
+        names.new.keys ≡ (if new then names.old.keys ++ name.now ∷ [] else names.old.keys)) }
     ensures err { IfErr result (λ e. e ≡ Memory) }
 {
     let own = Name::new(*names.allocator(), name)?;

@@ -15,8 +15,9 @@ use std::alloc::Global;
 /// The size of a large block, in bytes.
 const LARGE: usize = 8_388_608;
 
-// Takes a large block and gives it back at once. An allocator that maps large blocks apart, as glibc's, then keeps blocks of up
-// to this size among the others, where they are used again. Where it is refused nothing is lost: it is a matter of speed alone.
+// Takes a large block and gives it back at once. An allocator that maps large blocks apart, as glibc's, then keeps
+// blocks of up to this size among the others, where they are used again. Where it is refused nothing is lost: it is a
+// matter of speed alone.
 fn take_and_give_back(alloc: Global) {
     let _ = Vec::<u8>::with_capacity(alloc, LARGE);
 }

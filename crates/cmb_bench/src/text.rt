@@ -1,10 +1,12 @@
 //! The tokens of a netlist's text.
-ghost use Rattle.std.specs.Prelude.{◌≡◌, ℕ, ◌+◌, ◌^◌, ◌<◌, ◌≤◌, ◌≢◌, [], ◌∷◌, length, slice_index, true, false, MatchOption, IfSome};
+ghost use Rattle.std.specs.Prelude.{◌≡◌, ℕ, ◌+◌, ◌^◌, ◌<◌, ◌≤◌, ◌≢◌, [], ◌∷◌, length, slice_index, true, false};
+ghost use Rattle.std.specs.Prelude.{MatchOption, IfSome};
 ghost use Rattle.cmb_bench.specs.declared.text.Class.TheVariants.{End};
 ghost use Rattle.cmb_bench.specs.Text.{class_of, continues, is_token, line_feeds};
 ghost use Rattle.cmb_bench.specs.Inner.Part.{parts_of};
 
-/// What a byte is at the front of a part of the text. A token has the class of its first byte, and `End` stands at the end of input.
+/// What a byte is at the front of a part of the text. A token has the class of its first byte, and `End` stands at the
+/// end of input.
 #[derive(Clone, Copy)]
 pub enum Class {
     White,

@@ -1,6 +1,7 @@
 //! The lists of tells, one for each day.
 
-ghost use Rattle.std.specs.Prelude.{◌≡◌, ℕ, ◌<◌, ◌≤◌, ◌++◌, ◌∷◌, [], IfOk, OnErr, OnOk, length, map, replicate, slice_index_or, slice_set};
+ghost use Rattle.std.specs.Prelude.{◌≡◌, ℕ, ◌<◌, ◌≤◌, ◌++◌, ◌∷◌, [], IfOk, OnErr, OnOk, length, map, replicate};
+ghost use Rattle.std.specs.Prelude.{slice_index_or, slice_set};
 
 use crate::tell::Tell;
 use std::alloc::{AllocError, Global};

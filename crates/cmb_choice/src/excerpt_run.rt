@@ -1,6 +1,7 @@
 //! The text of chosen nets as the engine goes on.
 
-ghost use Rattle.std.specs.Prelude.{◌≡◌, ℕ, ◌<◌, ◌≤◌, ◌++◌, List, false, true, length, slice_index, slice_index_or, All, IfOk};
+ghost use Rattle.std.specs.Prelude.{◌≡◌, ℕ, ◌<◌, ◌≤◌, ◌++◌, List, false, true, length, slice_index, slice_index_or};
+ghost use Rattle.std.specs.Prelude.{All, IfOk};
 ghost use Rattle.cmb_wave.specs.declared.level.Level.TheVariants.{X};
 ghost use Rattle.cmb_design.specs.Exact.{nets_of};
 ghost use Rattle.cmb_design.specs.Value.{value};
@@ -20,7 +21,8 @@ fn first_levels(alloc: Global, nets: &[u32], engine: &Engine<'_>) -> Result<Vec<
     requires nets { All (λ net. net < nets_of engine.now.design) nets.now }
     requires clock { engine.now.clock ≡ 1 }
     ensures count { IfOk result (λ levels. length levels.items ≡ length nets.now) }
-    ensures levels { IfOk result (λ levels. (place : ℕ) → place < length nets.now → slice_index_or levels.items place X ≡ value engine.now.design (slice_index nets.now place) 0) }
+    ensures levels { IfOk result (λ levels. (place : ℕ) → place < length nets.now
+        → slice_index_or levels.items place X ≡ value engine.now.design (slice_index nets.now place) 0) }
 {
     let mut levels = Vec::with_capacity(alloc, nets.len())?;
     for net in nets {
@@ -44,7 +46,12 @@ impl<'a> Model for Run<'a> {
 
     ghost Value = { Run };
 
-    ghost view = { λ r. record { design = r.excerpt.design; nets = r.excerpt.nets; clock = r.excerpt.clock; text = r.text.items } };
+    ghost view = { λ r. record {
+      design = r.excerpt.design;
+      nets = r.excerpt.nets;
+      clock = r.excerpt.clock;
+      text = r.text.items;
+    } };
 
     ghost invariant = { λ r. IsRun r.design.now r.engine r.excerpt };
 }
@@ -91,7 +98,8 @@ impl<'a> Run<'a> {
         ensures nets { IfOk result (λ run. run.nets ≡ self.entry.nets) }
         ensures later { IfOk result (λ run. self.entry.clock < run.clock) }
         ensures within { IfOk result (λ run. run.clock ≤ self.entry.design.horizon) }
-        ensures text { (front : List ℕ) → front ++ self.entry.text ≡ shown_text self.entry.design self.entry.nets self.entry.clock
+        ensures text { (front : List ℕ) → front ++ self.entry.text
+            ≡ shown_text self.entry.design self.entry.nets self.entry.clock
             → IfOk result (λ run. front ++ run.text ≡ shown_text self.entry.design self.entry.nets run.clock) }
     {
         let Run {

@@ -18,8 +18,8 @@ pub struct Part {
     pub nets: Vec<u32>,
 }
 
-/// The least part of a design that has the chosen nets, which rise, and with each net those that its value rule asks for. The
-/// chosen nets have the same text there.
+/// The least part of a design that has the chosen nets, which rise, and with each net those that its value rule asks
+/// for. The chosen nets have the same text there.
 pub fn part_of(alloc: Global, design: &Design, chosen: &[u32]) -> Result<Part, AllocError>
     requires { AreAmong (nets_of design.now) chosen.now }
     ensures part { IfOk result (λ part. IsPartOf design.now chosen.now part.design part.nets.items) }
@@ -48,8 +48,8 @@ fn shown_text(alloc: Global, design: &Design, nets: &[u32]) -> Result<Vec<u8>, A
     Ok(run.into_text())
 }
 
-/// The VCD text of chosen nets of a design's run, which rise, whole in memory. Only nets on which a chosen one depends are
-/// simulated. Errors: memory was refused.
+/// The VCD text of chosen nets of a design's run, which rise, whole in memory. Only nets on which a chosen one depends
+/// are simulated. Errors: memory was refused.
 pub fn chosen_text(alloc: Global, design: &Design, chosen: &[u32]) -> Result<Vec<u8>, AllocError>
     requires { AreAmong (nets_of design.now) chosen.now }
     ensures { IfOk result (λ text. text.items ≡ vcd_of design.now chosen.now) }

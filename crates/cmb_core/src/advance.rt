@@ -7,7 +7,7 @@ ghost use Rattle.cmb_wave.specs.declared.level.Level.TheVariants.{X};
 ghost use Rattle.cmb_core.specs.Spans.{changes_from};
 ghost use Rattle.cmb_bench.specs.Netlist.{MayTake};
 ghost use Rattle.cmb_core.specs.Arrivals.{last_sample};
-ghost use Rattle.cmb_core.specs.Rows.{gate_reach, gate_row, sampled, AreReady, IsThere, flop_reach};
+ghost use Rattle.cmb_core.specs.Rows.{gate_reach, gate_row, sampled_wave, AreReady, IsThere, flop_reach};
 ghost use Rattle.cmb_core.specs.Step.{wave_at};
 
 use crate::merge::{Lag, differ, follow, merge};
@@ -68,7 +68,9 @@ fn begins_anew(level: Level, span: Span) -> bool
 #[tactic(auto, using(crate::proofs::Changes::changes_from_held))]
 fn held_changes(room: &mut Vec<Change>, level: Level, span: Span) -> Result<(), AllocError>
     requires { span.from ≤ span.until }
-    ensures { (row : ℕ → Level) → ((t : ℕ) → span.from ≤ t → row t ≡ level) → OnOk result (room.new.items ≡ room.old.items ++ changes_from row span.before span.from (span.until - span.from)) }
+    ensures { (row : ℕ → Level) → ((t : ℕ) → span.from ≤ t → row t ≡ level)
+        → OnOk result (room.new.items ≡ room.old.items
+        ++ changes_from row span.before span.from (span.until - span.from)) }
 {
     if begins_anew(level, span) {
         room.push(Change {
@@ -90,7 +92,9 @@ pub(crate) fn gate_changes(
     requires ready { AreReady waves.now span.from operands.now }
     requires takes { MayTake kind (length operands.now) }
     requires ordered { span.from ≤ span.until }
-    ensures { OnOk result (room.new.items ≡ room.old.items ++ changes_from (gate_row kind waves.now operands.now) span.before span.from (span.until - span.from)) }
+    ensures { OnOk result (room.new.items
+        ≡ room.old.items ++ changes_from (gate_row kind waves.now operands.now) span.before span.from
+        (span.until - span.from)) }
 {
     let mut pins = gate_pins(*room.allocator(), operands, waves, span.from)?;
     merge(kind, &mut pins, room, span.before, span.from, span.until)
@@ -122,7 +126,11 @@ fn sampled_changes(
     requires positive { 0 < period }
     requires there { IsThere waves.now operand }
     requires ordered { span.from ≤ span.until }
-    ensures { (init : Level) → (span.from < span.until → first + operand.delay ≤ span.from) → OnOk result (room.new.items ≡ room.old.items ++ changes_from (sampled (wave_at waves.now operand.net) first period init operand.delay) span.before span.from (span.until - span.from)) }
+    ensures { (init : Level) → (span.from < span.until → first + operand.delay ≤ span.from)
+        → OnOk result (room.new.items ≡ room.old.items
+        ++ changes_from (sampled_wave (wave_at waves.now operand.net) first period init operand.delay) span.before
+        span.from
+        (span.until - span.from)) }
 {
     let lag = Lag::Sampled {
         first,
@@ -155,7 +163,9 @@ pub(crate) fn flop_changes(
     requires positive { 0 < period }
     requires there { IsThere waves.now operand }
     requires ordered { span.from ≤ span.until }
-    ensures { OnOk result (room.new.items ≡ room.old.items ++ changes_from (sampled (wave_at waves.now operand.net) first period init operand.delay) span.before span.from (span.until - span.from)) }
+    ensures { OnOk result (room.new.items
+        ≡ room.old.items ++ changes_from (sampled_wave (wave_at waves.now operand.net) first period init operand.delay)
+        span.before span.from (span.until - span.from)) }
 {
     let begun = first.saturating_add(operand.delay);
     if begun <= span.from {
@@ -188,7 +198,8 @@ pub(crate) fn input_changes(
 ) -> Result<(), AllocError>
     requires rises { Rises 0 stimulus.now }
     requires ordered { span.from ≤ span.until }
-    ensures { OnOk result (room.new.items ≡ room.old.items ++ changes_from (level_at X stimulus.now) span.before span.from (span.until - span.from)) }
+    ensures { OnOk result (room.new.items
+        ≡ room.old.items ++ changes_from (level_at X stimulus.now) span.before span.from (span.until - span.from)) }
 {
     let Rest { level, changes } = left_from(Level::X, stimulus, span.from);
     follow(

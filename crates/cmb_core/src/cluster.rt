@@ -1,6 +1,7 @@
 //! A part of a design that is simulated by itself.
 
-ghost use Rattle.std.specs.Prelude.{◌≡◌, ◌≢◌, ◌<◌, ◌≤◌, ℕ, IfOk, OnOk, OnErr, IfErr, IfSome, MatchOption, Ok, Err, None, slice_set, length, map};
+ghost use Rattle.std.specs.Prelude.{◌≡◌, ◌≢◌, ◌<◌, ◌≤◌, ℕ, IfOk, OnOk, OnErr, IfErr, IfSome, MatchOption, Ok, Err};
+ghost use Rattle.std.specs.Prelude.{None, slice_set, length, map};
 
 use crate::advance::Span;
 use crate::clustering::Clustering;
@@ -31,7 +32,11 @@ impl Model for Cluster {
 
     ghost view = { λ c. record { horizon = c.horizon; processes = c.processes.items; waves = c.waves.items } };
 
-    ghost invariant = { λ c. record { sound : IsSound (record { horizon = c.horizon; processes = c.processes.items; waves = c.waves.items }); tables : AreTables c.processes.items (wave_nets c.waves.items) c.tables } };
+    ghost invariant = { λ c. record {
+      sound : IsSound
+          (record { horizon = c.horizon; processes = c.processes.items; waves = c.waves.items });
+      tables : AreTables c.processes.items (wave_nets c.waves.items) c.tables;
+    } };
 }
 
 impl Cluster {
@@ -44,7 +49,9 @@ impl Cluster {
     ghost use Rattle.cmb_core.specs.Opened.{IsClusterOf, IsOwnNet, held_nets};
     ghost use Rattle.cmb_core.specs.Step.{wave_at};
     ghost use Rattle.cmb_core.specs.Rows.{slot_of};
-    ghost use Rattle.cmb_core.specs.Clusters.{slot_wave, process_at, new_part, new_waves_at, step_answer, step_waves, IsSound, input_slot, output_slot, delivered, RefusesDelivery, heard_at, IsSameButWaves, IsNextSpan, reach_at, row_at};
+    ghost use Rattle.cmb_core.specs.Clusters.{slot_wave, process_at, new_part, new_waves_at, step_answer, step_waves};
+    ghost use Rattle.cmb_core.specs.Clusters.{IsSound, input_slot, output_slot, delivered, RefusesDelivery, heard_at};
+    ghost use Rattle.cmb_core.specs.Clusters.{IsSameButWaves, IsNextSpan, reach_at, row_at};
     ghost use Rattle.cmb_wave.specs.Calls.{taken, RefusesAs, hears, heard_wave};
     ghost use Rattle.cmb_core.specs.World.{with_wave};
     ghost use Rattle.cmb_core.specs.declared.delivery.DeliverFault.TheVariants.{Clash};
@@ -85,11 +92,20 @@ impl Cluster {
     /// of it, None where nothing is, also where there is no memory. Of exact waves the new part is exact,
     /// and they stay so. Of a net that isn't driven here nothing is new.
     pub fn step(&mut self, net: u32) -> Result<Option<Piece>, AllocError>
-        ensures piece { (design : Design) (clustering : Clusters) (cluster : ℕ) → IsClusterOf design clustering cluster self.old → IsOwnNet design clustering cluster net → IfOk result (λ part. part ≡ step_answer design self.old.waves (wave_at self.old.waves net)) }
-        ensures waves { (design : Design) (clustering : Clusters) (cluster : ℕ) → IsClusterOf design clustering cluster self.old → IsOwnNet design clustering cluster net → OnOk result (self.new.waves ≡ step_waves design self.old.waves (wave_at self.old.waves net)) }
-        ensures still { (design : Design) (clustering : Clusters) (cluster : ℕ) → IsClusterOf design clustering cluster self.old → IsOwnNet design clustering cluster net → step_answer design self.old.waves (wave_at self.old.waves net) ≡ None → result ≡ Ok None }
-        ensures exact { (design : Design) (clustering : Clusters) (cluster : ℕ) → IsExactCluster design clustering cluster self.old → IsExactCluster design clustering cluster self.new }
-        ensures sent { (design : Design) (clustering : Clusters) (cluster : ℕ) → IsExactCluster design clustering cluster self.old → IsOwnNet design clustering cluster net → IfOk result (λ part. IfSome part (IsExactIn design)) }
+        ensures piece { (design : Design) (clustering : Clusters) (cluster : ℕ)
+            → IsClusterOf design clustering cluster self.old → IsOwnNet design clustering cluster net
+            → IfOk result (λ part. part ≡ step_answer design self.old.waves (wave_at self.old.waves net)) }
+        ensures waves { (design : Design) (clustering : Clusters) (cluster : ℕ)
+            → IsClusterOf design clustering cluster self.old → IsOwnNet design clustering cluster net
+            → OnOk result (self.new.waves ≡ step_waves design self.old.waves (wave_at self.old.waves net)) }
+        ensures still { (design : Design) (clustering : Clusters) (cluster : ℕ)
+            → IsClusterOf design clustering cluster self.old → IsOwnNet design clustering cluster net
+            → step_answer design self.old.waves (wave_at self.old.waves net) ≡ None → result ≡ Ok None }
+        ensures exact { (design : Design) (clustering : Clusters) (cluster : ℕ)
+            → IsExactCluster design clustering cluster self.old → IsExactCluster design clustering cluster self.new }
+        ensures sent { (design : Design) (clustering : Clusters) (cluster : ℕ)
+            → IsExactCluster design clustering cluster self.old → IsOwnNet design clustering cluster net
+            → IfOk result (λ part. IfSome part (IsExactIn design)) }
         ensures other { output_slot self.old net ≡ None → result ≡ Ok None }
         ensures idle { output_slot self.old net ≡ None → self.new ≡ self.old }
         ensures unchanged { OnErr result (self.new ≡ self.old) }
@@ -132,7 +148,8 @@ impl Cluster {
     // The span of a wave's new ticks, None where its process can't go on.
     pub(crate) fn next_span(&self, slot: usize) -> Option<Span>
         requires { slot < length self.now.waves }
-        ensures span { MatchOption result (reach_at self.now slot ≤ (slot_wave self.now slot).clock) (IsNextSpan self.now slot) }
+        ensures span { MatchOption result (reach_at self.now slot ≤ (slot_wave self.now slot).clock)
+            (IsNextSpan self.now slot) }
         ensures sound { IsSound self.now }
     {
         let wave = self.wave(slot);
@@ -154,7 +171,10 @@ impl Cluster {
         ensures sound { IsSound self.old }
         ensures part { IfOk result (λ part. part ≡ new_part self.old slot) }
         ensures waves { OnOk result (self.new.waves ≡ new_waves_at self.old slot) }
-        ensures before { (slot_wave self.old slot).clock < reach_at self.old slot → last_level (slot_wave self.old slot).kept (slot_wave self.old slot).changes ≡ level_before (level_at (slot_wave self.old slot).kept (slot_wave self.old slot).changes) (slot_wave self.old slot).clock }
+        ensures before { (slot_wave self.old slot).clock < reach_at self.old slot
+            → last_level (slot_wave self.old slot).kept (slot_wave self.old slot).changes
+            ≡ level_before (level_at (slot_wave self.old slot).kept (slot_wave self.old slot).changes)
+            (slot_wave self.old slot).clock }
         ensures none { reach_at self.old slot ≤ (slot_wave self.old slot).clock → result ≡ Ok None }
         ensures idle { reach_at self.old slot ≤ (slot_wave self.old slot).clock → self.new ≡ self.old }
         ensures unchanged { OnErr result (self.new ≡ self.old) }
@@ -213,8 +233,12 @@ impl Cluster {
         ensures fault { IfErr result (λ fault. RefusesDelivery fault (delivered self.old piece.now)) }
         ensures unchanged { OnErr result (self.new ≡ self.old) }
         ensures same { IsSameButWaves self.old self.new }
-        ensures exact { (design : Design) (clustering : Clusters) (cluster : ℕ) → IsExactCluster design clustering cluster self.old → IsExactIn design piece.now → IsExactCluster design clustering cluster self.new }
-        ensures calm { (design : Design) (clustering : Clusters) (cluster tick : ℕ) → IsExactCluster design clustering cluster self.old → IsExactIn design piece.now → result ≢ Err (Clash tick) }
+        ensures exact { (design : Design) (clustering : Clusters) (cluster : ℕ)
+            → IsExactCluster design clustering cluster self.old → IsExactIn design piece.now
+            → IsExactCluster design clustering cluster self.new }
+        ensures calm { (design : Design) (clustering : Clusters) (cluster tick : ℕ)
+            → IsExactCluster design clustering cluster self.old → IsExactIn design piece.now
+            → result ≢ Err (Clash tick) }
     {
         match self.input_place(piece.net()) {
             Some(slot) => match self.deliver_at(slot, piece) {
@@ -243,10 +267,13 @@ impl Cluster {
     /// then nothing changes. Exact waves stay exact by right promises.
     pub fn hear(&mut self, promise: Promise) -> Result<Heard, Stranger>
         ensures answer { result ≡ heard_at self.old promise (input_slot self.old promise.net) }
-        ensures waves { OnOk result (self.new.waves ≡ with_wave self.old.waves (heard_wave (wave_at self.old.waves promise.net) promise)) }
+        ensures waves { OnOk result (self.new.waves
+            ≡ with_wave self.old.waves (heard_wave (wave_at self.old.waves promise.net) promise)) }
         ensures unchanged { OnErr result (self.new ≡ self.old) }
         ensures same { IsSameButWaves self.old self.new }
-        ensures exact { (design : Design) (clustering : Clusters) (cluster : ℕ) → IsExactCluster design clustering cluster self.old → IsRightIn design promise → IsExactCluster design clustering cluster self.new }
+        ensures exact { (design : Design) (clustering : Clusters) (cluster : ℕ)
+            → IsExactCluster design clustering cluster self.old → IsRightIn design promise
+            → IsExactCluster design clustering cluster self.new }
     {
         match self.input_place(promise.net) {
             Some(slot) => Ok(self.hear_at(slot, promise)),

@@ -82,12 +82,14 @@ impl Model for Clustering {
 
     ghost view = { λ a. record { clusters = a.clusters; assign = a.assign.items } };
 
-    ghost invariant = { λ a. IsClustering (length a.assign.items) (record { clusters = a.clusters; assign = a.assign.items }) };
+    ghost invariant = { λ a. IsClustering (length a.assign.items)
+        (record { clusters = a.clusters; assign = a.assign.items }) };
 }
 
 impl Clustering {
     ghost use Rattle.std.specs.Prelude.{◌≡◌, ◌<◌, ◌≤◌, Ok, IfOk, IfErr, length};
-    ghost use Rattle.cmb_core.specs.Assigns.{checked_clustering, merged_clustering, spread_clustering, RefusesClustering};
+    ghost use Rattle.cmb_core.specs.Assigns.{checked_clustering, merged_clustering, spread_clustering};
+    ghost use Rattle.cmb_core.specs.Assigns.{RefusesClustering};
     ghost use Rattle.cmb_core.specs.Clustering.{cluster_of, IsClustering};
 
     /// The clustering of so many nets in which net n goes to cluster `assign[n]`. 40 where the number of

@@ -1,6 +1,7 @@
 //! The parts of opening a cluster: its nets, its processes and its tables.
 
-ghost use Rattle.std.specs.Prelude.{◌≡◌, ◌<◌, ◌≤◌, ◌==◌, ◌||◌, ◌∷◌, [], ℕ, false, None, List, Option, IfOk, length, filter, map, slice_index_or, All};
+ghost use Rattle.std.specs.Prelude.{◌≡◌, ◌<◌, ◌≤◌, ◌==◌, ◌||◌, ◌∷◌, [], ℕ, false, None, List, Option, IfOk, length};
+ghost use Rattle.std.specs.Prelude.{filter, map, slice_index_or, All};
 ghost use Rattle.std.specs.List.{list_any, range_with_len};
 ghost use Rattle.cmb_wave.specs.Wave.{new_wave};
 ghost use Rattle.cmb_bench.specs.declared.netlist.Driver.TheVariants.{Input, Gate, Flop};
@@ -23,7 +24,8 @@ use std::alloc::{AllocError, Global};
 // Marks these nets.
 fn mark_all(pins: &[u32], read: &mut [bool])
     requires { All (λ pin. pin < length read.old) pins.now }
-    ensures { (net : ℕ) → slice_index_or read.new net false ≡ (list_any (λ pin. pin == net) pins.now || slice_index_or read.old net false) }
+    ensures { (net : ℕ) → slice_index_or read.new net false
+        ≡ (list_any (λ pin. pin == net) pins.now || slice_index_or read.old net false) }
 {
     for pin in pins {
         read[*pin as usize] = true;
@@ -33,7 +35,8 @@ fn mark_all(pins: &[u32], read: &mut [bool])
 // Marks the nets on a driver's pins.
 fn mark_pins(driver: &Driver, read: &mut [bool])
     requires { IsWired (length read.old) driver.now }
-    ensures { (net : ℕ) → slice_index_or read.new net false ≡ (list_any (λ pin. pin == net) (pins_of driver.now) || slice_index_or read.old net false) }
+    ensures { (net : ℕ) → slice_index_or read.new net false
+        ≡ (list_any (λ pin. pin == net) (pins_of driver.now) || slice_index_or read.old net false) }
 {
     match driver {
         Driver::Input => {}
@@ -81,7 +84,9 @@ fn nets_marked(
 ) -> Result<Vec<u32>, AllocError>
     requires nets { length clustering.now.assign ≡ length read.now }
     requires few { length read.now ≤ 65535 }
-    ensures { IfOk result (λ nets. nets.items ≡ filter (λ net. (cluster_of clustering.now net == cluster) || slice_index_or read.now net false) (range_with_len 0 (length read.now))) }
+    ensures { IfOk result (λ nets. nets.items
+        ≡ filter (λ net. (cluster_of clustering.now net == cluster) || slice_index_or read.now net false)
+        (range_with_len 0 (length read.now))) }
 {
     let mut nets = Vec::new(alloc);
     for net in 0..read.len() {
@@ -248,7 +253,8 @@ fn node_of(
     requires netlist { IsNetlist design.now.netlist }
     requires nets { length clustering.now.assign ≡ nets_of design.now }
     requires places { length places.now ≡ nets_of design.now }
-    requires placed { cluster_of clustering.now net ≡ cluster → ArePlaced places.now (pins_of (driver_of design.now.netlist net)) }
+    requires placed { cluster_of clustering.now net ≡ cluster
+        → ArePlaced places.now (pins_of (driver_of design.now.netlist net)) }
     ensures process { IfOk result (λ node. IsProcessOf design.now clustering.now cluster net node) }
     ensures starts { IfOk result (λ node. StartsOn places.now node) }
 {
@@ -272,7 +278,8 @@ pub(crate) fn nodes_of(
     requires netlist { IsNetlist design.now.netlist }
     requires nets { length clustering.now.assign ≡ nets_of design.now }
     requires places { length places.now ≡ nets_of design.now }
-    requires placed { All (λ net. cluster_of clustering.now net ≡ cluster → ArePlaced places.now (pins_of (driver_of design.now.netlist net))) nets.now }
+    requires placed { All (λ net. cluster_of clustering.now net ≡ cluster
+        → ArePlaced places.now (pins_of (driver_of design.now.netlist net))) nets.now }
     ensures processes { IfOk result (λ nodes. AreProcessesOf design.now clustering.now cluster nets.now nodes.items) }
     ensures start { IfOk result (λ nodes. AllStartOn places.now nodes.items) }
     ensures count { IfOk result (λ nodes. length nodes.items ≡ length nets.now) }
@@ -291,7 +298,8 @@ pub(crate) fn sides_of(
     nets: &[u32],
 ) -> Result<(Vec<u32>, Vec<u32>), AllocError>
     requires { length nodes.now ≡ length nets.now }
-    ensures { IfOk result (λ sides. (sides.0.items ≡ driven_among nodes.now nets.now) × (sides.1.items ≡ given_among nodes.now nets.now)) }
+    ensures { IfOk result (λ sides. (sides.0.items ≡ driven_among nodes.now nets.now)
+        × (sides.1.items ≡ given_among nodes.now nets.now)) }
 {
     let mut driven = Vec::new(alloc);
     let mut given = Vec::new(alloc);

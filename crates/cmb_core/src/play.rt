@@ -23,15 +23,18 @@ pub(crate) fn listed(
 }
 
 impl World {
-    ghost use Rattle.std.specs.Prelude.{◌≡◌, ◌<◌, ◌≤◌, ℕ, List, [], ◌∷◌, ◌++◌, length, take, nat_lt, Some, None, Ok, OnOk, OnErr, IfOk, IfErr, if◌then◌else◌};
+    ghost use Rattle.std.specs.Prelude.{◌≡◌, ◌<◌, ◌≤◌, ℕ, List, [], ◌∷◌, ◌++◌, length, take, nat_lt, Some, None, Ok};
+    ghost use Rattle.std.specs.Prelude.{OnOk, OnErr, IfOk, IfErr, if◌then◌else◌};
     ghost use Rattle.cmb_wave.specs.Calls.{cut, promised, heard_wave};
     ghost use Rattle.cmb_design.specs.Design.{Design};
     ghost use Rattle.cmb_core.specs.declared.event.Event.{Event};
     ghost use Rattle.cmb_core.specs.declared.event.Event.TheVariants.{Step, Post, Deliver, Promise as Promises, Look};
     ghost use Rattle.cmb_core.specs.Clustering.{Clustering};
-    ghost use Rattle.cmb_core.specs.Clusters.{step_answer, step_waves, delivered, RefusesDelivery, heard_at, input_slot};
+    ghost use Rattle.cmb_core.specs.Clusters.{step_answer, step_waves, delivered, RefusesDelivery, heard_at};
+    ghost use Rattle.cmb_core.specs.Clusters.{input_slot};
     ghost use Rattle.cmb_core.specs.Opened.{IsClusterOf, IsOwnNet};
-    ghost use Rattle.cmb_core.specs.Play.{IsReached, IsWorldOf, IsSameBut, IsSameSize, Plays, cluster_at, home_wave, post_at, shown};
+    ghost use Rattle.cmb_core.specs.Play.{IsReached, IsWorldOf, IsSameBut, IsSameSize, Plays, cluster_at, home_wave};
+    ghost use Rattle.cmb_core.specs.Play.{post_at, shown};
     ghost use Rattle.cmb_core.specs.Clocks.{start, play as play_clocks};
     ghost use Rattle.cmb_core.specs.Run.{clocks_after, replies_to};
     ghost use Rattle.cmb_core.specs.Step.{wave_at};
@@ -40,15 +43,25 @@ impl World {
     /// What an event does: the call on its cluster, over that cluster's own waves as they stand. 45 where the net, the
     /// cluster or the number isn't there, 46 where a piece would begin beyond the clock, and then as the cluster
     /// refuses: 44, 42, 43, and 47, which doesn't come over exact waves. 70 where there is no memory for what a reply
-    /// keeps, and never in the place of another refusal. A refusal changes nothing. Over a world that came about from newly opened clusters, the reply and the clocks after the
-    /// event are those of the machine of clocks, and every wave is exact.
+    /// keeps, and never in the place of another refusal. A refusal changes nothing. Over a world that came about from
+    /// newly opened clusters, the reply and the clocks after the event are those of the machine of clocks, and every
+    /// wave is exact.
     pub fn play(&mut self, event: Event) -> Result<Reply, PlayFault>
-        ensures played { (design : Design) (clustering : Clustering) → IsWorldOf design clustering self.old → Plays (play_world design clustering (shown self.old) event) (shown self.old) (shown self.new) result }
-        ensures kept { (design : Design) (clustering : Clustering) → IsWorldOf design clustering self.old → IsWorldOf design clustering self.new }
+        ensures played { (design : Design) (clustering : Clustering) → IsWorldOf design clustering self.old
+            → Plays (play_world design clustering (shown self.old) event) (shown self.old) (shown self.new) result }
+        ensures kept { (design : Design) (clustering : Clustering) → IsWorldOf design clustering self.old
+            → IsWorldOf design clustering self.new }
         ensures unchanged { OnErr result (self.new ≡ self.old) }
         ensures size { IsSameSize self.old self.new }
-        ensures sequential { (design : Design) (clustering : Clustering) (past : List Event) → IsWorldOf design clustering self.old → IsReached design clustering (shown self.old) past → result ≢ Err Memory → result ≡ (play_clocks design clustering (clocks_after design clustering (start design clustering) past) event).reply }
-        ensures exact { (design : Design) (clustering : Clustering) (past : List Event) → IsWorldOf design clustering self.old → IsReached design clustering (shown self.old) past → result ≢ Err Memory → Shows design clustering (shown self.new) (play_clocks design clustering (clocks_after design clustering (start design clustering) past) event).clocks }
+        ensures sequential { (design : Design) (clustering : Clustering) (past : List Event)
+            → IsWorldOf design clustering self.old → IsReached design clustering (shown self.old) past
+            → result ≢ Err Memory → result ≡ (play_clocks design clustering
+            (clocks_after design clustering (start design clustering) past) event).reply }
+        ensures exact { (design : Design) (clustering : Clustering) (past : List Event)
+            → IsWorldOf design clustering self.old → IsReached design clustering (shown self.old) past
+            → result ≢ Err Memory → Shows design clustering (shown self.new)
+            (play_clocks design clustering (clocks_after design clustering (start design clustering) past)
+            event).clocks }
     {
         match event {
             Event::Step(net) => self.step(net),
@@ -65,12 +78,24 @@ impl World {
         &mut self,
         events: &[Event],
     ) -> Result<Vec<Result<Reply, PlayFault>>, AllocError>
-        ensures replies { (design : Design) (clustering : Clustering) → IsWorldOf design clustering self.old → IfOk result (λ replies. replies.items ≡ world_replies design clustering (shown self.old) events.now) }
-        ensures world { (design : Design) (clustering : Clustering) → IsWorldOf design clustering self.old → OnOk result (shown self.new ≡ world_after design clustering (shown self.old) events.now) }
-        ensures memory { (design : Design) (clustering : Clustering) → IsWorldOf design clustering self.old → OnErr result ((first : ℕ) × (shown self.new ≡ world_after design clustering (shown self.old) (take first events.now))) }
-        ensures kept { (design : Design) (clustering : Clustering) → IsWorldOf design clustering self.old → IsWorldOf design clustering self.new }
-        ensures sequential { (design : Design) (clustering : Clustering) (past : List Event) → IsWorldOf design clustering self.old → IsReached design clustering (shown self.old) past → IfOk result (λ replies. replies.items ≡ replies_to design clustering (clocks_after design clustering (start design clustering) past) events.now) }
-        ensures exact { (design : Design) (clustering : Clustering) (past : List Event) → IsWorldOf design clustering self.old → IsReached design clustering (shown self.old) past → OnOk result (Shows design clustering (shown self.new) (clocks_after design clustering (clocks_after design clustering (start design clustering) past) events.now)) }
+        ensures replies { (design : Design) (clustering : Clustering) → IsWorldOf design clustering self.old
+            → IfOk result (λ replies. replies.items ≡ world_replies design clustering (shown self.old) events.now) }
+        ensures world { (design : Design) (clustering : Clustering) → IsWorldOf design clustering self.old
+            → OnOk result (shown self.new ≡ world_after design clustering (shown self.old) events.now) }
+        ensures memory { (design : Design) (clustering : Clustering) → IsWorldOf design clustering self.old
+            → OnErr result ((first : ℕ) × (shown self.new
+            ≡ world_after design clustering (shown self.old) (take first events.now))) }
+        ensures kept { (design : Design) (clustering : Clustering) → IsWorldOf design clustering self.old
+            → IsWorldOf design clustering self.new }
+        ensures sequential { (design : Design) (clustering : Clustering) (past : List Event)
+            → IsWorldOf design clustering self.old → IsReached design clustering (shown self.old) past
+            → IfOk result (λ replies. replies.items
+            ≡ replies_to design clustering (clocks_after design clustering (start design clustering) past) events.now) }
+        ensures exact { (design : Design) (clustering : Clustering) (past : List Event)
+            → IsWorldOf design clustering self.old → IsReached design clustering (shown self.old) past
+            → OnOk result (Shows design clustering (shown self.new)
+            (clocks_after design clustering (clocks_after design clustering (start design clustering) past)
+            events.now)) }
     {
         let mut replies = Vec::with_capacity(*self.clusters.allocator(), events.len())?;
         for event in events {
@@ -82,9 +107,18 @@ impl World {
     // Steps a net in a cluster.
     fn step_in(&mut self, cluster: usize, net: u32) -> Result<Option<Piece>, AllocError>
         requires { cluster < length self.old.clusters }
-        ensures part { (design : Design) (clustering : Clustering) (number : ℕ) → IsClusterOf design clustering number (cluster_at self.old cluster) → IsOwnNet design clustering number net → IfOk result (λ part. part ≡ step_answer design (cluster_at self.old cluster).waves (wave_at (cluster_at self.old cluster).waves net)) }
-        ensures waves { (design : Design) (clustering : Clustering) (number : ℕ) → IsClusterOf design clustering number (cluster_at self.old cluster) → IsOwnNet design clustering number net → OnOk result ((cluster_at self.new cluster).waves ≡ step_waves design (cluster_at self.old cluster).waves (wave_at (cluster_at self.old cluster).waves net)) }
-        ensures still { (design : Design) (clustering : Clustering) (number : ℕ) → IsClusterOf design clustering number (cluster_at self.old cluster) → IsOwnNet design clustering number net → step_answer design (cluster_at self.old cluster).waves (wave_at (cluster_at self.old cluster).waves net) ≡ None → result ≡ Ok None }
+        ensures part { (design : Design) (clustering : Clustering) (number : ℕ)
+            → IsClusterOf design clustering number (cluster_at self.old cluster) → IsOwnNet design clustering number net
+            → IfOk result (λ part. part ≡ step_answer design (cluster_at self.old cluster).waves
+            (wave_at (cluster_at self.old cluster).waves net)) }
+        ensures waves { (design : Design) (clustering : Clustering) (number : ℕ)
+            → IsClusterOf design clustering number (cluster_at self.old cluster) → IsOwnNet design clustering number net
+            → OnOk result ((cluster_at self.new cluster).waves
+            ≡ step_waves design (cluster_at self.old cluster).waves (wave_at (cluster_at self.old cluster).waves net)) }
+        ensures still { (design : Design) (clustering : Clustering) (number : ℕ)
+            → IsClusterOf design clustering number (cluster_at self.old cluster) → IsOwnNet design clustering number net
+            → step_answer design (cluster_at self.old cluster).waves (wave_at (cluster_at self.old cluster).waves net)
+            ≡ None → result ≡ Ok None }
         ensures unchanged { OnErr result (self.new ≡ self.old) }
         ensures same { IsSameBut cluster self.old self.new }
     {
@@ -92,8 +126,11 @@ impl World {
     }
 
     fn step(&mut self, net: u32) -> Result<Reply, PlayFault>
-        ensures played { (design : Design) (clustering : Clustering) → IsWorldOf design clustering self.old → Plays (play_world design clustering (shown self.old) (Step net)) (shown self.old) (shown self.new) result }
-        ensures kept { (design : Design) (clustering : Clustering) → IsWorldOf design clustering self.old → IsWorldOf design clustering self.new }
+        ensures played { (design : Design) (clustering : Clustering) → IsWorldOf design clustering self.old
+            → Plays (play_world design clustering (shown self.old) (Step net)) (shown self.old) (shown self.new)
+            result }
+        ensures kept { (design : Design) (clustering : Clustering) → IsWorldOf design clustering self.old
+            → IsWorldOf design clustering self.new }
         ensures unchanged { OnErr result (self.new ≡ self.old) }
         ensures size { IsSameSize self.old self.new }
     {
@@ -131,8 +168,11 @@ impl World {
     }
 
     fn post(&mut self, net: u32, from: u32) -> Result<Reply, PlayFault>
-        ensures played { (design : Design) (clustering : Clustering) → IsWorldOf design clustering self.old → Plays (play_world design clustering (shown self.old) (Post net from)) (shown self.old) (shown self.new) result }
-        ensures kept { (design : Design) (clustering : Clustering) → IsWorldOf design clustering self.old → IsWorldOf design clustering self.new }
+        ensures played { (design : Design) (clustering : Clustering) → IsWorldOf design clustering self.old
+            → Plays (play_world design clustering (shown self.old) (Post net from)) (shown self.old) (shown self.new)
+            result }
+        ensures kept { (design : Design) (clustering : Clustering) → IsWorldOf design clustering self.old
+            → IsWorldOf design clustering self.new }
         ensures unchanged { OnErr result (self.new ≡ self.old) }
         ensures size { IsSameSize self.old self.new }
     {
@@ -156,10 +196,15 @@ impl World {
     fn deliver_in(&mut self, cluster: usize, number: usize) -> Result<u32, DeliverFault>
         requires cluster { cluster < length self.old.clusters }
         requires number { number < length self.old.posts }
-        ensures ok { OnOk result (delivered (cluster_at self.old cluster) (post_at self.old number) ≡ Ok (wave_at (cluster_at self.new cluster).waves (post_at self.old number).net)) }
-        ensures waves { OnOk result ((cluster_at self.new cluster).waves ≡ with_wave (cluster_at self.old cluster).waves (wave_at (cluster_at self.new cluster).waves (post_at self.old number).net)) }
-        ensures clock { IfOk result (λ clock. clock ≡ (wave_at (cluster_at self.new cluster).waves (post_at self.old number).net).clock) }
-        ensures fault { IfErr result (λ fault. RefusesDelivery fault (delivered (cluster_at self.old cluster) (post_at self.old number))) }
+        ensures ok { OnOk result (delivered (cluster_at self.old cluster) (post_at self.old number)
+            ≡ Ok (wave_at (cluster_at self.new cluster).waves (post_at self.old number).net)) }
+        ensures waves { OnOk result ((cluster_at self.new cluster).waves
+            ≡ with_wave (cluster_at self.old cluster).waves
+            (wave_at (cluster_at self.new cluster).waves (post_at self.old number).net)) }
+        ensures clock { IfOk result (λ clock.
+            clock ≡ (wave_at (cluster_at self.new cluster).waves (post_at self.old number).net).clock) }
+        ensures fault { IfErr result (λ fault.
+            RefusesDelivery fault (delivered (cluster_at self.old cluster) (post_at self.old number))) }
         ensures unchanged { OnErr result (self.new ≡ self.old) }
         ensures same { IsSameBut cluster self.old self.new }
     {
@@ -167,8 +212,11 @@ impl World {
     }
 
     fn deliver(&mut self, cluster: u32, number: usize) -> Result<Reply, PlayFault>
-        ensures played { (design : Design) (clustering : Clustering) → IsWorldOf design clustering self.old → Plays (play_world design clustering (shown self.old) (Deliver cluster number)) (shown self.old) (shown self.new) result }
-        ensures kept { (design : Design) (clustering : Clustering) → IsWorldOf design clustering self.old → IsWorldOf design clustering self.new }
+        ensures played { (design : Design) (clustering : Clustering) → IsWorldOf design clustering self.old
+            → Plays (play_world design clustering (shown self.old) (Deliver cluster number)) (shown self.old)
+            (shown self.new) result }
+        ensures kept { (design : Design) (clustering : Clustering) → IsWorldOf design clustering self.old
+            → IsWorldOf design clustering self.new }
         ensures unchanged { OnErr result (self.new ≡ self.old) }
         ensures size { IsSameSize self.old self.new }
     {
@@ -184,7 +232,8 @@ impl World {
 
     // What a net can promise, None where there is no such net.
     fn promise_of(&self, net: u32) -> Option<Promise>
-        ensures { result ≡ (if nat_lt net (length self.now.assign) then Some (promised (home_wave self.now net)) else None) }
+        ensures { result ≡ (if nat_lt net (length self.now.assign) then Some (promised (home_wave self.now net)) else
+            None) }
     {
         match self.home(net) {
             Some(cluster) => Some(self.clusters[cluster].promise(net)),
@@ -204,8 +253,11 @@ impl World {
     }
 
     fn promise(&mut self, net: u32) -> Result<Reply, PlayFault>
-        ensures played { (design : Design) (clustering : Clustering) → IsWorldOf design clustering self.old → Plays (play_world design clustering (shown self.old) (Promises net)) (shown self.old) (shown self.new) result }
-        ensures kept { (design : Design) (clustering : Clustering) → IsWorldOf design clustering self.old → IsWorldOf design clustering self.new }
+        ensures played { (design : Design) (clustering : Clustering) → IsWorldOf design clustering self.old
+            → Plays (play_world design clustering (shown self.old) (Promises net)) (shown self.old) (shown self.new)
+            result }
+        ensures kept { (design : Design) (clustering : Clustering) → IsWorldOf design clustering self.old
+            → IsWorldOf design clustering self.new }
         ensures unchanged { OnErr result (self.new ≡ self.old) }
         ensures size { IsSameSize self.old self.new }
     {
@@ -221,8 +273,11 @@ impl World {
     // Tells a promise to a cluster.
     fn hear_in(&mut self, cluster: usize, promise: Promise) -> Result<Heard, Stranger>
         requires { cluster < length self.old.clusters }
-        ensures answer { result ≡ heard_at (cluster_at self.old cluster) promise (input_slot (cluster_at self.old cluster) promise.net) }
-        ensures waves { OnOk result ((cluster_at self.new cluster).waves ≡ with_wave (cluster_at self.old cluster).waves (heard_wave (wave_at (cluster_at self.old cluster).waves promise.net) promise)) }
+        ensures answer { result ≡ heard_at (cluster_at self.old cluster) promise
+            (input_slot (cluster_at self.old cluster) promise.net) }
+        ensures waves { OnOk result ((cluster_at self.new cluster).waves
+            ≡ with_wave (cluster_at self.old cluster).waves
+            (heard_wave (wave_at (cluster_at self.old cluster).waves promise.net) promise)) }
         ensures unchanged { OnErr result (self.new ≡ self.old) }
         ensures same { IsSameBut cluster self.old self.new }
     {
@@ -230,8 +285,11 @@ impl World {
     }
 
     fn look(&mut self, cluster: u32, number: usize) -> Result<Reply, PlayFault>
-        ensures played { (design : Design) (clustering : Clustering) → IsWorldOf design clustering self.old → Plays (play_world design clustering (shown self.old) (Look cluster number)) (shown self.old) (shown self.new) result }
-        ensures kept { (design : Design) (clustering : Clustering) → IsWorldOf design clustering self.old → IsWorldOf design clustering self.new }
+        ensures played { (design : Design) (clustering : Clustering) → IsWorldOf design clustering self.old
+            → Plays (play_world design clustering (shown self.old) (Look cluster number)) (shown self.old)
+            (shown self.new) result }
+        ensures kept { (design : Design) (clustering : Clustering) → IsWorldOf design clustering self.old
+            → IsWorldOf design clustering self.new }
         ensures unchanged { OnErr result (self.new ≡ self.old) }
         ensures size { IsSameSize self.old self.new }
     {

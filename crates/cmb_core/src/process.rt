@@ -3,8 +3,8 @@
 use cmb_bench::netlist::Kind;
 use cmb_wave::Level;
 
-/// A pin of a gate or flip-flop: the net on it, the place of the net's wave in the cluster, and the pin's delay. A design
-/// has at most 65,535 nets.
+/// A pin of a gate or flip-flop: the net on it, the place of the net's wave in the cluster, and the pin's delay. A
+/// design has at most 65,535 nets.
 #[derive(Clone, Copy)]
 pub struct Operand {
     pub net: u16,

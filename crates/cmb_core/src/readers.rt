@@ -1,6 +1,7 @@
 //! Who reads each given wave.
 
-ghost use Rattle.std.specs.Prelude.{◌≡◌, ◌<◌, ◌≤◌, ◌++◌, ◌∷◌, ℕ, [], IfOk, OnOk, length, map, slice_index_or, slice_set, replicate, All, if◌then◌else◌};
+ghost use Rattle.std.specs.Prelude.{◌≡◌, ◌<◌, ◌≤◌, ◌++◌, ◌∷◌, ℕ, [], IfOk, OnOk, length, map, slice_index_or};
+ghost use Rattle.std.specs.Prelude.{slice_set, replicate, All, if◌then◌else◌};
 ghost use Rattle.std.specs.List.{range_with_len};
 ghost use Rattle.cmb_core.specs.Tables.{pins_on, listed_readers, given_at};
 
@@ -12,7 +13,9 @@ use std::alloc::{AllocError, Global};
 // Adds a pin to the list of a place.
 fn push_reader(readers: &mut [Vec<Reader>], place: usize, reader: Reader) -> Result<(), AllocError>
     requires { place < length readers.old }
-    ensures { OnOk result (map (λ list. list.items) readers.new ≡ slice_set (map (λ list. list.items) readers.old) place (slice_index_or (map (λ list. list.items) readers.old) place [] ++ reader ∷ [])) }
+    ensures { OnOk result (map (λ list. list.items) readers.new
+        ≡ slice_set (map (λ list. list.items) readers.old) place
+        (slice_index_or (map (λ list. list.items) readers.old) place [] ++ reader ∷ [])) }
 {
     readers[place].push(reader)?;
     Ok(())
@@ -29,7 +32,8 @@ fn push_readers(
     requires paired { length readers.old ≡ length nodes.now }
     ensures { OnOk result ((place : ℕ) → place < length nodes.now →
         slice_index_or (map (λ list. list.items) readers.new) place []
-        ≡ slice_index_or (map (λ list. list.items) readers.old) place [] ++ (if given_at nodes.now place then pins_on place slot operands.now else [])) }
+        ≡ slice_index_or (map (λ list. list.items) readers.old) place []
+        ++ (if given_at nodes.now place then pins_on place slot operands.now else [])) }
 {
     for operand in operands {
         let place = operand.slot as usize;
@@ -59,7 +63,8 @@ fn empty_lists(alloc: Global, count: usize) -> Result<Vec<Vec<Reader>>, AllocErr
 pub(crate) fn readers_among(alloc: Global, nodes: &[Node]) -> Result<Vec<Vec<Reader>>, AllocError>
     requires within { All (λ node. All (λ operand. operand.slot < length nodes.now) node.operands) nodes.now }
     requires few { length nodes.now ≤ 65535 }
-    ensures { IfOk result (λ readers. map (λ list. list.items) readers.items ≡ map (listed_readers nodes.now nodes.now) (range_with_len 0 (length nodes.now))) }
+    ensures { IfOk result (λ readers. map (λ list. list.items) readers.items
+        ≡ map (listed_readers nodes.now nodes.now) (range_with_len 0 (length nodes.now))) }
 {
     let mut readers = empty_lists(alloc, nodes.len())?;
     for slot in 0..nodes.len() {

@@ -6,7 +6,8 @@ ghost use Rattle.cmb_wave.specs.Calls.{cut, promised};
 ghost use Rattle.cmb_design.specs.Design.{Design};
 ghost use Rattle.cmb_design.specs.Exact.{IsExactIn, IsExactWaveIn, IsRightIn};
 ghost use Rattle.cmb_core.specs.Clustering.{Clustering as Clusters};
-ghost use Rattle.cmb_core.specs.Clusters.{IsDrivenHere, IsSound, driven_waves, inputs_of, input_slot, is_complete, output_slot, outputs_of, told_at};
+ghost use Rattle.cmb_core.specs.Clusters.{IsDrivenHere, IsSound, driven_waves, inputs_of, input_slot, is_complete};
+ghost use Rattle.cmb_core.specs.Clusters.{output_slot, outputs_of, told_at};
 ghost use Rattle.cmb_core.specs.Exactness.{IsExactCluster};
 ghost use Rattle.cmb_core.specs.Opened.{IsClusterOf, IsOwnNet, own_nets, read_nets};
 ghost use Rattle.cmb_core.specs.Rows.{is_given};
@@ -57,7 +58,9 @@ impl Cluster {
         requires known { from ≤ (wave_at self.now.waves net).clock }
         ensures cut { IfOk result (λ piece. piece ≡ cut (wave_at self.now.waves net) from) }
         ensures idle { from ≡ (wave_at self.now.waves net).clock → result ≡ Ok None }
-        ensures sent { (design : Design) (clustering : Clusters) (cluster : ℕ) → IsExactCluster design clustering cluster self.now → IfOk result (λ piece. IfSome piece (IsExactIn design)) }
+        ensures sent { (design : Design) (clustering : Clusters) (cluster : ℕ)
+            → IsExactCluster design clustering cluster self.now
+            → IfOk result (λ piece. IfSome piece (IsExactIn design)) }
     {
         self.wave(self.driven_place(net)).cut(from)
     }
@@ -67,7 +70,8 @@ impl Cluster {
     pub fn promise(&self, net: u32) -> Promise
         requires { IsDrivenHere self.now net }
         ensures promised { result ≡ promised (wave_at self.now.waves net) }
-        ensures right { (design : Design) (clustering : Clusters) (cluster : ℕ) → IsExactCluster design clustering cluster self.now → IsRightIn design result }
+        ensures right { (design : Design) (clustering : Clusters) (cluster : ℕ)
+            → IsExactCluster design clustering cluster self.now → IsRightIn design result }
     {
         self.wave(self.driven_place(net)).promise()
     }
@@ -105,7 +109,8 @@ impl Cluster {
     /// The nets that are driven here, by rising number.
     pub fn driven(&self) -> &[u32]
         ensures nets { result.now ≡ map (λ wave. wave.net) (outputs_of self.now) }
-        ensures own { (design : Design) (clustering : Clusters) (cluster : ℕ) → IsClusterOf design clustering cluster self.now → result.now ≡ own_nets design clustering cluster }
+        ensures own { (design : Design) (clustering : Clusters) (cluster : ℕ)
+            → IsClusterOf design clustering cluster self.now → result.now ≡ own_nets design clustering cluster }
     {
         self.tables.driven.as_slice()
     }
@@ -114,7 +119,8 @@ impl Cluster {
     pub fn inputs(&self) -> &[u32]
         ensures nets { result.now ≡ map (λ wave. wave.net) (inputs_of self.now) }
         ensures sound { IsSound self.now }
-        ensures read { (design : Design) (clustering : Clusters) (cluster : ℕ) → IsClusterOf design clustering cluster self.now → result.now ≡ read_nets design clustering cluster }
+        ensures read { (design : Design) (clustering : Clusters) (cluster : ℕ)
+            → IsClusterOf design clustering cluster self.now → result.now ≡ read_nets design clustering cluster }
     {
         self.tables.inputs.as_slice()
     }
@@ -122,7 +128,9 @@ impl Cluster {
     /// Whether every net that is driven here is known up to the horizon.
     pub fn complete(&self) -> bool
         ensures complete { result ≡ is_complete self.now }
-        ensures known { (design : Design) (clustering : Clusters) (cluster net : ℕ) → IsClusterOf design clustering cluster self.now → IsOwnNet design clustering cluster net → result ≡ true → (wave_at self.now.waves net).clock ≡ design.horizon }
+        ensures known { (design : Design) (clustering : Clusters) (cluster net : ℕ)
+            → IsClusterOf design clustering cluster self.now → IsOwnNet design clustering cluster net → result ≡ true
+            → (wave_at self.now.waves net).clock ≡ design.horizon }
     {
         all_known(&self.processes, &self.waves, self.horizon)
     }
@@ -131,8 +139,11 @@ impl Cluster {
     /// given. Copies no change. Of a net that is driven here nothing was forgotten.
     pub fn into_waves(self) -> Vec<Wave>
         ensures waves { result.items ≡ self.waves }
-        ensures whole { (design : Design) (clustering : Clusters) (cluster net : ℕ) → IsClusterOf design clustering cluster self → IsOwnNet design clustering cluster net → (wave_at self.waves net).base ≡ 0 }
-        ensures exact { (design : Design) (clustering : Clusters) (cluster : ℕ) → IsExactCluster design clustering cluster self → AllByRecursion (IsExactWaveIn design) result.items }
+        ensures whole { (design : Design) (clustering : Clusters) (cluster net : ℕ)
+            → IsClusterOf design clustering cluster self → IsOwnNet design clustering cluster net
+            → (wave_at self.waves net).base ≡ 0 }
+        ensures exact { (design : Design) (clustering : Clusters) (cluster : ℕ)
+            → IsExactCluster design clustering cluster self → AllByRecursion (IsExactWaveIn design) result.items }
     {
         let Cluster { waves, .. } = self;
         waves

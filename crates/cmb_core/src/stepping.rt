@@ -28,11 +28,19 @@ impl Cluster {
     /// Steps each net that is driven here once, in order, and says whether a clock rose. Where there
     /// is no memory the cluster stands as after the first few of these steps.
     pub fn step_all(&mut self) -> Result<bool, AllocError>
-        ensures rose { (design : Design) (clustering : Clusters) (cluster : ℕ) → IsClusterOf design clustering cluster self.old → IfOk result (λ rose. rose ≡ some_rises design self.old.waves (own_nets design clustering cluster)) }
-        ensures waves { (design : Design) (clustering : Clusters) (cluster : ℕ) → IsClusterOf design clustering cluster self.old → OnOk result (self.new.waves ≡ stepped_waves design self.old.waves (own_nets design clustering cluster)) }
-        ensures memory { (design : Design) (clustering : Clusters) (cluster : ℕ) → IsClusterOf design clustering cluster self.old → OnErr result ((first : ℕ) × (self.new.waves ≡ stepped_waves design self.old.waves (take first (own_nets design clustering cluster)))) }
+        ensures rose { (design : Design) (clustering : Clusters) (cluster : ℕ)
+            → IsClusterOf design clustering cluster self.old
+            → IfOk result (λ rose. rose ≡ some_rises design self.old.waves (own_nets design clustering cluster)) }
+        ensures waves { (design : Design) (clustering : Clusters) (cluster : ℕ)
+            → IsClusterOf design clustering cluster self.old
+            → OnOk result (self.new.waves ≡ stepped_waves design self.old.waves (own_nets design clustering cluster)) }
+        ensures memory { (design : Design) (clustering : Clusters) (cluster : ℕ)
+            → IsClusterOf design clustering cluster self.old
+            → OnErr result ((first : ℕ) × (self.new.waves
+            ≡ stepped_waves design self.old.waves (take first (own_nets design clustering cluster)))) }
         ensures same { IsSameButWaves self.old self.new }
-        ensures exact { (design : Design) (clustering : Clusters) (cluster : ℕ) → IsExactCluster design clustering cluster self.old → IsExactCluster design clustering cluster self.new }
+        ensures exact { (design : Design) (clustering : Clusters) (cluster : ℕ)
+            → IsExactCluster design clustering cluster self.old → IsExactCluster design clustering cluster self.new }
     {
         let mut rose = false;
         for slot in 0..self.slots() {

@@ -71,7 +71,8 @@ impl Cluster {
     fn least_need_at(&self, slot: usize) -> u32
         requires there { slot < length self.now.waves }
         requires given { given_at self.now.processes slot ≡ true }
-        ensures least { result ≡ least_need self.now.processes self.now.waves (readers_from slot 0 self.now.processes) (slot_wave self.now slot).clock }
+        ensures least { result ≡ least_need self.now.processes self.now.waves (readers_from slot 0 self.now.processes)
+            (slot_wave self.now slot).clock }
         ensures known { result ≤ (slot_wave self.now slot).clock }
     {
         let readers = self.tables.readers[slot].as_slice();
@@ -96,7 +97,8 @@ impl Cluster {
     /// and exact waves stay exact.
     pub fn trim(&mut self)
         ensures trimmed { self.new ≡ trimmed self.old }
-        ensures exact { (design : Design) (clustering : Clustering) (cluster : ℕ) → IsExactCluster design clustering cluster self.old → IsExactCluster design clustering cluster self.new }
+        ensures exact { (design : Design) (clustering : Clustering) (cluster : ℕ)
+            → IsExactCluster design clustering cluster self.old → IsExactCluster design clustering cluster self.new }
     {
         for slot in 0..self.slots() {
             self.trim_at(slot);

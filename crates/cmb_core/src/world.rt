@@ -1,6 +1,7 @@
 //! All clusters of a design, in one thread.
 
-ghost use Rattle.std.specs.Prelude.{◌≡◌, ◌<◌, ℕ, List, min, [], length, map, slice_get, slice_index_or, nat_lt, IfOk, IfSome, MatchOption, Some, None, if◌then◌else◌};
+ghost use Rattle.std.specs.Prelude.{◌≡◌, ◌<◌, ℕ, List, min, [], length, map, slice_get, slice_index_or, nat_lt, IfOk};
+ghost use Rattle.std.specs.Prelude.{IfSome, MatchOption, Some, None, if◌then◌else◌};
 ghost use Rattle.cmb_design.specs.Design.{Design};
 ghost use Rattle.cmb_design.specs.Exact.{nets_of};
 ghost use Rattle.cmb_bench.specs.Netlist.{IsNetlist};
@@ -10,7 +11,7 @@ ghost use Rattle.cmb_core.specs.Play.{IsReached};
 ghost use Rattle.cmb_core.specs.Rounds.{IsKnownTo, world_rounds};
 ghost use Rattle.cmb_core.specs.Clusters.{IsDrivenHere};
 ghost use Rattle.cmb_core.specs.Opened.{IsClusterOf};
-ghost use Rattle.cmb_core.specs.World.{World as Waves, new_clusters};
+ghost use Rattle.cmb_core.specs.World.{WorldWaves, new_clusters};
 
 use crate::cluster::Cluster;
 use crate::clustering::Clustering;
@@ -33,9 +34,19 @@ impl Model for World {
 
     ghost Value = { World };
 
-    ghost view = { λ w. record { assign = w.assign.items; clusters = w.clusters.items; posts = w.posts.items; promises = w.promises.items } };
+    ghost view = { λ w. record {
+      assign = w.assign.items;
+      clusters = w.clusters.items;
+      posts = w.posts.items;
+      promises = w.promises.items;
+    } };
 
-    ghost invariant = { λ w. HasDesign (record { assign = w.assign.items; clusters = w.clusters.items; posts = w.posts.items; promises = w.promises.items }) };
+    ghost invariant = { λ w. HasDesign (record {
+      assign = w.assign.items;
+      clusters = w.clusters.items;
+      posts = w.posts.items;
+      promises = w.promises.items;
+    }) };
 }
 
 // A new cluster of each number.
@@ -46,8 +57,12 @@ fn opened_clusters(
 ) -> Result<Vec<Cluster>, AllocError>
     requires { length clustering.now.assign ≡ nets_of design.now }
     ensures count { IfOk result (λ clusters. length clusters.items ≡ clustering.now.clusters) }
-    ensures each { IfOk result (λ clusters. (c : ℕ) → c < clustering.now.clusters → IsClusterOf design.now clustering.now c (slice_index_or clusters.items c (record { horizon = 0; processes = []; waves = [] }))) }
-    ensures waves { IfOk result (λ clusters. map (λ cluster. cluster.waves) clusters.items ≡ new_clusters design.now clustering.now 0 clustering.now.clusters) }
+    ensures each { IfOk result (λ clusters. (c : ℕ) → c < clustering.now.clusters
+        → IsClusterOf design.now clustering.now c
+        (slice_index_or clusters.items c (record { horizon = 0; processes = []; waves = [] }))) }
+    ensures waves { IfOk result (λ clusters.
+        map (λ cluster. cluster.waves) clusters.items
+        ≡ new_clusters design.now clustering.now 0 clustering.now.clusters) }
 {
     let count = clustering.clusters();
     let mut clusters = Vec::with_capacity(alloc, count as usize)?;
@@ -85,9 +100,12 @@ impl World {
     ) -> Result<World, AllocError>
         requires nets { length clustering.now.assign ≡ nets_of design.now }
         requires count { length clusters.items ≡ clustering.now.clusters }
-        requires each { (c : ℕ) → c < clustering.now.clusters → IsClusterOf design.now clustering.now c (slice_index_or clusters.items c (record { horizon = 0; processes = []; waves = [] })) }
+        requires each { (c : ℕ) → c < clustering.now.clusters
+            → IsClusterOf design.now clustering.now c
+            (slice_index_or clusters.items c (record { horizon = 0; processes = []; waves = [] })) }
         ensures of { IfOk result (λ world. IsWorldOf design.now clustering.now world) }
-        ensures these { IfOk result (λ world. world ≡ record { assign = clustering.now.assign; clusters = clusters.items; posts = []; promises = [] }) }
+        ensures these { IfOk result (λ world.
+            world ≡ record { assign = clustering.now.assign; clusters = clusters.items; posts = []; promises = [] }) }
     {
         // What every netlist keeps is told by the contract of its length.
         let _nets = design.netlist().len();
@@ -116,7 +134,8 @@ impl World {
 
     /// A piece that was posted, by its number.
     pub fn posted(&self, number: usize) -> Option<&Piece>
-        ensures { MatchOption result (slice_get self.now.posts number ≡ None) (λ piece. slice_get self.now.posts number ≡ Some piece.now) }
+        ensures { MatchOption result (slice_get self.now.posts number ≡ None)
+            (λ piece. slice_get self.now.posts number ≡ Some piece.now) }
     {
         if number < self.posts.len() {
             Some(&self.posts[number])
@@ -138,8 +157,10 @@ impl World {
 
     /// How far a net is known to the cluster that drives it, None where there is no such net.
     pub fn out_clock(&self, net: u32) -> Option<u32>
-        ensures home { result ≡ (if nat_lt net (length self.now.assign) then Some (home_wave self.now net).clock else None) }
-        ensures known { (design : Design) (clustering : Clustering) → IsWorldOf design clustering self.now → result ≡ known_out design clustering (shown self.now) net }
+        ensures home { result ≡ (if nat_lt net (length self.now.assign) then Some (home_wave self.now net).clock else
+            None) }
+        ensures known { (design : Design) (clustering : Clustering) → IsWorldOf design clustering self.now
+            → result ≡ known_out design clustering (shown self.now) net }
     {
         match self.home(net) {
             Some(cluster) => self.clusters[cluster].out_clock(net),
@@ -149,7 +170,8 @@ impl World {
 
     /// How far a net is known to a cluster that reads it, None where the cluster has no input wave of it.
     pub fn in_clock(&self, cluster: u32, net: u32) -> Option<u32>
-        ensures known { (design : Design) (clustering : Clustering) → IsWorldOf design clustering self.now → result ≡ known_in design clustering (shown self.now) cluster net }
+        ensures known { (design : Design) (clustering : Clustering) → IsWorldOf design clustering self.now
+            → result ≡ known_in design clustering (shown self.now) cluster net }
     {
         let place = cluster as usize;
         if place < self.clusters.len() {
@@ -163,5 +185,7 @@ impl World {
 /// So many rounds bring every clock of a world that came about from newly opened clusters to the lesser of that number
 /// and the horizon at least.
 pub fn rounds_of_worlds_go_on()
-    ensures { (design : Design) (clustering : Clustering) (world : Waves) (past : List Event) (many : ℕ) → IsNetlist design.netlist → IsClustering (nets_of design) clustering → IsReached design clustering world past → IsKnownTo design clustering (min design.horizon many) (world_rounds design clustering many world) }
+    ensures { (design : Design) (clustering : Clustering) (world : WorldWaves) (past : List Event) (many : ℕ)
+        → IsNetlist design.netlist → IsClustering (nets_of design) clustering → IsReached design clustering world past
+        → IsKnownTo design clustering (min design.horizon many) (world_rounds design clustering many world) }
 {}

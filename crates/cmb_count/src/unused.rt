@@ -12,7 +12,8 @@ use std::alloc::{AllocError, Global};
 fn mark_all(marks: &mut [bool], nets: &[u32])
     requires { All (λ net. net < length marks.old) nets.now }
     ensures long { length marks.new ≡ length marks.old }
-    ensures marked { (net : ℕ) → net < length marks.old → slice_index_or marks.new net false ≡ (slice_index_or marks.old net false || is_among nets.now net) }
+    ensures marked { (net : ℕ) → net < length marks.old
+        → slice_index_or marks.new net false ≡ (slice_index_or marks.old net false || is_among nets.now net) }
 {
     for net in nets {
         marks[*net as usize] = true;
@@ -23,7 +24,9 @@ fn mark_all(marks: &mut [bool], nets: &[u32])
 fn mark_pins(marks: &mut [bool], driver: &Driver)
     requires { All (λ net. net < length marks.old) (pins_of driver.now) }
     ensures long { length marks.new ≡ length marks.old }
-    ensures marked { (net : ℕ) → net < length marks.old → slice_index_or marks.new net false ≡ (slice_index_or marks.old net false || is_among (pins_of driver.now) net) }
+    ensures marked { (net : ℕ) → net < length marks.old
+        → slice_index_or marks.new net false
+        ≡ (slice_index_or marks.old net false || is_among (pins_of driver.now) net) }
 {
     match driver {
         Driver::Input => {}
@@ -38,7 +41,8 @@ fn mark_used(marks: &mut [bool], netlist: &Netlist)
     requires long { length marks.old ≡ length netlist.now.names }
     requires none { (net : ℕ) → slice_index_or marks.old net false ≡ false }
     ensures long { length marks.new ≡ length netlist.now.names }
-    ensures marked { (net : ℕ) → net < length netlist.now.names → slice_index_or marks.new net false ≡ is_used_below netlist.now (length netlist.now.names) net }
+    ensures marked { (net : ℕ) → net < length netlist.now.names
+        → slice_index_or marks.new net false ≡ is_used_below netlist.now (length netlist.now.names) net }
 {
     mark_all(marks, netlist.outputs());
     for net in 0..netlist.len() {

@@ -7,7 +7,8 @@ ghost use Rattle.cmb_design.specs.Nets.{driver_cell, pins_at};
 ghost use Rattle.cmb_design.specs.Timing.{delay_by, delay_in, flat_delays, is_of_kind, net_delays};
 ghost use Rattle.cmb_bench.specs.Netlist.{driver_of, IsNetlist};
 ghost use Rattle.cmb_design.specs.Rows.{delay_row_checks, delayed_checks, is_about_input};
-ghost use Rattle.cmb_design.specs.Tables.{all_placed, delay_place, delay_places, pin_place, place_at, row_place, starts_of, table_size};
+ghost use Rattle.cmb_design.specs.Tables.{all_placed, delay_place, delay_places, pin_place, place_at, row_place};
+ghost use Rattle.cmb_design.specs.Tables.{starts_of, table_size};
 
 use crate::fault::DesignFault;
 use crate::nets::{is_input_driver, number_of_cell, number_of_driver, pin_count};
@@ -98,8 +99,10 @@ fn take_delay(
     requires placed { all_placed netlist.now (take i rows.now) ≡ true }
     requires so_far { table.old.items ≡ delay_places netlist.now (take i rows.now) }
     ensures ok { OnOk result ((first_fault (checks_at (delay_row_checks netlist.now) rows.now i) ≡ None)
-        × (table.new.items ≡ delay_places netlist.now (take (i + 1) rows.now)) × (all_placed netlist.now (take (i + 1) rows.now) ≡ true)) }
-    ensures err { IfErr result (λ e. (e ≡ fault.Memory) ⊎ (first_fault (checks_at (delay_row_checks netlist.now) rows.now i) ≡ Some e)) }
+        × (table.new.items ≡ delay_places netlist.now (take (i + 1) rows.now))
+        × (all_placed netlist.now (take (i + 1) rows.now) ≡ true)) }
+    ensures err { IfErr result (λ e. (e ≡ fault.Memory)
+        ⊎ (first_fault (checks_at (delay_row_checks netlist.now) rows.now i) ≡ Some e)) }
 {
     let row = &rows[i];
     let number = i as u32 + 2;
@@ -128,8 +131,10 @@ fn take_delays(
     requires few { length rows.now ≤ 16777216 }
     requires starts { starts.now ≡ starts_of netlist.now }
     requires size { size ≡ table_size netlist.now }
-    ensures ok { IfOk result (λ v. (first_fault (rows_checks (delay_row_checks netlist.now) rows.now) ≡ None) × (v.items ≡ delay_places netlist.now rows.now)) }
-    ensures err { IfErr result (λ e. (e ≡ fault.Memory) ⊎ (first_fault (rows_checks (delay_row_checks netlist.now) rows.now) ≡ Some e)) }
+    ensures ok { IfOk result (λ v. (first_fault (rows_checks (delay_row_checks netlist.now) rows.now) ≡ None)
+        × (v.items ≡ delay_places netlist.now rows.now)) }
+    ensures err { IfErr result (λ e. (e ≡ fault.Memory)
+        ⊎ (first_fault (rows_checks (delay_row_checks netlist.now) rows.now) ≡ Some e)) }
 {
     let Ok(mut table) = vec![in alloc; None; size] else {
         return Err(DesignFault::Memory);
@@ -148,7 +153,9 @@ pub(crate) struct Layout {
 }
 
 pub(crate) fn lay_out(alloc: Global, netlist: &Netlist) -> Result<Layout, DesignFault>
-    ensures ok { IfOk result (λ layout. (layout.starts.items ≡ starts_of netlist.now) × (layout.size ≡ table_size netlist.now) × (table_size netlist.now < 2 ^ 64)) }
+    ensures ok { IfOk result (λ layout.
+        (layout.starts.items ≡ starts_of netlist.now) × (layout.size ≡ table_size netlist.now)
+        × (table_size netlist.now < 2 ^ 64)) }
     ensures err { IfErr result (λ e. e ≡ fault.Memory) }
     ensures lawful { IsNetlist netlist.now }
 {
@@ -274,8 +281,10 @@ pub(crate) fn pin_delays(
     requires starts { layout.now.starts.items ≡ starts_of netlist.now }
     requires size { layout.now.size ≡ table_size netlist.now }
     requires room { table_size netlist.now < 2 ^ 64 }
-    ensures ok { IfOk result (λ v. (first_fault (rows_checks (delay_row_checks netlist.now) rows.now) ≡ None) × (v.items ≡ flat_delays netlist.now rows.now (length netlist.now.names))) }
-    ensures err { IfErr result (λ e. (e ≡ fault.Memory) ⊎ (first_fault (rows_checks (delay_row_checks netlist.now) rows.now) ≡ Some e)) }
+    ensures ok { IfOk result (λ v. (first_fault (rows_checks (delay_row_checks netlist.now) rows.now) ≡ None)
+        × (v.items ≡ flat_delays netlist.now rows.now (length netlist.now.names))) }
+    ensures err { IfErr result (λ e. (e ≡ fault.Memory)
+        ⊎ (first_fault (rows_checks (delay_row_checks netlist.now) rows.now) ≡ Some e)) }
 {
     let places = take_delays(alloc, netlist, &layout.starts, layout.size, rows)?;
     let Ok(flat) = all_delays(alloc, netlist, &layout.starts, &places, rows) else {

@@ -93,16 +93,32 @@ impl Model for Design {
 
     ghost use Rattle.cmb_design.specs.Inside.{AreTables};
 
-    ghost view = { λ a. record { netlist = a.netlist; horizon = a.horizon; init = a.init; clock = a.clock; delays = a.delays; stimuli = a.stimuli; clocks = a.clocks } };
+    ghost view = { λ a. record {
+      netlist = a.netlist;
+      horizon = a.horizon;
+      init = a.init;
+      clock = a.clock;
+      delays = a.delays;
+      stimuli = a.stimuli;
+      clocks = a.clocks;
+    } };
 
-    ghost invariant = { λ a. AreTables (record { netlist = a.netlist; horizon = a.horizon; init = a.init; clock = a.clock; delays = a.delays; stimuli = a.stimuli; clocks = a.clocks }) a.tables };
+    ghost invariant = { λ a. AreTables (record {
+      netlist = a.netlist;
+      horizon = a.horizon;
+      init = a.init;
+      clock = a.clock;
+      delays = a.delays;
+      stimuli = a.stimuli;
+      clocks = a.clocks;
+    }) a.tables };
 }
 
 impl Design {
-    /// A design, or the first fault of its settings and rows: 20, 21 and 22 in order; then the delay rows in order, each
-    /// by 26, 29, 32 and 35; then the stimulus rows, each by 26, 29 and 30; then the clock rows, each by 26, 29 and 37.
-    /// `Memory` (70) comes where a growth was refused, and never in the place of 20 or 21. The values are given up on a
-    /// refusal.
+    /// A design, or the first fault of its settings and rows: 20, 21 and 22 in order; then the delay rows in order,
+    /// each by 26, 29, 32 and 35; then the stimulus rows, each by 26, 29 and 30; then the clock rows, each by 26, 29
+    /// and 37. `Memory` (70) comes where a growth was refused, and never in the place of 20 or 21. The values are given
+    /// up on a refusal.
     pub fn new(
         alloc: Global,
         netlist: Netlist,
@@ -131,7 +147,8 @@ impl Design {
 
     /// What was given beside the netlist and the rows.
     fn settings(&self) -> Settings
-        ensures { (result.horizon ≡ self.now.horizon) × (result.init ≡ self.now.init) × (option_map clock_given result.clock ≡ self.now.clock) }
+        ensures { (result.horizon ≡ self.now.horizon) × (result.init ≡ self.now.init)
+            × (option_map clock_given result.clock ≡ self.now.clock) }
     {
         Settings {
             horizon: self.horizon,
@@ -140,8 +157,8 @@ impl Design {
         }
     }
 
-    /// The design of another netlist with this one's settings, and with its rows but for those that are about a net which
-    /// the other netlist lacks; or the first fault there, as `new` answers it.
+    /// The design of another netlist with this one's settings, and with its rows but for those that are about a net
+    /// which the other netlist lacks; or the first fault there, as `new` answers it.
     pub fn on(&self, alloc: Global, netlist: Netlist) -> Result<Design, DesignFault>
         ensures { let design = design_on self.now netlist in FollowsChecks (design_checks design) design result }
     {
@@ -180,8 +197,29 @@ impl Design {
         &self.netlist
     }
 
-    /// The delay, in ticks, from a pin of a net's driver to the net: that of the pin's row, else of the net's, else of the
-    /// kind's, else 1. Pins count from 1 in the order of operands; a flip-flop's data is pin 1.
+    /// How many rows the table of delays has.
+    pub fn delay_rows(&self) -> usize
+        ensures { result ≡ length self.now.delays }
+    {
+        self.delays.as_slice().len()
+    }
+
+    /// How many rows the table of stimuli has.
+    pub fn stimulus_rows(&self) -> usize
+        ensures { result ≡ length self.now.stimuli }
+    {
+        self.stimuli.as_slice().len()
+    }
+
+    /// How many rows the table of clocks has.
+    pub fn clock_rows(&self) -> usize
+        ensures { result ≡ length self.now.clocks }
+    {
+        self.clocks.as_slice().len()
+    }
+
+    /// The delay, in ticks, from a pin of a net's driver to the net: that of the pin's row, else of the net's, else of
+    /// the kind's, else 1. Pins count from 1 in the order of operands; a flip-flop's data is pin 1.
     pub fn delay(&self, net: usize, pin: usize) -> u32
         requires net { net < length self.now.netlist.names }
         requires low { 1 ≤ pin }
@@ -240,8 +278,8 @@ impl Design {
         last_at(self.clock(net), tick)
     }
 
-    /// The least sample tick of a flip-flop's net that is at least `tick`. `tick` is at most the horizon; the answer may lie
-    /// beyond it.
+    /// The least sample tick of a flip-flop's net that is at least `tick`. `tick` is at most the horizon; the answer
+    /// may lie beyond it.
     pub fn next(&self, net: usize, tick: u32) -> u32
         requires net { net < length self.now.netlist.names }
         requires tick { tick ≤ self.now.horizon }

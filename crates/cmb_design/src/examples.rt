@@ -4,7 +4,9 @@ ghost use Rattle.std.specs.Prelude.{◌≡◌, [], ◌∷◌, Some, None, codes}
 ghost use Rattle.cmb_wave.specs.declared.level.Level.TheVariants.{Zero, One};
 ghost use Rattle.cmb_design.specs.Checks.{first_fault};
 ghost use Rattle.cmb_design.specs.declared.fault.DesignFault.TheVariants as fault;
-ghost use Rattle.cmb_design.specs.Examples.{inverter, toggle, pulse, latch, usual_layout, two_flops, to, stimulus_row, net_row, pin_row, clock_row, clock_at, with_horizon, with_clock, with_delays, with_stimuli, with_clocks};
+ghost use Rattle.cmb_design.specs.Examples.{inverter, toggle, pulse, latch, usual_layout, two_flops, to, stimulus_row};
+ghost use Rattle.cmb_design.specs.Examples.{net_row, pin_row, clock_row, clock_at, with_horizon, with_clock};
+ghost use Rattle.cmb_design.specs.Examples.{with_delays, with_stimuli, with_clocks};
 ghost use Rattle.cmb_design.specs.Settings.{design_checks};
 ghost use Rattle.cmb_design.specs.Value.{changes};
 
@@ -45,13 +47,15 @@ pub fn delay_rows()
 
 /// A change at the last tick.
 pub fn stimulus_rows()
-    ensures { changes (with_stimuli inverter (stimulus_row 0 (codes "a") Zero ∷ stimulus_row 9 (codes "a") One ∷ [])) 0 0 10 ≡ to Zero 0 ∷ to One 9 ∷ [] }
+    ensures { changes (with_stimuli inverter
+        (stimulus_row 0 (codes "a") Zero ∷ stimulus_row 9 (codes "a") One ∷ [])) 0 0 10 ≡ to Zero 0 ∷ to One 9 ∷ [] }
 {}
 
 /// Delays of single pins: a gate may be known before its slowest pin.
 pub fn pin_delays()
     ensures first { changes (with_delays pulse (pin_row (codes "y") 1 3 ∷ [])) 2 0 10 ≡ to Zero 3 ∷ [] }
-    ensures second { changes (with_delays pulse (pin_row (codes "y") 2 3 ∷ [])) 2 0 10 ≡ to Zero 1 ∷ to One 6 ∷ to Zero 9 ∷ [] }
+    ensures second { changes (with_delays pulse (pin_row (codes "y") 2 3 ∷ [])) 2 0 10
+        ≡ to Zero 1 ∷ to One 6 ∷ to Zero 9 ∷ [] }
 {}
 
 /// Two flip-flops in a row under the common clock, and the second under a clock of its own.
@@ -74,26 +78,42 @@ pub fn refused_settings()
     ensures no_period { first_fault (design_checks (with_clock toggle (clock_at 2 0))) ≡ Some fault.Clock }
     ensures no_horizon { first_fault (design_checks (with_horizon inverter 0)) ≡ Some fault.Horizon }
     ensures far_horizon { first_fault (design_checks (with_horizon inverter 1000001)) ≡ Some fault.Horizon }
-    ensures of_gate { first_fault (design_checks (with_stimuli inverter (stimulus_row 0 (codes "y") Zero ∷ []))) ≡ Some (fault.NotInput 2) }
-    ensures of_none { first_fault (design_checks (with_stimuli inverter (stimulus_row 0 (codes "b") Zero ∷ []))) ≡ Some (fault.UnknownNet 2) }
-    ensures of_input { first_fault (design_checks (with_delays inverter (net_row (codes "a") 3 ∷ []))) ≡ Some (fault.DelayOfInput 2) }
+    ensures of_gate { first_fault (design_checks (with_stimuli inverter (stimulus_row 0 (codes "y") Zero ∷ [])))
+        ≡ Some (fault.NotInput 2) }
+    ensures of_none { first_fault (design_checks (with_stimuli inverter (stimulus_row 0 (codes "b") Zero ∷ [])))
+        ≡ Some (fault.UnknownNet 2) }
+    ensures of_input { first_fault (design_checks (with_delays inverter (net_row (codes "a") 3 ∷ [])))
+        ≡ Some (fault.DelayOfInput 2) }
 {}
 
 /// Rows about what an earlier row is about.
 pub fn repeated_rows()
-    ensures stimulus { first_fault (design_checks (with_stimuli inverter (stimulus_row 0 (codes "a") Zero ∷ stimulus_row 0 (codes "a") One ∷ []))) ≡ Some (fault.RepeatedRow 3) }
-    ensures pin { first_fault (design_checks (with_delays pulse (pin_row (codes "y") 2 3 ∷ pin_row (codes "y") 2 4 ∷ []))) ≡ Some (fault.RepeatedRow 3) }
-    ensures clock { first_fault (design_checks (with_clocks two_flops (clock_row (codes "q") 4 3 ∷ clock_row (codes "q") 4 3 ∷ []))) ≡ Some (fault.RepeatedRow 3) }
+    ensures stimulus { first_fault (design_checks
+        (with_stimuli inverter (stimulus_row 0 (codes "a") Zero ∷ stimulus_row 0 (codes "a") One ∷ [])))
+        ≡ Some (fault.RepeatedRow 3) }
+    ensures pin { first_fault (design_checks
+        (with_delays pulse (pin_row (codes "y") 2 3 ∷ pin_row (codes "y") 2 4 ∷ []))) ≡ Some (fault.RepeatedRow 3) }
+    ensures clock { first_fault (design_checks
+        (with_clocks two_flops (clock_row (codes "q") 4 3 ∷ clock_row (codes "q") 4 3 ∷ [])))
+        ≡ Some (fault.RepeatedRow 3) }
 {}
 
 /// Pins that are not there, and flip-flops without a clock.
 pub fn refused_rows()
-    ensures pin_3 { first_fault (design_checks (with_delays pulse (pin_row (codes "y") 3 3 ∷ []))) ≡ Some (fault.NoPin 2) }
-    ensures pin_0 { first_fault (design_checks (with_delays pulse (pin_row (codes "y") 0 3 ∷ []))) ≡ Some (fault.NoPin 2) }
-    ensures pin_of_input { first_fault (design_checks (with_delays pulse (pin_row (codes "a") 1 3 ∷ []))) ≡ Some (fault.DelayOfInput 2) }
-    ensures pin_of_none { first_fault (design_checks (with_delays pulse (pin_row [] 1 3 ∷ []))) ≡ Some (fault.UnknownNet 2) }
-    ensures lacks { first_fault (design_checks (with_clock (with_clocks two_flops (clock_row (codes "q") 4 3 ∷ [])) None)) ≡ Some fault.NoClock }
-    ensures clocked { first_fault (design_checks (with_clock (with_clocks two_flops (clock_row (codes "q") 4 3 ∷ clock_row (codes "p") 2 4 ∷ [])) None)) ≡ None }
-    ensures clock_of_input { first_fault (design_checks (with_clocks two_flops (clock_row (codes "a") 2 4 ∷ []))) ≡ Some (fault.NotFlop 2) }
-    ensures clock_of_none { first_fault (design_checks (with_clocks two_flops (clock_row (codes "z") 1 1 ∷ []))) ≡ Some (fault.UnknownNet 2) }
+    ensures pin_3 { first_fault (design_checks (with_delays pulse (pin_row (codes "y") 3 3 ∷ [])))
+        ≡ Some (fault.NoPin 2) }
+    ensures pin_0 { first_fault (design_checks (with_delays pulse (pin_row (codes "y") 0 3 ∷ [])))
+        ≡ Some (fault.NoPin 2) }
+    ensures pin_of_input { first_fault (design_checks (with_delays pulse (pin_row (codes "a") 1 3 ∷ [])))
+        ≡ Some (fault.DelayOfInput 2) }
+    ensures pin_of_none { first_fault (design_checks (with_delays pulse (pin_row [] 1 3 ∷ [])))
+        ≡ Some (fault.UnknownNet 2) }
+    ensures lacks { first_fault (design_checks
+        (with_clock (with_clocks two_flops (clock_row (codes "q") 4 3 ∷ [])) None)) ≡ Some fault.NoClock }
+    ensures clocked { first_fault (design_checks
+        (with_clock (with_clocks two_flops (clock_row (codes "q") 4 3 ∷ clock_row (codes "p") 2 4 ∷ [])) None)) ≡ None }
+    ensures clock_of_input { first_fault (design_checks (with_clocks two_flops (clock_row (codes "a") 2 4 ∷ [])))
+        ≡ Some (fault.NotFlop 2) }
+    ensures clock_of_none { first_fault (design_checks (with_clocks two_flops (clock_row (codes "z") 1 1 ∷ [])))
+        ≡ Some (fault.UnknownNet 2) }
 {}

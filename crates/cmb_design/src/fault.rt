@@ -4,8 +4,8 @@ ghost use Rattle.std.specs.Prelude.{◌≡◌};
 
 use thiserror::Error;
 
-/// Why a table, the settings or the rows make no design. A fault of a table or of its rows holds the number of the record at
-/// which it stands; the header is record 1.
+/// Why a table, the settings or the rows make no design. A fault of a table or of its rows holds the number of the
+/// record at which it stands; the header is record 1.
 #[derive(Clone, Copy, Debug, PartialEq, Eq, Error)]
 pub enum DesignFault {
     /// 20: the horizon isn't 1 to 1,000,000 ticks.

@@ -73,8 +73,8 @@ fn not(level: Level) -> Level
     }
 }
 
-/// The level that a gate gives for the levels of its operands, of which NOT and BUFF have one and the others one or more.
-/// The tables are those of IEEE 1364-2005, 7.2 and 7.3.
+/// The level that a gate gives for the levels of its operands, of which NOT and BUFF have one and the others one or
+/// more. The tables are those of IEEE 1364-2005, 7.2 and 7.3.
 pub fn gate(kind: Kind, levels: &[Level]) -> Level
     requires { MayTake kind (length levels.now) }
     ensures { result ≡ gate_level kind levels.now }

@@ -1,6 +1,7 @@
 //! The plain program: every net's wave by the levels of all nets at all ticks.
 
-ghost use Rattle.std.specs.Prelude.{◌≡◌, ◌++◌, ◌∷◌, [], if◌then◌else◌, ◌⊎◌, ◌↔◌, ◌*◌, ◌+◌, ◌<◌, ◌≤◌, All, IfOk, IfErr, OnOk};
+ghost use Rattle.std.specs.Prelude.{◌≡◌, ◌++◌, ◌∷◌, [], if◌then◌else◌, ◌⊎◌, ◌↔◌, ◌*◌, ◌+◌, ◌<◌, ◌≤◌, All, IfOk, IfErr};
+ghost use Rattle.std.specs.Prelude.{OnOk};
 ghost use Rattle.cmb_wave.specs.Waveform.{same_level};
 ghost use Rattle.cmb_bench.specs.Netlist.{IsNetlist};
 ghost use Rattle.cmb_design.specs.Exact.{nets_of, IsExactWaveIn};
@@ -64,7 +65,8 @@ fn push_change(
     tick: u32,
     level: Level,
 ) -> Result<(), AllocError>
-    ensures { OnOk result (changes.new.items ≡ changes.old.items ++ (if same_level before level then [] else record { tick = tick; level = level } ∷ [])) }
+    ensures { OnOk result (changes.new.items
+        ≡ changes.old.items ++ (if same_level before level then [] else record { tick = tick; level = level } ∷ [])) }
 {
     if before != level {
         changes.push(Change { tick, level })?;
@@ -127,8 +129,9 @@ fn waves_of(alloc: Global, design: &Design) -> Result<Vec<Wave>, AllocError>
     Ok(waves)
 }
 
-/// Every net's wave up to the horizon, by a table of one cell for each net and tick: the definition of the waveforms as a
-/// program. Fault 33, `TableTooLarge`, comes where the cells are more than `MOST_CELLS`, and 70 where memory was refused.
+/// Every net's wave up to the horizon, by a table of one cell for each net and tick: the definition of the waveforms as
+/// a program. Fault 33, `TableTooLarge`, comes where the cells are more than `MOST_CELLS`, and 70 where memory was
+/// refused.
 pub fn plain_waves(alloc: Global, design: &Design) -> Result<Vec<Wave>, DesignFault>
     ensures waves { IfOk result (λ waves. waves.items ≡ whole_waves design.now) }
     ensures exact { IfOk result (λ waves. All (IsExactWaveIn design.now) waves.items) }

@@ -6,7 +6,10 @@ ghost use Rattle.std.specs.Str.{bytes_eq};
 ghost use Rattle.csv.specs.Records.{fields_of};
 ghost use Rattle.cmb_design.specs.Checks.{FollowsChecks};
 ghost use Rattle.cmb_design.specs.Fields.{fields_in};
-ghost use Rattle.cmb_design.specs.Readers.{clock_header, clock_record_checks, clock_row_of, delay_header, delay_record_checks, delay_row_of, delayed_of, delayed_pin, level_of, name_checks, pin_checks, pin_of, stimulus_header, stimulus_record_checks, stimulus_row_of, table_checks, table_rows};
+ghost use Rattle.cmb_design.specs.Readers.{clock_header, clock_record_checks, clock_row_of, delay_header};
+ghost use Rattle.cmb_design.specs.Readers.{delay_record_checks, delay_row_of, delayed_of, delayed_pin, level_of};
+ghost use Rattle.cmb_design.specs.Readers.{name_checks, pin_checks, pin_of, stimulus_header, stimulus_record_checks};
+ghost use Rattle.cmb_design.specs.Readers.{stimulus_row_of, table_checks, table_rows};
 ghost use Rattle.cmb_design.specs.Records.{table_records};
 
 use crate::fault::DesignFault;
@@ -76,7 +79,8 @@ fn read_delay(
     name: &[u8],
     delay: &[u8],
 ) -> Result<DelayRow, DesignFault>
-    ensures { FollowsChecks (delay_record_checks number (by.now ∷ name.now ∷ delay.now ∷ [])) (delay_row_of (by.now ∷ name.now ∷ delay.now ∷ [])) result }
+    ensures { FollowsChecks (delay_record_checks number (by.now ∷ name.now ∷ delay.now ∷ []))
+        (delay_row_of (by.now ∷ name.now ∷ delay.now ∷ [])) result }
 {
     let Some(delay) = parse_number(delay) else {
         return Err(DesignFault::Number(number));
@@ -111,11 +115,12 @@ impl TableRow for DelayRow {
     }
 }
 
-/// The rows of a table of delays, or the first fault of its records: the header is tested first (23), then each record in
-/// order by 24, 25, 27, 34 and 28. `Memory` comes where a growth was refused.
+/// The rows of a table of delays, or the first fault of its records: the header is tested first (23), then each record
+/// in order by 24, 25, 27, 34 and 28. `Memory` comes where a growth was refused.
 pub fn read_delays(alloc: Global, text: &[u8]) -> Result<DelayRows, DesignFault>
     requires { length text.now ≤ 16777216 }
-    ensures { FollowsChecks (table_checks delay_header delay_record_checks (table_records text.now)) (table_rows delay_row_of (table_records text.now)) result }
+    ensures { FollowsChecks (table_checks delay_header delay_record_checks (table_records text.now))
+        (table_rows delay_row_of (table_records text.now)) result }
 {
     let rows = read_table(alloc, text)?;
     Ok(DelayRows::new(rows))
@@ -145,7 +150,8 @@ fn read_stimulus(
     net: &[u8],
     value: &[u8],
 ) -> Result<StimulusRow, DesignFault>
-    ensures { FollowsChecks (stimulus_record_checks number (tick.now ∷ net.now ∷ value.now ∷ [])) (stimulus_row_of (tick.now ∷ net.now ∷ value.now ∷ [])) result }
+    ensures { FollowsChecks (stimulus_record_checks number (tick.now ∷ net.now ∷ value.now ∷ []))
+        (stimulus_row_of (tick.now ∷ net.now ∷ value.now ∷ [])) result }
 {
     let Some(tick) = parse_number(tick) else {
         return Err(DesignFault::Number(number));
@@ -177,11 +183,12 @@ impl TableRow for StimulusRow {
     }
 }
 
-/// The rows of a table of stimuli, or the first fault of its records: the header is tested first (23), then each record in
-/// order by 24, 25 and 31. `Memory` comes where a growth was refused.
+/// The rows of a table of stimuli, or the first fault of its records: the header is tested first (23), then each record
+/// in order by 24, 25 and 31. `Memory` comes where a growth was refused.
 pub fn read_stimuli(alloc: Global, text: &[u8]) -> Result<StimulusRows, DesignFault>
     requires { length text.now ≤ 16777216 }
-    ensures { FollowsChecks (table_checks stimulus_header stimulus_record_checks (table_records text.now)) (table_rows stimulus_row_of (table_records text.now)) result }
+    ensures { FollowsChecks (table_checks stimulus_header stimulus_record_checks (table_records text.now))
+        (table_rows stimulus_row_of (table_records text.now)) result }
 {
     let rows = read_table(alloc, text)?;
     Ok(StimulusRows::new(rows))
@@ -195,7 +202,8 @@ fn read_clock(
     first: &[u8],
     period: &[u8],
 ) -> Result<ClockRow, DesignFault>
-    ensures { FollowsChecks (clock_record_checks number (net.now ∷ first.now ∷ period.now ∷ [])) (clock_row_of (net.now ∷ first.now ∷ period.now ∷ [])) result }
+    ensures { FollowsChecks (clock_record_checks number (net.now ∷ first.now ∷ period.now ∷ []))
+        (clock_row_of (net.now ∷ first.now ∷ period.now ∷ [])) result }
 {
     let Some(first) = parse_number(first) else {
         return Err(DesignFault::Number(number));
@@ -234,11 +242,12 @@ impl TableRow for ClockRow {
     }
 }
 
-/// The rows of a table of clocks, or the first fault of its records: the header is tested first (23), then each record in
-/// order by 24, 25 and 36. `Memory` comes where a growth was refused.
+/// The rows of a table of clocks, or the first fault of its records: the header is tested first (23), then each record
+/// in order by 24, 25 and 36. `Memory` comes where a growth was refused.
 pub fn read_clocks(alloc: Global, text: &[u8]) -> Result<ClockRows, DesignFault>
     requires { length text.now ≤ 16777216 }
-    ensures { FollowsChecks (table_checks clock_header clock_record_checks (table_records text.now)) (table_rows clock_row_of (table_records text.now)) result }
+    ensures { FollowsChecks (table_checks clock_header clock_record_checks (table_records text.now))
+        (table_rows clock_row_of (table_records text.now)) result }
 {
     let rows = read_table(alloc, text)?;
     Ok(ClockRows::new(rows))

@@ -18,8 +18,8 @@ pub(crate) fn open_records(alloc: Global, text: &[u8]) -> Reader<&[u8]>
         .from_reader(alloc, text)
 }
 
-/// Reads the next record, if there is one. Records of any length are read, so an error of a reader over bytes in memory is a
-/// want of memory.
+/// Reads the next record, if there is one. Records of any length are read, so an error of a reader over bytes in memory
+/// is a want of memory.
 pub(crate) fn next_record(
     reader: &mut Reader<&[u8]>,
     row: &mut ByteRecord,

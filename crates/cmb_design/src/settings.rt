@@ -1,12 +1,14 @@
 //! The settings of a design, and their checks.
 
-ghost use Rattle.std.specs.Prelude.{◌≡◌, ◌⊎◌, ◌||◌, ◌&&◌, ◌<◌, not, length, IfOk, IfErr, OnOk, slice_index_or, false, Some, Err};
+ghost use Rattle.std.specs.Prelude.{◌≡◌, ◌⊎◌, ◌||◌, ◌&&◌, ◌<◌, not, length, IfOk, IfErr, OnOk, slice_index_or, false};
+ghost use Rattle.std.specs.Prelude.{Some, Err};
 ghost use Rattle.cmb_bench.specs.Netlist.{driver_of};
 ghost use Rattle.cmb_design.specs.Checks.{first_fault};
 ghost use Rattle.cmb_design.specs.declared.fault.DesignFault.{DesignFault};
 ghost use Rattle.cmb_design.specs.declared.fault.DesignFault.TheVariants as fault;
 ghost use Rattle.cmb_design.specs.Nets.{is_flop};
-ghost use Rattle.cmb_design.specs.Settings.{any_below, is_bad_clock, is_unclocked, lacks_clock, named_nets, range_checks, setting_checks};
+ghost use Rattle.cmb_design.specs.Settings.{any_below, is_bad_clock, is_unclocked, lacks_clock, named_nets};
+ghost use Rattle.cmb_design.specs.Settings.{range_checks, setting_checks};
 
 use crate::fault::DesignFault;
 use crate::nets::is_flop_driver;
@@ -109,7 +111,8 @@ pub(crate) fn check_settings(
     rows: &[ClockRow],
 ) -> Result<(), DesignFault>
     ensures ok { OnOk result (first_fault (setting_checks netlist.now horizon clock rows.now) ≡ None) }
-    ensures err { IfErr result (λ e. (e ≡ fault.Memory) ⊎ (first_fault (setting_checks netlist.now horizon clock rows.now) ≡ Some e)) }
+    ensures err { IfErr result (λ e. (e ≡ fault.Memory)
+        ⊎ (first_fault (setting_checks netlist.now horizon clock rows.now) ≡ Some e)) }
     ensures ranges { (e : DesignFault) → first_fault (range_checks horizon clock) ≡ Some e → result ≡ Err e }
 {
     if horizon < 1 || horizon > 1_000_000 {

@@ -28,7 +28,8 @@ fn take_stimulus(
     requires so_far { AreStimuli netlist.now (take i rows.now) table.old.items }
     ensures ok { OnOk result ((first_fault (checks_at (stimulus_row_checks netlist.now) rows.now i) ≡ None)
         × AreStimuli netlist.now (take (i + 1) rows.now) table.new.items) }
-    ensures err { IfErr result (λ e. (e ≡ fault.Memory) ⊎ (first_fault (checks_at (stimulus_row_checks netlist.now) rows.now i) ≡ Some e)) }
+    ensures err { IfErr result (λ e. (e ≡ fault.Memory)
+        ⊎ (first_fault (checks_at (stimulus_row_checks netlist.now) rows.now i) ≡ Some e)) }
 {
     let row = &rows[i];
     let number = i as u32 + 2;
@@ -62,8 +63,10 @@ fn take_stimuli(
     rows: &[StimulusRow],
 ) -> Result<Vec<Told>, DesignFault>
     requires { length rows.now ≤ 16777216 }
-    ensures ok { IfOk result (λ v. (first_fault (rows_checks (stimulus_row_checks netlist.now) rows.now) ≡ None) × AreStimuli netlist.now rows.now v.items) }
-    ensures err { IfErr result (λ e. (e ≡ fault.Memory) ⊎ (first_fault (rows_checks (stimulus_row_checks netlist.now) rows.now) ≡ Some e)) }
+    ensures ok { IfOk result (λ v. (first_fault (rows_checks (stimulus_row_checks netlist.now) rows.now) ≡ None)
+        × AreStimuli netlist.now rows.now v.items) }
+    ensures err { IfErr result (λ e. (e ≡ fault.Memory)
+        ⊎ (first_fault (rows_checks (stimulus_row_checks netlist.now) rows.now) ≡ Some e)) }
 {
     let Ok(mut table) = no_levels(alloc, netlist.len()) else {
         return Err(DesignFault::Memory);
@@ -77,7 +80,8 @@ fn take_stimuli(
 /// Makes lists of what the nets' rows told.
 fn settle_all(alloc: Global, table: &mut Vec<Told>) -> Result<(), AllocError>
     requires { AllTold table.old.items }
-    ensures { OnOk result (map changes_in table.new.items ≡ map (λ levels. changes_between (level_by (told_at levels)) 0 ALL_TICKS) table.old.items) }
+    ensures { OnOk result (map changes_in table.new.items
+        ≡ map (λ levels. changes_between (level_by (told_at levels)) 0 ALL_TICKS) table.old.items) }
 {
     for i in 0..table.len() {
         settle(alloc, &mut table[i])?;
@@ -92,8 +96,10 @@ pub(crate) fn stimuli_changes(
     rows: &[StimulusRow],
 ) -> Result<Vec<Told>, DesignFault>
     requires { length rows.now ≤ 16777216 }
-    ensures ok { IfOk result (λ v. (first_fault (rows_checks (stimulus_row_checks netlist.now) rows.now) ≡ None) × (map changes_in v.items ≡ stimulus_changes netlist.now rows.now ALL_TICKS)) }
-    ensures err { IfErr result (λ e. (e ≡ fault.Memory) ⊎ (first_fault (rows_checks (stimulus_row_checks netlist.now) rows.now) ≡ Some e)) }
+    ensures ok { IfOk result (λ v. (first_fault (rows_checks (stimulus_row_checks netlist.now) rows.now) ≡ None)
+        × (map changes_in v.items ≡ stimulus_changes netlist.now rows.now ALL_TICKS)) }
+    ensures err { IfErr result (λ e. (e ≡ fault.Memory)
+        ⊎ (first_fault (rows_checks (stimulus_row_checks netlist.now) rows.now) ≡ Some e)) }
 {
     let mut table = take_stimuli(alloc, netlist, rows)?;
     let Ok(()) = settle_all(alloc, &mut table) else {

@@ -1,6 +1,7 @@
 //! A table: a header, and then rows.
 
-ghost use Rattle.std.specs.Prelude.{◌∷◌, ◌≤◌, [], List, ℕ, length, ◌≡◌, ◌⊎◌, ◌==◌, ◌++◌, if◌then◌else◌, IfErr, IfOk, OnOk};
+ghost use Rattle.std.specs.Prelude.{◌∷◌, ◌≤◌, [], List, ℕ, length, ◌≡◌, ◌⊎◌, ◌==◌, ◌++◌, if◌then◌else◌, IfErr, IfOk};
+ghost use Rattle.std.specs.Prelude.{OnOk};
 ghost use Rattle.std.specs.Cmp.Lexicographic.{pointwise};
 ghost use Rattle.std.specs.Str.{bytes_eq};
 ghost use Rattle.csv.specs.Records.{fields_of};
@@ -29,7 +30,8 @@ pub(crate) trait TableRow: Sized + Drop {
 
     /// The row that the record with a number says.
     fn read_row(alloc: Global, number: u32, row: &ByteRecord) -> Result<Self, DesignFault>
-        ensures { FollowsChecks (checks number (fields_in (fields_of row.now))) (row_of (fields_in (fields_of row.now))) result };
+        ensures { FollowsChecks (checks number (fields_in (fields_of row.now))) (row_of (fields_in (fields_of row.now)))
+            result };
 }
 
 /// Takes the record with a number: checks that the first is the header, and keeps the row that another says.
@@ -39,9 +41,12 @@ fn take_record<T: TableRow>(
     row: &ByteRecord,
     rows: &mut Vec<T>,
 ) -> Result<(), DesignFault>
-    ensures ok { OnOk result ((first_fault (record_checks T.header T.checks number (fields_in (fields_of row.now))) ≡ None)
-        × (rows.new.items ≡ (if number == 1 then rows.old.items else rows.old.items ++ T.row_of (fields_in (fields_of row.now)) ∷ []))) }
-    ensures err { IfErr result (λ e. (e ≡ fault.Memory) ⊎ (first_fault (record_checks T.header T.checks number (fields_in (fields_of row.now))) ≡ Some e)) }
+    ensures ok { OnOk result ((first_fault (record_checks T.header T.checks number (fields_in (fields_of row.now)))
+        ≡ None)
+        × (rows.new.items ≡ (if number == 1 then rows.old.items else rows.old.items
+        ++ T.row_of (fields_in (fields_of row.now)) ∷ []))) }
+    ensures err { IfErr result (λ e. (e ≡ fault.Memory)
+        ⊎ (first_fault (record_checks T.header T.checks number (fields_in (fields_of row.now))) ≡ Some e)) }
 {
     if number == 1 {
         if T::is_header(row) {
@@ -61,8 +66,10 @@ fn take_record<T: TableRow>(
 /// Reads a table.
 pub(crate) fn read_table<T: TableRow>(alloc: Global, text: &[u8]) -> Result<Vec<T>, DesignFault>
     requires { length text.now ≤ 16777216 }
-    ensures ok { IfOk result (λ v. (first_fault (table_checks T.header T.checks (table_records text.now)) ≡ None) × (v.items ≡ table_rows T.row_of (table_records text.now))) }
-    ensures err { IfErr result (λ e. (e ≡ fault.Memory) ⊎ (first_fault (table_checks T.header T.checks (table_records text.now)) ≡ Some e)) }
+    ensures ok { IfOk result (λ v. (first_fault (table_checks T.header T.checks (table_records text.now)) ≡ None)
+        × (v.items ≡ table_rows T.row_of (table_records text.now))) }
+    ensures err { IfErr result (λ e. (e ≡ fault.Memory)
+        ⊎ (first_fault (table_checks T.header T.checks (table_records text.now)) ≡ Some e)) }
 {
     let mut reader = open_records(alloc, text);
     let mut row = ByteRecord::new(alloc);

@@ -1,6 +1,7 @@
 //! The levels that the rows of one net tell, by their ticks, and the changes that they make.
 
-ghost use Rattle.std.specs.Prelude.{◌≡◌, ◌<◌, ◌==◌, ℕ, length, slice_index_or, [], ◌∷◌, ◌++◌, true, Some, IfOk, IfErr, OnOk, if◌then◌else◌};
+ghost use Rattle.std.specs.Prelude.{◌≡◌, ◌<◌, ◌==◌, ℕ, length, slice_index_or, [], ◌∷◌, ◌++◌, true, Some, IfOk, IfErr};
+ghost use Rattle.std.specs.Prelude.{OnOk, if◌then◌else◌};
 ghost use Rattle.std.specs.Ordering.{nat_cmp};
 ghost use Rattle.std.specs.BTreeMap.{get};
 ghost use Rattle.cmb_wave.specs.Waveform.{changes_between, same_level};
@@ -17,8 +18,8 @@ use std::collections::BTreeMap;
 /// The ticks that a `u32` counts.
 pub(crate) const ALL_TICKS: u64 = 4_294_967_296;
 
-/// What the rows of a net tell: a list while each row makes a change behind those of the rows before it, as in most tables; and
-/// else a map from ticks to levels, until all rows are told.
+/// What the rows of a net tell: a list while each row makes a change behind those of the rows before it, as in most
+/// tables; and else a map from ticks to levels, until all rows are told.
 #[derive(Drop)]
 pub(crate) enum Told {
     Changes(Vec<Change>),
@@ -90,7 +91,8 @@ fn insert_level(
     level: Level,
 ) -> Result<Option<Level>, DesignFault>
     ensures old { IfOk result (λ old. old ≡ get nat_cmp map.old tick) }
-    ensures new { OnOk result ((t : ℕ) → get nat_cmp map.new t ≡ (if t == tick then Some level else get nat_cmp map.old t)) }
+    ensures new { OnOk result ((t : ℕ) → get nat_cmp map.new t
+        ≡ (if t == tick then Some level else get nat_cmp map.old t)) }
     ensures err { IfErr result (λ e. e ≡ fault.Memory) }
 {
     match map.insert(tick, level) {

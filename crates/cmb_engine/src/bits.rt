@@ -1,6 +1,7 @@
 //! Sets of numbers by bits.
 
-ghost use Rattle.std.specs.Prelude.{◌≡◌, ℕ, ◌+◌, ◌*◌, ◌/◌, ◌%◌, ◌^◌, ◌<◌, ◌≤◌, ◌||◌, ◌&&◌, ◌==◌, false, not, length, slice_index, IfOk, IfNone, MatchOption};
+ghost use Rattle.std.specs.Prelude.{◌≡◌, ℕ, ◌+◌, ◌*◌, ◌/◌, ◌%◌, ◌^◌, ◌<◌, ◌≤◌, ◌||◌, ◌&&◌, ◌==◌, false, not, length};
+ghost use Rattle.std.specs.Prelude.{slice_index, IfOk, IfNone, MatchOption};
 ghost use Rattle.cmb_engine.specs.Bits.{has, HasNone, IsNext, Inserts, Removes};
 
 use std::alloc::{AllocError, Global};

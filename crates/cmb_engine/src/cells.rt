@@ -1,9 +1,11 @@
 //! The cells of a design's nets: a rule of each, and a list of the pins of gates that have more than two.
 
-ghost use Rattle.std.specs.Prelude.{◌≡◌, ℕ, ◌+◌, ◌^◌, ◌<◌, ◌≤◌, ◌++◌, ◌∷◌, [], true, false, All, IfOk, OnOk, MatchOption, length, map, replicate, slice_index_or};
+ghost use Rattle.std.specs.Prelude.{◌≡◌, ℕ, ◌+◌, ◌^◌, ◌<◌, ◌≤◌, ◌++◌, ◌∷◌, [], true, false, All, IfOk, OnOk};
+ghost use Rattle.std.specs.Prelude.{MatchOption, length, map, replicate, slice_index_or};
 ghost use Rattle.cmb_words.specs.Word.{level_at_place};
 ghost use Rattle.cmb_engine.specs.Arrivals.{IsArrival};
-ghost use Rattle.cmb_engine.specs.Cells.{Told, Gate, Flop, cell_at, is_made, pins_of as pins_of_cell, reads, AreBelow, IsListed, IsMade, IsLawful};
+ghost use Rattle.cmb_engine.specs.Cells.{Told, Gate, Flop, cell_at, is_made, pins_of as pins_of_cell, reads, AreBelow};
+ghost use Rattle.cmb_engine.specs.Cells.{IsListed, IsMade, IsLawful};
 ghost use Rattle.cmb_engine.specs.Circuits.{is_flop};
 ghost use Rattle.cmb_engine.specs.Words.{levels_of};
 

@@ -1,6 +1,7 @@
 //! The flip-flops among cells, in groups, and which of them get a sample in a window.
 
-ghost use Rattle.std.specs.Prelude.{◌≡◌, ℕ, ◌+◌, ◌-◌, ◌*◌, ◌^◌, ◌<◌, ◌≤◌, List, false, true, All, Contains, IfOk, OnOk, length, slice_index_or};
+ghost use Rattle.std.specs.Prelude.{◌≡◌, ℕ, ◌+◌, ◌-◌, ◌*◌, ◌^◌, ◌<◌, ◌≤◌, List, false, true, All, Contains, IfOk, OnOk};
+ghost use Rattle.std.specs.Prelude.{length, slice_index_or};
 ghost use Rattle.cmb_design.specs.declared.rows.Clock.{Clock};
 ghost use Rattle.cmb_engine.specs.Bits.{has};
 ghost use Rattle.cmb_engine.specs.Cells.{Cell, IsLawful, IsPace, IsSteady, cell_at};
@@ -126,7 +127,8 @@ fn mark_flop(cells: &Cells, words: &[Word], slot: usize, marks: &mut Marks, firs
 fn mark_flops(cells: &Cells, words: &[Word], flops: &[u32], marks: &mut Marks, first: u32)
     requires slots { All (λ slot. slot < length cells.now) flops.now }
     requires nets { length cells.now ≡ length words.now }
-    requires lawful { (slot : ℕ) → slot < length words.now → IsLawful (length words.now) first (cell_at cells.now slot) }
+    requires lawful { (slot : ℕ) → slot < length words.now
+        → IsLawful (length words.now) first (cell_at cells.now slot) }
     requires room { length words.now ≤ 64 * length marks.old }
     requires begun { 1 ≤ first }
     requires first { first < 64 }
@@ -145,7 +147,8 @@ fn mark_group(group: &Group, cells: &Cells, words: &[Word], marks: &mut Marks, t
     requires delay { group.now.delay ≤ 1000000 }
     requires slots { All (λ slot. slot < length cells.now) group.now.flops.items }
     requires nets { length cells.now ≡ length words.now }
-    requires lawful { (slot : ℕ) → slot < length words.now → IsLawful (length words.now) first (cell_at cells.now slot) }
+    requires lawful { (slot : ℕ) → slot < length words.now
+        → IsLawful (length words.now) first (cell_at cells.now slot) }
     requires room { length words.now ≤ 64 * length marks.old }
     requires to { to ≤ 1000000 }
     requires begun { 1 ≤ first }
@@ -176,7 +179,8 @@ pub(crate) fn mark_arrivals(
     requires paces { All (λ group. IsPace group.clock × (group.delay ≤ 1000000)) groups.now }
     requires slots { All (λ group. All (λ slot. slot < length cells.now) group.flops.items) groups.now }
     requires nets { length cells.now ≡ length words.now }
-    requires lawful { (slot : ℕ) → slot < length words.now → IsLawful (length words.now) first (cell_at cells.now slot) }
+    requires lawful { (slot : ℕ) → slot < length words.now
+        → IsLawful (length words.now) first (cell_at cells.now slot) }
     requires room { length words.now ≤ 64 * length marks.old }
     requires to { to ≤ 1000000 }
     requires begun { 1 ≤ first }

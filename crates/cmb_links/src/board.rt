@@ -1,4 +1,5 @@
-//! The board: each net's newest promise, a stop word and the number of finished workers, in words that change in atomic steps.
+//! The board: each net's newest promise, a stop word and the number of finished workers, in words that change in atomic
+//! steps.
 
 ghost use Rattle.std.specs.Prelude.{◌≡◌, ◌<◌, [], map, vec_len};
 ghost use Rattle.std.specs.List.{All, range_with_len};
@@ -121,7 +122,8 @@ impl Model for Board {
 
     ghost view = { λ b. b.table.shared.table_id };
 
-    ghost invariant = { λ b. (b.table.shared.table_id.words ≡ b.nets + 2) × (b.nets < 2 ^ 32) × (b.table.shared.table_id.slots ≡ 0) };
+    ghost invariant = { λ b. (b.table.shared.table_id.words ≡ b.nets + 2) × (b.nets < 2 ^ 32)
+        × (b.table.shared.table_id.slots ≡ 0) };
 }
 
 impl fmt::Debug for Board {
@@ -145,7 +147,8 @@ impl Model for Seat {
 
     ghost view = { λ s. record { board = s.inner.table_id; view = only s.inner.me.0 } };
 
-    ghost invariant = { λ s. (s.inner.me ≡ (only s.inner.me.0 ∷ [], [])) × (s.inner.table_id.words ≡ nets_of (only s.inner.me.0).terms.design + 2) };
+    ghost invariant = { λ s. (s.inner.me ≡ (only s.inner.me.0 ∷ [], []))
+        × (s.inner.table_id.words ≡ nets_of (only s.inner.me.0).terms.design + 2) };
 }
 
 impl fmt::Debug for Seat {
@@ -154,8 +157,8 @@ impl fmt::Debug for Seat {
     }
 }
 
-/// What the words of a board hold when it is closed: a promise for each net, in order, whether a seat raised the stop word, and how
-/// many workers finished.
+/// What the words of a board hold when it is closed: a promise for each net, in order, whether a seat raised the stop
+/// word, and how many workers finished.
 #[derive(Debug, Drop)]
 pub struct Ending {
     pub promises: Vec<Promise>,
@@ -169,19 +172,24 @@ impl Board {
     ghost use Rattle.cmb_wave.specs.Calls.{word_of};
     ghost use Rattle.cmb_design.specs.Exact.{nets_of, IsRightIn};
     ghost use Rattle.cmb_links.specs.Promises.{newest};
-    ghost use Rattle.cmb_links.specs.Seats.{driver, after_publish, after_look, after_raise, after_check, after_finish, after_count, with_view, terms, new_seats, IsSeatOf, AreAllSeats};
-    ghost use Rattle.cmb_links.specs.Boards.{Moment, IsKnown, published_at, some_raised, number_finished, any_raised, count_finished, EndsAs};
+    ghost use Rattle.cmb_links.specs.Seats.{driver, after_publish, after_look, after_raise, after_check, after_finish};
+    ghost use Rattle.cmb_links.specs.Seats.{after_count, with_view, terms, new_seats, IsSeatOf, AreAllSeats};
+    ghost use Rattle.cmb_links.specs.Boards.{Moment, IsKnown, published_at, some_raised, number_finished, any_raised};
+    ghost use Rattle.cmb_links.specs.Boards.{count_finished, EndsAs};
 
-    /// A board on which nothing stands, and its seats: one for each worker, in order, and a last one that drives no net.
+    /// A board on which nothing stands, and its seats: one for each worker, in order, and a last one that drives no
+    /// net.
     pub fn open(
         alloc: Global,
         design: &Design,
         clustering: &Clustering,
         workers: Workers,
     ) -> Result<(Board, Vec<Seat>), AllocError>
-        ensures seats { IfOk result (λ opened. opened.1.items ≡ new_seats opened.0 (terms design.now clustering.now workers)) }
+        ensures seats { IfOk result (λ opened.
+            opened.1.items ≡ new_seats opened.0 (terms design.now clustering.now workers)) }
         ensures count { IfOk result (λ opened. vec_len opened.1 ≡ workers + 1) }
-        ensures board { IfOk result (λ opened. All (IsSeatOf opened.0 (terms design.now clustering.now workers)) opened.1.items) }
+        ensures board { IfOk result (λ opened.
+            All (IsSeatOf opened.0 (terms design.now clustering.now workers)) opened.1.items) }
     {
         let nets = design.netlist().len();
         let count = workers.count();
@@ -203,7 +211,8 @@ impl Board {
         Ok((Board { table, nets }, seats))
     }
 
-    /// Stores a promise in its net's word. The seat's worker drives the net, and the promise is right and not below the seat's last one for that net.
+    /// Stores a promise in its net's word. The seat's worker drives the net, and the promise is right and not below the
+    /// seat's last one for that net.
     pub fn publish(&self, seat: &mut Seat, promise: Promise)
         requires board { seat.old.board ≡ self.now }
         requires drives { driver seat.old.view.terms promise.net ≡ seat.old.view.place }
@@ -226,10 +235,14 @@ impl Board {
         ensures net { result.net ≡ net }
         ensures right { IsRightIn seat.old.view.terms.design result }
         ensures rising { All (λ p. p.net ≡ net → p.upto ≤ result.upto) seat.old.view.promised.loads }
-        ensures own { driver seat.old.view.terms net ≡ seat.old.view.place → result ≡ newest net seat.old.view.promised.published }
+        ensures own { driver seat.old.view.terms net ≡ seat.old.view.place
+            → result ≡ newest net seat.old.view.promised.published }
 
-        // Some state that the rule allows, with the seat's new view, has the answer in the word; it is (0, 0), or the net's driving seat published it.
-        ensures moment { Moment seat.new.view (λ s. (slice_index s.words net ≡ word_of result) × IsKnown net (published_at s.views (driver seat.old.view.terms net)) result) }
+        // Some state that the rule allows, with the seat's new view, has the answer in the word; it is (0, 0), or the
+        // net's driving seat published it.
+        ensures moment { Moment seat.new.view
+            (λ s. (slice_index s.words net ≡ word_of result)
+            × IsKnown net (published_at s.views (driver seat.old.view.terms net)) result) }
     {
         let found = self
             .table
@@ -266,7 +279,8 @@ impl Board {
         requires worker { seat.old.view.place < seat.old.view.terms.workers }
         requires once { seat.old.view.endings.finished ≡ false }
         ensures entry { seat.new ≡ with_view seat.old (after_finish seat.old.view) }
-        ensures moment { Moment seat.new.view (λ s. slice_index s.words (nets_of seat.old.view.terms.design + 1) ≡ number_finished s.views) }
+        ensures moment { Moment seat.new.view
+            (λ s. slice_index s.words (nets_of seat.old.view.terms.design + 1) ≡ number_finished s.views) }
     {
         self.table
             .shared
@@ -287,12 +301,14 @@ impl Board {
             .load::<Count>(&mut seat.inner, self.nets + 1) as u32
     }
 
-    /// Ends the board, and answers what its words hold. `seats` are all of its seats, in order. Of each net that is the newest promise
-    /// of its driving seat, (0, 0) where there is none; no load of any seat found more. Where memory is refused, the board is given up.
+    /// Ends the board, and answers what its words hold. `seats` are all of its seats, in order. Of each net that is the
+    /// newest promise of its driving seat, (0, 0) where there is none; no load of any seat found more. Where memory is
+    /// refused, the board is given up.
     pub fn close(self, alloc: Global, seats: Vec<Seat>) -> Result<Ending, AllocError>
         requires seats { AreAllSeats self seats.items }
         ensures nets { IfOk result (λ end. All (λ s. vec_len end.promises ≡ nets_of s.view.terms.design) seats.items) }
-        ensures words { IfOk result (λ end. All (λ s. EndsAs end.promises.items end.is_raised end.finished s.view) seats.items) }
+        ensures words { IfOk result (λ end.
+            All (λ s. EndsAs end.promises.items end.is_raised end.finished s.view) seats.items) }
         ensures raised { IfOk result (λ end. end.is_raised ≡ any_raised (map (λ s. s.view.stops) seats.items)) }
         ensures finished { IfOk result (λ end. end.finished ≡ count_finished (map (λ s. s.view.endings) seats.items)) }
     {

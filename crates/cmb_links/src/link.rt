@@ -57,10 +57,16 @@ impl Model for PutPass {
 
     ghost Value = { PutData };
 
-    ghost view = { λ p. record { link = p.pass.table_id; design = p.pass.me.0.client.design; sent = p.pass.me.0.client.sent } };
+    ghost view = { λ p. record {
+      link = p.pass.table_id;
+      design = p.pass.me.0.client.design;
+      sent = p.pass.me.0.client.sent;
+    } };
 
     // All that was put is exact.
-    ghost invariant = { λ p. (p.pass.me.1 ≡ []) × (p.pass.me.0.client ≡ putting p.pass.me.0.client.design p.pass.table_id.slots p.pass.me.0.client.sent) × All (IsExactIn p.pass.me.0.client.design) p.pass.me.0.client.sent };
+    ghost invariant = { λ p. (p.pass.me.1 ≡ [])
+        × (p.pass.me.0.client ≡ putting p.pass.me.0.client.design p.pass.table_id.slots p.pass.me.0.client.sent)
+        × All (IsExactIn p.pass.me.0.client.design) p.pass.me.0.client.sent };
 }
 
 impl fmt::Debug for PutPass {
@@ -82,10 +88,16 @@ impl Model for TakePass {
 
     ghost Value = { TakeData };
 
-    ghost view = { λ p. record { link = p.pass.table_id; design = p.pass.me.0.client.design; received = p.pass.me.0.client.received } };
+    ghost view = { λ p. record {
+      link = p.pass.table_id;
+      design = p.pass.me.0.client.design;
+      received = p.pass.me.0.client.received;
+    } };
 
     // All that was taken is exact.
-    ghost invariant = { λ p. (p.pass.me.1 ≡ []) × (p.pass.me.0.client ≡ taking p.pass.me.0.client.design p.pass.table_id.slots p.pass.me.0.client.received) × All (IsExactIn p.pass.me.0.client.design) p.pass.me.0.client.received };
+    ghost invariant = { λ p. (p.pass.me.1 ≡ [])
+        × (p.pass.me.0.client ≡ taking p.pass.me.0.client.design p.pass.table_id.slots p.pass.me.0.client.received)
+        × All (IsExactIn p.pass.me.0.client.design) p.pass.me.0.client.received };
 }
 
 impl fmt::Debug for TakePass {
@@ -95,12 +107,13 @@ impl fmt::Debug for TakePass {
 }
 
 impl Link {
-    ghost use Rattle.std.specs.Prelude.{◌≡◌, ◌<◌, ◌≤◌, ◌↔◌, ◌⊎◌, ◌++◌, All, length, vec_len, IfOk, OnOk, IfErr, OnErr, IfSome, IfNone, Err};
+    ghost use Rattle.std.specs.Prelude.{◌≡◌, ◌<◌, ◌≤◌, ◌↔◌, ◌⊎◌, ◌++◌, All, length, vec_len, IfOk, OnOk, IfErr, OnErr};
+    ghost use Rattle.std.specs.Prelude.{IfSome, IfNone, Err};
     ghost use Rattle.cmb_design.specs.Exact.{IsExactIn};
     ghost use Rattle.cmb_links.specs.Links.{IsNewLink, after_put, after_take};
 
-    /// A link with nothing in it, the end that puts and the end that takes. Fault 48 where the capacity isn't 1 to 65,536 pieces, 70
-    /// where memory was refused.
+    /// A link with nothing in it, the end that puts and the end that takes. Fault 48 where the capacity isn't 1 to
+    /// 65,536 pieces, 70 where memory was refused.
     pub fn open(
         alloc: Global,
         design: &Design,
@@ -136,9 +149,9 @@ impl Link {
         ))
     }
 
-    /// Puts a piece, exact in the pass's design, behind the others. Gives it back where the queue was full. The contract says that
-    /// it comes back unchanged, and that at least as many were put before as the link holds; that it comes back only from a full
-    /// queue is tested, not proved.
+    /// Puts a piece, exact in the pass's design, behind the others. Gives it back where the queue was full. The
+    /// contract says that it comes back unchanged, and that at least as many were put before as the link holds; that it
+    /// comes back only from a full queue is tested, not proved.
     pub fn put<R: Wait>(&self, rt: &R, pass: &mut PutPass, piece: Piece) -> Result<(), Full>
         requires link { pass.old.link ≡ self.now.link }
         requires exact { IsExactIn pass.old.design piece }
@@ -153,8 +166,8 @@ impl Link {
         }
     }
 
-    /// Takes the piece that was put first of those held. Gives none where the queue was empty; that it gives none only then is
-    /// tested, not proved.
+    /// Takes the piece that was put first of those held. Gives none where the queue was empty; that it gives none only
+    /// then is tested, not proved.
     pub fn take<R: Wait>(&self, rt: &R, pass: &mut TakePass) -> Option<Piece>
         requires link { pass.old.link ≡ self.now.link }
         ensures some { IfSome result (λ piece. pass.new ≡ after_take pass.old piece) }
@@ -164,8 +177,8 @@ impl Link {
         self.queue.pop_as::<Received, R>(rt, &mut pass.pass)
     }
 
-    /// Ends the link, and answers what was put and not taken, in order: with what was taken it is all that was put. There are no more
-    /// pieces than the link holds. Where memory is refused they are given up with the link.
+    /// Ends the link, and answers what was put and not taken, in order: with what was taken it is all that was put.
+    /// There are no more pieces than the link holds. Where memory is refused they are given up with the link.
     pub fn close<R: Wait>(
         self,
         rt: &R,

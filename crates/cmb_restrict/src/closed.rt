@@ -1,6 +1,7 @@
 //! The least set of nets that has the wanted ones and, with each net, those that its value rule asks for.
 
-ghost use Rattle.std.specs.Prelude.{◌≡◌, ◌∷◌, [], ℕ, ◌<◌, ◌≤◌, ◌^◌, false, length, filter, slice_index_or, All, IfOk, OnOk};
+ghost use Rattle.std.specs.Prelude.{◌≡◌, ◌∷◌, [], ℕ, ◌<◌, ◌≤◌, ◌^◌, false, length, filter, slice_index_or, All, IfOk};
+ghost use Rattle.std.specs.Prelude.{OnOk};
 ghost use Rattle.std.specs.List.{range_with_len};
 ghost use Rattle.std.specs.List.Sorted.{IsStrictlyIncreasing};
 ghost use Rattle.cmb_bench.specs.Netlist.{IsNetlist};
@@ -99,7 +100,8 @@ fn follow(netlist: &Netlist, found: &mut Found) -> Result<(), AllocError>
 /// The numbers of the marks that are set, rising.
 fn marked(alloc: Global, marks: &[bool]) -> Result<Vec<u32>, AllocError>
     requires { length marks.now ≤ 65535 }
-    ensures { IfOk result (λ v. v.items ≡ filter (λ net. slice_index_or marks.now net false) (range_with_len 0 (length marks.now))) }
+    ensures { IfOk result (λ v. v.items
+        ≡ filter (λ net. slice_index_or marks.now net false) (range_with_len 0 (length marks.now))) }
 {
     let mut nets = Vec::new(alloc);
     for net in 0..marks.len() {
@@ -110,8 +112,8 @@ fn marked(alloc: Global, marks: &[bool]) -> Result<Vec<u32>, AllocError>
     Ok(nets)
 }
 
-/// The least closed set of nets that has all wanted ones: these, the nets that their value rules ask for, what those ask
-/// for, and so on; by rising number. Work and room are linear in the nets and pins.
+/// The least closed set of nets that has all wanted ones: these, the nets that their value rules ask for, what those
+/// ask for, and so on; by rising number. Work and room are linear in the nets and pins.
 pub fn closure(alloc: Global, netlist: &Netlist, wanted: &[u32]) -> Result<Vec<u32>, AllocError>
     requires { All (λ net. net < length netlist.now.names) wanted.now }
     ensures { IfOk result (λ nets. IsClosure netlist.now wanted.now nets.items) }

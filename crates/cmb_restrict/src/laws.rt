@@ -10,10 +10,12 @@ ghost use Rattle.cmb_restrict.specs.Restriction.{IsRestriction};
 
 /// Each net of a restriction has, at each tick, the level that it has in the whole design.
 pub fn restrictions_keep_values()
-    ensures { (design part : Design) (nets : List ℕ) → IsRestriction design nets part → IsNetlist part.netlist → (i tick : ℕ) → i < length nets → value part i tick ≡ value design (slice_index nets i) tick }
+    ensures { (design part : Design) (nets : List ℕ) → IsRestriction design nets part → IsNetlist part.netlist
+        → (i tick : ℕ) → i < length nets → value part i tick ≡ value design (slice_index nets i) tick }
 {}
 
 /// The nets of a component are closed, so each component has a design of its own.
 pub fn components_are_closed()
-    ensures { (netlist : Netlist) (numbers : List ℕ) (count number : ℕ) → IsNetlist netlist → AreComponents netlist numbers count → IsClosed netlist (component netlist numbers number) }
+    ensures { (netlist : Netlist) (numbers : List ℕ) (count number : ℕ) → IsNetlist netlist
+        → AreComponents netlist numbers count → IsClosed netlist (component netlist numbers number) }
 {}

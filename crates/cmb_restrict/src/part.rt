@@ -89,7 +89,8 @@ fn drivers_of(
     requires closed { IsClosed netlist.now nets.now }
     requires long { length places.now ≡ length netlist.now.names }
     requires places { ArePlaces nets.now places.now }
-    ensures { IfOk result (λ drivers. drivers.items ≡ map (λ net. with_nets (slice_index places.now) (driver_of netlist.now net)) nets.now) }
+    ensures { IfOk result (λ drivers. drivers.items
+        ≡ map (λ net. with_nets (slice_index places.now) (driver_of netlist.now net)) nets.now) }
 {
     let mut drivers = Vec::with_capacity(alloc, nets.len())?;
     for net in nets {
@@ -109,7 +110,8 @@ fn outputs_of(
     requires long { length places.now ≡ length netlist.now.names }
     requires places { ArePlaces nets.now places.now }
     requires sound { IsNetlist netlist.now }
-    ensures kept { IfOk result (λ outputs. outputs.keys ≡ map (slice_index places.now) (filter (is_among nets.now) netlist.now.outputs)) }
+    ensures kept { IfOk result (λ outputs.
+        outputs.keys ≡ map (slice_index places.now) (filter (is_among nets.now) netlist.now.outputs)) }
     ensures distinct { IfOk result (λ outputs. IsDistinct nat_eq outputs.keys) }
 {
     let mut outputs = IndexSet::new(alloc);

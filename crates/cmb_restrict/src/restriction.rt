@@ -20,12 +20,14 @@ fn out_of_memory(reason: DesignFault) -> AllocError
     }
 }
 
-/// The design of a closed set of nets alone, numbered in their order: net `i` has the name and, at each tick, the level of net
-/// `nets[i]`. It is refused only where memory runs out. Work is linear, but for the stimuli, which are sorted anew.
+/// The design of a closed set of nets alone, numbered in their order: net `i` has the name and, at each tick, the level
+/// of net `nets[i]`. It is refused only where memory runs out. Work is linear, but for the stimuli, which are sorted
+/// anew.
 pub fn restrict(alloc: Global, design: &Design, nets: &[u32]) -> Result<Design, AllocError>
     requires { IsClosed design.now.netlist nets.now }
     ensures part { IfOk result (λ part. IsRestriction design.now nets.now part) }
-    ensures values { IfOk result (λ part. (i tick : ℕ) → i < length nets.now → value part i tick ≡ value design.now (slice_index nets.now i) tick) }
+    ensures values { IfOk result (λ part. (i tick : ℕ) → i < length nets.now
+        → value part i tick ≡ value design.now (slice_index nets.now i) tick) }
 {
     let netlist = netlist_of(alloc, design.netlist(), nets)?;
     // What every design keeps, this one does; so no check stands in its part.

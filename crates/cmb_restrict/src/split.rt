@@ -19,8 +19,9 @@ pub struct Numbering {
     pub count: u32,
 }
 
-/// The root of a net's tree. On the way each second net gets its grandparent as its parent, so that ways stay short (path
-/// halving; R. E. Tarjan and J. van Leeuwen, *Worst-case analysis of set union algorithms*, Journal of the ACM 31(2), 1984).
+/// The root of a net's tree. On the way each second net gets its grandparent as its parent, so that ways stay short
+/// (path halving; R. E. Tarjan and J. van Leeuwen, *Worst-case analysis of set union algorithms*, Journal of the ACM
+/// 31(2), 1984).
 fn root_of(parents: &mut Vec<u32>, net: u32) -> u32
     requires forest { IsForest parents.old.items }
     requires net { net < length parents.old.items }
@@ -125,8 +126,9 @@ fn numbered(alloc: Global, parents: &[u32]) -> Result<Numbering, AllocError>
     Ok(Numbering { numbers, count })
 }
 
-/// The weakly connected components of a netlist: two nets have one number where value rules lead from one to the other, each
-/// taken in either direction. So the nets of a component are closed. Work is linear, but for a factor of the logarithm.
+/// The weakly connected components of a netlist: two nets have one number where value rules lead from one to the other,
+/// each taken in either direction. So the nets of a component are closed. Work is linear, but for a factor of the
+/// logarithm.
 pub fn components(alloc: Global, netlist: &Netlist) -> Result<Numbering, AllocError>
     ensures { IfOk result (λ c. AreComponents netlist.now c.numbers.items c.count) }
 {

@@ -46,7 +46,8 @@ impl<T: Terms> Collected<T> {
     /// Goes on by a piece of a net. What the collector refuses (49 to 52) changes nothing and isn't told;
     /// of the pieces of a run none is.
     pub(crate) fn take(&mut self, posted: &Posted<T>) -> Result<(), AllocError>
-        ensures taken { (collector : CollectorOf) → collected self.old posted.now ≡ Ok collector → OnOk result (self.new ≡ collector) }
+        ensures taken { (collector : CollectorOf) → collected self.old posted.now ≡ Ok collector
+            → OnOk result (self.new ≡ collector) }
         ensures refused { (fault : Refusal) → collected self.old posted.now ≡ Err fault → self.new ≡ self.old }
     {
         match self.collector.take(posted.piece()) {
@@ -59,7 +60,8 @@ impl<T: Terms> Collected<T> {
     pub(crate) fn adopt_all(&mut self, mut waves: Vec<Wave>)
         requires { AllByRecursion (IsExactWaveIn T.design) waves.items }
         ensures keeps { (net : ℕ) → (wave_of self.old.waves net).clock ≤ (wave_of self.new.waves net).clock }
-        ensures given { AllByRecursion (λ wave. wave.base ≡ 0 → wave.clock ≤ (wave_of self.new.waves wave.net).clock) waves.items }
+        ensures given { AllByRecursion (λ wave. wave.base ≡ 0 → wave.clock ≤ (wave_of self.new.waves wave.net).clock)
+            waves.items }
     {
         while let Some(wave) = waves.pop() {
             self.adopt(wave);

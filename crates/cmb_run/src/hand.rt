@@ -51,7 +51,8 @@ impl<T: Terms> Hand<T> {
         requires nets { length clustering.now.assign ≡ nets_of design.now }
         requires worker { worker < clustering.now.clusters }
         ensures of { IfOk result (λ hand. IsClusterOf T.design T.clustering worker hand.cluster) }
-        ensures new { IfOk result (λ hand. hand.cluster.waves ≡ map new_wave (held_nets design.now clustering.now worker)) }
+        ensures new { IfOk result (λ hand. hand.cluster.waves
+            ≡ map new_wave (held_nets design.now clustering.now worker)) }
     {
         let part = Part::open(alloc, design, clustering, worker)?;
         let gauge = Gauge::open(alloc, &part)?;
@@ -73,7 +74,9 @@ impl<T: Terms> Hand<T> {
     // Steps each net of the cluster once, unless all are known to their end.
     fn step(&mut self) -> Result<(), AllocError>
         ensures same { IsSameButWaves self.old.cluster self.new.cluster }
-        ensures on { (worker : ℕ) → IsNetlist T.design.netlist → IsClusterOf T.design T.clustering worker self.old.cluster → OnOk result (GoesOn T.design T.clustering worker self.old.cluster.waves self.new.cluster.waves) }
+        ensures on { (worker : ℕ) → IsNetlist T.design.netlist
+            → IsClusterOf T.design T.clustering worker self.old.cluster
+            → OnOk result (GoesOn T.design T.clustering worker self.old.cluster.waves self.new.cluster.waves) }
     {
         self.load = 0;
         if self.part.complete() {
@@ -100,7 +103,8 @@ impl<T: Terms> Hand<T> {
 
     /// The nets that the worker reads and doesn't drive, by rising number.
     pub fn inputs(&self) -> &[u32]
-        ensures { (worker : ℕ) → IsClusterOf T.design T.clustering worker self.now.cluster → result.now ≡ read_nets T.design T.clustering worker }
+        ensures { (worker : ℕ) → IsClusterOf T.design T.clustering worker self.now.cluster
+            → result.now ≡ read_nets T.design T.clustering worker }
     {
         self.part.inputs()
     }
@@ -114,15 +118,20 @@ impl<T: Terms> Hand<T> {
 
     /// The piece of a net from a tick up to its clock, none where it isn't known further or isn't driven here.
     pub fn post(&self, net: u32, from: u32) -> Result<Option<Posted<T>>, AllocError>
-        ensures cut { IfOk result (λ posted. IfSome posted (λ piece. piece ≡ cut_of (wave_at self.now.cluster.waves net) from)) }
-        ensures new { IfOk result (λ posted. IsSome posted ↔ (IsDrivenHere self.now.cluster net × (from < (wave_at self.now.cluster.waves net).clock))) }
+        ensures cut { IfOk result (λ posted.
+            IfSome posted (λ piece. piece ≡ cut_of (wave_at self.now.cluster.waves net) from)) }
+        ensures new { IfOk result (λ posted.
+            IsSome posted ↔ (IsDrivenHere self.now.cluster net × (from < (wave_at self.now.cluster.waves net).clock))) }
     {
         self.part.post(net, from)
     }
 
     /// Gives a piece to the cluster.
     pub fn deliver(&mut self, posted: &Posted<T>) -> Result<(), AllocError>
-        ensures passed { IsSome (input_slot self.old.cluster posted.now.net) → posted.now.from ≤ (wave_at self.old.cluster.waves posted.now.net).clock → (wave_at self.old.cluster.waves posted.now.net).clock < posted.now.to → OnOk result (IsPassed posted.now.net posted.now.to self.old.cluster.waves self.new.cluster.waves) }
+        ensures passed { IsSome (input_slot self.old.cluster posted.now.net)
+            → posted.now.from ≤ (wave_at self.old.cluster.waves posted.now.net).clock
+            → (wave_at self.old.cluster.waves posted.now.net).clock < posted.now.to
+            → OnOk result (IsPassed posted.now.net posted.now.to self.old.cluster.waves self.new.cluster.waves) }
         ensures same { IsSameButWaves self.old.cluster self.new.cluster }
     {
         self.part.deliver(posted)
@@ -131,14 +140,18 @@ impl<T: Terms> Hand<T> {
     /// Gives the waves of the cluster to what is collected, which then knows each net that is driven here as far.
     pub fn hand_over(self, collected: &mut Collected<T>)
         ensures keeps { (net : ℕ) → (wave_of collected.old.waves net).clock ≤ (wave_of collected.new.waves net).clock }
-        ensures given { (worker net : ℕ) → IsClusterOf T.design T.clustering worker self.cluster → IsOwnNet T.design T.clustering worker net → (wave_at self.cluster.waves net).clock ≤ (wave_of collected.new.waves net).clock }
+        ensures given { (worker net : ℕ) → IsClusterOf T.design T.clustering worker self.cluster
+            → IsOwnNet T.design T.clustering worker net
+            → (wave_at self.cluster.waves net).clock ≤ (wave_of collected.new.waves net).clock }
     {
         collected.adopt_all(self.part.into_waves());
     }
 
     /// Whether each net that is driven here is known up to the horizon.
     pub fn complete(&self) -> bool
-        ensures { (worker net : ℕ) → IsClusterOf T.design T.clustering worker self.now.cluster → IsOwnNet T.design T.clustering worker net → result ≡ true → (wave_at self.now.cluster.waves net).clock ≡ T.design.horizon }
+        ensures { (worker net : ℕ) → IsClusterOf T.design T.clustering worker self.now.cluster
+            → IsOwnNet T.design T.clustering worker net → result ≡ true
+            → (wave_at self.now.cluster.waves net).clock ≡ T.design.horizon }
     {
         self.part.complete()
     }

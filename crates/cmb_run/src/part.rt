@@ -6,7 +6,8 @@ ghost use Rattle.cmb_wave.specs.Wave.{Wave as WaveOf, cut_of, new_wave};
 ghost use Rattle.cmb_wave.specs.declared.level.Heard.{Heard as Hearing};
 ghost use Rattle.std.specs.List.{AllByRecursion};
 ghost use Rattle.cmb_design.specs.Exact.{IsExactIn, IsExactWaveIn, IsRightIn, nets_of};
-ghost use Rattle.cmb_core.specs.Clusters.{IsDrivenHere, IsSameButWaves, delivered, heard_at, input_slot, inputs_of, is_complete, outputs_of, told_at};
+ghost use Rattle.cmb_core.specs.Clusters.{IsDrivenHere, IsSameButWaves, delivered, heard_at, input_slot, inputs_of};
+ghost use Rattle.cmb_core.specs.Clusters.{is_complete, outputs_of, told_at};
 ghost use Rattle.cmb_core.specs.Opened.{IsClusterOf, IsOwnNet, held_nets, own_nets, read_nets};
 ghost use Rattle.cmb_core.specs.Sweep.{some_rises, stepped_waves};
 ghost use Rattle.cmb_core.specs.Step.{wave_at};
@@ -123,8 +124,11 @@ impl<T: Terms> Part<T> {
     /// Steps each net that is driven here once, in order, and says whether a clock rose. Once as many pieces
     /// were given as nets are read, what nobody needs any more is forgotten.
     pub fn step(&mut self) -> Result<bool, AllocError>
-        ensures rose { (cluster : ℕ) → IsClusterOf T.design T.clustering cluster self.old → IfOk result (λ rose. rose ≡ some_rises T.design self.old.waves (own_nets T.design T.clustering cluster)) }
-        ensures clocks { (cluster net : ℕ) → IsClusterOf T.design T.clustering cluster self.old → OnOk result ((wave_at self.new.waves net).clock ≡ (wave_at (stepped_waves T.design self.old.waves (own_nets T.design T.clustering cluster)) net).clock) }
+        ensures rose { (cluster : ℕ) → IsClusterOf T.design T.clustering cluster self.old
+            → IfOk result (λ rose. rose ≡ some_rises T.design self.old.waves (own_nets T.design T.clustering cluster)) }
+        ensures clocks { (cluster net : ℕ) → IsClusterOf T.design T.clustering cluster self.old
+            → OnOk result ((wave_at self.new.waves net).clock
+            ≡ (wave_at (stepped_waves T.design self.old.waves (own_nets T.design T.clustering cluster)) net).clock) }
         ensures same { IsSameButWaves self.old self.new }
     {
         let rose = self.cluster.step_all()?;
@@ -137,8 +141,10 @@ impl<T: Terms> Part<T> {
 
     /// The piece of a net from a tick up to its clock, none where it isn't known further or isn't driven here.
     pub fn post(&self, net: u32, from: u32) -> Result<Option<Posted<T>>, AllocError>
-        ensures cut { IfOk result (λ posted. IfSome posted (λ piece. piece ≡ cut_of (wave_at self.now.waves net) from)) }
-        ensures new { IfOk result (λ posted. IsSome posted ↔ (IsDrivenHere self.now net × (from < (wave_at self.now.waves net).clock))) }
+        ensures cut { IfOk result (λ posted.
+            IfSome posted (λ piece. piece ≡ cut_of (wave_at self.now.waves net) from)) }
+        ensures new { IfOk result (λ posted.
+            IsSome posted ↔ (IsDrivenHere self.now net × (from < (wave_at self.now.waves net).clock))) }
     {
         let Some(clock) = self.cluster.out_clock(net) else {
             return Ok(None);
@@ -154,9 +160,13 @@ impl<T: Terms> Part<T> {
 
     /// Gives a piece to the input wave of its net. What the cluster refuses changes nothing.
     pub fn deliver(&mut self, posted: &Posted<T>) -> Result<(), AllocError>
-        ensures taken { (wave : WaveOf) → delivered self.old posted.now ≡ Ok wave → OnOk result (self.new.waves ≡ with_wave self.old.waves wave) }
+        ensures taken { (wave : WaveOf) → delivered self.old posted.now ≡ Ok wave
+            → OnOk result (self.new.waves ≡ with_wave self.old.waves wave) }
         ensures refused { (fault : Refusal) → delivered self.old posted.now ≡ Err fault → self.new ≡ self.old }
-        ensures passed { IsSome (input_slot self.old posted.now.net) → posted.now.from ≤ (wave_at self.old.waves posted.now.net).clock → (wave_at self.old.waves posted.now.net).clock < posted.now.to → OnOk result (IsPassed posted.now.net posted.now.to self.old.waves self.new.waves) }
+        ensures passed { IsSome (input_slot self.old posted.now.net)
+            → posted.now.from ≤ (wave_at self.old.waves posted.now.net).clock
+            → (wave_at self.old.waves posted.now.net).clock < posted.now.to
+            → OnOk result (IsPassed posted.now.net posted.now.to self.old.waves self.new.waves) }
         ensures same { IsSameButWaves self.old self.new }
     {
         self.given = self.given.saturating_add(1);
@@ -183,8 +193,10 @@ impl<T: Terms> Part<T> {
     /// Tells a promise to the input wave of its net. What is no input here counts as known.
     pub fn hear(&mut self, promise: Promise) -> Heard
         requires { IsRightIn T.design promise }
-        ensures answer { (heard : Hearing) → heard_at self.old promise (input_slot self.old promise.net) ≡ Ok heard → result ≡ heard }
-        ensures waves { (heard : Hearing) → heard_at self.old promise (input_slot self.old promise.net) ≡ Ok heard → self.new.waves ≡ with_wave self.old.waves (heard_wave (wave_at self.old.waves promise.net) promise) }
+        ensures answer { (heard : Hearing) → heard_at self.old promise (input_slot self.old promise.net) ≡ Ok heard
+            → result ≡ heard }
+        ensures waves { (heard : Hearing) → heard_at self.old promise (input_slot self.old promise.net) ≡ Ok heard
+            → self.new.waves ≡ with_wave self.old.waves (heard_wave (wave_at self.old.waves promise.net) promise) }
         ensures same { IsSameButWaves self.old self.new }
     {
         match self.cluster.hear(promise) {
@@ -203,7 +215,8 @@ impl<T: Terms> Part<T> {
     /// The other nets that they read, by rising number.
     pub fn inputs(&self) -> &[u32]
         ensures nets { result.now ≡ map (λ wave. wave.net) (inputs_of self.now) }
-        ensures read { (cluster : ℕ) → IsClusterOf T.design T.clustering cluster self.now → result.now ≡ read_nets T.design T.clustering cluster }
+        ensures read { (cluster : ℕ) → IsClusterOf T.design T.clustering cluster self.now
+            → result.now ≡ read_nets T.design T.clustering cluster }
     {
         self.cluster.inputs()
     }
@@ -218,7 +231,9 @@ impl<T: Terms> Part<T> {
     /// Whether every net that is driven here is known up to the horizon.
     pub fn complete(&self) -> bool
         ensures complete { result ≡ is_complete self.now }
-        ensures known { (cluster net : ℕ) → IsClusterOf T.design T.clustering cluster self.now → IsOwnNet T.design T.clustering cluster net → result ≡ true → (wave_at self.now.waves net).clock ≡ T.design.horizon }
+        ensures known { (cluster net : ℕ) → IsClusterOf T.design T.clustering cluster self.now
+            → IsOwnNet T.design T.clustering cluster net → result ≡ true
+            → (wave_at self.now.waves net).clock ≡ T.design.horizon }
     {
         self.cluster.complete()
     }
@@ -226,7 +241,8 @@ impl<T: Terms> Part<T> {
     /// The waves of the nets that are driven here and of the others that they read, given up.
     pub fn into_waves(self) -> Vec<Wave>
         ensures waves { result.items ≡ self.waves }
-        ensures whole { (cluster net : ℕ) → IsClusterOf T.design T.clustering cluster self → IsOwnNet T.design T.clustering cluster net → (wave_at self.waves net).base ≡ 0 }
+        ensures whole { (cluster net : ℕ) → IsClusterOf T.design T.clustering cluster self
+            → IsOwnNet T.design T.clustering cluster net → (wave_at self.waves net).base ≡ 0 }
         ensures exact { AllByRecursion (IsExactWaveIn T.design) result.items }
     {
         self.cluster.into_waves()

@@ -7,7 +7,8 @@ ghost use Rattle.cmb_design.specs.Exact.{nets_of};
 ghost use Rattle.cmb_core.specs.Clustering.{cluster_of, has_input};
 ghost use Rattle.cmb_core.specs.Onward.{GoesOn};
 ghost use Rattle.cmb_vcd.specs.Collector.{IsComplete, IsExactFor, wave_of};
-ghost use Rattle.cmb_run.specs.Rounds.{AreComplete, AreHandsOf, AreKnownTo, HasWorked, IsExchanged, IsPassedOn, IsServed, hand_at, known_at_home};
+ghost use Rattle.cmb_run.specs.Rounds.{AreComplete, AreHandsOf, AreKnownTo, HasWorked, IsExchanged, IsPassedOn};
+ghost use Rattle.cmb_run.specs.Rounds.{IsServed, hand_at, known_at_home};
 ghost use Rattle.cmb_run.specs.declared.run_fault.RunFault.TheVariants.{Memory};
 
 use crate::collected::Collected;
@@ -79,7 +80,8 @@ fn work_all<T: Terms + Send + Sync, R: Threads + Sync>(
 )
     requires { 0 < threads }
     ensures count { length hands.new ≡ length hands.old }
-    ensures each { (worker : ℕ) → worker < length hands.old → HasWorked T.design T.clustering (hand_at hands.old worker) (hand_at hands.new worker) }
+    ensures each { (worker : ℕ) → worker < length hands.old
+        → HasWorked T.design T.clustering (hand_at hands.old worker) (hand_at hands.new worker) }
 {
     thread::for_each_mut(rt, hands, threads, &|_, hand| hand.work());
 }
@@ -98,7 +100,9 @@ fn step<T: Terms + Send + Sync, R: Threads + Sync>(
 ) -> Result<(), AllocError>
     requires { AreHandsOf T.design T.clustering hands.old }
     ensures kept { OnOk result (AreHandsOf T.design T.clustering hands.new) }
-    ensures on { OnOk result ((worker : ℕ) → worker < T.clustering.clusters → GoesOn T.design T.clustering worker (hand_at hands.old worker).cluster.waves (hand_at hands.new worker).cluster.waves) }
+    ensures on { OnOk result ((worker : ℕ) → worker < T.clustering.clusters
+        → GoesOn T.design T.clustering worker (hand_at hands.old worker).cluster.waves
+        (hand_at hands.new worker).cluster.waves) }
 {
     let threads = threads_for(hands);
     work_all(rt, hands, threads);
@@ -156,7 +160,8 @@ fn pass_on<T: Terms>(clustering: &Clustering, hands: &mut [Hand<T>]) -> Result<(
     requires hands { AreHandsOf T.design T.clustering hands.old }
     ensures kept { OnOk result (AreHandsOf T.design T.clustering hands.new) }
     ensures exchanged { OnOk result (IsExchanged T.design T.clustering hands.new) }
-    ensures homes { OnOk result ((net : ℕ) → known_at_home T.clustering hands.new net ≡ known_at_home T.clustering hands.old net) }
+    ensures homes { OnOk result ((net : ℕ)
+        → known_at_home T.clustering hands.new net ≡ known_at_home T.clustering hands.old net) }
 {
     for reader in 0..hands.len() {
         pass_to(clustering, hands, reader)?;
@@ -173,7 +178,8 @@ fn round<T: Terms + Send + Sync, R: Threads + Sync>(
     requires clustering { clustering.now ≡ T.clustering }
     requires hands { AreHandsOf T.design T.clustering hands.old }
     ensures kept { OnOk result (AreHandsOf T.design T.clustering hands.new) }
-    ensures further { (tick : ℕ) → AreKnownTo T.design T.clustering tick hands.old → suc tick ≤ T.design.horizon → OnOk result (AreKnownTo T.design T.clustering (suc tick) hands.new) }
+    ensures further { (tick : ℕ) → AreKnownTo T.design T.clustering tick hands.old → suc tick ≤ T.design.horizon
+        → OnOk result (AreKnownTo T.design T.clustering (suc tick) hands.new) }
 {
     step(rt, hands)?;
     pass_on(clustering, hands)

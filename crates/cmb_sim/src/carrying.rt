@@ -59,8 +59,9 @@ fn write_counts<B: Source, D: Source, S: Source, C: Source, O: Sink>(
     }
 }
 
-/// Does what a line asks for, with what its inputs have: simulates and writes the waveforms, or counts and writes the counts.
-/// The faults are those of `simulate` and of `check_design`; 62 comes also where the counts couldn't be written.
+/// Does what a line asks for, with what its inputs have: simulates and writes the waveforms, or counts and writes the
+/// counts. The faults are those of `simulate` and of `check_design`; 62 comes also where the counts couldn't be
+/// written.
 pub fn carry_out<
     R: AllocGlobal + Threads + Wait + Sync,
     B: Source,

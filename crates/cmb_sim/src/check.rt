@@ -12,8 +12,8 @@ use cmb_count::{Counts, count_design};
 use cmb_design::Settings;
 use std::alloc::Global;
 
-/// Reads a netlist and the tables of delays, stimuli and clocks as `simulate` does, with the same faults, and counts what
-/// there is in the place of simulating it.
+/// Reads a netlist and the tables of delays, stimuli and clocks as `simulate` does, with the same faults, and counts
+/// what there is in the place of simulating it.
 pub fn check_design<B: Source, D: Source, S: Source, C: Source>(
     alloc: Global,
     bench: &mut B,

@@ -39,7 +39,8 @@ pub fn read_whole<S: Source>(alloc: Global, source: &mut S) -> Result<Vec<u8>, R
     ensures end { OnOk result (IsAtEnd (S.remaining source.new)) }
     ensures no_failure { OnOk result (S.failures source.new ≡ S.failures source.old) }
 
-    ensures too_long { result ≡ Err ReadFault.TooLong → IsTooLong (S.remaining source.old) × (S.failures source.new ≡ S.failures source.old) }
+    ensures too_long { result ≡ Err ReadFault.TooLong
+        → IsTooLong (S.remaining source.old) × (S.failures source.new ≡ S.failures source.old) }
     ensures failed { result ≡ Err ReadFault.Failed → S.failures source.new ≡ S.failures source.old + 1 }
     ensures memory { result ≡ Err ReadFault.Memory → S.failures source.new ≡ S.failures source.old }
 {

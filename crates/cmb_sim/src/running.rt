@@ -75,8 +75,8 @@ fn workers_text<R: AllocGlobal + Threads + Sync>(
     Ok(text)
 }
 
-// Net and tick pairs up to which several workers run as they are asked to. Above it, what they hand to one another takes longer
-// than the engine takes for all nets.
+// Net and tick pairs up to which several workers run as they are asked to. Above it, what they hand to one another
+// takes longer than the engine takes for all nets.
 const MOST_SHARED: u64 = 262_144;
 
 // Whether a run is so short that it doesn't matter who has which nets.
@@ -85,8 +85,8 @@ fn is_short(design: &Design) -> bool {
     nets.saturating_mul(u64::from(design.horizon())) <= MOST_SHARED
 }
 
-// Whether the engine carries all nets: where one worker has them all, and where several wouldn't pay. Where so, the numbers are
-// lawful.
+// Whether the engine carries all nets: where one worker has them all, and where several wouldn't pay. Where so, the
+// numbers are lawful.
 fn suits_engine(workers: u32, clusters: u32, design: &Design) -> bool
     ensures { result ≡ true → IsLawfulCount clusters × IsLawfulCount workers }
 {
@@ -125,7 +125,8 @@ fn write_by_workers<R: AllocGlobal + Threads + Wait + Sync, O: Sink>(
     ensures text { OnOk result (Appends (O.taken out.old) (O.taken out.new) (vcd design.now)) }
     ensures no_failure { OnOk result (O.failures out.new ≡ O.failures out.old) }
     ensures fits { OnOk result (CanRun (Mode.Free workers clusters) design.now) }
-    ensures fault { IfErr result (IsUnwritten (Mode.Free workers clusters) design.now (output (O.taken out.old) (O.taken out.new) (O.failures out.old) (O.failures out.new))) }
+    ensures fault { IfErr result (IsUnwritten (Mode.Free workers clusters) design.now
+        (output (O.taken out.old) (O.taken out.new) (O.failures out.old) (O.failures out.new))) }
 {
     let alloc = rt.alloc();
     let clustering = spread(alloc, design, clusters)?;
@@ -150,7 +151,8 @@ fn write_free<R: AllocGlobal + Threads + Wait + Sync, O: Sink>(
     ensures text { OnOk result (Appends (O.taken out.old) (O.taken out.new) (vcd design.now)) }
     ensures no_failure { OnOk result (O.failures out.new ≡ O.failures out.old) }
     ensures fits { OnOk result (CanRun (Mode.Free workers clusters) design.now) }
-    ensures fault { IfErr result (IsUnwritten (Mode.Free workers clusters) design.now (output (O.taken out.old) (O.taken out.new) (O.failures out.old) (O.failures out.new))) }
+    ensures fault { IfErr result (IsUnwritten (Mode.Free workers clusters) design.now
+        (output (O.taken out.old) (O.taken out.new) (O.failures out.old) (O.failures out.new))) }
 {
     if suits_engine(workers, clusters, design) {
         let written = write_team(rt, rt.alloc(), design, workers.min(clusters), out)?;
@@ -186,7 +188,8 @@ fn write_shared<R: AllocGlobal + Threads + Sync, O: Sink>(
     ensures text { OnOk result (Appends (O.taken out.old) (O.taken out.new) (vcd design.now)) }
     ensures no_failure { OnOk result (O.failures out.new ≡ O.failures out.old) }
     ensures fits { OnOk result (CanRun (Mode.SharedFree threads) design.now) }
-    ensures fault { IfErr result (IsUnwritten (Mode.SharedFree threads) design.now (output (O.taken out.old) (O.taken out.new) (O.failures out.old) (O.failures out.new))) }
+    ensures fault { IfErr result (IsUnwritten (Mode.SharedFree threads) design.now
+        (output (O.taken out.old) (O.taken out.new) (O.failures out.old) (O.failures out.new))) }
 {
     let _lawful = workers_of(threads)?;
     let written = write_team(rt, rt.alloc(), design, threads, out)?;
@@ -205,7 +208,8 @@ pub(crate) fn write_by<R: AllocGlobal + Threads + Wait + Sync, O: Sink>(
     ensures text { OnOk result (Appends (O.taken out.old) (O.taken out.new) (vcd design.now)) }
     ensures no_failure { OnOk result (O.failures out.new ≡ O.failures out.old) }
     ensures fits { OnOk result (CanRun mode design.now) }
-    ensures fault { IfErr result (IsUnwritten mode design.now (output (O.taken out.old) (O.taken out.new) (O.failures out.old) (O.failures out.new))) }
+    ensures fault { IfErr result (IsUnwritten mode design.now
+        (output (O.taken out.old) (O.taken out.new) (O.failures out.old) (O.failures out.new))) }
 {
     let text = match mode {
         Mode::Plain => plain_text(rt.alloc(), design)?,

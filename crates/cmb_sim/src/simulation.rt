@@ -5,7 +5,8 @@ ghost use Rattle.std.specs.Io.KnownBytes.{Appends};
 ghost use Rattle.cmb_vcd.specs.Vcd.{vcd};
 ghost use Rattle.cmb_sim.specs.Simulation.{IsOutcome, NoneFailedBut, failed_input, input, inputs_of, output, report_of};
 ghost use Rattle.cmb_sim.specs.Sources.{input_limit};
-ghost use Rattle.cmb_sim.specs.Stages.{CanRun, FoundDesign, HaveTextFault, IsUnwritten, LacksDesign, SpellAny, texts_of};
+ghost use Rattle.cmb_sim.specs.Stages.{CanRun, FoundDesign, HaveTextFault, IsUnwritten, LacksDesign, SpellAny};
+ghost use Rattle.cmb_sim.specs.Stages.{texts_of};
 
 use crate::fault::Fault;
 use crate::mode::Mode;
@@ -31,7 +32,7 @@ pub struct Report {
 }
 
 // The design that four texts spell.
-fn spelled_design(
+pub(crate) fn spelled_design(
     alloc: Global,
     bench: &[u8],
     delays: &[u8],
@@ -113,7 +114,8 @@ fn write_report<R: AllocGlobal + Threads + Wait + Sync, O: Sink>(
     ensures text { OnOk result (Appends (O.taken out.old) (O.taken out.new) (vcd design.now)) }
     ensures no_failure { OnOk result (O.failures out.new ≡ O.failures out.old) }
     ensures fits { OnOk result (CanRun mode design.now) }
-    ensures fault { IfErr result (IsUnwritten mode design.now (output (O.taken out.old) (O.taken out.new) (O.failures out.old) (O.failures out.new))) }
+    ensures fault { IfErr result (IsUnwritten mode design.now
+        (output (O.taken out.old) (O.taken out.new) (O.failures out.old) (O.failures out.new))) }
 {
     let written = write_by(rt, mode, design, out)?;
     Ok(Report {
@@ -128,8 +130,8 @@ fn write_report<R: AllocGlobal + Threads + Wait + Sync, O: Sink>(
 /// The four inputs are read whole, in order, before anything else: 60 where one has more than
 /// 16,777,216 bytes, 61 where a read of it failed. Then come the faults of the netlist (1 to 8), of the
 /// tables and the design (20 to 37) and of the mode (33, 40, 54). The text is written once the run is complete, in mode
-/// free while it runs: 62 where a write failed. `Memory` (70) comes where memory or a worker's thread was refused, in mode
-/// free also in the middle of the text. 53 would come in mode free where a run was stopped.
+/// free while it runs: 62 where a write failed. `Memory` (70) comes where memory or a worker's thread was refused, in
+/// mode free also in the middle of the text. 53 would come in mode free where a run was stopped.
 pub fn simulate<
     R: AllocGlobal + Threads + Wait + Sync,
     B: Source,

@@ -23,7 +23,8 @@ fn first_levels(
     requires design { engine.now.design ≡ design.now }
     requires clock { engine.now.clock ≡ 1 }
     ensures count { IfOk result (λ levels. length levels.items ≡ nets_of design.now) }
-    ensures levels { IfOk result (λ levels. (net : ℕ) → net < nets_of design.now → slice_index_or levels.items net X ≡ value design.now net 0) }
+    ensures levels { IfOk result (λ levels. (net : ℕ) → net < nets_of design.now
+        → slice_index_or levels.items net X ≡ value design.now net 0) }
 {
     let nets = design.netlist().len();
     let mut levels = Vec::with_capacity(alloc, nets)?;
@@ -57,7 +58,8 @@ pub fn tell_window(dump: &mut Dump<'_>, changed: &[Changed], upto: u32) -> Resul
     requires within { upto ≤ dump.old.design.horizon }
     requires nets { RisesWithin 0 (nets_of dump.old.design) changed.now }
     requires tells { Tells (value dump.old.design) (nets_of dump.old.design) dump.old.clock upto changed.now }
-    ensures text { OnOk result (made_text dump.old.design upto ≡ made_text dump.old.design dump.old.clock ++ dump.new.text) }
+    ensures text { OnOk result (made_text dump.old.design upto
+        ≡ made_text dump.old.design dump.old.clock ++ dump.new.text) }
     ensures clock { OnOk result (dump.new.clock ≡ upto) }
     ensures design { dump.new.design ≡ dump.old.design }
 {

@@ -1,6 +1,7 @@
 //! What was made of a design's text and not handed on.
 
-ghost use Rattle.std.specs.Prelude.{◌≡◌, ℕ, ◌+◌, ◌-◌, ◌^◌, ◌<◌, ◌≤◌, ◌++◌, List, Option, false, true, length, take, IfErr, IfOk, OnOk};
+ghost use Rattle.std.specs.Prelude.{◌≡◌, ℕ, ◌+◌, ◌-◌, ◌^◌, ◌<◌, ◌≤◌, ◌++◌, List, Option, false, true, length, take};
+ghost use Rattle.std.specs.Prelude.{IfErr, IfOk, OnOk};
 ghost use Rattle.std.specs.Io.KnownBytes.{Appends};
 ghost use Rattle.cmb_stream.specs.Parts.{made_text};
 ghost use Rattle.cmb_stream.specs.Streams.{IsBrokenOff};
@@ -89,12 +90,17 @@ impl<'a> Kept<'a> {
     /// Hands on what is kept. After an Err it isn't to be used again.
     pub fn give<S: Sink>(&mut self, sink: &mut S) -> Result<(), StreamFault>
         requires room { S.failures sink.old < 2 ^ 64 - 1 }
-        ensures text { (start : Option (List ℕ)) → Appends start (S.taken sink.old) (take self.old.given (vcd self.old.design)) → OnOk result (Appends start (S.taken sink.new) (take self.new.given (vcd self.old.design))) }
+        ensures text { (start : Option (List ℕ))
+            → Appends start (S.taken sink.old) (take self.old.given (vcd self.old.design))
+            → OnOk result (Appends start (S.taken sink.new) (take self.new.given (vcd self.old.design))) }
         ensures given { OnOk result (self.new.given ≡ length (made_text self.old.design self.old.clock)) }
         ensures design { self.new.design ≡ self.old.design }
         ensures clock { self.new.clock ≡ self.old.clock }
         ensures no_failure { OnOk result (S.failures sink.new ≡ S.failures sink.old) }
-        ensures fault { (start : Option (List ℕ)) → Appends start (S.taken sink.old) (take self.old.given (vcd self.old.design)) → IfErr result (IsBrokenOff self.old.design start (S.taken sink.new) (S.failures sink.old) (S.failures sink.new)) }
+        ensures fault { (start : Option (List ℕ))
+            → Appends start (S.taken sink.old) (take self.old.given (vcd self.old.design))
+            → IfErr result (IsBrokenOff self.old.design start (S.taken sink.new) (S.failures sink.old)
+            (S.failures sink.new)) }
     {
         match write_whole(sink, &self.text) {
             Ok(()) => {

@@ -1,6 +1,7 @@
 //! The text of a design as the engine goes on.
 
-ghost use Rattle.std.specs.Prelude.{◌≡◌, ℕ, ◌+◌, ◌-◌, ◌^◌, ◌<◌, ◌≤◌, ◌++◌, List, Option, false, true, length, slice_index_or, take, IfErr, IfOk, OnOk};
+ghost use Rattle.std.specs.Prelude.{◌≡◌, ℕ, ◌+◌, ◌-◌, ◌^◌, ◌<◌, ◌≤◌, ◌++◌, List, Option, false, true, length};
+ghost use Rattle.std.specs.Prelude.{slice_index_or, take, IfErr, IfOk, OnOk};
 ghost use Rattle.std.specs.Io.KnownBytes.{Appends};
 ghost use Rattle.cmb_wave.specs.declared.level.Level.TheVariants.{X};
 ghost use Rattle.cmb_design.specs.Exact.{nets_of};
@@ -115,12 +116,17 @@ impl<'a> Stream<'a> {
     /// Hands on what is kept. After an Err the stream isn't to be used again.
     pub fn give<S: Sink>(&mut self, sink: &mut S) -> Result<(), StreamFault>
         requires room { S.failures sink.old < 2 ^ 64 - 1 }
-        ensures text { (start : Option (List ℕ)) → Appends start (S.taken sink.old) (take self.old.given (vcd self.old.design)) → OnOk result (Appends start (S.taken sink.new) (take self.new.given (vcd self.old.design))) }
+        ensures text { (start : Option (List ℕ))
+            → Appends start (S.taken sink.old) (take self.old.given (vcd self.old.design))
+            → OnOk result (Appends start (S.taken sink.new) (take self.new.given (vcd self.old.design))) }
         ensures given { OnOk result (self.new.given ≡ length (made_text self.old.design self.old.clock)) }
         ensures design { OnOk result (self.new.design ≡ self.old.design) }
         ensures clock { OnOk result (self.new.clock ≡ self.old.clock) }
         ensures no_failure { OnOk result (S.failures sink.new ≡ S.failures sink.old) }
-        ensures fault { (start : Option (List ℕ)) → Appends start (S.taken sink.old) (take self.old.given (vcd self.old.design)) → IfErr result (IsBrokenOff self.old.design start (S.taken sink.new) (S.failures sink.old) (S.failures sink.new)) }
+        ensures fault { (start : Option (List ℕ))
+            → Appends start (S.taken sink.old) (take self.old.given (vcd self.old.design))
+            → IfErr result (IsBrokenOff self.old.design start (S.taken sink.new) (S.failures sink.old)
+            (S.failures sink.new)) }
     {
         self.kept.give(sink)
     }

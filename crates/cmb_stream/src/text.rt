@@ -40,7 +40,8 @@ pub fn write_rest<S: Sink>(stream: Stream<'_>, sink: &mut S) -> Result<u64, Stre
     ensures length { IfOk result (λ written. written ≡ length (vcd stream.entry.design)) }
     ensures text { OnOk result (Appends (S.taken sink.old) (S.taken sink.new) (vcd stream.entry.design)) }
     ensures no_failure { OnOk result (S.failures sink.new ≡ S.failures sink.old) }
-    ensures fault { IfErr result (IsBrokenOff stream.entry.design (S.taken sink.old) (S.taken sink.new) (S.failures sink.old) (S.failures sink.new)) }
+    ensures fault { IfErr result (IsBrokenOff stream.entry.design (S.taken sink.old) (S.taken sink.new)
+        (S.failures sink.old) (S.failures sink.new)) }
 {
     let mut stream = stream;
     while !stream.is_done() {
@@ -65,7 +66,8 @@ pub fn write_stream<S: Sink>(
     ensures length { IfOk result (λ written. written ≡ length (vcd design.now)) }
     ensures text { OnOk result (Appends (S.taken sink.old) (S.taken sink.new) (vcd design.now)) }
     ensures no_failure { OnOk result (S.failures sink.new ≡ S.failures sink.old) }
-    ensures fault { IfErr result (IsBrokenOff design.now (S.taken sink.old) (S.taken sink.new) (S.failures sink.old) (S.failures sink.new)) }
+    ensures fault { IfErr result (IsBrokenOff design.now (S.taken sink.old) (S.taken sink.new) (S.failures sink.old)
+        (S.failures sink.new)) }
 {
     let stream = Stream::open(alloc, design)?;
     write_rest(stream, sink)

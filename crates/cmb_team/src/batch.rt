@@ -121,7 +121,8 @@ impl<'a> Batch<'a> {
         requires place { suc place < length self.now.clocks }
         requires design { dump.old.design ≡ self.now.design }
         requires clock { dump.old.clock ≡ clock_at self.now place }
-        ensures text { OnOk result (made_text self.now.design (clock_at self.now (suc place)) ≡ made_text self.now.design (clock_at self.now place) ++ dump.new.text) }
+        ensures text { OnOk result (made_text self.now.design (clock_at self.now (suc place))
+            ≡ made_text self.now.design (clock_at self.now place) ++ dump.new.text) }
         ensures clock { OnOk result (dump.new.clock ≡ clock_at self.now (suc place)) }
         ensures design { dump.new.design ≡ dump.old.design }
         ensures order { clock_at self.now place < clock_at self.now (suc place) }

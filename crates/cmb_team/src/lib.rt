@@ -1,4 +1,5 @@
-//! The text of a whole design by several threads: one goes on with the engine, the others make the text of what it told.
+//! The text of a whole design by several threads: one goes on with the engine, the others make the text of what it
+//! told.
 #![tactic(auto)]
 
 mod batch;

@@ -89,7 +89,8 @@ impl<'a> Maker<'a> {
         requires { clock_at self 0 ≡ last_clock self }
         ensures design { IfOk result (λ maker. maker.design ≡ self.entry.design) }
         ensures first { IfOk result (λ maker. clock_at maker 0 ≡ clock_at self.entry 0) }
-        ensures later { IfOk result (λ maker. clock_at maker 0 < maker.design.horizon → clock_at maker 0 < last_clock maker) }
+        ensures later { IfOk result (λ maker. clock_at maker 0 < maker.design.horizon
+            → clock_at maker 0 < last_clock maker) }
     {
         let end = self.engine.clock().saturating_add(ticks);
         let mut maker = self;

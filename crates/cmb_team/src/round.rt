@@ -72,7 +72,8 @@ pub(crate) fn round<'a, R: Threads + Sync>(
     thread::join(
         rt,
         move || -> Vec<Teller<'_>>
-            requires { IsSync R.row × (1 ≤ vec_len tellers) × (length cuts.now ≡ suc (vec_len tellers)) × AreCuts batch.now cuts.now × AreTellersOf batch.now.design tellers.items }
+            requires { IsSync R.row × (1 ≤ vec_len tellers) × (length cuts.now ≡ suc (vec_len tellers))
+                × AreCuts batch.now cuts.now × AreTellersOf batch.now.design tellers.items }
         { told(rt, tellers, batch, cuts) },
         move || -> Result<Maker<'_>, AllocError>
             requires { clock_at maker 0 ≡ last_clock maker }

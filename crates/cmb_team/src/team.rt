@@ -1,6 +1,7 @@
 //! The text of a design by a team: a maker of windows, and tellers of their text.
 
-ghost use Rattle.std.specs.Prelude.{◌≡◌, ℕ, suc, ◌+◌, ◌<◌, ◌≤◌, ◌++◌, false, true, List, Option, length, slice_index_or, take, vec_len, IfErr, IfOk, OnOk};
+ghost use Rattle.std.specs.Prelude.{◌≡◌, ℕ, suc, ◌+◌, ◌<◌, ◌≤◌, ◌++◌, false, true, List, Option, length};
+ghost use Rattle.std.specs.Prelude.{slice_index_or, take, vec_len, IfErr, IfOk, OnOk};
 ghost use Rattle.std.specs.Prelude.{◌-◌, ◌^◌};
 ghost use Rattle.std.specs.Io.KnownBytes.{Appends};
 ghost use Rattle.cmb_stream.specs.Parts.{made_text};
@@ -36,7 +37,8 @@ fn ticks_of(stream: &Stream<'_>) -> u32 {
     (PART / dense).max(SHORT) as u32
 }
 
-/// The text of a design, by a maker of windows and tellers of their text. What was made of it and not handed on is kept.
+/// The text of a design, by a maker of windows and tellers of their text. What was made of it and not handed on is
+/// kept.
 #[derive(Drop)]
 pub(crate) struct Team<'a> {
     alloc: Global,
@@ -191,12 +193,17 @@ impl<'a> Team<'a> {
     /// Hands on what is kept. After an Err the team isn't to be used again.
     pub(crate) fn give<S: Sink>(&mut self, sink: &mut S) -> Result<(), StreamFault>
         requires room { S.failures sink.old < 2 ^ 64 - 1 }
-        ensures text { (start : Option (List ℕ)) → Appends start (S.taken sink.old) (take self.old.given (vcd self.old.design)) → OnOk result (Appends start (S.taken sink.new) (take self.new.given (vcd self.old.design))) }
+        ensures text { (start : Option (List ℕ))
+            → Appends start (S.taken sink.old) (take self.old.given (vcd self.old.design))
+            → OnOk result (Appends start (S.taken sink.new) (take self.new.given (vcd self.old.design))) }
         ensures given { OnOk result (self.new.given ≡ length (made_text self.old.design self.old.clock)) }
         ensures design { OnOk result (self.new.design ≡ self.old.design) }
         ensures clock { OnOk result (self.new.clock ≡ self.old.clock) }
         ensures no_failure { OnOk result (S.failures sink.new ≡ S.failures sink.old) }
-        ensures fault { (start : Option (List ℕ)) → Appends start (S.taken sink.old) (take self.old.given (vcd self.old.design)) → IfErr result (IsBrokenOff self.old.design start (S.taken sink.new) (S.failures sink.old) (S.failures sink.new)) }
+        ensures fault { (start : Option (List ℕ))
+            → Appends start (S.taken sink.old) (take self.old.given (vcd self.old.design))
+            → IfErr result (IsBrokenOff self.old.design start (S.taken sink.new) (S.failures sink.old)
+            (S.failures sink.new)) }
     {
         self.kept.give(sink)
     }

@@ -45,7 +45,8 @@ impl<'a> Teller<'a> {
         requires order { first ≤ last }
         requires within { last < length batch.now.clocks }
         ensures design { self.new.dump.design ≡ batch.now.design }
-        ensures text { OnOk result (made_text batch.now.design (clock_at batch.now last) ≡ made_text batch.now.design (clock_at batch.now first) ++ self.new.text.items) }
+        ensures text { OnOk result (made_text batch.now.design (clock_at batch.now last)
+            ≡ made_text batch.now.design (clock_at batch.now first) ++ self.new.text.items) }
         ensures order { OnOk result (clock_at batch.now first ≤ clock_at batch.now last) }
     {
         self.text.clear();

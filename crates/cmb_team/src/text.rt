@@ -109,7 +109,8 @@ fn write_by_team<R: Threads + Sync, S: Sink>(
     ensures length { IfOk result (λ written. written ≡ length (vcd team.entry.design)) }
     ensures text { OnOk result (Appends (S.taken sink.old) (S.taken sink.new) (vcd team.entry.design)) }
     ensures no_failure { OnOk result (S.failures sink.new ≡ S.failures sink.old) }
-    ensures fault { IfErr result (IsBrokenOff team.entry.design (S.taken sink.old) (S.taken sink.new) (S.failures sink.old) (S.failures sink.new)) }
+    ensures fault { IfErr result (IsBrokenOff team.entry.design (S.taken sink.old) (S.taken sink.new)
+        (S.failures sink.old) (S.failures sink.new)) }
 {
     let mut team = team;
     while !team.is_done() {
@@ -139,7 +140,8 @@ fn write_on<R: Threads + Sync, S: Sink>(
     ensures length { IfOk result (λ written. written ≡ length (vcd design.now)) }
     ensures text { OnOk result (Appends (S.taken sink.old) (S.taken sink.new) (vcd design.now)) }
     ensures no_failure { OnOk result (S.failures sink.new ≡ S.failures sink.old) }
-    ensures fault { IfErr result (IsBrokenOff design.now (S.taken sink.old) (S.taken sink.new) (S.failures sink.old) (S.failures sink.new)) }
+    ensures fault { IfErr result (IsBrokenOff design.now (S.taken sink.old) (S.taken sink.new) (S.failures sink.old)
+        (S.failures sink.new)) }
 {
     if !pays(&stream, design, dense) {
         return write_rest(stream, sink);
@@ -162,7 +164,8 @@ pub fn write_team<R: Threads + Sync, S: Sink>(
     ensures length { IfOk result (λ written. written ≡ length (vcd design.now)) }
     ensures text { OnOk result (Appends (S.taken sink.old) (S.taken sink.new) (vcd design.now)) }
     ensures no_failure { OnOk result (S.failures sink.new ≡ S.failures sink.old) }
-    ensures fault { IfErr result (IsBrokenOff design.now (S.taken sink.old) (S.taken sink.new) (S.failures sink.old) (S.failures sink.new)) }
+    ensures fault { IfErr result (IsBrokenOff design.now (S.taken sink.old) (S.taken sink.new) (S.failures sink.old)
+        (S.failures sink.new)) }
 {
     if threads < 2 {
         return write_stream(alloc, design, sink);

@@ -58,7 +58,8 @@ impl<'a> Window<'a> {
     pub(crate) fn tell(&self, dump: &mut Dump<'_>) -> Result<(), AllocError>
         requires design { dump.old.design ≡ self.now.design }
         requires clock { dump.old.clock ≡ self.now.from }
-        ensures text { OnOk result (made_text self.now.design self.now.upto ≡ made_text self.now.design self.now.from ++ dump.new.text) }
+        ensures text { OnOk result (made_text self.now.design self.now.upto
+            ≡ made_text self.now.design self.now.from ++ dump.new.text) }
         ensures clock { OnOk result (dump.new.clock ≡ self.now.upto) }
         ensures design { dump.new.design ≡ dump.old.design }
         ensures order { self.now.from < self.now.upto }

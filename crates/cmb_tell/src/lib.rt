@@ -1,5 +1,5 @@
-//! What the program says of a run beside the one line of a fault: a fault in words, with its file, its line and what stands there;
-//! how far the text is meanwhile; and what the run took.
+//! What the program says of a run beside the one line of a fault: a fault in words, with its file, its line and what
+//! stands there; how far the text is meanwhile; and what the run took.
 #![tactic(auto)]
 
 mod clocks;

@@ -27,8 +27,8 @@ fn is_line_end(byte: u8) -> bool {
     byte == b'\n' || byte == b'\r'
 }
 
-// The number of the line, counted from 1, of the first byte from an offset on that ends no line. A line ends with a line feed, a
-// carriage return, or both.
+// The number of the line, counted from 1, of the first byte from an offset on that ends no line. A line ends with a
+// line feed, a carriage return, or both.
 fn line_from(text: &[u8], offset: u64) -> u64 {
     let mut line: u64 = 1;
     let mut place: u64 = 0;

@@ -71,8 +71,9 @@ fn reading_fault(alloc: Global, given: &Given<'_>, table: Table) -> Option<Desig
     }
 }
 
-/// The table in which a fault stands that was found by reading and checking: all tables are read in order, and then their rows are
-/// checked in order, so it is the first that has a fault there. `None` where memory was wanting, or where none has this fault.
+/// The table in which a fault stands that was found by reading and checking: all tables are read in order, and then
+/// their rows are checked in order, so it is the first that has a fault there. `None` where memory was wanting, or
+/// where none has this fault.
 pub(crate) fn table_of(alloc: Global, given: &Given<'_>, fault: DesignFault) -> Option<Table> {
     for table in TABLES {
         if let Some(found) = reading_fault(alloc, given, table) {

@@ -1,7 +1,8 @@
 //! The waves of all nets, put together from pieces.
 
 ghost use Rattle.std.specs.Prelude.{◌≡◌, ◌≤◌, ◌<◌, ◌↔◌, length, IsTrue, IfOk, IfErr, OnOk, OnErr, Ok};
-ghost use Rattle.cmb_vcd.specs.Collector.{AreCollected, IsComplete, RefusesAs, adopted, collected, least, least_clock, new_collector, new_waves};
+ghost use Rattle.cmb_vcd.specs.Collector.{AreCollected, IsComplete, RefusesAs, adopted, collected, least, least_clock};
+ghost use Rattle.cmb_vcd.specs.Collector.{new_collector, new_waves};
 
 use crate::fault::CollectFault;
 use cmb_design::Design;
@@ -62,7 +63,8 @@ impl Collector {
         })
     }
 
-    /// Takes over the waves of a design's nets, one a net in the order of their numbers. Each goes from tick 0 to the horizon at most.
+    /// Takes over the waves of a design's nets, one a net in the order of their numbers. Each goes from tick 0 to the
+    /// horizon at most.
     pub fn of_waves(waves: Vec<Wave>, horizon: u32) -> Collector
         requires { AreCollected horizon waves.items }
         ensures { result ≡ record { waves = waves.items; horizon = horizon } }
@@ -70,8 +72,8 @@ impl Collector {
         Collector { waves, horizon }
     }
 
-    /// Goes on by a piece of a net, and gives the net's new clock. Of an overlapping piece the changes from the clock on are added.
-    /// A refused piece changes nothing. Faults: 52, 50, 51, 49, tested in this order, and 70.
+    /// Goes on by a piece of a net, and gives the net's new clock. Of an overlapping piece the changes from the clock
+    /// on are added. A refused piece changes nothing. Faults: 52, 50, 51, 49, tested in this order, and 70.
     pub fn take(&mut self, piece: &Piece) -> Result<u32, CollectFault>
         requires { piece.now.to ≤ self.old.horizon }
         ensures ok { OnOk result (collected self.old piece.now ≡ Ok self.new) }

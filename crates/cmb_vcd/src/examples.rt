@@ -3,7 +3,8 @@
 ghost use Rattle.std.specs.Prelude.{◌≡◌, codes, length};
 ghost use Rattle.cmb_design.specs.Examples.{inverter, latch, toggle};
 ghost use Rattle.cmb_design.specs.Value.{value};
-ghost use Rattle.cmb_vcd.specs.Examples.{inverter_text, latch_text, nothing, nothing_text, toggle_text, two_inputs, two_inputs_text};
+ghost use Rattle.cmb_vcd.specs.Examples.{inverter_text, latch_text, nothing, nothing_text, toggle_text, two_inputs};
+ghost use Rattle.cmb_vcd.specs.Examples.{two_inputs_text};
 ghost use Rattle.cmb_vcd.specs.Vcd.{code, part_text, vcd};
 
 /// No nets, up to tick 1.

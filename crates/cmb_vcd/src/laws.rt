@@ -11,7 +11,8 @@ ghost use Rattle.cmb_design.specs.Plain.{whole_waves};
 ghost use Rattle.cmb_design.specs.Value.{value};
 ghost use Rattle.cmb_vcd.specs.declared.fault.CollectFault.TheVariants.{Clash};
 ghost use Rattle.cmb_vcd.specs.Chosen.{vcd_of};
-ghost use Rattle.cmb_vcd.specs.Collector.{Collector, IsComplete, IsExactFor, adopted, collected, collected_level, least, new_collector, wave_of};
+ghost use Rattle.cmb_vcd.specs.Collector.{Collector, IsComplete, IsExactFor, adopted, collected, collected_level};
+ghost use Rattle.cmb_vcd.specs.Collector.{least, new_collector, wave_of};
 ghost use Rattle.cmb_vcd.specs.Vcd.{code, part_text, ticks_text, vcd};
 
 /// Codes of different nets differ.
@@ -22,31 +23,49 @@ pub fn codes_differ()
 /// The text as far as the levels are known depends on the known levels alone, and each part begins the later ones.
 /// It says nothing of a span, after tick 0, in which no net changes.
 pub fn text_grows()
-    ensures depends { (netlist : Netlist) (horizon : ℕ) (levels others : ℕ → ℕ → Level) (upto : ℕ) → ((net tick : ℕ) → net < length netlist.names → tick < upto → levels net tick ≡ others net tick) → part_text netlist horizon levels upto ≡ part_text netlist horizon others upto }
-    ensures begins { (netlist : Netlist) (horizon : ℕ) (levels : ℕ → ℕ → Level) (from to : ℕ) → from ≤ to → from < horizon → (rest : List ℕ) × (part_text netlist horizon levels to ≡ part_text netlist horizon levels from ++ rest) }
-    ensures still { (nets : ℕ) (levels : ℕ → ℕ → Level) (from more : ℕ) → 1 ≤ from → ((net tick : ℕ) → net < nets → from ≤ tick + 1 → tick + 1 < from + more → levels net tick ≡ levels net (tick + 1)) → ticks_text nets levels (from + more) ≡ ticks_text nets levels from }
+    ensures depends { (netlist : Netlist) (horizon : ℕ) (levels others : ℕ → ℕ → Level) (upto : ℕ)
+        → ((net tick : ℕ) → net < length netlist.names → tick < upto → levels net tick ≡ others net tick)
+        → part_text netlist horizon levels upto ≡ part_text netlist horizon others upto }
+    ensures begins { (netlist : Netlist) (horizon : ℕ) (levels : ℕ → ℕ → Level) (from to : ℕ) → from ≤ to
+        → from < horizon → (rest : List ℕ)
+        × (part_text netlist horizon levels to ≡ part_text netlist horizon levels from ++ rest) }
+    ensures still { (nets : ℕ) (levels : ℕ → ℕ → Level) (from more : ℕ) → 1 ≤ from
+        → ((net tick : ℕ) → net < nets → from ≤ tick + 1 → tick + 1 < from + more
+        → levels net tick ≡ levels net (tick + 1))
+        → ticks_text nets levels (from + more) ≡ ticks_text nets levels from }
 {}
 
-/// A new collector is exact, and stays so when it takes exact pieces, of which none is refused by 49, and when it takes exact waves over.
-/// One that is known further than its net's is to it as its changes from tick 0 on in one piece.
+/// A new collector is exact, and stays so when it takes exact pieces, of which none is refused by 49, and when it takes
+/// exact waves over. One that is known further than its net's is to it as its changes from tick 0 on in one piece.
 /// The text of an exact collector is that of the design, as far as all its waves are known.
 pub fn exact_collectors_stay_exact()
     ensures opens { (design : Design) → IsExactFor design (new_collector design) }
-    ensures takes { (design : Design) (collector next : Collector) (piece : Piece) → IsExactFor design collector → IsExactIn design piece → collected collector piece ≡ Ok next → IsExactFor design next }
-    ensures adopts { (design : Design) (collector : Collector) (wave : Wave) → IsExactFor design collector → wave.net < length collector.waves → wave.base ≡ 0 → IsExactWave (value design wave.net) design.horizon wave → IsExactFor design (adopted collector wave) }
-    ensures as_taken { (design : Design) (collector : Collector) (wave : Wave) → IsExactFor design collector → wave.net < length collector.waves → wave.base ≡ 0 → IsExactWave (value design wave.net) design.horizon wave → (wave_of collector.waves wave.net).clock < wave.clock → collected collector (cut_of wave 0) ≡ Ok (adopted collector wave) }
-    ensures no_clash { (design : Design) (collector : Collector) (piece : Piece) (tick : ℕ) → IsExactFor design collector → IsExactIn design piece → collected collector piece ≢ Err (Clash tick) }
-    ensures tells { (design : Design) (collector : Collector) (upto : ℕ) → IsExactFor design collector → upto ≤ least collector → part_text design.netlist design.horizon (collected_level collector.waves) upto ≡ part_text design.netlist design.horizon (value design) upto }
+    ensures takes { (design : Design) (collector next : Collector) (piece : Piece) → IsExactFor design collector
+        → IsExactIn design piece → collected collector piece ≡ Ok next → IsExactFor design next }
+    ensures adopts { (design : Design) (collector : Collector) (wave : Wave) → IsExactFor design collector
+        → wave.net < length collector.waves → wave.base ≡ 0 → IsExactWave (value design wave.net) design.horizon wave
+        → IsExactFor design (adopted collector wave) }
+    ensures as_taken { (design : Design) (collector : Collector) (wave : Wave) → IsExactFor design collector
+        → wave.net < length collector.waves → wave.base ≡ 0 → IsExactWave (value design wave.net) design.horizon wave
+        → (wave_of collector.waves wave.net).clock < wave.clock
+        → collected collector (cut_of wave 0) ≡ Ok (adopted collector wave) }
+    ensures no_clash { (design : Design) (collector : Collector) (piece : Piece) (tick : ℕ)
+        → IsExactFor design collector → IsExactIn design piece → collected collector piece ≢ Err (Clash tick) }
+    ensures tells { (design : Design) (collector : Collector) (upto : ℕ) → IsExactFor design collector
+        → upto ≤ least collector → part_text design.netlist design.horizon (collected_level collector.waves) upto
+        ≡ part_text design.netlist design.horizon (value design) upto }
 {}
 
 /// The whole waves of a design's nets make a complete and exact collector.
 pub fn whole_waves_are_collected()
-    ensures exact { (design : Design) → IsExactFor design (record { waves = whole_waves design; horizon = design.horizon }) }
-    ensures complete { (design : Design) → IsComplete (record { waves = whole_waves design; horizon = design.horizon }) }
+    ensures exact { (design : Design) → IsExactFor design
+        (record { waves = whole_waves design; horizon = design.horizon }) }
+    ensures complete { (design : Design)
+        → IsComplete (record { waves = whole_waves design; horizon = design.horizon }) }
 {}
 
-/// The text of all nets is that of the design. And where a design is a part of another, with the names and the levels of some of its
-/// nets, nets that are chosen from the part have the text there that they have in the whole.
+/// The text of all nets is that of the design. And where a design is a part of another, with the names and the levels
+/// of some of its nets, nets that are chosen from the part have the text there that they have in the whole.
 pub fn chosen_nets_have_their_text()
     ensures all { (design : Design) → vcd_of design (range_with_len 0 (nets_of design)) ≡ vcd design }
     ensures part { (design part : Design) (nets chosen : List ℕ) → part.horizon ≡ design.horizon

@@ -4,7 +4,8 @@ ghost use Rattle.std.specs.Prelude.{◌≡◌, ◌<◌, ◌≤◌, ◌++◌, len
 ghost use Rattle.std.specs.List.{list_all};
 ghost use Rattle.cmb_bench.specs.Netlist.{name_of};
 ghost use Rattle.cmb_vcd.specs.Chosen.{chosen_from};
-ghost use Rattle.cmb_vcd.specs.Vcd.{begins_identifier, code, continues_identifier, header, is_identifier, level_byte, reference, tick_line, var_line, var_lines};
+ghost use Rattle.cmb_vcd.specs.Vcd.{begins_identifier, code, continues_identifier, header, is_identifier, level_byte};
+ghost use Rattle.cmb_vcd.specs.Vcd.{reference, tick_line, var_line, var_lines};
 
 use cmb_bench::Netlist;
 use cmb_wave::Level;

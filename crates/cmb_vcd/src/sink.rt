@@ -1,6 +1,7 @@
 //! Where the text goes.
 
-ghost use Rattle.std.specs.Prelude.{◌≡◌, ℕ, ◌+◌, ◌-◌, ◌^◌, ◌<◌, ◌≤◌, List, [], Option, Some, ◌⊎◌, length, min, take, vec_capacity, vec_len, IfOk, IfErr, OnOk, OnErr};
+ghost use Rattle.std.specs.Prelude.{◌≡◌, ℕ, ◌+◌, ◌-◌, ◌^◌, ◌<◌, ◌≤◌, List, [], Option, Some, ◌⊎◌, length, min, take};
+ghost use Rattle.std.specs.Prelude.{vec_capacity, vec_len, IfOk, IfErr, OnOk, OnErr};
 ghost use Rattle.std.specs.Io.KnownBytes.{Appends, WriteAppends};
 ghost use Rattle.cmb_vcd.specs.Ends.{write_failures};
 
@@ -16,7 +17,8 @@ pub trait Sink {
     /// The bytes that were taken, where they are known.
     ghost taken: { Self → Option (List ℕ) };
 
-    /// How many writes have failed. A write that takes none of a text that isn't empty is one, and so is one that was interrupted.
+    /// How many writes have failed. A write that takes none of a text that isn't empty is one, and so is one that was
+    /// interrupted.
     ghost failures: { Self → ℕ };
 
     /// Takes some bytes from the front of the text, and says how many.
@@ -32,7 +34,8 @@ pub fn write_whole<S: Sink>(sink: &mut S, text: &[u8]) -> Result<(), usize>
     requires { S.failures sink.old < 2 ^ 64 - 1 }
     ensures ok { OnOk result (Appends (S.taken sink.old) (S.taken sink.new) text.now) }
     ensures no_failure { OnOk result (S.failures sink.new ≡ S.failures sink.old) }
-    ensures err { IfErr result (λ n. (n < length text.now) × Appends (S.taken sink.old) (S.taken sink.new) (take n text.now)) }
+    ensures err { IfErr result (λ n. (n < length text.now)
+        × Appends (S.taken sink.old) (S.taken sink.new) (take n text.now)) }
     ensures failed { OnErr result (S.failures sink.new ≡ S.failures sink.old + 1) }
 {
     let mut done = 0;
@@ -132,7 +135,8 @@ impl Sink for Limited {
         ensures count { IfOk result (λ n. n ≡ min (length text.now) self.old.left) }
         ensures left { IfOk result (λ n. self.new.left + n ≡ self.old.left) }
         ensures kept { OnErr result (self.new.left ≡ self.old.left) }
-        ensures full { OnErr result ((self.old.left ≡ 0) ⊎ (vec_capacity self.old.bytes < vec_len self.old.bytes + min (length text.now) self.old.left)) }
+        ensures full { OnErr result ((self.old.left ≡ 0)
+            ⊎ (vec_capacity self.old.bytes < vec_len self.old.bytes + min (length text.now) self.old.left)) }
     {
         let count = text.len().min(self.left);
         if (count == 0 && !text.is_empty())
@@ -146,8 +150,8 @@ impl Sink for Limited {
     }
 }
 
-/// A writer of std, with a count of its writes that failed: those that gave an error, of which an interrupted call is one, and
-/// those that took none of a text that isn't empty.
+/// A writer of std, with a count of its writes that failed: those that gave an error, of which an interrupted call is
+/// one, and those that took none of a text that isn't empty.
 #[derive(Drop)]
 pub struct ToWriter<W> {
     /// Where the bytes go.

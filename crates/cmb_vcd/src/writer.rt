@@ -71,9 +71,12 @@ impl<'a> VcdWriter<'a> {
         requires opened { IsFor self.old.design collector.now }
         requires later { IsNotBefore self.old.done (least collector.now) }
         ensures text { let level = collected_level collector.now.waves in
-            IfOk result (λ text. done_text self.old.design level (Some (least collector.now)) ≡ done_text self.old.design level self.old.done ++ text.items) }
+            IfOk result (λ text. done_text self.old.design level (Some (least collector.now))
+            ≡ done_text self.old.design level self.old.done ++ text.items) }
         ensures exact { let level = value self.old.design in
-            IsExactFor self.old.design collector.now → IfOk result (λ text. done_text self.old.design level (Some (least collector.now)) ≡ done_text self.old.design level self.old.done ++ text.items) }
+            IsExactFor self.old.design collector.now
+            → IfOk result (λ text. done_text self.old.design level (Some (least collector.now))
+            ≡ done_text self.old.design level self.old.done ++ text.items) }
         ensures done { OnOk result (self.new ≡ record self.old { done = Some (least collector.now) }) }
         ensures unchanged { OnErr result (self.new ≡ self.old) }
     {

@@ -59,7 +59,8 @@ impl Promise {
     /// The promise of a net that a word holds. Of a promise's own word it is that promise.
     pub fn of_word(net: u32, word: u64) -> Promise
         ensures parts { result ≡ record { net = net; count = word / 2 ^ 32; upto = word % 2 ^ 32 } }
-        ensures back { (promise : Promise) → promise.net ≡ net → promise.upto < 2 ^ 32 → word_of promise ≡ word → result ≡ promise }
+        ensures back { (promise : Promise) → promise.net ≡ net → promise.upto < 2 ^ 32 → word_of promise ≡ word
+            → result ≡ promise }
     {
         Promise {
             net,

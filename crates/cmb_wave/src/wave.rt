@@ -70,9 +70,22 @@ impl Model for Wave {
 
     ghost Value = { Wave };
 
-    ghost view = { λ w. record { net = w.net; base = w.base; clock = w.clock; count = w.count; kept = w.kept; changes = drop w.forgotten w.changes.items } };
+    ghost view = { λ w. record {
+      net = w.net;
+      base = w.base;
+      clock = w.clock;
+      count = w.count;
+      kept = w.kept;
+      changes = drop w.forgotten w.changes.items;
+    } };
 
-    ghost invariant = { λ w. record { trace : IsTrace w.kept w.base (drop w.forgotten w.changes.items) w.clock; head : w.forgotten ≤ length w.changes.items; few : w.count ≤ w.clock; first : w.base ≡ 0 → w.kept ≡ X; small : w.clock < 2 ^ 32 } };
+    ghost invariant = { λ w. record {
+      trace : IsTrace w.kept w.base (drop w.forgotten w.changes.items) w.clock;
+      head : w.forgotten ≤ length w.changes.items;
+      few : w.count ≤ w.clock;
+      first : w.base ≡ 0 → w.kept ≡ X;
+      small : w.clock < 2 ^ 32;
+    } };
 }
 
 // The tick of the first change, where it is none after the level `before`.
@@ -232,7 +245,8 @@ impl Wave {
         requires later { self.old.clock < to }
         requires trace { IsTrace (last_level self.old.kept self.old.changes) self.old.clock changes.items to }
         ensures ok { OnOk result (self.new ≡ grown self.old to changes.items) }
-        ensures piece { IfOk result (λ p. p ≡ record { net = self.old.net; from = self.old.clock; to = to; changes = changes.items }) }
+        ensures piece { IfOk result (λ p. p
+            ≡ record { net = self.old.net; from = self.old.clock; to = to; changes = changes.items }) }
         ensures unchanged { OnErr result (self.new ≡ self.old) }
     {
         let net = self.net;

@@ -168,6 +168,19 @@ carried_apart v x a b arrival period span ones unknown some full apart i fits =
     (apart (arrival + (i - arrival) / period * period) (omega (arith, div-add-mod' (i - arrival) period))))
     (cases_lt i arrival)
 
+-- where one sample arrives, its level is that of all places from it on
+pub carried-once : (seen word : ℕ → Level) (arrival period i : ℕ) → 64 - arrival ≤ period
+    → ((j : ℕ) → j < 64 → word j ≡ seen arrival) → arrival ≤ i → i < 64
+    → word i ≡ (if (i - arrival) % period == 0 then seen i else word (i - 1))
+carried-once seen word arrival period i once all from fits =
+    let whole : (i - arrival) % period ≡ i - arrival = mod-eq_of_lt (let h : i - arrival < period = omega (arith, once, from, fits) in h) in
+    ⊎_elim
+    (λ yes.
+    rw yes.0 (all i fits ∙ ap seen (let e : arrival ≡ i = omega (arith, yes.1, whole, from) in e)))
+    (λ other.
+    rw other.0 (all i fits ∙ sym (all (i - 1) (omega (arith, fits)))))
+    (eqb_tells ((i - arrival) % period) 0)
+
 -- ---- a flip-flop's levels: own ones repeated, and from the first arrival on the carried ones
 
 pub every-none : (own word input : ℕ → Level) (delay arrival period from i : ℕ) → 1 ≤ from

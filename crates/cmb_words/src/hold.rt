@@ -16,13 +16,15 @@ fn carried(seen: Word, arrival: u32, period: u32) -> Word
         → level_at_place result i
         ≡ (if (i - arrival) % period == 0 then level_at_place seen i else level_at_place result (i - 1)) }
 {
+    if period >= 64 - arrival {
+        return seen.everywhere(arrival);
+    }
     let arrivals = every(arrival, period);
-    let reach = period.min(64 - arrival);
     let mut ones = seen.ones & arrivals;
     let mut unknown = seen.unknown & arrivals;
     let mut span: u32 = 1;
-    'spans: while span < reach {
-        let step = span.min(reach - span);
+    'spans: while span < period {
+        let step = span.min(period - span);
         ones |= ones << step;
         unknown |= unknown << step;
         span += step;

@@ -56,8 +56,8 @@ fn open(
     }
 }
 
-// Whether standard input can be read at all. Where it is closed, the first file that is opened takes its place, and would be read
-// as the netlist.
+// Whether standard input can be read at all. Where it is closed, the first file that is opened takes its place, and
+// would be read as the netlist.
 fn has_input(rt: &HostRuntime) -> bool {
     rt.stdin().read(&mut []).is_ok()
 }
@@ -144,8 +144,8 @@ fn tell_stats(
     }
 }
 
-// Opens the tables, and hands all over to what the line asks for. Only `main` may lend the runtime as one that starts threads, so
-// it comes once more as that.
+// Opens the tables, and hands all over to what the line asks for. Only `main` may lend the runtime as one that starts
+// threads, so it comes once more as that.
 fn do_line<R: AllocGlobal + Threads + Wait + Sync>(
     rt: &HostRuntime,
     threads: &R,

@@ -83,8 +83,8 @@ impl ExactCluster {
         }
     }
 
-    /// The piece of a net that is driven here from a tick up to its clock. None of any other net, and where its clock isn't
-    /// above the tick.
+    /// The piece of a net that is driven here from a tick up to its clock. None of any other net, and where its clock
+    /// isn't above the tick.
     pub fn post(&self, net: u32, from: u32) -> Result<Option<Piece>, AllocError>
         ensures { IfOk result (λ piece. IfSome piece (IsExactIn self.now)) }
     {

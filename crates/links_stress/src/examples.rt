@@ -1,5 +1,5 @@
-//! The worked examples of boards and links, over a flip-flop q (net 0) that samples its own inverse d (net 1) at ticks 2, 6 and
-//! 10: q changes at 0, 3, 7 and 11.
+//! The worked examples of boards and links, over a flip-flop q (net 0) that samples its own inverse d (net 1) at ticks
+//! 2, 6 and 10: q changes at 0, 3, 7 and 11.
 
 ghost use Rattle.std.specs.Prelude.{◌≡◌, IfOk};
 

@@ -38,9 +38,12 @@ pub struct Table {
 /// Opens a board for the two clusters of a circuit.
 pub fn open_board(alloc: Global, circuit: &Circuit, workers: Workers) -> Result<Table, Trouble>
     requires { workers ≡ 2 }
-    ensures first { IfOk result (λ t. t.first ≡ new_seat t.board (terms circuit.now.design circuit.now.clustering 2) false 0) }
-    ensures second { IfOk result (λ t. t.second ≡ new_seat t.board (terms circuit.now.design circuit.now.clustering 2) false 1) }
-    ensures last { IfOk result (λ t. t.last ≡ new_seat t.board (terms circuit.now.design circuit.now.clustering 2) true 2) }
+    ensures first { IfOk result (λ t. t.first
+        ≡ new_seat t.board (terms circuit.now.design circuit.now.clustering 2) false 0) }
+    ensures second { IfOk result (λ t. t.second
+        ≡ new_seat t.board (terms circuit.now.design circuit.now.clustering 2) false 1) }
+    ensures last { IfOk result (λ t. t.last
+        ≡ new_seat t.board (terms circuit.now.design circuit.now.clustering 2) true 2) }
 {
     let (board, mut seats) = Board::open(alloc, &circuit.design, &circuit.clustering, workers)?;
     let first = seats.remove(0);

@@ -1,4 +1,5 @@
-//! A worker: a cluster that is driven by what comes through a link and stands on the board, and tells what it finds by both.
+//! A worker: a cluster that is driven by what comes through a link and stands on the board, and tells what it finds by
+//! both.
 
 ghost use Rattle.std.specs.Prelude.{◌≡◌, IfOk};
 
@@ -51,8 +52,8 @@ impl<'a> Desk<'a> {
         }
     }
 
-    /// Opens the worker's cluster and works until the stop word is raised. Gives the watch back, or raises the stop word
-    /// where something is wrong.
+    /// Opens the worker's cluster and works until the stop word is raised. Gives the watch back, or raises the stop
+    /// word where something is wrong.
     pub fn work<R: Wait>(self, rt: &R, alloc: Global) -> Result<Watch<'a>, Trouble> {
         let Desk {
             mut watch,
@@ -143,7 +144,8 @@ impl<'a> Worker<'a> {
         }
     }
 
-    // Publishes how far the told net is known, and puts what is new of it. Where the link is full, a longer piece goes later.
+    // Publishes how far the told net is known, and puts what is new of it. Where the link is full, a longer piece goes
+    // later.
     fn tell<R: Wait>(&mut self, rt: &R) -> Result<(), Trouble> {
         if let Some(promise) = self.cluster.promise(self.nets.told) {
             if promise.upto > self.told {

@@ -10,9 +10,9 @@
 //! - `still`: an AND gate is opened once, given nothing and stepped so often.
 //!
 //! The stored run follows by hand. Both inputs of the AND gate are 0, 1, 0, 1 .. from tick 0 on, and its delay is 1, so
-//! it is x at tick 0 and then 0, 1, 0, 1 ..: H - 1 changes in one step. The ring is x at tick 0, 1 at tick 1, since e is 0
-//! at tick 0, and turns at each later tick, since e is 1 from tick 1 on: H - 1 changes, in H steps of one tick each, and
-//! one more step doesn't go on. A gate of which nothing is given is known up to its delay, by its first step.
+//! it is x at tick 0 and then 0, 1, 0, 1 ..: H - 1 changes in one step. The ring is x at tick 0, 1 at tick 1, since e
+//! is 0 at tick 0, and turns at each later tick, since e is 1 from tick 1 on: H - 1 changes, in H steps of one tick
+//! each, and one more step doesn't go on. A gate of which nothing is given is known up to its delay, by its first step.
 #![tactic(auto)]
 
 ghost use Rattle.std.specs.Prelude.{◌≡◌, ◌<◌, length};

@@ -22,9 +22,15 @@ use std::test::Fail;
 // Trims a cluster and then steps a net. The answer is that of the cluster as it was, and the cluster is then that one
 // after the same step, less what it forgot.
 fn trim_and_step(cluster: &mut Cluster, net: u32) -> Result<Option<Piece>, AllocError>
-    ensures answer { (design : Design) (clustering : Clustering) (number : ℕ) → IsExactCluster design clustering number cluster.old → IsOwnNet design clustering number net → IfOk result (λ part. part ≡ step_answer design cluster.old.waves (wave_at cluster.old.waves net)) }
-    ensures after { (design : Design) (clustering : Clustering) (number : ℕ) → IsExactCluster design clustering number cluster.old → IsOwnNet design clustering number net → OnOk result (IsTrimOf (record cluster.old { waves = step_waves design cluster.old.waves (wave_at cluster.old.waves net) }) cluster.new) }
-    ensures exact { (design : Design) (clustering : Clustering) (number : ℕ) → IsExactCluster design clustering number cluster.old → IsExactCluster design clustering number cluster.new }
+    ensures answer { (design : Design) (clustering : Clustering) (number : ℕ)
+        → IsExactCluster design clustering number cluster.old → IsOwnNet design clustering number net
+        → IfOk result (λ part. part ≡ step_answer design cluster.old.waves (wave_at cluster.old.waves net)) }
+    ensures after { (design : Design) (clustering : Clustering) (number : ℕ)
+        → IsExactCluster design clustering number cluster.old → IsOwnNet design clustering number net
+        → OnOk result (IsTrimOf (record
+        cluster.old { waves = step_waves design cluster.old.waves (wave_at cluster.old.waves net) }) cluster.new) }
+    ensures exact { (design : Design) (clustering : Clustering) (number : ℕ)
+        → IsExactCluster design clustering number cluster.old → IsExactCluster design clustering number cluster.new }
 {
     trims_change_no_answer();
     cluster.trim();
@@ -35,7 +41,9 @@ fn trim_and_step(cluster: &mut Cluster, net: u32) -> Result<Option<Piece>, Alloc
 
 // Trims a cluster and then gives it a piece. It refuses what the cluster as it was refuses, and for the same reason.
 fn trim_and_deliver(cluster: &mut Cluster, piece: &Piece) -> Result<u32, DeliverFault>
-    ensures { (design : Design) (clustering : Clustering) (number : ℕ) → IsExactCluster design clustering number cluster.old → IfErr result (λ fault. RefusesDelivery fault (delivered cluster.old piece.now)) }
+    ensures { (design : Design) (clustering : Clustering) (number : ℕ)
+        → IsExactCluster design clustering number cluster.old
+        → IfErr result (λ fault. RefusesDelivery fault (delivered cluster.old piece.now)) }
 {
     trims_change_no_answer();
     cluster.trim();
@@ -44,7 +52,9 @@ fn trim_and_deliver(cluster: &mut Cluster, piece: &Piece) -> Result<u32, Deliver
 
 // Trims a cluster and then tells it a promise. The answer is that of the cluster as it was.
 fn trim_and_hear(cluster: &mut Cluster, promise: Promise) -> Result<Heard, Stranger>
-    ensures { (design : Design) (clustering : Clustering) (number : ℕ) → IsExactCluster design clustering number cluster.old → result ≡ heard_at cluster.old promise (input_slot cluster.old promise.net) }
+    ensures { (design : Design) (clustering : Clustering) (number : ℕ)
+        → IsExactCluster design clustering number cluster.old
+        → result ≡ heard_at cluster.old promise (input_slot cluster.old promise.net) }
 {
     trims_change_no_answer();
     cluster.trim();

@@ -69,7 +69,8 @@ pub fn table(alloc: Global, header: &str, rows: &str) -> Result<String, AllocErr
 
 const CODES: &str = "!\"#$%&'";
 
-/// The text of at most seven nets: their references, and the lines behind the header, `$dumpvars` and its `$end` left out.
+/// The text of at most seven nets: their references, and the lines behind the header, `$dumpvars` and its `$end` left
+/// out.
 pub fn text_of(alloc: Global, references: &str, body: &str) -> Result<String, AllocError> {
     let mut text = String::from_str(
         alloc,

@@ -129,8 +129,8 @@ fn words_put_together(rt: HostRuntime) {
     begins_with(&rt, word.repeated_from(2), &[One, One, One, One]);
 }
 
-// The flip-flop gets samples, with a delay of 2, at place 3 and every third place after it: 1 at place 3, x at place 6, and
-// 0 at place 9 and from there on.
+// The flip-flop gets samples, with a delay of 2, at place 3 and every third place after it: 1 at place 3, x at place 6,
+// and 0 at place 9 and from there on.
 #[test]
 fn a_flip_flop(rt: HostRuntime) {
     let own = word_of(&rt, &[Zero, Zero]);

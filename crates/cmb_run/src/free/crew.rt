@@ -195,7 +195,8 @@ fn add_workers<T: Terms>(
     requires each { clustering.now.clusters ≡ workers }
     requires seats { seats.old.items ≡ new_seats (arc_value board.now) (terms design.now clustering.now workers) }
     requires count { vec_len seats.old ≡ workers + 1 }
-    ensures { OnOk result (seats.new.items ≡ drop workers (new_seats (arc_value board.now) (terms design.now clustering.now workers))) }
+    ensures { OnOk result (seats.new.items
+        ≡ drop workers (new_seats (arc_value board.now) (terms design.now clustering.now workers))) }
 {
     for number in 0..workers.count() {
         let seat = seats.remove(0);
@@ -244,9 +245,11 @@ fn open_board(
     clustering: &Clustering,
     workers: Workers,
 ) -> Result<(Arc<Board>, Vec<Seat>), AllocError>
-    ensures seats { IfOk result (λ opened. opened.1.items ≡ new_seats (arc_value opened.0) (terms design.now clustering.now workers)) }
+    ensures seats { IfOk result (λ opened.
+        opened.1.items ≡ new_seats (arc_value opened.0) (terms design.now clustering.now workers)) }
     ensures count { IfOk result (λ opened. vec_len opened.1 ≡ workers + 1) }
-    ensures board { IfOk result (λ opened. All (IsSeatOf (arc_value opened.0) (terms design.now clustering.now workers)) opened.1.items) }
+    ensures board { IfOk result (λ opened.
+        All (IsSeatOf (arc_value opened.0) (terms design.now clustering.now workers)) opened.1.items) }
 {
     let (board, seats) = Board::open(alloc, design, clustering, workers)?;
     Ok((Arc::new(alloc, board)?, seats))

@@ -60,10 +60,12 @@ impl<'a, T: Terms> Teller<'a, T> {
     /// used again.
     pub fn tell<S: Sink>(&mut self, collected: &Collected<T>, sink: &mut S) -> Result<(), RunFault>
         requires room { S.failures sink.old < 2 ^ 64 - 1 }
-        ensures ok { (start : Option (List ℕ)) → Appends start (S.taken sink.old) (told T.design self.old) → OnOk result (Appends start (S.taken sink.new) (told T.design self.new)) }
+        ensures ok { (start : Option (List ℕ)) → Appends start (S.taken sink.old) (told T.design self.old)
+            → OnOk result (Appends start (S.taken sink.new) (told T.design self.new)) }
         ensures upto { OnOk result (IsToldTo T.design self.new (least collected.now)) }
         ensures no_failure { OnOk result (S.failures sink.new ≡ S.failures sink.old) }
-        ensures fault { (start : Option (List ℕ)) → Appends start (S.taken sink.old) (told T.design self.old) → IfErr result (IsCutAt T.design start (S.taken sink.new) (S.failures sink.old) (S.failures sink.new)) }
+        ensures fault { (start : Option (List ℕ)) → Appends start (S.taken sink.old) (told T.design self.old)
+            → IfErr result (IsCutAt T.design start (S.taken sink.new) (S.failures sink.old) (S.failures sink.new)) }
     {
         let collector = collected.collector();
         let least = collector.least();

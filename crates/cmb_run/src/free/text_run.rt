@@ -45,7 +45,8 @@ fn tell_meanwhile<T: Terms, S: Sink, R: Wait>(
     ensures within { OnOk result (IsWithin T.design teller.new) }
     ensures text { OnOk result (Appends (S.taken sink.old) (S.taken sink.new) (told T.design teller.new)) }
     ensures no_failure { OnOk result (S.failures sink.new ≡ S.failures sink.old) }
-    ensures fault { IfErr result (IsCutAt T.design (S.taken sink.old) (S.taken sink.new) (S.failures sink.old) (S.failures sink.new)) }
+    ensures fault { IfErr result (IsCutAt T.design (S.taken sink.old) (S.taken sink.new) (S.failures sink.old)
+        (S.failures sink.new)) }
 {
     let mut fresh = 0;
     let mut idle = Idle::new();
@@ -81,8 +82,11 @@ fn tell_all<T: Terms, S: Sink, R: Wait>(
 ) -> Result<u64, RunFault>
     requires room { S.failures sink.old < 2 ^ 64 - 1 }
     requires begin { teller.old ≡ None }
-    ensures given { IfOk result (λ given. IsGiven T.design (S.taken sink.old) (S.taken sink.new) (S.failures sink.old) (S.failures sink.new) (least collected.new) given) }
-    ensures fault { IfErr result (IsCutAt T.design (S.taken sink.old) (S.taken sink.new) (S.failures sink.old) (S.failures sink.new)) }
+    ensures given { IfOk result (λ given.
+        IsGiven T.design (S.taken sink.old) (S.taken sink.new) (S.failures sink.old) (S.failures sink.new)
+        (least collected.new) given) }
+    ensures fault { IfErr result (IsCutAt T.design (S.taken sink.old) (S.taken sink.new) (S.failures sink.old)
+        (S.failures sink.new)) }
 {
     tell_meanwhile(rt, lookout, started, collected, teller, sink)?;
     teller.tell(collected, sink)?;
@@ -119,8 +123,11 @@ fn tell_new<T: Terms, S: Sink, R: Wait>(
 ) -> Result<u64, RunFault>
     requires room { S.failures sink.old < 2 ^ 64 - 1 }
     requires design { design.now ≡ T.design }
-    ensures given { IfOk result (λ given. IsGiven T.design (S.taken sink.old) (S.taken sink.new) (S.failures sink.old) (S.failures sink.new) (least collected.new) given) }
-    ensures fault { IfErr result (IsCutAt T.design (S.taken sink.old) (S.taken sink.new) (S.failures sink.old) (S.failures sink.new)) }
+    ensures given { IfOk result (λ given.
+        IsGiven T.design (S.taken sink.old) (S.taken sink.new) (S.failures sink.old) (S.failures sink.new)
+        (least collected.new) given) }
+    ensures fault { IfErr result (IsCutAt T.design (S.taken sink.old) (S.taken sink.new) (S.failures sink.old)
+        (S.failures sink.new)) }
 {
     let mut teller = Teller::<T>::open(alloc, design)?;
     tell_all(rt, lookout, started, collected, &mut teller, sink)
@@ -146,8 +153,11 @@ fn tell_in<
 ) -> Result<u64, RunFault>
     requires room { S.failures sink.old < 2 ^ 64 - 1 }
     requires design { design.now ≡ T.design }
-    ensures given { IfOk result (λ given. IsGiven T.design (S.taken sink.old) (S.taken sink.new) (S.failures sink.old) (S.failures sink.new) (least collected.new) given) }
-    ensures fault { IfErr result (IsCutAt T.design (S.taken sink.old) (S.taken sink.new) (S.failures sink.old) (S.failures sink.new)) }
+    ensures given { IfOk result (λ given.
+        IsGiven T.design (S.taken sink.old) (S.taken sink.new) (S.failures sink.old) (S.failures sink.new)
+        (least collected.new) given) }
+    ensures fault { IfErr result (IsCutAt T.design (S.taken sink.old) (S.taken sink.new) (S.failures sink.old)
+        (S.failures sink.new)) }
 {
     let Crew {
         workers,
@@ -182,8 +192,11 @@ fn tell_crew<T: Terms + Send + Sync, G: Turnstile + Sync, S: Sink, R: Threads + 
 ) -> (Collected<T>, Result<u64, RunFault>)
     requires room { S.failures sink.old < 2 ^ 64 - 1 }
     requires design { design.now ≡ T.design }
-    ensures given { IfOk result.1 (λ given. IsGiven T.design (S.taken sink.old) (S.taken sink.new) (S.failures sink.old) (S.failures sink.new) (least result.0) given) }
-    ensures fault { IfErr result.1 (IsCutAt T.design (S.taken sink.old) (S.taken sink.new) (S.failures sink.old) (S.failures sink.new)) }
+    ensures given { IfOk result.1 (λ given.
+        IsGiven T.design (S.taken sink.old) (S.taken sink.new) (S.failures sink.old) (S.failures sink.new)
+        (least result.0) given) }
+    ensures fault { IfErr result.1 (IsCutAt T.design (S.taken sink.old) (S.taken sink.new) (S.failures sink.old)
+        (S.failures sink.new)) }
 {
     let (back, collected, given) = thread::scope(
         thread::scope_env(),
@@ -192,8 +205,11 @@ fn tell_crew<T: Terms + Send + Sync, G: Turnstile + Sync, S: Sink, R: Threads + 
             requires room { S.failures sink.now < 2 ^ 64 - 1 }
             requires design { design.now ≡ T.design }
             ensures name { result.0.ghost_name ≡ sink.entry.ghost_name }
-            ensures given { IfOk result.2 (λ given. IsGiven T.design (S.taken sink.entry.now) (S.taken result.0.now) (S.failures sink.entry.now) (S.failures result.0.now) (least result.1) given) }
-            ensures fault { IfErr result.2 (IsCutAt T.design (S.taken sink.entry.now) (S.taken result.0.now) (S.failures sink.entry.now) (S.failures result.0.now)) }
+            ensures given { IfOk result.2 (λ given.
+                IsGiven T.design (S.taken sink.entry.now) (S.taken result.0.now) (S.failures sink.entry.now)
+                (S.failures result.0.now) (least result.1) given) }
+            ensures fault { IfErr result.2 (IsCutAt T.design (S.taken sink.entry.now) (S.taken result.0.now)
+                (S.failures sink.entry.now) (S.failures result.0.now)) }
         {
             let given = tell_in(rt, alloc, scope, design, crew, gate, &mut collected, sink);
             (sink, collected, given)
@@ -229,9 +245,11 @@ fn run_named<T: Terms + Send + Sync, G: Turnstile + Sync, S: Sink, R: Threads + 
     requires clustering { clustering.now ≡ T.clustering }
     requires nets { length clustering.now.assign ≡ nets_of design.now }
     requires each { clustering.now.clusters ≡ workers }
-    ensures whole { IfOk result (λ given. (given ≡ length (vcd design.now)) × Appends (S.taken sink.old) (S.taken sink.new) (vcd design.now)) }
+    ensures whole { IfOk result (λ given.
+        (given ≡ length (vcd design.now)) × Appends (S.taken sink.old) (S.taken sink.new) (vcd design.now)) }
     ensures no_failure { OnOk result (S.failures sink.new ≡ S.failures sink.old) }
-    ensures fault { IfErr result (IsCutAt design.now (S.taken sink.old) (S.taken sink.new) (S.failures sink.old) (S.failures sink.new)) }
+    ensures fault { IfErr result (IsCutAt design.now (S.taken sink.old) (S.taken sink.new) (S.failures sink.old)
+        (S.failures sink.new)) }
 {
     let crew = Crew::<T>::open(alloc, design, clustering, workers)?;
     let collected = Collected::<T>::open(alloc, design)?;
@@ -241,8 +259,8 @@ fn run_named<T: Terms + Send + Sync, G: Turnstile + Sync, S: Sink, R: Threads + 
 
 /// Simulates a design as `run_free` does, and writes its text while the workers run. Gives the text's
 /// length. Whatever the fault, the sink took a beginning of the text. A failed write stops the
-/// run, and the answer is 62 then and only then, whatever else happened. Else 70 comes where memory or a worker's thread was refused,
-/// and 53 where the run was stopped before all was known.
+/// run, and the answer is 62 then and only then, whatever else happened. Else 70 comes where memory or a worker's
+/// thread was refused, and 53 where the run was stopped before all was known.
 pub fn run_free_text<G: Turnstile + Sync, S: Sink, R: Threads + Wait + Sync>(
     rt: &R,
     alloc: Global,
@@ -254,9 +272,11 @@ pub fn run_free_text<G: Turnstile + Sync, S: Sink, R: Threads + Wait + Sync>(
 ) -> Result<u64, RunFault>
     requires room { S.failures sink.old < 2 ^ 64 - 1 }
     requires nets { length clustering.now.assign ≡ nets_of design.now }
-    ensures whole { IfOk result (λ given. (given ≡ length (vcd design.now)) × Appends (S.taken sink.old) (S.taken sink.new) (vcd design.now)) }
+    ensures whole { IfOk result (λ given.
+        (given ≡ length (vcd design.now)) × Appends (S.taken sink.old) (S.taken sink.new) (vcd design.now)) }
     ensures no_failure { OnOk result (S.failures sink.new ≡ S.failures sink.old) }
-    ensures fault { IfErr result (IsCutAt design.now (S.taken sink.old) (S.taken sink.new) (S.failures sink.old) (S.failures sink.new)) }
+    ensures fault { IfErr result (IsCutAt design.now (S.taken sink.old) (S.taken sink.new) (S.failures sink.old)
+        (S.failures sink.new)) }
 {
     let merged = clustering.merged(alloc, workers.count())?;
     run_named::<Brand, G, S, R>(rt, alloc, design, &merged, workers, gate, sink)

@@ -213,8 +213,8 @@ fn is_known(found: Promise) -> bool {
         || found == promise(4, 12)
 }
 
-// Looks until the horizon is found. The watch compares each answer with the earlier ones, and all have to be of those that
-// are published.
+// Looks until the horizon is found. The watch compares each answer with the earlier ones, and all have to be of those
+// that are published.
 fn look_all(mut watch: Watch<'_>) -> Result<(), Trouble> {
     for _ in 0..TURNS {
         let found = watch.look(0)?;

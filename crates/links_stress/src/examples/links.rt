@@ -1,5 +1,5 @@
-//! Links that hold one piece: what they do when they are full or empty, and what they hand from one thread to another. And which
-//! capacities of links and numbers of workers are refused.
+//! Links that hold one piece: what they do when they are full or empty, and what they hand from one thread to another.
+//! And which capacities of links and numbers of workers are refused.
 
 ghost use Rattle.std.specs.Prelude.{◌≡◌, [], ◌∷◌, IfOk};
 ghost use Rattle.cmb_design.specs.Exact.{IsExactIn};
@@ -130,7 +130,8 @@ pub fn full_link<R: Wait>(rt: &R, alloc: Global, circuit: &Circuit) -> Result<()
     full_link_by(rt, alloc, circuit, true)
 }
 
-// Over a link that holds two: puts two pieces and takes one, and closes it. What was taken and what is left is what was put.
+// Over a link that holds two: puts two pieces and takes one, and closes it. What was taken and what is left is what was
+// put.
 fn close_over<R: Wait>(
     rt: &R,
     alloc: Global,
