@@ -1,5 +1,5 @@
 #!/usr/bin/env python3
-"""chosen_cases.py PROGRAM [--seed S] [--times N] [FOLDER..]: runs the program with nets chosen by chance, in each mode, and holds
+"""chosen_cases.py [--seed S] [--times N] PROGRAM [FOLDER..]: runs the program with nets chosen by chance, in each mode, and holds
 what it writes against the text of all nets, from which the lines of the other nets are taken out here. A FOLDER is laid out as those
 of examples/, which are taken where none is given: netlist.bench, the tables that there are, and the options; each is run N times, 3
 if not given. The last line is 'N passed, M failed'."""
