@@ -11,7 +11,7 @@ _cmbsim() {
         --init) mapfile -t COMPREPLY < <(compgen -W "0 1 x" -- "$current") ;;
         --delays | --stimuli | --clocks) mapfile -t COMPREPLY < <(compgen -f -- "$current") ;;
         --horizon | --clock | --threads | --workers | --clusters) COMPREPLY=() ;;
-        explain) mapfile -t COMPREPLY < <(compgen -W "$(echo {1..8} {20..37} 40 53 54 {60..62} 70)" -- "$current") ;;
+        explain) mapfile -t COMPREPLY < <(compgen -W "$(echo {1..8} {20..38} 40 53 54 {60..62} 70)" -- "$current") ;;
         help) mapfile -t COMPREPLY < <(compgen -W "run check explain" -- "$current") ;;
         *)
             local options="--horizon --clock --init --delays --stimuli --clocks --explain --help"

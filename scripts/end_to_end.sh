@@ -58,6 +58,10 @@ inverter_counts='       2  nets
        0  flip-flops that never sample
        0  nets that drive nothing and are no outputs
        1  ticks in the largest delay
+       0  different clocks of flip-flops
+       0  rows of delays
+       0  rows of stimuli
+       0  rows of clocks
 '
 
 counted() { # counted NAME TEXT WORDS..: the text is on standard output, of the netlist of the example
@@ -260,6 +264,17 @@ told_of_the_machine() { # the faults 60, 61 and 70; 62 is that of a full disk
     fi
 }
 
+told_of_no_memory() { # the example that the program gives of fault 70, with the 17 nets of s27
+    local said
+    said=$(ulimit -v 10000 && "$program" run --mode plain --horizon 900000 --clock 19:20 2>&1 >"$faulty/written" <"$examples/s27/netlist.bench")
+    if [ "$said" = "cmbsim: fault 70 at 0" ] && [ ! -s "$faulty/written" ]; then
+        passed=$((passed + 1))
+    else
+        failed=$((failed + 1))
+        echo "end to end: the example of fault 70 FAILED: $said"
+    fi
+}
+
 # in_words WANT NETLIST WORDS..: with --explain the fault's line is followed by this one
 in_words() {
     local want="cmbsim: $1" netlist=$2 said
@@ -349,6 +364,7 @@ told_of_netlists
 told_of_settings
 told_of_tables
 told_of_the_machine
+told_of_no_memory
 told_in_words
 told_meanwhile
 on_full_disk run --horizon 10

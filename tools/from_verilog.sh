@@ -2,6 +2,10 @@
 # from_verilog.sh TOP FOLDER FILE.v.. [-- WORDS..]: has yosys make simple gates and plain flip-flops of the module TOP in these files,
 # and makes of them what from_yosys.py leaves in FOLDER. The words are further ones for from_yosys.py, as --clock clk=9:10.
 set -euo pipefail
+if [ $# -lt 3 ]; then
+    echo "from_verilog.sh: give the top module, a folder for the files, and the Verilog files: from_verilog.sh TOP FOLDER FILE.v.. [-- WORDS..]" >&2
+    exit 2
+fi
 top=$1
 folder=$2
 shift 2

@@ -36,7 +36,7 @@ ADVICE = [(re.compile(form), words) for form, words in (
      "a flip-flop with an asynchronous set, reset or load: run async2sync and dffunmap before abc; it then waits for the next sample"),
     (r"\$_(DLATCH|SR_)",
      "a latch, mostly of an always block that leaves a signal as it was in some case: give it a value in each, or write the latch as gates"),
-    (r"\$_TBUF_", "a tri-state buffer, and there is no z: run tribuf -logic before synth"),
+    (r"\$_TBUF_", "a tri-state buffer, and there is no z: run proc, tribuf -formal and chformal -remove before synth"),
     (r"\$_FF_", "a flip-flop without a clock, as async2sync makes one of a latch: mend the latch"),
     (r"\$_", f"a gate of another kind: run {ABC}"),
     (r"\$lut", f"a table of a function: run {ABC} in the place of abc -lut"),

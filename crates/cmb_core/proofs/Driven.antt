@@ -17,7 +17,7 @@ use Rattle.cmb_design.specs.Timing.{delay, clock_of, stimulus, last_sample as la
 use Rattle.cmb_design.specs.Value.{pin_levels, flop_level, driven_level}
 use Rattle.cmb_core.specs.declared.process.Operand.{Operand}
 use Rattle.cmb_core.specs.declared.process.Rule.TheVariants.{Flop}
-use Rattle.cmb_core.specs.Rows.{Process, delayed_levels, sampled, row, reach, gate_reach, slot_of}
+use Rattle.cmb_core.specs.Rows.{Process, delayed_levels, sampled_wave, process_level, process_reach, gate_reach, slot_of}
 use Rattle.cmb_core.specs.Reach.{pins_reach, driver_reach}
 use Rattle.cmb_core.specs.Spans.{changes_from}
 use Rattle.cmb_core.specs.Step.{wave_at, told_level, told_upto, continued, step_changes, step_reach, step_piece}
@@ -48,12 +48,12 @@ pins_reach-same design waves net pin [] (o ∷ os) a = absurd a
 pins_reach-same design waves net pin (source ∷ sources) [] a = absurd a
 
 -- a flip-flop holds the initial level up to its delay after the first sample
-flop-same : (design : Design) (waves : List Wave) (net source tick : ℕ) → sampled (wave_at waves source) (clock_of design net).first (clock_of design net).period design.init (delay design net 1) tick ≡ flop_level design (told_level waves source) net tick
+flop-same : (design : Design) (waves : List Wave) (net source tick : ℕ) → sampled_wave (wave_at waves source) (clock_of design net).first (clock_of design net).period design.init (delay design net 1) tick ≡ flop_level design (told_level waves source) net tick
 unfolding last_tick
 flop-same design waves net source tick =
     go (cases_lt tick (delay design net 1)) (cases_lt (tick - delay design net 1) (clock_of design net).first)
   where
-    go : (tick < delay design net 1) ⊎ (delay design net 1 ≤ tick) → (tick - delay design net 1 < (clock_of design net).first) ⊎ ((clock_of design net).first ≤ tick - delay design net 1) → sampled (wave_at waves source) (clock_of design net).first (clock_of design net).period design.init (delay design net 1) tick ≡ flop_level design (told_level waves source) net tick
+    go : (tick < delay design net 1) ⊎ (delay design net 1 ≤ tick) → (tick - delay design net 1 < (clock_of design net).first) ⊎ ((clock_of design net).first ≤ tick - delay design net 1) → sampled_wave (wave_at waves source) (clock_of design net).first (clock_of design net).period design.init (delay design net 1) tick ≡ flop_level design (told_level waves source) net tick
     go (inl early) _ =
         let a : ltb tick (delay design net 1) ≡ true = lt-ltb _ _ early in
         let b : ltb tick ((clock_of design net).first + delay design net 1) ≡ true = lt-ltb _ _ (omega arith) in
@@ -71,18 +71,18 @@ flop-same design waves net source tick =
 
 -- ---- the row and the reach of a process
 
-flop_row : (design : Design) (waves : List Wave) (net source tick : ℕ) (os : List Operand) (cs : List Change) → AreOperands design net 1 (source ∷ []) os → row waves (Flop (clock_of design net).first (clock_of design net).period design.init) os cs tick ≡ flop_level design (told_level waves source) net tick
+flop_row : (design : Design) (waves : List Wave) (net source tick : ℕ) (os : List Operand) (cs : List Change) → AreOperands design net 1 (source ∷ []) os → process_level waves (Flop (clock_of design net).first (clock_of design net).period design.init) os cs tick ≡ flop_level design (told_level waves source) net tick
 flop_row design waves net source tick [] cs a = absurd a
 flop_row design waves net source tick (o ∷ []) cs a = rw (a.0, a.1) (flop-same design waves net source tick)
 flop_row design waves net source tick (o ∷ q ∷ os) cs a = absurd a.2
 
-flop_reach-same : (design : Design) (waves : List Wave) (net source : ℕ) (os : List Operand) → AreOperands design net 1 (source ∷ []) os → reach design.horizon waves (Flop (clock_of design net).first (clock_of design net).period design.init) os ≡ driver_reach design (told_upto waves) net (FlopNet source)
+flop_reach-same : (design : Design) (waves : List Wave) (net source : ℕ) (os : List Operand) → AreOperands design net 1 (source ∷ []) os → process_reach design.horizon waves (Flop (clock_of design net).first (clock_of design net).period design.init) os ≡ driver_reach design (told_upto waves) net (FlopNet source)
 unfolding next_tick
 flop_reach-same design waves net source [] a = absurd a
 flop_reach-same design waves net source (o ∷ []) a = rw (a.0, a.1) refl
 flop_reach-same design waves net source (o ∷ q ∷ os) a = absurd a.2
 
-row-same : (design : Design) (waves : List Wave) (net : ℕ) (p : Process) (driver : Driver) → IsDrivenBy design net driver p → (tick : ℕ) → tick < design.horizon → row waves p.rule p.operands p.stimulus tick ≡ driven_level design (told_level waves) net tick driver
+row-same : (design : Design) (waves : List Wave) (net : ℕ) (p : Process) (driver : Driver) → IsDrivenBy design net driver p → (tick : ℕ) → tick < design.horizon → process_level waves p.rule p.operands p.stimulus tick ≡ driven_level design (told_level waves) net tick driver
 row-same design waves net p InputNet d tick h =
     rw (d.0, d.1) (level_at-changes_between (stimulus design net) 0 design.horizon tick (omega arith) h)
 row-same design waves net p (GateNet kind sources) d tick h =
@@ -90,7 +90,7 @@ row-same design waves net p (GateNet kind sources) d tick h =
 row-same design waves net p (FlopNet source) d tick h =
     rw d.0 (flop_row design waves net source tick p.operands p.stimulus d.1)
 
-reach-same : (design : Design) (waves : List Wave) (net : ℕ) (p : Process) (driver : Driver) → IsDrivenBy design net driver p → reach design.horizon waves p.rule p.operands ≡ driver_reach design (told_upto waves) net driver
+reach-same : (design : Design) (waves : List Wave) (net : ℕ) (p : Process) (driver : Driver) → IsDrivenBy design net driver p → process_reach design.horizon waves p.rule p.operands ≡ driver_reach design (told_upto waves) net driver
 reach-same design waves net p InputNet d = rw d.0 refl
 reach-same design waves net p (GateNet kind sources) d = rw d.0 (pins_reach-same design waves net 1 sources p.operands d.1)
 reach-same design waves net p (FlopNet source) d = rw d.0 (flop_reach-same design waves net source p.operands d.1)
@@ -153,7 +153,7 @@ module _ (design : Design) (s : Cluster) (net slot : ℕ) (d : Drives design s n
   changes_is more =
       let drive : ℕ → Level = λ tick. driven_level design (told_level s.waves) (slot_wave s slot).net tick (driver_of design.netlist (slot_wave s slot).net) in
       let within : step_reach design s.waves (slot_wave s slot).net ≤ design.horizon = driver_reach-within design (told_upto s.waves) (slot_wave s slot).net (driver_of design.netlist (slot_wave s slot).net) in
-      let same : (t : ℕ) → (slot_wave s slot).clock ≤ t → t < (slot_wave s slot).clock + (reach_at s slot - (slot_wave s slot).clock) → row s.waves (process_at s slot).rule (process_at s slot).operands (process_at s slot).stimulus t ≡ continued (slot_wave s slot) drive t =
+      let same : (t : ℕ) → (slot_wave s slot).clock ≤ t → t < (slot_wave s slot).clock + (reach_at s slot - (slot_wave s slot).clock) → process_level s.waves (process_at s slot).rule (process_at s slot).operands (process_at s slot).stimulus t ≡ continued (slot_wave s slot) drive t =
       λ t low high.
       let early : t < design.horizon = omega (arith, reach_is, within) in
       let later : ltb t (slot_wave s slot).clock ≡ false = le-ltb t (slot_wave s slot).clock low in

@@ -26,7 +26,7 @@ use Rattle.cmb_core.specs.Clustering.{Clustering, cluster_of, has_input}
 use Rattle.cmb_core.specs.Step.{wave_at, step_reach, step_piece}
 use Rattle.cmb_core.specs.Clusters.{Cluster, step_answer, step_waves, input_slot, IsDrivenHere, delivered, delivered_at, as_delivery, heard_at, told_at, RefusesDelivery}
 use Rattle.cmb_core.specs.Opened.{IsClusterOf, IsOwnNet}
-use Rattle.cmb_core.specs.World.{World as Waves, Played, answered, turned_down, taken as took, deliver_in, look_in, waves_of, out_wave, in_wave, with_wave, play_world}
+use Rattle.cmb_core.specs.World.{WorldWaves, Played, answered, turned_down, taken as took, deliver_in, look_in, waves_of, out_wave, in_wave, with_wave, play_world}
 use Rattle.cmb_core.specs.Play.{World, shown, cluster_at, home_wave, IsWorldOf, HasDesign, IsSameBut, Plays, takes_memory, known_in}
 use Rattle.cmb_core.proofs.Steps.{wave_at-net}
 use Rattle.cmb_core.proofs.SweepFacts.{still_of}
@@ -49,7 +49,7 @@ pub waves_are : (w : World) (c : ℕ) → c < length w.clusters → waves_of (sh
 waves_are w c h = get_or-map (λ (cluster : Cluster). cluster.waves) w.clusters c (record { horizon = 0; processes = []; waves = [] }) [] h
 
 -- the world with other waves in one cluster
-abbrev pub with_waves : Waves → ℕ → List Wave → Waves
+abbrev pub with_waves : WorldWaves → ℕ → List Wave → WorldWaves
 with_waves world c waves = record world { clusters = set world.clusters c waves }
 
 pub shown_with : (w new : World) (c : ℕ) → IsSameBut c w new → shown new ≡ with_waves (shown w) c (cluster_at new c).waves
@@ -105,7 +105,7 @@ module _ (design : Design) (clustering : Clustering) (w : World) (of : IsWorldOf
 -- ---- a step
 
 -- a step in the cluster that has these waves
-stepped_in : Design → Waves → ℕ → ℕ → List Wave → Played
+stepped_in : Design → WorldWaves → ℕ → ℕ → List Wave → Played
 stepped_in design world c net ws =
     cond (ltb (wave_at ws net).clock (step_reach design ws (wave_at ws net).net))
     (answered (with_waves world c (with_wave ws (wave_with_piece (wave_at ws net) (step_piece design ws (wave_at ws net))))) (Stepped (Some (step_piece design ws (wave_at ws net)))))
@@ -163,7 +163,7 @@ step_wants design clustering w net c h there own new =
     in
     ap (λ p. takes_memory p.reply) is ∙ go (ltb (wave_at (cluster_at w c).waves net).clock (step_reach design (cluster_at w c).waves (wave_at (cluster_at w c).waves net).net)) _ _ _ new
   where
-    go : (b : Bool) (more less : Waves) (part : Piece) → (cond b (Some part) None ≡ None → ⊥) → takes_memory (cond b (answered more (Stepped (Some part))) (answered less (Stepped None))).reply ≡ true
+    go : (b : Bool) (more less : WorldWaves) (part : Piece) → (cond b (Some part) None ≡ None → ⊥) → takes_memory (cond b (answered more (Stepped (Some part))) (answered less (Stepped None))).reply ≡ true
     go true more less part new = refl
     go false more less part new = absurd (new refl)
 
@@ -194,12 +194,12 @@ driven_at w has net h =
 -- ---- a delivery
 
 -- what a delivery to a cluster with these waves comes to
-reply_of : Waves → ℕ → List Wave → Result Wave DeliverFault → Played
+reply_of : WorldWaves → ℕ → List Wave → Result Wave DeliverFault → Played
 reply_of world c ws (Ok v) = answered (with_waves world c (with_wave ws v)) (Delivered v.clock)
 reply_of world c ws (Err fault) = turned_down world (fault_of_event fault)
 
 -- the tests are those of the wave
-tests : (world : Waves) (c : ℕ) (piece : Piece) (late old : Bool) (o : Option ℕ) →
+tests : (world : WorldWaves) (c : ℕ) (piece : Piece) (late old : Bool) (o : Option ℕ) →
     cond late (turned_down world (PlayGap (wave_at (waves_of world c) piece.net).clock)) (cond old (turned_down world (PlayOld (wave_at (waves_of world c) piece.net).clock)) (took world c (wave_at (waves_of world c) piece.net) piece o))
     ≡ reply_of world c (waves_of world c) (as_delivery (cond late (Err (WaveGap (wave_at (waves_of world c) piece.net).clock)) (cond old (Err (WaveOld (wave_at (waves_of world c) piece.net).clock)) (joined (wave_at (waves_of world c) piece.net) piece o))))
 unfolding reply_of
@@ -208,7 +208,7 @@ tests world c piece false true o = refl
 tests world c piece false false None = refl
 tests world c piece false false (Some tick) = refl
 
-deliver_is : (design : Design) (clustering : Clustering) (world : Waves) (c : ℕ) (piece : Piece) (r : Option ℕ) (horizon : ℕ) (ps : List Process) → is_some r ≡ has_input design clustering c piece.net →
+deliver_is : (design : Design) (clustering : Clustering) (world : WorldWaves) (c : ℕ) (piece : Piece) (r : Option ℕ) (horizon : ℕ) (ps : List Process) → is_some r ≡ has_input design clustering c piece.net →
     deliver_in design clustering world c (Some piece) ≡ reply_of world c (waves_of world c) (delivered_at (record { horizon = horizon; processes = ps; waves = waves_of world c }) piece r)
 unfolding reply_of
 deliver_is design clustering world c piece None horizon ps e = rw (sym e) refl

@@ -17,7 +17,7 @@ use Rattle.cmb_core.specs.declared.event.Event.TheVariants.{Step, Post, Deliver}
 use Rattle.cmb_core.specs.declared.event.Reply.TheVariants.{Posted, Delivered}
 use Rattle.cmb_core.specs.Clustering.{Clustering, IsClustering, cluster_of, has_input, some_below, net_reads}
 use Rattle.cmb_core.specs.Reach.{pins_reach, driver_reach}
-use Rattle.cmb_core.specs.Clocks.{Span, Clocks, Outcome, replied, out_clock, in_clock, seen_clock, reach, with_in, play}
+use Rattle.cmb_core.specs.Clocks.{Span, Clocks, Outcome, replied, out_clock, in_clock, seen_clock, machine_reach, with_in, play}
 use Rattle.cmb_core.specs.Run.{clocks_after, IsReachable, IsComplete, IsQuiet, for_each, pass_on, step_each, pass_on_each, round, rounds, NotBelow, AtLeast}
 use Rattle.cmb_core.proofs.Machine.{all_weaker, IsSound, NotBelow-same, NotBelow-trans, Goes, play-goes, clocks_after-goes, reachable-sound}
 
@@ -102,8 +102,8 @@ module _ (design : Design) (netlist : IsNetlist design.netlist) (clustering : Cl
       (λ own. at.outs net pin.0)
       (λ other. at.ins (cluster_of clustering reader) net (cluster-there reader there) pin.0 (has_input-from design clustering reader net there pin.1 (eqb-false _ _ other)))
 
-  pub reach-at_least : (clocks : Clocks) (tick net : ℕ) → AtLeast design clustering tick clocks → net < nets_of design → suc tick ≤ design.horizon → suc tick ≤ reach design clustering clocks net
-  unfolding reach
+  pub reach-at_least : (clocks : Clocks) (tick net : ℕ) → AtLeast design clustering tick clocks → net < nets_of design → suc tick ≤ design.horizon → suc tick ≤ machine_reach design clustering clocks net
+  unfolding machine_reach
   reach-at_least clocks tick net at there within =
       driver_reach-at_least design (seen_clock clustering clocks (cluster_of clustering net)) net tick (driver_of design.netlist net)
       (all_weaker (IsPin design net) (λ m. tick ≤ seen_clock clustering clocks (cluster_of clustering net) m) (λ m pin. seen-at_least clocks tick net m at there pin) _ (pins-are design netlist net))
@@ -158,13 +158,13 @@ module _ (design : Design) (clustering : Clustering) (clocks : Clocks) (sound : 
   abbrev reaches : ℕ → ℕ → Outcome → Type 0
   reaches net tick outcome = tick ≤ out_clock outcome.clocks net
 
-  step-reaches : (net : ℕ) → net < nets_of design → reach design clustering clocks net ≤ out_clock (play design clustering clocks (Step net)).clocks net
+  step-reaches : (net : ℕ) → net < nets_of design → machine_reach design clustering clocks net ≤ out_clock (play design clustering clocks (Step net)).clocks net
   step-reaches net there =
       let yes : ltb net (nets_of design) ≡ true = lt-ltb net (nets_of design) there in
       let inside : net < length clocks.outs = omega (arith, sound.nets) in
-      rw yes (cond_both (ltb (out_clock clocks net) (reach design clustering clocks net)) _ _ (reaches net (reach design clustering clocks net))
-      (λ above. rw (get_or-set_same clocks.outs net (reach design clustering clocks net) 0 inside) (omega arith))
-      (λ below. ltb-false (out_clock clocks net) (reach design clustering clocks net) below))
+      rw yes (cond_both (ltb (out_clock clocks net) (machine_reach design clustering clocks net)) _ _ (reaches net (machine_reach design clustering clocks net))
+      (λ above. rw (get_or-set_same clocks.outs net (machine_reach design clustering clocks net) 0 inside) (omega arith))
+      (λ below. ltb-false (out_clock clocks net) (machine_reach design clustering clocks net) below))
 
   pub in-set : (cluster net tick : ℕ) → net < nets_of design → cluster < clustering.clusters → in_clock (with_in clocks cluster net tick) cluster net ≡ tick
   in-set cluster net tick there c =
@@ -224,7 +224,7 @@ module _ (design : Design) (clustering : Clustering) where
       go (inl l) = inr l
       go (inr l) = inl (omega arith)
 
-  step-turn : (least : ℕ) (before : Clocks) → ((net : ℕ) (now : Clocks) → net < nets_of design → IsSound design clustering now → NotBelow before now → least ≤ reach design clustering now net) → (n : ℕ) (now : Clocks) → n < nets_of design → SteppedBelow least before n now → SteppedBelow least before (suc n) (play design clustering now (Step n)).clocks
+  step-turn : (least : ℕ) (before : Clocks) → ((net : ℕ) (now : Clocks) → net < nets_of design → IsSound design clustering now → NotBelow before now → least ≤ machine_reach design clustering now net) → (n : ℕ) (now : Clocks) → n < nets_of design → SteppedBelow least before n now → SteppedBelow least before (suc n) (play design clustering now (Step n)).clocks
   step-turn least before reaches' n now there p = record {
     sound = goes.0;
     rises = NotBelow-trans before now _ p.rises goes.1;
@@ -274,7 +274,7 @@ module _ (design : Design) (clustering : Clustering) where
       go cluster net here inside reads (inr less) = omega (arith, p.done cluster net less here inside reads, all.rises.ins cluster net)
 
   -- all steps of a round
-  steps-done : (least : ℕ) (before : Clocks) → IsSound design clustering before → ((net : ℕ) (now : Clocks) → net < nets_of design → IsSound design clustering now → NotBelow before now → least ≤ reach design clustering now net) → SteppedBelow least before (nets_of design) (step_each design clustering before)
+  steps-done : (least : ℕ) (before : Clocks) → IsSound design clustering before → ((net : ℕ) (now : Clocks) → net < nets_of design → IsSound design clustering now → NotBelow before now → least ≤ machine_reach design clustering now net) → SteppedBelow least before (nets_of design) (step_each design clustering before)
   steps-done least before sound reaches' =
       for_each-brings _ (SteppedBelow least before) (nets_of design) 0 (nets_of design) before (omega arith) (step-turn least before reaches') (record { sound = sound; rises = NotBelow-same before; done = λ net none. absurd (omega arith) })
 

@@ -9,7 +9,7 @@ use Rattle.cmb_core.specs.declared.event.Event.TheVariants.{Post, Deliver}
 use Rattle.cmb_core.specs.Clustering.{Clustering, IsClustering, has_input}
 use Rattle.cmb_core.specs.Clocks.{Clocks, out_clock, in_clock, start, piece_of}
 use Rattle.cmb_core.specs.Run.{clocks_after, for_each, pass_on, round, rounds, AtLeast, IsQuiet}
-use Rattle.cmb_core.specs.World.{World, in_wave, out_wave, world_after}
+use Rattle.cmb_core.specs.World.{WorldWaves, in_wave, out_wave, world_after}
 use Rattle.cmb_core.specs.Play.{IsReached}
 use Rattle.cmb_core.specs.Rounds.{events_each, step_event, pass_on_events, step_events, net_events, passing_events, round_events, world_rounds, IsKnownTo, IsQuietWorld, IsCompleteWorld}
 use Rattle.cmb_core.proofs.Homes.{input_there}
@@ -32,9 +32,9 @@ stood true k from e = (refl, cc)
 stood false k from e = absurd (cc)
 
 module _ (design : Design) (netlist : IsNetlist design.netlist) (clustering : Clustering) (lawful : IsClustering (nets_of design) clustering) where
-  each_clocks : (turn : ℕ → World → List Event) (action : ℕ → Clocks → Clocks) (to : ℕ)
-      → ((n : ℕ) → n < to → (world : World) (clocks : Clocks) → Together design clustering world clocks → clocks_after design clustering clocks (turn n world) ≡ action n clocks)
-      → (from many : ℕ) → from + many ≡ to → (world : World) (clocks : Clocks) → Together design clustering world clocks
+  each_clocks : (turn : ℕ → WorldWaves → List Event) (action : ℕ → Clocks → Clocks) (to : ℕ)
+      → ((n : ℕ) → n < to → (world : WorldWaves) (clocks : Clocks) → Together design clustering world clocks → clocks_after design clustering clocks (turn n world) ≡ action n clocks)
+      → (from many : ℕ) → from + many ≡ to → (world : WorldWaves) (clocks : Clocks) → Together design clustering world clocks
       → clocks_after design clustering clocks (events_each design clustering turn from many world) ≡ for_each action from many clocks
   each_clocks turn action to each from zero e world clocks t = refl
   each_clocks turn action to each from (suc many) e world clocks t =
@@ -42,7 +42,7 @@ module _ (design : Design) (netlist : IsNetlist design.netlist) (clustering : Cl
       ∙ each_clocks turn action to each (suc from) many (omega arith) (world_after design clustering world (turn from world)) (clocks_after design clustering clocks (turn from world)) (together_after design netlist clustering lawful (turn from world) world clocks t)
       ∙ ap (for_each action (suc from) many) (each from (omega arith) world clocks t)
 
-  pass_on_clocks : (net : ℕ) → net < nets_of design → (cluster : ℕ) → cluster < clustering.clusters → (world : World) (clocks : Clocks) → Together design clustering world clocks
+  pass_on_clocks : (net : ℕ) → net < nets_of design → (cluster : ℕ) → cluster < clustering.clusters → (world : WorldWaves) (clocks : Clocks) → Together design clustering world clocks
       → clocks_after design clustering clocks (pass_on_events design clustering net cluster world) ≡ pass_on design clustering net cluster clocks
   pass_on_clocks net there cluster inside world clocks t = go (has_input design clustering cluster net) refl
     where
@@ -63,7 +63,7 @@ module _ (design : Design) (netlist : IsNetlist design.netlist) (clustering : Cl
           same true = refl
           same false = refl
 
-  pub round_clocks : (world : World) (clocks : Clocks) → Together design clustering world clocks → clocks_after design clustering clocks (round_events design clustering world) ≡ round design clustering clocks
+  pub round_clocks : (world : WorldWaves) (clocks : Clocks) → Together design clustering world clocks → clocks_after design clustering clocks (round_events design clustering world) ≡ round design clustering clocks
   round_clocks world clocks t =
       let stepped = each_clocks step_event _ (nets_of design) (λ n h w k s. refl) 0 (nets_of design) (omega arith) world clocks t in
       let passed = each_clocks (net_events design clustering) (λ net now. for_each (λ cluster later. pass_on design clustering net cluster later) 0 clustering.clusters now) (nets_of design)
@@ -75,7 +75,7 @@ module _ (design : Design) (netlist : IsNetlist design.netlist) (clustering : Cl
       ∙ passed ∙ ap (for_each (λ net now. for_each (λ cluster later. pass_on design clustering net cluster later) 0 clustering.clusters now) 0 (nets_of design)) stepped
 
   -- a quiet world that came about from newly opened clusters is complete
-  pub quiet_reached : (world : World) (past : List Event) → IsReached design clustering world past → IsQuietWorld design clustering world → IsCompleteWorld design clustering world
+  pub quiet_reached : (world : WorldWaves) (past : List Event) → IsReached design clustering world past → IsQuietWorld design clustering world → IsCompleteWorld design clustering world
   quiet_reached world past reached quiet net there =
       let clocks : Clocks = clocks_after design clustering (start design clustering) past in
       let t : Together design clustering world clocks = together_reached design netlist clustering lawful world past reached in
@@ -86,17 +86,17 @@ module _ (design : Design) (netlist : IsNetlist design.netlist) (clustering : Cl
       } in
       t.shows.outs net there ∙ quiet-complete design netlist clustering lawful clocks (past, refl) is net there
 
-  together_rounds : (world : World) (clocks : Clocks) → Together design clustering world clocks → (many : ℕ) → Together design clustering (world_rounds design clustering many world) (rounds design clustering many clocks)
+  together_rounds : (world : WorldWaves) (clocks : Clocks) → Together design clustering world clocks → (many : ℕ) → Together design clustering (world_rounds design clustering many world) (rounds design clustering many clocks)
   together_rounds world clocks t zero = t
   together_rounds world clocks t (suc many) =
-      let before : World = world_rounds design clustering many world in
+      let before : WorldWaves = world_rounds design clustering many world in
       let known : Clocks = rounds design clustering many clocks in
       let so_far : Together design clustering before known = together_rounds world clocks t many in
       let P : Clocks → Type 0 = λ k. Together design clustering (world_after design clustering before (round_events design clustering before)) k in
       subst P (round_clocks before known so_far) (together_after design netlist clustering lawful (round_events design clustering before) before known so_far)
 
   -- each round brings every clock on by a tick at least
-  pub rounds_known : (world : World) (past : List Event) → IsReached design clustering world past → (many : ℕ) → IsKnownTo design clustering (min design.horizon many) (world_rounds design clustering many world)
+  pub rounds_known : (world : WorldWaves) (past : List Event) → IsReached design clustering world past → (many : ℕ) → IsKnownTo design clustering (min design.horizon many) (world_rounds design clustering many world)
   rounds_known world past reached many =
       let clocks : Clocks = clocks_after design clustering (start design clustering) past in
       let start' : Together design clustering world clocks = together_reached design netlist clustering lawful world past reached in

@@ -3,17 +3,17 @@ use Rattle.std.proofs.Common.{◌≡◌, ℕ, zero, suc, ◌+◌, ◌-◌, ◌<�
 use Rattle.cmb_design.specs.Design.{Design}
 use Rattle.cmb_core.specs.declared.event.Event.{Event}
 use Rattle.cmb_core.specs.Clustering.{Clustering}
-use Rattle.cmb_core.specs.World.{World, play_world, world_after}
+use Rattle.cmb_core.specs.World.{WorldWaves, play_world, world_after}
 use Rattle.cmb_core.specs.Rounds.{events_each, IsBegun}
 
 module _ (design : Design) (clustering : Clustering) where
-  pub after_both : (world : World) (first second : List Event) → world_after design clustering world (first ++ second) ≡ world_after design clustering (world_after design clustering world first) second
+  pub after_both : (world : WorldWaves) (first second : List Event) → world_after design clustering world (first ++ second) ≡ world_after design clustering (world_after design clustering world first) second
   after_both world [] second = refl
   after_both world (event ∷ first) second = after_both (play_world design clustering world event).world first second
 
-  module _ (turn : ℕ → World → List Event) where
+  module _ (turn : ℕ → WorldWaves → List Event) where
     -- the first turns, and then the others
-    each_split : (from to i j total : ℕ) (world : World) → to ≡ from + i → total ≡ i + j
+    each_split : (from to i j total : ℕ) (world : WorldWaves) → to ≡ from + i → total ≡ i + j
         → events_each design clustering turn from total world ≡ events_each design clustering turn from i world ++ events_each design clustering turn to j (world_after design clustering world (events_each design clustering turn from i world))
     each_split from to zero j total world e f =
         let here : from ≡ to = omega arith in
@@ -26,7 +26,7 @@ module _ (design : Design) (clustering : Clustering) where
         ∙ ap (λ w. (turn from world ++ events_each design clustering turn (suc from) i (world_after design clustering world (turn from world))) ++ events_each design clustering turn to j w)
         (sym (after_both world (turn from world) (events_each design clustering turn (suc from) i (world_after design clustering world (turn from world)))))
 
-    module _ (start now new : World) (i : ℕ) (so_far : now ≡ world_after design clustering start (events_each design clustering turn 0 i start)) where
+    module _ (start now new : WorldWaves) (i : ℕ) (so_far : now ≡ world_after design clustering start (events_each design clustering turn 0 i start)) where
       before : List Event
       before = events_each design clustering turn 0 i start
 
@@ -54,10 +54,10 @@ module _ (design : Design) (clustering : Clustering) where
       }
 
   -- events that follow others
-  pub begun_first : (start new : World) (first second : List Event) → IsBegun design clustering start first new → IsBegun design clustering start (first ++ second) new
+  pub begun_first : (start new : WorldWaves) (first second : List Event) → IsBegun design clustering start first new → IsBegun design clustering start (first ++ second) new
   begun_first start new first second b = record { done = b.done; rest = b.rest ++ second; all = sym (append_assoc b.done b.rest second) ∙ ap (λ es. es ++ second) b.all; here = b.here }
 
-  pub begun_second : (start now new : World) (first second : List Event) → now ≡ world_after design clustering start first → IsBegun design clustering now second new → IsBegun design clustering start (first ++ second) new
+  pub begun_second : (start now new : WorldWaves) (first second : List Event) → now ≡ world_after design clustering start first → IsBegun design clustering now second new → IsBegun design clustering start (first ++ second) new
   begun_second start now new first second e b = record {
     done = first ++ b.done;
     rest = b.rest;
@@ -65,5 +65,5 @@ module _ (design : Design) (clustering : Clustering) where
     here = b.here ∙ ap (λ w. world_after design clustering w b.done) e ∙ sym (after_both start first b.done);
   }
 
-  pub begun_none : (start new : World) (events : List Event) → new ≡ start → IsBegun design clustering start events new
+  pub begun_none : (start new : WorldWaves) (events : List Event) → new ≡ start → IsBegun design clustering start events new
   begun_none start new events e = record { done = []; rest = events; all = refl; here = e }

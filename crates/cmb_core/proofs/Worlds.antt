@@ -21,9 +21,9 @@ use Rattle.cmb_core.specs.declared.event.Event.{Event}
 use Rattle.cmb_core.specs.declared.event.Event.TheVariants.{Step, Post, Deliver, Promise as Promises, Look}
 use Rattle.cmb_core.specs.declared.event.Reply.TheVariants.{Stepped, Posted, Delivered, Promised, Looked}
 use Rattle.cmb_core.specs.declared.event.PlayFault.TheVariants.{Gap, Old}
-use Rattle.cmb_core.specs.Clocks.{Span, Bound, Clocks, Outcome, out_clock, in_clock, seen_clock, reach, replied, start, stepped, posted, delivered, promised, looked, play, with_out, with_in, piece_of, promise_of}
+use Rattle.cmb_core.specs.Clocks.{Span, Bound, Clocks, Outcome, out_clock, in_clock, seen_clock, machine_reach, replied, start, stepped, posted, machine_delivered, machine_promised, looked, play, with_out, with_in, piece_of, promise_of}
 use Rattle.cmb_core.specs.Step.{wave_at, told_upto, told_from, step_reach, step_piece}
-use Rattle.cmb_core.specs.World.{World, Played, waves_of, with_wave, world_with_wave, out_wave, in_wave, answered, step_in, post_in, deliver_in, taken, promise_in, look_in, play_world, world_after, world_replies, new_waves, new_clusters, new_world, Shows}
+use Rattle.cmb_core.specs.World.{WorldWaves, Played, waves_of, with_wave, world_with_wave, out_wave, in_wave, answered, step_in, post_in, deliver_in, taken, promise_in, look_in, play_world, world_after, world_replies, new_waves, new_clusters, new_world, Shows}
 use Rattle.cmb_bench.specs.declared.netlist.Driver.{Driver}
 use Rattle.cmb_bench.specs.declared.netlist.Driver.TheVariants.{Input, Gate, Flop}
 use Rattle.cmb_bench.specs.Netlist.{driver_of, pins_of, IsNetlist}
@@ -39,7 +39,7 @@ abbrev pub has_wave : List Wave → ℕ → Bool
 has_wave waves net = list_any (λ wave. eqb wave.net net) waves
 
 -- the clusters have their waves
-pub record HasWaves (design : Design) (clustering : Clustering) (world : World) : Type 0 where
+pub record HasWaves (design : Design) (clustering : Clustering) (world : WorldWaves) : Type 0 where
   pub clusters : length world.clusters ≡ clustering.clusters
   pub outs : (net : ℕ) → net < nets_of design → has_wave (waves_of world (cluster_of clustering net)) net ≡ true
   pub ins : (cluster net : ℕ) → cluster < clustering.clusters → net < nets_of design → has_input design clustering cluster net ≡ true → has_wave (waves_of world cluster) net ≡ true
@@ -87,8 +87,8 @@ has_input-not_own design clustering cluster net reads same = go (eqb (cluster_of
     go true e f = cc
     go false e f = cc
 
-module _ (design : Design) (clustering : Clustering) (world : World) (has : HasWaves design clustering world) (cluster : ℕ) (there : cluster < clustering.clusters) (wave : Wave) (held : has_wave (waves_of world cluster) wave.net ≡ true) where
-  after : World
+module _ (design : Design) (clustering : Clustering) (world : WorldWaves) (has : HasWaves design clustering world) (cluster : ℕ) (there : cluster < clustering.clusters) (wave : Wave) (held : has_wave (waves_of world cluster) wave.net ≡ true) where
+  after : WorldWaves
   after = world_with_wave world cluster wave
 
   waves-same : waves_of after cluster ≡ with_wave (waves_of world cluster) wave
@@ -215,10 +215,10 @@ follows-if design clustering false true p q x y e f g = cc
 exact_piece-is : (design : Design) (piece : Piece) → IsExactIn design piece → piece ≡ piece_of design (record { net = piece.net; from = piece.from; to = piece.to })
 exact_piece-is design piece exact = λ i. record { net = piece.net; from = piece.from; to = piece.to; changes = exact.exact.changes i }
 
-module _ (design : Design) (netlist : IsNetlist design.netlist) (clustering : Clustering) (assigned : IsClustering (nets_of design) clustering) (world : World) (has : HasWaves design clustering world) (clocks : Clocks) (sound : IsSound design clustering clocks) (shows : Shows design clustering world clocks) where
+module _ (design : Design) (netlist : IsNetlist design.netlist) (clustering : Clustering) (assigned : IsClustering (nets_of design) clustering) (world : WorldWaves) (has : HasWaves design clustering world) (clocks : Clocks) (sound : IsSound design clustering clocks) (shows : Shows design clustering world clocks) where
   -- the reach over the waves of a net's cluster
-  pub reach-same : (net : ℕ) → net < nets_of design → step_reach design (waves_of world (cluster_of clustering net)) net ≡ reach design clustering clocks net
-  unfolding reach
+  pub reach-same : (net : ℕ) → net < nets_of design → step_reach design (waves_of world (cluster_of clustering net)) net ≡ machine_reach design clustering clocks net
+  unfolding machine_reach
   reach-same net there =
       driver_reach-agree design (told_upto (waves_of world (cluster_of clustering net))) (seen_clock clustering clocks (cluster_of clustering net)) net (driver_of design.netlist net)
       (all_weaker (IsPin design net) (λ m. told_upto (waves_of world (cluster_of clustering net)) m ≡ seen_clock clustering clocks (cluster_of clustering net) m) (λ m pin. go m pin (eqb (cluster_of clustering m) (cluster_of clustering net)) refl) (pins_of (driver_of design.netlist net)) (pins-are design netlist net))
@@ -233,7 +233,7 @@ module _ (design : Design) (netlist : IsNetlist design.netlist) (clustering : Cl
   out-exact : (net : ℕ) → net < nets_of design → IsExactWaveIn design (out_wave clustering world net)
   out-exact net there = wave_at-exact design (waves_of world (cluster_of clustering net)) (shows.exact (cluster_of clustering net)) net there
 
-  step-follows : (net : ℕ) → net < nets_of design → Follows design clustering (step_in design world (cluster_of clustering net) (waves_of world (cluster_of clustering net)) (out_wave clustering world net)) (stepped design clocks net (reach design clustering clocks net))
+  step-follows : (net : ℕ) → net < nets_of design → Follows design clustering (step_in design world (cluster_of clustering net) (waves_of world (cluster_of clustering net)) (out_wave clustering world net)) (stepped design clocks net (machine_reach design clustering clocks net))
   unfolding after
   step-follows net there =
       follows-if design clustering _ _ _ _ _ _ (ap (λ (t : ℕ). ltb t (step_reach design waves wave.net)) clock-is ∙ ap (ltb (out_clock clocks net)) to-is)
@@ -252,10 +252,10 @@ module _ (design : Design) (netlist : IsNetlist design.netlist) (clustering : Cl
       clock-is : wave.clock ≡ out_clock clocks net
       clock-is = shows.outs net there
 
-      to-is : step_reach design waves wave.net ≡ reach design clustering clocks net
+      to-is : step_reach design waves wave.net ≡ machine_reach design clustering clocks net
       to-is = ap (step_reach design waves) net-is ∙ reach-same net there
 
-      goes : out_clock clocks net < reach design clustering clocks net → Follows design clustering (answered (world_with_wave world (cluster_of clustering net) (wave_with_piece wave (step_piece design waves wave))) (Stepped (Some (step_piece design waves wave)))) (replied (with_out clocks net (reach design clustering clocks net)) (Stepped (Some (piece_of design (record { net = net; from = out_clock clocks net; to = reach design clustering clocks net })))))
+      goes : out_clock clocks net < machine_reach design clustering clocks net → Follows design clustering (answered (world_with_wave world (cluster_of clustering net) (wave_with_piece wave (step_piece design waves wave))) (Stepped (Some (step_piece design waves wave)))) (replied (with_out clocks net (machine_reach design clustering clocks net)) (Stepped (Some (piece_of design (record { net = net; from = out_clock clocks net; to = machine_reach design clustering clocks net })))))
       goes above =
           let exact : IsExactIn design (step_piece design waves wave) = step_piece-is_exact design waves wave (shows.exact (cluster_of clustering net)) (out-exact net there) (IsKept-at_zero design (told_from waves) (shows.whole (cluster_of clustering net)) wave.net wave.clock (driver_of design.netlist wave.net)) (omega (arith, clock-is, to-is)) in
           let new : Wave = wave_with_piece wave (step_piece design waves wave) in
@@ -309,7 +309,7 @@ module _ (design : Design) (netlist : IsNetlist design.netlist) (clustering : Cl
         reply = ap (λ (n : ℕ). Ok (Posted (Some n))) (ap length shows.posts ∙ length-map clocks.posts (piece_of design));
       }
 
-  promise-follows : (net : ℕ) → net < nets_of design → Follows design clustering (promise_in world (out_wave clustering world net)) (promised design clocks net)
+  promise-follows : (net : ℕ) → net < nets_of design → Follows design clustering (promise_in world (out_wave clustering world net)) (machine_promised design clocks net)
   promise-follows net there = record {
     has = record { clusters = has.clusters; outs = has.outs; ins = has.ins };
     shows = record {
@@ -339,7 +339,7 @@ module _ (design : Design) (netlist : IsNetlist design.netlist) (clustering : Cl
           let count-is : wave.count ≡ count design wave.net wave.clock = (out-exact net there).exact.count in
           (λ i. record { net = wave.net; count = count-is i; upto = wave.clock }) ∙ (λ i. promise_of design (record { net = net-is i; upto = clock-is i }))
 
-  deliver-follows : (cluster : ℕ) → cluster < clustering.clusters → (post : Option Span) → ((span : Span) → post ≡ Some span → IsPosted design clocks span) → Follows design clustering (deliver_in design clustering world cluster (option_map (piece_of design) post)) (delivered design clustering clocks cluster post)
+  deliver-follows : (cluster : ℕ) → cluster < clustering.clusters → (post : Option Span) → ((span : Span) → post ≡ Some span → IsPosted design clocks span) → Follows design clustering (deliver_in design clustering world cluster (option_map (piece_of design) post)) (machine_delivered design clustering clocks cluster post)
   unfolding after
   deliver-follows cluster c None was = stays _ _ refl
   deliver-follows cluster c (Some span) was =
@@ -429,7 +429,7 @@ module _ (design : Design) (netlist : IsNetlist design.netlist) (clustering : Cl
   play-follows (Promises net) = follows-if design clustering _ _ _ _ _ _ refl (λ there. promise-follows net (ltb-true _ _ there)) (λ not_there. stays _ _ refl)
   play-follows (Deliver cluster number) =
       follows-if design clustering _ _ _ _ _ _ refl
-      (λ there. subst (λ (o : Option Piece). Follows design clustering (deliver_in design clustering world cluster o) (delivered design clustering clocks cluster (slice_get clocks.posts number)))
+      (λ there. subst (λ (o : Option Piece). Follows design clustering (deliver_in design clustering world cluster o) (machine_delivered design clustering clocks cluster (slice_get clocks.posts number)))
       (sym (ap (λ (ps : List Piece). slice_get ps number) shows.posts ∙ slice_get-map (piece_of design) clocks.posts number))
       (deliver-follows cluster (ltb-true _ _ there) (slice_get clocks.posts number) (λ span is. all_at (IsPosted design clocks) clocks.posts number span sound.posts is)))
       (λ not_there. stays _ _ refl)
@@ -443,7 +443,7 @@ module _ (design : Design) (netlist : IsNetlist design.netlist) (clustering : Cl
 -- ---- whole runs
 
 -- over any list of events the world goes as the clocks do, with the same replies, and its waves stay exact
-pub run-follows : (design : Design) → IsNetlist design.netlist → (clustering : Clustering) → IsClustering (nets_of design) clustering → (events : List Event) (world : World) (clocks : Clocks) → HasWaves design clustering world → IsSound design clustering clocks → Shows design clustering world clocks → Shows design clustering (world_after design clustering world events) (clocks_after design clustering clocks events) × (world_replies design clustering world events ≡ replies_to design clustering clocks events)
+pub run-follows : (design : Design) → IsNetlist design.netlist → (clustering : Clustering) → IsClustering (nets_of design) clustering → (events : List Event) (world : WorldWaves) (clocks : Clocks) → HasWaves design clustering world → IsSound design clustering clocks → Shows design clustering world clocks → Shows design clustering (world_after design clustering world events) (clocks_after design clustering clocks events) × (world_replies design clustering world events ≡ replies_to design clustering clocks events)
 run-follows design netlist clustering assigned [] world clocks has sound shows = (shows, refl)
 run-follows design netlist clustering assigned (event ∷ events) world clocks has sound shows =
     let first : Follows design clustering (play_world design clustering world event) (play design clustering clocks event) = play-follows design netlist clustering assigned world has clocks sound shows event in

@@ -11,7 +11,7 @@ use Rattle.cmb_design.specs.Design.{Design}
 use Rattle.cmb_design.specs.Timing.{delay, clock_of, stimulus}
 use Rattle.cmb_core.specs.declared.process.Operand.{Operand}
 use Rattle.cmb_core.specs.declared.process.Rule.TheVariants.{Given, Input, Gate, Flop}
-use Rattle.cmb_core.specs.Rows.{Process, IsReadyFor, slot_of, row, reach, is_given}
+use Rattle.cmb_core.specs.Rows.{Process, IsReadyFor, slot_of, process_level, process_reach, is_given}
 use Rattle.cmb_core.specs.Spans.{changes_from}
 use Rattle.cmb_wave.specs.declared.level.Change.{Change}
 use Rattle.cmb_core.specs.Step.{wave_at, step_reach, step_piece}
@@ -98,11 +98,11 @@ IsDrivenBy design net (FlopNet source) process =
 
 -- the level that the process of a wave has at a tick
 abbrev pub row_at : Cluster → ℕ → ℕ → Level
-row_at s i t = row s.waves (process_at s i).rule (process_at s i).operands (process_at s i).stimulus t
+row_at s i t = process_level s.waves (process_at s i).rule (process_at s i).operands (process_at s i).stimulus t
 
 -- up to here the process of a wave can go on, and the changes that it makes up to there
 abbrev pub reach_at : Cluster → ℕ → ℕ
-reach_at s i = reach s.horizon s.waves (process_at s i).rule (process_at s i).operands
+reach_at s i = process_reach s.horizon s.waves (process_at s i).rule (process_at s i).operands
 
 abbrev pub changes_at : Cluster → ℕ → List Change
 changes_at s i =

@@ -14,7 +14,7 @@ use Rattle.cmb_core.specs.Clustering.{Clustering, IsClustering, has_input}
 use Rattle.cmb_core.specs.Clusters.{Cluster, IsSameButWaves}
 use Rattle.cmb_core.specs.Opened.{IsClusterOf}
 use Rattle.cmb_core.specs.Step.{wave_at}
-use Rattle.cmb_core.specs.World.{World as Waves, Played, out_wave, in_wave, new_world, world_after}
+use Rattle.cmb_core.specs.World.{WorldWaves, Played, out_wave, in_wave, new_world, world_after}
 
 -- what contracts see of a world
 pub record World : Type 0 where
@@ -25,7 +25,7 @@ pub record World : Type 0 where
   pub promises : List Promise
 
 -- its waves, posts and promises
-abbrev pub shown : World → Waves
+abbrev pub shown : World → WorldWaves
 shown world = record { clusters = map (λ cluster. cluster.waves) world.clusters; posts = world.posts; promises = world.promises }
 
 abbrev pub cluster_at : World → ℕ → Cluster
@@ -73,20 +73,20 @@ takes_memory (Ok (Looked heard)) = false
 takes_memory (Err fault) = false
 
 -- the event went as it is defined; where memory was wanted nothing changed, and the reply would have been one that takes some
-abbrev pub Plays : Played → Waves → Waves → Result Reply PlayFault → Type 0
+abbrev pub Plays : Played → WorldWaves → WorldWaves → Result Reply PlayFault → Type 0
 Plays played before after (Err Memory) = (after ≡ before) × (takes_memory played.reply ≡ true)
 Plays played before after reply = (played.world ≡ after) × (played.reply ≡ reply)
 
 -- the world came about from newly opened clusters by these events
-abbrev pub IsReached : Design → Clustering → Waves → List Event → Type 0
+abbrev pub IsReached : Design → Clustering → WorldWaves → List Event → Type 0
 IsReached design clustering world past = world ≡ world_after design clustering (new_world design clustering) past
 
 -- how far a net is known to the cluster that drives it, none where there is no such net
-abbrev pub known_out : Design → Clustering → Waves → ℕ → Option ℕ
+abbrev pub known_out : Design → Clustering → WorldWaves → ℕ → Option ℕ
 known_out design clustering world net =
     if nat_lt net (nets_of design) then Some (out_wave clustering world net).clock else None
 
 -- how far a net is known to a cluster that reads it, none where the cluster has no input wave of it
-abbrev pub known_in : Design → Clustering → Waves → ℕ → ℕ → Option ℕ
+abbrev pub known_in : Design → Clustering → WorldWaves → ℕ → ℕ → Option ℕ
 known_in design clustering world cluster net =
     if nat_lt cluster clustering.clusters && has_input design clustering cluster net then Some (in_wave world cluster net).clock else None

@@ -20,17 +20,17 @@ slot_of [] net = None
 slot_of (wave ∷ waves) net = if nat_eq wave.net net then Some 0 else option_map (λ slot. suc slot) (slot_of waves net)
 
 -- a wave's level, some ticks late: x before it can be known
-abbrev pub delayed : Wave → ℕ → ℕ → Level
-delayed w delay t = if nat_lt t delay then X else level_at w.kept w.changes (t - delay)
+abbrev pub delayed_wave : Wave → ℕ → ℕ → Level
+delayed_wave w delay t = if nat_lt t delay then X else level_at w.kept w.changes (t - delay)
 
 -- the levels that the operands of a gate have for the output's tick `t`
 abbrev pub delayed_levels : List Wave → List Operand → ℕ → List Level
 delayed_levels waves [] t = []
-delayed_levels waves (o ∷ os) t = delayed (wave_at waves o.net) o.delay t ∷ delayed_levels waves os t
+delayed_levels waves (o ∷ os) t = delayed_wave (wave_at waves o.net) o.delay t ∷ delayed_levels waves os t
 
 -- the level that a flip-flop has at tick `t`
-abbrev pub sampled : Wave → ℕ → ℕ → Level → ℕ → ℕ → Level
-sampled w first period init delay t =
+abbrev pub sampled_wave : Wave → ℕ → ℕ → Level → ℕ → ℕ → Level
+sampled_wave w first period init delay t =
     if nat_lt t (first + delay) then init
     else level_at w.kept w.changes (last_sample first period (t - delay))
 
@@ -80,20 +80,20 @@ IsReadyFor waves clock (Flop first period init) (o ∷ []) cs =
 IsReadyFor waves clock (Flop first period init) _ cs = ⊥
 
 -- the level that a process has at tick `t`
-abbrev pub row : List Wave → Rule → List Operand → List Change → ℕ → Level
-row waves Given os cs t = X
-row waves Input os cs t = level_at X cs t
-row waves (Gate kind) os cs t = gate_row kind waves os t
-row waves (Flop first period init) [] cs t = X
-row waves (Flop first period init) (o ∷ os) cs t = sampled (wave_at waves o.net) first period init o.delay t
+abbrev pub process_level : List Wave → Rule → List Operand → List Change → ℕ → Level
+process_level waves Given os cs t = X
+process_level waves Input os cs t = level_at X cs t
+process_level waves (Gate kind) os cs t = gate_row kind waves os t
+process_level waves (Flop first period init) [] cs t = X
+process_level waves (Flop first period init) (o ∷ os) cs t = sampled_wave (wave_at waves o.net) first period init o.delay t
 
 -- up to here a process can go on
-abbrev pub reach : ℕ → List Wave → Rule → List Operand → ℕ
-reach horizon waves Given os = 0
-reach horizon waves Input os = horizon
-reach horizon waves (Gate kind) os = gate_reach horizon waves os
-reach horizon waves (Flop first period init) [] = horizon
-reach horizon waves (Flop first period init) (o ∷ os) = flop_reach horizon first period o.delay (wave_at waves o.net).clock
+abbrev pub process_reach : ℕ → List Wave → Rule → List Operand → ℕ
+process_reach horizon waves Given os = 0
+process_reach horizon waves Input os = horizon
+process_reach horizon waves (Gate kind) os = gate_reach horizon waves os
+process_reach horizon waves (Flop first period init) [] = horizon
+process_reach horizon waves (Flop first period init) (o ∷ os) = flop_reach horizon first period o.delay (wave_at waves o.net).clock
 
 -- a net that the cluster doesn't drive
 abbrev pub is_given : Rule → Bool

@@ -7,7 +7,7 @@ ghost use Rattle.cmb_wave.specs.declared.level.Level.TheVariants.{X};
 ghost use Rattle.cmb_core.specs.Spans.{changes_from};
 ghost use Rattle.cmb_bench.specs.Netlist.{MayTake};
 ghost use Rattle.cmb_core.specs.Arrivals.{last_sample};
-ghost use Rattle.cmb_core.specs.Rows.{gate_reach, gate_row, sampled, AreReady, IsThere, flop_reach};
+ghost use Rattle.cmb_core.specs.Rows.{gate_reach, gate_row, sampled_wave, AreReady, IsThere, flop_reach};
 ghost use Rattle.cmb_core.specs.Step.{wave_at};
 
 use crate::merge::{Lag, differ, follow, merge};
@@ -128,7 +128,8 @@ fn sampled_changes(
     requires ordered { span.from ≤ span.until }
     ensures { (init : Level) → (span.from < span.until → first + operand.delay ≤ span.from)
         → OnOk result (room.new.items ≡ room.old.items
-        ++ changes_from (sampled (wave_at waves.now operand.net) first period init operand.delay) span.before span.from
+        ++ changes_from (sampled_wave (wave_at waves.now operand.net) first period init operand.delay) span.before
+        span.from
         (span.until - span.from)) }
 {
     let lag = Lag::Sampled {
@@ -163,7 +164,7 @@ pub(crate) fn flop_changes(
     requires there { IsThere waves.now operand }
     requires ordered { span.from ≤ span.until }
     ensures { OnOk result (room.new.items
-        ≡ room.old.items ++ changes_from (sampled (wave_at waves.now operand.net) first period init operand.delay)
+        ≡ room.old.items ++ changes_from (sampled_wave (wave_at waves.now operand.net) first period init operand.delay)
         span.before span.from (span.until - span.from)) }
 {
     let begun = first.saturating_add(operand.delay);

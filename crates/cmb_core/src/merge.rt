@@ -41,13 +41,13 @@ impl Lag {
 
 /// An operand: the level that has reached the output, and the changes that haven't yet.
 #[derive(Clone, Copy)]
-pub struct Pin<'a> {
+pub struct PinCursor<'a> {
     pub rest: &'a [Change],
     pub lag: Lag,
     pub level: Level,
 }
 
-impl<'a> Pin<'a> {
+impl<'a> PinCursor<'a> {
     // When the first change that hasn't reached the output does, beyond any tick where there is none.
     fn due(&self) -> u64
         ensures { result ≡ due_of self.now.lag self.now.rest.now }
@@ -78,7 +78,7 @@ impl<'a> Pin<'a> {
 
 // Lets the changes of each pin through that reach the output by `now`, and answers the tick up to which the
 // levels that they leave stay, at most `until`.
-fn pass(pins: &mut [Pin], now: u32, until: u32) -> u32
+fn pass(pins: &mut [PinCursor], now: u32, until: u32) -> u32
     requires { now < until }
     ensures { Passed pins.old pins.new now until result }
 {
@@ -93,7 +93,7 @@ fn pass(pins: &mut [Pin], now: u32, until: u32) -> u32
 }
 
 // Puts the levels that have reached the output in the place of others.
-fn read_levels(pins: &[Pin], seen: &mut Vec<Level>) -> Result<(), AllocError>
+fn read_levels(pins: &[PinCursor], seen: &mut Vec<Level>) -> Result<(), AllocError>
     ensures { OnOk result (seen.new.items ≡ levels pins.now) }
 {
     seen.clear();
@@ -113,7 +113,7 @@ pub(crate) fn differ(level: Level, other: Level) -> bool
 /// Goes on with a gate's changes over the span from `from` to `until`.
 pub(crate) fn merge(
     kind: Kind,
-    pins: &mut [Pin],
+    pins: &mut [PinCursor],
     changes: &mut Vec<Change>,
     before: Level,
     from: u32,
@@ -155,6 +155,6 @@ pub(crate) fn follow(
     ensures { OnOk result (changes.new.items
         ≡ changes.old.items ++ changes_from (arrived lag level rest.now) before from (until - from)) }
 {
-    let mut pins = [Pin { rest, lag, level }];
+    let mut pins = [PinCursor { rest, lag, level }];
     merge(Kind::Buff, &mut pins, changes, before, from, until)
 }

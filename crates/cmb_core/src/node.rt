@@ -29,7 +29,7 @@ impl Model for Node {
 
 impl Node {
     ghost use Rattle.std.specs.Prelude.{◌≡◌, ◌≤◌, ◌-◌, ◌++◌, ℕ, OnOk};
-    ghost use Rattle.cmb_core.specs.Rows.{IsReadyFor, is_given, row, reach};
+    ghost use Rattle.cmb_core.specs.Rows.{IsReadyFor, is_given, process_level, process_reach};
     ghost use Rattle.cmb_core.specs.Spans.{changes_from};
 
     pub(crate) fn new(rule: Rule, operands: Vec<Operand>, stimulus: Vec<Change>) -> Node
@@ -69,7 +69,7 @@ impl Node {
     /// The tick up to which the output can go on.
     pub(crate) fn reach(&self, horizon: u32, waves: &[Wave]) -> u32
         requires { (clock : ℕ) × IsReadyFor waves.now clock self.now.rule self.now.operands self.now.stimulus }
-        ensures { result ≡ reach horizon waves.now self.now.rule self.now.operands }
+        ensures { result ≡ process_reach horizon waves.now self.now.rule self.now.operands }
     {
         match self.rule {
             Rule::Given => 0,
@@ -93,7 +93,7 @@ impl Node {
         requires ready { IsReadyFor waves.now span.from self.now.rule self.now.operands self.now.stimulus }
         requires ordered { span.from ≤ span.until }
         ensures { OnOk result (room.new.items
-            ≡ room.old.items ++ changes_from (row waves.now self.now.rule self.now.operands self.now.stimulus)
+            ≡ room.old.items ++ changes_from (process_level waves.now self.now.rule self.now.operands self.now.stimulus)
             span.before span.from (span.until - span.from)) }
     {
         match self.rule {

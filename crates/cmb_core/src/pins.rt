@@ -3,10 +3,10 @@
 ghost use Rattle.std.specs.Prelude.{◌≡◌, ℕ, ◌≤◌, IfOk, length};
 ghost use Rattle.cmb_wave.specs.Waveform.{level_at};
 ghost use Rattle.cmb_core.specs.Arrivals.{pin_at, pins_at};
-ghost use Rattle.cmb_core.specs.Rows.{delayed, delayed_levels, IsReady, AreReady, IsThere};
+ghost use Rattle.cmb_core.specs.Rows.{delayed_wave, delayed_levels, IsReady, AreReady, IsThere};
 ghost use Rattle.cmb_core.specs.Step.{wave_at};
 
-use crate::merge::{Lag, Pin};
+use crate::merge::{Lag, PinCursor};
 use crate::process::Operand;
 use cmb_wave::Wave;
 use cmb_wave::search::{Rest, left_from};
@@ -32,14 +32,14 @@ pub(crate) fn operand_left(waves: &[Wave], operand: Operand, tick: u32) -> Rest<
 }
 
 /// The pin of an operand that reaches the output with a delay, from the output's clock on.
-pub(crate) fn pin_of(waves: &[Wave], operand: Operand, clock: u32) -> Pin<'_>
+pub(crate) fn pin_of(waves: &[Wave], operand: Operand, clock: u32) -> PinCursor<'_>
     requires { IsReady waves.now clock operand }
-    ensures { (t : ℕ) → clock ≤ t → pin_at result t ≡ delayed (wave_at waves.now operand.net) operand.delay t }
+    ensures { (t : ℕ) → clock ≤ t → pin_at result t ≡ delayed_wave (wave_at waves.now operand.net) operand.delay t }
 {
     let wave = operand_wave(waves, operand);
     let reached = clock.saturating_sub(operand.delay);
     let left = left_from(wave.kept(), wave.changes(), reached);
-    Pin {
+    PinCursor {
         rest: left.changes,
         lag: Lag::Delay(operand.delay),
         level: left.level,
@@ -52,7 +52,7 @@ pub(crate) fn gate_pins<'a>(
     operands: &[Operand],
     waves: &'a [Wave],
     clock: u32,
-) -> Result<Vec<Pin<'a>>, AllocError>
+) -> Result<Vec<PinCursor<'a>>, AllocError>
     requires { AreReady waves.now clock operands.now }
     ensures levels { IfOk result (λ pins. (t : ℕ) → clock ≤ t
         → pins_at pins.items t ≡ delayed_levels waves.now operands.now t) }

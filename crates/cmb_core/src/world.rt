@@ -11,7 +11,7 @@ ghost use Rattle.cmb_core.specs.Play.{IsReached};
 ghost use Rattle.cmb_core.specs.Rounds.{IsKnownTo, world_rounds};
 ghost use Rattle.cmb_core.specs.Clusters.{IsDrivenHere};
 ghost use Rattle.cmb_core.specs.Opened.{IsClusterOf};
-ghost use Rattle.cmb_core.specs.World.{World as Waves, new_clusters};
+ghost use Rattle.cmb_core.specs.World.{WorldWaves, new_clusters};
 
 use crate::cluster::Cluster;
 use crate::clustering::Clustering;
@@ -185,7 +185,7 @@ impl World {
 /// So many rounds bring every clock of a world that came about from newly opened clusters to the lesser of that number
 /// and the horizon at least.
 pub fn rounds_of_worlds_go_on()
-    ensures { (design : Design) (clustering : Clustering) (world : Waves) (past : List Event) (many : ℕ)
+    ensures { (design : Design) (clustering : Clustering) (world : WorldWaves) (past : List Event) (many : ℕ)
         → IsNetlist design.netlist → IsClustering (nets_of design) clustering → IsReached design clustering world past
         → IsKnownTo design clustering (min design.horizon many) (world_rounds design clustering many world) }
 {}

@@ -1,3 +1,4 @@
 mod BelowFacts
 mod LargestFacts
 mod MarkFacts
+mod ClockFacts

@@ -1,6 +1,5 @@
 -- Marks of nets.
-use Rattle.std.proofs.Common.{◌≡◌, ◌||◌, ◌∙◌, ℕ, ◌+◌, ◌<◌, ◌≤◌, Bool, true, false, not, List, [], ◌∷◌, length, get_or, set, take, nat_eq, add-one, ap, sym, refl, subst, arith, rules, inl, inr, ⊎_elim}
-use Rattle.std.specs.List.{list_any}
+use Rattle.std.proofs.Common.{◌≡◌, ◌||◌, ◌∙◌, ℕ, ◌+◌, ◌<◌, Bool, true, false, List, [], length, get_or, set, take, nat_eq, add-one, ap, sym, refl}
 use Rattle.std.specs.Prelude.{All}
 use Rattle.std.proofs.Math.Bool.{or_assoc}
 use Rattle.std.proofs.lemmas.List.Elements.{All-cons, All-nil}

@@ -1,8 +1,9 @@
 -- What there is of each part of a design.
-use Rattle.std.specs.Prelude.{◌≡◌, ℕ, length}
+use Rattle.std.specs.Prelude.{◌≡◌, length}
 use Rattle.cmb_bench.specs.Netlist.{Netlist}
 use Rattle.cmb_bench.specs.declared.netlist.Kind.TheVariants as kind
 use Rattle.cmb_design.specs.Design.{Design}
+use Rattle.cmb_count.specs.Clocks.{clock_count}
 use Rattle.cmb_count.specs.Largest.{IsLargestDelay}
 use Rattle.cmb_count.specs.Parts.{part_count, silent_count, still_count}
 use Rattle.cmb_count.specs.Unused.{unused_count}
@@ -30,3 +31,7 @@ pub record AreCounts (design : Design) (counts : Counts) : Type 0 where
   pub still : counts.still ≡ still_count design
   pub unused : counts.unused ≡ unused_count design.netlist
   pub largest_delay : IsLargestDelay design counts.largest_delay
+  pub clocks : counts.clocks ≡ clock_count design
+  pub delay_rows : counts.delay_rows ≡ length design.delays
+  pub stimulus_rows : counts.stimulus_rows ≡ length design.stimuli
+  pub clock_rows : counts.clock_rows ≡ length design.clocks

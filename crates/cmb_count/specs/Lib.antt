@@ -4,3 +4,4 @@ pub mod Largest
 pub mod Counting
 pub mod Texts
 pub mod Unused
+pub mod Clocks

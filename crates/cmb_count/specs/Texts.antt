@@ -15,9 +15,17 @@ gate_rows gates =
     ++ (row gates.xor (codes "gates XOR") ++ (row gates.xnor (codes "gates XNOR")
     ++ (row gates.not (codes "gates NOT") ++ row gates.buff (codes "gates BUFF")))))))
 
-abbrev pub counts_rows : Counts → List ℕ
-counts_rows counts =
+abbrev pub table_rows : Counts → List ℕ
+table_rows counts =
+    row counts.clocks (codes "different clocks of flip-flops") ++ (row counts.delay_rows (codes "rows of delays")
+    ++ (row counts.stimulus_rows (codes "rows of stimuli") ++ row counts.clock_rows (codes "rows of clocks")))
+
+abbrev pub net_rows : Counts → List ℕ
+net_rows counts =
     row counts.nets (codes "nets") ++ (row counts.inputs (codes "inputs")
     ++ (row counts.silent (codes "inputs that are x at all ticks") ++ (gate_rows counts.gates
     ++ (row counts.flops (codes "flip-flops") ++ (row counts.still (codes "flip-flops that never sample")
     ++ (row counts.unused (codes "nets that drive nothing and are no outputs") ++ row counts.largest_delay (codes "ticks in the largest delay")))))))
+
+abbrev pub counts_rows : Counts → List ℕ
+counts_rows counts = net_rows counts ++ table_rows counts

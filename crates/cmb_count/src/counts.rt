@@ -3,6 +3,7 @@
 ghost use Rattle.std.specs.Prelude.{IfOk};
 ghost use Rattle.cmb_count.specs.Counting.{AreCounts, AreGateCounts};
 
+use crate::clocks::count_clocks;
 use crate::drivers::{Part, count_drivers, count_silent, count_still};
 use crate::largest::largest_delay;
 use crate::unused::count_unused;
@@ -39,6 +40,14 @@ pub struct Counts {
     pub unused: usize,
     /// The largest delay of a pin, in ticks; 0 where there are no pins.
     pub largest_delay: u32,
+    /// The different clocks of flip-flops.
+    pub clocks: usize,
+    /// The rows of the table of delays, without its header.
+    pub delay_rows: usize,
+    /// The rows of the table of stimuli, without its header.
+    pub stimulus_rows: usize,
+    /// The rows of the table of clocks, without its header.
+    pub clock_rows: usize,
 }
 
 fn count_gates(netlist: &Netlist) -> GateCounts
@@ -70,5 +79,9 @@ pub fn count_design(alloc: Global, design: &Design) -> Result<Counts, AllocError
         still: count_still(design),
         unused: count_unused(alloc, netlist)?,
         largest_delay: largest_delay(design),
+        clocks: count_clocks(alloc, design)?,
+        delay_rows: design.delay_rows(),
+        stimulus_rows: design.stimulus_rows(),
+        clock_rows: design.clock_rows(),
     })
 }

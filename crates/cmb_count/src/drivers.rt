@@ -48,7 +48,8 @@ fn is_gate(kind: Kind, driver: &Driver) -> bool
     }
 }
 
-fn is_of_part(part: &Part, driver: &Driver) -> bool
+/// Whether a driver is of a part.
+pub(crate) fn is_of_part(part: &Part, driver: &Driver) -> bool
     ensures { result ≡ is_part part.now driver.now }
 {
     match part {

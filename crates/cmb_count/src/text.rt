@@ -1,7 +1,7 @@
 //! The counts as a text.
 
 ghost use Rattle.std.specs.Prelude.{◌≡◌, ◌++◌, IfOk, OnOk, string_bytes};
-ghost use Rattle.cmb_count.specs.Texts.{counts_rows, gate_rows, row};
+ghost use Rattle.cmb_count.specs.Texts.{counts_rows, gate_rows, net_rows, row, table_rows};
 
 use crate::counts::{Counts, GateCounts};
 use std::alloc::{AllocError, Global};
@@ -25,26 +25,42 @@ fn push_gates(text: &mut String, gates: GateCounts) -> Result<(), AllocError>
     push_row(text, gates.buff, "gates BUFF")
 }
 
+fn push_tables(text: &mut String, counts: &Counts) -> Result<(), AllocError>
+    ensures { OnOk result (string_bytes text.new ≡ string_bytes text.old ++ table_rows counts.now) }
+{
+    push_row(text, counts.clocks, "different clocks of flip-flops")?;
+    push_row(text, counts.delay_rows, "rows of delays")?;
+    push_row(text, counts.stimulus_rows, "rows of stimuli")?;
+    push_row(text, counts.clock_rows, "rows of clocks")
+}
+
+fn push_nets(text: &mut String, counts: &Counts) -> Result<(), AllocError>
+    ensures { OnOk result (string_bytes text.new ≡ string_bytes text.old ++ net_rows counts.now) }
+{
+    push_row(text, counts.nets, "nets")?;
+    push_row(text, counts.inputs, "inputs")?;
+    push_row(text, counts.silent, "inputs that are x at all ticks")?;
+    push_gates(text, counts.gates)?;
+    push_row(text, counts.flops, "flip-flops")?;
+    push_row(text, counts.still, "flip-flops that never sample")?;
+    push_row(
+        text,
+        counts.unused,
+        "nets that drive nothing and are no outputs",
+    )?;
+    push_row(
+        text,
+        counts.largest_delay as usize,
+        "ticks in the largest delay",
+    )
+}
+
 /// The counts as a text, each on a line of its own.
 pub fn counts_text(alloc: Global, counts: &Counts) -> Result<String, AllocError>
     ensures { IfOk result (λ text. string_bytes text ≡ counts_rows counts.now) }
 {
     let mut text = String::new(alloc);
-    push_row(&mut text, counts.nets, "nets")?;
-    push_row(&mut text, counts.inputs, "inputs")?;
-    push_row(&mut text, counts.silent, "inputs that are x at all ticks")?;
-    push_gates(&mut text, counts.gates)?;
-    push_row(&mut text, counts.flops, "flip-flops")?;
-    push_row(&mut text, counts.still, "flip-flops that never sample")?;
-    push_row(
-        &mut text,
-        counts.unused,
-        "nets that drive nothing and are no outputs",
-    )?;
-    push_row(
-        &mut text,
-        counts.largest_delay as usize,
-        "ticks in the largest delay",
-    )?;
+    push_nets(&mut text, counts)?;
+    push_tables(&mut text, counts)?;
     Ok(text)
 }

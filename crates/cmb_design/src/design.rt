@@ -197,6 +197,27 @@ impl Design {
         &self.netlist
     }
 
+    /// How many rows the table of delays has.
+    pub fn delay_rows(&self) -> usize
+        ensures { result ≡ length self.now.delays }
+    {
+        self.delays.as_slice().len()
+    }
+
+    /// How many rows the table of stimuli has.
+    pub fn stimulus_rows(&self) -> usize
+        ensures { result ≡ length self.now.stimuli }
+    {
+        self.stimuli.as_slice().len()
+    }
+
+    /// How many rows the table of clocks has.
+    pub fn clock_rows(&self) -> usize
+        ensures { result ≡ length self.now.clocks }
+    {
+        self.clocks.as_slice().len()
+    }
+
     /// The delay, in ticks, from a pin of a net's driver to the net: that of the pin's row, else of the net's, else of
     /// the kind's, else 1. Pins count from 1 in the order of operands; a flip-flop's data is pin 1.
     pub fn delay(&self, net: usize, pin: usize) -> u32

@@ -15,9 +15,11 @@ pub enum Place {
     Line,
     /// The record of a table, counted from 1; the header is the first.
     Record,
+    /// The line of the list of nets, counted from 1.
+    Listed,
     /// The number of a net.
     Net,
-    /// The number of an input: 1 the netlist, 2 the delays, 3 the stimuli, 4 the clocks.
+    /// The number of an input: 1 the netlist, 2 the delays, 3 the stimuli, 4 the clocks, 5 the list of nets.
     Input,
     /// How many bytes were written.
     Bytes,
@@ -47,7 +49,7 @@ pub fn explanation_of(number: u32) -> Option<Explanation>
     match number {
         1..=8 => netlist_fault(number),
         23..=32 | 34..=37 => table_fault(number),
-        53 | 60..=62 | 70 => running_fault(number),
+        38 | 53 | 60..=62 | 70 => running_fault(number),
         _ => settings_fault(number),
     }
 }

@@ -1,9 +1,19 @@
-//! The faults of a run, its inputs and its output.
+//! The faults of the list of nets, of a run, its inputs and its output.
 
 ghost use Rattle.std.specs.Prelude.{◌≡◌, ◌↔◌, IsSome, IfSome};
 ghost use Rattle.cmb_explain.specs.Known.{IsRunningFault, place_of};
 
 use crate::explanation::{Explanation, Place};
+
+const UNKNOWN: Explanation = Explanation {
+    number: 38,
+    place: Place::Listed,
+    meaning: "no net has this name",
+    example: "--only FILE with a line y2, where the netlist has no net y2",
+    advice: "\
+Mend the name, in capitals or not as the netlist has it. A list has the names of nets alone, one
+a line; # begins a comment.",
+};
 
 const INCOMPLETE: Explanation = Explanation {
     number: 53,
@@ -47,19 +57,20 @@ const MEMORY: Explanation = Explanation {
     number: 70,
     place: Place::Nowhere,
     meaning: "out of memory",
-    example: "(ulimit -v 20000; cmbsim run --horizon 1000000 < netlist.bench)",
+    example: "(ulimit -v 10000; cmbsim run --mode plain --horizon 900000 < netlist.bench) with 17 nets",
     advice: "\
 Memory was refused, or a thread was, as by a limit on a user's processes: take a smaller horizon
 or fewer workers. Mode free writes while it runs, and keeps less.",
 };
 
-/// The explanation of a fault of a run, its inputs or its output; `None` of any other number.
+/// The explanation of a fault of the list of nets, of a run, its inputs or its output; `None` of any other number.
 pub(crate) fn running_fault(number: u32) -> Option<Explanation>
     ensures known { IsSome result ↔ IsRunningFault number }
     ensures number { IfSome result (λ e. e.number ≡ number) }
     ensures place { IfSome result (λ e. e.place ≡ place_of number) }
 {
     match number {
+        38 => Some(UNKNOWN),
         53 => Some(INCOMPLETE),
         60 => Some(TOO_LONG),
         61 => Some(READ),

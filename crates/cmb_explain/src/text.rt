@@ -16,9 +16,10 @@ A fault is told by one line on standard error, `cmbsim: fault N at P`, with stat
 ";
 
 const LIST_END: &str = "
-The inputs are 1 the netlist, 2 the delays, 3 the stimuli and 4 the clocks. The record of a table
-is counted from 1, its header being the first; lines that are empty don't count. Delays are read
-first, then stimuli, then clocks, and their rows are then checked in that order.
+The inputs are 1 the netlist, 2 the delays, 3 the stimuli, 4 the clocks and 5 the list of nets.
+The record of a table is counted from 1, its header being the first; lines that are empty don't
+count. Delays are read first, then stimuli, then clocks, and their rows are then checked in that
+order. The line of fault 38 is that of the list.
 
 `cmbsim explain N` has an example of fault N, and says what to do. An empty netlist is no fault:
 its waveforms have no nets, and some viewers refuse to open them.
@@ -29,6 +30,7 @@ fn place_word(place: Place) -> &'static str {
     match place {
         Place::Line => "line",
         Place::Record => "record",
+        Place::Listed => "line",
         Place::Net => "net",
         Place::Input => "input",
         Place::Bytes => "bytes",
@@ -43,8 +45,11 @@ fn place_words(place: Place) -> &'static str {
         Place::Record => {
             "the record of the table, its header being 1; lines that are empty don't count"
         }
+        Place::Listed => "the line of the list of nets",
         Place::Net => "the number of a net that wasn't complete, the first of the netlist being 0",
-        Place::Input => "the input: 1 the netlist, 2 the delays, 3 the stimuli, 4 the clocks",
+        Place::Input => {
+            "the input: 1 the netlist, 2 the delays, 3 the stimuli, 4 the clocks, 5 the list of nets"
+        }
         Place::Bytes => "how many bytes were written",
         Place::Nowhere => "always 0",
     }

@@ -10,7 +10,7 @@ use Rattle.cmb_design.specs.Faults.{fault_number}
 use Rattle.cmb_explain.specs.Known.{IsFaultNumber, IsNetlistFault, IsSettingsFault, IsTableFault, Within}
 use Rattle.cmb_sim.specs.Numbers.{number_of}
 use Rattle.cmb_sim.specs.declared.fault.Fault.{Fault}
-use Rattle.cmb_sim.specs.declared.fault.Fault.TheVariants.{Bench, Design, Clusters, Incomplete, Workers, TooLong, Read, Write, Memory}
+use Rattle.cmb_sim.specs.declared.fault.Fault.TheVariants.{Bench, Design, Unknown, Clusters, Incomplete, Workers, TooLong, Read, Write, Memory}
 
 -- ---- a fault's number is explained
 
@@ -23,7 +23,7 @@ of_kind kind.Driven = inl (omega arith, omega arith)
 of_kind kind.Undriven = inl (omega arith, omega arith)
 of_kind kind.TooMany = inl (omega arith, omega arith)
 of_kind kind.Name = inl (omega arith, omega arith)
-of_kind kind.Memory = inr (inr (inr (inr (inr refl))))
+of_kind kind.Memory = inr (inr (inr (inr (inr (inr refl)))))
 
 -- a number of a fault of tables, and one of settings
 table : (n : ℕ) → IsTableFault n → IsFaultNumber n
@@ -51,18 +51,19 @@ of_design (design.PinName n) = table 34 (inr (omega arith, omega arith))
 of_design (design.NoPin n) = table 35 (inr (omega arith, omega arith))
 of_design (design.ClockRange n) = table 36 (inr (omega arith, omega arith))
 of_design (design.NotFlop n) = table 37 (inr (omega arith, omega arith))
-of_design design.Memory = inr (inr (inr (inr (inr refl))))
+of_design design.Memory = inr (inr (inr (inr (inr (inr refl)))))
 
 pub explained : (f : Fault) → IsFaultNumber (number_of f)
 explained (Bench f) = of_kind f.kind
 explained (Design f) = of_design f
+explained (Unknown line) = inr (inr (inr (inl refl)))
 explained Clusters = settings 40 (inr (inr (inl refl)))
-explained (Incomplete net upto) = inr (inr (inr (inl refl)))
+explained (Incomplete net upto) = inr (inr (inr (inr (inl refl))))
 explained Workers = settings 54 (inr (inr (inr refl)))
-explained (TooLong input) = inr (inr (inr (inr (inl (omega arith, omega arith)))))
-explained (Read input) = inr (inr (inr (inr (inl (omega arith, omega arith)))))
-explained (Write written) = inr (inr (inr (inr (inl (omega arith, omega arith)))))
-explained Memory = inr (inr (inr (inr (inr refl))))
+explained (TooLong input) = inr (inr (inr (inr (inr (inl (omega arith, omega arith))))))
+explained (Read input) = inr (inr (inr (inr (inr (inl (omega arith, omega arith))))))
+explained (Write written) = inr (inr (inr (inr (inr (inl (omega arith, omega arith))))))
+explained Memory = inr (inr (inr (inr (inr (inr refl)))))
 
 -- ---- an explained number is that of a fault
 
@@ -128,6 +129,7 @@ of_fault n (inr (inr (inl (inl h)))) = of_setting n h
 of_fault n (inr (inr (inl (inr (inl e))))) = (Design design.TableTooLarge, sym e)
 of_fault n (inr (inr (inl (inr (inr (inl e)))))) = (Clusters, sym e)
 of_fault n (inr (inr (inl (inr (inr (inr e)))))) = (Workers, sym e)
-of_fault n (inr (inr (inr (inl e)))) = (Incomplete 0 0, sym e)
-of_fault n (inr (inr (inr (inr (inl h))))) = of_end n h
-of_fault n (inr (inr (inr (inr (inr e))))) = (Memory, sym e)
+of_fault n (inr (inr (inr (inl e)))) = (Unknown 1, sym e)
+of_fault n (inr (inr (inr (inr (inl e))))) = (Incomplete 0 0, sym e)
+of_fault n (inr (inr (inr (inr (inr (inl h)))))) = of_end n h
+of_fault n (inr (inr (inr (inr (inr (inr e)))))) = (Memory, sym e)

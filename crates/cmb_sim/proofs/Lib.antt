@@ -1,6 +1,7 @@
+pub mod Chosen
+pub mod Explained
+pub mod FreeTexts
 pub mod Known
 pub mod Outcomes
 pub mod PlainRuns
 pub mod RoundRuns
-pub mod FreeTexts
-pub mod Explained

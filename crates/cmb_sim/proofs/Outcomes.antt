@@ -65,6 +65,7 @@ LacksDesign-of settings i texts are (fault.TooLong n) h = absurd h
 LacksDesign-of settings i texts are (fault.Read n) h = absurd h
 LacksDesign-of settings i texts are (fault.Write n) h = absurd h
 LacksDesign-of settings i texts are (fault.Incomplete n t) h = absurd h
+LacksDesign-of settings i texts are (fault.Unknown k) h = absurd h
 LacksDesign-of settings i texts are fault.Clusters h = absurd h
 LacksDesign-of settings i texts are fault.Workers h = absurd h
 LacksDesign-of settings i texts are fault.Memory h = tt
@@ -78,6 +79,7 @@ LacksDesign-unread settings i (fault.Bench f) h = absurd h
 LacksDesign-unread settings i (fault.Design f) h = absurd h
 LacksDesign-unread settings i (fault.Write n) h = absurd h
 LacksDesign-unread settings i (fault.Incomplete n t) h = absurd h
+LacksDesign-unread settings i (fault.Unknown k) h = absurd h
 LacksDesign-unread settings i fault.Clusters h = absurd h
 LacksDesign-unread settings i fault.Workers h = absurd h
 
@@ -90,6 +92,7 @@ failed_input-any A B (fault.Bench f) = refl
 failed_input-any A B (fault.Design f) = refl
 failed_input-any A B (fault.Write n) = refl
 failed_input-any A B (fault.Incomplete n t) = refl
+failed_input-any A B (fault.Unknown k) = refl
 failed_input-any A B fault.Clusters = refl
 failed_input-any A B fault.Workers = refl
 
@@ -120,6 +123,7 @@ IsOutcome-unread settings mode i old n (fault.Design f) r h =
     (r, ((h.0, h.1, (h.2.0, h.2.1, first_fault-some _ _ f h.2.2)), untouched old n))
 IsOutcome-unread settings mode i old n (fault.Write k) r h = absurd h
 IsOutcome-unread settings mode i old n (fault.Incomplete k t) r h = absurd h
+IsOutcome-unread settings mode i old n (fault.Unknown k) r h = absurd h
 IsOutcome-unread settings mode i old n fault.Clusters r h = absurd h
 IsOutcome-unread settings mode i old n fault.Workers r h = absurd h
 IsOutcome-unread settings mode i old n fault.Memory r h = (r, inl (untouched old n))
@@ -165,6 +169,7 @@ IsOutcome-written settings mode i old new before after design report read found 
 -- a fault of the mode comes before anything is written
 pub IsUnwritten-unrun : (mode : Mode) (old : Option (List ℕ)) (n : ℕ) (design : Design) (f : Fault) → IsUnrun mode design f → IsUnwritten mode design (output old old n n) f
 IsUnwritten-unrun mode old n design (fault.Design f) h = (h, untouched old n)
+IsUnwritten-unrun mode old n design (fault.Unknown k) h = absurd h
 IsUnwritten-unrun mode old n design fault.Clusters h = (h, untouched old n)
 IsUnwritten-unrun mode old n design fault.Workers h = (h, untouched old n)
 IsUnwritten-unrun mode old n design fault.Memory h = inl (untouched old n)
@@ -178,6 +183,7 @@ IsAnswer-unwritten : (settings : Settings) (mode : Mode) (i : Inputs) (o : Outpu
     → FoundDesign settings i design → (f : Fault) → IsUnwritten mode design o f → IsAnswer settings mode i o (Err f)
 IsAnswer-unwritten settings mode i o design found (fault.Design f) h =
     ((found.0, found.1, (found.2.netlist, found.2.read, mode_fault found.0 settings mode found.2.netlist design f found.2.checked found.2.is h.0)), h.1)
+IsAnswer-unwritten settings mode i o design found (fault.Unknown k) h = absurd h.0
 IsAnswer-unwritten settings mode i o design found fault.Clusters h = ((found.0, found.1, (HaveDesign-of settings mode i design found h.0.0, h.0.1)), h.1)
 IsAnswer-unwritten settings mode i o design found fault.Workers h = ((found.0, found.1, (HaveDesign-of settings mode i design found h.0.0, h.0.1, h.0.2)), h.1)
 IsAnswer-unwritten settings mode i o design found fault.Memory (inl h) = inl h

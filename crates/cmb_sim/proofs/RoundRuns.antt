@@ -37,6 +37,7 @@ unfolding first_fault
 no_checks = refl
 
 pub IsUnrun-clusters : (mode : Mode) (design : Design) (f : Fault) → first_fault (mode_checks mode design) ≡ None → IsClustersFault (clusters_of mode) f → IsUnrun mode design f
+IsUnrun-clusters mode design (fault.Unknown k) none h = absurd h
 IsUnrun-clusters mode design fault.Clusters none h = (none, h)
 IsUnrun-clusters mode design fault.Memory none h = tt
 IsUnrun-clusters mode design fault.Workers none h = absurd h

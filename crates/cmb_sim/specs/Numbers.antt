@@ -3,6 +3,8 @@ use Rattle.std.specs.Prelude.{ℕ, List, ◌++◌, codes, decimal}
 use Rattle.cmb_bench.specs.declared.fault.BenchFault.{BenchFault}
 use Rattle.cmb_bench.specs.declared.fault.FaultKind.{FaultKind}
 use Rattle.cmb_bench.specs.declared.fault.FaultKind.TheVariants as kind
+use Rattle.cmb_bench.specs.declared.listed.ListFault.{ListFault}
+use Rattle.cmb_bench.specs.declared.listed.ListFault.TheVariants as list_fault
 use Rattle.cmb_bench.specs.FirstFault.{number_of_fault}
 use Rattle.cmb_design.specs.declared.fault.DesignFault.{DesignFault}
 use Rattle.cmb_design.specs.declared.fault.DesignFault.TheVariants as design_fault
@@ -12,11 +14,12 @@ use Rattle.cmb_run.specs.declared.run_fault.RunFault.TheVariants as run_fault
 use Rattle.cmb_stream.specs.declared.fault.StreamFault.{StreamFault}
 use Rattle.cmb_stream.specs.declared.fault.StreamFault.TheVariants as stream_fault
 use Rattle.cmb_sim.specs.declared.fault.Fault.{Fault}
-use Rattle.cmb_sim.specs.declared.fault.Fault.TheVariants.{Bench, Design, Clusters, Incomplete, Workers, TooLong, Read, Write, Memory}
+use Rattle.cmb_sim.specs.declared.fault.Fault.TheVariants.{Bench, Design, Unknown, Clusters, Incomplete, Workers, TooLong, Read, Write, Memory}
 
 abbrev pub number_of : Fault → ℕ
 number_of (Bench fault) = number_of_fault fault.kind
 number_of (Design fault) = fault_number fault
+number_of (Unknown line) = 38
 number_of Clusters = 40
 number_of (Incomplete net upto) = 53
 number_of Workers = 54
@@ -28,6 +31,7 @@ number_of Memory = 70
 abbrev pub place_of : Fault → ℕ
 place_of (Bench fault) = fault.line
 place_of (Design fault) = fault_record fault
+place_of (Unknown line) = line
 place_of Clusters = 0
 place_of (Incomplete net upto) = net
 place_of Workers = 0
@@ -51,6 +55,10 @@ bench_as_fault fault = of_kind fault.kind fault
 abbrev pub design_as_fault : DesignFault → Fault
 design_as_fault design_fault.Memory = Memory
 design_as_fault fault = Design fault
+
+abbrev pub list_as_fault : ListFault → Fault
+list_as_fault (list_fault.Unknown line) = Unknown line
+list_as_fault list_fault.Memory = Memory
 
 -- of a run that was stopped the collector is let go
 abbrev pub run_as_fault : RunFault → Fault

@@ -1,6 +1,7 @@
 -- What the stages of a simulation answer, each as a part of the whole's outcome. Of public contracts only those of reading and of `check` cite these.
 use Rattle.std.specs.Prelude.{◌≡◌, ℕ, ◌+◌, ◌<◌, ◌⊎◌, List, length, take, Some, None, ⊤}
 use Rattle.std.specs.Io.KnownBytes.{Appends}
+use Rattle.cmb_bench.specs.Listed.{HasUnknown}
 use Rattle.cmb_bench.specs.Netlist.{Netlist}
 use Rattle.cmb_bench.specs.Meaning.{Reads}
 use Rattle.cmb_bench.specs.FirstFault.{IsFirstFault}
@@ -9,8 +10,11 @@ use Rattle.cmb_design.specs.Design.{Design}
 use Rattle.cmb_design.specs.Exact.{nets_of}
 use Rattle.cmb_design.specs.declared.settings.Settings.{Settings}
 use Rattle.cmb_vcd.specs.Beginnings.{HasBegun}
+use Rattle.cmb_vcd.specs.Chosen.{vcd_of}
 use Rattle.cmb_vcd.specs.Vcd.{vcd}
 use Rattle.cmb_sim.specs.Simulation.{AreTexts, HasFailed, HasTooMany, Input, Inputs, IsFree, IsUntouched, Output, StopsAt, Texts, IsLawfulCount, clusters_of, design_in, mode_checks, text_checks, workers_of}
+use Rattle.cmb_sim.specs.declared.choice.Pick.{Pick}
+use Rattle.cmb_sim.specs.declared.choice.Pick.TheVariants.{Listed}
 use Rattle.cmb_sim.specs.declared.fault.Fault.{Fault}
 use Rattle.cmb_sim.specs.declared.fault.Fault.TheVariants as fault
 use Rattle.cmb_sim.specs.declared.mode.Mode.{Mode}
@@ -54,6 +58,7 @@ LacksDesign settings i (fault.Bench f) = (texts : Texts) × AreTexts i texts × 
 LacksDesign settings i (fault.Design f) = (texts : Texts) × AreTexts i texts × HaveTextFault texts settings (fault.Design f)
 LacksDesign settings i (fault.Write n) = ⊥
 LacksDesign settings i (fault.Incomplete net upto) = ⊥
+LacksDesign settings i (fault.Unknown n) = ⊥
 LacksDesign settings i fault.Clusters = ⊥
 LacksDesign settings i fault.Workers = ⊥
 LacksDesign settings i fault.Memory = ⊤
@@ -81,6 +86,17 @@ IsUnwritten mode design o (fault.Write n) = CanRun mode design × (n < length (v
 IsUnwritten mode design o (fault.Incomplete net upto) = CanRun mode design × IsFree mode × (net < nets_of design) × (upto < design.horizon) × HasBegun design o.old o.new × (o.after ≡ o.before)
 IsUnwritten mode design o fault.Memory = IsUntouched o ⊎ (CanRun mode design × IsFree mode × HasBegun design o.old o.new × (o.after ≡ o.before))
 IsUnwritten mode design o f = IsUnrun mode design f × IsUntouched o
+
+-- why the text of chosen nets wasn't written whole
+abbrev pub IsUnshown : Mode → Design → List ℕ → Output → Fault → Type 0
+IsUnshown mode design nets o (fault.Write n) = CanRun mode design × (n < length (vcd_of design nets)) × Appends o.old o.new (take n (vcd_of design nets)) × (o.after ≡ o.before + 1)
+IsUnshown mode design nets o f = IsUnrun mode design f × IsUntouched o
+
+-- why no nets are chosen: memory aside, a token of the list that is no net's name
+abbrev pub IsUnchosen : Pick → Netlist → List ℕ → Fault → Type 0
+IsUnchosen pick netlist names (fault.Unknown line) = (pick ≡ Listed) × HasUnknown netlist names line
+IsUnchosen pick netlist names fault.Memory = ⊤
+IsUnchosen pick netlist names _ = ⊥
 
 -- why there is no clustering of so many clusters
 abbrev pub IsClustersFault : ℕ → Fault → Type 0

@@ -1,17 +1,17 @@
 //! Why a simulation didn't write its text.
 
 ghost use Rattle.std.specs.Prelude.{◌≡◌, IfOk};
-ghost use Rattle.cmb_sim.specs.Numbers.{bench_as_fault, design_as_fault, line_of, number_of, place_of, run_as_fault};
-ghost use Rattle.cmb_sim.specs.Numbers.{stream_as_fault};
+ghost use Rattle.cmb_sim.specs.Numbers.{bench_as_fault, design_as_fault, line_of, list_as_fault, number_of, place_of};
+ghost use Rattle.cmb_sim.specs.Numbers.{run_as_fault, stream_as_fault};
 
-use cmb_bench::{BenchFault, FaultKind};
+use cmb_bench::{BenchFault, FaultKind, ListFault};
 use cmb_design::DesignFault;
 use cmb_run::RunFault;
 use cmb_stream::StreamFault;
 use std::alloc::{AllocError, Global};
 use thiserror::Error;
 
-/// Why a simulation didn't write its text. Inputs are 1 the netlist, 2 the delays, 3 the stimuli and 4 the clocks.
+/// Why a simulation didn't write its text. Inputs are 1 the netlist, 2 the delays, 3 the stimuli, 4 the clocks and 5 the list of nets.
 #[derive(Debug, Drop, Error)]
 pub enum Fault {
     /// 1 to 8: the netlist is wrong, on a line.
@@ -20,6 +20,9 @@ pub enum Fault {
     /// 20 to 37: a table, the settings or the rows make no design, or the design is too large for its mode.
     #[error("{0}")]
     Design(DesignFault),
+    /// 38: what stands on this line of the list of nets, counted from 1, is no net's name.
+    #[error("the list, line {line}: no net has this name")]
+    Unknown { line: u32 },
     /// 40: the number of clusters isn't from 1 to 64.
     #[error("the number of clusters isn't from 1 to 64")]
     Clusters,
@@ -65,6 +68,17 @@ impl From<DesignFault> for Fault {
     }
 }
 
+impl From<ListFault> for Fault {
+    ghost from_gives = { λ fault wider. wider ≡ list_as_fault fault };
+
+    fn from(fault: ListFault) -> Fault {
+        match fault {
+            ListFault::Unknown { line } => Fault::Unknown { line },
+            ListFault::Memory => Fault::Memory,
+        }
+    }
+}
+
 impl From<AllocError> for Fault {
     ghost use Rattle.cmb_sim.specs.declared.fault.Fault.TheVariants.{Memory};
 
@@ -99,13 +113,14 @@ impl From<StreamFault> for Fault {
 }
 
 impl Fault {
-    /// The fault's number: 1 to 8, 20 to 37, 40, 53, 54, 60 to 62, and 70 for want of memory.
+    /// The fault's number: 1 to 8, 20 to 38, 40, 53, 54, 60 to 62, and 70 for want of memory.
     pub fn number(&self) -> u32
         ensures { result ≡ number_of self.now }
     {
         match self {
             Fault::Bench(fault) => fault.number(),
             Fault::Design(fault) => fault.number(),
+            Fault::Unknown { .. } => 38,
             Fault::Clusters => 40,
             Fault::Incomplete { .. } => 53,
             Fault::Workers => 54,
@@ -116,7 +131,7 @@ impl Fault {
         }
     }
 
-    /// Where the fault stands: the line of a netlist or the record of a table, both counted from 1,
+    /// Where the fault stands: the line of a netlist or of a list, or the record of a table, all counted from 1,
     /// the number of a net or of an input, or how many bytes were written; else 0.
     pub fn place(&self) -> u64
         ensures { result ≡ place_of self.now }
@@ -124,6 +139,7 @@ impl Fault {
         match self {
             Fault::Bench(fault) => u64::from(fault.line),
             Fault::Design(fault) => u64::from(fault.record()),
+            Fault::Unknown { line } => u64::from(*line),
             Fault::Clusters | Fault::Workers => 0,
             Fault::Incomplete { net, .. } => u64::from(*net),
             Fault::TooLong { input } => u64::from(*input),

@@ -34,7 +34,7 @@ pub const RUN: &str =
     "Reads a netlist from standard input and writes a value change dump (VCD) to standard output";
 
 pub const CHECK: &str =
-    "Reads what run would simulate, and prints how many nets, gates and flip-flops it has";
+    "Reads what run would simulate, and counts its nets, gates, flip-flops, clocks and rows";
 
 pub const EXPLAIN_FAULT: &str = "Says a fault in words too, with its file and its line or record";
 

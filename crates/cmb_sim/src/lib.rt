@@ -3,6 +3,8 @@
 
 pub mod carrying;
 pub mod check;
+pub mod choice;
+pub mod choosing;
 mod clock;
 mod explaining;
 pub mod fault;
@@ -18,6 +20,8 @@ pub mod texts;
 
 pub use carrying::{Done, carry_out};
 pub use check::check_design;
+pub use choice::{Choice, Pick};
+pub use choosing::simulate_chosen;
 pub use cmb_bench::{BenchFault, FaultKind};
 pub use cmb_count::{Counts, counts_text};
 pub use cmb_design::{DesignFault, Settings};

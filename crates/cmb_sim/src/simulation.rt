@@ -32,7 +32,7 @@ pub struct Report {
 }
 
 // The design that four texts spell.
-fn spelled_design(
+pub(crate) fn spelled_design(
     alloc: Global,
     bench: &[u8],
     delays: &[u8],

@@ -20,7 +20,11 @@ pub struct InputTexts {
 }
 
 // The whole text of the input with this number.
-fn read_input<S: Source>(alloc: Global, source: &mut S, number: u32) -> Result<Vec<u8>, Fault>
+pub(crate) fn read_input<S: Source>(
+    alloc: Global,
+    source: &mut S,
+    number: u32,
+) -> Result<Vec<u8>, Fault>
     requires { S.failures source.old < 2 ^ 64 - 1 }
     ensures whole { IfOk result (λ text. IsWhole (S.remaining source.old) text.items) }
     ensures fault { IfErr result (IsUnread number

@@ -73,8 +73,10 @@ impl<'a> Kept<'a> {
         Ok(())
     }
 
-    /// How many bytes are kept.
-    pub fn len(&self) -> usize {
+    /// How many bytes are kept: those that were made and not handed on.
+    pub fn len(&self) -> usize
+        ensures { self.now.given + result ≡ length (made_text self.now.design self.now.clock) }
+    {
         self.text.len()
     }
 

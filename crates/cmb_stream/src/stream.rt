@@ -99,8 +99,10 @@ impl<'a> Stream<'a> {
         self.engine.clock()
     }
 
-    /// How many bytes are kept.
-    pub fn kept(&self) -> usize {
+    /// How many bytes are kept: those that were made and not handed on.
+    pub fn kept(&self) -> usize
+        ensures { self.now.given + result ≡ length (made_text self.now.design self.now.clock) }
+    {
         self.kept.len()
     }
 

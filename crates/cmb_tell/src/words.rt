@@ -27,6 +27,7 @@ fn input_name(line: &Line, input: u64) -> &str {
         2 => &line.delays,
         3 => &line.stimuli,
         4 => &line.clocks,
+        5 => return "the list",
         _ => return "the netlist",
     };
     match file {
@@ -121,6 +122,7 @@ pub fn fault_words(alloc: Global, given: &Given<'_>, fault: &Fault) -> Result<St
     match entry.place {
         Place::Line => push_line(&mut text, given, place, entry)?,
         Place::Record => push_record(alloc, &mut text, given, fault, meaning)?,
+        Place::Listed => write!(text, "the list, line {place}: {meaning}")?,
         Place::Input => {
             let name = input_name(given.line, place);
             write!(text, "{name}: {meaning}")?;

@@ -1,7 +1,7 @@
 pub mod Codes
 pub mod BeginFacts
 pub mod CollectorFacts
-pub mod EventFacts
+pub mod ValueChangeFacts
 pub mod ExactFacts
 pub mod ExampleFacts
 pub mod Known

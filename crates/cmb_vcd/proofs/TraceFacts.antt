@@ -9,8 +9,8 @@ use Rattle.cmb_wave.specs.declared.level.Level.{Level}
 use Rattle.cmb_wave.specs.declared.level.Change.{Change}
 use Rattle.cmb_wave.specs.Waveform.{IsTrace, Rises, below, at_or_after, changes_below, level_at, same_level}
 use Rattle.cmb_wave.proofs.Lists.{below_length, drop_below, take_below, same_level_refl, test_of_differs}
-use Rattle.cmb_vcd.specs.declared.events.Event.{Event}
-use Rattle.cmb_vcd.specs.Events.{events_of, is_at, within}
+use Rattle.cmb_vcd.specs.declared.value_changes.ValueChange.{ValueChange}
+use Rattle.cmb_vcd.specs.ValueChanges.{value_changes_of, is_at, within}
 use Rattle.cmb_vcd.specs.Vcd.{level_line}
 
 pub rises_take : (low count : ℕ) (cs : List Change) → Rises low cs → Rises low (take count cs)
@@ -118,24 +118,24 @@ changes_at-within from to tick (c ∷ cs) h k = by (nat_lt c.tick to) refl (nat_
 
 -- ---- as changes of a net
 
-pub filter-events_of : (tick net : ℕ) (cs : List Change) → filter (is_at tick) (events_of net cs) ≡ events_of net (changes_at tick cs)
-unfolding events_of
-filter-events_of tick net [] = refl
-filter-events_of tick net (c ∷ cs) = by (c.tick == tick) (filter-events_of tick net cs)
+pub filter-value_changes_of : (tick net : ℕ) (cs : List Change) → filter (is_at tick) (value_changes_of net cs) ≡ value_changes_of net (changes_at tick cs)
+unfolding value_changes_of
+filter-value_changes_of tick net [] = refl
+filter-value_changes_of tick net (c ∷ cs) = by (c.tick == tick) (filter-value_changes_of tick net cs)
   where
-    by : (b : Bool) → filter (is_at tick) (events_of net cs) ≡ events_of net (changes_at tick cs)
-        → cond b (record { tick = c.tick; net = net; level = c.level } ∷ filter (is_at tick) (events_of net cs)) (filter (is_at tick) (events_of net cs)) ≡ events_of net (cond b (c ∷ changes_at tick cs) (changes_at tick cs))
+    by : (b : Bool) → filter (is_at tick) (value_changes_of net cs) ≡ value_changes_of net (changes_at tick cs)
+        → cond b (record { tick = c.tick; net = net; level = c.level } ∷ filter (is_at tick) (value_changes_of net cs)) (filter (is_at tick) (value_changes_of net cs)) ≡ value_changes_of net (cond b (c ∷ changes_at tick cs) (changes_at tick cs))
     by true more = ap (λ es. record { tick = c.tick; net = net; level = c.level } ∷ es) more
     by false more = more
 
 -- the text of changes of one tick
-abbrev pub lines_of : List Event → List ℕ
+abbrev pub lines_of : List ValueChange → List ℕ
 lines_of events = flat_map (λ event. level_line event.level event.net) events
 
-pub line_at : (tick net : ℕ) (before after : Level) → lines_of (events_of net (change_to tick before after)) ≡ cond (same_level before after) [] (level_line after net)
-unfolding events_of
+pub line_at : (tick net : ℕ) (before after : Level) → lines_of (value_changes_of net (change_to tick before after)) ≡ cond (same_level before after) [] (level_line after net)
+unfolding value_changes_of
 line_at tick net before after = by (same_level before after)
   where
-    by : (b : Bool) → lines_of (events_of net (cond b [] (record { tick = tick; level = after } ∷ []))) ≡ cond b [] (level_line after net)
+    by : (b : Bool) → lines_of (value_changes_of net (cond b [] (record { tick = tick; level = after } ∷ []))) ≡ cond b [] (level_line after net)
     by true = refl
     by false = append-nil (level_line after net)

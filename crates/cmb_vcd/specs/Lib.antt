@@ -2,7 +2,7 @@ pub mod Beginnings
 pub mod Chosen
 pub mod Collector
 pub mod Ends
-pub mod Events
+pub mod ValueChanges
 pub mod Examples
 pub mod Faults
 pub mod ReadyCodes

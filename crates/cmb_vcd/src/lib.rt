@@ -2,7 +2,6 @@
 #![tactic(auto)]
 
 pub mod collector;
-mod events;
 pub mod examples;
 pub mod fault;
 pub mod laws;
@@ -11,6 +10,7 @@ pub mod ready_codes;
 pub mod sink;
 pub mod text;
 mod ticks;
+mod value_changes;
 pub mod writer;
 
 pub use collector::Collector;

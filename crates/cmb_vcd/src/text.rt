@@ -4,15 +4,17 @@ ghost use Rattle.std.specs.Prelude.{◌≡◌, ◌++◌, ◌<◌, ◌≤◌, ℕ
 ghost use Rattle.std.specs.List.{All};
 ghost use Rattle.cmb_wave.specs.Waveform.{level_at};
 ghost use Rattle.cmb_vcd.specs.Collector.{IsComplete, IsExactFor, IsFor, collected_level};
-ghost use Rattle.cmb_vcd.specs.Events.{AreFromStart, end_line, part_events, ticks_between};
+ghost use Rattle.cmb_vcd.specs.ValueChanges.{AreFromStart, end_line, value_changes_in, ticks_between};
 ghost use Rattle.cmb_vcd.specs.Ticks.{IsWithin, span_lines};
 ghost use Rattle.cmb_vcd.specs.Vcd.{level_lines, text_of, tick_text, vcd};
 
 use crate::collector::Collector;
-use crate::events::{Part, gather, parts_within, push_events, sort_events};
 use crate::lines::{push_header, push_tick};
 use crate::ready_codes::Codes;
 use crate::ticks::{by_ticks, count_of, push_by_ticks};
+use crate::value_changes::{
+    NetChanges, gather, net_changes_within, push_value_changes, sort_value_changes,
+};
 use cmb_design::Design;
 use cmb_wave::{Level, Wave};
 use std::alloc::{AllocError, Global};
@@ -62,13 +64,13 @@ fn push_first(out: &mut Vec<u8>, codes: &Codes, waves: &[Wave]) -> Result<(), Al
 }
 
 // The lines of changes, which are sorted by comparison: for few changes in a long span of ticks.
-fn push_compared(out: &mut Vec<u8>, codes: &Codes, parts: &[Part]) -> Result<(), AllocError>
-    ensures { (from to : ℕ) → 0 < from → from ≤ to → All (IsWithin from to) (part_events parts.now)
-        → OnOk result (out.new.items ≡ out.old.items ++ span_lines (part_events parts.now) from to) }
+fn push_compared(out: &mut Vec<u8>, codes: &Codes, parts: &[NetChanges]) -> Result<(), AllocError>
+    ensures { (from to : ℕ) → 0 < from → from ≤ to → All (IsWithin from to) (value_changes_in parts.now)
+        → OnOk result (out.new.items ≡ out.old.items ++ span_lines (value_changes_in parts.now) from to) }
 {
     let mut events = gather(*out.allocator(), parts)?;
-    sort_events(&mut events)?;
-    push_events(out, codes, 0, events.as_slice())?;
+    sort_value_changes(&mut events)?;
+    push_value_changes(out, codes, 0, events.as_slice())?;
     Ok(())
 }
 
@@ -76,15 +78,15 @@ fn push_compared(out: &mut Vec<u8>, codes: &Codes, parts: &[Part]) -> Result<(),
 fn push_counted(
     out: &mut Vec<u8>,
     codes: &Codes,
-    parts: &[Part],
+    parts: &[NetChanges],
     from: u32,
     to: u32,
     count: u32,
 ) -> Result<(), AllocError>
     requires order { from ≤ to }
-    requires inside { All (IsWithin from to) (part_events parts.now) }
-    requires count { count ≡ length (part_events parts.now) }
-    ensures { OnOk result (out.new.items ≡ out.old.items ++ span_lines (part_events parts.now) from to) }
+    requires inside { All (IsWithin from to) (value_changes_in parts.now) }
+    requires count { count ≡ length (value_changes_in parts.now) }
+    ensures { OnOk result (out.new.items ≡ out.old.items ++ span_lines (value_changes_in parts.now) from to) }
 {
     let sorted = by_ticks(*out.allocator(), parts, from, to, count)?;
     out.reserve(count as usize * LONGEST_LINE)?;
@@ -96,14 +98,14 @@ fn push_counted(
 fn push_parts(
     out: &mut Vec<u8>,
     codes: &Codes,
-    parts: &[Part],
+    parts: &[NetChanges],
     from: u32,
     to: u32,
 ) -> Result<(), AllocError>
     requires late { 0 < from }
     requires order { from ≤ to }
-    requires inside { All (IsWithin from to) (part_events parts.now) }
-    ensures { OnOk result (out.new.items ≡ out.old.items ++ span_lines (part_events parts.now) from to) }
+    requires inside { All (IsWithin from to) (value_changes_in parts.now) }
+    ensures { OnOk result (out.new.items ≡ out.old.items ++ span_lines (value_changes_in parts.now) from to) }
 {
     match count_of(parts) {
         Some(count) if count >= (to - from) / TICKS_A_CHANGE => push_counted(
@@ -128,7 +130,7 @@ fn push_later(
     ensures { OnOk result (out.new.items
         ≡ out.old.items ++ ticks_between (length waves.now) (collected_level waves.now) from to) }
 {
-    let parts = parts_within(*out.allocator(), waves, from, to)?;
+    let parts = net_changes_within(*out.allocator(), waves, from, to)?;
     push_parts(out, codes, &parts, from, to)?;
     Ok(())
 }

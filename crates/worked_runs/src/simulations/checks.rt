@@ -45,7 +45,8 @@ fn counts(rt: HostRuntime) -> Result<(), Fail> {
                 "       2  gates NOT\n",
                 "       1  flip-flops\n       0  flip-flops that never sample\n",
                 "       1  nets that drive nothing and are no outputs\n",
-                "       7  ticks in the largest delay\n",
+                "       7  ticks in the largest delay\n       1  different clocks of flip-flops\n",
+                "       2  rows of delays\n       2  rows of stimuli\n       0  rows of clocks\n",
             ] {
                 assert!(rt; text.as_str().contains(row), "{text}");
             }

@@ -1,7 +1,7 @@
 use Rattle.std.proofs.Common.{◌≡◌, ◌<◌, ◌≤◌, ◌+◌, ◌-◌, ◌&&◌, cond, not, nat_lt, sym, ◌∙◌, ap, arith, append_assoc, refl}
 use Rattle.cmb_wave.specs.Waveform.{same_level}
 use Rattle.cmb_core.specs.Spans.{changes_from}
-use Rattle.cmb_core.specs.Rows.{sampled}
+use Rattle.cmb_core.specs.Rows.{sampled_wave}
 use Rattle.cmb_core.specs.Step.{wave_at}
 use Rattle.cmb_core.proofs.AdvanceLemmas.{flop_halves}
 use Rattle.cmb_core.proofs.advance.flop_changes.Goals as goal
@@ -24,5 +24,5 @@ returns c =
     let held = c.in_ok-held_changes.ensures (λ t. c.args.init) (λ t h. refl) in
     let tail = c.sampled_changes-2.ensures c.args.init begun in
     let whole = flop_halves (wave_at c.args.waves.now c.args.operand.net) c.args.first c.args.period c.args.operand.delay c.args.init span.before c.if-begins_anew.before span.from middle span.until a b early ends in
-    let joined = append_assoc c.args.room.now.items (changes_from (λ t. c.args.init) span.before span.from (middle - span.from)) (changes_from (sampled (wave_at c.args.waves.now c.args.operand.net) c.args.first c.args.period c.args.init c.args.operand.delay) c.if-begins_anew.before middle (span.until - middle)) in
+    let joined = append_assoc c.args.room.now.items (changes_from (λ t. c.args.init) span.before span.from (middle - span.from)) (changes_from (sampled_wave (wave_at c.args.waves.now c.args.operand.net) c.args.first c.args.period c.args.init c.args.operand.delay) c.if-begins_anew.before middle (span.until - middle)) in
     rw (held, joined, whole) at tail

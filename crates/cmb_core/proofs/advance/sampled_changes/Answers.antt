@@ -4,7 +4,7 @@ use Rattle.cmb_wave.specs.Waveform.{level_at}
 use Rattle.cmb_core.specs.declared.merge.Lag.TheVariants.{Sampled}
 use Rattle.cmb_core.specs.Spans.{changes_from}
 use Rattle.cmb_core.specs.Arrivals.{arrived, last_sample}
-use Rattle.cmb_core.specs.Rows.{sampled}
+use Rattle.cmb_core.specs.Rows.{sampled_wave}
 use Rattle.cmb_core.specs.Step.{wave_at}
 use Rattle.cmb_core.proofs.AdvanceLemmas.{sampled_span}
 use Rattle.cmb_core.proofs.Skips.{arrived_sampled}
@@ -20,7 +20,7 @@ returns c = λ init begun.
     λ t h k. arrived_sampled c.args.first c.args.period delay left.level left.changes.now t c.requires.positive k ∙ c.operand_left-level.ensures _ (c.seen_upto-seen.ensures t h k)
     in
     let same : changes_from shown span.before span.from (span.until - span.from)
-    ≡ changes_from (sampled (wave_at c.args.waves.now c.args.operand.net) c.args.first c.args.period init delay) span.before span.from (span.until - span.from) =
+    ≡ changes_from (sampled_wave (wave_at c.args.waves.now c.args.operand.net) c.args.first c.args.period init delay) span.before span.from (span.until - span.from) =
     sampled_span (wave_at c.args.waves.now c.args.operand.net) c.args.first c.args.period delay init span.before shown span.from span.until levels c.requires.ordered begun
     in
     rw same at c.follow.ensures

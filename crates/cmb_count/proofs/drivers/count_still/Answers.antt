@@ -1,4 +1,4 @@
-use Rattle.std.proofs.Common.{◌≡◌, ◌∙◌, ap, sym, arith, rules, ◌+◌}
+use Rattle.std.proofs.Common.{◌∙◌, ap, sym, arith, ◌+◌}
 use Rattle.cmb_count.proofs.BelowFacts.{count_below-fail, count_below-none, count_below-pass}
 use Rattle.cmb_count.proofs.drivers.count_still.Goals.{then-is_still_flop, else-is_still_flop}
 use Rattle.cmb_count.proofs.drivers.count_still.Goals as goal

@@ -1,4 +1,3 @@
-use Rattle.std.proofs.Common.{◌≡◌, ◌<◌, ◌≤◌, ℕ}
 use Rattle.cmb_count.specs.Largest.{BoundsBelow, IsDelayOfPin}
 use Rattle.cmb_count.proofs.largest.largest_delay.Given as goal
 

@@ -1,4 +1,4 @@
-use Rattle.std.proofs.Common.{◌≡◌, ◌∙◌, ◌+◌, ◌≤◌, ◌<◌, ap, sym, arith, rules, length, max}
+use Rattle.std.proofs.Common.{◌≡◌, ◌∙◌, ◌+◌, ap, arith, rules, length, max}
 use Rattle.cmb_bench.specs.Netlist.{driver_of, pins_of}
 use Rattle.cmb_design.specs.Nets.{pins_at}
 use Rattle.cmb_design.specs.Timing.{delay}

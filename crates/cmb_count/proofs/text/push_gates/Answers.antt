@@ -1,5 +1,4 @@
-use Rattle.std.proofs.Common.{◌≡◌, ◌++◌, List, ℕ, OnOk, append_assoc, refl, subst, string_bytes}
-use Rattle.cmb_count.specs.Texts.{gate_rows}
+use Rattle.std.proofs.Common.{append_assoc}
 use Rattle.cmb_count.proofs.text.push_gates.Goals as goal
 
 pub returns : goal.returns

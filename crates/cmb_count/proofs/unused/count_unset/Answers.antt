@@ -1,4 +1,4 @@
-use Rattle.std.proofs.Common.{◌≡◌, ◌∙◌, ap, sym, arith, not, ◌+◌, get_or, false}
+use Rattle.std.proofs.Common.{◌∙◌, ap, sym, arith, not, ◌+◌, get_or, false}
 use Rattle.cmb_count.proofs.BelowFacts.{count_below-fail, count_below-none, count_below-pass}
 use Rattle.cmb_count.proofs.unused.count_unset.Goals.{then-not-marks-net, else-not-marks-net}
 use Rattle.cmb_count.proofs.unused.count_unset.Goals as goal

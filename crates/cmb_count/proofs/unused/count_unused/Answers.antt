@@ -1,4 +1,4 @@
-use Rattle.std.proofs.Common.{◌≡◌, ◌∙◌, ◌<◌, ap, sym, arith, rules, not, false, get_or, length, ℕ}
+use Rattle.std.proofs.Common.{◌∙◌, ap, not, false, get_or, length}
 use Rattle.cmb_count.specs.Below.{count_below}
 use Rattle.cmb_count.specs.Unused.{is_unused}
 use Rattle.cmb_count.proofs.BelowFacts.{count_below-same}

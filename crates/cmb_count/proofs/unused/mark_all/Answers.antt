@@ -1,4 +1,4 @@
-use Rattle.std.proofs.Common.{◌≡◌, ◌∙◌, ap, arith, rules, length, get_or, false, List, ℕ, take, subst, ◌||◌}
+use Rattle.std.proofs.Common.{◌∙◌, ap, arith, rules, get_or, false, List, ℕ, ◌||◌}
 use Rattle.std.proofs.lemmas.List.{take_all}
 use Rattle.cmb_count.specs.Unused.{is_among}
 use Rattle.cmb_count.proofs.MarkFacts.{marked_more}

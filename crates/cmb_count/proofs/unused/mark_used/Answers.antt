@@ -1,7 +1,5 @@
-use Rattle.std.proofs.Common.{◌≡◌, ◌∙◌, ◌||◌, ◌<◌, ap, arith, rules, sym, subst, length, ℕ, List, Bool, false}
+use Rattle.std.proofs.Common.{◌∙◌, ◌<◌, arith, rules, sym, subst, length, ℕ, List}
 use Rattle.std.specs.Prelude.{All}
-use Rattle.cmb_bench.specs.Netlist.{Netlist}
-use Rattle.cmb_count.specs.Unused.{is_among, is_used_below}
 use Rattle.cmb_count.proofs.MarkFacts.{pins_are_nets, used_more, used_none}
 use Rattle.cmb_count.proofs.unused.mark_used.Goals as goal
 

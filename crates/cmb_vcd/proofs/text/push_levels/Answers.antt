@@ -4,7 +4,7 @@ use Rattle.cmb_wave.specs.Wave.{Wave}
 use Rattle.cmb_wave.specs.Waveform.{level_at}
 use Rattle.cmb_vcd.specs.Collector.{collected_level, wave_of}
 use Rattle.cmb_vcd.specs.Vcd.{level_line, level_lines}
-use Rattle.cmb_vcd.proofs.EventFacts.{wave_here}
+use Rattle.cmb_vcd.proofs.ValueChangeFacts.{wave_here}
 use Rattle.cmb_design.proofs.LevelFacts.{push-rest}
 use Rattle.cmb_vcd.proofs.LineFacts.{level_lines-next, level_lines-none}
 use Rattle.cmb_vcd.proofs.text.push_levels.Goals as goal

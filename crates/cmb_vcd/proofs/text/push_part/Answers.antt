@@ -1,6 +1,6 @@
 use Rattle.std.proofs.Common.{length}
 use Rattle.cmb_vcd.specs.Collector.{collected_level}
-use Rattle.cmb_vcd.specs.Events.{end_line, ticks_between}
+use Rattle.cmb_vcd.specs.ValueChanges.{end_line, ticks_between}
 use Rattle.cmb_vcd.proofs.LineFacts.{joined}
 use Rattle.cmb_vcd.proofs.text.push_part.Goals as goal
 

@@ -1,7 +1,7 @@
 use Rattle.std.proofs.Common.{◌≡◌, ◌∙◌, ◌++◌, ap, sym, arith, length}
 use Rattle.std.proofs.lemmas.List.{append-nil}
 use Rattle.cmb_vcd.specs.Collector.{collected_level}
-use Rattle.cmb_vcd.specs.Events.{ticks_between}
+use Rattle.cmb_vcd.specs.ValueChanges.{ticks_between}
 use Rattle.cmb_vcd.specs.Vcd.{tick_text}
 use Rattle.cmb_vcd.proofs.LineFacts.{joined}
 use Rattle.cmb_vcd.proofs.PartFacts.{ticks_between-first, ticks_between-none}

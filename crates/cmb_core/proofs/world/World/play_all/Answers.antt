@@ -3,7 +3,7 @@ use Rattle.std.proofs.lemmas.List.{take_all}
 use Rattle.cmb_core.specs.Clocks.{start}
 use Rattle.cmb_core.specs.Run.{clocks_after}
 use Rattle.cmb_core.specs.Play.{shown}
-use Rattle.cmb_core.specs.World.{World as Waves, Shows}
+use Rattle.cmb_core.specs.World.{WorldWaves, Shows}
 use Rattle.cmb_core.proofs.RoundFacts.{at_err}
 use Rattle.cmb_core.proofs.Runs.{turn_world, turn_replies, run_from}
 use Rattle.cmb_core.proofs.world.World.play_all.Goals as goal
@@ -37,5 +37,5 @@ pub returns-clause-exact : goal.returns-clause-exact
 returns-clause-exact c = λ design clustering past of reached.
     let all : take c.loop-event.event-index c.args.events.now ≡ c.args.events.now = take_all c.loop-event.event-index c.args.events.now (omega arith) in
     let same = rw all at (c.loop-event.invariant.world design clustering of) in
-    let P : Waves → Type 0 = λ w. Shows design clustering w (clocks_after design clustering (clocks_after design clustering (start design clustering) past) c.args.events.now) in
+    let P : WorldWaves → Type 0 = λ w. Shows design clustering w (clocks_after design clustering (clocks_after design clustering (start design clustering) past) c.args.events.now) in
     subst P (sym same) (run_from design of.netlist clustering of.lawful (shown c.args.self.now) past c.args.events.now reached).0

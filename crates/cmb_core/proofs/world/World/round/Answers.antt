@@ -3,7 +3,7 @@ use Rattle.cmb_core.specs.Clocks.{Clocks, start}
 use Rattle.cmb_core.specs.Run.{clocks_after}
 use Rattle.cmb_core.specs.Play.{shown}
 use Rattle.cmb_core.specs.Rounds.{step_events, passing_events, round_events}
-use Rattle.cmb_core.specs.World.{World as Waves, Shows, new_world, world_after}
+use Rattle.cmb_core.specs.World.{WorldWaves, Shows, new_world, world_after}
 use Rattle.cmb_core.proofs.Machine.{clocks_after-append}
 use Rattle.cmb_core.proofs.RoundFacts.{at_err, round_clocks}
 use Rattle.cmb_core.proofs.Runs.{together_after, together_reached}
@@ -40,6 +40,6 @@ returns-clause-exact c = λ design clustering past of reached.
     let clocks : Clocks = clocks_after design clustering (start design clustering) past in
     let t = together_reached design of.netlist clustering of.lawful (shown c.args.self.now) past reached in
     let after = together_after design of.netlist clustering of.lawful (round_events design clustering (shown c.args.self.now)) (shown c.args.self.now) clocks t in
-    let P : Waves → Type 0 = λ w. Shows design clustering w (clocks_after design clustering clocks (round_events design clustering (shown c.args.self.now))) in
+    let P : WorldWaves → Type 0 = λ w. Shows design clustering w (clocks_after design clustering clocks (round_events design clustering (shown c.args.self.now))) in
     let Q : Clocks → Type 0 = λ k. Shows design clustering (shown c.pass_on_each.new.self) k in
     subst Q (round_clocks design of.netlist clustering of.lawful (shown c.args.self.now) clocks t) (subst P (sym (returns-clause-played c design clustering of)) after.shows)

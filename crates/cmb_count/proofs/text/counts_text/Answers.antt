@@ -1,6 +1,0 @@
-use Rattle.std.proofs.Common.{◌≡◌, ◌++◌, append_assoc}
-use Rattle.cmb_count.proofs.text.counts_text.Goals as goal
-
-pub returns : goal.returns
-returns c =
-    rw (c.in_ok-push_row-7.ensures, c.in_ok-push_row-6.ensures, c.in_ok-push_row-5.ensures, c.in_ok-push_row-4.ensures, c.in_ok-push_gates.ensures, c.in_ok-push_row-3.ensures, c.in_ok-push_row-2.ensures, c.in_ok-push_row.ensures, c.new-text.ensures.bytes) (simp append_assoc)

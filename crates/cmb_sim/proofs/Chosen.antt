@@ -1,0 +1,172 @@
+-- The answers of the stages of a simulation of chosen nets as those of the whole.
+use Rattle.std.proofs.Common.{◌≡◌, ℕ, Bool, true, false, nat_lt, inl, inr, List, Option, None, Some, Result, Ok, Err, IfOk, IfErr, OnOk, refl, subst, arith}
+use Rattle.std.specs.Io.KnownBytes.{Appends}
+use Rattle.std.proofs.KnownBytes.{Keeps-refl}
+use Rattle.cmb_design.specs.Checks.{first_fault}
+use Rattle.cmb_design.specs.Design.{Design}
+use Rattle.cmb_design.specs.Plain.{cells_of}
+use Rattle.cmb_design.specs.declared.fault.DesignFault.TheVariants.{TableTooLarge}
+use Rattle.cmb_design.specs.declared.settings.Settings.{Settings}
+use Rattle.cmb_vcd.specs.Chosen.{vcd_of}
+use Rattle.cmb_sim.proofs.Outcomes.{NoneFailedBut-any, NoneFailedBut-same}
+use Rattle.cmb_sim.specs.Choosing.{AreAllTexts, AreChosen, Choose, IsChosenAnswer, IsChosenOutcome, IsListText, chosen_report}
+use Rattle.cmb_sim.specs.Simulation.{AreTexts, HasNotFailed, Input, Inputs, IsUntouched, NoneFailedBut, Output, Texts, failed_input, mode_checks, output}
+use Rattle.cmb_sim.specs.Stages.{CanRun, HaveTextFault, IsUnchosen, IsUnread, IsUnrun, IsUnshown, LacksTexts, SpellAny}
+use Rattle.cmb_sim.specs.declared.choice.Choice.TheVariants.{Only}
+use Rattle.cmb_sim.specs.declared.choice.Pick.{Pick}
+use Rattle.cmb_sim.specs.declared.choice.Pick.TheVariants.{Listed}
+use Rattle.cmb_sim.specs.declared.fault.Fault.{Fault}
+use Rattle.cmb_sim.specs.declared.fault.Fault.TheVariants as fault
+use Rattle.cmb_sim.specs.declared.mode.Mode.{Mode}
+use Rattle.cmb_sim.specs.declared.mode.Mode.TheVariants.{Plain}
+use Rattle.cmb_sim.specs.declared.simulation.Report.{Report}
+use Rattle.cmb_sim.specs.declared.texts.InputTexts.{InputTexts}
+
+untouched : (old : Option (List ℕ)) (n : ℕ) → IsUntouched (output old old n n)
+untouched old n = (Keeps-refl old, refl)
+
+-- the check of mode plain
+pub plain_fits : (design : Design) → nat_lt 16777216 (cells_of design) ≡ false → first_fault (mode_checks Plain design) ≡ None
+unfolding first_fault
+plain_fits design e = rw e refl
+
+pub plain_too_large : (design : Design) → nat_lt 16777216 (cells_of design) ≡ true → first_fault (mode_checks Plain design) ≡ Some TableTooLarge
+unfolding first_fault
+plain_too_large design e = rw e refl
+
+-- one of the four inputs wasn't read
+unread : (settings : Settings) (mode : Mode) (pick : Pick) (i : Inputs) (list : Input) (old : Option (List ℕ)) (n : ℕ) (f : Fault)
+    → LacksTexts i f → IsChosenAnswer settings mode pick i list (output old old n n) (Err f)
+unread settings mode pick i list old n (fault.TooLong k) h = (inl h, untouched old n)
+unread settings mode pick i list old n (fault.Read k) h = (inl h, untouched old n)
+unread settings mode pick i list old n fault.Memory h = untouched old n
+unread settings mode pick i list old n (fault.Bench f) h = absurd h
+unread settings mode pick i list old n (fault.Design f) h = absurd h
+unread settings mode pick i list old n (fault.Write k) h = absurd h
+unread settings mode pick i list old n (fault.Incomplete k t) h = absurd h
+unread settings mode pick i list old n (fault.Unknown k) h = absurd h
+unread settings mode pick i list old n fault.Clusters h = absurd h
+unread settings mode pick i list old n fault.Workers h = absurd h
+
+pub IsChosenOutcome-unread : (settings : Settings) (mode : Mode) (pick : Pick) (i : Inputs) (list : Input) (old : Option (List ℕ)) (n : ℕ) (f : Fault)
+    → NoneFailedBut (failed_input {A = InputTexts} (Err f)) i → HasNotFailed list → LacksTexts i f → IsChosenOutcome settings mode (Only pick) i list (output old old n n) (Err f)
+IsChosenOutcome-unread settings mode pick i list old n f read quiet h =
+    ((NoneFailedBut-same InputTexts Report f i read, λ _. quiet), unread settings mode pick i list old n f h)
+
+-- the list wasn't read
+unlisted : (settings : Settings) (mode : Mode) (pick : Pick) (i : Inputs) (list : Input) (old : Option (List ℕ)) (n : ℕ) (texts : Texts) (f : Fault)
+    → AreTexts i texts → pick ≡ Listed → IsUnread 5 list f → IsChosenAnswer settings mode pick i list (output old old n n) (Err f)
+unlisted settings mode pick i list old n texts (fault.TooLong k) are is h = (inr (h.0, is, (texts, are), h.1), untouched old n)
+unlisted settings mode pick i list old n texts (fault.Read k) are is h = (inr (h.0, is, (texts, are), h.1), untouched old n)
+unlisted settings mode pick i list old n texts fault.Memory are is h = untouched old n
+unlisted settings mode pick i list old n texts (fault.Bench f) are is h = absurd h
+unlisted settings mode pick i list old n texts (fault.Design f) are is h = absurd h
+unlisted settings mode pick i list old n texts (fault.Write k) are is h = absurd h
+unlisted settings mode pick i list old n texts (fault.Incomplete k t) are is h = absurd h
+unlisted settings mode pick i list old n texts (fault.Unknown k) are is h = absurd h
+unlisted settings mode pick i list old n texts fault.Clusters are is h = absurd h
+unlisted settings mode pick i list old n texts fault.Workers are is h = absurd h
+
+list_failed : (A B : Type 0) (f : Fault) (list : Input) → ((failed_input {A = A} (Err f) ≡ 5 → ⊥) → HasNotFailed list) → (failed_input {A = B} (Err f) ≡ 5 → ⊥) → HasNotFailed list
+list_failed A B (fault.Read n) list h = h
+list_failed A B (fault.TooLong n) list h = h
+list_failed A B fault.Memory list h = h
+list_failed A B (fault.Bench f) list h = h
+list_failed A B (fault.Design f) list h = h
+list_failed A B (fault.Write n) list h = h
+list_failed A B (fault.Incomplete n t) list h = h
+list_failed A B (fault.Unknown n) list h = h
+list_failed A B fault.Clusters list h = h
+list_failed A B fault.Workers list h = h
+
+pub IsChosenOutcome-unlisted : (A : Type 0) (settings : Settings) (mode : Mode) (pick : Pick) (i : Inputs) (list : Input) (old : Option (List ℕ)) (n : ℕ) (texts : Texts) (f : Fault)
+    → NoneFailedBut 0 i → AreTexts i texts → pick ≡ Listed → IsUnread 5 list f → ((failed_input {A = A} (Err f) ≡ 5 → ⊥) → HasNotFailed list)
+    → IsChosenOutcome settings mode (Only pick) i list (output old old n n) (Err f)
+IsChosenOutcome-unlisted A settings mode pick i list old n texts f read are is h failed =
+    ((NoneFailedBut-any i (failed_input {A = Report} (Err f)) read, list_failed A Report f list failed), unlisted settings mode pick i list old n texts f are is h)
+
+-- the texts spell no design
+unspelled : (settings : Settings) (mode : Mode) (pick : Pick) (i : Inputs) (list : Input) (old : Option (List ℕ)) (n : ℕ) (texts : Texts) (names : List ℕ) (f : Fault)
+    → AreAllTexts pick i list texts names → HaveTextFault texts settings f → IsChosenAnswer settings mode pick i list (output old old n n) (Err f)
+unspelled settings mode pick i list old n texts names (fault.Bench f) are h = ((texts, names, are, h), untouched old n)
+unspelled settings mode pick i list old n texts names (fault.Design f) are h = (inl (texts, names, are, h), untouched old n)
+unspelled settings mode pick i list old n texts names fault.Memory are h = untouched old n
+unspelled settings mode pick i list old n texts names (fault.TooLong k) are h = absurd h
+unspelled settings mode pick i list old n texts names (fault.Read k) are h = absurd h
+unspelled settings mode pick i list old n texts names (fault.Write k) are h = absurd h
+unspelled settings mode pick i list old n texts names (fault.Incomplete k t) are h = absurd h
+unspelled settings mode pick i list old n texts names (fault.Unknown k) are h = absurd h
+unspelled settings mode pick i list old n texts names fault.Clusters are h = absurd h
+unspelled settings mode pick i list old n texts names fault.Workers are h = absurd h
+
+pub IsChosenOutcome-unspelled : (settings : Settings) (mode : Mode) (pick : Pick) (i : Inputs) (list : Input) (old : Option (List ℕ)) (n : ℕ) (texts : Texts) (names : List ℕ) (f : Fault)
+    → NoneFailedBut 0 i → HasNotFailed list → AreTexts i texts → IsListText pick list names → HaveTextFault texts settings f
+    → IsChosenOutcome settings mode (Only pick) i list (output old old n n) (Err f)
+IsChosenOutcome-unspelled settings mode pick i list old n texts names f read quiet are listed h =
+    ((NoneFailedBut-any i (failed_input {A = Report} (Err f)) read, λ _. quiet), unspelled settings mode pick i list old n texts names f (record { four = are; fifth = listed }) h)
+
+-- no nets are chosen
+unchosen : (settings : Settings) (mode : Mode) (pick : Pick) (i : Inputs) (list : Input) (old : Option (List ℕ)) (n : ℕ) (texts : Texts) (names : List ℕ) (design : Design) (f : Fault)
+    → AreAllTexts pick i list texts names → SpellAny texts settings design → IsUnchosen pick design.netlist names f → IsChosenAnswer settings mode pick i list (output old old n n) (Err f)
+unchosen settings mode pick i list old n texts names design (fault.Unknown line) are spelled h = ((h.0, (texts, names, are, (design, spelled, h.1))), untouched old n)
+unchosen settings mode pick i list old n texts names design fault.Memory are spelled h = untouched old n
+unchosen settings mode pick i list old n texts names design (fault.Bench f) are spelled h = absurd h
+unchosen settings mode pick i list old n texts names design (fault.Design f) are spelled h = absurd h
+unchosen settings mode pick i list old n texts names design (fault.TooLong k) are spelled h = absurd h
+unchosen settings mode pick i list old n texts names design (fault.Read k) are spelled h = absurd h
+unchosen settings mode pick i list old n texts names design (fault.Write k) are spelled h = absurd h
+unchosen settings mode pick i list old n texts names design (fault.Incomplete k t) are spelled h = absurd h
+unchosen settings mode pick i list old n texts names design fault.Clusters are spelled h = absurd h
+unchosen settings mode pick i list old n texts names design fault.Workers are spelled h = absurd h
+
+pub IsChosenOutcome-unchosen : (settings : Settings) (mode : Mode) (pick : Pick) (i : Inputs) (list : Input) (old : Option (List ℕ)) (n : ℕ) (texts : Texts) (names : List ℕ) (design : Design) (f : Fault)
+    → NoneFailedBut 0 i → HasNotFailed list → AreTexts i texts → IsListText pick list names → SpellAny texts settings design → IsUnchosen pick design.netlist names f
+    → IsChosenOutcome settings mode (Only pick) i list (output old old n n) (Err f)
+IsChosenOutcome-unchosen settings mode pick i list old n texts names design f read quiet are listed spelled h =
+    ((NoneFailedBut-any i (failed_input {A = Report} (Err f)) read, λ _. quiet), unchosen settings mode pick i list old n texts names design f (record { four = are; fifth = listed }) spelled h)
+
+-- the text of the chosen nets was written, or it wasn't
+pub IsUnshown-unrun : (mode : Mode) (design : Design) (nets : List ℕ) (old : Option (List ℕ)) (n : ℕ) (f : Fault) → IsUnrun mode design f → IsUnshown mode design nets (output old old n n) f
+IsUnshown-unrun mode design nets old n (fault.Design f) h = (h, untouched old n)
+IsUnshown-unrun mode design nets old n fault.Clusters h = (h, untouched old n)
+IsUnshown-unrun mode design nets old n fault.Workers h = (h, untouched old n)
+IsUnshown-unrun mode design nets old n fault.Memory h = (h, untouched old n)
+IsUnshown-unrun mode design nets old n (fault.Bench f) h = absurd h
+IsUnshown-unrun mode design nets old n (fault.Unknown k) h = absurd h
+IsUnshown-unrun mode design nets old n (fault.Incomplete k t) h = absurd h
+IsUnshown-unrun mode design nets old n (fault.TooLong k) h = absurd h
+IsUnshown-unrun mode design nets old n (fault.Read k) h = absurd h
+IsUnshown-unrun mode design nets old n (fault.Write k) h = absurd h
+
+unshown : (settings : Settings) (mode : Mode) (pick : Pick) (i : Inputs) (list : Input) (o : Output) (design : Design) (nets : List ℕ) (f : Fault)
+    → Choose settings pick i list design nets → IsUnshown mode design nets o f → IsChosenAnswer settings mode pick i list o (Err f)
+unshown settings mode pick i list o design nets (fault.Write n) choose h = (design, nets, choose, h.0, h.1, h.2, h.3)
+unshown settings mode pick i list o design nets (fault.Design f) choose h = (inr (design, nets, choose, h.0), h.1)
+unshown settings mode pick i list o design nets fault.Clusters choose h = ((design, nets, choose, h.0), h.1)
+unshown settings mode pick i list o design nets fault.Workers choose h = ((design, nets, choose, h.0), h.1)
+unshown settings mode pick i list o design nets fault.Memory choose h = h.1
+unshown settings mode pick i list o design nets (fault.Bench f) choose h = absurd h.0
+unshown settings mode pick i list o design nets (fault.Unknown k) choose h = absurd h.0
+unshown settings mode pick i list o design nets (fault.Incomplete k t) choose h = absurd h.0
+unshown settings mode pick i list o design nets (fault.TooLong k) choose h = absurd h.0
+unshown settings mode pick i list o design nets (fault.Read k) choose h = absurd h.0
+
+shown : (settings : Settings) (mode : Mode) (pick : Pick) (i : Inputs) (list : Input) (old new : Option (List ℕ)) (before after : ℕ) (design : Design) (nets : List ℕ) (result : Result Report Fault)
+    → NoneFailedBut 0 i → HasNotFailed list → Choose settings pick i list design nets
+    → IfOk result (λ report. report ≡ chosen_report design nets) → OnOk result (Appends old new (vcd_of design nets)) → OnOk result (after ≡ before)
+    → OnOk result (CanRun mode design) → IfErr result (IsUnshown mode design nets (output old new before after))
+    → IsChosenOutcome settings mode (Only pick) i list (output old new before after) result
+shown settings mode pick i list old new before after design nets (Ok report) read quiet choose told wrote same fits unwritten =
+    ((read, λ _. quiet), (design, nets, choose, fits, wrote, same, told))
+shown settings mode pick i list old new before after design nets (Err f) read quiet choose told wrote same fits unwritten =
+    ((NoneFailedBut-any i (failed_input {A = Report} (Err f)) read, λ _. quiet), unshown settings mode pick i list (output old new before after) design nets f choose unwritten)
+
+pub IsChosenOutcome-shown : (settings : Settings) (mode : Mode) (pick : Pick) (i : Inputs) (list : Input) (old new : Option (List ℕ)) (before after : ℕ)
+    (texts : Texts) (names : List ℕ) (design : Design) (nets : List ℕ) (result : Result Report Fault)
+    → NoneFailedBut 0 i → HasNotFailed list → AreTexts i texts → IsListText pick list names → SpellAny texts settings design → AreChosen pick design names nets
+    → IfOk result (λ report. report ≡ chosen_report design nets) → OnOk result (Appends old new (vcd_of design nets)) → OnOk result (after ≡ before)
+    → OnOk result (CanRun mode design) → IfErr result (IsUnshown mode design nets (output old new before after))
+    → IsChosenOutcome settings mode (Only pick) i list (output old new before after) result
+IsChosenOutcome-shown settings mode pick i list old new before after texts names design nets result read quiet are listed spelled chosen told wrote same fits unwritten =
+    shown settings mode pick i list old new before after design nets result read quiet
+    (record { texts = texts; names = names; are = record { four = are; fifth = listed }; spelled = spelled; chosen = chosen }) told wrote same fits unwritten
