@@ -9,13 +9,13 @@ _cmbsim() {
     case $before in
         --mode) mapfile -t COMPREPLY < <(compgen -W "rounds free plain" -- "$current") ;;
         --init) mapfile -t COMPREPLY < <(compgen -W "0 1 x" -- "$current") ;;
-        --delays | --stimuli | --clocks) mapfile -t COMPREPLY < <(compgen -f -- "$current") ;;
+        --delays | --stimuli | --clocks | --only) mapfile -t COMPREPLY < <(compgen -f -- "$current") ;;
         --horizon | --clock | --threads | --workers | --clusters) COMPREPLY=() ;;
         explain) mapfile -t COMPREPLY < <(compgen -W "$(echo {1..8} {20..38} 40 53 54 {60..62} 70)" -- "$current") ;;
         help) mapfile -t COMPREPLY < <(compgen -W "run check explain" -- "$current") ;;
         *)
             local options="--horizon --clock --init --delays --stimuli --clocks --explain --help"
-            [ "${COMP_WORDS[1]}" = check ] || options+=" --mode --threads --workers --clusters --progress --stats"
+            [ "${COMP_WORDS[1]}" = check ] || options+=" --mode --threads --workers --clusters --only --only-outputs --progress --stats"
             mapfile -t COMPREPLY < <(compgen -W "$options" -- "$current")
             ;;
     esac

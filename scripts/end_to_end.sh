@@ -113,6 +113,9 @@ refused netlist_as_a_word 2 run --horizon 10 netlist.bench
 refused horizon_of_0 2 run --horizon 0
 refused no_horizon 2 run --mode rounds
 refused no_such_mode 2 run --horizon 10 --mode slow
+refused two_choices 2 run --horizon 10 --only nets --only-outputs
+refused check_of_chosen_nets 2 check --horizon 10 --only-outputs
+refused missing_list 1 run --horizon 10 --only missing
 refused too_many_workers 2 run --horizon 10 --workers 65
 refused too_many_threads 2 run --horizon 10 --threads 65
 refused threads_and_workers 2 run --horizon 10 --threads 2 --workers 2
@@ -241,6 +244,15 @@ told_of_tables() { # the faults 23 to 32 and 34 to 37
     told_of_table 37 2 clocks 'y,1,2'
 }
 
+told_of_lists() { # the fault 38, and 60 and 61 of a list
+    printf '# nets\ny\n\nY\n' >"$faulty/nets"
+    told 38 4 "$clocked" --clock 2:4 --only nets
+    told 22 0 "$clocked" --only nets
+    told 60 5 "$clocked" --clock 2:4 --only long.csv
+    told 61 5 "$clocked" --clock 2:4 --only missing
+    told 61 5 "$clocked" --clock 2:4 --only .
+}
+
 told_of_the_machine() { # the faults 60, 61 and 70; 62 is that of a full disk
     local said
     head -c 16777217 /dev/zero >"$faulty/long.csv"
@@ -301,6 +313,7 @@ told_in_words() {
     in_words "delays.csv, line 3: an earlier row is about the same: net,y,3" "$clocked" --clock 2:4 --delays delays.csv
     printf 'net;first;period\n' >"$faulty/clocks.csv"
     in_words "clocks.csv, line 1: not the table's header: net;first;period" "$clocked" --clock 2:4 --clocks clocks.csv
+    in_words "nets, line 4: no net has this name: Y" "$clocked" --clock 2:4 --only nets
     local said
     said=$("$program" run --horizon 10 --explain 2>&1 >/dev/null </dev/null)
     if [ "$said" = "cmbsim: the netlist has no nets, so its waveforms have none, and some viewers refuse to open them" ]; then
@@ -364,9 +377,16 @@ told_of_netlists
 told_of_settings
 told_of_tables
 told_of_the_machine
+told_of_lists
 told_of_no_memory
 told_in_words
 told_meanwhile
+if scripts/chosen_cases.py "$program"; then
+    passed=$((passed + 1))
+else
+    failed=$((failed + 1))
+    echo "end to end: chosen nets FAILED"
+fi
 on_full_disk run --horizon 10
 on_full_disk --help
 on_full_disk --version

@@ -27,6 +27,7 @@ pub mod ToldFacts
 pub mod TraceFacts
 pub mod TruthFacts
 pub mod VisitFacts
+pub mod WalkFacts
 pub mod WindowFacts
 pub mod WordFacts
 pub mod ZeroFacts

@@ -1,10 +1,12 @@
 -- A set of numbers and the set of its words that aren't empty.
-use Rattle.std.proofs.Common.{◌≡◌, ◌≢◌, ℕ, ◌+◌, ◌*◌, ◌/◌, ◌%◌, ◌<◌, ◌≤◌, ◌⊎◌, inl, inr, true, false, not, Option, Some, None, MatchOption, ◌==◌, List, length, get_or, refl, sym, ap, ◌∙◌, arith}
+use Rattle.std.proofs.Common.{◌≡◌, ◌≢◌, ℕ, ◌+◌, ◌*◌, ◌/◌, ◌%◌, ◌<◌, ◌≤◌, ◌⊎◌, inl, inr, true, false, not, Option, Some, None, MatchOption, ◌==◌, List, length, get_or, refl, sym, ap, subst, ◌∙◌, arith}
 use Rattle.std.proofs.lemmas.Bool.{cases_eq, cases_lt, eqb-true, eq-eqb, ne_eqb, false≢true, not-false, eqb-false}
 use Rattle.std.proofs.lemmas.List.{get_or_past}
 use Rattle.std.proofs.lemmas.Nat.Bits.{bit_at-zero}
 use Rattle.std.specs.Prelude.{IfNone}
 use Rattle.cmb_engine.specs.Bits.{has, HasNone, IsNext, Inserts, Removes, IsSummary}
+use Rattle.cmb_engine.specs.declared.walk.Walk.{Walk}
+use Rattle.cmb_engine.specs.Walks.{walked}
 
 -- a word that is zero has no number
 pub has-zero_word : (words : List ℕ) (m : ℕ) → get_or words (m / 64) 0 ≡ 0 → has words m ≡ false
@@ -60,24 +62,24 @@ module _ (low high : List ℕ) (sum : IsSummary low high) where
   no_word : (m : ℕ) → has high (m / 64) ≡ false → has low m ≡ false
   no_word m none = has-zero_word low m (eqb-true _ _ (not-false _ (sym (sum.summed (m / 64)) ∙ none)))
 
-  pub marks-none : (n : ℕ) → HasNone low n (n / 64 * 64 + 64) → HasNone high (n / 64 + 1) (64 * length high) → HasNone low n (64 * length low)
-  marks-none n here above m from below = go (cases_lt m (n / 64 * 64 + 64))
+  pub marks-none : (w n : ℕ) → HasNone low n (64 * w + 64) → HasNone high (w + 1) (64 * length high) → HasNone low n (64 * length low)
+  marks-none w n here above m from below = go (cases_lt m (64 * w + 64))
     where
-      go : (m < n / 64 * 64 + 64) ⊎ (n / 64 * 64 + 64 ≤ m) → has low m ≡ false
+      go : (m < 64 * w + 64) ⊎ (64 * w + 64 ≤ m) → has low m ≡ false
       go (inl l) = here m from l
       go (inr l) = no_word m (above (m / 64) (omega arith) (omega (arith, sum.room)))
 
-  pub marks-next : (n k found : ℕ) → HasNone low n (n / 64 * 64 + 64) → IsNext high (n / 64 + 1) k → IsNext low (64 * k) found → IsNext low n found
-  marks-next n k found here above next =
-      record { from = omega (arith, above.from, next.from); member = next.member; least = λ m from below. go m from below (cases_lt m (n / 64 * 64 + 64)) (cases_lt m (64 * k)) }
+  marks-next : (w n k found : ℕ) → n ≤ 64 * w + 64 → HasNone low n (64 * w + 64) → IsNext high (w + 1) k → IsNext low (64 * k) found → IsNext low n found
+  marks-next w n k found at here above next =
+      record { from = omega (arith, at, above.from, next.from); member = next.member; least = λ m from below. go m from below (cases_lt m (64 * w + 64)) (cases_lt m (64 * k)) }
     where
-      go : (m : ℕ) → n ≤ m → m < found → (m < n / 64 * 64 + 64) ⊎ (n / 64 * 64 + 64 ≤ m) → (m < 64 * k) ⊎ (64 * k ≤ m) → has low m ≡ false
+      go : (m : ℕ) → n ≤ m → m < found → (m < 64 * w + 64) ⊎ (64 * w + 64 ≤ m) → (m < 64 * k) ⊎ (64 * k ≤ m) → has low m ≡ false
       go m from below (inl l) _ = here m from l
       go m from below (inr l) (inl j) = no_word m (above.least (m / 64) (omega arith) (omega arith))
       go m from below (inr l) (inr j) = next.least m j below
 
   -- a word whose bit is set isn't zero, and is there
-  pub marks-word : (n k : ℕ) → IsNext high n k → get_or low k 0 ≢ 0
+  marks-word : (n k : ℕ) → IsNext high n k → get_or low k 0 ≢ 0
   marks-word n k next none = false≢true (sym (ap not (eq-eqb (get_or low k 0) 0 none)) ∙ sym (sum.summed k) ∙ next.member)
 
   pub marks-room : (n k : ℕ) → IsNext high n k → k < length low
@@ -88,11 +90,12 @@ module _ (low high : List ℕ) (sum : IsSummary low high) where
       go (inr l) = absurd (marks-word n k next (get_or_past low k 0 l))
 
   -- what the word tells whose bit is the next one
-  pub marks-in_word : (n k : ℕ) → HasNone low n (n / 64 * 64 + 64) → IsNext high (n / 64 + 1) k → (found : Option ℕ)
-      → MatchOption found (HasNone low (64 * k) (64 * k / 64 * 64 + 64)) (λ m. IsNext low (64 * k) m × (m / 64 ≡ 64 * k / 64))
-      → ((64 * k) % 64 ≡ 0 → IfNone found (get_or low (64 * k / 64) 0 ≡ 0))
-      → MatchOption found (HasNone low n (64 * length low)) (IsNext low n)
-  marks-in_word n k here above (Some m) next empty = marks-next n k m here above next.0
-  marks-in_word n k here above None next empty =
-      let at : 64 * k / 64 ≡ k = omega arith in
-      absurd (marks-word (n / 64 + 1) k above (ap (λ i. get_or low i 0) (sym at) ∙ empty (omega arith)))
+  pub marks-in_word : (w n k : ℕ) → n ≤ 64 * w + 64 → HasNone low n (64 * w + 64) → IsNext high (w + 1) k → (at after : Walk) → at.word ≡ k → walked at ≡ 64 * k
+      → (found : Option ℕ)
+      → MatchOption found (HasNone low (walked at) (64 * at.word + 64) × (after ≡ at)) (λ m. IsNext low (walked at) m × (walked after ≡ m + 1))
+      → (walked at ≡ 64 * at.word → IfNone found (get_or low at.word 0 ≡ 0))
+      → MatchOption found (HasNone low n (64 * length low)) (λ m. IsNext low n m × (walked after ≡ m + 1))
+  marks-in_word w n k fits here above at after word begin (Some m) next empty =
+      (marks-next w n k m fits here above (subst (λ (i : ℕ). IsNext low i m) begin next.0), next.1)
+  marks-in_word w n k fits here above at after word begin None next empty =
+      absurd (marks-word (w + 1) k above (ap (λ i. get_or low i 0) (sym word) ∙ empty (begin ∙ ap (λ i. 64 * i) (sym word))))

@@ -1,5 +1,5 @@
 -- Sets of numbers by bits: number n is bit n % 64 of word n / 64. Only contracts inside this crate cite these.
-use Rattle.std.specs.Prelude.{◌≡◌, ◌≢◌, ℕ, ◌*◌, ◌/◌, ◌%◌, ◌<◌, ◌≤◌, Bool, true, false, not, ◌&&◌, ◌||◌, ◌==◌, List, length, slice_index}
+use Rattle.std.specs.Prelude.{◌≡◌, ◌≢◌, ℕ, ◌*◌, ◌/◌, ◌%◌, ◌^◌, ◌<◌, ◌≤◌, Bool, true, false, not, ◌&&◌, ◌||◌, ◌==◌, List, length, slice_index}
 use Rattle.std.specs.Int.{bit_at}
 
 -- whether a number is in the set
@@ -34,3 +34,14 @@ pub record Removes (old new : List ℕ) (n : ℕ) : Type 0 where
 pub record IsSummary (low high : List ℕ) : Type 0 where
   pub room : length low ≤ 64 * length high
   pub summed : (k : ℕ) → has high k ≡ not (slice_index low k == 0)
+
+-- the places of a word from one on, as bits
+pub record IsAhead (place ahead : ℕ) : Type 0 where
+  pub on : (i : ℕ) → place ≤ i → i < 64 → bit_at ahead i ≡ 1
+  pub off : (i : ℕ) → i < place → i < 64 → bit_at ahead i ≡ 0
+
+-- where a walk over numbers may be
+pub record IsWalk (word place ahead : ℕ) : Type 0 where
+  pub word_fits : word ≤ 2 ^ 58
+  pub place_fits : place ≤ 64
+  pub ahead_is : IsAhead place ahead

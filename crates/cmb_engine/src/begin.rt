@@ -8,6 +8,7 @@ ghost use Rattle.cmb_engine.specs.Words.{levels_of};
 use crate::marks::Marks;
 use crate::readers::Readers;
 use crate::settle::mark_all;
+use crate::walk::Walk;
 use cmb_words::Word;
 
 /// Marks the nets that read a live net whose word changes at a place or after it.
@@ -29,14 +30,13 @@ pub(crate) fn mark_news(
     ensures news { (net : ℕ) → net < length words.now → has live.now net ≡ true
         → IsSteadyFrom (levels_of words.now net) first ⊎ AreMarked (has marks.new) (slice_index_or readers.now net []) }
 {
-    let mut from = 0;
-    'nets: while let Some(net) = live.next_from(from) {
+    let mut walk = Walk::at(0);
+    'nets: while let Some(net) = live.next(&mut walk) {
         if net >= words.len() {
             break;
         }
         if !words[net].is_steady_from(first) {
             mark_all(marks, readers.of(net));
         }
-        from = net + 1;
     }
 }

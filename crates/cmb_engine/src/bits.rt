@@ -3,7 +3,10 @@
 ghost use Rattle.std.specs.Prelude.{◌≡◌, ℕ, ◌+◌, ◌*◌, ◌/◌, ◌%◌, ◌^◌, ◌<◌, ◌≤◌, ◌||◌, ◌&&◌, ◌==◌, false, not, length};
 ghost use Rattle.std.specs.Prelude.{slice_index, IfOk, IfNone, MatchOption};
 ghost use Rattle.cmb_engine.specs.Bits.{has, HasNone, IsNext, Inserts, Removes};
+ghost use Rattle.cmb_engine.specs.Walks.{walked};
 
+use crate::walk::Walk;
+use cmb_words::lowest;
 use std::alloc::{AllocError, Global};
 use std::marker::Model;
 
@@ -79,6 +82,25 @@ impl Bits {
         } else {
             Some(n / 64 * 64 + word.trailing_zeros() as usize)
         }
+    }
+
+    /// The least one in the word of a walk that the walk hasn't passed, which it passes then.
+    #[inline]
+    pub(crate) fn next_at(&self, walk: &mut Walk) -> Option<usize>
+        ensures next { MatchOption result
+            (HasNone self.now (walked walk.old) (64 * walk.old.word + 64) × (walk.new ≡ walk.old))
+            (λ found. IsNext self.now (walked walk.old) found × (walked walk.new ≡ found + 1)) }
+        ensures empty { walked walk.old ≡ 64 * walk.old.word
+            → IfNone result (slice_index self.now walk.old.word ≡ 0) }
+        ensures small { length self.now ≤ 2 ^ 58 }
+    {
+        let word = walk.word;
+        if word >= self.words.len() {
+            return None;
+        }
+        let place = lowest(self.words[word] & walk.ahead)?;
+        *walk = Walk::behind(word, place);
+        Some(64 * word + place as usize)
     }
 
     /// The least one at or after n.

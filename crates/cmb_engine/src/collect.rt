@@ -9,11 +9,13 @@ ghost use Rattle.cmb_engine.specs.Circuits.{AreQuiet};
 ghost use Rattle.cmb_engine.specs.Words.{levels_of};
 
 use crate::marks::Marks;
+use crate::walk::Walk;
 use cmb_words::{Changed, Word};
 use std::alloc::AllocError;
 
 /// Tells which of so many nets changed at a place or after it, each with its word, by rising number. What `changed` had
 /// is forgotten.
+#[inline(never)]
 pub(crate) fn collect(
     words: &[Word],
     live: &Marks,
@@ -34,8 +36,8 @@ pub(crate) fn collect(
         → IsSteadyFrom (levels_of words.now net) first) }
 {
     changed.clear();
-    let mut from = 0;
-    'nets: while let Some(net) = live.next_from(from) {
+    let mut walk = Walk::at(0);
+    'nets: while let Some(net) = live.next(&mut walk) {
         if net >= nets {
             break;
         }
@@ -46,7 +48,6 @@ pub(crate) fn collect(
                 word,
             })?;
         }
-        from = net + 1;
     }
     Ok(())
 }

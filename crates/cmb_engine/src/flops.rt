@@ -168,6 +168,7 @@ fn mark_group(group: &Group, cells: &Cells, words: &[Word], marks: &mut Marks, t
 
 /// Marks the flip-flops that get a sample in the window, from a place on, but those whose samples can only bring the
 /// level that they have.
+#[inline(never)]
 pub(crate) fn mark_arrivals(
     groups: &[Group],
     cells: &Cells,

@@ -24,6 +24,7 @@ mod state;
 mod stimuli;
 mod told;
 mod visit;
+mod walk;
 mod window;
 
 pub use engine::Engine;

@@ -2,8 +2,10 @@
 
 ghost use Rattle.std.specs.Prelude.{◌≡◌, ℕ, ◌+◌, ◌*◌, ◌<◌, ◌||◌, ◌&&◌, ◌==◌, false, not, length, IfOk, MatchOption};
 ghost use Rattle.cmb_engine.specs.Bits.{has, HasNone, IsNext};
+ghost use Rattle.cmb_engine.specs.Walks.{walked};
 
 use crate::bits::Bits;
+use crate::walk::Walk;
 use std::alloc::{AllocError, Global};
 use std::marker::Model;
 
@@ -59,18 +61,17 @@ impl Marks {
         }
     }
 
-    /// The least marked number at or after n.
+    /// The least marked number that a walk hasn't passed, which it passes then.
     #[inline]
-    pub(crate) fn next_from(&self, n: usize) -> Option<usize>
-        ensures { MatchOption result (HasNone self.now n (64 * length self.now)) (IsNext self.now n) }
+    pub(crate) fn next(&self, walk: &mut Walk) -> Option<usize>
+        ensures { MatchOption result (HasNone self.now (walked walk.old) (64 * length self.now))
+            (λ found. IsNext self.now (walked walk.old) found × (walked walk.new ≡ found + 1)) }
     {
-        if n / 64 >= self.low.len() {
-            return None;
-        }
-        if let Some(found) = self.low.next_in_word(n) {
+        if let Some(found) = self.low.next_at(walk) {
             return Some(found);
         }
-        let k = self.high.next_from(n / 64 + 1)?;
-        self.low.next_in_word(64 * k)
+        let k = self.high.next_from(walk.word + 1)?;
+        *walk = Walk::at(k);
+        self.low.next_at(walk)
     }
 }

@@ -6,10 +6,12 @@ ghost use Rattle.cmb_engine.specs.Circuits.{AreQuiet};
 ghost use Rattle.cmb_engine.specs.Words.{levels_of};
 
 use crate::marks::Marks;
+use crate::walk::Walk;
 use cmb_words::Word;
 
 /// Moves the words on by so many ticks: the levels of the live slots go to earlier places, and behind them the last one
 /// is repeated. A slot that has one level in all places then isn't live any more.
+#[inline(never)]
 pub(crate) fn move_on(words: &mut [Word], live: &mut Marks, ticks: u32)
     requires begun { 1 ≤ ticks }
     requires ticks { ticks < 64 }
@@ -21,8 +23,8 @@ pub(crate) fn move_on(words: &mut [Word], live: &mut Marks, ticks: u32)
         → levels_of words.new slot place ≡ levels_of words.old slot (min (place + ticks) 63) }
     ensures quiet { AreQuiet (levels_of words.new) (has live.new) (length words.old) }
 {
-    let mut from = 0;
-    'slots: while let Some(slot) = live.next_from(from) {
+    let mut walk = Walk::at(0);
+    'slots: while let Some(slot) = live.next(&mut walk) {
         if slot >= words.len() {
             break;
         }
@@ -31,6 +33,5 @@ pub(crate) fn move_on(words: &mut [Word], live: &mut Marks, ticks: u32)
         if word.is_steady_from(1) {
             live.remove(slot);
         }
-        from = slot + 1;
     }
 }

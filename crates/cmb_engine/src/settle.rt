@@ -13,6 +13,7 @@ use crate::arrivals::{Arrival, any_arrival};
 use crate::cells::Cells;
 use crate::marks::Marks;
 use crate::readers::Readers;
+use crate::walk::Walk;
 use cmb_words::Word;
 
 /// Marks some nets.
@@ -118,20 +119,20 @@ pub(crate) fn sweep(
         → IsTrueBelow (levels_of words.new) truth (cell_at cells.now) (upto + 1) }
 {
     let mut last = any_arrival(to, first);
-    let mut from = 0;
-    'nets: while let Some(net) = marks.next_from(from) {
+    let mut walk = Walk::at(0);
+    'nets: while let Some(net) = marks.next(&mut walk) {
         if net >= words.len() {
             break;
         }
         if visit(cells, readers, words, marks, &mut last, net, to, first) {
             live.insert(net);
         }
-        from = net + 1;
     }
 }
 
 /// Sweeps over the marked nets until none is left, or each place from one on was passed. What was true of the made
 /// words below the place is true in all of them.
+#[inline(never)]
 pub(crate) fn settle(
     cells: &Cells,
     readers: &Readers,
@@ -160,7 +161,7 @@ pub(crate) fn settle(
         → IsTrueBelow (levels_of words.new) truth (cell_at cells.now) 64 }
 {
     for _ in first..64 {
-        match marks.next_from(0) {
+        match marks.next(&mut Walk::at(0)) {
             None => return,
             Some(_) => sweep(cells, readers, words, marks, live, to, first),
         }

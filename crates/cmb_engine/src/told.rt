@@ -48,6 +48,7 @@ fn write_tell(
 }
 
 /// Writes what is told into the words that end before a tick, and marks who reads the slots that it is told of.
+#[inline(never)]
 pub(crate) fn write_told(
     tells: &[Tell],
     readers: &Readers,

@@ -5,7 +5,8 @@ use Rattle.cmb_count.specs.Texts.{counts_rows}
 use Rattle.cmb_count.specs.declared.counts.Counts.{Counts}
 use Rattle.cmb_design.specs.declared.settings.Settings.{Settings}
 use Rattle.cmb_sim.specs.Checking.{IsChecked}
-use Rattle.cmb_sim.specs.Simulation.{Inputs, IsOutcome, IsUntouched, NoneFailedBut, Output, failed_input}
+use Rattle.cmb_sim.specs.Choosing.{IsChosenOutcome}
+use Rattle.cmb_sim.specs.Simulation.{HasNotFailed, Input, Inputs, IsUntouched, NoneFailedBut, Output, failed_input}
 use Rattle.cmb_sim.specs.Stages.{LacksDesign}
 use Rattle.cmb_sim.specs.declared.carrying.Done.{Done}
 use Rattle.cmb_sim.specs.declared.carrying.Done.TheVariants.{Ran, Checked}
@@ -15,11 +16,11 @@ use Rattle.cmb_sim.specs.declared.line.Line.{Line}
 use Rattle.cmb_sim.specs.declared.line.Task.{Task}
 use Rattle.cmb_sim.specs.declared.line.Task.TheVariants.{Run, Check}
 
--- a run answers as a simulation does
-abbrev pub IsRun : Line → Inputs → Output → Result Done Fault → Type 0
-IsRun line i o (Ok (Ran report)) = IsOutcome line.settings line.mode i o (Ok report)
-IsRun line i o (Ok (Checked counts)) = ⊥
-IsRun line i o (Err f) = IsOutcome line.settings line.mode i o (Err f)
+-- a run answers as a simulation of the line's choice of nets does
+abbrev pub IsRun : Line → Inputs → Input → Output → Result Done Fault → Type 0
+IsRun line i list o (Ok (Ran report)) = IsChosenOutcome line.settings line.mode line.choice i list o (Ok report)
+IsRun line i list o (Ok (Checked counts)) = ⊥
+IsRun line i list o (Err f) = IsChosenOutcome line.settings line.mode line.choice i list o (Err f)
 
 -- The counts of the design that the inputs spell were written; or a beginning of them, and then a write failed; or there is no design,
 -- or no memory, and nothing was written.
@@ -40,10 +41,10 @@ IsCheckOf line i o (Ok (Checked counts)) = IsCheck line.settings i o (Ok counts)
 IsCheckOf line i o (Err f) = IsCheck line.settings i o (Err f)
 
 -- what comes of the task
-abbrev pub IsDoneBy : Task → Line → Inputs → Output → Result Done Fault → Type 0
-IsDoneBy Run line i o answer = IsRun line i o answer
-IsDoneBy Check line i o answer = IsCheckOf line i o answer
+abbrev pub IsDoneBy : Task → Line → Inputs → Input → Output → Result Done Fault → Type 0
+IsDoneBy Run line i list o answer = IsRun line i list o answer
+IsDoneBy Check line i list o answer = IsCheckOf line i o answer × HasNotFailed list
 
--- what comes of a line, with its settings, its mode and its task
-abbrev pub IsDone : Line → Inputs → Output → Result Done Fault → Type 0
-IsDone line i o answer = IsDoneBy line.task line i o answer
+-- what comes of a line, with its settings, its mode, its choice of nets and its task; a check reads no list
+abbrev pub IsDone : Line → Inputs → Input → Output → Result Done Fault → Type 0
+IsDone line i list o answer = IsDoneBy line.task line i list o answer

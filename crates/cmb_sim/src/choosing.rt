@@ -1,6 +1,7 @@
 //! A simulation of which chosen nets are written.
 
-ghost use Rattle.std.specs.Prelude.{◌≡◌, ◌-◌, ◌^◌, ◌<◌, ◌≤◌, true, false, length, nat_lt, None, Some, IfOk, IfErr, OnOk};
+ghost use Rattle.std.specs.Prelude.{◌≡◌, ◌-◌, ◌^◌, ◌<◌, ◌≤◌, true, false, length, nat_lt, None, Some};
+ghost use Rattle.std.specs.Prelude.{IfOk, IfErr, OnOk};
 ghost use Rattle.std.specs.Io.KnownBytes.{Appends};
 ghost use Rattle.cmb_design.specs.Checks.{first_fault};
 ghost use Rattle.cmb_design.specs.Exact.{nets_of};
@@ -9,7 +10,8 @@ ghost use Rattle.cmb_design.specs.declared.fault.DesignFault.TheVariants.{TableT
 ghost use Rattle.cmb_dump.specs.Excerpts.{AreAmong};
 ghost use Rattle.cmb_vcd.specs.Chosen.{vcd_of};
 ghost use Rattle.cmb_sim.specs.Choosing.{AreChosen, IsChosenOutcome, IsListText, chosen_report};
-ghost use Rattle.cmb_sim.specs.Simulation.{IsLawfulCount, clusters_of, failed_input, input, inputs_of, mode_checks, output, workers_of};
+ghost use Rattle.cmb_sim.specs.Simulation.{IsLawfulCount, clusters_of, failed_input, input, inputs_of};
+ghost use Rattle.cmb_sim.specs.Simulation.{mode_checks, output, workers_of};
 ghost use Rattle.cmb_sim.specs.Sources.{input_limit};
 ghost use Rattle.cmb_sim.specs.Stages.{CanRun, IsUnchosen, IsUnread, IsUnrun, IsUnshown};
 ghost use Rattle.cmb_sim.specs.declared.choice.Choice.TheVariants.{Only};
@@ -100,9 +102,11 @@ fn check_mode(mode: Mode, design: &Design) -> Result<(), Fault>
 // The text of the list that names nets; empty where there is none, and then nothing is read.
 fn read_names<L: Source>(alloc: Global, pick: Pick, list: &mut L) -> Result<Vec<u8>, Fault>
     requires { L.failures list.old < 2 ^ 64 - 1 }
-    ensures names { IfOk result (λ names. IsListText pick (input (L.remaining list.old) (L.failures list.old) (L.failures list.new)) names.items) }
+    ensures names { IfOk result (λ names. IsListText pick
+        (input (L.remaining list.old) (L.failures list.old) (L.failures list.new)) names.items) }
     ensures short { IfOk result (λ names. length names.items ≤ input_limit) }
-    ensures fault { IfErr result (IsUnread 5 (input (L.remaining list.old) (L.failures list.old) (L.failures list.new))) }
+    ensures fault { IfErr result (IsUnread 5
+        (input (L.remaining list.old) (L.failures list.old) (L.failures list.new))) }
     ensures listed { IfErr result (λ _. pick ≡ Pick.Listed) }
     ensures failures { (failed_input result ≡ 5 → ⊥) → L.failures list.new ≡ L.failures list.old }
 {
@@ -144,7 +148,8 @@ fn show_nets<O: Sink>(
     ensures text { OnOk result (Appends (O.taken out.old) (O.taken out.new) (vcd_of design.now nets.now)) }
     ensures no_failure { OnOk result (O.failures out.new ≡ O.failures out.old) }
     ensures fits { OnOk result (CanRun mode design.now) }
-    ensures fault { IfErr result (IsUnshown mode design.now nets.now (output (O.taken out.old) (O.taken out.new) (O.failures out.old) (O.failures out.new))) }
+    ensures fault { IfErr result (IsUnshown mode design.now nets.now
+        (output (O.taken out.old) (O.taken out.new) (O.failures out.old) (O.failures out.new))) }
 {
     check_mode(mode, design)?;
     let text = chosen_text(alloc, design, nets)?;
@@ -203,14 +208,15 @@ fn simulate_some<B: Source, D: Source, S: Source, C: Source, L: Source, O: Sink>
     show_nets(alloc, mode, &design, nets.as_slice(), out)
 }
 
-/// Simulates as `simulate` does, and writes the waveforms of the chosen nets: the declarations and the levels of these alone, by rising
-/// number, each with the code of its place among them. Only nets on which a chosen one depends are simulated.
+/// Simulates as `simulate` does, and writes the waveforms of the chosen nets: the declarations and the levels of these
+/// alone, by rising number, each with the code of its place among them. Only nets on which a chosen one depends are
+/// simulated.
 ///
-/// Where a list names the nets, it is input 5, and read whole after the four others; else no byte of it is read. A list has the names of
-/// nets, one a line; blanks count as between the words of a netlist, and `#` begins a comment. A net that is named twice counts once.
-/// 38 comes where what stands on a line of the list is no net's name, after the faults of the netlist, the tables and the design and before
-/// those of the mode. Where not all nets are chosen, the text is made whole before any of it is written, in each mode. So 70 then comes
-/// before the text, and 53 never.
+/// Where a list names the nets, it is input 5, and read whole after the four others; else no byte of it is read. A list
+/// has the names of nets, one a line; blanks count as between the words of a netlist, and `#` begins a comment. A net
+/// that is named twice counts once. 38 comes where what stands on a line of the list is no net's name, after the faults
+/// of the netlist, the tables and the design and before those of the mode. Where not all nets are chosen, the text is
+/// made whole before any of it is written, in each mode. So 70 then comes before the text, and 53 never.
 pub fn simulate_chosen<
     R: AllocGlobal + Threads + Wait + Sync,
     B: Source,

@@ -61,6 +61,10 @@ pub const STIMULI: &str = "Table of the levels of inputs; an input is x before i
 
 pub const CLOCKS: &str = "Table of when single flip-flops sample, in the place of --clock";
 
+pub const ONLY: &str = "Writes the nets alone whose names are in this file, one a line";
+
+pub const ONLY_OUTPUTS: &str = "Writes the nets alone that OUTPUT statements name";
+
 pub const MODE: &str = "How the run is made: rounds, free or plain [default: rounds]";
 
 pub const THREADS: &str = "Threads that share the work as it pays, 1 to 64 [default: 1]";
@@ -78,7 +82,7 @@ The netlist, on standard input, in the .bench form of the ISCAS sets; # begins a
     INPUT(a)
     y = NAND(a, b)
 Kinds: AND, NAND, OR, NOR, XOR, XNOR, NOT, BUFF (or BUF), and DFF, a flip-flop with its data.
-OUTPUT(y) may stand too and changes nothing: all nets are written.
+OUTPUT(y) may stand too: all nets are written, or with --only-outputs those alone that it names.
 
 --delays FILE: the delay, 1 to 1,000,000 ticks, by kind, net or pin (y:2 is y's second operand).
 A pin's row beats its net's, and that its kind's. A delay is a transport delay: every pulse passes.
@@ -92,6 +96,10 @@ A pin's row beats its net's, and that its kind's. A delay is a transport delay: 
 --clocks FILE: a flip-flop samples at the ticks first, first+period, first+2*period and so on.
     net,first,period
     q,4,10
+
+--only FILE: the names of the nets that are written, one a line; # begins a comment. Nets on which
+none of them depends aren't simulated. With it, or --only-outputs, the text is made whole first.
+    y
 
 Modes; each writes the same text:
     rounds  threads carry their clusters on by changes, and hand over what is new after each round
@@ -108,7 +116,8 @@ Status 1: a fault, told by one line on standard error, `cmbsim: fault N at P`. B
     20 to 22            0: the horizon, --clock, or a flip-flop without a clock
     23 to 32, 34 to 37  the record of a table, the header being record 1
     33                  0: mode plain would need more than 16,777,216 places
-    60, 61              1 the netlist, 2 delays, 3 stimuli, 4 clocks: too long, or not readable
+    38                  the line of the list: no net has that name
+    60, 61              1 the netlist, 2 delays, 3 stimuli, 4 clocks, 5 list: too long, or not readable
     62                  the number of bytes after which the output failed
     70                  0: memory was wanting, or a thread was refused
 `cmbsim explain N` says what fault N means and what to do, and `cmbsim explain` lists all.

@@ -3,11 +3,13 @@
 ghost use Rattle.std.specs.Prelude.{◌≡◌, ◌≤◌, IfOk};
 ghost use Rattle.cmb_sim.specs.Simulation.{IsLawful};
 
+use crate::choice::{Choice, Pick};
 use crate::clock::clock_of;
 use crate::explaining::{explain_command, explain_fault, explain_message};
 use crate::help::{
     ABOUT, BEGIN, CHECK, CLOCK, CLOCKS, DELAYS, EXPLAIN_FAULT, FILES, HORIZON, INIT, MODE,
-    NETLIST_HINT, PARTS, PROGRESS, RUN, STATS, STIMULI, THREADS, USUAL, VERSION, WORKERS,
+    NETLIST_HINT, ONLY, ONLY_OUTPUTS, PARTS, PROGRESS, RUN, STATS, STIMULI, THREADS, USUAL,
+    VERSION, WORKERS,
 };
 use crate::mode::Mode;
 use clap::builder::ValueParser;
@@ -38,12 +40,16 @@ pub struct Line {
     pub stats: bool,
     pub settings: Settings,
     pub mode: Mode,
+    /// Which nets are written: those of a list exactly where `only` names its file.
+    pub choice: Choice,
     /// The file of the delay table. The table is empty where no file is given.
     pub delays: Option<String>,
     /// The file of the stimuli. The table is empty where no file is given.
     pub stimuli: Option<String>,
     /// The file of the clock table. The table is empty where no file is given.
     pub clocks: Option<String>,
+    /// The file of the list of nets.
+    pub only: Option<String>,
 }
 
 /// Why the words ask for no run and no check.
@@ -138,6 +144,13 @@ fn with_mode<'a>(alloc: Global, command: Command<'a>) -> Result<Command<'a>, All
         .arg(option(alloc, "clusters", "K", PARTS).value_parser(ValueParser::unsigned(1, 64)))
 }
 
+// Which nets are written. Both at once are a wrong line.
+fn with_choice<'a>(alloc: Global, command: Command<'a>) -> Result<Command<'a>, AllocError> {
+    command
+        .arg(option(alloc, "only", "FILE", ONLY).conflicts_with("only-outputs")?)?
+        .arg(flag(alloc, "only-outputs", ONLY_OUTPUTS))
+}
+
 // What is told of a run on standard error.
 fn with_telling<'a>(alloc: Global, command: Command<'a>) -> Result<Command<'a>, AllocError> {
     command
@@ -152,6 +165,7 @@ fn run_command<'a>(alloc: Global) -> Result<Command<'a>, AllocError> {
         .before_help(USUAL)
         .after_help(FILES);
     let command = with_mode(alloc, with_settings(alloc, command)?)?;
+    let command = with_choice(alloc, command)?;
     with_telling(alloc, command)
 }
 
@@ -256,6 +270,17 @@ fn mode_of(matches: &ArgMatches<'_>) -> Result<Mode, LineFault>
     }
 }
 
+// Which nets are written.
+fn choice_of(matches: &ArgMatches<'_>) -> Choice {
+    if matches.get_str("only").is_some() {
+        Choice::Only(Pick::Listed)
+    } else if matches.get_flag("only-outputs") {
+        Choice::Only(Pick::Outputs)
+    } else {
+        Choice::All
+    }
+}
+
 fn init_of(matches: &ArgMatches<'_>) -> Level {
     match matches.get_str("init") {
         Some("0") => Level::Zero,
@@ -304,9 +329,11 @@ fn line_of(alloc: Global, task: Task, matches: &ArgMatches<'_>) -> Result<Line, 
             init,
         },
         mode,
+        choice: choice_of(matches),
         delays: file_of(alloc, matches, "delays")?,
         stimuli: file_of(alloc, matches, "stimuli")?,
         clocks: file_of(alloc, matches, "clocks")?,
+        only: file_of(alloc, matches, "only")?,
     })
 }
 

@@ -19,6 +19,7 @@ pub struct Given<'a> {
     pub delays: &'a [u8],
     pub stimuli: &'a [u8],
     pub clocks: &'a [u8],
+    pub list: &'a [u8],
 }
 
 // How an input is called: a table by its path.
@@ -27,11 +28,12 @@ fn input_name(line: &Line, input: u64) -> &str {
         2 => &line.delays,
         3 => &line.stimuli,
         4 => &line.clocks,
-        5 => return "the list",
+        5 => &line.only,
         _ => return "the netlist",
     };
     match file {
         Some(name) => name.as_str(),
+        None if input == 5 => "the list",
         None => "a table",
     }
 }
@@ -90,6 +92,22 @@ fn push_record(
     push_wrong(text, table, *fault, &found.fields)
 }
 
+// A line of the list of nets: the file and the line, what is wrong there, and what stands there.
+fn push_listed(
+    text: &mut String,
+    given: &Given<'_>,
+    place: u64,
+    meaning: &str,
+) -> Result<(), AllocError> {
+    let name = input_name(given.line, 5);
+    let line = line_at(given.list, place);
+    write!(text, "{name}, line {place}: {meaning}")?;
+    if line.is_empty() {
+        return Ok(());
+    }
+    write!(text, ": {}", line.escape_ascii())
+}
+
 // A fault that stands at no one place. Of a flip-flop without a clock its net is named.
 fn push_nowhere(
     alloc: Global,
@@ -122,7 +140,7 @@ pub fn fault_words(alloc: Global, given: &Given<'_>, fault: &Fault) -> Result<St
     match entry.place {
         Place::Line => push_line(&mut text, given, place, entry)?,
         Place::Record => push_record(alloc, &mut text, given, fault, meaning)?,
-        Place::Listed => write!(text, "the list, line {place}: {meaning}")?,
+        Place::Listed => push_listed(&mut text, given, place, meaning)?,
         Place::Input => {
             let name = input_name(given.line, place);
             write!(text, "{name}: {meaning}")?;

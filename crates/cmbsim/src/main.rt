@@ -1,4 +1,5 @@
-//! Reads a netlist from standard input, simulates it, and writes the waveforms of its nets to standard output.
+//! Reads a netlist from standard input, simulates it, and writes the waveforms of its nets, or of chosen ones, to
+//! standard output.
 #![tactic(auto)]
 
 ghost use Rattle.std.specs.Prelude.{◌≡◌, ◌-◌, ◌^◌, ◌<◌, IfOk};
@@ -62,12 +63,13 @@ fn has_input(rt: &HostRuntime) -> bool {
     rt.stdin().read(&mut []).is_ok()
 }
 
-// The tables, opened. One that isn't named has no bytes.
+// The tables and the list of nets, opened. One that isn't named has no bytes.
 #[derive(Drop)]
 struct Tables {
     delays: Option<FromReader<File>>,
     stimuli: Option<FromReader<File>>,
     clocks: Option<FromReader<File>>,
+    list: Option<FromReader<File>>,
 }
 
 // Opens the named files in the order of their inputs.
@@ -75,11 +77,13 @@ fn open_tables(rt: &HostRuntime, line: &Line) -> Result<Tables, Told>
     ensures delays { IfOk result (λ tables. ⟦<Option<FromReader<File>> as Source>⟧.failures tables.delays ≡ 0) }
     ensures stimuli { IfOk result (λ tables. ⟦<Option<FromReader<File>> as Source>⟧.failures tables.stimuli ≡ 0) }
     ensures clocks { IfOk result (λ tables. ⟦<Option<FromReader<File>> as Source>⟧.failures tables.clocks ≡ 0) }
+    ensures list { IfOk result (λ tables. ⟦<Option<FromReader<File>> as Source>⟧.failures tables.list ≡ 0) }
 {
     let has_input = has_input(rt);
     let delays = open(rt, &line.delays, 2)?;
     let stimuli = open(rt, &line.stimuli, 3)?;
     let clocks = open(rt, &line.clocks, 4)?;
+    let list = open(rt, &line.only, 5)?;
     if !has_input {
         return Err(Told::from(Fault::Read { input: 1 }));
     }
@@ -87,6 +91,7 @@ fn open_tables(rt: &HostRuntime, line: &Line) -> Result<Tables, Told>
         delays,
         stimuli,
         clocks,
+        list,
     })
 }
 
@@ -160,6 +165,7 @@ fn do_line<R: AllocGlobal + Threads + Wait + Sync>(
         clock: rt,
         read: None,
     };
+    let mut list = kept(rt, line, tables.list);
     let mut out = Watched {
         sink: ToWriter::new(rt.stdout()),
         watch: Watch::new(rt.alloc(), rt, rt.stderr(), line),
@@ -172,6 +178,7 @@ fn do_line<R: AllocGlobal + Threads + Wait + Sync>(
         &mut delays,
         &mut stimuli,
         &mut clocks,
+        &mut list,
         &mut out,
     );
     out.watch.wipe();
@@ -192,6 +199,7 @@ fn do_line<R: AllocGlobal + Threads + Wait + Sync>(
         delays: delays.given(),
         stimuli: stimuli.given(),
         clocks: clocks.source.given(),
+        list: list.given(),
     };
     let words = fault_words(rt.alloc(), &given, &fault).ok();
     Err(Told { fault, words })

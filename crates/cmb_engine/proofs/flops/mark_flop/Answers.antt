@@ -1,4 +1,4 @@
-use Rattle.std.proofs.Common.{◌⊎◌, inr}
+use Rattle.std.proofs.Common.{inr}
 use Rattle.cmb_engine.proofs.flops.mark_flop.Goals as goal
 
 pub returns-then-not-may_change-clause-marked : goal.returns-then-not-may_change-clause-marked

@@ -1,5 +1,5 @@
-use Rattle.std.proofs.Common.{◌≡◌, ◌-◌, ◌<◌, sym, subst, ◌∙◌, arith, length}
-use Rattle.cmb_engine.specs.Cells.{Cell, Flop, IsLawful, IsSteady, cell_at}
+use Rattle.std.proofs.Common.{◌-◌, sym, subst, ◌∙◌, arith, length}
+use Rattle.cmb_engine.specs.Cells.{Cell, Flop, IsLawful, IsSteady}
 use Rattle.cmb_engine.specs.Words.{levels_of}
 use Rattle.cmb_engine.proofs.WordFacts.{levels_of-read}
 use Rattle.cmb_engine.proofs.flops.may_change.Goals as goal

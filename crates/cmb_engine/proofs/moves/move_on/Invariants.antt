@@ -1,6 +1,7 @@
 use Rattle.std.proofs.Common.{◌≡◌, ◌-◌, ◌≤◌, length}
 use Rattle.cmb_engine.specs.Bits.{has}
 use Rattle.cmb_engine.specs.Circuits.{AreQuiet}
+use Rattle.cmb_engine.specs.Walks.{walked}
 use Rattle.cmb_engine.specs.Words.{levels_of}
 use Rattle.cmb_engine.proofs.MoveFacts.{AreMoved}
 use Rattle.cmb_engine.proofs.moves.move_on.Given as goal
@@ -8,10 +9,10 @@ use Rattle.cmb_engine.proofs.moves.move_on.Given as goal
 abbrev pub invariant-slots : goal.invariant-slots
 invariant-slots l = record {
   room : length l.live ≡ length l.initial.live;
-  within : l.from ≤ length l.initial.words;
-  moved : AreMoved (levels_of l.initial.words) (levels_of l.words) l.ticks l.from;
+  within : (walked l.walk) ≤ length l.initial.words;
+  moved : AreMoved (levels_of l.initial.words) (levels_of l.words) l.ticks (walked l.walk);
   quiet : AreQuiet (levels_of l.words) (has l.live) (length l.initial.words);
 }
 
 abbrev pub decreases-slots : goal.decreases-slots
-decreases-slots l = length l.initial.words - l.from
+decreases-slots l = length l.initial.words - (walked l.walk)

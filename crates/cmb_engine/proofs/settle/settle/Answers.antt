@@ -1,4 +1,5 @@
-use Rattle.std.proofs.Common.{◌∙◌, arith}
+use Rattle.std.proofs.Common.{◌*◌, ℕ, length, subst, ◌∙◌, arith}
+use Rattle.cmb_engine.specs.Bits.{HasNone}
 use Rattle.cmb_engine.specs.Cells.{cell_at}
 use Rattle.cmb_engine.specs.Words.{levels_of}
 use Rattle.cmb_engine.proofs.SweepFacts.{ready-moves, none-marked}
@@ -8,7 +9,7 @@ use Rattle.cmb_engine.proofs.settle.settle.Goals as goal
 pub returns-in-None-clause-exact : goal.returns-in-None-clause-exact
 returns-in-None-clause-exact c = λ truth ready settled below.
     none-marked (levels_of c.loop.words) truth c.args.cells.now c.loop.marks c.args.to c.args.first
-    (omega (arith, c.requires.wired.nets, c.requires.room, c.loop.invariant.room)) c.in-None.ensures
+    (omega (arith, c.requires.wired.nets, c.requires.room, c.loop.invariant.room)) (subst (λ (n : ℕ). HasNone c.loop.marks n (64 * length c.loop.marks)) c.at.ensures.walked c.in-None.ensures)
     (ready-moves (levels_of c.args.words.now) (levels_of c.loop.words) truth (cell_at c.args.cells.now) c.args.to c.args.first c.loop.invariant.told ready)
     (c.loop.invariant.settled settled)
     (λ net place is l. c.loop.invariant.truer truth ready settled below net place is (omega (arith, c.loop.invariant.from, l)))

@@ -3,6 +3,7 @@ use Rattle.cmb_wave.specs.declared.level.Level.{Level}
 use Rattle.cmb_engine.specs.Arrivals.{IsArrival}
 use Rattle.cmb_engine.specs.Bits.{has}
 use Rattle.cmb_engine.specs.Cells.{AreSettled, KeepsTold, cell_at}
+use Rattle.cmb_engine.specs.Walks.{walked}
 use Rattle.cmb_engine.specs.Words.{levels_of}
 use Rattle.cmb_engine.proofs.SweepFacts.{IsFurther, IsBegun}
 use Rattle.cmb_engine.proofs.settle.sweep.Given as goal
@@ -18,8 +19,8 @@ invariant-nets l = record {
   settled : AreSettled (levels_of l.initial.words) (has l.initial.marks) (cell_at l.cells) l.to l.first
       → AreSettled (levels_of l.words) (has l.marks) (cell_at l.cells) l.to l.first;
   truer : (truth : ℕ → ℕ → Level) (upto : ℕ) → IsBegun (levels_of l.initial.words) truth (has l.initial.marks) (cell_at l.cells) l.to l.first upto
-      → IsFurther (levels_of l.words) truth (cell_at l.cells) upto l.from;
+      → IsFurther (levels_of l.words) truth (cell_at l.cells) upto (walked l.walk);
 }
 
 abbrev pub decreases-nets : goal.decreases-nets
-decreases-nets l = length l.initial.words - l.from
+decreases-nets l = length l.initial.words - (walked l.walk)
