@@ -82,6 +82,7 @@ pub fn carried<R: AllocGlobal + Threads + Wait + Sync>(
         &mut delays,
         &mut stimuli,
         &mut clocks,
+        &mut None::<FromBytes<'_>>,
         &mut out,
     );
     out.watch.wipe();
@@ -92,6 +93,7 @@ pub fn carried<R: AllocGlobal + Threads + Wait + Sync>(
         delays: delays.given(),
         stimuli: stimuli.given(),
         clocks: clocks.source.given(),
+        list: &[],
     };
     let words = words_of(alloc, &given, &answer)?;
     Ok(Outcome {
