@@ -11,7 +11,8 @@ use cmb_stream::StreamFault;
 use std::alloc::{AllocError, Global};
 use thiserror::Error;
 
-/// Why a simulation didn't write its text. Inputs are 1 the netlist, 2 the delays, 3 the stimuli, 4 the clocks and 5 the list of nets.
+/// Why a simulation didn't write its text. Inputs are 1 the netlist, 2 the delays, 3 the stimuli, 4 the clocks and 5
+/// the list of nets.
 #[derive(Debug, Drop, Error)]
 pub enum Fault {
     /// 1 to 8: the netlist is wrong, on a line.
