@@ -22,8 +22,8 @@ use Rattle.cmb_core.specs.Reach.{pins_reach, driver_reach}
 use Rattle.cmb_core.specs.Spans.{changes_from}
 use Rattle.cmb_core.specs.Step.{wave_at, told_level, told_upto, continued, step_changes, step_reach, step_piece}
 use Rattle.cmb_core.specs.Clusters.{Cluster, process_at, slot_wave, AreOperands, IsDrivenBy, new_part, new_waves_at, reach_at, changes_at, step_answer, step_waves}
-use Rattle.cmb_core.proofs.Machine.{driver_reach-within}
 use Rattle.cmb_core.proofs.Slots.{slot_is, slot_net, set_with}
+use Rattle.cmb_core.proofs.ReachFacts.{driver_reach-within}
 
 -- the cluster drives the net, as the design says
 pub record Drives (design : Design) (s : Cluster) (net slot : ℕ) : Type 0 where

@@ -31,17 +31,16 @@ use Rattle.cmb_core.specs.Exactness.{IsExactCluster}
 use Rattle.cmb_core.specs.Opened.{IsClusterOf, held_nets}
 use Rattle.cmb_core.specs.Reach.{flop_need as net_need, AreKept, IsKept}
 use Rattle.cmb_core.specs.Rows.{Process, AreReady, IsReadyFor, flop_need, slot_of}
-use Rattle.cmb_core.specs.Step.{wave_at, told_from, step_reach, step_piece}
+use Rattle.cmb_core.specs.Step.{wave_at, told_from, step_reach, step_piece, with_wave}
 use Rattle.cmb_core.specs.Tables.{given_at, readers_from}
 use Rattle.cmb_core.specs.Trims.{least_need, trimmed_wave, trimmed}
-use Rattle.cmb_core.specs.World.{with_wave}
 use Rattle.cmb_core.proofs.Driven.{Drives, step_waves_are}
 use Rattle.cmb_core.proofs.OpenedFacts.{held_below}
 use Rattle.cmb_core.proofs.Slots.{slot_is}
 use Rattle.cmb_core.proofs.Steps.{wave_at-net, wave_at-exact, step_piece-is_exact}
 use Rattle.cmb_core.proofs.SweepFacts.{still_of, drives_here, given_reach, long}
 use Rattle.cmb_core.proofs.TrimFacts.{least_clock}
-use Rattle.cmb_core.proofs.Worlds.{all-with}
+use Rattle.cmb_core.proofs.Replacing.{all-with}
 
 -- ---- by the result of a call
 

@@ -11,9 +11,9 @@ use Rattle.cmb_core.specs.Clusters.{Cluster, given_only, input_slot}
 use Rattle.cmb_core.specs.Opened.{IsClusterOf, is_own, held_nets}
 use Rattle.cmb_core.specs.Tables.{place_in}
 use Rattle.cmb_core.proofs.ClusterLemmas.{slot_place}
-use Rattle.cmb_core.proofs.Machine.{all_weaker}
-use Rattle.cmb_core.proofs.Progress.{IsPin, pins-are}
 use Rattle.cmb_core.proofs.OwnFacts.{input_read}
+use Rattle.cmb_core.proofs.Everywhere.{all_weaker}
+use Rattle.cmb_core.proofs.NetReads.{IsPin, pins-are}
 
 -- a number beyond a range has no place
 place_beyond : (p : ℕ → Bool) (a n x : ℕ) → a + n ≤ x → place_in (filter p (range_with_len a n)) x ≡ None

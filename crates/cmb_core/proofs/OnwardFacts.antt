@@ -11,13 +11,13 @@ use Rattle.cmb_core.specs.Clustering.{Clustering, cluster_of, has_input}
 use Rattle.cmb_core.specs.Clusters.{Cluster, wave_nets, step_waves}
 use Rattle.cmb_core.specs.Onward.{IsHeldTo, GoesOn}
 use Rattle.cmb_core.specs.Opened.{IsClusterOf, IsOwnNet, is_own, own_nets}
-use Rattle.cmb_core.specs.Step.{wave_at, told_upto, step_reach, step_piece}
+use Rattle.cmb_core.specs.Step.{wave_at, told_upto, step_reach, step_piece, with_wave}
 use Rattle.cmb_core.specs.Sweep.{stepped_waves}
-use Rattle.cmb_core.specs.World.{with_wave}
-use Rattle.cmb_core.proofs.Machine.{all_weaker}
-use Rattle.cmb_core.proofs.Progress.{IsPin, driver_reach-at_least, has_input-from, pins-are}
 use Rattle.cmb_core.proofs.Steps.{wave_at-net}
-use Rattle.cmb_core.proofs.Worlds.{has_wave, has_wave-with, has_input-not_own, wave_at-with_same, wave_at-with_other}
+use Rattle.cmb_core.proofs.Everywhere.{all_weaker}
+use Rattle.cmb_core.proofs.NetReads.{IsPin, has_input-from, pins-are, has_input-not_own}
+use Rattle.cmb_core.proofs.ReachFacts.{driver_reach-at_least}
+use Rattle.cmb_core.proofs.Replacing.{has_wave, has_wave-with, wave_at-with_same, wave_at-with_other}
 
 -- ---- numbers that pass a test
 

@@ -19,7 +19,7 @@ use Rattle.cmb_core.specs.Step.{wave_at}
 use Rattle.cmb_core.specs.Tables.{place_in}
 use Rattle.cmb_core.proofs.ClusterLemmas.{slot_place}
 use Rattle.cmb_core.proofs.OpenFacts.{filter_range_same, filter_range_all, filter_range_place}
-use Rattle.cmb_core.proofs.Progress.{IsPin, pins-are, some_below-from}
+use Rattle.cmb_core.proofs.NetReads.{IsPin, pins-are, some_below-from}
 
 -- the cluster's own nets and those that it reads, by the marks
 own_or : (a b : Bool) → (a || b) ≡ (a || (not a && b))

@@ -3,9 +3,8 @@ use Rattle.std.proofs.Common.{◌≡◌, ℕ, zero, suc, ◌<◌, Bool, true, fa
 use Rattle.std.specs.Prelude.{option_map}
 use Rattle.std.proofs.lemmas.Bool.{eqb-true}
 use Rattle.cmb_wave.specs.Wave.{Wave, new_wave}
-use Rattle.cmb_core.specs.Step.{wave_at}
+use Rattle.cmb_core.specs.Step.{wave_at, with_wave}
 use Rattle.cmb_core.specs.Rows.{slot_of}
-use Rattle.cmb_core.specs.World.{with_wave}
 
 -- the place of a net's wave is there, and has that wave
 pub slot_is : (waves : List Wave) (net slot : ℕ) (d : Wave) → slot_of waves net ≡ Some slot → (slot < length waves) × (get_or waves slot d ≡ wave_at waves net)

@@ -21,8 +21,8 @@ use Rattle.cmb_design.proofs.AskFacts.{clock_of-positive}
 use Rattle.cmb_design.proofs.SampleFacts.{last_sample-none, last_sample-is, next_sample-least}
 use Rattle.cmb_design.proofs.ValueFacts.{value-is}
 use Rattle.cmb_core.specs.Reach.{pins_reach, driver_reach, flop_need, AreKept, IsKept}
-use Rattle.cmb_core.proofs.Machine.{driver_reach-within}
 use Rattle.cmb_core.specs.Step.{told_level, told_upto, told_from, wave_at, continued, step_reach, step_piece}
+use Rattle.cmb_core.proofs.ReachFacts.{driver_reach-within}
 
 delayed-known : (f g : ℕ → Level) (base clock from ticks tick : ℕ) → ((t : ℕ) → base ≤ t → t < clock → f t ≡ g t) → base ≤ from - ticks → from ≤ tick → tick < clock + ticks → delayed f ticks tick ≡ delayed g ticks tick
 delayed-known f g base clock from ticks tick same kept after known = go (cases_lt tick ticks)

@@ -1,5 +1,5 @@
 -- Steps of a cluster's nets in order, wave by wave.
-use Rattle.std.proofs.Common.{◌≡◌, ℕ, zero, suc, ◌+◌, ◌<◌, ◌≤◌, Bool, true, false, ◌||◌, cond, eqb, ltb, leb, List, [], ◌∷◌, ◌++◌, ◌⊎◌, inl, inr, length, get_or, take, drop, Some, refl, sym, ◌∙◌, ap, subst, arith}
+use Rattle.std.proofs.Common.{◌≡◌, ℕ, zero, suc, ◌+◌, ◌<◌, ◌≤◌, Bool, true, false, ◌||◌, cond, eqb, ltb, leb, List, [], ◌∷◌, ◌++◌, ◌⊎◌, inl, inr, length, get_or, take, drop, Some, Result, Ok, Err, OnErr, refl, sym, ◌∙◌, ap, subst, arith}
 use Rattle.std.specs.Prelude.{filter, option_map}
 use Rattle.std.specs.List.{range_with_len}
 use Rattle.std.proofs.Math.Bool.{or-false, or_assoc}
@@ -167,3 +167,8 @@ same_length s t a = sym (length-map t.waves (λ w. w.net)) ∙ ap length a.nets 
 
 pub held_as_waves : (design : Design) (clustering : Clustering) (cluster : ℕ) (s : Cluster) → IsClusterOf design clustering cluster s → length (held_nets design clustering cluster) ≡ length s.waves
 held_as_waves design clustering cluster s of = sym (ap length of.nets) ∙ length-map s.waves (λ w. w.net)
+
+-- what stands anyhow stands where a call was refused
+pub at_err : {A E : Type 0} (r : Result A E) (P : Type 0) → P → OnErr r P
+at_err (Ok x) P h = tt
+at_err (Err e) P h = h

@@ -14,8 +14,7 @@ use Rattle.cmb_core.specs.declared.process.Rule.TheVariants.{Given, Input, Gate,
 use Rattle.cmb_core.specs.Rows.{Process, IsReadyFor, slot_of, process_level, process_reach, is_given}
 use Rattle.cmb_core.specs.Spans.{changes_from}
 use Rattle.cmb_wave.specs.declared.level.Change.{Change}
-use Rattle.cmb_core.specs.Step.{wave_at, step_reach, step_piece}
-use Rattle.cmb_core.specs.World.{with_wave}
+use Rattle.cmb_core.specs.Step.{wave_at, step_reach, step_piece, with_wave}
 use Rattle.cmb_wave.specs.Calls.{taken, hears}
 use Rattle.cmb_wave.specs.declared.level.Promise.{Promise}
 use Rattle.cmb_wave.specs.declared.level.Heard.{Heard}

@@ -14,9 +14,4 @@ pub mod Tables
 pub mod Reach
 pub mod Step
 pub mod Sweep
-pub mod Clocks
-pub mod Run
 pub mod Trims
-pub mod World
-pub mod Play
-pub mod Rounds

@@ -150,8 +150,8 @@ impl Clustering {
         self.clusters
     }
 
-    // The cluster of each net.
-    pub(crate) fn assigned(&self) -> &[u32]
+    /// The cluster of each net, by its number.
+    pub fn assigned(&self) -> &[u32]
         ensures value { result.now ≡ self.now.assign }
         ensures lawful { IsClustering (length self.now.assign) self.now }
     {

@@ -1,10 +1,9 @@
 //! Why a cluster refuses a piece.
 
 ghost use Rattle.std.specs.Prelude.{◌≡◌};
-ghost use Rattle.cmb_core.specs.Deliveries.{delivery_fault, fault_of_event};
+ghost use Rattle.cmb_core.specs.Deliveries.{delivery_fault};
 ghost use Rattle.cmb_core.specs.Faults.{number_of_deliver_fault};
 
-use crate::event::PlayFault;
 use cmb_wave::WaveFault;
 use thiserror::Error;
 
@@ -57,18 +56,5 @@ pub(crate) fn refusal(fault: WaveFault) -> DeliverFault
         WaveFault::Old { clock } => DeliverFault::Old { clock },
         WaveFault::Clash { tick } => DeliverFault::Clash { tick },
         WaveFault::Memory => DeliverFault::Memory,
-    }
-}
-
-/// A cluster's fault as that of an event.
-pub(crate) fn play_fault(fault: DeliverFault) -> PlayFault
-    ensures { result ≡ fault_of_event fault }
-{
-    match fault {
-        DeliverFault::Stranger => PlayFault::Stranger,
-        DeliverFault::Gap { clock } => PlayFault::Gap { clock },
-        DeliverFault::Old { clock } => PlayFault::Old { clock },
-        DeliverFault::Clash { tick } => PlayFault::Clash { tick },
-        DeliverFault::Memory => PlayFault::Memory,
     }
 }

@@ -12,18 +12,17 @@ use Rattle.cmb_core.specs.Clusters.{Cluster, as_delivery, delivered, delivered_a
 use Rattle.cmb_core.specs.Onward.{GoesOn}
 use Rattle.cmb_core.specs.Opened.{IsClusterOf, IsOwnNet}
 use Rattle.cmb_core.specs.Rows.{slot_of}
-use Rattle.cmb_core.specs.Step.{wave_at}
+use Rattle.cmb_core.specs.Step.{wave_at, with_wave}
 use Rattle.cmb_core.specs.Tables.{given_at, readers_from}
 use Rattle.cmb_core.specs.Trims.{least_need, trimmed, trimmed_to, trimmed_wave}
-use Rattle.cmb_core.specs.World.{with_wave}
 use Rattle.cmb_core.proofs.ExactFacts.{never_clashes}
 use Rattle.cmb_core.proofs.Inputs.{input_put, input_wave}
 use Rattle.cmb_core.proofs.OwnFacts.{own_placed}
 use Rattle.cmb_core.proofs.Slots.{slot_is}
 use Rattle.cmb_core.proofs.Steps.{wave_at-net}
 use Rattle.cmb_core.proofs.TrimFacts.{trim_net, trim_clock}
-use Rattle.cmb_core.proofs.Worlds.{wave_at-with_other}
 use Rattle.cmb_run.specs.Rounds.{IsPassed}
+use Rattle.cmb_core.proofs.Replacing.{wave_at-with_other}
 
 -- ---- a trim moves no clock
 

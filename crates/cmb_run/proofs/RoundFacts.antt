@@ -17,14 +17,13 @@ use Rattle.cmb_core.specs.Tables.{place_in}
 use Rattle.cmb_core.proofs.Homes.{input_home, input_there}
 use Rattle.cmb_core.proofs.OpenFacts.{filter_range_all, filter_range_place}
 use Rattle.cmb_core.proofs.OwnFacts.{own_driven, place_at}
-use Rattle.cmb_core.proofs.Progress.{cluster-there}
 use Rattle.cmb_core.proofs.Steps.{wave_at-net}
 use Rattle.cmb_core.proofs.SweepFacts.{still_of}
-use Rattle.cmb_core.proofs.Worlds.{has_input-not_own}
 use Rattle.cmb_vcd.specs.Collector.{Collector, IsComplete, IsExactFor, wave_of}
 use Rattle.cmb_run.proofs.HandFacts.{new_clock, on_ok}
 use Rattle.cmb_run.proofs.RunClocks.{least_clock-whole}
 use Rattle.cmb_run.specs.Rounds.{Hand, hand_at, known_to, known_at_home, AreHandsOf, AreKnownTo, AreComplete, IsExchanged, IsPassed, IsPassedOn, IsServed, HasWorked}
+use Rattle.cmb_core.proofs.NetReads.{cluster-there, has_input-not_own}
 
 -- ---- none met want of memory
 
@@ -44,7 +43,7 @@ module _ (design : Design) (clustering : Clustering) where
   not_input net reads = has_input-not_own design clustering (cluster_of clustering net) net reads refl
 
   home_there : (hands : List Hand) → AreHandsOf design clustering hands → (net : ℕ) → net < nets_of design → cluster_of clustering net < clustering.clusters
-  home_there hands are net there = cluster-there design are.netlist clustering are.lawful net there
+  home_there hands are net there = cluster-there design clustering are.lawful net there
 
   -- ---- the steps
 
@@ -335,14 +334,14 @@ pub handed_none : (design : Design) (clustering : Clustering) (hands : List Hand
 handed_none design clustering hands known are = record {
   count = omega arith;
   same = λ k h. refl;
-  met = λ net there h. absurd (omega (arith, h, are.count, cluster-there design are.netlist clustering are.lawful net there));
+  met = λ net there h. absurd (omega (arith, h, are.count, cluster-there design clustering are.lawful net there));
 }
 
 -- the workers below one know their nets to the end
 pub complete_more : (design : Design) (clustering : Clustering) (hands : List Hand) (many : ℕ) → AreHandsOf design clustering hands → clustering.clusters ≤ many
     → ((k net : ℕ) → k < many → k < clustering.clusters → IsOwnNet design clustering k net → known_to hands k net ≡ design.horizon) → AreComplete design clustering hands
 complete_more design clustering hands many are all known = λ net there.
-    let home : cluster_of clustering net < clustering.clusters = cluster-there design are.netlist clustering are.lawful net there in
+    let home : cluster_of clustering net < clustering.clusters = cluster-there design clustering are.lawful net there in
     omega (arith, known (cluster_of clustering net) net (omega (arith, home, all)) home (record { there = there; own = refl }))
 
 pub complete_at : (design : Design) (collector : Collector) → IsExactFor design collector → ((net : ℕ) → net < nets_of design → design.horizon ≤ (wave_of collector.waves net).clock) → IsComplete collector

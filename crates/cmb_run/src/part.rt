@@ -10,8 +10,7 @@ ghost use Rattle.cmb_core.specs.Clusters.{IsDrivenHere, IsSameButWaves, delivere
 ghost use Rattle.cmb_core.specs.Clusters.{is_complete, outputs_of, told_at};
 ghost use Rattle.cmb_core.specs.Opened.{IsClusterOf, IsOwnNet, held_nets, own_nets, read_nets};
 ghost use Rattle.cmb_core.specs.Sweep.{some_rises, stepped_waves};
-ghost use Rattle.cmb_core.specs.Step.{wave_at};
-ghost use Rattle.cmb_core.specs.World.{with_wave};
+ghost use Rattle.cmb_core.specs.Step.{wave_at, with_wave};
 ghost use Rattle.cmb_core.specs.declared.delivery.DeliverFault.{DeliverFault as Refusal};
 ghost use Rattle.cmb_run.specs.Rounds.{IsPassed};
 

@@ -7,10 +7,10 @@
 #![tactic(auto)]
 
 use cmb_bench::read_bench;
-use cmb_core::world::World;
-use cmb_core::{Clustering, Event, PlayFault, Reply};
+use cmb_core::Clustering;
 use cmb_design::{Design, Settings, read_clocks, read_delays, read_stimuli};
 use cmb_wave::{Heard, Level, Piece};
+use cmb_world::{Event, PlayFault, Reply, World};
 use std::alloc::{AllocError, Global};
 use std::io::{Read, Write};
 use std::process::ExitCode;

@@ -5,9 +5,10 @@ ghost use Rattle.cmb_design.specs.Exact.{nets_of};
 ghost use Rattle.cmb_core.specs.Opened.{IsClusterOf};
 
 use crate::inputs::{Inputs, design_of};
-use cmb_core::{Cluster, Clustering, DeliverFault, Event, PlayFault, Reply, World};
+use cmb_core::{Cluster, Clustering, DeliverFault};
 use cmb_design::{Design, Settings};
 use cmb_wave::{Change, Heard, Level, Piece};
+use cmb_world::{Event, PlayFault, Reply, World};
 use std::alloc::Global;
 use std::process::Abort;
 use std::test::Fail;

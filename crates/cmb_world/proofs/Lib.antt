@@ -1,0 +1,9 @@
+pub mod Machine
+pub mod Progress
+pub mod Commute
+pub mod Worlds
+pub mod Plays
+pub mod Runs
+pub mod Turns
+pub mod RoundFacts
+pub mod Opens
