@@ -121,14 +121,19 @@ fn peak(rt: &HostRuntime) -> Option<u64> {
     peak_of(&buffer[..count])
 }
 
-// Tells what a run took, if memory allows: when it began, when its inputs were read, and what was watched of its text.
+// Tells what a run took, where the line asks for it and memory allows: when it began, when its inputs were read, and
+// what was watched of its text.
 fn tell_stats(
     rt: &HostRuntime,
+    line: &Line,
     done: &Done,
     began: Option<Instant>,
     read: Option<Instant>,
     watch: &Watch<&HostRuntime, Stderr>,
 ) {
+    if !line.stats {
+        return;
+    }
     let (Done::Ran(report), Some(began), Some(read)) = (done, began, read) else {
         return;
     };
@@ -147,6 +152,16 @@ fn tell_stats(
     if let Ok(text) = stats_text(rt.alloc(), &stats) {
         let _ = rt.stderr().write_all(text.as_bytes());
     }
+}
+
+// A fault, in words too where the line asks for them.
+fn told_of(rt: &HostRuntime, given: &Given<'_>, fault: Fault) -> Told {
+    let words = if given.line.explain {
+        fault_words(rt.alloc(), given, &fault).ok()
+    } else {
+        None
+    };
+    Told { fault, words }
 }
 
 // Opens the tables, and hands all over to what the line asks for. Only `main` may lend the runtime as one that starts
@@ -182,16 +197,6 @@ fn do_line<R: AllocGlobal + Threads + Wait + Sync>(
         &mut out,
     );
     out.watch.wipe();
-    let fault = match done {
-        Ok(done) => {
-            if line.stats {
-                tell_stats(rt, &done, began, clocks.read, &out.watch);
-            }
-            return Ok(done);
-        }
-        Err(fault) if !line.explain => return Err(Told::from(fault)),
-        Err(fault) => fault,
-    };
     let given = Given {
         line,
         settings: line.settings,
@@ -201,8 +206,13 @@ fn do_line<R: AllocGlobal + Threads + Wait + Sync>(
         clocks: clocks.source.given(),
         list: list.given(),
     };
-    let words = fault_words(rt.alloc(), &given, &fault).ok();
-    Err(Told { fault, words })
+    match done {
+        Ok(done) => {
+            tell_stats(rt, line, &done, began, clocks.read, &out.watch);
+            Ok(done)
+        }
+        Err(fault) => Err(told_of(rt, &given, fault)),
+    }
 }
 
 // Prints the fault, if memory allows.
