@@ -1,19 +1,18 @@
 -- A search begins.
-use Rattle.std.proofs.Common.{◌≡◌, ◌⊎◌, inl, inr, ℕ, zero, suc, ◌<◌, ◌≤◌, Bool, false, true, List, [], ◌∷◌, length, get_or, replicate, refl, sym, ap, ◌∙◌, subst, arith}
+use Rattle.std.proofs.Common.{◌≡◌, ◌⊎◌, inl, inr, ℕ, ◌<◌, ◌≤◌, false, List, [], length, get_or, replicate, sym, ap, ◌∙◌, subst, arith}
 use Rattle.std.specs.Prelude.{All}
 use Rattle.std.proofs.lemmas.Bool.{cases_lt}
 use Rattle.std.proofs.lemmas.List.{get_or_past, get_or-replicate, length-replicate}
 use Rattle.std.proofs.lemmas.List.Elements.{All-cons, All-get_or, All-nil}
-use Rattle.cmb_bench.specs.Netlist.{Netlist, IsNetlist, IsWired, driver_of, pins_of}
+use Rattle.cmb_bench.specs.Netlist.{Netlist, IsNetlist, IsWired, driver_of}
 use Rattle.cmb_bench.specs.declared.netlist.Driver.{Driver}
 use Rattle.cmb_bench.specs.declared.netlist.Driver.TheVariants.{Input, Gate, Flop}
 use Rattle.cmb_loops.specs.Loops.{targets, targets_of}
-use Rattle.cmb_loops.specs.Search.{IsBegun, IsSearch, IsUnderWay, seen_of}
+use Rattle.cmb_loops.specs.Search.{IsBegun, IsSearch, IsUnderWay}
 use Rattle.cmb_loops.specs.declared.steps.Steps.{Steps}
 use Rattle.cmb_loops.specs.declared.steps.Steps.TheVariants as kind
 use Rattle.cmb_loops.specs.declared.search.Search.{Search}
-use Rattle.cmb_loops.specs.declared.search.Seen.{Seen}
-use Rattle.cmb_loops.specs.declared.search.Seen.TheVariants.{New, On, Done}
+use Rattle.cmb_loops.specs.declared.search.Seen.TheVariants.{New}
 
 -- what all elements are, one past the end is too
 same_all : {X : Type 0} (n x : ℕ) (v : X) → get_or (replicate n v) x v ≡ v

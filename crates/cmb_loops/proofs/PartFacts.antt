@@ -1,6 +1,6 @@
 -- The last part of the path is done.
-use Rattle.std.proofs.Common.{◌≡◌, ◌≢◌, ◌⊎◌, inl, inr, ℕ, zero, suc, ◌+◌, ◌-◌, ◌<◌, ◌≤◌, Bool, true, false, List, [], ◌∷◌, ◌++◌, length, take, drop, get_or, refl, sym, ap, ◌∙◌, subst, arith}
-use Rattle.std.specs.Prelude.{All, AllPairs, Contains}
+use Rattle.std.proofs.Common.{◌≡◌, ◌≢◌, ◌⊎◌, inl, inr, ℕ, ◌+◌, ◌-◌, ◌<◌, ◌≤◌, Bool, true, false, List, [], ◌∷◌, ◌++◌, length, take, drop, get_or, sym, ap, ◌∙◌, subst, arith}
+use Rattle.std.specs.Prelude.{All, Contains}
 use Rattle.std.proofs.lemmas.Bool.{cases_eq, cases_lt}
 use Rattle.std.proofs.lemmas.List.{get_or-drop, get_or-take, get_or_default, length-drop, length-take}
 use Rattle.std.proofs.lemmas.List.Elements.{All-contains, All-weaker, Contains-append_left, Contains-get_or, Contains-push, Contains-push_cases}
@@ -8,8 +8,8 @@ use Rattle.cmb_loops.specs.Loops.{Walk, one, more}
 use Rattle.cmb_loops.specs.Search.{IsClosedPart, IsFollowed, IsLeft, IsLooped, IsOnePart, IsSearch, Reaches, seen_of}
 use Rattle.cmb_loops.specs.declared.search.Frame.{Frame}
 use Rattle.cmb_loops.specs.declared.search.Seen.{Seen}
-use Rattle.cmb_loops.specs.declared.search.Seen.TheVariants.{New, On, Done}
-use Rattle.cmb_loops.proofs.SearchFacts.{all_front, all_last, contains_none, pairs_front, pairs_last}
+use Rattle.cmb_loops.specs.declared.search.Seen.TheVariants.{On, Done}
+use Rattle.cmb_loops.proofs.SearchFacts.{all_last, contains_none, pairs_front, pairs_last}
 use Rattle.cmb_loops.proofs.WalkFacts.{reach_to, walk_stays}
 
 pub closed : (next : ℕ → List ℕ) (seen seen' : List Seen) (marks marks' : List Bool) (path starts : List ℕ) (frames : List Frame) (place k : ℕ)

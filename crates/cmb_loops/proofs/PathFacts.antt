@@ -1,12 +1,12 @@
 -- A search of a netlist, step by step.
-use Rattle.std.proofs.Common.{◌≡◌, ◌≢◌, ◌⊎◌, inl, inr, ℕ, zero, suc, ◌+◌, ◌-◌, ◌<◌, ◌≤◌, Bool, true, false, List, [], ◌∷◌, ◌++◌, length, take, drop, get_or, set, refl, sym, ap, ◌∙◌, subst, arith}
+use Rattle.std.proofs.Common.{◌≡◌, ◌≢◌, ◌⊎◌, inl, inr, ℕ, ◌+◌, ◌-◌, ◌<◌, ◌≤◌, true, false, List, [], ◌∷◌, ◌++◌, length, take, drop, get_or, set, refl, sym, ap, ◌∙◌, subst, arith}
 use Rattle.std.specs.Prelude.{All, AllPairs, Contains, count_by, Some, None}
 use Rattle.std.proofs.lemmas.Bool.{cases_eq, cases_lt}
 use Rattle.std.proofs.lemmas.List.{get_or_default, get_or_past, get_or_read, get_or-set_same, get_or-set_other, length-drop, length-set, take_all}
-use Rattle.std.proofs.lemmas.List.Elements.{All-contains, All-weaker, Contains-get_or}
+use Rattle.std.proofs.lemmas.List.Elements.{All-contains, Contains-get_or}
 use Rattle.cmb_bench.specs.Netlist.{Netlist}
-use Rattle.cmb_loops.specs.Loops.{AreLoops, Walk, one, more, targets}
-use Rattle.cmb_loops.specs.Search.{IsClosedPart, IsEntered, IsFollowed, IsLeft, IsLooped, IsOnePart, IsSearch, IsScanned, IsStill, IsUnderWay, Reaches, is_new, seen_of, targets_at}
+use Rattle.cmb_loops.specs.Loops.{AreLoops, Walk, one, targets}
+use Rattle.cmb_loops.specs.Search.{IsClosedPart, IsEntered, IsLooped, IsScanned, IsStill, IsUnderWay, Reaches, is_new, seen_of, targets_at}
 use Rattle.cmb_loops.specs.declared.search.Frame.{Frame}
 use Rattle.cmb_loops.specs.declared.search.Search.{Search}
 use Rattle.cmb_loops.specs.declared.search.Seen.{Seen}
@@ -188,7 +188,6 @@ module _ (netlist : Netlist) (steps : Steps) (old mid new : Search) (place next 
     (scanned : IsScanned netlist steps old old.frames.items place (Some next)) (at : targets_now ≡ targets_at netlist steps old place)
     (seen : mid.seen.items ≡ old.seen.items) (marks : mid.marks.items ≡ old.marks.items) (path : mid.path.items ≡ old.path.items) (starts : mid.starts.items ≡ old.starts.items)
     (is : IsEntered mid (get_or targets_now next 0) new) where
-
   net : ℕ
   net = get_or (targets_at netlist steps old place) next 0
 

@@ -1,16 +1,15 @@
 -- What the parts of a search keep.
-use Rattle.std.proofs.Common.{◌≡◌, ◌≢◌, ◌⊎◌, inl, inr, ℕ, zero, suc, ◌+◌, ◌-◌, ◌<◌, ◌≤◌, Bool, true, false, List, [], ◌∷◌, ◌++◌, length, take, drop, get_or, set, refl, sym, ap, ◌∙◌, subst, arith, add-one, drop-cons}
+use Rattle.std.proofs.Common.{◌≡◌, ◌≢◌, ◌⊎◌, inl, inr, ℕ, zero, suc, ◌+◌, ◌-◌, ◌<◌, ◌≤◌, Bool, List, [], ◌∷◌, ◌++◌, length, drop, get_or, set, refl, sym, ap, ◌∙◌, subst, arith, add-one, drop-cons}
 use Rattle.std.specs.Prelude.{All, AllPairs, Contains}
 use Rattle.std.proofs.lemmas.Bool.{cases_eq, cases_lt}
-use Rattle.std.proofs.lemmas.List.{get_or_append_left, get_or_push, get_or-drop, get_or-set_same, get_or-set_other, get_or-take, get_or_default, length-append, length-drop, length-set, length-take, length_push}
-use Rattle.std.proofs.lemmas.List.Elements.{All-push, All-weaker, All-contains, Contains-append_left, Contains-append_right, Contains-get_or, Contains-push, Contains-push_cases, Contains-append_cases}
+use Rattle.std.proofs.lemmas.List.{get_or_append_left, get_or_push, get_or-set_same, get_or-set_other, get_or_default, length-append, length-drop, length-set, length_push}
+use Rattle.std.proofs.lemmas.List.Elements.{All-push, All-weaker, All-contains, Contains-append_left, Contains-get_or, Contains-push, Contains-push_cases, Contains-append_cases}
 use Rattle.std.proofs.lemmas.List.Quantifiers.{all_pairs_push}
-use Rattle.cmb_loops.specs.Loops.{Walk, one, more}
 use Rattle.cmb_loops.specs.Search.{IsFollowed, IsLeft, IsOnePart, IsSearch, Reaches, seen_of}
 use Rattle.cmb_loops.specs.declared.search.Frame.{Frame}
 use Rattle.cmb_loops.specs.declared.search.Seen.{Seen}
 use Rattle.cmb_loops.specs.declared.search.Seen.TheVariants.{New, On, Done}
-use Rattle.cmb_loops.proofs.WalkFacts.{reach_from, reach_on, reach_to, walk_on, walk_stays}
+use Rattle.cmb_loops.proofs.WalkFacts.{reach_on}
 
 -- ---- a net that wasn't found goes to the end of the path, as a part of its own
 
@@ -233,7 +232,7 @@ advanced next seen marks path starts frames place k is within followed = record 
             let same : place ≡ p = ap (λ (f : Frame). f.place) e ∙ left.2 in
             let later : Contains (drop k (next (get_or path p 0))) target = let P : Frame → Type 0 = λ f. Contains (drop f.next (next (get_or path p 0))) target in subst P (sym e) left.3 in
             let P : ℕ → Type 0 = λ x. Contains (drop k (next (get_or path x 0))) target
-                → IsLeft (frames ++ record { place = place; next = k + 1 } ∷ []) x (next (get_or path x 0)) target ⊎ IsFollowed seen starts x target in
+            → IsLeft (frames ++ record { place = place; next = k + 1 } ∷ []) x (next (get_or path x 0)) target ⊎ IsFollowed seen starts x target in
             subst P same at-place later
 
 -- ---- parts become one

@@ -1,5 +1,5 @@
 -- Walks, and what they reach.
-use Rattle.std.proofs.Common.{◌≡◌, ℕ, ◌⊎◌, inl, inr, List, refl, sym, subst, ap, ◌∙◌}
+use Rattle.std.proofs.Common.{ℕ, inl, inr, List, sym, subst}
 use Rattle.std.specs.Prelude.{Contains}
 use Rattle.cmb_loops.specs.Loops.{Walk, one, more}
 use Rattle.cmb_loops.specs.Search.{Reaches}

@@ -110,12 +110,7 @@ fn follow(search: &mut Search, netlist: &Netlist, steps: Steps) -> Result<(), Al
 }
 
 /// Searches from a net, unless it was found.
-fn visit(
-    search: &mut Search,
-    netlist: &Netlist,
-    steps: Steps,
-    net: u32,
-) -> Result<(), AllocError>
+fn visit(search: &mut Search, netlist: &Netlist, steps: Steps, net: u32) -> Result<(), AllocError>
     requires net { net < length netlist.now.names }
     requires under { IsUnderWay netlist.now steps search.old [] }
     requires frames { search.old.frames.items ≡ [] }

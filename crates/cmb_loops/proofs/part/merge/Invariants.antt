@@ -1,4 +1,4 @@
-use Rattle.std.proofs.Common.{◌≡◌, ◌++◌, ℕ, List, ◌<◌, length, vec_len}
+use Rattle.std.proofs.Common.{◌≡◌, ◌++◌, ℕ, List, ◌<◌, vec_len}
 use Rattle.std.specs.Prelude.{All}
 use Rattle.cmb_loops.proofs.part.merge.Given as goal
 

@@ -1,6 +1,5 @@
-use Rattle.std.proofs.Common.{◌≡◌, ◌<◌, ◌++◌, ◌∷◌, [], length, arith, refl, get_or}
-use Rattle.cmb_loops.specs.Search.{IsEntered, targets_at}
-use Rattle.cmb_loops.specs.declared.search.Frame.{Frame}
+use Rattle.std.proofs.Common.{◌≡◌, refl}
+use Rattle.cmb_loops.specs.Search.{targets_at}
 use Rattle.cmb_loops.proofs.PathFacts.{descended, descended_fresh, descended_still, net_read, targets_read}
 use Rattle.std.proofs.lemmas.Result.{on_ok_weaker}
 use Rattle.cmb_loops.proofs.path.descend.Goals.{After-enter}
@@ -13,7 +12,7 @@ targets_from-targets-requires c =
 pub bounds-targets-next : goal.bounds-targets-next
 bounds-targets-next c =
     let at = targets_read c.args.netlist.now c.args.steps c.args.search.now c.args.search.now c.args.search.now.frames.items (record { place = c.args.place; next = c.args.next }) c.index.result.now
-        c.targets_from-targets.result.now c.requires.2 c.index.ensures refl c.targets_from-targets.ensures in
+    c.targets_from-targets.result.now c.requires.2 c.index.ensures refl c.targets_from-targets.ensures in
     rw at c.requires.0
 
 at : (c : After-enter) → c.targets_from-targets.result.now ≡ targets_at c.args.netlist.now c.args.steps c.args.search.now c.args.place

@@ -1,11 +1,10 @@
-use Rattle.std.proofs.Common.{◌≡◌, ◌<◌, ◌-◌, ◌∙◌, sym, ap, subst, arith, vec_len, List, ℕ, Bool, length, drop, take}
+use Rattle.std.proofs.Common.{◌≡◌, ◌<◌, ◌-◌, ◌∙◌, sym, ap, subst, arith, vec_len, List, ℕ, length, drop, take}
 use Rattle.std.specs.Prelude.{All}
 use Rattle.std.specs.Vec.{with_items}
 use Rattle.std.proofs.lemmas.List.{with_items_is}
 use Rattle.std.proofs.lemmas.List.Elements.{All-drop, All-weaker}
 use Rattle.cmb_loops.specs.Loops.{targets}
-use Rattle.cmb_loops.specs.Search.{IsClosedPart, IsLooped, IsStill}
-use Rattle.cmb_loops.specs.declared.search.Seen.{Seen}
+use Rattle.cmb_loops.specs.Search.{IsClosedPart, IsLooped}
 use Rattle.cmb_loops.proofs.PathFacts.{finished, part_is, path_inside, still_closed}
 use Rattle.cmb_loops.proofs.path.finish.Goals.{After-truncate}
 use Rattle.cmb_loops.proofs.path.finish.Goals as goal

@@ -1,4 +1,3 @@
-use Rattle.std.proofs.Common.{◌≡◌}
 use Rattle.cmb_loops.proofs.PathFacts.{kept}
 use Rattle.cmb_loops.proofs.path.leave.Goals as goal
 
