@@ -1,6 +1,6 @@
 //! Which nets are in loops.
 
-ghost use Rattle.std.specs.Prelude.{◌≡◌, length, IfOk};
+ghost use Rattle.std.specs.Prelude.{IfOk};
 ghost use Rattle.cmb_loops.specs.Loops.{AreLoops};
 ghost use Rattle.cmb_loops.specs.Search.{IsBegun};
 
@@ -25,7 +25,7 @@ fn begin(alloc: Global, count: usize) -> Result<Search, AllocError>
 
 /// For each net whether it is in a feedback loop: whether steps lead from it back to it. A flip-flop's data is read by
 /// a step too, so a ring through a flip-flop is a loop; `Steps::Gates` leaves these steps out, and finds the loops of
-/// gates alone, which are called combinational. An output of a loop, or an input of it, isn't in it.
+/// gates alone, which are called combinational. A net that a loop only reads, or that only reads a loop, isn't in it.
 ///
 /// The nets are parted into their strongly connected components by one search along a path (H. N. Gabow, *Path-based
 /// depth-first search for strong and biconnected components*, Information Processing Letters 74, 2000), without

@@ -1,7 +1,7 @@
 //! Parts of a path: where they begin, become one, and are done.
 
-ghost use Rattle.std.specs.Prelude.{◌≡◌, ◌≢◌, ◌++◌, ◌-◌, ℕ, List, ◌<◌, ◌≤◌, true, false, length, slice_index, slice_index_or, count_by, All, AllPairs, Contains};
-ghost use Rattle.cmb_bench.specs.Netlist.{IsNetlist};
+ghost use Rattle.std.specs.Prelude.{◌≡◌, ◌≢◌, ◌++◌, ◌-◌, ℕ, ◌<◌, ◌≤◌, List, true, false, length, slice_index};
+ghost use Rattle.std.specs.Prelude.{All, AllPairs, count_by};
 ghost use Rattle.cmb_loops.specs.Loops.{targets};
 ghost use Rattle.cmb_loops.specs.Search.{HasEdge, IsClosedPart, IsLooped, IsMarked, is_new};
 

@@ -1,8 +1,9 @@
 //! A search along a path: nets are put at its end as they are found, and taken off it by whole parts, as they are done.
 
-ghost use Rattle.std.specs.Prelude.{◌≡◌, ◌++◌, ◌∷◌, [], ◌+◌, ◌-◌, ◌<◌, ◌≤◌, ◌≢◌, ℕ, length, slice_index, count_by, IfOk, OnOk};
+ghost use Rattle.std.specs.Prelude.{◌≡◌, ◌++◌, ◌∷◌, [], ◌+◌, ◌-◌, ◌<◌, ◌≤◌, ◌≢◌, length, slice_index, count_by};
+ghost use Rattle.std.specs.Prelude.{OnOk};
 ghost use Rattle.cmb_loops.specs.Loops.{AreLoops};
-ghost use Rattle.cmb_loops.specs.Search.{IsEntered, IsScanned, IsStill, IsUnderWay, is_new, seen_of, targets_at};
+ghost use Rattle.cmb_loops.specs.Search.{IsEntered, IsScanned, IsStill, IsUnderWay, is_new, seen_of};
 ghost use Rattle.cmb_loops.specs.declared.search.Seen.TheVariants.{New};
 
 use crate::part::{close, ends_at, mark_loops, merge};
