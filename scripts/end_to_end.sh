@@ -395,7 +395,7 @@ told_of_lists
 told_of_no_memory
 told_in_words
 told_meanwhile
-if scripts/chosen_cases.py "$program"; then
+if scripts/chosen_cases.py --random 30 "$program" "$examples"/*; then
     passed=$((passed + 1))
 else
     failed=$((failed + 1))
