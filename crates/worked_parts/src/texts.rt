@@ -1,0 +1,111 @@
+//! The text of chosen nets.
+
+ghost use Rattle.std.specs.Prelude.{◌≡◌};
+ghost use Rattle.cmb_design.specs.Exact.{nets_of};
+
+use crate::parts::{second_part, two_parts};
+use cmb_choice::chosen_text;
+use cmb_choice::text::part_of;
+use cmb_design::Design;
+use std::alloc::{AllocError, Global};
+use std::process::Abort;
+use std::test::Fail;
+
+/// Of `b` and `q`. The inverter `z` of `b` is 1 from tick 2 on and 0 from tick 6 on, and `q` shows what was sampled at
+/// tick 3 a tick later.
+const OF_TWO: &str = "$version cmbsim 1 $end
+$timescale 1 ns $end
+$scope module top $end
+$var wire 1 ! b $end
+$var wire 1 \" q $end
+$upscope $end
+$enddefinitions $end
+#0
+$dumpvars
+0!
+x\"
+$end
+#4
+1!
+1\"
+#8
+";
+
+/// Of `b`, `z` and `q`.
+const OF_THREE: &str = "$version cmbsim 1 $end
+$timescale 1 ns $end
+$scope module top $end
+$var wire 1 ! b $end
+$var wire 1 \" z $end
+$var wire 1 # q $end
+$upscope $end
+$enddefinitions $end
+#0
+$dumpvars
+0!
+x\"
+x#
+$end
+#2
+1\"
+#4
+1!
+1#
+#6
+0\"
+#8
+";
+
+/// Whether the text of `b` and `q` is as it should be.
+fn shows_two(alloc: Global, design: &Design) -> Result<bool, AllocError>
+    requires { nets_of design.now ≡ 5 }
+{
+    let text = chosen_text(alloc, design, &[1, 4])?;
+    Ok(text.as_slice() == OF_TWO.as_bytes())
+}
+
+/// Whether the text of all nets of a design of three is that of `b`, `z` and `q`.
+fn shows_three(alloc: Global, part: &Design) -> Result<bool, AllocError> {
+    if part.netlist().len() == 3 {
+        let text = chosen_text(alloc, part, &[0, 1, 2])?;
+        return Ok(text.as_slice() == OF_THREE.as_bytes());
+    }
+    Ok(false)
+}
+
+/// Whether the part on which `b` and `q` depend has three nets, of which these are the first and the last.
+fn has_part(alloc: Global, design: &Design) -> Result<bool, AllocError>
+    requires { nets_of design.now ≡ 5 }
+{
+    let part = part_of(alloc, design, &[1, 4])?;
+    Ok(part.design.netlist().len() == 3 && part.nets.as_slice() == [0, 2].as_slice())
+}
+
+/// Whether the part on which `q` depends has the text of its three nets.
+fn shows_part(alloc: Global, design: &Design) -> Result<bool, AllocError>
+    requires { nets_of design.now ≡ 5 }
+{
+    let part = second_part(alloc, design)?;
+    shows_three(alloc, &part)
+}
+
+#[test]
+fn two_nets(rt: HostRuntime) -> Result<(), Fail> {
+    let design = two_parts(&rt, rt.alloc())?;
+    assert!(&rt; shows_two(rt.alloc(), &design)?);
+    Ok(())
+}
+
+#[test]
+fn part_of_two_nets(rt: HostRuntime) -> Result<(), Fail> {
+    let design = two_parts(&rt, rt.alloc())?;
+    assert!(&rt; has_part(rt.alloc(), &design)?);
+    Ok(())
+}
+
+#[test]
+fn all_nets_of_a_part(rt: HostRuntime) -> Result<(), Fail> {
+    let design = two_parts(&rt, rt.alloc())?;
+    assert!(&rt; shows_part(rt.alloc(), &design)?);
+    Ok(())
+}
