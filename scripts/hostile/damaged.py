@@ -9,12 +9,10 @@ ORACLE names another program with the same command line, if there is one, whose 
 answer too; or a Python file with a function run_program(words, input) that gives a status and what is written to
 the two streams.
 """
-import importlib.util
-import io
 import os
 import sys
 
-from tools import PLACES, PROGRAM, Answer, Case, Files, Tally, each, modes, run
+from tools import PLACES, PROGRAM, Case, Files, Tally, each, modes, oracle_of, run
 
 ORACLE = os.environ.get("ORACLE")
 VALUES = b"\x00\x09\x0a\x0d \"#(),019:=Aabx\x7f\x80\xe9\xff"
@@ -76,16 +74,6 @@ def is_lawful(which, text, answer):
     if number in PLACES["record"]:
         return 1 <= place <= 1 + max(t.count(b"\n") + t.count(b"\r") for t in [text, *CASE.tables.values()])
     return place == 0
-
-
-def oracle_of(path):
-    """What gives the oracle's answer to a line and a netlist."""
-    if not path.endswith(".py"):
-        return lambda words, netlist: run([path] + words, netlist, SECONDS)
-    spec = importlib.util.spec_from_file_location("oracle", path)
-    module = importlib.util.module_from_spec(spec)
-    spec.loader.exec_module(module)
-    return lambda words, netlist: Answer(*module.run_program(words, io.BytesIO(netlist)))
 
 
 class Runs:

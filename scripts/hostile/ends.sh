@@ -119,7 +119,7 @@ for mode in "${modes[@]}"; do
 
     # Files by the number of their input: missing, a folder, one that may not be read, one that stands below a file.
     number=2
-    for table in delays stimuli clocks; do
+    for table in delays stimuli clocks only; do
         for file in "$room/missing" "$room" "$room/empty/below" ""; do
             timeout 60 "$program" run --horizon 10 "--$table" "$file" "${words[@]}" <"$room/inverter" >"$room/out" 2>"$room/err"
             check "$mode: --$table '${file#"$room"}'" "1 0 cmbsim: fault 61 at $number" "$? $(stat -c %s "$room/out") $(told)"
@@ -150,6 +150,8 @@ for mode in "${modes[@]}"; do
     check "$mode: an endless netlist" "1 0 cmbsim: fault 60 at 1" "$? $(stat -c %s "$room/out") $(told)"
     timeout 60 "$program" run --horizon 10 --clocks /dev/zero "${words[@]}" <"$room/inverter" >"$room/out" 2>"$room/err"
     check "$mode: an endless table" "1 0 cmbsim: fault 60 at 4" "$? $(stat -c %s "$room/out") $(told)"
+    timeout 60 "$program" run --horizon 10 --only /dev/zero "${words[@]}" <"$room/inverter" >"$room/out" 2>"$room/err"
+    check "$mode: an endless list" "1 0 cmbsim: fault 60 at 5" "$? $(stat -c %s "$room/out") $(told)"
 
     # One that comes in two halves, a signal between them.
     mkfifo "$room/pipe"
@@ -186,7 +188,7 @@ check "no words" "2 0" "$? $(stat -c %s "$room/out")"
 "$program" run --help <"$room/empty" >"$room/out" 2>"$room/err"
 check "help" "0 0" "$? $(stat -c %s "$room/err")"
 "$program" run --help <&- >/dev/full 2>"$room/err"
-check "help on a full device" 0 "$?"
+check "help on a full device" "1 cmbsim: fault 62 at 0" "$? $(told)"
 "$program" run --horizon 10 --stimuli $'\xff' <"$room/empty" >"$room/out" 2>"$room/err"
 check "a word that isn't UTF-8" "2 0" "$? $(stat -c %s "$room/out")"
 "$program" run --horizon 10 --clock 2-4 --stimuli "$room/missing" <&- >"$room/out" 2>"$room/err"

@@ -1,13 +1,14 @@
 #!/usr/bin/env -S python3 -B
-"""refuse_each.py: runs the built programs with each request for memory or for a thread refused in turn.
+"""refuse_each.py [CASE..]: runs the built programs with each request for memory or for a thread refused in turn.
 
 Each request is refused alone, and with all that follow it, until a run meets none that is refused. The answer has to
 be fault 70, or what it is with ample memory where the refused request wasn't needed; what was written has to be a
-beginning of the whole text, and nothing in the modes that write at the end. Where all later requests are refused too,
-the line of fault 70 may be missing, since it needs memory itself. No run may last longer than 20 seconds.
+beginning of the whole text, and nothing in the modes that write at the end, nor where nets are chosen, since that text
+is made whole before any of it is written. Where all later requests are refused too, the line of fault 70 may be
+missing, since it needs memory itself. No run may last longer than 20 seconds.
 
 Then the programs run under rising limits of their address space, where the C library itself finds no memory, for a
-heap and for the stacks of threads.
+heap and for the stacks of threads. CASE names cases that are run alone, without all else.
 
 PLAY_EVENTS names the program that plays events, crates/play_events/out/play_events if it isn't set.
 """
@@ -16,7 +17,7 @@ import resource
 import subprocess
 import sys
 
-from tools import HERE, JOBS, PROGRAM, ROOT, Answer, Case, Files, Tally, clocks, each, example, modes, run, toggle
+from tools import HERE, JOBS, PROGRAM, ROOT, Answer, Case, Files, Tally, clocks, each, example, listed, modes, outputs, picked, run, toggle
 
 SECONDS = 20
 EVENTS = os.path.abspath(os.environ.get("PLAY_EVENTS", os.path.join(ROOT, "crates", "play_events", "out", "play_events")))
@@ -149,26 +150,37 @@ def is_right_line(answer, whole, more):
 
 
 def check_program(tally, files, shim):
-    for case in (toggle(), clocks(), example("inverter"), example("s27"), example("c17")):
-        for mode, more_words in modes(rounds=((1, 1), (1, 2), (2, 2)), free=((1, 2), (2, 2), (3, 3))).items():
+    for case in picked([toggle(), clocks(), example("inverter"), example("s27"), example("c17"), listed(), outputs()]):
+        threads = (3,) if case.chooses() else ()
+        for mode, more_words in modes(rounds=((1, 1), (1, 2), (2, 2)), free=((1, 2), (2, 2), (3, 3)), threads=threads).items():
             words = [PROGRAM] + files.words(case) + more_words
             name = f"{case.name}, {mode}"
             whole = run(words, case.netlist)
             if not tally.check(whole == Answer(0, case.expected, b""), lambda: f"{name}: {whole}"):
                 continue
-            early = mode.startswith("free")
+            early = mode.startswith("free") and not case.chooses()
             patience = 30 if early else 3
             sweep(tally, name, words, case.netlist, whole, shim, lambda a, more: is_right(a, whole, more, early), patience)
+
+
+def check_lines(tally, shim):
     for name, words in lines().items():
         words = [PROGRAM] + words
         whole = run(words, b"")
         sweep(tally, name, words, b"", whole, shim, lambda a, more: is_right_line(a, whole, more), 3)
-    bad = Case("a fault", b"INPUT(a)\n\nb = FOO(a)\n", ["--horizon", "9"])
-    for mode, more_words in modes(rounds=((1, 1),), free=((2, 2),)).items():
-        words = [PROGRAM, "run"] + bad.words + more_words
-        whole = run(words, bad.netlist)
-        tally.check(whole.fault() == (3, 3), lambda: f"a fault, {mode}: {whole}")
-        sweep(tally, f"a fault, {mode}", words, bad.netlist, whole, shim, lambda a, more: is_right_line(a, whole, more), 3)
+
+
+def check_faults(tally, files, shim):
+    """A netlist and a list that are refused."""
+    faults = {"a fault": (3, 3), "a fault of a list": (38, 2)}
+    of_netlist = Case("a fault", b"INPUT(a)\n\nb = FOO(a)\n", ["--horizon", "9"])
+    of_list = Case("a fault of a list", b"INPUT(a)\n", ["--horizon", "9"], {"only": b"a\nb\n"})
+    for bad in picked([of_netlist, of_list]):
+        for mode, more_words in modes(rounds=((1, 1),), free=((2, 2),)).items():
+            words = [PROGRAM] + files.words(bad) + more_words
+            whole = run(words, bad.netlist)
+            tally.check(whole.fault() == faults[bad.name], lambda: f"{bad.name}, {mode}: {whole}")
+            sweep(tally, f"{bad.name}, {mode}", words, bad.netlist, whole, shim, lambda a, more: is_right_line(a, whole, more), 3)
 
 
 def check_limits(tally):
@@ -205,8 +217,11 @@ def main():
     shim = files.path("refuse.so")
     subprocess.run(["gcc", "-O2", "-shared", "-fPIC", "-o", shim, os.path.join(HERE, "refuse.c")], check=True)
     check_program(tally, files, shim)
-    check_events(tally, shim)
-    check_limits(tally)
+    check_faults(tally, files, shim)
+    if not sys.argv[1:]:
+        check_lines(tally, shim)
+        check_events(tally, shim)
+        check_limits(tally)
     tally.end()
 
 

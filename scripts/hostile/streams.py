@@ -1,17 +1,18 @@
 #!/usr/bin/env -S python3 -B
-"""streams.py: fails each read of the built program in turn, and its output after each number of bytes.
+"""streams.py [CASE..]: fails each read of the built program in turn, and its output after each number of bytes.
 
 Reads and writes take one byte a call, a few, or what they like. A read that fails is fault 61 at its input with
 nothing written; an output that fails after n bytes is fault 62 at n with the first n bytes of the text.
+CASE names cases that are run alone.
 """
 import errno
 import os
 import subprocess
 
-from tools import HERE, PROGRAM, Answer, Files, Tally, clocks, each, example, modes, run, toggle
+from tools import HERE, PROGRAM, Answer, Files, Tally, clocks, each, example, listed, modes, outputs, picked, run, toggle
 
 SECONDS = 60
-INPUTS = ("netlist", "delays", "stimuli", "clocks")
+INPUTS = ("netlist", "delays", "stimuli", "clocks", "only")
 
 
 def streamed(words, netlist, shim, **settings):
@@ -53,9 +54,10 @@ def main():
     tally, files = Tally(), Files()
     shim = files.path("streams.so")
     subprocess.run(["gcc", "-O2", "-shared", "-fPIC", "-o", shim, os.path.join(HERE, "streams.c")], check=True)
-    for case in (toggle(), clocks(), example("inverter")):
+    for case in picked([toggle(), clocks(), example("inverter"), listed(), outputs()]):
         before = tally.passed
-        for mode, more in modes(rounds=((1, 1), (2, 2)), free=((1, 1), (2, 2), (3, 3))).items():
+        threads = (3,) if case.chooses() else ()
+        for mode, more in modes(rounds=((1, 1), (2, 2)), free=((1, 1), (2, 2), (3, 3)), threads=threads).items():
             words, name = [PROGRAM] + files.words(case) + more, f"{case.name}, {mode}"
             for most in (1, 7):
                 check_reads(tally, name, words, case, shim, most)

@@ -4,6 +4,8 @@ CMBSIM names the program, out/cmbsim if it isn't set. JOBS says how many runs go
 it isn't set.
 """
 import concurrent.futures
+import importlib.util
+import io
 import os
 import subprocess
 import sys
@@ -18,6 +20,7 @@ TABLES = ("delays", "stimuli", "clocks")
 # Each fault that the program can have, with the kind of its place.
 PLACES = {
     "line": {1, 2, 3, 4, 5, 6, 7, 8},
+    "line of a list": {38},
     "record": {23, 24, 25, 26, 27, 28, 29, 30, 31, 32, 34, 35, 36, 37},
     "nothing": {20, 21, 22, 33, 40, 54, 70},
     "input": {60, 61},
@@ -27,7 +30,7 @@ PLACES = {
 
 
 class Case:
-    """A netlist, the words of a line, the tables by their names, and the whole text where it is known."""
+    """A netlist, the words of a line, the files by the options that take them, and the whole text where it is known."""
 
     def __init__(self, name, netlist, words, tables=None, expected=None):
         self.name = name
@@ -35,6 +38,10 @@ class Case:
         self.words = words
         self.tables = tables or {}
         self.expected = expected
+
+    def chooses(self):
+        """Whether some nets alone are written, whose text is made whole before any of it is."""
+        return "only" in self.tables or "--only-outputs" in self.words
 
 
 class Answer:
@@ -94,18 +101,30 @@ def run(words, netlist, seconds=60, env=None, pass_fds=()):
     return Answer(done.returncode, done.stdout, done.stderr)
 
 
+def oracle_of(path):
+    """What answers a line and a netlist in the program's place: another program, or a Python file with a function run_program."""
+    if not path.endswith(".py"):
+        return lambda words, netlist: run([path] + words, netlist)
+    spec = importlib.util.spec_from_file_location("oracle", path)
+    module = importlib.util.module_from_spec(spec)
+    spec.loader.exec_module(module)
+    return lambda words, netlist: Answer(*module.run_program(words, io.BytesIO(netlist)))
+
+
 def has_free():
     """Whether the program has the mode free."""
     return run([PROGRAM, "run", "--horizon", "1", "--mode", "free"], b"").status == 0
 
 
-def modes(rounds=((1, 1), (2, 3)), free=((2, 3),)):
-    """The words of each mode, by a name for it: rounds and free by their workers and clusters."""
+def modes(rounds=((1, 1), (2, 3)), free=((2, 3),), threads=()):
+    """The words of each mode, by a name for it: rounds and free by their workers and clusters, and by threads that share the work."""
     found = {"plain": ["--mode", "plain"]}
     named = [("rounds", rounds)] + ([("free", free)] if has_free() else [])
     for mode, sizes in named:
         for workers, clusters in sizes:
             found[f"{mode} {workers}/{clusters}"] = ["--mode", mode, "--workers", str(workers), "--clusters", str(clusters)]
+        for count in threads:
+            found[f"{mode} by {count} threads"] = ["--mode", mode, "--threads", str(count)]
     return found
 
 
@@ -150,6 +169,24 @@ def clocks():
     }
     words = ["--horizon", "12", "--clock", "2:4", "--init", "0"]
     return Case("clocks", b"INPUT(a)\np = DFF(a)\nq = DFF(p)\n", words, tables, text("a p q", body))
+
+
+def listed():
+    """Of `clocks` the nets that a list names, the last of them first and twice."""
+    case = clocks()
+    tables = dict(case.tables, only=b"q # twice\na\nq\n")
+    return Case("listed", case.netlist, case.words, tables, text("a q", '#0 0! 0" #3 1! #8 1" #12'))
+
+
+def outputs():
+    """Of `clocks` the one output, which doesn't ask for the last net."""
+    case = clocks()
+    return Case("outputs", b"OUTPUT(p)\n" + case.netlist, case.words + ["--only-outputs"], case.tables, text("p", "#0 0! #7 1! #12"))
+
+
+def picked(cases):
+    """Those of the cases that the script's words name, all where there are no words."""
+    return [case for case in cases if case.name in (sys.argv[1:] or [case.name])]
 
 
 class Files:

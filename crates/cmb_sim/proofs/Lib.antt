@@ -1,3 +1,4 @@
+pub mod AllNets
 pub mod Chosen
 pub mod Explained
 pub mod FreeTexts

@@ -1,6 +1,7 @@
 //! Worked examples as tests, by topic. A case has the texts of a simulation and its settings.
 
 mod checks;
+mod chosen;
 mod ends;
 mod explanations;
 mod faults;
