@@ -2,8 +2,9 @@
 # end_to_end.sh [PROGRAM]: runs the whole program on files, as `rt try` builds it from the sources that the gate
 # has just proved (proving them once more for this would take as long again). The waveforms of each
 # example have to be those of its expected.vcd, byte for byte, in each mode; a wrong use has to write nothing and to
-# end with its status. The real designs, whose texts are longer than what `rt try` gives out, are run by PROGRAM, out/cmbsim if not
-# given: what their expected.txt says has to be read off their waveforms. PROGRAM also has to tell each fault that files, settings
+# end with its status. The real designs, whose texts are longer than what `rt try` gives out, are run by PROGRAM,
+# out/cmbsim if not given: what their expected.txt says has to be read off their waveforms. What PROGRAM tells of loops
+# has to be what a search of its own finds in each example. It also has to tell each fault that files, settings
 # and the machine can give, by the very line. The last line is 'N passed, M failed'.
 set -uo pipefail
 cd "$(dirname "$0")/.."
@@ -56,6 +57,8 @@ inverter_counts='       2  nets
        0  gates BUFF
        0  flip-flops
        0  flip-flops that never sample
+       0  nets in feedback loops
+       0  nets in loops of gates alone
        0  nets that drive nothing and are no outputs
        1  ticks in the largest delay
        0  different clocks of flip-flops
@@ -149,6 +152,17 @@ real() { # real NAME WORDS..: the levels that are read off at the end are those 
     else
         failed=$((failed + 1))
         echo "end to end: $name $* FAILED"
+    fi
+}
+
+# looped NAME: how many nets are in loops is what a search of its own finds
+looped() {
+    local netlist=$examples/$1/netlist.bench
+    if [ "$("$program" check --horizon 10 --clock 1:2 <"$netlist" | grep loops)" = "$(scripts/loop_counts.py "$netlist")" ]; then
+        passed=$((passed + 1))
+    else
+        failed=$((failed + 1))
+        echo "end to end: loops of $1 FAILED"
     fi
 }
 
@@ -387,6 +401,9 @@ else
     failed=$((failed + 1))
     echo "end to end: chosen nets FAILED"
 fi
+for netlist in "$examples"/*/netlist.bench; do
+    looped "$(basename "$(dirname "$netlist")")"
+done
 on_full_disk run --horizon 10
 on_full_disk --help
 on_full_disk --version

@@ -2,8 +2,8 @@
 # viewers.sh [PROGRAM]: has what reads VCD on this machine read the waveforms of each example, and of a netlist whose names have
 # to be escaped, as PROGRAM writes them, out/cmbsim if not given. vcd2fst and fst2vcd, which come with GTKWave and read by its
 # own reader, have to give back the same levels, by tools/compare_vcd.py; vcd2lxt2, which has another reader, and sigrok-cli
-# have to read it. A warning of any is a failure. What isn't installed is named and left out, so that this is no part of the
-# gate. The last line is 'N passed, M failed'.
+# have to read it; and GTKWave itself, in a window of xvfb-run's, has to show every net of it. A warning of any is a failure.
+# What isn't installed is named and left out, so that this is no part of the gate. The last line is 'N passed, M failed'.
 set -uo pipefail
 cd "$(dirname "$0")/.."
 program=${1:-out/cmbsim}
@@ -44,14 +44,33 @@ by_sigrok() { # by_sigrok NAME: it has a channel for each variable
     judged "the channels of $1 in sigrok-cli" 0 "$([ "$said" = 1 ] || echo "not $variables")"
 }
 
+by_window() { # by_window NAME: GTKWave says who it is, the first and the last tick, and shows as many nets as there are
+    local said variables
+    variables=$(grep -c '^\$var' "$room/$1.vcd")
+    said=$(xvfb-run -a timeout 120 gtkwave --script="$room/show.tcl" "$room/$1.vcd" 2>&1)
+    judged "the window of $1" $? \
+        "$(grep -vE "^GTKW|^\[[0-9]+\] (start|end) time\.$|^Exiting\.$|^shown $variables of $variables$|^$" <<<"$said")"
+    judged "the nets in the window of $1" 0 "$(grep -q "^shown $variables of" <<<"$said" || echo "not $variables")"
+}
+
 readers=()
-for reader in vcd2fst:by_fst vcd2lxt2:by_lxt sigrok-cli:by_sigrok; do
-    if command -v "${reader%:*}" >/dev/null; then
+for reader in vcd2fst:by_fst vcd2lxt2:by_lxt sigrok-cli:by_sigrok gtkwave+xvfb-run:by_window; do
+    missing=
+    for command in $(tr + ' ' <<<"${reader%:*}"); do
+        command -v "$command" >/dev/null || missing="$missing $command"
+    done
+    if [ -z "$missing" ]; then
         readers+=("${reader#*:}")
     else
-        echo "viewers: ${reader%:*} isn't installed"
+        echo "viewers: not installed:$missing"
     fi
 done
+cat >"$room/show.tcl" <<'END'
+set names [list]
+for {set i 0} {$i < [gtkwave::getNumFacs]} {incr i} { lappend names [gtkwave::getFacName $i] }
+puts "shown [gtkwave::addSignalsFromList $names] of [llength $names]"
+gtkwave::/File/Quit
+END
 for example in examples/*/; do
     name=$(basename "$example")
     scripts/run_example.sh "$program" "$name" >"$room/$name.vcd"

@@ -3,8 +3,10 @@ use Rattle.std.specs.Prelude.{◌≡◌, length}
 use Rattle.cmb_bench.specs.Netlist.{Netlist}
 use Rattle.cmb_bench.specs.declared.netlist.Kind.TheVariants as kind
 use Rattle.cmb_design.specs.Design.{Design}
+use Rattle.cmb_loops.specs.declared.steps.Steps.TheVariants as steps
 use Rattle.cmb_count.specs.Clocks.{clock_count}
 use Rattle.cmb_count.specs.Largest.{IsLargestDelay}
+use Rattle.cmb_count.specs.Loops.{IsLoopCount}
 use Rattle.cmb_count.specs.Parts.{part_count, silent_count, still_count}
 use Rattle.cmb_count.specs.Unused.{unused_count}
 use Rattle.cmb_count.specs.declared.counts.Counts.{Counts}
@@ -29,6 +31,8 @@ pub record AreCounts (design : Design) (counts : Counts) : Type 0 where
   pub gates : AreGateCounts design.netlist counts.gates
   pub flops : counts.flops ≡ part_count design.netlist Flops
   pub still : counts.still ≡ still_count design
+  pub in_loops : IsLoopCount design.netlist steps.All counts.in_loops
+  pub in_gate_loops : IsLoopCount design.netlist steps.Gates counts.in_gate_loops
   pub unused : counts.unused ≡ unused_count design.netlist
   pub largest_delay : IsLargestDelay design counts.largest_delay
   pub clocks : counts.clocks ≡ clock_count design

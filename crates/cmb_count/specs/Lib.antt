@@ -4,4 +4,5 @@ pub mod Largest
 pub mod Counting
 pub mod Texts
 pub mod Unused
+pub mod Loops
 pub mod Clocks

@@ -25,7 +25,8 @@ net_rows counts =
     row counts.nets (codes "nets") ++ (row counts.inputs (codes "inputs")
     ++ (row counts.silent (codes "inputs that are x at all ticks") ++ (gate_rows counts.gates
     ++ (row counts.flops (codes "flip-flops") ++ (row counts.still (codes "flip-flops that never sample")
-    ++ (row counts.unused (codes "nets that drive nothing and are no outputs") ++ row counts.largest_delay (codes "ticks in the largest delay")))))))
+    ++ (row counts.in_loops (codes "nets in feedback loops") ++ (row counts.in_gate_loops (codes "nets in loops of gates alone")
+    ++ (row counts.unused (codes "nets that drive nothing and are no outputs") ++ row counts.largest_delay (codes "ticks in the largest delay")))))))))
 
 abbrev pub counts_rows : Counts → List ℕ
 counts_rows counts = net_rows counts ++ table_rows counts

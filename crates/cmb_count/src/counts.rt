@@ -6,9 +6,11 @@ ghost use Rattle.cmb_count.specs.Counting.{AreCounts, AreGateCounts};
 use crate::clocks::count_clocks;
 use crate::drivers::{Part, count_drivers, count_silent, count_still};
 use crate::largest::largest_delay;
+use crate::loops::count_loops;
 use crate::unused::count_unused;
 use cmb_bench::{Kind, Netlist};
 use cmb_design::Design;
+use cmb_loops::Steps;
 use std::alloc::{AllocError, Global};
 
 /// How many gates of each kind there are.
@@ -36,6 +38,10 @@ pub struct Counts {
     pub flops: usize,
     /// Flip-flops with no sample tick below the horizon.
     pub still: usize,
+    /// Nets in feedback loops, through gates and flip-flops.
+    pub in_loops: usize,
+    /// Nets in feedback loops through gates alone.
+    pub in_gate_loops: usize,
     /// Nets that no pin reads and that are no outputs.
     pub unused: usize,
     /// The largest delay of a pin, in ticks; 0 where there are no pins.
@@ -77,6 +83,8 @@ pub fn count_design(alloc: Global, design: &Design) -> Result<Counts, AllocError
         gates: count_gates(netlist),
         flops: count_drivers(netlist, &Part::Flops),
         still: count_still(design),
+        in_loops: count_loops(alloc, netlist, Steps::All)?,
+        in_gate_loops: count_loops(alloc, netlist, Steps::Gates)?,
         unused: count_unused(alloc, netlist)?,
         largest_delay: largest_delay(design),
         clocks: count_clocks(alloc, design)?,

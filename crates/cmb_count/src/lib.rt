@@ -1,17 +1,20 @@
-//! What a design is made of, in numbers: nets by their drivers, inputs that nothing drives, the largest delay, clocks
-//! and rows.
+//! What a design is made of, in numbers: nets by their drivers, inputs that nothing drives, feedback loops, the
+//! largest delay, clocks and rows.
 #![tactic(auto)]
 
 pub mod clocks;
 pub mod counts;
 pub mod drivers;
 mod largest;
+pub mod loops;
 mod text;
 pub mod unused;
 
 pub use clocks::count_clocks;
 pub use counts::{Counts, GateCounts, count_design};
 pub use drivers::{Part, count_drivers, count_silent, count_still};
+pub use cmb_loops::Steps;
 pub use largest::largest_delay;
+pub use loops::count_loops;
 pub use text::counts_text;
 pub use unused::count_unused;

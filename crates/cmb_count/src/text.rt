@@ -43,6 +43,8 @@ fn push_nets(text: &mut String, counts: &Counts) -> Result<(), AllocError>
     push_gates(text, counts.gates)?;
     push_row(text, counts.flops, "flip-flops")?;
     push_row(text, counts.still, "flip-flops that never sample")?;
+    push_row(text, counts.in_loops, "nets in feedback loops")?;
+    push_row(text, counts.in_gate_loops, "nets in loops of gates alone")?;
     push_row(
         text,
         counts.unused,

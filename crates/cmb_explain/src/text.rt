@@ -1,7 +1,8 @@
 //! The texts of `cmbsim explain`.
 
-ghost use Rattle.std.specs.Prelude.{◌↔◌, IfOk, IsSome};
+ghost use Rattle.std.specs.Prelude.{◌≡◌, ◌↔◌, ◌++◌, IfOk, OnOk, IsSome, string_bytes};
 ghost use Rattle.cmb_explain.specs.Known.{IsFaultNumber};
+ghost use Rattle.cmb_explain.specs.Listed.{ListsUpTo, row, word_of};
 
 use crate::explanation::{Explanation, Place, explanation_of};
 use std::alloc::{AllocError, Global};
@@ -26,7 +27,9 @@ its waveforms have no nets, and some viewers refuse to open them.
 ";
 
 // What P is, in a word.
-fn place_word(place: Place) -> &'static str {
+fn place_word(place: Place) -> &'static str
+    ensures { result.now ≡ word_of place }
+{
     match place {
         Place::Line => "line",
         Place::Record => "record",
@@ -81,7 +84,10 @@ pub fn explained(alloc: Global, number: u32) -> Result<Option<String>, AllocErro
     Ok(Some(text))
 }
 
-fn push_row(text: &mut String, entry: Explanation) -> Result<(), AllocError> {
+fn push_row(text: &mut String, entry: Explanation) -> Result<(), AllocError>
+    ensures { OnOk result (string_bytes text.new
+        ≡ string_bytes text.old ++ row entry.number (word_of entry.place) entry.meaning.now) }
+{
     let number = entry.number;
     let place = place_word(entry.place);
     let meaning = entry.meaning;
@@ -89,7 +95,9 @@ fn push_row(text: &mut String, entry: Explanation) -> Result<(), AllocError> {
 }
 
 /// The list of all faults by rising numbers, a line for each.
-pub fn fault_list(alloc: Global) -> Result<String, AllocError> {
+pub fn fault_list(alloc: Global) -> Result<String, AllocError>
+    ensures { IfOk result (λ text. ListsUpTo 70 (string_bytes text)) }
+{
     let mut text = String::from_str(alloc, LIST_HEAD)?;
     for number in 1..=LAST {
         if let Some(entry) = explanation_of(number) {

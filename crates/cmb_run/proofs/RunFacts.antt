@@ -5,11 +5,11 @@ use Rattle.cmb_wave.specs.Wave.{Piece}
 use Rattle.cmb_design.specs.Design.{Design}
 use Rattle.cmb_design.specs.Exact.{IsExactIn}
 use Rattle.cmb_vcd.specs.declared.fault.CollectFault.{CollectFault}
-use Rattle.cmb_vcd.specs.Collector.{Collector, IsExactFor, collected}
-use Rattle.cmb_vcd.proofs.ExactFacts.{collected_exact}
+use Rattle.cmb_vcd.specs.Collector.{Collector, IsExactFrom, collected}
+use Rattle.cmb_vcd.proofs.ExactFacts.{collected_from}
 
-pub stays_exact : (design : Design) (old new : Collector) (piece : Piece) (result : Result ℕ CollectFault)
-    → IsExactFor design old → IsExactIn design piece
-    → OnOk result (collected old piece ≡ Ok new) → OnErr result (new ≡ old) → IsExactFor design new
-stays_exact design old new piece (Ok clock) exact whole taken same = collected_exact design old piece exact whole new taken
-stays_exact design old new piece (Err fault) exact whole taken same = subst (λ (c : Collector). IsExactFor design c) (sym same) exact
+pub stays_exact : (design : Design) (from : ℕ) (old new : Collector) (piece : Piece) (result : Result ℕ CollectFault)
+    → IsExactFrom design from old → IsExactIn design piece
+    → OnOk result (collected old piece ≡ Ok new) → OnErr result (new ≡ old) → IsExactFrom design from new
+stays_exact design from old new piece (Ok clock) exact whole taken same = collected_from design from old piece exact whole new taken
+stays_exact design from old new piece (Err fault) exact whole taken same = subst (λ (c : Collector). IsExactFrom design from c) (sym same) exact

@@ -1,8 +1,11 @@
 -- Why a free run has no complete collector, or wrote no whole text.
-use Rattle.std.specs.Prelude.{◌≡◌, ℕ, ◌<◌, List, Option, length, ⊤}
+use Rattle.std.specs.Prelude.{◌≡◌, ℕ, ◌<◌, ◌≤◌, List, Option, length, ⊤}
+use Rattle.std.specs.Io.KnownBytes.{Appends}
 use Rattle.cmb_design.specs.Design.{Design}
+use Rattle.cmb_design.specs.Value.{value}
 use Rattle.cmb_vcd.specs.Beginnings.{HasBegun, IsCutOff}
-use Rattle.cmb_vcd.specs.Collector.{Collector, IsExactFor, wave_of}
+use Rattle.cmb_vcd.specs.Collector.{Collector, IsExactFor, IsExactFrom, wave_of}
+use Rattle.cmb_vcd.specs.Vcd.{part_text}
 use Rattle.cmb_run.specs.declared.run_fault.RunFault.{RunFault}
 use Rattle.cmb_run.specs.declared.run_fault.RunFault.TheVariants.{Incomplete, Write, Memory}
 
@@ -25,8 +28,15 @@ IsStopped design (Incomplete net upto collector) = IsExactFor design collector �
 IsStopped design (Write written) = ⊥
 IsStopped design Memory = ⊤
 
+-- the sink took the design's text up to a tick, and from that tick on the collector is exact
+pub record IsWrittenAndKept (design : Design) (old new : Option (List ℕ)) (collector : Collector) : Type 0 where
+  pub done : ℕ
+  pub within : done ≤ design.horizon
+  pub text : Appends old new (part_text design.netlist design.horizon (value design) done)
+  pub exact : IsExactFrom design done collector
+
 -- why a text isn't written whole, and that a beginning of it is; where the sink failed that is the answer, before all else
 abbrev pub IsCutAt : Design → Option (List ℕ) → Option (List ℕ) → ℕ → ℕ → RunFault → Type 0
-IsCutAt design old new before after (Incomplete net upto collector) = HasBegun design old new × (after ≡ before) × IsExactFor design collector × IsLeastBehind collector net upto
+IsCutAt design old new before after (Incomplete net upto collector) = HasBegun design old new × (after ≡ before) × IsWrittenAndKept design old new collector × IsLeastBehind collector net upto
 IsCutAt design old new before after (Write written) = IsCutOff design old new before after written
 IsCutAt design old new before after Memory = HasBegun design old new × (after ≡ before)

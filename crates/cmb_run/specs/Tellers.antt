@@ -4,7 +4,7 @@ use Rattle.std.specs.Io.KnownBytes.{Appends}
 use Rattle.cmb_design.specs.Design.{Design}
 use Rattle.cmb_design.specs.Lawful.{IsDesign}
 use Rattle.cmb_design.specs.Value.{value}
-use Rattle.cmb_vcd.specs.Collector.{Collector}
+use Rattle.cmb_vcd.specs.Collector.{Collector, least}
 use Rattle.cmb_vcd.specs.Writer.{Writer, done_text}
 use Rattle.cmb_run.specs.FreeRuns.{IsStoppedAt}
 use Rattle.cmb_run.specs.declared.run_fault.RunFault.{RunFault}
@@ -13,6 +13,11 @@ use Rattle.cmb_run.specs.declared.run_fault.RunFault.TheVariants.{Incomplete, Wr
 -- the design's text up to a tick, nothing where no tick is given
 abbrev pub told : Design → Option ℕ → List ℕ
 told design done = done_text design (value design) done
+
+-- what is collected of a run, and the tick up to which its text is written, none where nothing is
+pub record Backlog : Type 0 where
+  pub collector : Collector
+  pub written : Option ℕ
 
 -- a tick up to which a text was given is no more than the horizon
 abbrev pub IsWithin : Design → Option ℕ → Type 0
@@ -31,10 +36,11 @@ abbrev pub IsToldTo : Design → Option ℕ → ℕ → Type 0
 IsToldTo design None upto = ⊥
 IsToldTo design (Some done) upto = (upto ≤ done) × (done ≤ design.horizon)
 
--- so many bytes were given, the text up to this tick at least, and the sink didn't fail
-pub record IsGiven (design : Design) (old new : Option (List ℕ)) (before after upto given : ℕ) : Type 0 where
+-- so many bytes were given, which are the text as far as all is known, and the sink didn't fail
+pub record IsGiven (design : Design) (old new : Option (List ℕ)) (before after : ℕ) (backlog : Backlog) (given : ℕ) : Type 0 where
   pub done : ℕ
-  pub reached : upto ≤ done
+  pub written : backlog.written ≡ Some done
+  pub reached : least backlog.collector ≤ done
   pub within : done ≤ design.horizon
   pub count : given ≡ length (told design (Some done))
   pub text : Appends old new (told design (Some done))

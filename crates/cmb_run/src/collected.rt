@@ -1,15 +1,13 @@
-//! A run's collector, exact in the run's design by its type.
+//! What is collected of a run in rounds, exact in the run's design by its type.
 
-ghost use Rattle.std.specs.Prelude.{◌≡◌, ◌≤◌, ℕ, Ok, Err, OnOk};
+ghost use Rattle.std.specs.Prelude.{◌≡◌, ◌≤◌, ℕ};
 ghost use Rattle.std.specs.List.{AllByRecursion};
 ghost use Rattle.cmb_design.specs.Exact.{IsExactWaveIn};
-ghost use Rattle.cmb_vcd.specs.Collector.{Collector as CollectorOf, IsExactFor, collected, wave_of};
-ghost use Rattle.cmb_vcd.specs.declared.fault.CollectFault.{CollectFault as Refusal};
+ghost use Rattle.cmb_vcd.specs.Collector.{IsExactFor, wave_of};
 
-use crate::part::Posted;
 use crate::terms::Terms;
 use cmb_design::Design;
-use cmb_vcd::{CollectFault, Collector};
+use cmb_vcd::Collector;
 use cmb_wave::Wave;
 use std::alloc::{AllocError, Global};
 use std::marker::{Model, PhantomData};
@@ -43,19 +41,6 @@ impl<T: Terms> Collected<T> {
         })
     }
 
-    /// Goes on by a piece of a net. What the collector refuses (49 to 52) changes nothing and isn't told;
-    /// of the pieces of a run none is.
-    pub(crate) fn take(&mut self, posted: &Posted<T>) -> Result<(), AllocError>
-        ensures taken { (collector : CollectorOf) → collected self.old posted.now ≡ Ok collector
-            → OnOk result (self.new ≡ collector) }
-        ensures refused { (fault : Refusal) → collected self.old posted.now ≡ Err fault → self.new ≡ self.old }
-    {
-        match self.collector.take(posted.piece()) {
-            Err(CollectFault::Memory) => Err(AllocError),
-            _ => Ok(()),
-        }
-    }
-
     /// Takes waves over, where nothing of them was forgotten.
     pub(crate) fn adopt_all(&mut self, mut waves: Vec<Wave>)
         requires { AllByRecursion (IsExactWaveIn T.design) waves.items }
@@ -77,14 +62,6 @@ impl<T: Terms> Collected<T> {
         if wave.base() == 0 {
             self.collector.adopt(wave);
         }
-    }
-
-    /// What is known so far.
-    pub(crate) fn collector(&self) -> &Collector
-        ensures collector { result.now ≡ self.now }
-        ensures exact { IsExactFor T.design result.now }
-    {
-        &self.collector
     }
 
     /// The collector.

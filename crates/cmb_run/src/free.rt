@@ -1,5 +1,6 @@
 //! Free runs: workers that take turns of their own, and tell one another by links and a board.
 
+mod backlog;
 mod collect;
 mod crew;
 mod desk;

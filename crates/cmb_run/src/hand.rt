@@ -97,7 +97,7 @@ impl<T: Terms> Hand<T> {
 
     /// About how many looks at a net the worker's next round takes. Before the first round there is no
     /// telling, and it is the greatest number.
-    pub fn load(&self) -> usize {
+    pub(crate) fn load(&self) -> usize {
         self.load
     }
 

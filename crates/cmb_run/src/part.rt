@@ -117,7 +117,7 @@ impl<T: Terms> Part<T> {
     }
 
     /// The tick at which a net is known to its end.
-    pub fn horizon(&self) -> u32 {
+    pub(crate) fn horizon(&self) -> u32 {
         self.horizon
     }
 

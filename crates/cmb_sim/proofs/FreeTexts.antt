@@ -16,7 +16,7 @@ use Rattle.cmb_sim.specs.declared.mode.Mode.TheVariants.{Free}
 pub IsUnwritten-cut : (workers clusters : ℕ) (design : Design) (old new : Option (List ℕ)) (before after : ℕ) (f : RunFault)
     → CanRun (Free workers clusters) design → IsCutAt design old new before after f → IsUnwritten (Free workers clusters) design (output old new before after) (run_as_fault f)
 IsUnwritten-cut workers clusters design old new before after (Incomplete net upto collector) runs h =
-    (runs, tt, omega (arith, h.2.opened.nets, h.3.is_net), omega (arith, h.2.opened.horizon, h.3.behind), h.0, h.1)
+    (runs, tt, omega (arith, h.2.exact.opened.nets, h.3.is_net), omega (arith, h.2.exact.opened.horizon, h.3.behind), h.0, h.1)
 IsUnwritten-cut workers clusters design old new before after (Write n) runs h = (runs, h.short, h.begun, h.failed)
 IsUnwritten-cut workers clusters design old new before after Memory runs h = inr (runs, tt, h.0, h.1)
 

@@ -21,9 +21,9 @@ use Rattle.cmb_design.specs.Plain.{whole_wave, whole_waves}
 use Rattle.cmb_design.specs.Value.{value}
 use Rattle.cmb_vcd.specs.declared.fault.CollectFault.{CollectFault}
 use Rattle.cmb_vcd.specs.declared.fault.CollectFault.TheVariants.{Clash}
-use Rattle.cmb_vcd.specs.Collector.{Collector, IsCollected, IsComplete, IsExactFor, adopted, collected, least_clock, new_collector, new_waves, wave_of}
+use Rattle.cmb_vcd.specs.Collector.{Collector, IsComplete, IsExactFor, IsExactFrom, IsInPlace, adopted, collected, least_clock, new_collector, new_waves, wave_of}
 use Rattle.cmb_vcd.specs.Faults.{collect_fault}
-use Rattle.cmb_vcd.proofs.CollectorFacts.{new_waves_collected}
+use Rattle.cmb_vcd.proofs.CollectorFacts.{collected_in_place, new_waves_collected}
 
 -- ---- new collectors
 
@@ -44,6 +44,25 @@ new_exact design = record {
   exact = λ net h.
       let here : wave_of (new_waves (nets_of design)) net ≡ new_wave net = get_or-map-range_with_len new_wave 0 (nets_of design) net net (new_wave 0) h (omega arith) in
       subst (IsExactWave (value design net) design.horizon) (sym here) (none_exact (value design net) design.horizon net);
+}
+
+-- ---- exact from a tick on
+
+-- what has forgotten nothing is exact from each tick on
+pub whole_from : (design : Design) (from : ℕ) (collector : Collector) → IsExactFor design collector → IsExactFrom design from collector
+whole_from design from collector exact = record {
+  opened = exact.opened;
+  placed = collected_in_place design.horizon collector.waves exact.collected;
+  kept = λ net h. omega (arith, (exact.collected net h).base);
+  exact = exact.exact;
+}
+
+-- and what is exact from tick 0 on has forgotten nothing
+pub from_whole : (design : Design) (collector : Collector) → IsExactFrom design 0 collector → IsExactFor design collector
+from_whole design collector exact = record {
+  opened = exact.opened;
+  collected = λ net h. record { number = (exact.placed net h).number; base = omega (arith, exact.kept net h); within = (exact.placed net h).within };
+  exact = exact.exact;
 }
 
 -- ---- taking an exact piece
@@ -78,28 +97,31 @@ module _ (level : ℕ → Level) (horizon : ℕ) (wave : Wave) (piece : Piece) (
           let bad : ◌≡◌ {A = Result Wave WaveFault} (Ok (wave_with_piece wave piece)) (Err (wave_fault.Clash tick)) = rw (f, g, no_clash a b) at e in cc
 
 -- one wave goes on, and the others stay
-set_exact : (design : Design) (collector : Collector) (net : ℕ) (next : Wave) → IsExactFor design collector → net < nets_of design
-    → IsExactWave (value design net) design.horizon next → next.net ≡ net → next.base ≡ 0 → IsExactFor design (record collector { waves = set collector.waves net next })
-set_exact design collector net next exact h good number base = record {
+set_exact : (design : Design) (from : ℕ) (collector : Collector) (net : ℕ) (next : Wave) → IsExactFrom design from collector → net < nets_of design
+    → IsExactWave (value design net) design.horizon next → next.net ≡ net → next.base ≤ from → IsExactFrom design from (record collector { waves = set collector.waves net next })
+set_exact design from collector net next exact h good number base = record {
   opened = record { nets = length-set collector.waves net next ∙ exact.opened.nets; horizon = exact.opened.horizon };
-  collected = λ k a.
-      let b : k < length collector.waves = rw length-set at a in
-      one k b (cases_eq k net);
+  placed = λ k a. let b : k < length collector.waves = rw length-set at a in one k b (cases_eq k net);
+  kept = λ k a. let b : k < length collector.waves = rw length-set at a in begins k b (cases_eq k net);
   exact = λ k a. whole k a (cases_eq k net);
 }
   where
     here : net < length collector.waves
     here = omega (arith, exact.opened.nets)
 
-    one : (k : ℕ) → k < length collector.waves → (k ≡ net) ⊎ (k ≡ net → ⊥) → IsCollected design.horizon k (wave_of (set collector.waves net next) k)
-    one k a (inl e) = rw (e, get_or-set_same collector.waves net next (new_wave 0) here) (record { number = number; base = base; within = good.within })
-    one k a (inr ne) = rw (get_or-set_other collector.waves net k next (new_wave 0) ne) (exact.collected k a)
+    one : (k : ℕ) → k < length collector.waves → (k ≡ net) ⊎ (k ≡ net → ⊥) → IsInPlace design.horizon k (wave_of (set collector.waves net next) k)
+    one k a (inl e) = rw (e, get_or-set_same collector.waves net next (new_wave 0) here) (record { number = number; within = good.within })
+    one k a (inr ne) = rw (get_or-set_other collector.waves net k next (new_wave 0) ne) (exact.placed k a)
+
+    begins : (k : ℕ) → k < length collector.waves → (k ≡ net) ⊎ (k ≡ net → ⊥) → (wave_of (set collector.waves net next) k).base ≤ from
+    begins k a (inl e) = rw (e, get_or-set_same collector.waves net next (new_wave 0) here) base
+    begins k a (inr ne) = rw (get_or-set_other collector.waves net k next (new_wave 0) ne) (exact.kept k a)
 
     whole : (k : ℕ) → k < nets_of design → (k ≡ net) ⊎ (k ≡ net → ⊥) → IsExactWave (value design k) design.horizon (wave_of (set collector.waves net next) k)
     whole k a (inl e) = rw (e, get_or-set_same collector.waves net next (new_wave 0) here) good
     whole k a (inr ne) = rw (get_or-set_other collector.waves net k next (new_wave 0) ne) (exact.exact k a)
 
-module _ (design : Design) (collector : Collector) (piece : Piece) (exact : IsExactFor design collector) (p : IsExactIn design piece) where
+module _ (design : Design) (from : ℕ) (collector : Collector) (piece : Piece) (exact : IsExactFrom design from collector) (p : IsExactIn design piece) where
   known : nat_lt piece.net (length collector.waves) ≡ true
   known = let n = exact.opened.nets in let h = p.net in grind (arith, nat_tests)
 
@@ -109,16 +131,16 @@ module _ (design : Design) (collector : Collector) (piece : Piece) (exact : IsEx
   wave : Wave
   wave = wave_of collector.waves piece.net
 
-  pub collected_exact : (next : Collector) → collected collector piece ≡ Ok next → IsExactFor design next
+  pub collected_from : (next : Collector) → collected collector piece ≡ Ok next → IsExactFrom design from next
   unfolding wave
-  collected_exact next e = by (taken (wave_of collector.waves piece.net) piece) refl
+  collected_from next e = by (taken (wave_of collector.waves piece.net) piece) refl
     where
-      by : (r : Result Wave WaveFault) → taken (wave_of collector.waves piece.net) piece ≡ r → IsExactFor design next
+      by : (r : Result Wave WaveFault) → taken (wave_of collector.waves piece.net) piece ≡ r → IsExactFrom design from next
       by (Ok after) f =
           let good : ◌≡◌ {A = Result Collector CollectFault} (Ok (record collector { waves = set collector.waves piece.net after })) (Ok next) = rw (known, f) at e in
           let same : record collector { waves = set collector.waves piece.net after } ≡ next = cc in
           let t = taken_exact (value design piece.net) design.horizon (wave_of collector.waves piece.net) piece (exact.exact piece.net p.net) p.exact after f in
-          subst (IsExactFor design) same (set_exact design collector piece.net after exact p.net t.0 (t.1 ∙ (exact.collected piece.net place).number) (t.2 ∙ (exact.collected piece.net place).base))
+          subst (IsExactFrom design from) same (set_exact design from collector piece.net after exact p.net t.0 (t.1 ∙ (exact.placed piece.net place).number) (omega (arith, t.2, exact.kept piece.net place)))
       by (Err fault) f = let bad : ◌≡◌ {A = Result Collector CollectFault} (Err (collect_fault fault)) (Ok next) = rw (known, f) at e in cc
 
   pub collected_clash : (tick : ℕ) → collected collector piece ≢ Err (Clash tick)
@@ -130,6 +152,9 @@ module _ (design : Design) (collector : Collector) (piece : Piece) (exact : IsEx
       by (Err (wave_fault.Old clock)) f = let bad : ◌≡◌ {A = Result Collector CollectFault} (Err (collect_fault (wave_fault.Old clock))) (Err (Clash tick)) = rw (known, f) at e in cc
       by (Err wave_fault.Memory) f = let bad : ◌≡◌ {A = Result Collector CollectFault} (Err (collect_fault wave_fault.Memory)) (Err (Clash tick)) = rw (known, f) at e in cc
       by (Err (wave_fault.Clash other)) f = taken_clash (value design piece.net) design.horizon (wave_of collector.waves piece.net) piece (exact.exact piece.net p.net) p.exact other f
+
+pub collected_exact : (design : Design) (collector next : Collector) (piece : Piece) → IsExactFor design collector → IsExactIn design piece → collected collector piece ≡ Ok next → IsExactFor design next
+collected_exact design collector next piece exact p e = from_whole design next (collected_from design 0 collector piece (whole_from design 0 collector exact) p next e)
 
 -- ---- taking an exact wave over
 
@@ -171,7 +196,7 @@ module _ (design : Design) (collector : Collector) (wave : Wave) (exact : IsExac
   adopted_exact = by (nat_lt (wave_of collector.waves wave.net).clock wave.clock) refl
     where
       by : (b : Bool) → nat_lt (wave_of collector.waves wave.net).clock wave.clock ≡ b → IsExactFor design (adopted collector wave)
-      by true e = rw e (set_exact design collector wave.net wave exact (omega (arith, exact.opened.nets)) good refl start)
+      by true e = rw e (from_whole design _ (set_exact design 0 collector wave.net wave (whole_from design 0 collector exact) (omega (arith, exact.opened.nets)) good refl (omega (arith, start))))
       by false e = rw e exact
 
   pub adopted_taken : (wave_of collector.waves wave.net).clock < wave.clock → collected collector (cut_of wave 0) ≡ Ok (adopted collector wave)

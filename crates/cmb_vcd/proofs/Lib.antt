@@ -4,6 +4,7 @@ pub mod CollectorFacts
 pub mod ValueChangeFacts
 pub mod ExactFacts
 pub mod ExampleFacts
+pub mod ForgetFacts
 pub mod Known
 pub mod LineFacts
 pub mod OrderFacts

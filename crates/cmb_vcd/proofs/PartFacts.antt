@@ -3,42 +3,52 @@ use Rattle.std.proofs.Common.{◌≡◌, ◌⊎◌, inl, inr, true, false, cond,
 use Rattle.std.specs.Prelude.{Option, Some, None, nat_le, nat_lt, slice_get, unwrap_or}
 use Rattle.std.proofs.lemmas.Bool.{cases_lt, le-ltb, lt-ltb}
 use Rattle.std.proofs.lemmas.Bool.Decides.{nat_tests}
-use Rattle.std.proofs.lemmas.List.{append-nil}
+use Rattle.std.proofs.lemmas.List.{append-nil, append_cancel_left}
 use Rattle.cmb_wave.specs.declared.level.Level.{Level}
 use Rattle.cmb_wave.specs.declared.level.Change.{Change}
-use Rattle.cmb_wave.specs.Waveform.{IsTrace, level_at}
-use Rattle.cmb_wave.specs.Wave.{Wave}
+use Rattle.cmb_wave.specs.Waveform.{IsTrace, level_at, level_before}
+use Rattle.cmb_wave.specs.Wave.{IsExactWave, Wave}
 use Rattle.cmb_wave.proofs.Waves.{level_at-exact}
 use Rattle.cmb_bench.specs.Netlist.{Netlist}
 use Rattle.cmb_design.specs.Design.{Design}
 use Rattle.cmb_design.specs.Exact.{nets_of}
 use Rattle.cmb_design.specs.Value.{value}
-use Rattle.cmb_vcd.specs.Collector.{Collector, IsExactFor, collected_level, least, least_clock, wave_of}
+use Rattle.cmb_vcd.specs.Collector.{Collector, IsExactFor, IsExactFrom, collected_level, least, wave_of}
 use Rattle.cmb_vcd.specs.ValueChanges.{end_line, ticks_between}
 use Rattle.cmb_vcd.specs.Writer.{IsNotBefore, begun_by, done_text}
 use Rattle.cmb_vcd.specs.Vcd.{header, part_text, tick_line, tick_text, ticks_text}
-use Rattle.cmb_vcd.proofs.SpanFacts.{ticks_text-from}
-use Rattle.cmb_vcd.proofs.Texts.{part_text-agree}
+use Rattle.cmb_vcd.proofs.SpanFacts.{same_flat_map, ticks_text-from}
+use Rattle.cmb_vcd.proofs.ExactFacts.{whole_from}
+use Rattle.cmb_vcd.proofs.ForgetFacts.{exact_trace, least_clock-least}
+use Rattle.cmb_vcd.proofs.Texts.{part_text-agree, tick_text-agree}
 use Rattle.cmb_vcd.proofs.TraceFacts.{early_level}
 
--- no wave's clock is below the least one
-pub least_clock-least : (horizon : ℕ) (waves : List Wave) (net : ℕ) → net < length waves → least_clock horizon waves ≤ (wave_of waves net).clock
-least_clock-least horizon [] net h = absurd (omega arith)
-least_clock-least horizon (wave ∷ waves) zero h = omega arith
-least_clock-least horizon (wave ∷ waves) (suc net) h = omega (arith, least_clock-least horizon waves net (omega arith))
+-- an exact wave tells the levels from one tick before its base on
+wave_levels : (level : ℕ → Level) (horizon : ℕ) (wave : Wave) → IsExactWave level horizon wave → (tick : ℕ) → wave.base ≤ suc tick → tick < wave.clock → level_at wave.kept wave.changes tick ≡ level tick
+wave_levels level horizon wave exact tick a b = by (cases_lt tick wave.base)
+  where
+    by : (tick < wave.base) ⊎ (wave.base ≤ tick) → level_at wave.kept wave.changes tick ≡ level tick
+    by (inl before) =
+        let base : wave.base ≡ suc tick = omega arith in
+        early_level wave.kept wave.base wave.clock tick wave.changes (exact_trace level horizon wave exact) before ∙ exact.kept ∙ ap (level_before level) base
+    by (inr from) = level_at-exact level horizon wave exact tick from b
 
--- below the least clock exact waves tell the levels of the design
-pub exact_levels : (design : Design) (collector : Collector) → IsExactFor design collector → (net tick : ℕ) → net < nets_of design → tick < least collector → collected_level collector.waves net tick ≡ value design net tick
-exact_levels design collector exact net tick h k =
+-- below the least clock exact waves tell the levels of the design, from one tick before the one from which on they are exact
+pub from_levels : (design : Design) (from : ℕ) (collector : Collector) → IsExactFrom design from collector → (net tick : ℕ) → net < nets_of design → from ≤ suc tick → tick < least collector
+    → collected_level collector.waves net tick ≡ value design net tick
+from_levels design from collector exact net tick h a k =
     let here : net < length collector.waves = omega (arith, exact.opened.nets) in
     let known : least collector ≤ (wave_of collector.waves net).clock = least_clock-least collector.horizon collector.waves net here in
-    let base : (wave_of collector.waves net).base ≡ 0 = (exact.collected net here).base in
-    level_at-exact (value design net) design.horizon (wave_of collector.waves net) (exact.exact net h) tick (omega arith) (omega arith)
+    wave_levels (value design net) design.horizon (wave_of collector.waves net) (exact.exact net h) tick (omega (arith, exact.kept net here)) (omega arith)
+
+start_part : (design : Design) (collector : Collector) (upto : ℕ) → IsExactFrom design 0 collector → upto ≤ least collector
+    → part_text design.netlist design.horizon (collected_level collector.waves) upto ≡ part_text design.netlist design.horizon (value design) upto
+start_part design collector upto exact h =
+    part_text-agree design.netlist design.horizon (collected_level collector.waves) (value design) upto (λ net tick a b. from_levels design 0 collector exact net tick a (omega arith) (omega arith))
 
 pub exact_part : (design : Design) (collector : Collector) (upto : ℕ) → IsExactFor design collector → upto ≤ least collector
     → part_text design.netlist design.horizon (collected_level collector.waves) upto ≡ part_text design.netlist design.horizon (value design) upto
-exact_part design collector upto exact h =
-    part_text-agree design.netlist design.horizon (collected_level collector.waves) (value design) upto (λ net tick a b. exact_levels design collector exact net tick a (omega arith))
+exact_part design collector upto exact h = start_part design collector upto (whole_from design 0 collector exact) h
 
 -- the level of a trace at tick 0
 pub first_told : (kept : Level) (high : ℕ) (cs : List Change) (change : Change) → IsTrace kept 0 cs high → slice_get cs 0 ≡ Some change → change.tick ≡ 0 → change.level ≡ level_at kept cs 0
@@ -93,11 +103,29 @@ pub part_goes_on : (design : Design) (horizon nets : ℕ) (level : ℕ → ℕ �
 part_goes_on design horizon nets level None upto s e h later k = rw s (part_text-first design.netlist design.horizon nets level upto e h)
 part_goes_on design horizon nets level (Some done) upto s e h later k = rw s (part_text-more design.netlist design.horizon nets level done upto e later k)
 
--- the text that a writer gave is that of the design, where the collector is exact and not behind
-pub exact_done : (design : Design) (collector : Collector) (done : Option ℕ) → IsExactFor design collector → IsNotBefore done (least collector)
-    → done_text design (collected_level collector.waves) done ≡ done_text design (value design) done
-exact_done design collector None exact later = refl
-exact_done design collector (Some done) exact later = exact_part design collector done exact later
+ticks_between-agree : (f g : ℕ → ℕ → Level) (nets from to : ℕ) → from ≤ to → ((net tick : ℕ) → net < nets → from ≤ suc tick → tick < to → f net tick ≡ g net tick) → ticks_between nets f from to ≡ ticks_between nets g from to
+unfolding ticks_between
+ticks_between-agree f g nets from to h agree = same_flat_map (tick_text nets f) (tick_text nets g) from (to - from) (λ tick low top. tick_text-agree f g nets from to agree tick low (omega arith))
+
+-- what a part adds depends on the levels from one tick before it on
+pub part_text-onward : (netlist : Netlist) (horizon : ℕ) (f g : ℕ → ℕ → Level) (from to : ℕ) (rest : List ℕ) → from ≤ to → to ≤ horizon
+    → ((net tick : ℕ) → net < length netlist.names → from ≤ suc tick → tick < to → f net tick ≡ g net tick)
+    → part_text netlist horizon f to ≡ part_text netlist horizon f from ++ rest → part_text netlist horizon g to ≡ part_text netlist horizon g from ++ rest
+part_text-onward netlist horizon f g from to rest h k agree e =
+    let nets : ℕ = length netlist.names in
+    let more = part_text-more netlist horizon nets f from to refl h k in
+    let rests : ticks_between nets f from to ++ end_line horizon from to ≡ rest = append_cancel_left (part_text netlist horizon f from) _ _ (sym more ∙ e) in
+    part_text-more netlist horizon nets g from to refl h k
+    ∙ ap (λ t. part_text netlist horizon g from ++ (t ++ end_line horizon from to)) (sym (ticks_between-agree f g nets from to h agree))
+    ∙ ap (λ t. part_text netlist horizon g from ++ t) rests
+
+-- what is new of a text is that of the design, where the collector is exact from the tick on up to which the text was given
+pub exact_more : (design : Design) (collector : Collector) (done : Option ℕ) (part : List ℕ) → IsExactFrom design (unwrap_or done 0) collector → IsNotBefore done (least collector) → least collector ≤ design.horizon
+    → done_text design (collected_level collector.waves) (Some (least collector)) ≡ done_text design (collected_level collector.waves) done ++ part
+    → done_text design (value design) (Some (least collector)) ≡ done_text design (value design) done ++ part
+exact_more design collector None part exact later within e = sym (start_part design collector (least collector) exact (omega arith)) ∙ e
+exact_more design collector (Some done) part exact later within e =
+    part_text-onward design.netlist design.horizon (collected_level collector.waves) (value design) done (least collector) part later within (λ net tick a b k. from_levels design done collector exact net tick a b k) e
 
 -- a text written in turn: the declarations, then all ticks and the last line
 pub written_whole : (netlist read : Netlist) (horizon end : ℕ) (waves told : List Wave) (start first all : List ℕ)

@@ -10,31 +10,32 @@ use Rattle.cmb_vcd.specs.Vcd.{tick_line, level_lines, change_lines, under_tick, 
 
 -- ---- levels that agree give one text
 
-module _ (f g : ℕ → ℕ → Level) (total upto : ℕ) (agree : (net tick : ℕ) → net < total → tick < upto → f net tick ≡ g net tick) where
-  level_lines-agree : (tick : ℕ) → tick < upto → (net nets : ℕ) → net + nets ≤ total → level_lines f tick net nets ≡ level_lines g tick net nets
+module _ (f g : ℕ → ℕ → Level) (total from upto : ℕ) (agree : (net tick : ℕ) → net < total → from ≤ suc tick → tick < upto → f net tick ≡ g net tick) where
+  level_lines-agree : (tick : ℕ) → from ≤ suc tick → tick < upto → (net nets : ℕ) → net + nets ≤ total → level_lines f tick net nets ≡ level_lines g tick net nets
   unfolding level_lines
-  level_lines-agree tick h net zero within = refl
-  level_lines-agree tick h net (suc nets) within =
-      let here : f net tick ≡ g net tick = agree net tick (omega arith) h in
-      rw (here, level_lines-agree tick h (suc net) nets (omega arith))
+  level_lines-agree tick l h net zero within = refl
+  level_lines-agree tick l h net (suc nets) within =
+      let here : f net tick ≡ g net tick = agree net tick (omega arith) l h in
+      rw (here, level_lines-agree tick l h (suc net) nets (omega arith))
 
-  change_lines-agree : (tick : ℕ) → suc tick < upto → (net nets : ℕ) → net + nets ≤ total → change_lines f tick net nets ≡ change_lines g tick net nets
+  change_lines-agree : (tick : ℕ) → from ≤ suc tick → suc tick < upto → (net nets : ℕ) → net + nets ≤ total → change_lines f tick net nets ≡ change_lines g tick net nets
   unfolding change_lines
-  change_lines-agree tick h net zero within = refl
-  change_lines-agree tick h net (suc nets) within =
-      let before : f net tick ≡ g net tick = agree net tick (omega arith) (omega arith) in
-      let after : f net (suc tick) ≡ g net (suc tick) = agree net (suc tick) (omega arith) h in
-      rw (before, after, change_lines-agree tick h (suc net) nets (omega arith))
+  change_lines-agree tick l h net zero within = refl
+  change_lines-agree tick l h net (suc nets) within =
+      let before : f net tick ≡ g net tick = agree net tick (omega arith) l (omega arith) in
+      let after : f net (suc tick) ≡ g net (suc tick) = agree net (suc tick) (omega arith) (omega arith) h in
+      rw (before, after, change_lines-agree tick l h (suc net) nets (omega arith))
 
-  tick_text-agree : (tick : ℕ) → tick < upto → tick_text total f tick ≡ tick_text total g tick
+  -- the lines of a tick depend on the levels at it and at the one before
+  pub tick_text-agree : (tick : ℕ) → from ≤ tick → tick < upto → tick_text total f tick ≡ tick_text total g tick
   unfolding tick_text
-  tick_text-agree zero h = rw (level_lines-agree 0 h 0 total (omega arith))
-  tick_text-agree (suc tick) h = ap (under_tick (suc tick)) (change_lines-agree tick h 0 total (omega arith))
+  tick_text-agree zero l h = rw (level_lines-agree 0 (omega arith) h 0 total (omega arith))
+  tick_text-agree (suc tick) l h = ap (under_tick (suc tick)) (change_lines-agree tick l h 0 total (omega arith))
 
-  ticks_text-agree : (tick : ℕ) → tick ≤ upto → ticks_text total f tick ≡ ticks_text total g tick
-  unfolding ticks_text
-  ticks_text-agree zero h = refl
-  ticks_text-agree (suc tick) h = rw (ticks_text-agree tick (omega arith), tick_text-agree tick h)
+ticks_text-agree : (f g : ℕ → ℕ → Level) (total upto : ℕ) → ((net tick : ℕ) → net < total → tick < upto → f net tick ≡ g net tick) → (tick : ℕ) → tick ≤ upto → ticks_text total f tick ≡ ticks_text total g tick
+unfolding ticks_text
+ticks_text-agree f g total upto agree zero h = refl
+ticks_text-agree f g total upto agree (suc tick) h = rw (ticks_text-agree f g total upto agree tick (omega arith), tick_text-agree f g total 0 upto (λ net t n l b. agree net t n b) tick (omega arith) h)
 
 pub part_text-agree : (netlist : Netlist) (horizon : ℕ) (f g : ℕ → ℕ → Level) (upto : ℕ) → ((net tick : ℕ) → net < length netlist.names → tick < upto → f net tick ≡ g net tick) → part_text netlist horizon f upto ≡ part_text netlist horizon g upto
 unfolding part_text

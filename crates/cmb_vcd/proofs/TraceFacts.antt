@@ -53,6 +53,11 @@ changes_at tick changes = filter (λ change. change.tick == tick) changes
 abbrev pub change_to : ℕ → Level → Level → List Change
 change_to tick before after = if same_level before after then [] else record { tick = tick; level = after } ∷ []
 
+-- a trace from a tick on is one from tick 0 on
+pub trace_start : (before : Level) (low high : ℕ) (cs : List Change) → IsTrace before low cs high → IsTrace before 0 cs high
+trace_start before low high [] r = omega arith
+trace_start before low high (c ∷ cs) r = (omega arith, r.1, r.2, r.3)
+
 -- before its first change a trace tells the level before it, and has no change
 pub early_level : (before : Level) (low high tick : ℕ) (cs : List Change) → IsTrace before low cs high → tick < low → level_at before cs tick ≡ before
 early_level before low high tick [] r h = refl

@@ -4,7 +4,7 @@ use Rattle.std.specs.List.{range_with_len}
 use Rattle.cmb_wave.specs.declared.level.Level.{Level}
 use Rattle.cmb_wave.specs.declared.wave.WaveFault.{WaveFault}
 use Rattle.cmb_wave.specs.Waveform.{level_at}
-use Rattle.cmb_wave.specs.Wave.{Piece, Wave, IsExactWave, new_wave}
+use Rattle.cmb_wave.specs.Wave.{Piece, Wave, IsExactWave, new_wave, wave_from}
 use Rattle.cmb_wave.specs.Calls.{taken}
 use Rattle.cmb_design.specs.Design.{Design}
 use Rattle.cmb_design.specs.Exact.{nets_of}
@@ -44,6 +44,18 @@ least collector = least_clock collector.horizon collector.waves
 abbrev pub IsComplete : Collector → Type 0
 IsComplete collector = least collector ≡ collector.horizon
 
+-- a wave stands in its net's place, and ends by the horizon
+pub record IsInPlace (horizon net : ℕ) (wave : Wave) : Type 0 where
+  pub number : wave.net ≡ net
+  pub within : wave.clock ≤ horizon
+
+abbrev pub AreInPlace : ℕ → List Wave → Type 0
+AreInPlace horizon waves = (net : ℕ) → net < length waves → IsInPlace horizon net (wave_of waves net)
+
+-- no change at this tick or later is forgotten
+abbrev pub AreKeptFrom : ℕ → List Wave → Type 0
+AreKeptFrom from waves = (net : ℕ) → net < length waves → (wave_of waves net).base ≤ from
+
 -- a wave stands in its net's place, has forgotten nothing, and ends by the horizon
 pub record IsCollected (horizon net : ℕ) (wave : Wave) : Type 0 where
   pub number : wave.net ≡ net
@@ -79,6 +91,12 @@ adopted collector wave =
     if nat_lt (wave_of collector.waves wave.net).clock wave.clock then record collector { waves = slice_set collector.waves wave.net wave }
     else collector
 
+-- ---- forgetting
+
+-- the collector after its waves forgot their changes below a tick
+abbrev pub forgot : Collector → ℕ → Collector
+forgot collector upto = record collector { waves = map (λ wave. wave_from wave upto) collector.waves }
+
 -- ---- exactness
 
 -- the collector has a wave for each net of the design, and its horizon
@@ -90,4 +108,11 @@ pub record IsFor (design : Design) (collector : Collector) : Type 0 where
 pub record IsExactFor (design : Design) (collector : Collector) : Type 0 where
   pub opened : IsFor design collector
   pub collected : AreCollected design.horizon collector.waves
+  pub exact : (net : ℕ) → net < nets_of design → IsExactWave (value design net) design.horizon (wave_of collector.waves net)
+
+-- each wave is its net's defined waveform up to its clock, from this tick on at least
+pub record IsExactFrom (design : Design) (from : ℕ) (collector : Collector) : Type 0 where
+  pub opened : IsFor design collector
+  pub placed : AreInPlace design.horizon collector.waves
+  pub kept : AreKeptFrom from collector.waves
   pub exact : (net : ℕ) → net < nets_of design → IsExactWave (value design net) design.horizon (wave_of collector.waves net)

@@ -1,8 +1,9 @@
 //! The waves of all nets, put together from pieces.
 
-ghost use Rattle.std.specs.Prelude.{◌≡◌, ◌≤◌, ◌<◌, ◌↔◌, length, IsTrue, IfOk, IfErr, OnOk, OnErr, Ok};
-ghost use Rattle.cmb_vcd.specs.Collector.{AreCollected, IsComplete, RefusesAs, adopted, collected, least, least_clock};
-ghost use Rattle.cmb_vcd.specs.Collector.{new_collector, new_waves};
+ghost use Rattle.std.specs.Prelude.{◌≡◌, ◌≤◌, ◌<◌, ◌↔◌, ℕ, length, map, IsTrue, IfOk, IfErr, OnOk, OnErr, Ok};
+ghost use Rattle.cmb_wave.specs.Wave.{wave_from};
+ghost use Rattle.cmb_vcd.specs.Collector.{AreCollected, AreInPlace, AreKeptFrom, IsComplete, RefusesAs, adopted, collected};
+ghost use Rattle.cmb_vcd.specs.Collector.{forgot, least, least_clock, new_collector, new_waves, wave_of};
 
 use crate::fault::CollectFault;
 use cmb_design::Design;
@@ -10,7 +11,7 @@ use cmb_wave::{Piece, Wave};
 use std::alloc::{AllocError, Global};
 use std::marker::Model;
 
-/// A wave for each net of a design, from tick 0 on: a collector forgets nothing.
+/// A wave for each net of a design, from tick 0 on, less what it was told to forget.
 #[derive(Debug, Drop)]
 pub struct Collector {
     waves: Vec<Wave>,
@@ -18,13 +19,13 @@ pub struct Collector {
 }
 
 impl Model for Collector {
-    ghost use Rattle.cmb_vcd.specs.Collector.{AreCollected, Collector};
+    ghost use Rattle.cmb_vcd.specs.Collector.{AreInPlace, Collector};
 
     ghost Value = { Collector };
 
     ghost view = { λ c. record { waves = c.waves.items; horizon = c.horizon } };
 
-    ghost invariant = { λ c. AreCollected c.horizon c.waves.items };
+    ghost invariant = { λ c. AreInPlace c.horizon c.waves.items };
 }
 
 #[tactic(auto, using(crate::proofs::CollectorFacts::new_waves_more))]
@@ -49,6 +50,17 @@ fn least_of(waves: &[Wave], horizon: u32) -> u32
         least = least.min(wave.clock());
     }
     least
+}
+
+// Lets waves forget their changes below a tick.
+fn forget_all(waves: &mut [Wave], upto: u32)
+    requires known { (net : ℕ) → net < length waves.old → upto ≤ (wave_of waves.old net).clock }
+    requires kept { AreKeptFrom upto waves.old }
+    ensures { waves.new ≡ map (λ wave. wave_from wave upto) waves.old }
+{
+    for wave in waves.iter_mut() {
+        wave.forget(upto);
+    }
 }
 
 impl Collector {
@@ -105,10 +117,20 @@ impl Collector {
         }
     }
 
+    /// Forgets the changes below a tick, up to which all waves are known and beyond which none has forgotten anything,
+    /// and keeps the levels that they leave. Takes no memory.
+    pub fn forget(&mut self, upto: u32)
+        requires known { upto ≤ least self.old }
+        requires kept { AreKeptFrom upto self.old.waves }
+        ensures { self.new ≡ forgot self.old upto }
+    {
+        forget_all(&mut self.waves, upto);
+    }
+
     /// The waves of the nets, in the order of their numbers.
     pub fn waves(&self) -> &[Wave]
         ensures waves { result.now ≡ self.now.waves }
-        ensures whole { AreCollected self.now.horizon result.now }
+        ensures placed { AreInPlace self.now.horizon result.now }
     {
         &self.waves
     }

@@ -2,6 +2,7 @@
 
 ghost use Rattle.std.specs.Prelude.{◌≡◌, ◌≢◌, ℕ, ◌+◌, ◌<◌, ◌≤◌, List, ◌++◌, length, map, slice_index, All, Ok, Err};
 ghost use Rattle.std.specs.List.{range_with_len};
+ghost use Rattle.std.specs.Result.{result_map_both};
 ghost use Rattle.cmb_wave.specs.declared.level.Level.{Level};
 ghost use Rattle.cmb_wave.specs.Wave.{IsExactWave, Piece, Wave, cut_of};
 ghost use Rattle.cmb_bench.specs.Netlist.{Netlist, name_of};
@@ -11,8 +12,8 @@ ghost use Rattle.cmb_design.specs.Plain.{whole_waves};
 ghost use Rattle.cmb_design.specs.Value.{value};
 ghost use Rattle.cmb_vcd.specs.declared.fault.CollectFault.TheVariants.{Clash};
 ghost use Rattle.cmb_vcd.specs.Chosen.{vcd_of};
-ghost use Rattle.cmb_vcd.specs.Collector.{Collector, IsComplete, IsExactFor, adopted, collected, collected_level};
-ghost use Rattle.cmb_vcd.specs.Collector.{least, new_collector, wave_of};
+ghost use Rattle.cmb_vcd.specs.Collector.{Collector, IsComplete, IsExactFor, IsExactFrom, adopted, collected};
+ghost use Rattle.cmb_vcd.specs.Collector.{collected_level, forgot, least, new_collector, wave_of};
 ghost use Rattle.cmb_vcd.specs.Vcd.{code, part_text, ticks_text, vcd};
 
 /// Codes of different nets differ.
@@ -21,7 +22,8 @@ pub fn codes_differ()
 {}
 
 /// The text as far as the levels are known depends on the known levels alone, and each part begins the later ones.
-/// It says nothing of a span, after tick 0, in which no net changes.
+/// What it gains from one tick to another depends on the levels from one tick before the first on. It says nothing of
+/// a span, after tick 0, in which no net changes.
 pub fn text_grows()
     ensures depends { (netlist : Netlist) (horizon : ℕ) (levels others : ℕ → ℕ → Level) (upto : ℕ)
         → ((net tick : ℕ) → net < length netlist.names → tick < upto → levels net tick ≡ others net tick)
@@ -29,6 +31,12 @@ pub fn text_grows()
     ensures begins { (netlist : Netlist) (horizon : ℕ) (levels : ℕ → ℕ → Level) (from to : ℕ) → from ≤ to
         → from < horizon → (rest : List ℕ)
         × (part_text netlist horizon levels to ≡ part_text netlist horizon levels from ++ rest) }
+    ensures onward { (netlist : Netlist) (horizon : ℕ) (levels others : ℕ → ℕ → Level) (from to : ℕ) (rest : List ℕ)
+        → from ≤ to → to ≤ horizon
+        → ((net tick : ℕ) → net < length netlist.names → from ≤ tick + 1 → tick < to
+        → levels net tick ≡ others net tick)
+        → part_text netlist horizon levels to ≡ part_text netlist horizon levels from ++ rest
+        → part_text netlist horizon others to ≡ part_text netlist horizon others from ++ rest }
     ensures still { (nets : ℕ) (levels : ℕ → ℕ → Level) (from more : ℕ) → 1 ≤ from
         → ((net tick : ℕ) → net < nets → from ≤ tick + 1 → tick + 1 < from + more
         → levels net tick ≡ levels net (tick + 1))
@@ -54,6 +62,29 @@ pub fn exact_collectors_stay_exact()
     ensures tells { (design : Design) (collector : Collector) (upto : ℕ) → IsExactFor design collector
         → upto ≤ least collector → part_text design.netlist design.horizon (collected_level collector.waves) upto
         ≡ part_text design.netlist design.horizon (value design) upto }
+{}
+
+/// What is exact and has forgotten nothing is exact from each tick on. What is exact from a tick on may forget what
+/// lies below that tick or a later one up to which all is known, and is exact from there on. It stays so when it takes
+/// exact pieces, of which none is refused by 49, and its least clock stays. It takes and refuses what it would have,
+/// and then is what it would have been, less what it forgot.
+pub fn collectors_may_forget()
+    ensures whole { (design : Design) (from : ℕ) (collector : Collector) → IsExactFor design collector
+        → IsExactFrom design from collector }
+    ensures start { (design : Design) (collector : Collector) → IsExactFrom design 0 collector
+        → IsExactFor design collector }
+    ensures forgets { (design : Design) (from upto : ℕ) (collector : Collector) → IsExactFrom design from collector
+        → from ≤ upto → upto ≤ least collector → IsExactFrom design upto (forgot collector upto) }
+    ensures takes { (design : Design) (from : ℕ) (collector next : Collector) (piece : Piece)
+        → IsExactFrom design from collector → IsExactIn design piece → collected collector piece ≡ Ok next
+        → IsExactFrom design from next }
+    ensures no_clash { (design : Design) (from : ℕ) (collector : Collector) (piece : Piece) (tick : ℕ)
+        → IsExactFrom design from collector → IsExactIn design piece
+        → collected collector piece ≢ Err (Clash tick) }
+    ensures least { (collector : Collector) (upto : ℕ) → least (forgot collector upto) ≡ least collector }
+    ensures answers { (design : Design) (from upto : ℕ) (collector : Collector) (piece : Piece)
+        → IsExactFrom design from collector → upto ≤ least collector → collected (forgot collector upto) piece
+        ≡ result_map_both (λ next. forgot next upto) (λ fault. fault) (collected collector piece) }
 {}
 
 /// The whole waves of a design's nets make a complete and exact collector.

@@ -4,7 +4,7 @@ ghost use Rattle.std.specs.Prelude.{◌≡◌, ◌++◌, ◌<◌, ◌≤◌, ℕ
 ghost use Rattle.std.specs.List.{All};
 ghost use Rattle.cmb_wave.specs.Waveform.{level_at};
 ghost use Rattle.cmb_vcd.specs.Collector.{IsComplete, IsExactFor, IsFor, collected_level};
-ghost use Rattle.cmb_vcd.specs.ValueChanges.{AreFromStart, end_line, value_changes_in, ticks_between};
+ghost use Rattle.cmb_vcd.specs.ValueChanges.{end_line, value_changes_in, ticks_between};
 ghost use Rattle.cmb_vcd.specs.Ticks.{IsWithin, span_lines};
 ghost use Rattle.cmb_vcd.specs.Vcd.{level_lines, text_of, tick_text, vcd};
 
@@ -27,7 +27,6 @@ const TICKS_A_CHANGE: u32 = 8;
 
 // The level of a wave at tick 0.
 fn first_level(wave: &Wave) -> Level
-    requires { wave.now.base ≡ 0 }
     ensures { result ≡ level_at wave.now.kept wave.now.changes 0 }
 {
     match wave.changes().first() {
@@ -38,7 +37,6 @@ fn first_level(wave: &Wave) -> Level
 
 fn push_levels(out: &mut Vec<u8>, codes: &Codes, waves: &[Wave]) -> Result<(), AllocError>
     requires few { length waves.now ≤ 65535 }
-    requires whole { AreFromStart waves.now }
     ensures { OnOk result (out.new.items
         ≡ out.old.items ++ level_lines (collected_level waves.now) 0 0 (length waves.now)) }
 {
@@ -52,7 +50,6 @@ fn push_levels(out: &mut Vec<u8>, codes: &Codes, waves: &[Wave]) -> Result<(), A
 #[tactic(auto, unfolding(crate::specs::Vcd::tick_text))]
 fn push_first(out: &mut Vec<u8>, codes: &Codes, waves: &[Wave]) -> Result<(), AllocError>
     requires few { length waves.now ≤ 65535 }
-    requires whole { AreFromStart waves.now }
     ensures { OnOk result (out.new.items
         ≡ out.old.items ++ tick_text (length waves.now) (collected_level waves.now) 0) }
 {
@@ -126,7 +123,6 @@ fn push_later(
     requires late { 0 < from }
     requires order { from ≤ to }
     requires few { length waves.now ≤ 65535 }
-    requires whole { AreFromStart waves.now }
     ensures { OnOk result (out.new.items
         ≡ out.old.items ++ ticks_between (length waves.now) (collected_level waves.now) from to) }
 {
@@ -145,7 +141,6 @@ fn push_ticks(
 ) -> Result<(), AllocError>
     requires order { from ≤ to }
     requires few { length waves.now ≤ 65535 }
-    requires whole { AreFromStart waves.now }
     ensures { OnOk result (out.new.items
         ≡ out.old.items ++ ticks_between (length waves.now) (collected_level waves.now) from to) }
 {
@@ -181,7 +176,6 @@ pub(crate) fn push_part(
 ) -> Result<(), AllocError>
     requires order { from ≤ upto }
     requires few { length waves.now ≤ 65535 }
-    requires whole { AreFromStart waves.now }
     ensures { OnOk result (out.new.items
         ≡ out.old.items ++ (ticks_between (length waves.now) (collected_level waves.now) from upto
         ++ end_line horizon from upto)) }

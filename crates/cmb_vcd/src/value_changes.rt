@@ -3,7 +3,7 @@
 ghost use Rattle.std.specs.Prelude.{◌≡◌, ◌++◌, ◌≤◌, ℕ, drop, filter, length, IfOk, OnOk};
 ghost use Rattle.std.specs.List.Sorted.{IsNonDecreasingBy, IsPermutation};
 ghost use Rattle.cmb_wave.specs.Waveform.{IsTrace, Rises, below};
-ghost use Rattle.cmb_vcd.specs.ValueChanges.{AreFromStart, AreTraces, all_value_changes, value_change_text};
+ghost use Rattle.cmb_vcd.specs.ValueChanges.{AreTraces, all_value_changes, value_change_text};
 ghost use Rattle.cmb_vcd.specs.ValueChanges.{value_changes_of, value_changes_text, is_at};
 ghost use Rattle.cmb_vcd.specs.ValueChanges.{value_changes_in, tick_of, within};
 
@@ -76,7 +76,6 @@ pub(crate) fn net_changes_within<'a>(
     to: u32,
 ) -> Result<Vec<NetChanges<'a>>, AllocError>
     requires few { length waves.now ≤ 65535 }
-    requires whole { AreFromStart waves.now }
     ensures events { IfOk result (λ parts. value_changes_in parts.items ≡ all_value_changes from to 0 waves.now) }
     ensures traces { OnOk result (AreTraces waves.now) }
 {

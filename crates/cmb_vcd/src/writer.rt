@@ -1,8 +1,8 @@
 //! The text of a run in parts, as the waves of a collector go on.
 
-ghost use Rattle.std.specs.Prelude.{◌≡◌, ◌++◌, Some, IfOk, OnOk, OnErr};
+ghost use Rattle.std.specs.Prelude.{◌≡◌, ◌++◌, Some, unwrap_or, IfOk, OnOk, OnErr};
 ghost use Rattle.cmb_design.specs.Value.{value};
-ghost use Rattle.cmb_vcd.specs.Collector.{IsExactFor, IsFor, collected_level, least};
+ghost use Rattle.cmb_vcd.specs.Collector.{IsExactFrom, IsFor, collected_level, least};
 ghost use Rattle.cmb_vcd.specs.Writer.{IsNotBefore, begun_text, done_text, new_writer};
 
 use crate::collector::Collector;
@@ -66,7 +66,8 @@ impl<'a> VcdWriter<'a> {
         }
     }
 
-    /// What is new of the text now that the collector's waves are known up to its least clock.
+    /// What is new of the text now that the collector's waves are known up to its least clock. What lies below the tick
+    /// up to which the text was given isn't looked at again, and may be forgotten.
     pub fn extend(&mut self, collector: &Collector) -> Result<Vec<u8>, AllocError>
         requires opened { IsFor self.old.design collector.now }
         requires later { IsNotBefore self.old.done (least collector.now) }
@@ -74,7 +75,7 @@ impl<'a> VcdWriter<'a> {
             IfOk result (λ text. done_text self.old.design level (Some (least collector.now))
             ≡ done_text self.old.design level self.old.done ++ text.items) }
         ensures exact { let level = value self.old.design in
-            IsExactFor self.old.design collector.now
+            IsExactFrom self.old.design (unwrap_or self.old.done 0) collector.now
             → IfOk result (λ text. done_text self.old.design level (Some (least collector.now))
             ≡ done_text self.old.design level self.old.done ++ text.items) }
         ensures done { OnOk result (self.new ≡ record self.old { done = Some (least collector.now) }) }

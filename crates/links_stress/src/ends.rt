@@ -36,8 +36,16 @@ impl<'a> Out<'a> {
         requires { IsExactIn self.old.pass.design piece }
         ensures back { IfErr result (λ full. IsExactIn self.old.pass.design full.0) }
         ensures same { self.new.pass.design ≡ self.old.pass.design }
+        ensures link { self.new.pass.link ≡ self.old.pass.link }
     {
         self.link.put(rt, &mut self.pass, piece)
+    }
+
+    /// Gives the pass back.
+    pub fn into_pass(self) -> PutPass
+        ensures { result ≡ self.entry.pass }
+    {
+        self.pass
     }
 }
 
@@ -53,7 +61,15 @@ impl<'a> In<'a> {
     pub fn take<R: Wait>(&mut self, rt: &R) -> Option<Piece>
         ensures exact { IfSome result (λ piece. IsExactIn self.old.pass.design piece) }
         ensures same { self.new.pass.design ≡ self.old.pass.design }
+        ensures link { self.new.pass.link ≡ self.old.pass.link }
     {
         self.link.take(rt, &mut self.pass)
+    }
+
+    /// Gives the pass back.
+    pub fn into_pass(self) -> TakePass
+        ensures { result ≡ self.entry.pass }
+    {
+        self.pass
     }
 }

@@ -5,6 +5,7 @@
 #![tactic(auto)]
 
 mod circuit;
+mod closing;
 mod ends;
 mod exact;
 mod examples;

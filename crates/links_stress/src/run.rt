@@ -1,16 +1,16 @@
 //! One run: two workers, and a seat that looks at every net.
 
-ghost use Rattle.std.specs.Prelude.{◌≡◌, true, false, IfOk};
+ghost use Rattle.std.specs.Prelude.{◌≡◌, true, false, IfOk, Ok};
 ghost use Rattle.cmb_links.specs.Seats.{new_seat, terms};
+ghost use Rattle.links_stress.specs.Seats.{at_first};
 
 use crate::circuit::Circuit;
+use crate::closing::{Rest, Room, close_all};
 use crate::ends::{In, Out};
 use crate::trouble::Trouble;
-use crate::watch::Watch;
-use crate::worker::{Desk, Nets, TURNS};
-use cmb_design::Design;
+use crate::watch::{Notes, Watch};
+use crate::worker::{Desk, Left, Nets, TURNS};
 use cmb_links::{Board, Link, PutPass, Seat, TakePass, Workers};
-use cmb_wave::Promise;
 use std::alloc::Global;
 use std::sync::Wait;
 use std::thread;
@@ -20,11 +20,16 @@ use std::thread::Threads;
 /// second one's net for z alone.
 const NETLIST: &[u8] = b"p = DFF(n)\nn = NOT(p)\nz = XOR(p, y)\ny = BUFF(p)\n";
 
+/// How many nets it has.
+pub const NETS: u32 = 4;
+
 const CLUSTERS: [u32; 4] = [0, 0, 0, 1];
 
-const FIRST: Nets = Nets { told: 0, read: 3 };
+/// The nets of the first worker.
+pub const FIRST: Nets = Nets { told: 0, read: 3 };
 
-const SECOND: Nets = Nets { told: 3, read: 0 };
+/// The nets of the second one.
+pub const SECOND: Nets = Nets { told: 3, read: 0 };
 
 /// A board for two workers, with its three seats.
 #[derive(Drop)]
@@ -57,10 +62,28 @@ pub fn open_board(alloc: Global, circuit: &Circuit, workers: Workers) -> Result<
     })
 }
 
+/// A worker's seat, and its ends of the links.
+#[derive(Drop)]
+struct Hand {
+    seat: Seat,
+    put: PutPass,
+    take: TakePass,
+}
+
+/// What the threads are handed: the two workers, and the seat that looks on.
+#[derive(Drop)]
+struct Hands {
+    first: Hand,
+    second: Hand,
+    last: Seat,
+}
+
 // Looks at every net until both workers have finished.
-fn look_on(watch: &mut Watch<'_>) -> Result<(), Trouble> {
+fn look_on(watch: &mut Watch<'_>) -> Result<(), Trouble>
+    ensures { at_first watch.new.seat ≡ at_first watch.old.seat }
+{
     for _ in 0..TURNS {
-        for net in 0..4 {
+        for net in 0..NETS {
             watch.look(net)?;
         }
         if watch.raised()? {
@@ -74,74 +97,32 @@ fn look_on(watch: &mut Watch<'_>) -> Result<(), Trouble> {
     Err(Trouble::TooLong)
 }
 
-// Looks on, and then stops the workers, which look for the stop word even when they have finished.
-fn oversee(mut watch: Watch<'_>) -> Result<Watch<'_>, Trouble> {
+// Looks on, and then stops the workers, which look for the stop word even when they have finished. Gives the seat back,
+// and what it found.
+fn oversee(
+    alloc: Global,
+    circuit: &Circuit,
+    room: &Room,
+    workers: Workers,
+    seat: Seat,
+) -> Result<(Seat, Notes), Trouble>
+    requires workers { workers ≡ 2 }
+    requires seat { seat ≡ new_seat room.now.board (terms circuit.now.design circuit.now.clustering 2) true 2 }
+    ensures { IfOk result (λ last.
+        at_first last.0 ≡ new_seat room.now.board (terms circuit.now.design circuit.now.clustering 2) false 2) }
+{
+    let mut watch = Watch::new(alloc, &room.board, circuit, seat, workers, 2);
     let outcome = look_on(&mut watch);
     watch.raise();
     outcome?;
     if !watch.raised()? {
         return Err(Trouble::Stop);
     }
-    Ok(watch)
-}
-
-// Whether the promise is one of these, which rise.
-fn is_among(published: &[Promise], promise: Promise) -> bool {
-    let first = published.partition_point(|other| other.upto < promise.upto);
-    match published.get(first) {
-        Some(other) => *other == promise,
-        None => false,
-    }
-}
-
-// Whether each promise that was found was published by one of the two.
-fn are_known(found: &[Promise], first: &[Promise], second: &[Promise]) -> bool {
-    for promise in found {
-        if !is_among(first, *promise) && !is_among(second, *promise) {
-            return false;
-        }
-    }
-    true
-}
-
-/// The two links, one each way, with their ends.
-#[derive(Drop)]
-struct Links {
-    there: Link,
-    back: Link,
-    put_there: PutPass,
-    put_back: PutPass,
-    take_there: TakePass,
-    take_back: TakePass,
-    ghost puts_there: { put_there.link ≡ there.link },
-    ghost puts_back: { put_back.link ≡ back.link },
-    ghost takes_there: { take_there.link ≡ there.link },
-    ghost takes_back: { take_back.link ≡ back.link },
-}
-
-// Opens links for a design that hold so many pieces.
-fn open_links(alloc: Global, design: &Design, capacity: usize) -> Result<Links, Trouble>
-    ensures put { IfOk result (λ l. (l.put_there.design ≡ design.now) × (l.put_back.design ≡ design.now)) }
-    ensures take { IfOk result (λ l. (l.take_there.design ≡ design.now) × (l.take_back.design ≡ design.now)) }
-{
-    let Ok((there, put_there, take_there)) = Link::open(alloc, design, capacity) else {
-        return Err(Trouble::Memory);
-    };
-    let Ok((back, put_back, take_back)) = Link::open(alloc, design, capacity) else {
-        return Err(Trouble::Memory);
-    };
-    Ok(Links {
-        there,
-        back,
-        put_there,
-        put_back,
-        take_there,
-        take_back,
-    })
+    Ok(watch.leave())
 }
 
 // The trouble of a thread.
-fn trouble_of(outcome: &Result<Watch<'_>, Trouble>) -> Option<Trouble> {
+fn trouble_of<T>(outcome: &Result<T, Trouble>) -> Option<Trouble> {
     match outcome {
         Ok(_) => None,
         Err(trouble) => Some(*trouble),
@@ -161,12 +142,16 @@ fn worse(one: Option<Trouble>, other: Option<Trouble>) -> Option<Trouble> {
     }
 }
 
-// Compares what three threads found with what two of them published.
-fn compare(
-    first: Result<Watch<'_>, Trouble>,
-    second: Result<Watch<'_>, Trouble>,
-    last: Result<Watch<'_>, Trouble>,
-) -> Result<(), Trouble> {
+// What the three threads leave. Where one of them came to no end, the trouble that tells most.
+fn gathered(
+    first: Result<Left, Trouble>,
+    second: Result<Left, Trouble>,
+    last: Result<(Seat, Notes), Trouble>,
+) -> Result<Rest, Trouble>
+    ensures first { IfOk result (λ rest. first ≡ Ok rest.first) }
+    ensures second { IfOk result (λ rest. second ≡ Ok rest.second) }
+    ensures last { IfOk result (λ rest. last ≡ Ok (rest.last, rest.found)) }
+{
     let worst = worse(
         worse(trouble_of(&first), trouble_of(&second)),
         trouble_of(&last),
@@ -176,87 +161,186 @@ fn compare(
     }
     let first = first?;
     let second = second?;
-    let last = last?;
-    let (one, other) = (&first.published, &second.published);
-    if are_known(&first.found, one, other)
-        && are_known(&second.found, one, other)
-        && are_known(&last.found, one, other)
-    {
-        return Ok(());
-    }
-    Err(Trouble::Unknown)
-}
-
-// Runs two workers in threads of their own, and the seat that looks on in this one.
-fn run_all<'a, R: Threads + Wait + Sync>(
-    rt: &R,
-    alloc: Global,
-    first: Desk<'a>,
-    second: Desk<'a>,
-    mut last: Watch<'a>,
-) -> Result<(), Trouble> {
-    thread::scope(thread::scope_env(), rt, |scope| -> Result<(), Trouble> {
-        let Ok(first) = scope.spawn(move || first.work(rt, alloc)) else {
-            return Err(Trouble::Memory);
-        };
-        let Ok(second) = scope.spawn(move || second.work(rt, alloc)) else {
-            last.raise();
-            return Err(Trouble::Memory);
-        };
-        let last = oversee(last);
-        compare(first.join(rt), second.join(rt), last)
-    })
-}
-
-// Hands each worker its seat and its ends of the links, and runs both.
-fn run_at<R: Threads + Wait + Sync>(
-    rt: &R,
-    alloc: Global,
-    circuit: &Circuit,
-    workers: Workers,
-    table: Table,
-    links: Links,
-) -> Result<(), Trouble>
-    requires workers { workers ≡ 2 }
-    requires first { table.first ≡ new_seat table.board (terms circuit.now.design circuit.now.clustering 2) false 0 }
-    requires second { table.second ≡ new_seat table.board (terms circuit.now.design circuit.now.clustering 2) false 1 }
-    requires last { table.last ≡ new_seat table.board (terms circuit.now.design circuit.now.clustering 2) true 2 }
-    requires put { (links.put_there.design ≡ circuit.now.design) × (links.put_back.design ≡ circuit.now.design) }
-    requires take { (links.take_there.design ≡ circuit.now.design) × (links.take_back.design ≡ circuit.now.design) }
-{
-    let Table {
-        board,
+    let (last, found) = last?;
+    Ok(Rest {
         first,
         second,
         last,
-    } = table;
-    let Links {
-        there,
-        back,
-        put_there,
-        put_back,
-        take_there,
-        take_back,
-    } = links;
-    let first = Watch::new(alloc, &board, circuit, first, workers, 0);
-    let second = Watch::new(alloc, &board, circuit, second, workers, 1);
-    let last = Watch::new(alloc, &board, circuit, last, workers, 2);
-    let first = Desk::new(
-        first,
-        FIRST,
-        Out::new(&there, put_there),
-        In::new(&back, take_back),
-    );
-    let second = Desk::new(
-        second,
-        SECOND,
-        Out::new(&back, put_back),
-        In::new(&there, take_there),
-    );
-    run_all(rt, alloc, first, second, last)
+        found,
+    })
 }
 
-// Runs this circuit with links that hold so many pieces.
+// What the first worker does.
+fn work_first<R: Wait>(
+    rt: &R,
+    alloc: Global,
+    circuit: &Circuit,
+    room: &Room,
+    workers: Workers,
+    hand: Hand,
+) -> Result<Left, Trouble>
+    requires workers { workers ≡ 2 }
+    requires seat { hand.seat ≡ new_seat room.now.board (terms circuit.now.design circuit.now.clustering 2) false 0 }
+    requires put { (hand.put.link ≡ room.now.there.link) × (hand.put.design ≡ circuit.now.design) }
+    requires take { (hand.take.link ≡ room.now.back.link) × (hand.take.design ≡ circuit.now.design) }
+    ensures seat { IfOk result (λ left.
+        at_first left.seat ≡ new_seat room.now.board (terms circuit.now.design circuit.now.clustering 2) false 0) }
+    ensures put { IfOk result (λ left. left.put.link ≡ room.now.there.link) }
+    ensures take { IfOk result (λ left. left.take.link ≡ room.now.back.link) }
+{
+    let Hand { seat, put, take } = hand;
+    let desk = Desk::new(
+        Watch::new(alloc, &room.board, circuit, seat, workers, 0),
+        FIRST,
+        Out::new(&room.there, put),
+        In::new(&room.back, take),
+    );
+    desk.work(rt, alloc)
+}
+
+// What the second worker does.
+fn work_second<R: Wait>(
+    rt: &R,
+    alloc: Global,
+    circuit: &Circuit,
+    room: &Room,
+    workers: Workers,
+    hand: Hand,
+) -> Result<Left, Trouble>
+    requires workers { workers ≡ 2 }
+    requires seat { hand.seat ≡ new_seat room.now.board (terms circuit.now.design circuit.now.clustering 2) false 1 }
+    requires put { (hand.put.link ≡ room.now.back.link) × (hand.put.design ≡ circuit.now.design) }
+    requires take { (hand.take.link ≡ room.now.there.link) × (hand.take.design ≡ circuit.now.design) }
+    ensures seat { IfOk result (λ left.
+        at_first left.seat ≡ new_seat room.now.board (terms circuit.now.design circuit.now.clustering 2) false 1) }
+    ensures put { IfOk result (λ left. left.put.link ≡ room.now.back.link) }
+    ensures take { IfOk result (λ left. left.take.link ≡ room.now.there.link) }
+{
+    let Hand { seat, put, take } = hand;
+    let desk = Desk::new(
+        Watch::new(alloc, &room.board, circuit, seat, workers, 1),
+        SECOND,
+        Out::new(&room.back, put),
+        In::new(&room.there, take),
+    );
+    desk.work(rt, alloc)
+}
+
+// Runs the second worker in a thread of its own, and the seat that looks on in this one.
+fn run_two<R: Threads + Wait + Sync>(
+    rt: &R,
+    alloc: Global,
+    circuit: &Circuit,
+    room: &Room,
+    workers: Workers,
+    second: Hand,
+    last: Seat,
+) -> (Result<Left, Trouble>, Result<(Seat, Notes), Trouble>)
+    requires workers { workers ≡ 2 }
+    requires seat { second.seat ≡ new_seat room.now.board (terms circuit.now.design circuit.now.clustering 2) false 1 }
+    requires put { (second.put.link ≡ room.now.back.link) × (second.put.design ≡ circuit.now.design) }
+    requires take { (second.take.link ≡ room.now.there.link) × (second.take.design ≡ circuit.now.design) }
+    requires last { last ≡ new_seat room.now.board (terms circuit.now.design circuit.now.clustering 2) true 2 }
+    ensures seat { IfOk result.0 (λ left.
+        at_first left.seat ≡ new_seat room.now.board (terms circuit.now.design circuit.now.clustering 2) false 1) }
+    ensures put { IfOk result.0 (λ left. left.put.link ≡ room.now.back.link) }
+    ensures take { IfOk result.0 (λ left. left.take.link ≡ room.now.there.link) }
+    ensures last { IfOk result.1 (λ found.
+        at_first found.0 ≡ new_seat room.now.board (terms circuit.now.design circuit.now.clustering 2) false 2) }
+{
+    thread::join(
+        rt,
+        move || -> Result<Left, Trouble>
+            requires { (workers ≡ 2)
+                × (second.seat ≡ new_seat room.now.board (terms circuit.now.design circuit.now.clustering 2) false 1)
+                × (second.put.link ≡ room.now.back.link) × (second.put.design ≡ circuit.now.design)
+                × (second.take.link ≡ room.now.there.link) × (second.take.design ≡ circuit.now.design) }
+            ensures seat { IfOk result (λ left.
+                at_first left.seat
+                ≡ new_seat room.entry.now.board (terms circuit.entry.now.design circuit.entry.now.clustering 2) false 1) }
+            ensures put { IfOk result (λ left. left.put.link ≡ room.entry.now.back.link) }
+            ensures take { IfOk result (λ left. left.take.link ≡ room.entry.now.there.link) }
+        { work_second(rt, alloc, circuit, room, workers, second) },
+        move || -> Result<(Seat, Notes), Trouble>
+            requires { (workers ≡ 2) × (last
+                ≡ new_seat room.now.board (terms circuit.now.design circuit.now.clustering 2) true 2) }
+            ensures { IfOk result (λ found.
+                at_first found.0
+                ≡ new_seat room.entry.now.board (terms circuit.entry.now.design circuit.entry.now.clustering 2) false 2) }
+        { oversee(alloc, circuit, room, workers, last) },
+    )
+}
+
+// Runs two workers and the seat that looks on, each in a thread, and gives back what they leave.
+fn run_in<R: Threads + Wait + Sync>(
+    rt: &R,
+    alloc: Global,
+    circuit: &Circuit,
+    room: &Room,
+    workers: Workers,
+    hands: Hands,
+) -> Result<Rest, Trouble>
+    requires workers { workers ≡ 2 }
+    requires first { hands.first.seat
+        ≡ new_seat room.now.board (terms circuit.now.design circuit.now.clustering 2) false 0 }
+    requires second { hands.second.seat
+        ≡ new_seat room.now.board (terms circuit.now.design circuit.now.clustering 2) false 1 }
+    requires last { hands.last ≡ new_seat room.now.board (terms circuit.now.design circuit.now.clustering 2) true 2 }
+    requires there { (hands.first.put.link ≡ room.now.there.link) × (hands.second.take.link ≡ room.now.there.link) }
+    requires back { (hands.second.put.link ≡ room.now.back.link) × (hands.first.take.link ≡ room.now.back.link) }
+    requires put { (hands.first.put.design ≡ circuit.now.design) × (hands.second.put.design ≡ circuit.now.design) }
+    requires take { (hands.first.take.design ≡ circuit.now.design) × (hands.second.take.design ≡ circuit.now.design) }
+    ensures first { IfOk result (λ rest.
+        at_first rest.first.seat
+        ≡ new_seat room.now.board (terms circuit.now.design circuit.now.clustering 2) false 0) }
+    ensures second { IfOk result (λ rest.
+        at_first rest.second.seat
+        ≡ new_seat room.now.board (terms circuit.now.design circuit.now.clustering 2) false 1) }
+    ensures last { IfOk result (λ rest.
+        at_first rest.last ≡ new_seat room.now.board (terms circuit.now.design circuit.now.clustering 2) false 2) }
+    ensures there { IfOk result (λ rest. (rest.first.put.link ≡ room.now.there.link)
+        × (rest.second.take.link ≡ room.now.there.link)) }
+    ensures back { IfOk result (λ rest. (rest.second.put.link ≡ room.now.back.link)
+        × (rest.first.take.link ≡ room.now.back.link)) }
+{
+    let Hands {
+        first,
+        second,
+        last,
+    } = hands;
+    let (first, (second, last)) = thread::join(
+        rt,
+        move || -> Result<Left, Trouble>
+            requires { (workers ≡ 2)
+                × (first.seat ≡ new_seat room.now.board (terms circuit.now.design circuit.now.clustering 2) false 0)
+                × (first.put.link ≡ room.now.there.link) × (first.put.design ≡ circuit.now.design)
+                × (first.take.link ≡ room.now.back.link) × (first.take.design ≡ circuit.now.design) }
+            ensures seat { IfOk result (λ left.
+                at_first left.seat
+                ≡ new_seat room.entry.now.board (terms circuit.entry.now.design circuit.entry.now.clustering 2) false 0) }
+            ensures put { IfOk result (λ left. left.put.link ≡ room.entry.now.there.link) }
+            ensures take { IfOk result (λ left. left.take.link ≡ room.entry.now.back.link) }
+        { work_first(rt, alloc, circuit, room, workers, first) },
+        move || -> (Result<Left, Trouble>, Result<(Seat, Notes), Trouble>)
+            requires { (workers ≡ 2)
+                × (second.seat ≡ new_seat room.now.board (terms circuit.now.design circuit.now.clustering 2) false 1)
+                × (second.put.link ≡ room.now.back.link) × (second.put.design ≡ circuit.now.design)
+                × (second.take.link ≡ room.now.there.link) × (second.take.design ≡ circuit.now.design)
+                × (last ≡ new_seat room.now.board (terms circuit.now.design circuit.now.clustering 2) true 2) }
+            ensures seat { IfOk result.0 (λ left.
+                at_first left.seat
+                ≡ new_seat room.entry.now.board (terms circuit.entry.now.design circuit.entry.now.clustering 2) false 1) }
+            ensures put { IfOk result.0 (λ left. left.put.link ≡ room.entry.now.back.link) }
+            ensures take { IfOk result.0 (λ left. left.take.link ≡ room.entry.now.there.link) }
+            ensures last { IfOk result.1 (λ found.
+                at_first found.0
+                ≡ new_seat room.entry.now.board (terms circuit.entry.now.design circuit.entry.now.clustering 2) false 2) }
+        { run_two(rt, alloc, circuit, room, workers, second, last) },
+    );
+    gathered(first, second, last)
+}
+
+// Runs this circuit with links that hold so many pieces, and closes them and the board.
 fn run_over<R: Threads + Wait + Sync>(
     rt: &R,
     alloc: Global,
@@ -266,9 +350,34 @@ fn run_over<R: Threads + Wait + Sync>(
 ) -> Result<(), Trouble>
     requires { workers ≡ 2 }
 {
-    let table = open_board(alloc, circuit, workers)?;
-    let links = open_links(alloc, &circuit.design, capacity)?;
-    run_at(rt, alloc, circuit, workers, table, links)
+    let Table {
+        board,
+        first,
+        second,
+        last,
+    } = open_board(alloc, circuit, workers)?;
+    let Ok((there, put_there, take_there)) = Link::open(alloc, &circuit.design, capacity) else {
+        return Err(Trouble::Memory);
+    };
+    let Ok((back, put_back, take_back)) = Link::open(alloc, &circuit.design, capacity) else {
+        return Err(Trouble::Memory);
+    };
+    let hands = Hands {
+        first: Hand {
+            seat: first,
+            put: put_there,
+            take: take_back,
+        },
+        second: Hand {
+            seat: second,
+            put: put_back,
+            take: take_there,
+        },
+        last,
+    };
+    let room = Room { board, there, back };
+    let rest = run_in(rt, alloc, circuit, &room, workers, hands)?;
+    close_all(rt, alloc, circuit, capacity, room, rest)
 }
 
 /// Runs the circuit up to a horizon with links that hold so many pieces.

@@ -54,6 +54,8 @@ pub enum Trouble {
     NotEmpty,
     #[error("a closed link doesn't give what was put and not taken")]
     Left,
+    #[error("a closed link gives more than it holds")]
+    Room,
     #[error("a link's capacity isn't judged as worked out")]
     Capacity,
     #[error("a number of workers isn't judged as worked out")]

@@ -3,12 +3,21 @@
 ghost use Rattle.std.specs.Prelude.{◌≡◌, true, IfOk};
 ghost use Rattle.cmb_design.specs.Exact.{IsRightIn};
 ghost use Rattle.cmb_links.specs.Seats.{driver, terms};
+ghost use Rattle.links_stress.specs.Seats.{at_first};
 
 use crate::circuit::Circuit;
 use crate::trouble::Trouble;
 use cmb_links::{Board, Seat, Workers};
 use cmb_wave::Promise;
 use std::alloc::Global;
+
+/// What a seat found and published, in order, and whether it finished.
+#[derive(Drop)]
+pub struct Notes {
+    pub found: Vec<Promise>,
+    pub published: Vec<Promise>,
+    pub is_done: bool,
+}
 
 /// A seat with its board, and what it has found so far.
 #[derive(Drop)]
@@ -22,8 +31,8 @@ pub struct Watch<'a> {
     is_stopped: bool,
     finished: u32,
     newest: Vec<Promise>,
-    pub found: Vec<Promise>,
-    pub published: Vec<Promise>,
+    found: Vec<Promise>,
+    published: Vec<Promise>,
     ghost same: { seat.board ≡ board.now },
     ghost told: { seat.view.terms ≡ terms circuit.now.design circuit.now.clustering workers },
     ghost seated: { seat.view.place ≡ place },
@@ -70,7 +79,8 @@ impl<'a> Watch<'a> {
         requires terms { seat.view.terms ≡ terms circuit.now.design circuit.now.clustering workers }
         requires place { seat.view.place ≡ place }
         requires new { seat.view.endings.finished ≡ false }
-        ensures { result.circuit ≡ circuit.entry }
+        ensures circuit { result.circuit ≡ circuit.entry }
+        ensures seat { result.seat ≡ seat }
     {
         Watch {
             board,
@@ -91,6 +101,7 @@ impl<'a> Watch<'a> {
     pub fn look(&mut self, net: u32) -> Result<Promise, Trouble>
         ensures right { IfOk result (λ promise. IsRightIn self.old.circuit.now.design promise) }
         ensures same { self.new.circuit ≡ self.old.circuit }
+        ensures seat { at_first self.new.seat ≡ at_first self.old.seat }
     {
         if net as usize >= self.circuit.design.netlist().len() {
             return Err(Trouble::NotRight);
@@ -102,7 +113,8 @@ impl<'a> Watch<'a> {
 
     /// Compares a promise that was found with the circuit and with the earlier ones of its net.
     fn note(&mut self, promise: Promise) -> Result<(), Trouble>
-        ensures { self.new.circuit ≡ self.old.circuit }
+        ensures same { self.new.circuit ≡ self.old.circuit }
+        ensures seat { self.new.seat ≡ self.old.seat }
     {
         if !self.circuit.is_right(promise) {
             return Err(Trouble::NotRight);
@@ -131,7 +143,8 @@ impl<'a> Watch<'a> {
     /// Publishes a right promise, and finds it there.
     pub fn publish(&mut self, promise: Promise) -> Result<(), Trouble>
         requires { IsRightIn self.old.circuit.now.design promise }
-        ensures { self.new.circuit ≡ self.old.circuit }
+        ensures same { self.new.circuit ≡ self.old.circuit }
+        ensures seat { at_first self.new.seat ≡ at_first self.old.seat }
     {
         if !self.drives(promise.net) {
             return Err(Trouble::NotDriven);
@@ -151,14 +164,16 @@ impl<'a> Watch<'a> {
 
     /// Raises the stop word.
     pub fn raise(&mut self)
-        ensures { self.new.circuit ≡ self.old.circuit }
+        ensures same { self.new.circuit ≡ self.old.circuit }
+        ensures seat { at_first self.new.seat ≡ at_first self.old.seat }
     {
         self.board.raise(&mut self.seat);
     }
 
     /// Whether some seat raised the stop word. Once it is found, it stays.
     pub fn raised(&mut self) -> Result<bool, Trouble>
-        ensures { self.new.circuit ≡ self.old.circuit }
+        ensures same { self.new.circuit ≡ self.old.circuit }
+        ensures seat { at_first self.new.seat ≡ at_first self.old.seat }
     {
         let is_raised = self.board.raised(&mut self.seat);
         if self.is_stopped && !is_raised {
@@ -170,7 +185,8 @@ impl<'a> Watch<'a> {
 
     /// Counts the seat's worker as finished, once.
     pub fn finish(&mut self)
-        ensures { self.new.circuit ≡ self.old.circuit }
+        ensures same { self.new.circuit ≡ self.old.circuit }
+        ensures seat { at_first self.new.seat ≡ at_first self.old.seat }
     {
         if !self.is_done && self.place < self.workers.count() {
             self.board.finish(&mut self.seat);
@@ -180,7 +196,8 @@ impl<'a> Watch<'a> {
 
     /// The number of workers that finished. It doesn't fall, and counts this seat's worker.
     pub fn finished(&mut self) -> Result<u32, Trouble>
-        ensures { self.new.circuit ≡ self.old.circuit }
+        ensures same { self.new.circuit ≡ self.old.circuit }
+        ensures seat { at_first self.new.seat ≡ at_first self.old.seat }
     {
         let finished = self.board.finished(&mut self.seat);
         if finished < self.finished
@@ -191,5 +208,30 @@ impl<'a> Watch<'a> {
         }
         self.finished = finished;
         Ok(finished)
+    }
+
+    /// Gives the seat back, and what it found and published.
+    pub fn leave(self) -> (Seat, Notes)
+        ensures { result.0 ≡ self.entry.seat }
+    {
+        let Watch {
+            board: _,
+            circuit: _,
+            seat,
+            workers: _,
+            place: _,
+            is_done,
+            is_stopped: _,
+            finished: _,
+            newest: _,
+            found,
+            published,
+        } = self;
+        let notes = Notes {
+            found,
+            published,
+            is_done,
+        };
+        (seat, notes)
     }
 }

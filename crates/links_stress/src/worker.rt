@@ -2,13 +2,15 @@
 //! both.
 
 ghost use Rattle.std.specs.Prelude.{◌≡◌, IfOk};
+ghost use Rattle.links_stress.specs.Seats.{at_first};
 
 use crate::circuit::Circuit;
 use crate::ends::{In, Out};
 use crate::exact::ExactCluster;
 use crate::trouble::Trouble;
-use crate::watch::Watch;
+use crate::watch::{Notes, Watch};
 use cmb_core::DeliverFault;
+use cmb_links::{PutPass, Seat, TakePass};
 use std::alloc::Global;
 use std::sync::Wait;
 use std::thread;
@@ -28,6 +30,19 @@ pub struct Nets {
     pub read: u32,
 }
 
+/// What a worker leaves: its seat, its ends of the two links, and what it noted. Of the pieces that it put, and of those
+/// that it took, in order, it noted the ticks up to which they go: the first begins at tick 0, each other where the one
+/// before it ends.
+#[derive(Drop)]
+pub struct Left {
+    pub seat: Seat,
+    pub put: PutPass,
+    pub take: TakePass,
+    pub notes: Notes,
+    pub sent: Vec<u32>,
+    pub came: Vec<u32>,
+}
+
 /// What a worker's thread is handed: its seat, and its ends of the two links.
 #[derive(Drop)]
 pub struct Desk<'a> {
@@ -43,6 +58,9 @@ impl<'a> Desk<'a> {
     pub fn new(watch: Watch<'a>, nets: Nets, out: Out<'a>, into: In<'a>) -> Desk<'a>
         requires puts { out.pass.design ≡ watch.circuit.now.design }
         requires takes { into.pass.design ≡ watch.circuit.now.design }
+        ensures seat { result.watch.seat ≡ watch.entry.seat }
+        ensures put { result.out.pass ≡ out.entry.pass }
+        ensures take { result.into.pass ≡ into.entry.pass }
     {
         Desk {
             watch,
@@ -52,9 +70,13 @@ impl<'a> Desk<'a> {
         }
     }
 
-    /// Opens the worker's cluster and works until the stop word is raised. Gives the watch back, or raises the stop
-    /// word where something is wrong.
-    pub fn work<R: Wait>(self, rt: &R, alloc: Global) -> Result<Watch<'a>, Trouble> {
+    /// Opens the worker's cluster and works until the stop word is raised. Gives back what it was handed, with what it
+    /// noted, or raises the stop word where something is wrong.
+    pub fn work<R: Wait>(self, rt: &R, alloc: Global) -> Result<Left, Trouble>
+        ensures seat { IfOk result (λ left. at_first left.seat ≡ at_first self.entry.watch.seat) }
+        ensures put { IfOk result (λ left. left.put.link ≡ self.entry.out.pass.link) }
+        ensures take { IfOk result (λ left. left.take.link ≡ self.entry.into.pass.link) }
+    {
         let Desk {
             mut watch,
             nets,
@@ -72,8 +94,8 @@ impl<'a> Desk<'a> {
                     into,
                     horizon: circuit.design.horizon(),
                     told: 0,
-                    sent: 0,
-                    came: 0,
+                    sent: Vec::new(alloc),
+                    came: Vec::new(alloc),
                 };
                 worker.work(rt)
             }
@@ -95,6 +117,19 @@ fn open_cluster(alloc: Global, circuit: &Circuit, number: u32) -> Result<ExactCl
     Ok(ExactCluster::open(alloc, &circuit.design, &circuit.clustering, number)?)
 }
 
+/// The last of these ticks, 0 where there is none.
+pub fn last_of(ticks: &[u32]) -> u32 {
+    ticks.last().copied().unwrap_or(0)
+}
+
+// Notes a tick behind the others.
+fn note_tick(ticks: &mut Vec<u32>, tick: u32) -> Result<(), Trouble> {
+    match ticks.push(tick) {
+        Ok(()) => Ok(()),
+        Err(_) => Err(Trouble::Memory),
+    }
+}
+
 /// A worker at its desk.
 #[derive(Drop)]
 struct Worker<'a> {
@@ -105,8 +140,8 @@ struct Worker<'a> {
     into: In<'a>,
     horizon: u32,
     told: u32,
-    sent: u32,
-    came: u32,
+    sent: Vec<u32>,
+    came: Vec<u32>,
     ghost known: { cluster ≡ watch.circuit.now.design },
     ghost puts: { out.pass.design ≡ cluster },
     ghost takes: { into.pass.design ≡ cluster },
@@ -114,18 +149,22 @@ struct Worker<'a> {
 
 impl<'a> Worker<'a> {
     // Takes pieces. They are exact, and each begins where the one before it ended.
-    fn take<R: Wait>(&mut self, rt: &R) -> Result<(), Trouble> {
+    fn take<R: Wait>(&mut self, rt: &R) -> Result<(), Trouble>
+        ensures seat { at_first self.new.watch.seat ≡ at_first self.old.watch.seat }
+        ensures put { self.new.out.pass.link ≡ self.old.out.pass.link }
+        ensures take { self.new.into.pass.link ≡ self.old.into.pass.link }
+    {
         for _ in 0..AT_ONCE {
             let Some(piece) = self.into.take(rt) else {
                 break;
             };
-            if piece.net() != self.nets.read || piece.from() != self.came {
+            if piece.net() != self.nets.read || piece.from() != last_of(&self.came) {
                 return Err(Trouble::Order);
             }
             if !self.watch.circuit.is_exact(&piece) {
                 return Err(Trouble::NotExact);
             }
-            self.came = piece.to();
+            note_tick(&mut self.came, piece.to())?;
             match self.cluster.deliver(&piece) {
                 Ok(_) | Err(DeliverFault::Old { .. }) => {}
                 Err(DeliverFault::Memory) => return Err(Trouble::Memory),
@@ -136,7 +175,11 @@ impl<'a> Worker<'a> {
     }
 
     // Looks at the net of the other worker.
-    fn look(&mut self) -> Result<(), Trouble> {
+    fn look(&mut self) -> Result<(), Trouble>
+        ensures seat { at_first self.new.watch.seat ≡ at_first self.old.watch.seat }
+        ensures put { self.new.out.pass.link ≡ self.old.out.pass.link }
+        ensures take { self.new.into.pass.link ≡ self.old.into.pass.link }
+    {
         let promise = self.watch.look(self.nets.read)?;
         match self.cluster.hear(promise) {
             Ok(_) => Ok(()),
@@ -144,35 +187,65 @@ impl<'a> Worker<'a> {
         }
     }
 
-    // Publishes how far the told net is known, and puts what is new of it. Where the link is full, a longer piece goes
-    // later.
-    fn tell<R: Wait>(&mut self, rt: &R) -> Result<(), Trouble> {
+    // Goes on until all is known. What comes after that is left in the link.
+    fn go_on<R: Wait>(&mut self, rt: &R) -> Result<(), Trouble>
+        ensures seat { at_first self.new.watch.seat ≡ at_first self.old.watch.seat }
+        ensures put { self.new.out.pass.link ≡ self.old.out.pass.link }
+        ensures take { self.new.into.pass.link ≡ self.old.into.pass.link }
+    {
+        if self.is_complete() {
+            return Ok(());
+        }
+        self.take(rt)?;
+        self.look()?;
+        self.cluster.step()?;
+        Ok(())
+    }
+
+    // Publishes how far the told net is known.
+    fn publish(&mut self) -> Result<(), Trouble>
+        ensures seat { at_first self.new.watch.seat ≡ at_first self.old.watch.seat }
+        ensures put { self.new.out.pass.link ≡ self.old.out.pass.link }
+        ensures take { self.new.into.pass.link ≡ self.old.into.pass.link }
+    {
         if let Some(promise) = self.cluster.promise(self.nets.told) {
             if promise.upto > self.told {
                 self.watch.publish(promise)?;
                 self.told = promise.upto;
             }
         }
-        if let Some(piece) = self.cluster.post(self.nets.told, self.sent)? {
+        Ok(())
+    }
+
+    // Puts what is new of the told net. Where the link is full, a longer piece goes later.
+    fn send<R: Wait>(&mut self, rt: &R) -> Result<(), Trouble>
+        ensures seat { at_first self.new.watch.seat ≡ at_first self.old.watch.seat }
+        ensures put { self.new.out.pass.link ≡ self.old.out.pass.link }
+        ensures take { self.new.into.pass.link ≡ self.old.into.pass.link }
+    {
+        if let Some(piece) = self.cluster.post(self.nets.told, last_of(&self.sent))? {
             let to = piece.to();
             if self.out.put(rt, piece).is_ok() {
-                self.sent = to;
+                note_tick(&mut self.sent, to)?;
             }
         }
         Ok(())
     }
 
-    // Whether all is known, told and heard.
+    // Whether all is known and told.
     fn is_complete(&self) -> bool {
-        self.cluster.complete() && self.sent == self.horizon && self.came == self.horizon
+        self.cluster.complete() && self.told == self.horizon
     }
 
     // One turn. True once the stop word is raised.
-    fn turn<R: Wait>(&mut self, rt: &R) -> Result<bool, Trouble> {
-        self.take(rt)?;
-        self.look()?;
-        self.cluster.step()?;
-        self.tell(rt)?;
+    fn turn<R: Wait>(&mut self, rt: &R) -> Result<bool, Trouble>
+        ensures seat { at_first self.new.watch.seat ≡ at_first self.old.watch.seat }
+        ensures put { self.new.out.pass.link ≡ self.old.out.pass.link }
+        ensures take { self.new.into.pass.link ≡ self.old.into.pass.link }
+    {
+        self.go_on(rt)?;
+        self.publish()?;
+        self.send(rt)?;
         if self.is_complete() {
             self.watch.finish();
         }
@@ -181,7 +254,11 @@ impl<'a> Worker<'a> {
     }
 
     // Turns up to the stop word.
-    fn turns<R: Wait>(&mut self, rt: &R) -> Result<(), Trouble> {
+    fn turns<R: Wait>(&mut self, rt: &R) -> Result<(), Trouble>
+        ensures seat { at_first self.new.watch.seat ≡ at_first self.old.watch.seat }
+        ensures put { self.new.out.pass.link ≡ self.old.out.pass.link }
+        ensures take { self.new.into.pass.link ≡ self.old.into.pass.link }
+    {
         for _ in 0..TURNS {
             if self.turn(rt)? {
                 if self.is_complete() {
@@ -194,10 +271,42 @@ impl<'a> Worker<'a> {
         Err(Trouble::TooLong)
     }
 
+    // Gives back what the worker was handed, with what it noted.
+    fn leave(self) -> Left
+        ensures seat { result.seat ≡ self.entry.watch.seat }
+        ensures put { result.put ≡ self.entry.out.pass }
+        ensures take { result.take ≡ self.entry.into.pass }
+    {
+        let Worker {
+            watch,
+            cluster: _,
+            nets: _,
+            out,
+            into,
+            horizon: _,
+            told: _,
+            sent,
+            came,
+        } = self;
+        let (seat, notes) = watch.leave();
+        Left {
+            seat,
+            put: out.into_pass(),
+            take: into.into_pass(),
+            notes,
+            sent,
+            came,
+        }
+    }
+
     // Works until the stop word is raised.
-    fn work<R: Wait>(mut self, rt: &R) -> Result<Watch<'a>, Trouble> {
+    fn work<R: Wait>(mut self, rt: &R) -> Result<Left, Trouble>
+        ensures seat { IfOk result (λ left. at_first left.seat ≡ at_first self.entry.watch.seat) }
+        ensures put { IfOk result (λ left. left.put.link ≡ self.entry.out.pass.link) }
+        ensures take { IfOk result (λ left. left.take.link ≡ self.entry.into.pass.link) }
+    {
         match self.turns(rt) {
-            Ok(()) => Ok(self.watch),
+            Ok(()) => Ok(self.leave()),
             Err(trouble) => {
                 self.watch.raise();
                 Err(trouble)

@@ -1,6 +1,6 @@
 //! The worked examples of collectors and texts, and what sinks take. The texts were made by another simulator.
 
-ghost use Rattle.std.specs.Prelude.{◌≡◌};
+ghost use Rattle.std.specs.Prelude.{◌≡◌, ◌<◌, ◌≤◌, ◌^◌};
 
 use crate::inputs::{bare, design_of};
 use cmb_design::{Design, Settings};
@@ -295,6 +295,98 @@ fn parts_of_toggle(rt: &impl Abort, alloc: Global) -> Result<(), Fail> {
 #[test]
 fn text_in_parts(rt: HostRuntime) -> Result<(), Fail> {
     parts_of_toggle(&rt, rt.alloc())
+}
+
+// Lets what lies below a tick be forgotten, where all is known up to it and no wave has forgotten more.
+fn forget(rt: &impl Abort, toggle: &mut Collector, upto: u32) {
+    assert!(rt; upto <= toggle.least());
+    assert!(rt; toggle.waves().iter().all(|wave| wave.base() <= upto));
+    toggle.forget(upto);
+}
+
+// Whether each wave keeps so many changes, and has had so many.
+fn keeps(toggle: &Collector, kept: usize, had: u32) -> bool {
+    toggle
+        .waves()
+        .iter()
+        .all(|wave| wave.changes().len() == kept && wave.count() == had)
+}
+
+// What the text says of a period of the toggle, four ticks from this one on.
+fn period_lines(alloc: Global, from: u32, q: u32) -> Result<String, Fail>
+    requires { (from < 2 ^ 31) × (q ≤ 1) }
+{
+    let mut lines = String::new(alloc);
+    write!(lines, "#{from}\n{q}!\n#{}\n{}\"\n", from + 1, 1 - q)?;
+    Ok(lines)
+}
+
+// Collects a period of the toggle, four ticks from this one on, in which q changes to this level and d to the other.
+fn collect_period(
+    rt: &impl Abort,
+    alloc: Global,
+    toggle: &mut Collector,
+    from: u32,
+    q: Level,
+    d: Level,
+) -> Result<(), Fail>
+    requires { from < 2 ^ 31 }
+{
+    let changes = vec![in alloc; at(from, q)]?;
+    let inverse = vec![in alloc; at(from + 1, d)]?;
+    answers(rt, toggle, Q, from, from + 4, changes, Ok(from + 4))?;
+    answers(rt, toggle, D, from + 1, from + 5, inverse, Ok(from + 5))
+}
+
+// A period is collected, written and forgotten: of its changes one of each net waits, and then none.
+fn tells_period(
+    rt: &impl Abort,
+    alloc: Global,
+    design: &Design,
+    writer: &mut VcdWriter<'_>,
+    toggle: &mut Collector,
+    period: u32,
+) -> Result<(), Fail>
+    requires design { writer.old.design ≡ design.now }
+    requires period { period < 1000 }
+    ensures { writer.new.design ≡ design.now }
+{
+    let from = 4 * period + 3;
+    let (digit, q, d) = if period % 2 == 0 {
+        (1, Level::One, Level::Zero)
+    } else {
+        (0, Level::Zero, Level::One)
+    };
+    collect_period(rt, alloc, toggle, from, q, d)?;
+    assert!(rt; keeps(toggle, 1, period + 2), "period {period}");
+    let lines = period_lines(alloc, from, digit)?;
+    goes_on(rt, design, writer, toggle, lines.as_bytes(), from + 4)?;
+    forget(rt, toggle, from + 4);
+    assert!(rt; keeps(toggle, 0, period + 2), "period {period}");
+    Ok(())
+}
+
+fn tells_periods(rt: &impl Abort, alloc: Global, design: &Design) -> Result<(), Fail> {
+    let mut toggle = Collector::open(alloc, design)?;
+    let mut writer = VcdWriter::open(alloc, design)?;
+    collect_first(rt, alloc, &mut toggle)?;
+    let begun = [TOGGLE_HEADER, BELOW_3].concat(alloc)?;
+    goes_on(rt, design, &mut writer, &toggle, begun.as_slice(), 3)?;
+    forget(rt, &mut toggle, 3);
+    for period in 0..1000 {
+        tells_period(rt, alloc, design, &mut writer, &mut toggle, period)?;
+    }
+    Ok(())
+}
+
+fn periods_of_toggle(rt: &impl Abort, alloc: Global) -> Result<(), Fail> {
+    let design = sampled(rt, alloc, TOGGLE, 4010)?;
+    tells_periods(rt, alloc, &design)
+}
+
+#[test]
+fn what_is_written_is_forgotten(rt: HostRuntime) -> Result<(), Fail> {
+    periods_of_toggle(&rt, rt.alloc())
 }
 
 fn collected_toggle(rt: &impl Abort, alloc: Global, design: &Design) -> Result<Collector, Fail> {

@@ -467,6 +467,82 @@ fn text_of_a_stopped_run(rt: HostRuntime) -> Result<(), Fail> {
     ends_early(&rt, alloc, 1)
 }
 
+// The level of a net of the toggle one tick before this one: q, net 0, is 0 from tick 0 on and changes at ticks 3, 7
+// and 11, and d is x at tick 0 and changes at 1, 4 and 8.
+fn level_before(net: u32, tick: u32) -> Level {
+    match (net, tick) {
+        (_, 0) | (1, 1) => Level::X,
+        (0, 1..=3) | (0, 8..=11) | (1, 5..=8) => Level::Zero,
+        _ => Level::One,
+    }
+}
+
+// How many bytes the text has up to a tick.
+fn bytes_up_to(tick: u32) -> usize {
+    match tick {
+        0 => 144,
+        1 => 168,
+        2..=3 => 174,
+        4 => 180,
+        5..=7 => 186,
+        8 => 192,
+        9..=11 => 198,
+        _ => 209,
+    }
+}
+
+// What a stopped run keeps begins where the text ends that it wrote, with the levels that were left there.
+fn keeps_what_waits(rt: &impl Abort, known: &Collector, written: usize) {
+    let least = known.least();
+    assert_eq!(rt; written, bytes_up_to(least));
+    for wave in known.waves() {
+        assert_eq!(rt; wave.base(), least);
+        assert!(rt; wave.kept() == level_before(wave.net(), least), "{least}");
+        assert!(rt; wave.changes().len() <= 2);
+        assert!(rt; wave.changes().iter().all(|change| change.tick >= least));
+    }
+}
+
+// Worker 1 stops at this turn, once the other had a hundred: q is known below a tick from 3 to `most`.
+fn stops_with_text<R: Abort + Threads + Wait + Sync>(
+    rt: &R,
+    alloc: Global,
+    at: u32,
+    most: u32,
+) -> Result<(), Fail> {
+    let gate = OneStops {
+        stopped: 1,
+        at,
+        hundred: AtomicU64::new(0),
+        missed: AtomicU64::new(0),
+    };
+    let mut sink = Limited::new(alloc, 1000);
+    match two_workers_tell(rt, alloc, &gate, &mut sink)? {
+        Err(
+            RunFault::Incomplete {
+                net,
+                upto,
+                collector,
+            },
+        ) => {
+            assert_eq!(rt; net, 0);
+            assert!(rt; 3 <= upto && upto <= most, "{at}: {upto}");
+            keeps_what_waits(rt, &collector, sink.bytes.len());
+        }
+        _ => assert!(rt; false, "{at}"),
+    }
+    assert!(rt; TOGGLE.starts_with(sink.bytes.as_slice()));
+    Ok(())
+}
+
+#[test]
+fn written_waves_are_forgotten(rt: HostRuntime) -> Result<(), Fail> {
+    let alloc = rt.alloc();
+    stops_with_text(&rt, alloc, 0, 3)?;
+    stops_with_text(&rt, alloc, 1, 7)?;
+    stops_with_text(&rt, alloc, 2, 11)
+}
+
 #[test]
 fn text_of_a_full_sink(rt: HostRuntime) -> Result<(), Fail> {
     let alloc = rt.alloc();

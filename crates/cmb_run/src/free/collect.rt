@@ -1,6 +1,8 @@
 //! What the calling thread of a free run does while the workers run: it collects what they put.
 
-use crate::collected::Collected;
+ghost use Rattle.std.specs.Prelude.{◌≡◌};
+
+use crate::free::backlog::Backlog;
 use crate::free::crew::Lookout;
 use crate::free::idle::Idle;
 use crate::terms::Terms;
@@ -15,14 +17,16 @@ fn take_some<T: Terms, R: Wait>(
     rt: &R,
     lookout: &mut Lookout<T>,
     link: usize,
-    collected: &mut Collected<T>,
-) -> Result<bool, AllocError> {
+    backlog: &mut Backlog<T>,
+) -> Result<bool, AllocError>
+    ensures { backlog.new.written ≡ backlog.old.written }
+{
     let mut found = false;
     for _ in 0..MOST {
         let Some(posted) = lookout.take(rt, link) else {
             break;
         };
-        collected.take(&posted)?;
+        backlog.take(&posted)?;
         found = true;
     }
     Ok(found)
@@ -32,11 +36,13 @@ fn take_some<T: Terms, R: Wait>(
 pub(crate) fn take_round<T: Terms, R: Wait>(
     rt: &R,
     lookout: &mut Lookout<T>,
-    collected: &mut Collected<T>,
-) -> Result<bool, AllocError> {
+    backlog: &mut Backlog<T>,
+) -> Result<bool, AllocError>
+    ensures { backlog.new.written ≡ backlog.old.written }
+{
     let mut found = false;
     for link in 0..lookout.links() {
-        found |= take_some(rt, lookout, link, collected)?;
+        found |= take_some(rt, lookout, link, backlog)?;
     }
     Ok(found)
 }
@@ -46,12 +52,14 @@ pub(crate) fn collect<T: Terms, R: Wait>(
     rt: &R,
     lookout: &mut Lookout<T>,
     started: usize,
-    collected: &mut Collected<T>,
-) -> Result<(), AllocError> {
+    backlog: &mut Backlog<T>,
+) -> Result<(), AllocError>
+    ensures { backlog.new.written ≡ backlog.old.written }
+{
     let mut idle = Idle::new();
     for _ in rt.forever() {
         let over = lookout.finished() as usize >= started;
-        let found = take_round(rt, lookout, collected)?;
+        let found = take_round(rt, lookout, backlog)?;
         if found {
             idle.end();
         } else if over {

@@ -13,14 +13,14 @@ const NAP: u64 = 200;
 
 /// A thread that may have had nothing to do for a while.
 #[derive(Drop)]
-pub struct Idle {
+pub(crate) struct Idle {
     turns: u32,
     parker: Parker,
 }
 
 impl Idle {
     /// A thread that has something to do.
-    pub fn new() -> Idle {
+    pub(crate) fn new() -> Idle {
         Idle {
             turns: 0,
             parker: Parker::new(),
@@ -28,12 +28,12 @@ impl Idle {
     }
 
     /// There is something to do again.
-    pub fn end(&mut self) {
+    pub(crate) fn end(&mut self) {
         self.turns = 0;
     }
 
     /// There is nothing to do: gives the processor away, and once that was of no use for a while sleeps for a moment.
-    pub fn rest<R: Wait>(&mut self, rt: &R) {
+    pub(crate) fn rest<R: Wait>(&mut self, rt: &R) {
         if self.turns < YIELDS {
             self.turns += 1;
             thread::yield_now();

@@ -1,13 +1,13 @@
 //! A free run.
 
-ghost use Rattle.std.specs.Prelude.{◌≡◌, true, false, length, Err, IfOk, IfErr, IfSome, IfNone};
+ghost use Rattle.std.specs.Prelude.{◌≡◌, true, false, length, None, Err, IfOk, IfErr, IfSome, IfNone};
 ghost use Rattle.cmb_design.specs.Design.{Design};
 ghost use Rattle.cmb_design.specs.Exact.{nets_of};
 ghost use Rattle.cmb_vcd.specs.Collector.{IsComplete, IsExactFor};
 ghost use Rattle.cmb_run.specs.FreeRuns.{IsLeastBehind, IsStopped, IsStoppedAt};
 ghost use Rattle.cmb_run.specs.declared.run_fault.RunFault.TheVariants.{Memory};
 
-use crate::collected::Collected;
+use crate::free::backlog::Backlog;
 use crate::free::collect::collect;
 use crate::free::crew::Crew;
 use crate::free::threads::start;
@@ -75,14 +75,16 @@ fn collect_in<'s, E, T: Terms + Send + Sync + 's, G: Turnstile + Sync, R: Thread
     scope: &Scope<'s, E>,
     crew: Crew<T>,
     gate: &'s G,
-    collected: &mut Collected<T>,
-) -> bool {
+    backlog: &mut Backlog<T>,
+) -> bool
+    ensures { backlog.new.written ≡ backlog.old.written }
+{
     let Crew {
         workers,
         mut lookout,
     } = crew;
     let started = start(rt, alloc, scope, workers, gate, &mut lookout);
-    let lacking = collect(rt, &mut lookout, started.count(), collected).is_err();
+    let lacking = collect(rt, &mut lookout, started.count(), backlog).is_err();
     if lacking {
         lookout.raise();
     }
@@ -95,15 +97,21 @@ fn run_crew<T: Terms + Send + Sync, G: Turnstile + Sync, R: Threads + Wait + Syn
     rt: &R,
     alloc: Global,
     crew: Crew<T>,
-    mut collected: Collected<T>,
+    mut backlog: Backlog<T>,
     gate: &G,
-) -> (Collected<T>, bool) {
+) -> (Backlog<T>, bool)
+    requires { backlog.written ≡ None }
+    ensures { result.0.written ≡ None }
+{
     thread::scope(
         thread::scope_env(),
         rt,
-        move |scope| -> (Collected<T>, bool) {
-            let refused = collect_in(rt, alloc, scope, crew, gate, &mut collected);
-            (collected, refused)
+        move |scope| -> (Backlog<T>, bool)
+            requires { backlog.written ≡ None }
+            ensures { result.0.written ≡ None }
+        {
+            let refused = collect_in(rt, alloc, scope, crew, gate, &mut backlog);
+            (backlog, refused)
         },
     )
 }
@@ -126,9 +134,9 @@ fn run_named<T: Terms + Send + Sync, G: Turnstile + Sync, R: Threads + Wait + Sy
     ensures fault { IfErr result (IsStopped design.now) }
 {
     let crew = Crew::<T>::open(alloc, design, clustering, workers)?;
-    let collected = Collected::open(alloc, design)?;
-    let (collected, refused) = run_crew(rt, alloc, crew, collected, gate);
-    settled(refused, collected.into_collector())
+    let backlog = Backlog::open(alloc, design)?;
+    let (backlog, refused) = run_crew(rt, alloc, crew, backlog, gate);
+    settled(refused, backlog.into_collector())
 }
 
 /// Simulates a design by workers that run freely, and collects the waves of all its nets, up to the

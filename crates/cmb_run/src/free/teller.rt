@@ -6,7 +6,7 @@ ghost use Rattle.cmb_vcd.specs.Collector.{least};
 ghost use Rattle.cmb_run.specs.FreeRuns.{IsCutAt};
 ghost use Rattle.cmb_run.specs.Tellers.{IsToldTo, told};
 
-use crate::collected::Collected;
+use crate::free::backlog::Backlog;
 use crate::run_fault::RunFault;
 use crate::terms::Terms;
 use cmb_design::Design;
@@ -56,27 +56,32 @@ impl<'a, T: Terms> Teller<'a, T> {
         self.given
     }
 
-    /// Writes what is new of the text, now that so much is collected. After an Err the teller isn't to be
-    /// used again.
-    pub fn tell<S: Sink>(&mut self, collected: &Collected<T>, sink: &mut S) -> Result<(), RunFault>
+    /// Writes what is new of the text, now that so much is collected, and lets what is written be forgotten. After an
+    /// Err the teller isn't to be used again.
+    pub fn tell<S: Sink>(&mut self, backlog: &mut Backlog<T>, sink: &mut S) -> Result<(), RunFault>
         requires room { S.failures sink.old < 2 ^ 64 - 1 }
+        requires same { self.old ≡ backlog.old.written }
         ensures ok { (start : Option (List ℕ)) → Appends start (S.taken sink.old) (told T.design self.old)
             → OnOk result (Appends start (S.taken sink.new) (told T.design self.new)) }
-        ensures upto { OnOk result (IsToldTo T.design self.new (least collected.now)) }
+        ensures upto { OnOk result (IsToldTo T.design self.new (least backlog.new.collector)) }
+        ensures same { OnOk result (self.new ≡ backlog.new.written) }
         ensures no_failure { OnOk result (S.failures sink.new ≡ S.failures sink.old) }
         ensures fault { (start : Option (List ℕ)) → Appends start (S.taken sink.old) (told T.design self.old)
             → IfErr result (IsCutAt T.design start (S.taken sink.new) (S.failures sink.old) (S.failures sink.new)) }
     {
-        let collector = collected.collector();
-        let least = collector.least();
-        if self.writer.done().is_some_and(|done| least <= done) {
-            return Ok(());
-        }
         let given = self.given;
-        let part = self.writer.extend(collector)?;
+        let least = backlog.collector().least();
+        match backlog.written() {
+            Some(written) if least <= written => return Ok(()),
+            _ => {}
+        }
+        let part = self.writer.extend(backlog.collector())?;
         self.given += part.len() as u64;
         match write_whole(sink, &part) {
-            Ok(()) => Ok(()),
+            Ok(()) => {
+                backlog.wrote(least);
+                Ok(())
+            }
             Err(count) => Err(RunFault::Write {
                 written: given + count as u64,
             }),

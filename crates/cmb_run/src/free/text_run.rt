@@ -3,12 +3,12 @@
 ghost use Rattle.std.specs.Prelude.{◌≡◌, ◌-◌, ◌^◌, ◌<◌, None, Ok, length, IfOk, IfErr, OnOk};
 ghost use Rattle.std.specs.Io.KnownBytes.{Appends};
 ghost use Rattle.cmb_design.specs.Exact.{nets_of};
-ghost use Rattle.cmb_vcd.specs.Collector.{IsComplete, least};
+ghost use Rattle.cmb_vcd.specs.Collector.{IsComplete};
 ghost use Rattle.cmb_vcd.specs.Vcd.{vcd};
 ghost use Rattle.cmb_run.specs.FreeRuns.{IsCutAt};
 ghost use Rattle.cmb_run.specs.Tellers.{decision, IsDecided, IsGiven, IsUnfinished, IsWithin, told};
 
-use crate::collected::Collected;
+use crate::free::backlog::Backlog;
 use crate::free::collect::take_round;
 use crate::free::crew::{Crew, Lookout};
 use crate::free::idle::Idle;
@@ -36,13 +36,15 @@ fn tell_meanwhile<T: Terms, S: Sink, R: Wait>(
     rt: &R,
     lookout: &mut Lookout<T>,
     started: usize,
-    collected: &mut Collected<T>,
+    backlog: &mut Backlog<T>,
     teller: &mut Teller<'_, T>,
     sink: &mut S,
 ) -> Result<(), RunFault>
     requires room { S.failures sink.old < 2 ^ 64 - 1 }
     requires begin { teller.old ≡ None }
+    requires unwritten { backlog.old.written ≡ None }
     ensures within { OnOk result (IsWithin T.design teller.new) }
+    ensures same { OnOk result (teller.new ≡ backlog.new.written) }
     ensures text { OnOk result (Appends (S.taken sink.old) (S.taken sink.new) (told T.design teller.new)) }
     ensures no_failure { OnOk result (S.failures sink.new ≡ S.failures sink.old) }
     ensures fault { IfErr result (IsCutAt T.design (S.taken sink.old) (S.taken sink.new) (S.failures sink.old)
@@ -52,7 +54,7 @@ fn tell_meanwhile<T: Terms, S: Sink, R: Wait>(
     let mut idle = Idle::new();
     for _ in rt.forever() {
         let over = lookout.finished() as usize >= started;
-        let found = take_round(rt, lookout, collected)?;
+        let found = take_round(rt, lookout, backlog)?;
         if !found && over {
             return Ok(());
         }
@@ -61,7 +63,7 @@ fn tell_meanwhile<T: Terms, S: Sink, R: Wait>(
             idle.end();
         }
         if fresh >= ROUNDS || (!found && fresh > 0) {
-            teller.tell(collected, sink)?;
+            teller.tell(backlog, sink)?;
             fresh = 0;
         }
         if !found {
@@ -76,20 +78,21 @@ fn tell_all<T: Terms, S: Sink, R: Wait>(
     rt: &R,
     lookout: &mut Lookout<T>,
     started: usize,
-    collected: &mut Collected<T>,
+    backlog: &mut Backlog<T>,
     teller: &mut Teller<'_, T>,
     sink: &mut S,
 ) -> Result<u64, RunFault>
     requires room { S.failures sink.old < 2 ^ 64 - 1 }
     requires begin { teller.old ≡ None }
+    requires unwritten { backlog.old.written ≡ None }
     ensures given { IfOk result (λ given.
         IsGiven T.design (S.taken sink.old) (S.taken sink.new) (S.failures sink.old) (S.failures sink.new)
-        (least collected.new) given) }
+        backlog.new given) }
     ensures fault { IfErr result (IsCutAt T.design (S.taken sink.old) (S.taken sink.new) (S.failures sink.old)
         (S.failures sink.new)) }
 {
-    tell_meanwhile(rt, lookout, started, collected, teller, sink)?;
-    teller.tell(collected, sink)?;
+    tell_meanwhile(rt, lookout, started, backlog, teller, sink)?;
+    teller.tell(backlog, sink)?;
     Ok(teller.given())
 }
 
@@ -118,19 +121,20 @@ fn tell_new<T: Terms, S: Sink, R: Wait>(
     design: &Design,
     lookout: &mut Lookout<T>,
     started: usize,
-    collected: &mut Collected<T>,
+    backlog: &mut Backlog<T>,
     sink: &mut S,
 ) -> Result<u64, RunFault>
     requires room { S.failures sink.old < 2 ^ 64 - 1 }
     requires design { design.now ≡ T.design }
+    requires unwritten { backlog.old.written ≡ None }
     ensures given { IfOk result (λ given.
         IsGiven T.design (S.taken sink.old) (S.taken sink.new) (S.failures sink.old) (S.failures sink.new)
-        (least collected.new) given) }
+        backlog.new given) }
     ensures fault { IfErr result (IsCutAt T.design (S.taken sink.old) (S.taken sink.new) (S.failures sink.old)
         (S.failures sink.new)) }
 {
     let mut teller = Teller::<T>::open(alloc, design)?;
-    tell_all(rt, lookout, started, collected, &mut teller, sink)
+    tell_all(rt, lookout, started, backlog, &mut teller, sink)
 }
 
 // Runs each worker in a thread of the scope, and tells in this one. Gives the number of bytes.
@@ -148,14 +152,15 @@ fn tell_in<
     design: &Design,
     crew: Crew<T>,
     gate: &'s G,
-    collected: &mut Collected<T>,
+    backlog: &mut Backlog<T>,
     sink: &mut S,
 ) -> Result<u64, RunFault>
     requires room { S.failures sink.old < 2 ^ 64 - 1 }
     requires design { design.now ≡ T.design }
+    requires unwritten { backlog.old.written ≡ None }
     ensures given { IfOk result (λ given.
         IsGiven T.design (S.taken sink.old) (S.taken sink.new) (S.failures sink.old) (S.failures sink.new)
-        (least collected.new) given) }
+        backlog.new given) }
     ensures fault { IfErr result (IsCutAt T.design (S.taken sink.old) (S.taken sink.new) (S.failures sink.old)
         (S.failures sink.new)) }
 {
@@ -170,7 +175,7 @@ fn tell_in<
         design,
         &mut lookout,
         started.count(),
-        collected,
+        backlog,
         sink,
     );
     if given.is_err() {
@@ -186,37 +191,39 @@ fn tell_crew<T: Terms + Send + Sync, G: Turnstile + Sync, S: Sink, R: Threads + 
     alloc: Global,
     design: &Design,
     crew: Crew<T>,
-    mut collected: Collected<T>,
+    mut backlog: Backlog<T>,
     gate: &G,
     sink: &mut S,
-) -> (Collected<T>, Result<u64, RunFault>)
+) -> (Backlog<T>, Result<u64, RunFault>)
     requires room { S.failures sink.old < 2 ^ 64 - 1 }
     requires design { design.now ≡ T.design }
+    requires unwritten { backlog.written ≡ None }
     ensures given { IfOk result.1 (λ given.
         IsGiven T.design (S.taken sink.old) (S.taken sink.new) (S.failures sink.old) (S.failures sink.new)
-        (least result.0) given) }
+        result.0 given) }
     ensures fault { IfErr result.1 (IsCutAt T.design (S.taken sink.old) (S.taken sink.new) (S.failures sink.old)
         (S.failures sink.new)) }
 {
-    let (back, collected, given) = thread::scope(
+    let (back, backlog, given) = thread::scope(
         thread::scope_env(),
         rt,
-        move |scope| -> (&mut S, Collected<T>, Result<u64, RunFault>)
+        move |scope| -> (&mut S, Backlog<T>, Result<u64, RunFault>)
             requires room { S.failures sink.now < 2 ^ 64 - 1 }
             requires design { design.now ≡ T.design }
+            requires unwritten { backlog.written ≡ None }
             ensures name { result.0.ghost_name ≡ sink.entry.ghost_name }
             ensures given { IfOk result.2 (λ given.
                 IsGiven T.design (S.taken sink.entry.now) (S.taken result.0.now) (S.failures sink.entry.now)
-                (S.failures result.0.now) (least result.1) given) }
+                (S.failures result.0.now) result.1 given) }
             ensures fault { IfErr result.2 (IsCutAt T.design (S.taken sink.entry.now) (S.taken result.0.now)
                 (S.failures sink.entry.now) (S.failures result.0.now)) }
         {
-            let given = tell_in(rt, alloc, scope, design, crew, gate, &mut collected, sink);
-            (sink, collected, given)
+            let given = tell_in(rt, alloc, scope, design, crew, gate, &mut backlog, sink);
+            (sink, backlog, given)
         },
     );
     take_back(back);
-    (collected, given)
+    (backlog, given)
 }
 
 // The number of bytes, where the text was given up to the end of a run that wasn't stopped.
@@ -252,9 +259,9 @@ fn run_named<T: Terms + Send + Sync, G: Turnstile + Sync, S: Sink, R: Threads + 
         (S.failures sink.new)) }
 {
     let crew = Crew::<T>::open(alloc, design, clustering, workers)?;
-    let collected = Collected::<T>::open(alloc, design)?;
-    let (collected, given) = tell_crew(rt, alloc, design, crew, collected, gate, sink);
-    whole(given, collected.into_collector())
+    let backlog = Backlog::<T>::open(alloc, design)?;
+    let (backlog, given) = tell_crew(rt, alloc, design, crew, backlog, gate, sink);
+    whole(given, backlog.into_collector())
 }
 
 /// Simulates a design as `run_free` does, and writes its text while the workers run. Gives the text's

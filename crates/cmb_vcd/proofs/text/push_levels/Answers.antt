@@ -26,10 +26,3 @@ returns c =
     let waves = c.args.waves.now in
     let n = c.loop-net.net in
     sym (append-nil c.loop-net.out.items) ∙ ap (λ t. c.loop-net.out.items ++ t) (sym (level_lines-none (collected_level waves) 0 n (length waves) (omega arith))) ∙ c.loop-net.invariant
-
-pub first_level-requires : goal.first_level-requires
-first_level-requires c =
-    let waves = c.args.waves.now in
-    let n = c.loop-net.net in
-    let within_list : n < length waves = omega arith in
-    ap (λ (w : Wave). w.base) (wave_here waves n c.index-waves-net.result within_list c.index-waves-net.is) ∙ c.requires.whole n within_list

@@ -6,6 +6,7 @@ use Rattle.cmb_vcd.specs.ValueChanges.{all_value_changes, value_changes_of, valu
 use Rattle.cmb_vcd.proofs.ValueChangeFacts.{all_value_changes-next, wave_here}
 use Rattle.cmb_design.proofs.LevelFacts.{push-rest}
 use Rattle.cmb_vcd.proofs.LineFacts.{rest_none}
+use Rattle.cmb_vcd.proofs.TraceFacts.{trace_start}
 use Rattle.cmb_vcd.proofs.value_changes.net_changes_within.Goals as goal
 
 pub loop-net-init : goal.loop-net-init
@@ -21,8 +22,7 @@ loop-net-preserved c =
     let old = value_changes_in c.loop-net.parts.items in
     let within_list : n < length waves = omega arith in
     let here : c.index-waves-net.result ≡ wave_of waves n = wave_here waves n c.index-waves-net.result within_list c.index-waves-net.is in
-    let start : c.index-waves-net.result.base ≡ 0 = ap (λ (w : Wave). w.base) here ∙ c.requires.whole n within_list in
-    let trace : IsTrace (wave_of waves n).kept 0 (wave_of waves n).changes (wave_of waves n).clock = rw (← here) (rw start at c.changes_within.ensures.trace) in
+    let trace : IsTrace (wave_of waves n).kept 0 (wave_of waves n).changes (wave_of waves n).clock = rw (← here) (trace_start _ _ _ _ c.changes_within.ensures.trace) in
     record {
       events = push-rest old (value_changes_in c.add_net_changes.new.parts.items) (value_changes_of n (within from to (wave_of waves n).changes)) (all_value_changes from to (n + 1) (drop (n + 1) waves)) _
           (c.in_ok-add_net_changes.ensures ∙ ap (λ cs. old ++ value_changes_of n cs) (c.changes_within.ensures.changes ∙ ap (λ (w : Wave). within from to w.changes) here))

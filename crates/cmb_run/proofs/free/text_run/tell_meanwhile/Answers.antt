@@ -5,4 +5,4 @@ use Rattle.cmb_run.proofs.free.text_run.tell_meanwhile.Goals as goal
 pub returns-in_err-found-clause-fault : goal.returns-in_err-found-clause-fault
 returns-in_err-found-clause-fault g c =
     let p = err_from_is_err_and c.from_residual.result c.from_residual.ensures.1 in
-    rw (p.1, p.2) (HasBegun-told g.T.Terms.design _ _ _ c.loop.invariant.3 c.loop.invariant.4, c.loop.invariant.5)
+    rw (p.1, p.2) (HasBegun-told g.T.Terms.design _ _ _ c.loop.invariant.3 c.loop.invariant.5, c.loop.invariant.6)

@@ -9,5 +9,6 @@ invariant-loop g l =
     (goal.iterator-loop g).can_next l.iterator' × (goal.iterator-loop g).is_finite l.iterator'
     × (l.fresh < 64)
     × IsWithin g.T.Terms.design l.teller
+    × (l.teller ≡ l.backlog.written)
     × Appends (g.S.Sink.taken l.fn.sink) (g.S.Sink.taken l.sink) (told g.T.Terms.design l.teller)
     × (g.S.Sink.failures l.sink ≡ g.S.Sink.failures l.fn.sink)

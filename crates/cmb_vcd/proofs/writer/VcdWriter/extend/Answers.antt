@@ -1,10 +1,10 @@
-use Rattle.std.proofs.Common.{◌≡◌, ◌≤◌, ◌∙◌, ◌++◌, Some, sym, ap, arith}
+use Rattle.std.proofs.Common.{◌≡◌, ◌≤◌, ◌∙◌, ◌++◌, Some, ap, arith}
 use Rattle.std.specs.Prelude.{unwrap_or}
 use Rattle.cmb_design.specs.Design.{Design}
 use Rattle.cmb_vcd.specs.Collector.{collected_level, least}
 use Rattle.cmb_vcd.specs.Writer.{Writer, done_text}
 use Rattle.cmb_vcd.proofs.CollectorFacts.{least_clock_bound}
-use Rattle.cmb_vcd.proofs.PartFacts.{exact_done, exact_part, written_part}
+use Rattle.cmb_vcd.proofs.PartFacts.{exact_more, written_part}
 use Rattle.cmb_vcd.proofs.writer.VcdWriter.extend.Goals as goal
 
 text_is : (c : goal.After-self-1) → done_text c.args.self.now.design (collected_level c.args.collector.now.waves) (Some (least c.args.collector.now)) ≡ done_text c.args.self.now.design (collected_level c.args.collector.now.waves) c.args.self.now.done ++ c.push_part.new.out.items
@@ -24,6 +24,5 @@ returns-clause-text c = text_is c
 pub returns-clause-exact : goal.returns-clause-exact
 returns-clause-exact c exact =
     let collector = c.args.collector.now in
-    let whole : least collector ≤ least collector = omega arith in
-    sym (exact_part c.args.self.now.design collector (least collector) exact whole) ∙ text_is c
-    ∙ ap (λ t. t ++ c.push_part.new.out.items) (exact_done c.args.self.now.design collector c.args.self.now.done exact c.requires.later)
+    let below : least collector ≤ c.args.self.now.design.horizon = omega (arith, least_clock_bound collector.horizon collector.waves, c.requires.opened.horizon) in
+    exact_more c.args.self.now.design collector c.args.self.now.done c.push_part.new.out.items exact c.requires.later below (text_is c)

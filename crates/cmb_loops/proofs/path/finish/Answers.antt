@@ -1,0 +1,51 @@
+use Rattle.std.proofs.Common.{◌≡◌, ◌<◌, ◌-◌, ◌∙◌, sym, ap, subst, arith, vec_len, List, ℕ, length, drop, take}
+use Rattle.std.specs.Prelude.{All}
+use Rattle.std.specs.Vec.{with_items}
+use Rattle.std.proofs.lemmas.List.{with_items_is}
+use Rattle.std.proofs.lemmas.List.Elements.{All-drop, All-weaker}
+use Rattle.cmb_loops.specs.Loops.{targets}
+use Rattle.cmb_loops.specs.Search.{IsClosedPart, IsLooped}
+use Rattle.cmb_loops.proofs.PathFacts.{finished, part_is, path_inside, still_closed}
+use Rattle.cmb_loops.proofs.path.finish.Goals.{After-truncate}
+use Rattle.cmb_loops.proofs.path.finish.Goals as goal
+
+pub mark_loops-requires-clause-inside : goal.mark_loops-requires-clause-inside
+mark_loops-requires-clause-inside c =
+    let Inside : ℕ → Type 0 = λ net. net < length c.args.netlist.now.names in
+    let P : List ℕ → Type 0 = λ nets. All Inside nets in
+    subst P (sym (part_is c.as_slice.result.now c.args.search.now.path.items c.args.place c.as_slice.ensures.value))
+    (All-drop Inside c.args.place c.args.search.now.path.items (path_inside c.args.netlist.now c.args.steps c.args.search.now _ c.requires.scanned.2))
+
+pub close-requires : goal.close-requires
+close-requires c =
+    let Inside : ℕ → Type 0 = λ net. net < length c.args.netlist.now.names in
+    let Seen-inside : ℕ → Type 0 = λ net. net < length c.as_mut_slice-2.result.now in
+    let P : List ℕ → Type 0 = λ nets. All Seen-inside nets in
+    let long = ap length c.as_mut_slice-2.ensures.value ∙ c.requires.scanned.2.sized in
+    subst P (sym (part_is c.as_slice.result.now c.args.search.now.path.items c.args.place c.as_slice.ensures.value))
+    (All-weaker Inside Seen-inside (λ net l. omega (arith, long, l)) (drop c.args.place c.args.search.now.path.items)
+    (All-drop Inside c.args.place c.args.search.now.path.items (path_inside c.args.netlist.now c.args.steps c.args.search.now _ c.requires.scanned.2)))
+
+part : (c : After-truncate) → take (length c.as_slice.result.now - c.args.place) (drop c.args.place c.as_slice.result.now) ≡ drop c.args.place c.args.search.now.path.items
+part c = part_is c.as_slice.result.now c.args.search.now.path.items c.args.place c.as_slice.ensures.value
+
+shut : (c : After-truncate) → IsClosedPart c.args.search.now.seen.items (drop c.args.place c.args.search.now.path.items) (with_items c.args.search.now.seen c.close.new.seen).items
+shut c =
+    let long = c.close.ensures.closed.long ∙ c.as_mut_slice-2.ensures.len in
+    rw (with_items_is c.args.search.now.seen c.close.new.seen long) (rw (part c, c.as_mut_slice-2.ensures.value) at c.close.ensures.closed)
+
+looped : (c : After-truncate) → IsLooped (targets c.args.netlist.now c.args.steps) c.args.search.now.marks.items (drop c.args.place c.args.search.now.path.items)
+    (with_items c.args.search.now.marks c.mark_loops.new.marks).items
+looped c =
+    let long = c.mark_loops.ensures.long ∙ c.as_mut_slice.ensures.len in
+    rw (with_items_is c.args.search.now.marks c.mark_loops.new.marks long) (rw (part c, c.as_mut_slice.ensures.value) at c.mark_loops.ensures)
+
+pub returns-clause-under : goal.returns-clause-under
+returns-clause-under c =
+    let long : vec_len c.args.search.now.starts ≡ length c.args.search.now.starts.items = let ok = c.args.search.now.starts.ok.0 in omega (arith, ok) in
+    finished c.args.netlist.now c.args.steps c.args.search.now _ c.args.search.now.frames.items c.args.place c.requires.scanned c.requires.some c.requires.last
+    (c.pop.ensures.rest ∙ ap (λ n. take (n - 1) c.args.search.now.starts.items) long) c.truncate.ensures.items
+    (looped c) (shut c)
+
+pub returns-clause-still : goal.returns-clause-still
+returns-clause-still c = still_closed c.args.search.now.seen.items _ (drop c.args.place c.args.search.now.path.items) (shut c)

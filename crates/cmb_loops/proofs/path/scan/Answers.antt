@@ -1,0 +1,44 @@
+use Rattle.std.proofs.Common.{◌≡◌, ◌∙◌, ap}
+use Rattle.cmb_loops.specs.declared.search.Search.{Search}
+use Rattle.cmb_loops.proofs.PathFacts.{net_read, scan_done, scan_on, targets_read}
+use Rattle.cmb_loops.proofs.path.scan.Goals.{in-On, in-Done}
+use Rattle.cmb_loops.proofs.path.scan.Goals as goal
+
+pub targets_from-targets-requires : goal.targets_from-targets-requires
+targets_from-targets-requires c = net_read c.args.netlist.now c.args.steps c.args.search.now c.args.search.now.frames.items c.args.frame c.index.result.now c.requires c.index.ensures
+
+pub loop-next-preserved : goal.loop-next-preserved
+loop-next-preserved c =
+    let at = targets_read c.args.netlist.now c.args.steps c.args.search.now c.loop-next.search c.args.search.now.frames.items c.args.frame c.index.result.now c.targets_from-targets.result.now c.requires
+    c.index.ensures c.loop-next.invariant.path c.targets_from-targets.ensures in
+    elim c.match-index.branch [
+      | in-On w ↦
+          let seen : c.match-index.search.seen.items ≡ c.loop-next.search.seen.items = ap (λ (s : Search). s.seen.items) w.search-is in
+          let marks : c.match-index.search.marks.items ≡ c.loop-next.search.marks.items = ap (λ (s : Search). s.marks.items) w.search-is in
+          let path : c.match-index.search.path.items ≡ c.loop-next.search.path.items = ap (λ (s : Search). s.path.items) w.search-is in
+          let frames : c.match-index.search.frames.items ≡ c.loop-next.search.frames.items = ap (λ (s : Search). s.frames.items) w.search-is in
+          let starts : c.match-index.search.starts.items ≡ w.merge.new.starts.items = ap (λ (s : Search). s.starts.items) w.search-is in
+          record {
+            under = scan_on c.args.netlist.now c.args.steps c.loop-next.search c.match-index.search c.args.search.now.frames.items c.args.frame.place c.loop-next.next c.targets_from-targets.result.now
+                c.index-in-loop-next.result.now w.in-On.place c.loop-next.invariant.under at c.loop-next-test.true c.index-in-loop-next.ensures w.in-On.is seen marks path
+                (rw starts w.merge.ensures.split) (rw starts w.merge.ensures.low);
+            seen = seen ∙ c.loop-next.invariant.seen;
+            path = path ∙ c.loop-next.invariant.path;
+            frames = frames ∙ c.loop-next.invariant.frames;
+          }
+      | in-Done w ↦
+          let same : c.match-index.search ≡ c.loop-next.search = w.search-is in
+          record {
+            under = scan_done c.args.netlist.now c.args.steps c.loop-next.search c.match-index.search c.args.search.now.frames.items c.args.frame.place c.loop-next.next c.targets_from-targets.result.now
+                c.index-in-loop-next.result.now c.loop-next.invariant.under at c.loop-next-test.true c.index-in-loop-next.ensures w.in-Done.is same;
+            seen = ap (λ (s : Search). s.seen.items) same ∙ c.loop-next.invariant.seen;
+            path = ap (λ (s : Search). s.path.items) same ∙ c.loop-next.invariant.path;
+            frames = ap (λ (s : Search). s.frames.items) same ∙ c.loop-next.invariant.frames;
+          }
+    ]
+
+pub returns-clause-scanned : goal.returns-clause-scanned
+returns-clause-scanned c =
+    let at = targets_read c.args.netlist.now c.args.steps c.args.search.now c.loop-next.search c.args.search.now.frames.items c.args.frame c.index.result.now c.targets_from-targets.result.now c.requires
+    c.index.ensures c.loop-next.invariant.path c.targets_from-targets.ensures in
+    (c.loop-next.next, rw at at c.loop-next-test.false, c.loop-next.invariant.under)

@@ -1,0 +1,34 @@
+-- Feedback loops of a netlist, as a directed graph: a step leads from a net to each net that its driver reads.
+use Rattle.std.specs.Prelude.{◌≡◌, ℕ, ◌<◌, Bool, true, false, List, [], length, slice_index_or, Contains}
+use Rattle.cmb_bench.specs.Netlist.{Netlist, driver_of, pins_of}
+use Rattle.cmb_bench.specs.declared.netlist.Driver.{Driver}
+use Rattle.cmb_bench.specs.declared.netlist.Driver.TheVariants.{Input, Gate, Flop}
+use Rattle.cmb_loops.specs.declared.steps.Steps.{Steps}
+use Rattle.cmb_loops.specs.declared.steps.Steps.TheVariants.{All, Gates}
+
+-- where steps lead from a net with this driver: to a gate's operands; to a flip-flop's data too, unless only gates count
+abbrev pub targets_of : Steps → Driver → List ℕ
+targets_of All driver = pins_of driver
+targets_of Gates Input = []
+targets_of Gates (Gate kind operands) = operands
+targets_of Gates (Flop source) = []
+
+-- where steps lead from a net
+abbrev pub targets : Netlist → Steps → ℕ → List ℕ
+targets netlist steps net = targets_of steps (driver_of netlist net)
+
+-- a walk from one net to another: of one step, or of a step and then a walk
+pub data Walk (next : ℕ → List ℕ) : ℕ → ℕ → Type 0 where
+  one : {a b : ℕ} → Contains (next a) b → Walk next a b
+  more : {a b c : ℕ} → Contains (next a) b → Walk next b c → Walk next a c
+
+-- the net is in a loop: a walk leads from it back to it. In the words of R. E. Tarjan (Depth-first search and linear graph algorithms,
+-- SIAM Journal on Computing 1(2), 1972): its strongly connected component has an edge inside
+abbrev pub IsInLoop : Netlist → Steps → ℕ → Type 0
+IsInLoop netlist steps net = Walk (targets netlist steps) net net
+
+-- a mark for each net, set where it is in a loop, and nowhere else
+pub record AreLoops (netlist : Netlist) (steps : Steps) (marks : List Bool) : Type 0 where
+  pub long : length marks ≡ length netlist.names
+  pub loops : (net : ℕ) → net < length netlist.names → slice_index_or marks net false ≡ true → IsInLoop netlist steps net
+  pub all : (net : ℕ) → net < length netlist.names → IsInLoop netlist steps net → slice_index_or marks net false ≡ true

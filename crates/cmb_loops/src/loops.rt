@@ -1,0 +1,50 @@
+//! Which nets are in loops.
+
+ghost use Rattle.std.specs.Prelude.{IfOk};
+ghost use Rattle.cmb_loops.specs.Loops.{AreLoops};
+ghost use Rattle.cmb_loops.specs.Search.{IsBegun};
+
+use crate::path::search_all;
+use crate::search::{Search, Seen};
+use crate::steps::Steps;
+use cmb_bench::Netlist;
+use std::alloc::{AllocError, Global};
+
+/// A search of so many nets, of which none was found.
+fn begin(alloc: Global, count: usize) -> Result<Search, AllocError>
+    ensures { IfOk result (IsBegun count) }
+{
+    Ok(Search {
+        seen: vec![in alloc; Seen::New; count]?,
+        marks: vec![in alloc; false; count]?,
+        path: Vec::new(alloc),
+        starts: Vec::new(alloc),
+        frames: Vec::new(alloc),
+    })
+}
+
+/// For each net whether it is in a feedback loop: whether steps lead from it back to it. A flip-flop's data is read by
+/// a step too, so a ring through a flip-flop is a loop; `Steps::Gates` leaves these steps out, and finds the loops of
+/// gates alone, which are called combinational. A net that a loop only reads, or that only reads a loop, isn't in it.
+///
+/// The nets are parted into their strongly connected components by one search along a path (H. N. Gabow, *Path-based
+/// depth-first search for strong and biconnected components*, Information Processing Letters 74, 2000), without
+/// recursion. Work and room are linear in the nets and pins.
+pub fn nets_in_loops(
+    alloc: Global,
+    netlist: &Netlist,
+    steps: Steps,
+) -> Result<Vec<bool>, AllocError>
+    ensures { IfOk result (λ marks. AreLoops netlist.now steps marks.items) }
+{
+    let mut search = begin(alloc, netlist.len())?;
+    search_all(&mut search, netlist, steps)?;
+    let Search {
+        seen: _,
+        marks,
+        path: _,
+        starts: _,
+        frames: _,
+    } = search;
+    Ok(marks)
+}
