@@ -1,6 +1,6 @@
 //! A source that keeps what it gave.
 
-ghost use Rattle.std.specs.Prelude.{◌≡◌, ◌+◌, ◌-◌, ◌^◌, ◌<◌, ◌≤◌, length, IfOk, MatchResult};
+ghost use Rattle.std.specs.Prelude.{◌≡◌, ◌+◌, ◌-◌, ◌^◌, ◌<◌, ◌≤◌, [], if◌then◌else◌, length, IfOk, MatchResult};
 ghost use Rattle.std.specs.Io.KnownBytes.{ReadConsumes};
 
 use cmb_sim::{Failed, Source};
@@ -20,7 +20,9 @@ pub struct Kept<S> {
 impl<S> Kept<S> {
     /// A source that gives what another gives, and keeps a copy where `keeps` stands.
     pub fn new(alloc: Global, source: S, keeps: bool) -> Kept<S>
-        ensures { result.source ≡ source }
+        ensures source { result.source ≡ source }
+        ensures keeps { result.keeps ≡ keeps }
+        ensures bytes { result.bytes.items ≡ [] }
     {
         Kept {
             source,
@@ -30,7 +32,9 @@ impl<S> Kept<S> {
     }
 
     /// What was given, where all of it was kept.
-    pub fn given(&self) -> &[u8] {
+    pub fn given(&self) -> &[u8]
+        ensures { result.now ≡ (if self.now.keeps then self.now.bytes.items else []) }
+    {
         if self.keeps {
             self.bytes.as_slice()
         } else {

@@ -1,5 +1,9 @@
 //! What a run took, in numbers.
 
+ghost use Rattle.std.specs.Prelude.{◌≡◌, ◌++◌, IfOk, OnOk, string_bytes};
+ghost use Rattle.std.specs.Duration.{as_nanos};
+ghost use Rattle.cmb_tell.specs.Stats.{number_rows, peak_row, row, seconds_row, stats_rows, time_rows};
+
 use crate::tally::Tally;
 use std::alloc::{AllocError, Global};
 use std::time::Duration;
@@ -23,43 +27,68 @@ pub struct Stats {
 }
 
 // A row of seconds, to three digits.
-fn push_seconds(text: &mut String, time: Duration, what: &str) -> Result<(), AllocError> {
+fn push_seconds(text: &mut String, time: Duration, what: &str) -> Result<(), AllocError>
+    ensures { OnOk result (string_bytes text.new
+        ≡ string_bytes text.old ++ seconds_row (as_nanos time) what.now) }
+{
     let seconds = time.as_secs();
     let thousandths = time.subsec_millis();
     write!(text, "{seconds:>12}.{thousandths:03}  {what}\n")
 }
 
-fn push_row(text: &mut String, number: u64, what: &str) -> Result<(), AllocError> {
+fn push_row(text: &mut String, number: u64, what: &str) -> Result<(), AllocError>
+    ensures { OnOk result (string_bytes text.new ≡ string_bytes text.old ++ row number what.now) }
+{
     write!(text, "{number:>16}  {what}\n")
 }
 
-/// What a run took, each number on a line of its own.
-pub fn stats_text(alloc: Global, stats: &Stats) -> Result<String, AllocError> {
-    let mut text = String::new(alloc);
-    push_row(&mut text, u64::from(stats.nets), "nets")?;
-    push_row(&mut text, u64::from(stats.ticks), "ticks")?;
+// What there was, and what was written of it.
+fn push_numbers(text: &mut String, stats: &Stats) -> Result<(), AllocError>
+    ensures { OnOk result (string_bytes text.new ≡ string_bytes text.old ++ number_rows stats.now) }
+{
+    push_row(text, stats.nets as u64, "nets")?;
+    push_row(text, stats.ticks as u64, "ticks")?;
     push_row(
-        &mut text,
+        text,
         stats.tally.changes,
         "changes, with the levels at tick 0",
     )?;
-    push_row(&mut text, stats.tally.bytes, "bytes written")?;
+    push_row(text, stats.tally.bytes, "bytes written")
+}
+
+// How long it took.
+fn push_times(text: &mut String, stats: &Stats) -> Result<(), AllocError>
+    ensures { OnOk result (string_bytes text.new ≡ string_bytes text.old ++ time_rows stats.now) }
+{
     let others = stats.reading.saturating_add(stats.writing);
     let simulating = stats.whole.saturating_sub(others);
+    push_seconds(text, stats.reading, "seconds until the inputs were read")?;
     push_seconds(
-        &mut text,
-        stats.reading,
-        "seconds until the inputs were read",
-    )?;
-    push_seconds(
-        &mut text,
+        text,
         simulating,
         "seconds of making the design and simulating",
     )?;
-    push_seconds(&mut text, stats.writing, "seconds of writing")?;
-    if let Some(peak) = stats.peak {
-        push_row(&mut text, peak, "KB of memory at most")?;
+    push_seconds(text, stats.writing, "seconds of writing")
+}
+
+// How much memory it took, where the system tells.
+fn push_peak(text: &mut String, peak: Option<u64>) -> Result<(), AllocError>
+    ensures { OnOk result (string_bytes text.new ≡ string_bytes text.old ++ peak_row peak) }
+{
+    match peak {
+        Some(peak) => push_row(text, peak, "KB of memory at most"),
+        None => Ok(()),
     }
+}
+
+/// What a run took, each number on a line of its own.
+pub fn stats_text(alloc: Global, stats: &Stats) -> Result<String, AllocError>
+    ensures { IfOk result (λ text. string_bytes text ≡ stats_rows stats.now) }
+{
+    let mut text = String::new(alloc);
+    push_numbers(&mut text, stats)?;
+    push_times(&mut text, stats)?;
+    push_peak(&mut text, stats.peak)?;
     Ok(text)
 }
 

@@ -1,5 +1,7 @@
 //! What a text of waveforms says as it goes by: how far it is, and how many changes it has.
 
+ghost use Rattle.std.specs.Prelude.{◌≡◌};
+
 // Where in a line the next byte stands.
 #[derive(Clone, Copy, Debug, PartialEq, Eq)]
 enum At {
@@ -21,7 +23,11 @@ pub struct Tally {
 
 impl Tally {
     /// Nothing went by.
-    pub fn new() -> Tally {
+    pub fn new() -> Tally
+        ensures bytes { result.bytes ≡ 0 }
+        ensures changes { result.changes ≡ 0 }
+        ensures tick { result.tick ≡ 0 }
+    {
         Tally {
             bytes: 0,
             changes: 0,
@@ -58,7 +64,7 @@ impl Tally {
         if byte == b'\n' { At::Start } else { At::Rest }
     }
 
-    /// Some more of the text went by.
+    /// Some more of the text went by. What it counts is tested, not proved.
     pub fn add(&mut self, text: &[u8]) {
         for byte in text {
             self.at = match self.at {

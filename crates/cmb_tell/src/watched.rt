@@ -1,5 +1,7 @@
 //! A sink that watches what goes through it.
 
+ghost use Rattle.std.specs.Prelude.{◌≡◌, None};
+
 use crate::tally::Tally;
 use cmb_sim::{Failed, Line, Sink};
 use std::alloc::{AllocError, Global};
@@ -34,7 +36,14 @@ pub struct Watch<K, E> {
 
 impl<K: Clock, E: Write> Watch<K, E> {
     /// Nothing went by yet.
-    pub fn new(alloc: Global, clock: K, screen: E, line: &Line) -> Watch<K, E> {
+    pub fn new(alloc: Global, clock: K, screen: E, line: &Line) -> Watch<K, E>
+        ensures counts { result.counts ≡ line.now.stats }
+        ensures shows { result.shows ≡ line.now.progress }
+        ensures horizon { result.horizon ≡ line.now.settings.horizon }
+        ensures bytes { result.tally.bytes ≡ 0 }
+        ensures screen { result.screen ≡ screen }
+        ensures shown { result.shown ≡ None }
+    {
         Watch {
             clock,
             screen,
@@ -92,7 +101,10 @@ impl<K: Clock, E: Write> Watch<K, E> {
     }
 
     /// Takes the line of progress away, if there is one.
-    pub fn wipe(&mut self) {
+    pub fn wipe(&mut self)
+        ensures shown { self.new.shown ≡ None }
+        ensures tally { self.new.tally ≡ self.old.tally }
+    {
         if self.shown.is_some() {
             let _ = self.screen.write(WIPE);
             self.shown = None;

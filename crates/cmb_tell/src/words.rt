@@ -1,5 +1,8 @@
 //! A fault in words.
 
+ghost use Rattle.std.specs.Prelude.{◌≡◌, ◌==◌, [], if◌then◌else◌};
+ghost use Rattle.cmb_tell.specs.Words.{nets_of, no_nets};
+
 use crate::clocks::unclocked;
 use crate::netlist::{line_at, undriven};
 use crate::record::{push_wrong, record_at};
@@ -158,7 +161,9 @@ cmbsim: the netlist has no nets, so its waveforms have none, and some viewers re
 ";
 
 /// What there is to say of what was done; empty where there is nothing.
-pub fn done_words(done: &Done) -> &'static str {
+pub fn done_words(done: &Done) -> &'static str
+    ensures { result.now ≡ (if nets_of done.now == 0 then no_nets else []) }
+{
     let nets = match done {
         Done::Ran(report) => report.nets as usize,
         Done::Checked(counts) => counts.nets,

@@ -1,0 +1,12 @@
+-- What is said of a run or a check that was done.
+use Rattle.std.specs.Prelude.{ℕ, List, codes}
+use Rattle.cmb_sim.specs.declared.carrying.Done.{Done}
+use Rattle.cmb_sim.specs.declared.carrying.Done.TheVariants.{Ran, Checked}
+
+abbrev pub nets_of : Done → ℕ
+nets_of (Ran report) = report.nets
+nets_of (Checked counts) = counts.nets
+
+-- of a netlist without nets
+abbrev pub no_nets : List ℕ
+no_nets = codes "cmbsim: the netlist has no nets, so its waveforms have none, and some viewers refuse to open them\n"
