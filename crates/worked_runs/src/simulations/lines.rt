@@ -1,7 +1,7 @@
 //! The command line, and the line of a fault.
 
 use crate::simulations::{bench_case, run};
-use cmb_sim::{Level, LineFault, Mode, Task, fault_line, line_message, read_line};
+use cmb_sim::{Choice, Level, LineFault, Mode, Pick, Task, fault_line, line_message, read_line};
 use std::alloc::{AllocError, Global};
 use std::test::Fail;
 
@@ -13,72 +13,105 @@ fn words(alloc: Global, line: &str) -> Result<Vec<String>, AllocError> {
     Ok(all)
 }
 
-#[test]
-fn command_line(rt: HostRuntime) -> Result<(), Fail> {
+// A line that isn't read, and why.
+fn refused(rt: &HostRuntime, line: &str, want: LineFault) -> Result<(), Fail> {
     let alloc = rt.alloc();
-    for (line, want) in [
-        ("", LineFault::Wrong),
-        ("run", LineFault::Wrong),
-        ("run --mode plain", LineFault::Wrong),
-        ("run --horizon 0 --mode plain", LineFault::Wrong),
-        ("run --horizon 1000001 --mode plain", LineFault::Wrong),
-        ("run --horizon 10 --mode slow", LineFault::Wrong),
-        ("run --horizon 10 --workers 0", LineFault::Wrong),
-        ("run --horizon 10 --workers 65", LineFault::Wrong),
-        ("run --horizon 10 --clusters 0", LineFault::Wrong),
-        ("run --horizon 10 --clusters 65", LineFault::Wrong),
-        ("run --horizon 10 --threads 0", LineFault::Wrong),
-        ("run --horizon 10 --threads 65", LineFault::Wrong),
-        ("run --horizon 10 --threads 2 --workers 2", LineFault::Wrong),
-        (
-            "run --horizon 10 --clusters 1 --threads 2",
-            LineFault::Wrong,
-        ),
-        ("run --horizon 10 --mode plain --init y", LineFault::Wrong),
-        (
-            "run --horizon 10 --mode plain --clock 2-4",
-            LineFault::Clock,
-        ),
-        (
-            "run --horizon 10 --mode plain --clock 2:12345678",
-            LineFault::Clock,
-        ),
-        ("run --horizon 0 --mode plain --clock 2-4", LineFault::Wrong),
-        (
-            "run --horizon 10 --horizon 11 --mode plain",
-            LineFault::Wrong,
-        ),
-        ("run --horizon 10 --mode plain more", LineFault::Wrong),
-        ("walk", LineFault::Wrong),
-        ("--help", LineFault::Help),
-        ("help", LineFault::Help),
-        ("help run", LineFault::Help),
-        ("run --help", LineFault::Help),
-        ("--version", LineFault::Help),
-        ("-V", LineFault::Help),
-        ("run --version", LineFault::Wrong),
-        ("run --horizon 10 netlist.bench", LineFault::Wrong),
-        ("netlist.bench", LineFault::Wrong),
-        ("check", LineFault::Wrong),
-        ("check --horizon 10 --mode plain", LineFault::Wrong),
-        ("check --horizon 10 --clock 2-4", LineFault::Clock),
-        ("run --horizon 10 --explain yes", LineFault::Wrong),
-        ("run --horizon 10 --stats yes", LineFault::Wrong),
-        ("run --horizon 10 --progress --progress", LineFault::Wrong),
-        ("check --horizon 10 --stats", LineFault::Wrong),
-        ("check --horizon 10 --progress", LineFault::Wrong),
-        ("explain", LineFault::Help),
-        ("explain 23", LineFault::Help),
-        ("explain --help", LineFault::Help),
-        ("explain 9", LineFault::Wrong),
-        ("explain all", LineFault::Wrong),
-        ("explain 1 2", LineFault::Wrong),
+    let words = words(alloc, line)?;
+    match read_line(alloc, words.as_slice()) {
+        Ok(_) => assert!(rt; false, "{line} is read"),
+        Err(fault) => assert_eq!(rt; fault, want, "{line}"),
+    }
+    Ok(())
+}
+
+#[test]
+fn wrong_settings_and_modes(rt: HostRuntime) -> Result<(), Fail> {
+    for line in [
+        "run",
+        "run --mode plain",
+        "run --horizon 0 --mode plain",
+        "run --horizon 1000001 --mode plain",
+        "run --horizon 10 --mode slow",
+        "run --horizon 10 --workers 0",
+        "run --horizon 10 --workers 65",
+        "run --horizon 10 --clusters 0",
+        "run --horizon 10 --clusters 65",
+        "run --horizon 10 --threads 0",
+        "run --horizon 10 --threads 65",
+        "run --horizon 10 --threads 2 --workers 2",
+        "run --horizon 10 --clusters 1 --threads 2",
+        "run --horizon 10 --mode plain --init y",
+        "run --horizon 0 --mode plain --clock 2-4",
     ] {
-        let words = words(alloc, line)?;
-        match read_line(alloc, words.as_slice()) {
-            Ok(_) => assert!(rt; false, "{line} is read"),
-            Err(fault) => assert_eq!(rt; fault, want, "{line}"),
-        }
+        refused(&rt, line, LineFault::Wrong)?;
+    }
+    Ok(())
+}
+
+#[test]
+fn wrong_words_of_runs(rt: HostRuntime) -> Result<(), Fail> {
+    for line in [
+        "run --horizon 10 --only nets --only-outputs",
+        "run --horizon 10 --only",
+        "run --horizon 10 --horizon 11 --mode plain",
+        "run --horizon 10 --mode plain more",
+        "run --version",
+        "run --horizon 10 netlist.bench",
+        "run --horizon 10 --explain yes",
+        "run --horizon 10 --stats yes",
+        "run --horizon 10 --progress --progress",
+    ] {
+        refused(&rt, line, LineFault::Wrong)?;
+    }
+    Ok(())
+}
+
+#[test]
+fn wrong_tasks(rt: HostRuntime) -> Result<(), Fail> {
+    for line in [
+        "",
+        "check --horizon 10 --only nets",
+        "walk",
+        "netlist.bench",
+        "check",
+        "check --horizon 10 --mode plain",
+        "check --horizon 10 --stats",
+        "check --horizon 10 --progress",
+        "explain 9",
+        "explain all",
+        "explain 1 2",
+    ] {
+        refused(&rt, line, LineFault::Wrong)?;
+    }
+    Ok(())
+}
+
+#[test]
+fn wrong_clocks(rt: HostRuntime) -> Result<(), Fail> {
+    for line in [
+        "run --horizon 10 --mode plain --clock 2-4",
+        "run --horizon 10 --mode plain --clock 2:12345678",
+        "check --horizon 10 --clock 2-4",
+    ] {
+        refused(&rt, line, LineFault::Clock)?;
+    }
+    Ok(())
+}
+
+#[test]
+fn help_and_explanations(rt: HostRuntime) -> Result<(), Fail> {
+    for line in [
+        "--help",
+        "help",
+        "help run",
+        "run --help",
+        "--version",
+        "-V",
+        "explain",
+        "explain 23",
+        "explain --help",
+    ] {
+        refused(&rt, line, LineFault::Help)?;
     }
     Ok(())
 }
@@ -184,6 +217,37 @@ fn modes_of_lines(rt: HostRuntime) -> Result<(), Fail> {
         let words = words(alloc, line)?;
         match read_line(alloc, words.as_slice()) {
             Ok(line) => assert_eq!(rt; line.mode, Mode::Rounds { workers, clusters }),
+            Err(_) => assert!(rt; false, "{line} is refused"),
+        }
+    }
+    Ok(())
+}
+
+#[test]
+fn choices_of_lines(rt: HostRuntime) -> Result<(), Fail> {
+    let alloc = rt.alloc();
+    for (line, choice, only) in [
+        ("run --horizon 10", Choice::All, None),
+        (
+            "run --horizon 10 --only nets",
+            Choice::Only(Pick::Listed),
+            Some("nets"),
+        ),
+        (
+            "run --horizon 10 --only-outputs",
+            Choice::Only(Pick::Outputs),
+            None,
+        ),
+    ] {
+        let words = words(alloc, line)?;
+        match read_line(alloc, words.as_slice()) {
+            Ok(read) => {
+                assert_eq!(rt; read.choice, choice, "{line}");
+                assert!(rt;
+                    read.only.as_ref().map(|name| name.as_str()) == only,
+                    "{line}"
+                );
+            }
             Err(_) => assert!(rt; false, "{line} is refused"),
         }
     }
@@ -314,6 +378,8 @@ fn help_has_each_option(rt: HostRuntime) -> Result<(), Fail> {
         "--threads <N>",
         "--workers <W>",
         "--clusters <K>",
+        "--only <FILE>",
+        "--only-outputs",
     ] {
         assert!(rt; message.as_str().contains(option), "{option}");
     }
