@@ -3,6 +3,7 @@
 use crate::simulations::{bench_case, run};
 use cmb_sim::{Choice, Level, LineFault, Mode, Pick, Task, fault_line, line_message, read_line};
 use std::alloc::{AllocError, Global};
+use std::process::Abort;
 use std::test::Fail;
 
 fn words(alloc: Global, line: &str) -> Result<Vec<String>, AllocError> {
@@ -14,8 +15,7 @@ fn words(alloc: Global, line: &str) -> Result<Vec<String>, AllocError> {
 }
 
 // A line that isn't read, and why.
-fn refused(rt: &HostRuntime, line: &str, want: LineFault) -> Result<(), Fail> {
-    let alloc = rt.alloc();
+fn refused(rt: &impl Abort, alloc: Global, line: &str, want: LineFault) -> Result<(), Fail> {
     let words = words(alloc, line)?;
     match read_line(alloc, words.as_slice()) {
         Ok(_) => assert!(rt; false, "{line} is read"),
@@ -43,7 +43,7 @@ fn wrong_settings_and_modes(rt: HostRuntime) -> Result<(), Fail> {
         "run --horizon 10 --mode plain --init y",
         "run --horizon 0 --mode plain --clock 2-4",
     ] {
-        refused(&rt, line, LineFault::Wrong)?;
+        refused(&rt, rt.alloc(), line, LineFault::Wrong)?;
     }
     Ok(())
 }
@@ -61,7 +61,7 @@ fn wrong_words_of_runs(rt: HostRuntime) -> Result<(), Fail> {
         "run --horizon 10 --stats yes",
         "run --horizon 10 --progress --progress",
     ] {
-        refused(&rt, line, LineFault::Wrong)?;
+        refused(&rt, rt.alloc(), line, LineFault::Wrong)?;
     }
     Ok(())
 }
@@ -81,7 +81,7 @@ fn wrong_tasks(rt: HostRuntime) -> Result<(), Fail> {
         "explain all",
         "explain 1 2",
     ] {
-        refused(&rt, line, LineFault::Wrong)?;
+        refused(&rt, rt.alloc(), line, LineFault::Wrong)?;
     }
     Ok(())
 }
@@ -93,7 +93,7 @@ fn wrong_clocks(rt: HostRuntime) -> Result<(), Fail> {
         "run --horizon 10 --mode plain --clock 2:12345678",
         "check --horizon 10 --clock 2-4",
     ] {
-        refused(&rt, line, LineFault::Clock)?;
+        refused(&rt, rt.alloc(), line, LineFault::Clock)?;
     }
     Ok(())
 }
@@ -111,7 +111,7 @@ fn help_and_explanations(rt: HostRuntime) -> Result<(), Fail> {
         "explain 23",
         "explain --help",
     ] {
-        refused(&rt, line, LineFault::Help)?;
+        refused(&rt, rt.alloc(), line, LineFault::Help)?;
     }
     Ok(())
 }
