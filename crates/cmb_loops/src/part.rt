@@ -35,7 +35,8 @@ pub(crate) fn ends_at(starts: &[usize], place: usize) -> bool
 
 /// Makes one part of those that begin behind a place and the one that has it.
 pub(crate) fn merge(starts: &mut Vec<usize>, place: usize)
-    ensures split { (gone : List ℕ) × (starts.old.items ≡ starts.new.items ++ gone) × All (λ start. place < start) gone }
+    ensures split { (gone : List ℕ) × (starts.old.items ≡ starts.new.items ++ gone)
+        × All (λ start. place < start) gone }
     ensures low { AllPairs (λ one other. one < other) starts.old.items → All (λ start. start ≤ place) starts.new.items }
 {
     while ends_behind(starts.as_slice(), place) {

@@ -1,5 +1,5 @@
-//! Laws: the faults of a simulation and the explanations of faults have the same numbers; a simulation of which all nets
-//! are chosen is one of all nets.
+//! Laws: the faults of a simulation and the explanations of faults have the same numbers; a simulation of which all
+//! nets are chosen is one of all nets.
 
 ghost use Rattle.std.specs.Prelude.{◌≡◌, ℕ, ◌<◌, List, Contains, Result, Ok};
 ghost use Rattle.cmb_design.specs.Design.{Design};

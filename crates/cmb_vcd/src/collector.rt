@@ -2,7 +2,8 @@
 
 ghost use Rattle.std.specs.Prelude.{◌≡◌, ◌≤◌, ◌<◌, ◌↔◌, ℕ, length, map, IsTrue, IfOk, IfErr, OnOk, OnErr, Ok};
 ghost use Rattle.cmb_wave.specs.Wave.{wave_from};
-ghost use Rattle.cmb_vcd.specs.Collector.{AreCollected, AreInPlace, AreKeptFrom, IsComplete, RefusesAs, adopted, collected};
+ghost use Rattle.cmb_vcd.specs.Collector.{AreCollected, AreInPlace, AreKeptFrom, IsComplete, RefusesAs, adopted};
+ghost use Rattle.cmb_vcd.specs.Collector.{collected};
 ghost use Rattle.cmb_vcd.specs.Collector.{forgot, least, least_clock, new_collector, new_waves, wave_of};
 
 use crate::fault::CollectFault;

@@ -30,9 +30,9 @@ pub struct Nets {
     pub read: u32,
 }
 
-/// What a worker leaves: its seat, its ends of the two links, and what it noted. Of the pieces that it put, and of those
-/// that it took, in order, it noted the ticks up to which they go: the first begins at tick 0, each other where the one
-/// before it ends.
+/// What a worker leaves: its seat, its ends of the two links, and what it noted. Of the pieces that it put, and of
+/// those that it took, in order, it noted the ticks up to which they go: the first begins at tick 0, each other where
+/// the one before it ends.
 #[derive(Drop)]
 pub struct Left {
     pub seat: Seat,
