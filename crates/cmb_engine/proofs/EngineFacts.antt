@@ -1,6 +1,8 @@
 -- What an engine's state tells of its design, and how it goes on.
-use Rattle.std.proofs.Common.{◌≡◌, ℕ, ◌+◌, ◌-◌, ◌<◌, ◌≤◌, min, false, List, length, get_or, sym, ap, subst, ◌∙◌, arith}
+use Rattle.std.proofs.Common.{◌≡◌, ℕ, ◌+◌, ◌-◌, ◌*◌, ◌/◌, ◌<◌, ◌≤◌, min, false, List, length, get_or, sym, ap, subst, ◌∙◌, arith}
 use Rattle.std.specs.Prelude.{All, Contains}
+use Rattle.std.proofs.Math.Nat.{div-lt_iff_lt-mul}
+use Rattle.std.proofs.lemmas.Nat.{le-div}
 use Rattle.cmb_calendar.specs.Calendars.{Calendar, AreInOrder, Takes, day_end}
 use Rattle.cmb_calendar.specs.declared.tell.Tell.{Tell}
 use Rattle.cmb_wave.specs.declared.level.Level.{Level}
@@ -14,6 +16,7 @@ use Rattle.cmb_words.specs.Word.{level_at_place}
 use Rattle.cmb_engine.specs.Ahead.{TellsAhead}
 use Rattle.cmb_engine.specs.Cells.{cell_at, is_made, IsSteadyFrom}
 use Rattle.cmb_engine.specs.Circuits.{MeetsCells, Shows}
+use Rattle.cmb_engine.specs.Engines.{window_end}
 use Rattle.cmb_engine.specs.Lines.{IsAhead, IsOfLine, NotesEach}
 use Rattle.cmb_engine.specs.States.{IsCircuit, IsState}
 use Rattle.cmb_engine.specs.Tells.{AreOfWindow}
@@ -50,6 +53,23 @@ module _ (design : Design) (circuit : Circuit) (state : State) (is_circuit : IsC
 
     pub short : to ≤ state.clock + circuit.width
     short = omega (arith, ends-soon, (is_state.ahead.today (omega (arith, below))).0, is_state.ahead.same_width)
+
+    -- the window goes on to the end of its day
+    pub at-end : to ≡ window_end circuit.width design.horizon state.clock
+    at-end =
+        let same : state.calendar.width ≡ circuit.width = is_state.ahead.same_width in
+        let today = is_state.ahead.today (omega (arith, below)) in
+        let some : 1 ≤ circuit.width = omega (arith, is_circuit.plan.wide) in
+        let begins : state.calendar.day * circuit.width ≤ state.clock = subst (λ (w : ℕ). state.calendar.day * w ≤ state.clock) same today.0 in
+        let over : state.clock < (state.calendar.day + 1) * circuit.width = subst (λ (w : ℕ). state.clock < (state.calendar.day + 1) * w) same today.1 in
+        let day : state.clock / circuit.width ≡ state.calendar.day =
+        omega (
+          arith,
+          le-div state.calendar.day state.clock circuit.width some begins,
+          (div-lt_iff_lt-mul {k = circuit.width} {x = state.clock} {y = state.calendar.day + 1} some).1 over,
+        ) in
+        ends-soon
+        ∙ ap (λ n. min n design.horizon) (ap (λ w. (state.calendar.day + 1) * w) same ∙ ap (λ d. (d + 1) * circuit.width) (sym day))
 
     pub before-horizon : to ≤ design.horizon
     before-horizon = omega (arith, ends-soon)

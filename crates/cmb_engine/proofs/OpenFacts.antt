@@ -1,5 +1,5 @@
 -- What the calendar of an engine that begins has.
-use Rattle.std.proofs.Common.{◌≡◌, ◌⊎◌, inl, inr, ℕ, ◌+◌, ◌*◌, ◌<◌, List, [], length, ap, ◌∙◌, arith}
+use Rattle.std.proofs.Common.{◌≡◌, ◌⊎◌, inl, inr, ℕ, ◌+◌, ◌*◌, ◌<◌, ◌≤◌, List, [], length, ap, ◌∙◌, arith}
 use Rattle.std.specs.Prelude.{Contains}
 use Rattle.cmb_calendar.specs.Calendars.{Calendar, day_begin, day_end}
 use Rattle.cmb_calendar.specs.declared.tell.Tell.{Tell}
@@ -14,6 +14,23 @@ use Rattle.cmb_engine.specs.Starts.{IsOfInput, IsOfStart}
 use Rattle.cmb_engine.specs.Traces.{IsPlan, trace_of}
 use Rattle.cmb_engine.specs.declared.cell.Pin.{Pin}
 use Rattle.cmb_engine.proofs.StartFacts.{starts-told}
+
+-- windows may be narrower than a plan's
+pub narrower-plan : (design : Design) (lines : List Pin) (most width narrow : ℕ) (cells : List Cell) → 2 ≤ narrow → narrow ≤ width → IsPlan design lines most width cells
+    → IsPlan design lines most narrow cells
+narrower-plan design lines most width narrow cells some less plan = record {
+  count = plan.count;
+  meets = plan.meets;
+  lawful = plan.lawful;
+  later = plan.later;
+  inputs = plan.inputs;
+  drivers = plan.drivers;
+  told = plan.told;
+  sources = λ k d inside. let parts = plan.sources k d inside in (parts.0, omega (arith, parts.1, less), parts.2);
+  some = plan.some;
+  fits = omega (arith, plan.fits, less);
+  wide = some;
+}
 
 -- a calendar of the same days
 pub record HasDays (old new : Calendar) : Type 0 where

@@ -352,7 +352,7 @@ module _ (design : Design) (lines : List Pin) (most : ℕ) (cells : List Cell) (
       told (Gate kind pins) h = absurd h
       told (Flop clock pin) h = absurd h
 
-  pub plan-is : (width : ℕ) → AreLines (nets_of design) lines most → width + most ≤ 63 → 32 ≤ width → All (λ line. width ≤ line.delay) lines
+  pub plan-is : (width : ℕ) → AreLines (nets_of design) lines most → width + most ≤ 63 → 2 ≤ width → All (λ line. width ≤ line.delay) lines
       → IsPlan design lines most width (cells ++ replicate (length lines) Told)
   plan-is width lawful fits wide sooner = record {
     count = slots-count;

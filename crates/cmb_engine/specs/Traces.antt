@@ -36,4 +36,4 @@ pub record IsPlan (design : Design) (lines : List Pin) (most width : ℕ) (cells
   pub sources : All (λ line. (line.net < nets_of design) × (width ≤ line.delay) × (line.delay ≤ 1000000)) lines
   pub some : 1 ≤ most
   pub fits : width + most ≤ 63
-  pub wide : 32 ≤ width
+  pub wide : 2 ≤ width

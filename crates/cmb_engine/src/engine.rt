@@ -3,6 +3,7 @@
 ghost use Rattle.std.specs.Prelude.{◌≡◌, ◌+◌, ◌-◌, ◌<◌, ◌≤◌, IfOk};
 ghost use Rattle.cmb_design.specs.Exact.{nets_of};
 ghost use Rattle.cmb_design.specs.Value.{value};
+ghost use Rattle.cmb_engine.specs.Engines.{next_clock};
 ghost use Rattle.cmb_words.specs.Changes.{RisesWithin, Tells};
 
 use crate::circuit::Circuit;
@@ -34,7 +35,11 @@ impl<'d> Model for Engine<'d> {
 
     ghost use Rattle.cmb_engine.specs.States.{IsCircuit, IsState};
 
-    ghost view = { λ engine. record { design = engine.design.now; clock = engine.state.clock } };
+    ghost view = { λ engine. record {
+      design = engine.design.now;
+      width = engine.circuit.width;
+      clock = engine.state.clock;
+    } };
 
     ghost invariant = { λ engine. IsCircuit engine.design.now engine.circuit
         × IsState engine.design.now engine.circuit engine.state };
@@ -53,6 +58,37 @@ impl<'d> Engine<'d> {
             circuit,
             state,
         })
+    }
+
+    /// The engine begun anew, of which tick 0 is known, with windows of at most so many ticks.
+    pub fn narrowed(self, alloc: Global, width: u32) -> Result<Engine<'d>, AllocError>
+        requires some { 2 ≤ width }
+        requires narrower { width ≤ self.width }
+        ensures design { IfOk result (λ engine. engine.design ≡ self.entry.design) }
+        ensures width { IfOk result (λ engine. engine.width ≡ width) }
+        ensures clock { IfOk result (λ engine. engine.clock ≡ 1) }
+    {
+        let Engine {
+            design,
+            circuit,
+            state: _,
+        } = self;
+        let circuit = circuit.narrowed(design, width);
+        let state = open_state(alloc, design, &circuit)?;
+        Ok(Engine {
+            design,
+            circuit,
+            state,
+        })
+    }
+
+    /// The most ticks of a window. Windows end at the multiples of it, and the last one at the horizon.
+    pub fn width(&self) -> u32
+        ensures value { result ≡ self.now.width }
+        ensures some { 2 ≤ result }
+        ensures most { result < LONGEST_WINDOW }
+    {
+        self.circuit.width
     }
 
     /// The tick below which all nets are known, in ticks.
@@ -78,6 +114,8 @@ impl<'d> Engine<'d> {
     pub fn advance(self, changed: &mut Vec<Changed>) -> Result<Engine<'d>, AllocError>
         requires { self.clock < self.design.horizon }
         ensures design { IfOk result (λ engine. engine.design ≡ self.entry.design) }
+        ensures width { IfOk result (λ engine. engine.width ≡ self.entry.width) }
+        ensures clock { IfOk result (λ engine. engine.clock ≡ next_clock self.entry) }
         ensures later { IfOk result (λ engine. self.entry.clock < engine.clock) }
         ensures short { IfOk result (λ engine. engine.clock ≤ self.entry.clock + LONGEST_WINDOW) }
         ensures within { IfOk result (λ engine. engine.clock ≤ self.entry.design.horizon) }

@@ -4,6 +4,7 @@ ghost use Rattle.std.specs.Prelude.{◌≡◌, ◌+◌, ◌<◌, ◌≤◌, IfOk
 ghost use Rattle.cmb_design.specs.Exact.{nets_of};
 ghost use Rattle.cmb_design.specs.Value.{value};
 ghost use Rattle.cmb_words.specs.Changes.{RisesWithin, Tells};
+ghost use Rattle.cmb_engine.specs.Engines.{window_end};
 ghost use Rattle.cmb_engine.specs.States.{IsCircuit, IsState};
 
 use crate::circuit::Circuit;
@@ -45,6 +46,7 @@ impl State {
         requires state { IsState design.now circuit.now self }
         requires below { self.clock < design.now.horizon }
         ensures state { IfOk result (λ state. IsState design.now circuit.now state) }
+        ensures clock { IfOk result (λ state. state.clock ≡ window_end circuit.now.width design.now.horizon self.clock) }
         ensures later { IfOk result (λ state. (self.clock < state.clock) × (state.clock ≤ self.clock + 63)) }
         ensures nets { IfOk result (λ state. RisesWithin 0 (nets_of design.now) changed.new.items) }
         ensures tells { IfOk result (λ state. Tells (value design.now) (nets_of design.now)

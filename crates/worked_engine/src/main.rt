@@ -1,8 +1,8 @@
 //! The worked example of the engine and of the text that is made as it goes on: an inverter's run.
 //!
 //! The input `a` is 0, and 1 from tick 5 on. The inverter's delay is one tick, so its output `y` is x at tick 0, 1 from
-//! tick 1 on and 0 from tick 6 on. The engine goes from tick 1 to the horizon, tick 10, in one window. Where a window
-//! ends at tick 10, tick 9 stands at place 63 of a word and tick 0 at place 54. The stored text is that of the example
+//! tick 1 on and 0 from tick 6 on. The engine goes from tick 1 to the horizon, tick 10, in one window, and made narrow
+//! in three. Where a window ends at tick 10, tick 9 stands at place 63 of a word and tick 0 at place 54. The stored text is that of the example
 //! `inverter`.
 #![tactic(auto)]
 
@@ -93,6 +93,31 @@ fn goes_on(alloc: Global, design: &Design) -> Result<bool, AllocError>
     Ok(begins && ends && are_told(&changed))
 }
 
+/// Whether the windows of an engine with a width of four ticks end at ticks 4, 8 and 10, and tell what changed in them.
+fn goes_on_narrowly(alloc: Global, design: &Design) -> Result<bool, AllocError>
+    requires nets { nets_of design.now ≡ 2 }
+    requires horizon { design.now.horizon ≡ HORIZON }
+{
+    let engine = Engine::open(alloc, design)?;
+    if engine.width() != 62 {
+        return Ok(false);
+    }
+    let mut changed = Vec::new(alloc);
+    let first = engine.narrowed(alloc, 4)?.advance(&mut changed)?;
+    let begins = shows(&first, 4, Zero, One) && changed.len() == 1;
+    if first.clock() >= HORIZON {
+        return Ok(false);
+    }
+    let second = first.advance(&mut changed)?;
+    let goes = shows(&second, 8, One, Zero) && changed.len() == 2;
+    if second.clock() >= HORIZON {
+        return Ok(false);
+    }
+    let last = second.advance(&mut changed)?;
+    let ends = shows(&last, HORIZON, One, Zero) && changed.is_empty();
+    Ok(begins && goes && ends && last.width() == 4)
+}
+
 /// The text is written whole, and its length is the answer.
 fn is_written(alloc: Global, design: &Design, text: &[u8]) -> Option<()> {
     let mut room = Room::new(alloc, text.len()).ok()?;
@@ -119,7 +144,7 @@ fn is_broken_off(alloc: Global, design: &Design, text: &[u8]) -> Option<()> {
 /// The text, where all that was tried answers as it should.
 fn text_of(alloc: Global) -> Option<Vec<u8>> {
     let design = inverter(alloc)?;
-    if !goes_on(alloc, &design).ok()? {
+    if !goes_on(alloc, &design).ok()? || !goes_on_narrowly(alloc, &design).ok()? {
         return None;
     }
     let text = stream_text(alloc, &design).ok()?;

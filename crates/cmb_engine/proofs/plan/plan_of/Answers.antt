@@ -24,4 +24,4 @@ returns-clause-plan c =
     subst (λ (all : List Cell). IsPlan design lines.list.items lines.most width all) (sym cells)
     (plan-is design lines.list.items lines.most c.in_ok-cells.cells c.in_ok-cells.ensures.cells width
     (subst (λ (n : ℕ). AreLines n lines.list.items lines.most) nets lines.lawful)
-    c.width_of-width.ensures.fits c.width_of-width.ensures.wide sooner)
+    c.width_of-width.ensures.fits (omega (arith, c.width_of-width.ensures.wide)) sooner)

@@ -14,7 +14,7 @@ use Rattle.cmb_engine.specs.Traces.{trace_of}
 use Rattle.cmb_engine.specs.Words.{levels_of}
 use Rattle.cmb_engine.specs.declared.cell.Pin.{Pin}
 use Rattle.cmb_engine.proofs.CollectFacts.{HasWord}
-use Rattle.cmb_engine.proofs.EngineFacts.{before-horizon, later, next-ahead, next-shows, told-slots, window-changes}
+use Rattle.cmb_engine.proofs.EngineFacts.{at-end, before-horizon, later, next-ahead, next-shows, told-slots, window-changes}
 use Rattle.cmb_engine.proofs.state.State.advance.Goals as goal
 
 pub go_on-requires-clause-told : goal.go_on-requires-clause-told
@@ -106,3 +106,8 @@ pub returns-clause-tells : goal.returns-clause-tells
 returns-clause-tells c =
     window-changes c.args.design.now c.args.circuit.now c.args.self c.requires.circuit c.requires.state c.take.new.self c.take.new.taken.items c.next_day-to.result
     c.requires.below c.next_day-to.ensures c.in_ok-take.ensures.takes c.go_on.new.words (shows c) c.collect.new.changed.items (rises c) (right c) (others c)
+
+pub returns-clause-clock : goal.returns-clause-clock
+returns-clause-clock c =
+    at-end c.args.design.now c.args.circuit.now c.args.self c.requires.circuit c.requires.state c.take.new.self c.take.new.taken.items c.next_day-to.result
+    c.requires.below c.next_day-to.ensures c.in_ok-take.ensures.takes
