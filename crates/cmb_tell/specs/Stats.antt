@@ -2,6 +2,7 @@
 use Rattle.std.specs.Prelude.{ℕ, List, ◌++◌, ◌+◌, ◌-◌, ◌/◌, ◌%◌, ◌^◌, min, codes, Option, None, Some, []}
 use Rattle.std.specs.Fmt.{format_spec, styled_decimal}
 use Rattle.std.specs.Duration.{as_nanos, max_nanos}
+use Rattle.core.specs.declared.time.Duration.{Duration}
 use Rattle.cmb_tell.specs.declared.stats.Stats.{Stats}
 
 -- what the number is, behind it, up to the end of the line
@@ -33,10 +34,15 @@ time_rows stats =
     ++ (seconds_row (simulating stats) (codes "seconds of making the design and simulating")
     ++ seconds_row (as_nanos stats.writing) (codes "seconds of writing"))
 
+-- the processor time of all threads, where the system tells
+abbrev pub processor_row : Option Duration → List ℕ
+processor_row None = []
+processor_row (Some time) = seconds_row (as_nanos time) (codes "seconds of processor time, all threads together")
+
 -- the most memory, where the system tells
 abbrev pub peak_row : Option ℕ → List ℕ
 peak_row None = []
 peak_row (Some peak) = row peak (codes "KB of memory at most")
 
 abbrev pub stats_rows : Stats → List ℕ
-stats_rows stats = number_rows stats ++ (time_rows stats ++ peak_row stats.peak)
+stats_rows stats = number_rows stats ++ (time_rows stats ++ (processor_row stats.processor ++ peak_row stats.peak))

@@ -5,6 +5,7 @@
 mod clocks;
 pub mod kept;
 mod netlist;
+pub mod processor;
 mod record;
 pub mod stats;
 mod table;
@@ -14,6 +15,7 @@ pub mod watched;
 pub mod words;
 
 pub use kept::Kept;
+pub use processor::processor_of;
 pub use stats::{Stats, peak_of, stats_text};
 pub use tally::Tally;
 pub use timed::Timed;

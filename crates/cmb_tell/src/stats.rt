@@ -2,7 +2,8 @@
 
 ghost use Rattle.std.specs.Prelude.{◌≡◌, ◌++◌, IfOk, OnOk, string_bytes};
 ghost use Rattle.std.specs.Duration.{as_nanos};
-ghost use Rattle.cmb_tell.specs.Stats.{number_rows, peak_row, row, seconds_row, stats_rows, time_rows};
+ghost use Rattle.cmb_tell.specs.Stats.{number_rows, peak_row, processor_row, row, seconds_row};
+ghost use Rattle.cmb_tell.specs.Stats.{stats_rows, time_rows};
 
 use crate::tally::Tally;
 use std::alloc::{AllocError, Global};
@@ -22,6 +23,8 @@ pub struct Stats {
     pub writing: Duration,
     /// All in all.
     pub whole: Duration,
+    /// The processor time of all threads together, where the system tells.
+    pub processor: Option<Duration>,
     /// The most memory that the system saw in use, in units of 1,024 bytes, where it tells.
     pub peak: Option<u64>,
 }
@@ -71,6 +74,16 @@ fn push_times(text: &mut String, stats: &Stats) -> Result<(), AllocError>
     push_seconds(text, stats.writing, "seconds of writing")
 }
 
+// What all threads had to do, where the system tells.
+fn push_processor(text: &mut String, processor: Option<Duration>) -> Result<(), AllocError>
+    ensures { OnOk result (string_bytes text.new ≡ string_bytes text.old ++ processor_row processor) }
+{
+    match processor {
+        Some(time) => push_seconds(text, time, "seconds of processor time, all threads together"),
+        None => Ok(()),
+    }
+}
+
 // How much memory it took, where the system tells.
 fn push_peak(text: &mut String, peak: Option<u64>) -> Result<(), AllocError>
     ensures { OnOk result (string_bytes text.new ≡ string_bytes text.old ++ peak_row peak) }
@@ -88,6 +101,7 @@ pub fn stats_text(alloc: Global, stats: &Stats) -> Result<String, AllocError>
     let mut text = String::new(alloc);
     push_numbers(&mut text, stats)?;
     push_times(&mut text, stats)?;
+    push_processor(&mut text, stats.processor)?;
     push_peak(&mut text, stats.peak)?;
     Ok(text)
 }

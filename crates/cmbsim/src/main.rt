@@ -9,14 +9,15 @@ use cmb_sim::{
     line_message, read_line, write_whole,
 };
 use cmb_tell::{
-    Given, Kept, Stats, Timed, Watch, Watched, done_words, fault_words, peak_of, stats_text,
+    Given, Kept, Stats, Timed, Watch, Watched, done_words, fault_words, peak_of,
+    processor_of, stats_text,
 };
 use std::fs::File;
 use std::io::{Read, Stderr, Write};
 use std::process::ExitCode;
 use std::sync::Wait;
 use std::thread::Threads;
-use std::time::Instant;
+use std::time::{Duration, Instant};
 use std::{env, io};
 
 // A fault, with what else there is to say of it where that was asked for and memory allows it.
@@ -121,6 +122,14 @@ fn peak(rt: &HostRuntime) -> Option<u64> {
     peak_of(&buffer[..count])
 }
 
+// The processor time of this process so far, all threads together, where the system tells.
+fn processor(rt: &HostRuntime) -> Option<Duration> {
+    let mut file = File::open(rt, "/proc/self/stat").ok()?;
+    let mut buffer = [0u8; 4096];
+    let count = file.read(&mut buffer).ok()?;
+    processor_of(&buffer[..count])
+}
+
 // Tells what a run took, where the line asks for it and memory allows: when it began, when its inputs were read, and
 // what was watched of its text.
 fn tell_stats(
@@ -147,6 +156,7 @@ fn tell_stats(
         reading: read.duration_since(began),
         writing: watch.writing,
         whole: now.duration_since(began),
+        processor: processor(rt),
         peak: peak(rt),
     };
     if let Ok(text) = stats_text(rt.alloc(), &stats) {

@@ -1,7 +1,7 @@
 //! What `--progress` and `--stats` say.
 
 use crate::carried::{Inputs, carried};
-use cmb_tell::{Stats, Tally, peak_of, stats_text};
+use cmb_tell::{Stats, Tally, peak_of, processor_of, stats_text};
 use std::test::Fail;
 use std::time::Duration;
 
@@ -73,6 +73,7 @@ fn text_of_numbers(rt: HostRuntime) -> Result<(), Fail> {
         reading: Duration::from_millis(7),
         writing: Duration::from_millis(1020),
         whole: Duration::from_millis(4030),
+        processor: processor_of(b"123 (a) b (c) R 1 2 3 0 -1 4 99 0 0 0 250 31 7 8 20 0 4 0\n"),
         peak: peak_of(b"VmPeak:\t    9000 kB\nVmHWM:\t    2404 kB\n"),
     };
     let mut want = String::new(rt.alloc());
@@ -84,6 +85,7 @@ fn text_of_numbers(rt: HostRuntime) -> Result<(), Fail> {
         ("0.007", "seconds until the inputs were read"),
         ("3.003", "seconds of making the design and simulating"),
         ("1.020", "seconds of writing"),
+        ("2.810", "seconds of processor time, all threads together"),
         ("2404", "KB of memory at most"),
     ] {
         write!(want, "{number:>16}  {what}\n")?;
