@@ -2,7 +2,7 @@
 use Rattle.std.specs.Prelude.{ℕ, List, ◌++◌, ◌+◌, ◌-◌, ◌/◌, ◌%◌, ◌^◌, min, codes, Option, None, Some, []}
 use Rattle.std.specs.Fmt.{format_spec, styled_decimal}
 use Rattle.std.specs.Duration.{as_nanos, max_nanos}
-use Rattle.core.specs.declared.time.Duration.{Duration}
+use Rattle.std.specs.declared.time.Duration.{Duration}
 use Rattle.cmb_tell.specs.declared.stats.Stats.{Stats}
 
 -- what the number is, behind it, up to the end of the line

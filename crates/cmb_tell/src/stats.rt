@@ -79,7 +79,11 @@ fn push_processor(text: &mut String, processor: Option<Duration>) -> Result<(), 
     ensures { OnOk result (string_bytes text.new ≡ string_bytes text.old ++ processor_row processor) }
 {
     match processor {
-        Some(time) => push_seconds(text, time, "seconds of processor time, all threads together"),
+        Some(time) => push_seconds(
+            text,
+            time,
+            "seconds of processor time, all threads together",
+        ),
         None => Ok(()),
     }
 }

@@ -9,8 +9,8 @@ use cmb_sim::{
     line_message, read_line, write_whole,
 };
 use cmb_tell::{
-    Given, Kept, Stats, Timed, Watch, Watched, done_words, fault_words, peak_of,
-    processor_of, stats_text,
+    Given, Kept, Stats, Timed, Watch, Watched, done_words, fault_words, peak_of, processor_of,
+    stats_text,
 };
 use std::fs::File;
 use std::io::{Read, Stderr, Write};
