@@ -4,4 +4,5 @@ pub mod Chosen
 pub mod Found
 pub mod Places
 pub mod Components
+pub mod Deals
 pub mod Forest

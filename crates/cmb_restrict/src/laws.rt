@@ -1,4 +1,5 @@
-//! The laws of parts: that one has the levels of the whole, and that components are such parts.
+//! The laws of parts: that one has the levels of the whole, and that components and groups of them are such
+//! parts.
 
 ghost use Rattle.std.specs.Prelude.{◌≡◌, ℕ, ◌<◌, List, length, slice_index};
 ghost use Rattle.cmb_bench.specs.Netlist.{IsNetlist, Netlist};
@@ -6,6 +7,7 @@ ghost use Rattle.cmb_design.specs.Design.{Design};
 ghost use Rattle.cmb_design.specs.Value.{value};
 ghost use Rattle.cmb_restrict.specs.Closed.{IsClosed};
 ghost use Rattle.cmb_restrict.specs.Components.{AreComponents, component};
+ghost use Rattle.cmb_restrict.specs.Deals.{IsDeal};
 ghost use Rattle.cmb_restrict.specs.Restriction.{IsRestriction};
 
 /// Each net of a restriction has, at each tick, the level that it has in the whole design.
@@ -18,4 +20,10 @@ pub fn restrictions_keep_values()
 pub fn components_are_closed()
     ensures { (netlist : Netlist) (numbers : List ℕ) (count number : ℕ) → IsNetlist netlist
         → AreComponents netlist numbers count → IsClosed netlist (component netlist numbers number) }
+{}
+
+/// The nets of a group that components were dealt to are closed, so each group has a design of its own.
+pub fn deals_are_closed()
+    ensures { (netlist : Netlist) (numbers : List ℕ) (count number : ℕ) → IsNetlist netlist
+        → IsDeal netlist numbers count → IsClosed netlist (component netlist numbers number) }
 {}
