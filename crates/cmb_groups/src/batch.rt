@@ -99,7 +99,8 @@ fn put_together(
     ensures nets { OnOk result ((design : Design) (clocks : List ℕ) → AreParts design clocks parts.now
         → RisesWithin 0 (nets_of design) changed.new.items) }
     ensures tells { OnOk result ((design : Design) (clocks : List ℕ) → AreParts design clocks parts.now
-        → Tells (value design) (nets_of design) (clock_at clocks place) (clock_at clocks (suc place)) changed.new.items) }
+        → Tells (value design) (nets_of design) (clock_at clocks place) (clock_at clocks (suc place))
+        changed.new.items) }
 {
     changed.clear();
     for part in parts {

@@ -12,7 +12,8 @@ ghost use Rattle.cmb_restrict.specs.Components.{IsJoined, component};
 pub fn numbers_make_groups()
     ensures { (netlist : Netlist) (numbers : List ℕ) (count : ℕ) → IsNetlist netlist
         → length numbers ≡ length netlist.names → All (λ number. number < count) numbers
-        → IsJoined netlist (slice_index numbers) → AreGroups netlist (map (component netlist numbers) (range_with_len 0 count)) }
+        → IsJoined netlist (slice_index numbers)
+        → AreGroups netlist (map (component netlist numbers) (range_with_len 0 count)) }
 {}
 
 /// Makers of a run that are filled are makers of that run.
