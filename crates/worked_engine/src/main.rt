@@ -2,8 +2,8 @@
 //!
 //! The input `a` is 0, and 1 from tick 5 on. The inverter's delay is one tick, so its output `y` is x at tick 0, 1 from
 //! tick 1 on and 0 from tick 6 on. The engine goes from tick 1 to the horizon, tick 10, in one window, and made narrow
-//! in three. Where a window ends at tick 10, tick 9 stands at place 63 of a word and tick 0 at place 54. The stored text is that of the example
-//! `inverter`.
+//! in three windows. Where a window ends at tick 10, tick 9 stands at place 63 of a word and tick 0 at place 54. The
+//! stored text is that of the example `inverter`.
 #![tactic(auto)]
 
 ghost use Rattle.std.specs.Prelude.{◌≡◌, ◌<◌, IfSome};

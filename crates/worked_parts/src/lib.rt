@@ -1,6 +1,8 @@
-//! Worked examples of parts of a design, and of the text of chosen nets, as tests.
+//! Worked examples of parts of a design, of groups of nets, and of the text of chosen nets, as tests.
 #![tactic(auto)]
 
+#[cfg(test)]
+mod groups;
 #[cfg(test)]
 mod nets;
 #[cfg(test)]

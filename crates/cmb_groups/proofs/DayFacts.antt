@@ -1,0 +1,51 @@
+-- Ticks at which windows meet.
+use Rattle.std.proofs.Common.{◌≡◌, ◌∙◌, ◌⊎◌, inl, inr, ℕ, suc, ◌+◌, ◌-◌, ◌<◌, ◌≤◌, List, [], ◌∷◌, ◌++◌, length, get_or, take, ap, sym, subst, arith}
+use Rattle.std.proofs.lemmas.Bool.{cases_eq}
+use Rattle.std.proofs.lemmas.List.{get_or_append_left, get_or_push, get_or-take, length_push, length-take-le, take_more}
+use Rattle.cmb_engine.specs.Engines.{window_end}
+use Rattle.cmb_groups.specs.Windows.{AreDays, IsStep, clock_at, last_of}
+
+-- the last of them, once there is one more
+pub last-push : (clocks : List ℕ) (next : ℕ) → last_of (clocks ++ next ∷ []) ≡ next
+last-push clocks next = get_or_push clocks next 0 (length (clocks ++ next ∷ []) - 1) (omega (arith, length_push clocks next))
+
+-- one more
+pub AreDays-push : (width horizon : ℕ) (clocks : List ℕ) (clock next : ℕ) → AreDays width horizon clocks → 1 ≤ length clocks → last_of clocks ≡ clock → IsStep width horizon clock next
+    → AreDays width horizon (clocks ++ next ∷ [])
+AreDays-push width horizon clocks clock next days some last step k within = by (cases_eq (suc k) (length clocks))
+  where
+    before : k < length clocks
+    before = omega (arith, within, length_push clocks next)
+
+    here : clock_at (clocks ++ next ∷ []) k ≡ clock_at clocks k
+    here = get_or_append_left clocks (next ∷ []) 0 k before
+
+    by : (suc k ≡ length clocks) ⊎ (suc k ≡ length clocks → ⊥) → IsStep width horizon (clock_at (clocks ++ next ∷ []) k) (clock_at (clocks ++ next ∷ []) (suc k))
+    by (inl e) =
+        let at : clock_at (clocks ++ next ∷ []) k ≡ clock = here ∙ ap (λ n. get_or clocks n 0) (omega (arith, e)) ∙ last in
+        let end : clock_at (clocks ++ next ∷ []) (suc k) ≡ next = get_or_push clocks next 0 (suc k) (sym e) in
+        rw (at, end) step
+    by (inr n) =
+        let more : suc k < length clocks = omega (arith, within, length_push clocks next, n) in
+        let end : clock_at (clocks ++ next ∷ []) (suc k) ≡ clock_at clocks (suc k) = get_or_append_left clocks (next ∷ []) 0 (suc k) more in
+        rw (here, end) (days k more)
+
+-- the first k of them: where they end, that a window begins there, and one more
+module _ (width horizon : ℕ) (clocks : List ℕ) (days : AreDays width horizon clocks) (k : ℕ) (some : 1 ≤ k) (less : k < length clocks) where
+  last-take : last_of (take k clocks) ≡ clock_at clocks (k - 1)
+  last-take =
+      ap (λ n. get_or (take k clocks) (n - 1) 0) (length-take-le k clocks (omega (arith, less)))
+      ∙ get_or-take k clocks (k - 1) 0 (omega (arith, some))
+
+  step : IsStep width horizon (clock_at clocks (k - 1)) (clock_at clocks k)
+  step =
+      let at : suc (k - 1) ≡ k = omega (arith, some) in
+      subst (λ n. IsStep width horizon (clock_at clocks (k - 1)) (clock_at clocks n)) at (days (k - 1) (omega (arith, at, less)))
+
+  pub take-below : last_of (take k clocks) < horizon
+  take-below = subst (λ c. c < horizon) (sym last-take) step.below
+
+  pub take-next : take k clocks ++ window_end width horizon (last_of (take k clocks)) ∷ [] ≡ take (k + 1) clocks
+  take-next =
+      let next : window_end width horizon (last_of (take k clocks)) ≡ clock_at clocks k = ap (window_end width horizon) last-take ∙ sym step.next in
+      ap (λ c. take k clocks ++ c ∷ []) next ∙ sym (take_more clocks k 0 less)

@@ -1,0 +1,48 @@
+//! Groups of a design's nets by number.
+
+ghost use Rattle.std.specs.Prelude.{◌≡◌, ◌<◌, ◌≤◌, length, slice_index, nat_eq, All, IfOk};
+ghost use Rattle.std.specs.List.{filter, range_with_len};
+ghost use Rattle.cmb_groups.specs.Groups.{AreGroupsOf};
+ghost use Rattle.cmb_restrict.specs.Components.{IsJoined};
+
+use crate::group::Group;
+use cmb_design::Design;
+use std::alloc::{AllocError, Global};
+
+// The nets that have a number.
+fn members(alloc: Global, numbers: &[u32], number: u32) -> Result<Vec<u32>, AllocError>
+    requires { length numbers.now ≤ 65535 }
+    ensures { IfOk result (λ nets. nets.items
+        ≡ filter (λ net. nat_eq (slice_index numbers.now net) number) (range_with_len 0 (length numbers.now))) }
+{
+    let mut nets = Vec::new(alloc);
+    for net in 0..numbers.len() {
+        if numbers[net] == number {
+            nets.push(net as u32)?;
+        }
+    }
+    Ok(nets)
+}
+
+/// The groups of a design's nets to which its components were dealt: each has the nets of a number. Errors: memory was
+/// refused.
+pub fn groups_of<'a>(
+    alloc: Global,
+    design: &'a Design,
+    numbers: &[u32],
+    count: u32,
+) -> Result<Vec<Group<'a>>, AllocError>
+    requires nets { length numbers.now ≡ length design.now.netlist.names }
+    requires below { All (λ number. number < count) numbers.now }
+    requires joined { IsJoined design.now.netlist (slice_index numbers.now) }
+    ensures count { IfOk result (λ groups. length groups.items ≡ count) }
+    ensures groups { IfOk result (λ groups. AreGroupsOf design.entry.now groups.items) }
+{
+    // What every netlist keeps is told by the contract of its length.
+    let _nets = design.netlist().len();
+    let mut groups = Vec::with_capacity(alloc, count as usize)?;
+    for number in 0..count {
+        groups.push(Group::of(alloc, design, members(alloc, numbers, number)?)?)?;
+    }
+    Ok(groups)
+}
