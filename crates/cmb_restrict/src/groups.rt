@@ -1,6 +1,6 @@
 //! Components dealt to groups of about the same weight.
 
-ghost use Rattle.std.specs.Prelude.{◌≡◌, ◌<◌, ◌≤◌, ◌^◌, length, All, IfOk};
+ghost use Rattle.std.specs.Prelude.{◌≡◌, ◌<◌, ◌≤◌, length, All, IfOk};
 ghost use Rattle.cmb_bench.specs.Netlist.{IsNetlist};
 ghost use Rattle.cmb_restrict.specs.Components.{AreComponents};
 ghost use Rattle.cmb_restrict.specs.Deals.{IsDeal};
