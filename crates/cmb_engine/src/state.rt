@@ -46,7 +46,8 @@ impl State {
         requires state { IsState design.now circuit.now self }
         requires below { self.clock < design.now.horizon }
         ensures state { IfOk result (λ state. IsState design.now circuit.now state) }
-        ensures clock { IfOk result (λ state. state.clock ≡ window_end circuit.now.width design.now.horizon self.clock) }
+        ensures clock { IfOk result (λ state.
+            state.clock ≡ window_end circuit.now.width design.now.horizon self.clock) }
         ensures later { IfOk result (λ state. (self.clock < state.clock) × (state.clock ≤ self.clock + 63)) }
         ensures nets { IfOk result (λ state. RisesWithin 0 (nets_of design.now) changed.new.items) }
         ensures tells { IfOk result (λ state. Tells (value design.now) (nets_of design.now)

@@ -102,8 +102,8 @@ fn components_of_a_design(rt: HostRuntime) -> Result<(), Fail> {
     Ok(())
 }
 
-/// Chains of inverters behind the inputs `a` to `e`: two, three, one, one and none. An input weighs 2 and an inverter 3,
-/// so the chains weigh 8, 11, 5, 5 and 2.
+/// Chains of inverters behind the inputs `a` to `e`: two, three, one, one and none. An input weighs 2 and an inverter
+/// 3, so the chains weigh 8, 11, 5, 5 and 2.
 const CHAINS: &[u8] =
     b"INPUT(a)\nINPUT(b)\nINPUT(c)\nINPUT(d)\nINPUT(e)\nb1 = NOT(b)\nb2 = NOT(b1)\nb3 = NOT(b2)
 a1 = NOT(a)\na2 = NOT(a1)\nc1 = NOT(c)\nd1 = NOT(d)\n";
