@@ -9,6 +9,7 @@ ghost use Rattle.cmb_bench.specs.Inner.Building.{number_in, numbers_in, built, A
 ghost use Rattle.cmb_bench.specs.Inner.Views.{mention, mentions, statement};
 
 use crate::fault::{BenchFault, FaultKind, ReadError};
+use crate::limits::MAX_NETS;
 use crate::name::{Name, Spelled};
 use crate::netlist::{Cell, Driver, Netlist, Operands, Pins};
 use crate::parser::{Item, Use};
@@ -18,7 +19,7 @@ use std::alloc::Global;
 /// The number of the net that is used.
 #[tactic(auto, unfolding(crate::specs::Inner::Building::number_in))]
 fn number_of(names: &IndexSet<Name>, used: Use) -> Result<u32, ReadError>
-    requires { length names.now.keys ≤ 65535 }
+    requires { length names.now.keys ≤ MAX_NETS }
     ensures { Gives (λ n. n) result (number_in names.now.keys (mention used.entry)) }
 {
     match names.get_index_of(Spelled { bytes: used.name }) {
@@ -31,7 +32,7 @@ fn number_of(names: &IndexSet<Name>, used: Use) -> Result<u32, ReadError>
 }
 
 fn numbers_of(alloc: Global, names: &IndexSet<Name>, uses: &[Use]) -> Result<Pins, ReadError>
-    requires { length names.now.keys ≤ 65535 }
+    requires { length names.now.keys ≤ MAX_NETS }
     ensures { Gives (λ v. v.items) result (numbers_in names.now.keys (mentions uses.now)) }
 {
     let mut numbers = Pins::with_capacity(alloc, uses.len())?;
@@ -63,7 +64,7 @@ fn add_item(
     drivers: &mut Vec<Driver>,
     outputs: &mut IndexSet<u32>,
 ) -> Result<(), ReadError>
-    requires { length names.now.keys ≤ 65535 }
+    requires { length names.now.keys ≤ MAX_NETS }
     ensures { Adds names.now.keys (statement item.now)
         drivers.old.items outputs.old.keys drivers.new.items outputs.new.keys result }
 {
@@ -93,7 +94,7 @@ pub(crate) fn build(
 ) -> Result<Netlist, ReadError>
     requires named { names.keys ≡ driven (map statement items.now) }
     requires lawful { AreLawful [] (map statement items.now) }
-    requires few { length names.keys ≤ 65535 }
+    requires few { length names.keys ≤ MAX_NETS }
     ensures read { Gives (λ n. (n.drivers, n.outputs)) result (built names.keys [] (map statement items.now)) }
     ensures names { IfOk result (λ n. n.names ≡ names.keys) }
 {

@@ -6,6 +6,7 @@ mod build;
 mod fault;
 mod kinds;
 pub mod laws;
+pub mod limits;
 mod listed;
 mod name;
 pub mod netlist;
@@ -15,6 +16,7 @@ mod text;
 
 pub use fault::{BenchFault, FaultKind};
 pub use kinds::cell_named;
+pub use limits::{MAX_NAME, MAX_NETS, MAX_TEXT};
 pub use listed::{ListFault, read_list};
 pub use name::Name;
 pub use netlist::{Cell, Driver, Kind, Netlist, Operands};

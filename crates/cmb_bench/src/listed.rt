@@ -5,6 +5,7 @@ ghost use Rattle.cmb_bench.specs.Inner.Scan.{lexeme};
 ghost use Rattle.cmb_bench.specs.Inner.Word.{is_end};
 ghost use Rattle.cmb_bench.specs.Listed.{IsRefused, Lists, is_unknown, named_by};
 
+use crate::limits::{MAX_NETS, MAX_TEXT};
 use crate::netlist::Netlist;
 use crate::text::{Cursor, Token};
 use std::alloc::{AllocFailed, Global};
@@ -35,7 +36,7 @@ impl<T: Drop> From<AllocFailed<T>> for ListFault {
 // The number of the net that a token names.
 fn number_in(netlist: &Netlist, token: Token) -> Option<usize>
     ensures value { result ≡ named_by netlist.now (lexeme token.entry).word }
-    ensures below { IfSome result (λ net. (net < length netlist.now.names) × (net < 65535)) }
+    ensures below { IfSome result (λ net. (net < length netlist.now.names) × (net < MAX_NETS)) }
     ensures unknown { is_end (lexeme token.entry).word ≡ false
         → is_unknown netlist.now (lexeme token.entry).word ≡ is_none result }
 {
@@ -49,7 +50,7 @@ fn number_in(netlist: &Netlist, token: Token) -> Option<usize>
 /// of nets, each followed by a blank, the end of its line or a comment, as in a netlist. Errors: 38 `Unknown` at the
 /// first token that is no net's name, with its line, and 70 `Memory`.
 pub fn read_list(alloc: Global, netlist: &Netlist, text: &[u8]) -> Result<Vec<u32>, ListFault>
-    requires { length text.now ≤ 16777216 }
+    requires { length text.now ≤ MAX_TEXT }
     ensures listed { IfOk result (λ numbers. Lists netlist.now text.now numbers.items) }
     ensures nets { IfOk result (λ numbers. All (λ net. net < length netlist.now.names) numbers.items) }
     ensures fault { IfErr result (IsRefused netlist.now text.now) }

@@ -2,6 +2,7 @@
 
 ghost use Rattle.std.specs.Prelude.{◌≡◌, ◌<◌, ◌≤◌, ◌==◌, ℕ, List, length, IfOk, MatchOption};
 
+use crate::limits::MAX_NETS;
 use crate::name::{Name, Spelled};
 use indexmap::IndexSet;
 use smallvec::SmallVec;
@@ -119,7 +120,7 @@ impl Netlist {
     /// How many nets there are: at most 65,535.
     pub fn len(&self) -> usize
         ensures value { result ≡ length self.now.names }
-        ensures few { length self.now.names ≤ 65535 }
+        ensures few { length self.now.names ≤ MAX_NETS }
         // What every netlist keeps.
         ensures sound { IsNetlist self.now }
     {
@@ -137,7 +138,7 @@ impl Netlist {
     #[tactic(auto, unfolding(crate::specs::Netlist::number_of))]
     pub fn number(&self, name: &[u8]) -> Option<usize>
         ensures value { result ≡ number_of self.now name.now }
-        ensures below { MatchOption result (Unit {0}) (λ net. (net < length self.now.names) × (net < 65535)) }
+        ensures below { MatchOption result (Unit {0}) (λ net. (net < length self.now.names) × (net < MAX_NETS)) }
     {
         self.names.get_index_of(Spelled { bytes: name })
     }

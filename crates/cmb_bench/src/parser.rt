@@ -15,16 +15,13 @@ ghost use Rattle.cmb_bench.specs.Inner.Part.{parts_of};
 
 use crate::fault::{BenchFault, FaultKind, ReadError};
 use crate::kinds::{cell_named, is_word, takes_one};
+use crate::limits::{MAX_NAME, MAX_NETS, MAX_TEXT};
 use crate::name::Name;
 use crate::netlist::Cell;
 use crate::text::{Cursor, Token};
 use indexmap::IndexSet;
 use smallvec::SmallVec;
 use std::alloc::Global;
-
-pub const MAX_NETS: usize = 65_535;
-
-pub const MAX_NAME: usize = 255;
 
 /// A name that is used, and the line on which it stands.
 #[derive(Clone, Copy)]
@@ -322,20 +319,27 @@ pub struct Parsed<'a> {
     pub names: IndexSet<Name>,
 }
 
-// About how many statements a text has, one to a line. It is a matter of room alone, and may be wrong.
-fn likely_count(bytes: &[u8]) -> usize {
+// About how many nets a text has, each driven by a line of 32 bytes. It is a matter of room alone, and may
+// be wrong.
+fn likely_nets(bytes: &[u8]) -> usize {
     (bytes.len() / 32).min(MAX_NETS)
+}
+
+// About how many statements a text has, at most; lines of 16 bytes are short ones. It is a matter of room alone
+// too: what isn't used costs nothing, while a list that has to grow is copied.
+fn likely_statements(bytes: &[u8]) -> usize {
+    (bytes.len() / 16).min(2 * MAX_NETS)
 }
 
 /// Reads the statements of a text.
 pub fn parse(alloc: Global, bytes: &[u8]) -> Result<Parsed<'_>, ReadError>
-    requires { length bytes.now ≤ 16777216 }
+    requires { length bytes.now ≤ MAX_TEXT }
     ensures read { Stops (λ p. map statement p.items.items) result (tokens_of (parts_of bytes.now)) }
     ensures names { IfOk result (λ p. p.names.keys ≡ driven (map statement p.items.items)) }
 {
     let mut cursor = Cursor::new(bytes);
-    let mut names = IndexSet::with_capacity(alloc, likely_count(bytes))?;
-    let mut items = Vec::with_capacity(alloc, likely_count(bytes))?;
+    let mut names = IndexSet::with_capacity(alloc, likely_nets(bytes))?;
+    let mut items = Vec::with_capacity(alloc, likely_statements(bytes))?;
     loop {
         let first = cursor.next();
         if first.is_end() {

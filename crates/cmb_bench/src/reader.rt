@@ -8,6 +8,7 @@ ghost use Rattle.cmb_bench.specs.Inner.Faulty.{IsFaulty, AnswersOnly};
 
 use crate::build::build;
 use crate::fault::{BenchFault, FaultKind, ReadError};
+use crate::limits::MAX_TEXT;
 use crate::netlist::Netlist;
 use crate::parser::{Parsed, parse};
 use std::alloc::Global;
@@ -24,7 +25,7 @@ fn take_and_give_back(alloc: Global) {
 
 // Statement by statement, and then what the statements mean.
 fn read(alloc: Global, bytes: &[u8]) -> Result<Netlist, ReadError>
-    requires { length bytes.now ≤ 16777216 }
+    requires { length bytes.now ≤ MAX_TEXT }
     ensures found { IfOk result (λ n. Reads bytes.now n) }
     ensures only { (c : Netlist) → Reads bytes.now c → AnswersOnly result c }
     ensures fault { IfErr result (λ e. IsFaulty bytes.now e) }
@@ -46,7 +47,7 @@ fn read(alloc: Global, bytes: &[u8]) -> Result<Netlist, ReadError>
 /// The time taken grows with the number of bytes, unless the names were chosen to collide:
 /// `indexmap`'s hasher has a fixed seed.
 pub fn read_bench(alloc: Global, bytes: &[u8]) -> Result<Netlist, BenchFault>
-    requires { length bytes.now ≤ 16777216 }
+    requires { length bytes.now ≤ MAX_TEXT }
     // What is read is what the text spells.
     ensures found { IfOk result (λ n. Reads bytes.now n) }
     // A text that spells a netlist is read, as that one, unless memory runs out.

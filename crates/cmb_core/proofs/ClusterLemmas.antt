@@ -8,15 +8,15 @@ use Rattle.cmb_wave.specs.declared.level.Change.{Change}
 use Rattle.cmb_wave.specs.Waveform.{IsTrace}
 use Rattle.cmb_wave.specs.Wave.{Wave, new_wave}
 use Rattle.cmb_core.specs.Spans.{changes_from}
-use Rattle.cmb_core.specs.declared.process.Operand.{Operand}
+use Rattle.cmb_core.specs.declared.process.Pin.{Pin}
 use Rattle.cmb_core.specs.declared.process.Rule.{Rule}
 use Rattle.cmb_core.specs.declared.process.Rule.TheVariants.{Given, Input, Gate, Flop}
 use Rattle.cmb_core.specs.Arrivals.{last_sample}
 use Rattle.cmb_core.specs.Step.{wave_at}
-use Rattle.cmb_core.specs.Rows.{Process, AreReady, IsReadyFor, flop_need, slot_of}
+use Rattle.cmb_core.specs.Rows.{Process, AreReady, IsReadyFor, sample_need, slot_of}
 use Rattle.cmb_core.specs.Clusters.{IsSound, wave_nets}
-use Rattle.cmb_core.specs.Tables.{AreTables, place_in}
-use Rattle.cmb_core.specs.declared.tables.Tables.{Tables}
+use Rattle.cmb_core.specs.Directory.{IsDirectory, place_in}
+use Rattle.cmb_core.specs.declared.directory.Directory.{Directory}
 use Rattle.std.proofs.Math.Seq.{map-set_same}
 use Rattle.cmb_core.proofs.Changes.{trace_of_changes}
 use Rattle.cmb_core.proofs.Skips.{last_sample_le}
@@ -52,25 +52,25 @@ gone_on_set old n w h e b k = record {
   ];
 }
 
-are_ready_still : (old new : List Wave) (clock later : ℕ) (os : List Operand) → GoneOn old new → clock ≤ later → AreReady old clock os → AreReady new later os
+are_ready_still : (old new : List Wave) (clock later : ℕ) (os : List Pin) → GoneOn old new → clock ≤ later → AreReady old clock os → AreReady new later os
 are_ready_still old new clock later [] g h r = tt
 are_ready_still old new clock later (o ∷ os) g h r =
     let kept : (wave_at old o.net).base ≤ clock - o.delay = r.0.1 in
     ((g.slots o.net ∙ r.0.0, omega (arith, g.base o.net)), are_ready_still old new clock later os g h r.1)
 
-flop_need_le : (first period delay clock later : ℕ) → 0 < period → clock ≤ later → flop_need first period delay clock ≤ flop_need first period delay later
-flop_need_le first period delay clock later pos h =
+sample_need_le : (first period delay clock later : ℕ) → 0 < period → clock ≤ later → sample_need first period delay clock ≤ sample_need first period delay later
+sample_need_le first period delay clock later pos h =
     let samples : last_sample first period (clock - delay) ≤ last_sample first period (later - delay) = last_sample_le first period (clock - delay) (later - delay) pos (omega arith) in
     grind (arith, nat_tests)
 
-pub ready_still : (old new : List Wave) (clock later : ℕ) (rule : Rule) (os : List Operand) (cs : List Change) → GoneOn old new → clock ≤ later → IsReadyFor old clock rule os cs → IsReadyFor new later rule os cs
+pub ready_still : (old new : List Wave) (clock later : ℕ) (rule : Rule) (os : List Pin) (cs : List Change) → GoneOn old new → clock ≤ later → IsReadyFor old clock rule os cs → IsReadyFor new later rule os cs
 ready_still old new clock later Given os cs g h r = tt
 ready_still old new clock later Input os cs g h r = r
 ready_still old new clock later (Gate kind) os cs g h r = (r.0, are_ready_still old new clock later os g h r.1)
 ready_still old new clock later (Flop first period init) [] cs g h r = absurd r
 ready_still old new clock later (Flop first period init) (o ∷ []) cs g h r =
-    let more : flop_need first period o.delay clock ≤ flop_need first period o.delay later = flop_need_le first period o.delay clock later r.0 h in
-    let kept : (wave_at old o.net).base ≤ flop_need first period o.delay clock = r.2 in
+    let more : sample_need first period o.delay clock ≤ sample_need first period o.delay later = sample_need_le first period o.delay clock later r.0 h in
+    let kept : (wave_at old o.net).base ≤ sample_need first period o.delay clock = r.2 in
     (r.0, g.slots o.net ∙ r.1, omega (arith, g.base o.net))
 ready_still old new clock later (Flop first period init) (o ∷ p ∷ os) cs g h r = absurd r
 
@@ -79,8 +79,8 @@ pub slot_place : (waves : List Wave) (net : ℕ) → slot_of waves net ≡ place
 slot_place [] net = refl
 slot_place (w ∷ ws) net = rw (slot_place ws net) refl
 
-pub tables_still : (processes : List Process) (old new : List Wave) (tables : Tables) → wave_nets new ≡ wave_nets old → AreTables processes (wave_nets old) tables → AreTables processes (wave_nets new) tables
-tables_still processes old new tables e a = let P : List ℕ → Type 0 = λ nets. AreTables processes nets tables in subst P (sym e) a
+pub directory_stays : (processes : List Process) (old new : List Wave) (directory : Directory) → wave_nets new ≡ wave_nets old → IsDirectory processes (wave_nets old) directory → IsDirectory processes (wave_nets new) directory
+directory_stays processes old new directory e a = let P : List ℕ → Type 0 = λ nets. IsDirectory processes nets directory in subst P (sym e) a
 
 -- a cluster stays sound where its waves go on
 pub sound_still : (horizon : ℕ) (processes : List Process) (old new : List Wave) → GoneOn old new → IsSound (record { horizon = horizon; processes = processes; waves = old }) → IsSound (record { horizon = horizon; processes = processes; waves = new })
@@ -91,27 +91,27 @@ sound_still horizon processes old new g s = record {
 }
 
 -- and where one of them is put in its place anew
-pub record IsKept (horizon : ℕ) (processes : List Process) (tables : Tables) (old new : List Wave) : Type 0 where
+pub record IsKept (horizon : ℕ) (processes : List Process) (directory : Directory) (old new : List Wave) : Type 0 where
   pub sound : IsSound (record { horizon = horizon; processes = processes; waves = new })
-  pub listed : AreTables processes (wave_nets new) tables
+  pub listed : IsDirectory processes (wave_nets new) directory
   pub nets : wave_nets new ≡ wave_nets old
 
-pub kept_by_set : (horizon : ℕ) (processes : List Process) (tables : Tables) (old new : List Wave) (n : ℕ) (w : Wave) → new ≡ set old n w → n < length old
+pub kept_by_set : (horizon : ℕ) (processes : List Process) (directory : Directory) (old new : List Wave) (n : ℕ) (w : Wave) → new ≡ set old n w → n < length old
     → w.net ≡ (get_or old n (new_wave 0)).net → w.base ≡ (get_or old n (new_wave 0)).base → (get_or old n (new_wave 0)).clock ≤ w.clock
-    → IsSound (record { horizon = horizon; processes = processes; waves = old }) → AreTables processes (wave_nets old) tables → IsKept horizon processes tables old new
-kept_by_set horizon processes tables old new n w e h net base later sound listed =
-    let P : List Wave → Type 0 = λ ws. IsKept horizon processes tables old ws in
+    → IsSound (record { horizon = horizon; processes = processes; waves = old }) → IsDirectory processes (wave_nets old) directory → IsKept horizon processes directory old new
+kept_by_set horizon processes directory old new n w e h net base later sound listed =
+    let P : List Wave → Type 0 = λ ws. IsKept horizon processes directory old ws in
     let gone = gone_on_set old n w h net base later in
     subst P (sym e) (record {
       sound = sound_still horizon processes old (set old n w) gone sound;
-      listed = tables_still processes old (set old n w) tables gone.nets listed;
+      listed = directory_stays processes old (set old n w) directory gone.nets listed;
       nets = gone.nets;
     })
 
 -- the same of a wave that was lent, and came back later
-pub kept_by_loan : (horizon : ℕ) (processes : List Process) (tables : Tables) (old : List Wave) (n : ℕ) (lent w : Wave) → n < length old → lent ≡ get_or old n lent
+pub kept_by_loan : (horizon : ℕ) (processes : List Process) (directory : Directory) (old : List Wave) (n : ℕ) (lent w : Wave) → n < length old → lent ≡ get_or old n lent
     → w.net ≡ lent.net → w.base ≡ lent.base → lent.clock ≤ w.clock
-    → IsSound (record { horizon = horizon; processes = processes; waves = old }) → AreTables processes (wave_nets old) tables → IsKept horizon processes tables old (set old n w)
-kept_by_loan horizon processes tables old n lent w h was net base later sound listed =
+    → IsSound (record { horizon = horizon; processes = processes; waves = old }) → IsDirectory processes (wave_nets old) directory → IsKept horizon processes directory old (set old n w)
+kept_by_loan horizon processes directory old n lent w h was net base later sound listed =
     let is : lent ≡ get_or old n (new_wave 0) = get_or_read old n lent h was (new_wave 0) in
-    kept_by_set horizon processes tables old (set old n w) n w refl h (net ∙ ap (λ (v : Wave). v.net) is) (base ∙ ap (λ (v : Wave). v.base) is) (omega (arith, later, ap (λ (v : Wave). v.clock) is)) sound listed
+    kept_by_set horizon processes directory old (set old n w) n w refl h (net ∙ ap (λ (v : Wave). v.net) is) (base ∙ ap (λ (v : Wave). v.base) is) (omega (arith, later, ap (λ (v : Wave). v.clock) is)) sound listed

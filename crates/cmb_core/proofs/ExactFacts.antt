@@ -20,7 +20,7 @@ use Rattle.cmb_design.specs.Design.{Design}
 use Rattle.cmb_design.specs.Exact.{nets_of, IsExactIn, IsExactWaveIn, IsRightIn}
 use Rattle.cmb_design.specs.Timing.{delay, clock_of, last_sample as last_tick}
 use Rattle.cmb_design.specs.Value.{value}
-use Rattle.cmb_core.specs.declared.process.Operand.{Operand}
+use Rattle.cmb_core.specs.declared.process.Pin.{Pin}
 use Rattle.cmb_core.specs.declared.process.Rule.{Rule}
 use Rattle.cmb_core.specs.declared.process.Rule.TheVariants.{Flop}
 use Rattle.cmb_core.specs.declared.delivery.DeliverFault.{DeliverFault}
@@ -29,16 +29,16 @@ use Rattle.cmb_core.specs.Clustering.{Clustering, cluster_of}
 use Rattle.cmb_core.specs.Clusters.{Cluster, IsSound, IsSameButWaves, IsDrivenBy, AreOperands, process_at, slot_wave, new_waves_at, reach_at, step_answer, step_waves, as_delivery, delivered_at, delivered, RefusesDelivery}
 use Rattle.cmb_core.specs.Exactness.{IsExactCluster}
 use Rattle.cmb_core.specs.Opened.{IsClusterOf, held_nets}
-use Rattle.cmb_core.specs.Reach.{flop_need as net_need, AreKept, IsKept}
-use Rattle.cmb_core.specs.Rows.{Process, AreReady, IsReadyFor, flop_need, slot_of}
+use Rattle.cmb_core.specs.Reach.{flop_need, AreKept, IsKept}
+use Rattle.cmb_core.specs.Rows.{Process, AreReady, IsReadyFor, sample_need, slot_of}
 use Rattle.cmb_core.specs.Step.{wave_at, told_from, step_reach, step_piece, with_wave}
-use Rattle.cmb_core.specs.Tables.{given_at, readers_from}
+use Rattle.cmb_core.specs.Directory.{given_at, readers_from}
 use Rattle.cmb_core.specs.Trims.{least_need, trimmed_wave, trimmed}
 use Rattle.cmb_core.proofs.Driven.{Drives, step_waves_are}
 use Rattle.cmb_core.proofs.OpenedFacts.{held_below}
 use Rattle.cmb_core.proofs.Slots.{slot_is}
 use Rattle.cmb_core.proofs.Steps.{wave_at-net, wave_at-exact, step_piece-is_exact}
-use Rattle.cmb_core.proofs.SweepFacts.{still_of, drives_here, given_reach, long}
+use Rattle.cmb_core.proofs.NetByNet.{still_of, drives_here, given_reach, long}
 use Rattle.cmb_core.proofs.TrimFacts.{least_clock}
 use Rattle.cmb_core.proofs.Replacing.{all-with}
 
@@ -58,12 +58,12 @@ none_some (Some a) e h = cc
 
 -- ---- what a process still needs is kept
 
-need_same : (design : Design) (net clock : ℕ) → flop_need (clock_of design net).first (clock_of design net).period (delay design net 1) clock ≤ net_need design net clock
+need_same : (design : Design) (net clock : ℕ) → sample_need (clock_of design net).first (clock_of design net).period (delay design net 1) clock ≤ flop_need design net clock
 unfolding last_tick
 need_same design net clock = go (cases_lt clock ((clock_of design net).first + delay design net 1)) (cases_lt (clock - delay design net 1) (clock_of design net).first)
   where
     go : (clock < (clock_of design net).first + delay design net 1) ⊎ ((clock_of design net).first + delay design net 1 ≤ clock) → (clock - delay design net 1 < (clock_of design net).first) ⊎ ((clock_of design net).first ≤ clock - delay design net 1)
-        → flop_need (clock_of design net).first (clock_of design net).period (delay design net 1) clock ≤ net_need design net clock
+        → sample_need (clock_of design net).first (clock_of design net).period (delay design net 1) clock ≤ flop_need design net clock
     go (inl early) _ = let a : ltb clock ((clock_of design net).first + delay design net 1) ≡ true = lt-ltb _ _ early in rw a (omega arith)
     go (inr late) (inl before) = absurd (omega arith)
     go (inr late) (inr after) =
@@ -72,7 +72,7 @@ need_same design net clock = go (cases_lt clock ((clock_of design net).first + d
         rw (a, b) (omega arith)
 
 module _ (design : Design) (waves : List Wave) (net clock : ℕ) where
-  gate_kept : (pin : ℕ) (sources : List ℕ) (os : List Operand) → AreOperands design net pin sources os → AreReady waves clock os → AreKept design (told_from waves) net clock pin sources
+  gate_kept : (pin : ℕ) (sources : List ℕ) (os : List Pin) → AreOperands design net pin sources os → AreReady waves clock os → AreKept design (told_from waves) net clock pin sources
   gate_kept pin [] [] a r = tt
   gate_kept pin (source ∷ sources) (o ∷ os) a r =
       let same : (wave_at waves o.net).base ≡ (wave_at waves source).base = ap (λ n. (wave_at waves n).base) a.0 in
@@ -82,14 +82,14 @@ module _ (design : Design) (waves : List Wave) (net clock : ℕ) where
   gate_kept pin [] (o ∷ os) a r = absurd a
   gate_kept pin (source ∷ sources) [] a r = absurd a
 
-  flop_kept : (source : ℕ) (os : List Operand) (cs : List Change) → AreOperands design net 1 (source ∷ []) os → IsReadyFor waves clock (Flop (clock_of design net).first (clock_of design net).period design.init) os cs → told_from waves source ≤ net_need design net clock
+  flop_kept : (source : ℕ) (os : List Pin) (cs : List Change) → AreOperands design net 1 (source ∷ []) os → IsReadyFor waves clock (Flop (clock_of design net).first (clock_of design net).period design.init) os cs → told_from waves source ≤ flop_need design net clock
   flop_kept source [] cs a r = absurd a
   flop_kept source (o ∷ []) cs a r =
       let same : (wave_at waves o.net).base ≡ (wave_at waves source).base = ap (λ n. (wave_at waves n).base) a.0 in
-      let kept : (wave_at waves o.net).base ≤ flop_need (clock_of design net).first (clock_of design net).period o.delay clock = r.2 in
-      let late : flop_need (clock_of design net).first (clock_of design net).period o.delay clock ≡ flop_need (clock_of design net).first (clock_of design net).period (delay design net 1) clock = ap (λ d. flop_need (clock_of design net).first (clock_of design net).period d clock) a.1 in
-      let need : flop_need (clock_of design net).first (clock_of design net).period (delay design net 1) clock ≤ net_need design net clock = need_same design net clock in
-      let P : ℕ → Type 0 = λ n. n ≤ net_need design net clock in
+      let kept : (wave_at waves o.net).base ≤ sample_need (clock_of design net).first (clock_of design net).period o.delay clock = r.2 in
+      let late : sample_need (clock_of design net).first (clock_of design net).period o.delay clock ≡ sample_need (clock_of design net).first (clock_of design net).period (delay design net 1) clock = ap (λ d. sample_need (clock_of design net).first (clock_of design net).period d clock) a.1 in
+      let need : sample_need (clock_of design net).first (clock_of design net).period (delay design net 1) clock ≤ flop_need design net clock = need_same design net clock in
+      let P : ℕ → Type 0 = λ n. n ≤ flop_need design net clock in
       let Q : ℕ → Type 0 = λ n. (wave_at waves o.net).base ≤ n in
       subst P same (at_most _ _ _ (subst Q late kept) need)
     where

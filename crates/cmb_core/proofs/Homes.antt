@@ -9,7 +9,7 @@ use Rattle.cmb_design.specs.Exact.{nets_of}
 use Rattle.cmb_core.specs.Clustering.{Clustering, cluster_of, has_input, some_below, net_reads}
 use Rattle.cmb_core.specs.Clusters.{Cluster, given_only, input_slot}
 use Rattle.cmb_core.specs.Opened.{IsClusterOf, is_own, held_nets}
-use Rattle.cmb_core.specs.Tables.{place_in}
+use Rattle.cmb_core.specs.Directory.{place_in}
 use Rattle.cmb_core.proofs.ClusterLemmas.{slot_place}
 use Rattle.cmb_core.proofs.OwnFacts.{input_read}
 use Rattle.cmb_core.proofs.Everywhere.{all_weaker}

@@ -8,7 +8,7 @@ use Rattle.cmb_wave.specs.Wave.{new_wave}
 use Rattle.cmb_bench.specs.Netlist.{driver_of, pins_of, IsNetlist}
 use Rattle.cmb_design.specs.Design.{Design}
 use Rattle.cmb_design.specs.Exact.{nets_of}
-use Rattle.cmb_core.specs.declared.process.Operand.{Operand}
+use Rattle.cmb_core.specs.declared.process.Pin.{Pin}
 use Rattle.cmb_core.specs.declared.process.Rule.TheVariants.{Given}
 use Rattle.cmb_core.specs.Clustering.{Clustering, cluster_of, has_input, some_below, net_reads}
 use Rattle.cmb_core.specs.Clusters.{IsSound, wave_nets}
@@ -16,9 +16,9 @@ use Rattle.cmb_core.specs.Opened.{is_own, held_nets}
 use Rattle.cmb_core.specs.Opening.{AreRead, ArePlaced, AreAt, AreWhole, StartsOn, AllStartOn}
 use Rattle.cmb_core.specs.Rows.{Process, IsReadyFor}
 use Rattle.cmb_core.specs.Step.{wave_at}
-use Rattle.cmb_core.specs.Tables.{place_in}
+use Rattle.cmb_core.specs.Directory.{place_in}
 use Rattle.cmb_core.proofs.ClusterLemmas.{slot_place}
-use Rattle.cmb_core.proofs.OpenFacts.{filter_range_same, filter_range_all, filter_range_place}
+use Rattle.cmb_core.proofs.OpeningFacts.{filter_range_same, filter_range_all, filter_range_place}
 use Rattle.cmb_core.proofs.NetReads.{IsPin, pins-are, some_below-from}
 
 -- the cluster's own nets and those that it reads, by the marks
@@ -84,7 +84,7 @@ place_below (n ∷ nets) net place e = go (eqb n net) (place_in nets net) refl (
     go false (Some k) q rest h = let z : place ≡ suc k = cc in let less : k < length nets = rest k q in omega arith
     go false None q rest h = cc
 
-at_below : (places : List (Option ℕ)) (nets : List ℕ) → ((net : ℕ) → get_or places net None ≡ place_in nets net) → (os : List Operand) → AreAt places os → AllByRecursion (λ o. o.slot < length nets) os
+at_below : (places : List (Option ℕ)) (nets : List ℕ) → ((net : ℕ) → get_or places net None ≡ place_in nets net) → (os : List Pin) → AreAt places os → AllByRecursion (λ o. o.slot < length nets) os
 at_below places nets at [] a = tt
 at_below places nets at (o ∷ os) a = (place_below nets o.net o.slot (sym (at o.net) ∙ a.0), at_below places nets at os a.1)
 

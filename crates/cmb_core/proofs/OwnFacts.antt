@@ -8,11 +8,11 @@ use Rattle.cmb_core.specs.Clustering.{Clustering, cluster_of, has_input}
 use Rattle.cmb_core.specs.Clusters.{Cluster, IsDrivenHere, process_at, given_only, driven_only, input_slot}
 use Rattle.cmb_core.specs.Opened.{IsProcessOf, IsClusterOf, IsOwnNet, is_own, held_nets}
 use Rattle.cmb_core.specs.Rows.{slot_of, is_given}
-use Rattle.cmb_core.specs.Tables.{place_in}
+use Rattle.cmb_core.specs.Directory.{place_in}
 use Rattle.cmb_core.proofs.ClusterLemmas.{slot_place}
-use Rattle.cmb_core.proofs.OpenFacts.{filter_range_all, filter_range_place}
+use Rattle.cmb_core.proofs.OpeningFacts.{filter_range_all, filter_range_place}
 use Rattle.cmb_core.proofs.ReadFacts.{given-is}
-use Rattle.cmb_core.proofs.SweepFacts.{process_of}
+use Rattle.cmb_core.proofs.NetByNet.{process_of}
 use Rattle.cmb_core.proofs.Driven.{Drives}
 
 -- a place is in the list, and its net is there

@@ -15,7 +15,7 @@ use Rattle.cmb_core.specs.Clustering.{Clustering, cluster_of, has_input, some_be
 use Rattle.cmb_core.specs.Clusters.{Cluster, IsDrivenBy, wave_nets, driven_waves, given_waves}
 use Rattle.cmb_core.specs.Opened.{IsProcessOf, AreProcessesOf, IsClusterOf, is_own, own_nets, read_nets, held_nets}
 use Rattle.cmb_core.specs.Rows.{Process, is_given}
-use Rattle.cmb_core.specs.Tables.{driven_among, given_among}
+use Rattle.cmb_core.specs.Directory.{driven_among, given_among}
 
 pub driven_nets : (processes : List Process) (waves : List Wave) → map (λ wave. wave.net) (driven_waves processes waves) ≡ driven_among processes (wave_nets waves)
 driven_nets [] waves = refl

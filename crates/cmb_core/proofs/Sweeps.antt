@@ -13,7 +13,7 @@ use Rattle.cmb_core.specs.Exactness.{IsExactCluster}
 use Rattle.cmb_core.specs.Opened.{IsClusterOf, is_own, held_nets}
 use Rattle.cmb_core.specs.Sweep.{some_rises, stepped_waves}
 use Rattle.cmb_core.proofs.ExactFacts.{moved_exact, still_exact}
-use Rattle.cmb_core.proofs.SweepFacts.{swept_waves, swept_rises, still_of, same_again}
+use Rattle.cmb_core.proofs.NetByNet.{swept_waves, swept_rises, still_of, same_again}
 
 abbrev pub own_to : Design → Clustering → ℕ → ℕ → List ℕ
 own_to design clustering cluster n = filter (is_own clustering cluster) (take n (held_nets design clustering cluster))

@@ -7,18 +7,18 @@ use Rattle.std.proofs.Common.{Vec, Global}
 use Rattle.std.proofs.lemmas.List.{get_or-map}
 use Rattle.std.proofs.lemmas.List.Elements.{All-from_recursion}
 use Rattle.std.proofs.lemmas.List.FromFn.{fill_by_all, length-map-range_with_len, get_or-map-range_with_len}
-use Rattle.cmb_core.specs.declared.tables.Tables.{Tables}
+use Rattle.cmb_core.specs.declared.directory.Directory.{Directory}
 use Rattle.cmb_wave.specs.declared.level.Change.{Change}
 use Rattle.cmb_wave.specs.declared.level.Level.{Level}
 use Rattle.cmb_wave.specs.Wave.{Wave, new_wave, wave_from}
-use Rattle.cmb_core.specs.declared.process.Operand.{Operand}
+use Rattle.cmb_core.specs.declared.process.Pin.{Pin}
 use Rattle.cmb_core.specs.declared.process.Rule.{Rule}
 use Rattle.cmb_core.specs.declared.process.Rule.TheVariants.{Given, Input, Gate, Flop}
-use Rattle.cmb_core.specs.declared.tables.Reader.{Reader}
+use Rattle.cmb_core.specs.declared.directory.Reader.{Reader}
 use Rattle.cmb_core.specs.Clusters.{Cluster, IsSound, IsSameButWaves, slot_wave, process_at}
-use Rattle.cmb_core.specs.Rows.{Process, IsThere, AreReady, IsReadyFor, flop_need, is_given}
+use Rattle.cmb_core.specs.Rows.{Process, IsThere, AreReady, IsReadyFor, sample_need, is_given}
 use Rattle.cmb_core.specs.Step.{wave_at}
-use Rattle.cmb_core.specs.Tables.{given_at, pins_on, readers_from, listed_readers, AreTables}
+use Rattle.cmb_core.specs.Directory.{given_at, pins_on, readers_from, listed_readers, IsDirectory}
 use Rattle.cmb_core.specs.Trims.{need, need_at, least_need, trimmed_to, trimmed_wave, trimmed}
 use Rattle.std.proofs.lemmas.List.{length-map}
 use Rattle.cmb_core.proofs.ClusterLemmas.{gone_on_set, sound_still}
@@ -60,18 +60,18 @@ module _ (ws : List Wave) (i least : ℕ) (w : Wave) (h : i < length ws) (net : 
   abbrev after : List Wave
   after = set ws i w
 
-  there_still : (o : Operand) → IsThere ws o → IsThere after o
+  there_still : (o : Pin) → IsThere ws o → IsThere after o
   there_still o t = set_slots ws i w (new_wave 0) h net o.net ∙ t
 
-  base_here : (o : Operand) → IsThere ws o → o.slot ≡ i → (wave_at after o.net).base ≡ least
+  base_here : (o : Pin) → IsThere ws o → o.slot ≡ i → (wave_at after o.net).base ≡ least
   base_here o t e =
       ap (λ v. v.base) (sym (read_slot after o.net o.slot (new_wave 0) (there_still o t)) ∙ ap (λ k. get_or after k (new_wave 0)) e ∙ get_or-set_same ws i w (new_wave 0) h) ∙ base
 
-  base_other : (o : Operand) → IsThere ws o → (o.slot ≡ i → ⊥) → (wave_at after o.net).base ≡ (wave_at ws o.net).base
+  base_other : (o : Pin) → IsThere ws o → (o.slot ≡ i → ⊥) → (wave_at after o.net).base ≡ (wave_at ws o.net).base
   base_other o t ne =
       ap (λ v. v.base) (sym (read_slot after o.net o.slot (new_wave 0) (there_still o t)) ∙ get_or-set_other ws i o.slot w (new_wave 0) ne ∙ read_slot ws o.net o.slot (new_wave 0) t)
 
-  gate_still : (slot clock : ℕ) (os : List Operand) → AreReady ws clock os → AllByRecursion (λ r. least ≤ clock - r.delay) (pins_on i slot os) → AreReady after clock os
+  gate_still : (slot clock : ℕ) (os : List Pin) → AreReady ws clock os → AllByRecursion (λ r. least ≤ clock - r.delay) (pins_on i slot os) → AreReady after clock os
   gate_still slot clock [] r a = tt
   gate_still slot clock (o ∷ os) r a = go (cases_eq o.slot i) (λ b. gate_still slot clock os r.1 b)
     where
@@ -86,7 +86,7 @@ module _ (ws : List Wave) (i least : ℕ) (w : Wave) (h : i < length ws) (net : 
           let kept : (wave_at ws o.net).base ≤ clock - o.delay = r.0.1 in
           ((there_still o r.0.0, omega (arith, base_other o r.0.0 ne)), rest b)
 
-  flop_still : (slot clock first period : ℕ) (init : Level) (os : List Operand) (cs : List Change) → IsReadyFor ws clock (Flop first period init) os cs → AllByRecursion (λ r. least ≤ flop_need first period r.delay clock) (pins_on i slot os) → IsReadyFor after clock (Flop first period init) os cs
+  flop_still : (slot clock first period : ℕ) (init : Level) (os : List Pin) (cs : List Change) → IsReadyFor ws clock (Flop first period init) os cs → AllByRecursion (λ r. least ≤ sample_need first period r.delay clock) (pins_on i slot os) → IsReadyFor after clock (Flop first period init) os cs
   flop_still slot clock first period init [] cs r a = absurd r
   flop_still slot clock first period init (o ∷ []) cs r a = go (cases_eq o.slot i)
     where
@@ -96,18 +96,18 @@ module _ (ws : List Wave) (i least : ℕ) (w : Wave) (h : i < length ws) (net : 
           let b = rw e at a in
           (r.0, there_still o r.1, omega (arith, base_here o r.1 same, b.0))
       go (inr ne) =
-          let kept : (wave_at ws o.net).base ≤ flop_need first period o.delay clock = r.2 in
+          let kept : (wave_at ws o.net).base ≤ sample_need first period o.delay clock = r.2 in
           (r.0, there_still o r.1, omega (arith, base_other o r.1 ne))
   flop_still slot clock first period init (o ∷ q ∷ os) cs r a = absurd r
 
-  pub ready_trimmed : (slot clock : ℕ) (rule : Rule) (os : List Operand) (cs : List Change) → IsReadyFor ws clock rule os cs → AllByRecursion (λ r. least ≤ need rule r.delay clock) (pins_on i slot os) → IsReadyFor after clock rule os cs
+  pub ready_trimmed : (slot clock : ℕ) (rule : Rule) (os : List Pin) (cs : List Change) → IsReadyFor ws clock rule os cs → AllByRecursion (λ r. least ≤ need rule r.delay clock) (pins_on i slot os) → IsReadyFor after clock rule os cs
   ready_trimmed slot clock Given os cs r a = tt
   ready_trimmed slot clock Input os cs r a = r
   ready_trimmed slot clock (Gate kind) os cs r a = (r.0, gate_still slot clock os r.1 a)
   ready_trimmed slot clock (Flop first period init) os cs r a = flop_still slot clock first period init os cs r a
 
 -- the needs of the pins of one process
-needs_of : (ps : List Process) (ws : List Wave) (least place slot : ℕ) (os : List Operand) → AllByRecursion (λ r. least ≤ need_at ps ws r) (pins_on place slot os)
+needs_of : (ps : List Process) (ws : List Wave) (least place slot : ℕ) (os : List Pin) → AllByRecursion (λ r. least ≤ need_at ps ws r) (pins_on place slot os)
     → AllByRecursion (λ r. least ≤ need (get_or ps slot (record { rule = Given; operands = []; stimulus = [] })).rule r.delay (get_or ws slot (new_wave 0)).clock) (pins_on place slot os)
 needs_of ps ws least place slot [] a = tt
 needs_of ps ws least place slot (o ∷ os) a = go (eqb o.slot place) a (λ b. needs_of ps ws least place slot os b)
@@ -244,7 +244,7 @@ all_append : (P : Reader → Type 0) (xs ys : List Reader) → AllByRecursion P 
 all_append P [] ys a b = b
 all_append P (x ∷ xs) ys a b = (a.0, all_append P xs ys a.1 b)
 
-pins_below : (place slot most : ℕ) (os : List Operand) → slot < most → AllByRecursion (λ r. r.slot < most) (pins_on place slot os)
+pins_below : (place slot most : ℕ) (os : List Pin) → slot < most → AllByRecursion (λ r. r.slot < most) (pins_on place slot os)
 pins_below place slot most [] h = tt
 pins_below place slot most (o ∷ os) h = go (eqb o.slot place) (pins_below place slot most os h)
   where
@@ -265,12 +265,12 @@ listed_below ps place given =
 pub listed_given : (ps : List Process) (place : ℕ) → given_at ps place ≡ true → listed_readers ps ps place ≡ readers_from place 0 ps
 listed_given ps place given = ap (λ b. cond b (readers_from place 0 ps) []) given
 
-pub readers_length : (ps : List Process) (nets : List ℕ) (tables : Tables) → AreTables ps nets tables → length tables.readers.items ≡ length ps
-readers_length ps nets tables a =
-    sym (length-map tables.readers.items (λ list. list.items)) ∙ ap length a.readers ∙ length-map-range_with_len (listed_readers ps ps) 0 (length ps)
+pub readers_length : (ps : List Process) (nets : List ℕ) (directory : Directory) → IsDirectory ps nets directory → length directory.readers.items ≡ length ps
+readers_length ps nets directory a =
+    sym (length-map directory.readers.items (λ list. list.items)) ∙ ap length a.readers ∙ length-map-range_with_len (listed_readers ps ps) 0 (length ps)
 
-pub readers_at : (ps : List Process) (nets : List ℕ) (tables : Tables) (slot : ℕ) (v : Vec Reader Global) → AreTables ps nets tables → slot < length ps → v ≡ get_or tables.readers.items slot v → v.items ≡ listed_readers ps ps slot
-readers_at ps nets tables slot v a h e =
-    let long : slot < length tables.readers.items = omega (arith, readers_length ps nets tables a) in
-    ap (λ list. list.items) e ∙ sym (get_or-map (λ list. list.items) tables.readers.items slot v [] long) ∙ ap (λ t. get_or t slot []) a.readers
+pub readers_at : (ps : List Process) (nets : List ℕ) (directory : Directory) (slot : ℕ) (v : Vec Reader Global) → IsDirectory ps nets directory → slot < length ps → v ≡ get_or directory.readers.items slot v → v.items ≡ listed_readers ps ps slot
+readers_at ps nets directory slot v a h e =
+    let long : slot < length directory.readers.items = omega (arith, readers_length ps nets directory a) in
+    ap (λ list. list.items) e ∙ sym (get_or-map (λ list. list.items) directory.readers.items slot v [] long) ∙ ap (λ t. get_or t slot []) a.readers
     ∙ get_or-map-range_with_len (listed_readers ps ps) 0 (length ps) slot slot [] h (omega arith)

@@ -26,7 +26,7 @@ use Rattle.cmb_core.specs.Opened.{IsClusterOf, IsOwnNet}
 use Rattle.cmb_core.specs.Reach.{reach_by, IsKept}
 use Rattle.cmb_core.specs.Rows.{Process, slot_of, is_given}
 use Rattle.cmb_core.specs.Step.{wave_at, told_level, told_upto, told_from, step_changes, step_reach, step_piece, with_wave}
-use Rattle.cmb_core.specs.Tables.{given_at, readers_from}
+use Rattle.cmb_core.specs.Directory.{given_at, readers_from}
 use Rattle.cmb_core.specs.Trims.{least_need, trimmed_to, trimmed_wave, trimmed, IsTrim, AreTrims, IsTrimOf, AreAlike, AreTraces}
 use Rattle.cmb_core.proofs.Driven.{Drives, before-continued}
 use Rattle.cmb_core.proofs.ExactFacts.{kept_here, taken_is}

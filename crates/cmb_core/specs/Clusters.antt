@@ -9,7 +9,7 @@ use Rattle.cmb_bench.specs.declared.netlist.Driver.{Driver}
 use Rattle.cmb_bench.specs.declared.netlist.Driver.TheVariants.{Input as InputNet, Gate as GateNet, Flop as FlopNet}
 use Rattle.cmb_design.specs.Design.{Design}
 use Rattle.cmb_design.specs.Timing.{delay, clock_of, stimulus}
-use Rattle.cmb_core.specs.declared.process.Operand.{Operand}
+use Rattle.cmb_core.specs.declared.process.Pin.{Pin}
 use Rattle.cmb_core.specs.declared.process.Rule.TheVariants.{Given, Input, Gate, Flop}
 use Rattle.cmb_core.specs.Rows.{Process, IsReadyFor, slot_of, process_level, process_reach, is_given}
 use Rattle.cmb_core.specs.Spans.{changes_from}
@@ -80,7 +80,7 @@ pub record IsSound (s : Cluster) : Type 0 where
   pub ready : (i : ℕ) → i < length s.processes → IsReadyFor s.waves (slot_wave s i).clock (process_at s i).rule (process_at s i).operands (process_at s i).stimulus
 
 -- the operands are the nets on a net's pins, from a pin on, with their delays
-abbrev pub AreOperands : Design → ℕ → ℕ → List ℕ → List Operand → Type 0
+abbrev pub AreOperands : Design → ℕ → ℕ → List ℕ → List Pin → Type 0
 AreOperands design net pin [] [] = Unit {0}
 AreOperands design net pin (source ∷ sources) (o ∷ os) =
     (o.net ≡ source) × (o.delay ≡ delay design net pin) × AreOperands design net (suc pin) sources os

@@ -5,7 +5,7 @@ use Rattle.cmb_wave.specs.declared.level.Level.TheVariants.{X}
 use Rattle.cmb_wave.specs.declared.level.Change.{Change}
 use Rattle.cmb_wave.specs.Waveform.{level_at, Rises}
 use Rattle.cmb_wave.specs.Wave.{Wave}
-use Rattle.cmb_core.specs.declared.process.Operand.{Operand}
+use Rattle.cmb_core.specs.declared.process.Pin.{Pin}
 use Rattle.cmb_core.specs.declared.process.Rule.{Rule}
 use Rattle.cmb_core.specs.declared.process.Rule.TheVariants.{Given, Input, Gate, Flop}
 use Rattle.cmb_bench.specs.declared.netlist.Kind.{Kind}
@@ -24,7 +24,7 @@ abbrev pub delayed_wave : Wave → ℕ → ℕ → Level
 delayed_wave w delay t = if nat_lt t delay then X else level_at w.kept w.changes (t - delay)
 
 -- the levels that the operands of a gate have for the output's tick `t`
-abbrev pub delayed_levels : List Wave → List Operand → ℕ → List Level
+abbrev pub delayed_levels : List Wave → List Pin → ℕ → List Level
 delayed_levels waves [] t = []
 delayed_levels waves (o ∷ os) t = delayed_wave (wave_at waves o.net) o.delay t ∷ delayed_levels waves os t
 
@@ -35,23 +35,23 @@ sampled_wave w first period init delay t =
     else level_at w.kept w.changes (last_sample first period (t - delay))
 
 -- an operand's wave is in its place
-abbrev pub IsThere : List Wave → Operand → Type 0
+abbrev pub IsThere : List Wave → Pin → Type 0
 IsThere waves o = slot_of waves o.net ≡ Some o.slot
 
 -- an operand's wave is there, and keeps what the output needs from `clock` on
-abbrev pub IsReady : List Wave → ℕ → Operand → Type 0
+abbrev pub IsReady : List Wave → ℕ → Pin → Type 0
 IsReady waves clock o = IsThere waves o × ((wave_at waves o.net).base ≤ clock - o.delay)
 
-abbrev pub AreReady : List Wave → ℕ → List Operand → Type 0
+abbrev pub AreReady : List Wave → ℕ → List Pin → Type 0
 AreReady waves clock [] = Unit {0}
 AreReady waves clock (o ∷ os) = IsReady waves clock o × AreReady waves clock os
 
 -- the level that a gate has at tick `t`
-abbrev pub gate_row : Kind → List Wave → List Operand → ℕ → Level
+abbrev pub gate_row : Kind → List Wave → List Pin → ℕ → Level
 gate_row kind waves os t = gate kind (delayed_levels waves os t)
 
 -- up to here a gate's operands are known at its output
-abbrev pub gate_reach : ℕ → List Wave → List Operand → ℕ
+abbrev pub gate_reach : ℕ → List Wave → List Pin → ℕ
 gate_reach horizon waves [] = horizon
 gate_reach horizon waves (o ∷ os) = min ((wave_at waves o.net).clock + o.delay) (gate_reach horizon waves os)
 
@@ -62,25 +62,25 @@ flop_reach horizon first period delay known = min (next_sample first period know
 -- what contracts see of a process
 pub record Process : Type 0 where
   pub rule : Rule
-  pub operands : List Operand
+  pub operands : List Pin
   -- an input's changes
   pub stimulus : List Change
 
 -- from here on a flip-flop still needs its data, as its output stands at `clock`
-abbrev pub flop_need : ℕ → ℕ → ℕ → ℕ → ℕ
-flop_need first period delay clock = if nat_lt clock (first + delay) then 0 else last_sample first period (clock - delay)
+abbrev pub sample_need : ℕ → ℕ → ℕ → ℕ → ℕ
+sample_need first period delay clock = if nat_lt clock (first + delay) then 0 else last_sample first period (clock - delay)
 
 -- a process has the operands that it takes, and their waves keep what it still needs
-abbrev pub IsReadyFor : List Wave → ℕ → Rule → List Operand → List Change → Type 0
+abbrev pub IsReadyFor : List Wave → ℕ → Rule → List Pin → List Change → Type 0
 IsReadyFor waves clock Given os cs = Unit {0}
 IsReadyFor waves clock Input os cs = Rises 0 cs
 IsReadyFor waves clock (Gate kind) os cs = MayTake kind (length os) × AreReady waves clock os
 IsReadyFor waves clock (Flop first period init) (o ∷ []) cs =
-    (0 < period) × IsThere waves o × ((wave_at waves o.net).base ≤ flop_need first period o.delay clock)
+    (0 < period) × IsThere waves o × ((wave_at waves o.net).base ≤ sample_need first period o.delay clock)
 IsReadyFor waves clock (Flop first period init) _ cs = ⊥
 
 -- the level that a process has at tick `t`
-abbrev pub process_level : List Wave → Rule → List Operand → List Change → ℕ → Level
+abbrev pub process_level : List Wave → Rule → List Pin → List Change → ℕ → Level
 process_level waves Given os cs t = X
 process_level waves Input os cs t = level_at X cs t
 process_level waves (Gate kind) os cs t = gate_row kind waves os t
@@ -88,7 +88,7 @@ process_level waves (Flop first period init) [] cs t = X
 process_level waves (Flop first period init) (o ∷ os) cs t = sampled_wave (wave_at waves o.net) first period init o.delay t
 
 -- up to here a process can go on
-abbrev pub process_reach : ℕ → List Wave → Rule → List Operand → ℕ
+abbrev pub process_reach : ℕ → List Wave → Rule → List Pin → ℕ
 process_reach horizon waves Given os = 0
 process_reach horizon waves Input os = horizon
 process_reach horizon waves (Gate kind) os = gate_reach horizon waves os

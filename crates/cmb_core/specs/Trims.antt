@@ -6,15 +6,15 @@ use Rattle.cmb_wave.specs.Wave.{Wave, new_wave, wave_from}
 use Rattle.cmb_core.specs.declared.delivery.DeliverFault.{DeliverFault}
 use Rattle.cmb_core.specs.declared.process.Rule.{Rule}
 use Rattle.cmb_core.specs.declared.process.Rule.TheVariants.{Given, Input, Gate, Flop}
-use Rattle.cmb_core.specs.declared.tables.Reader.{Reader}
+use Rattle.cmb_core.specs.declared.directory.Reader.{Reader}
 use Rattle.cmb_core.specs.Clusters.{Cluster, slot_wave}
-use Rattle.cmb_core.specs.Rows.{Process, flop_need}
-use Rattle.cmb_core.specs.Tables.{given_at, readers_from}
+use Rattle.cmb_core.specs.Rows.{Process, sample_need}
+use Rattle.cmb_core.specs.Directory.{given_at, readers_from}
 
 -- from this tick on a process needs what is on a pin with a delay, as its output stands at `clock`
 abbrev pub need : Rule → ℕ → ℕ → ℕ
 need (Gate kind) delay clock = clock - delay
-need (Flop first period init) delay clock = flop_need first period delay clock
+need (Flop first period init) delay clock = sample_need first period delay clock
 need Given delay clock = 0
 need Input delay clock = 0
 

@@ -6,10 +6,10 @@ ghost use Rattle.std.specs.Prelude.{None, slice_set, length, map};
 use crate::advance::Span;
 use crate::clustering::Clustering;
 use crate::delivery::{DeliverFault, Stranger, refusal};
+use crate::directory::{Directory, place_of};
 use crate::node::Node;
 use crate::open::{nets_held, nodes_of, places_among, sides_of, waves_of};
 use crate::readers::readers_among;
-use crate::tables::{Tables, place_of};
 use cmb_design::Design;
 use cmb_wave::{Heard, Piece, Promise, Wave, WaveFault};
 use std::alloc::{AllocError, Global};
@@ -21,12 +21,12 @@ pub struct Cluster {
     pub(crate) horizon: u32,
     pub(crate) processes: Vec<Node>,
     pub(crate) waves: Vec<Wave>,
-    pub(crate) tables: Tables,
+    pub(crate) directory: Directory,
 }
 
 impl Model for Cluster {
     ghost use Rattle.cmb_core.specs.Clusters.{Cluster, IsSound, wave_nets};
-    ghost use Rattle.cmb_core.specs.Tables.{AreTables};
+    ghost use Rattle.cmb_core.specs.Directory.{IsDirectory};
 
     ghost Value = { Cluster };
 
@@ -35,7 +35,7 @@ impl Model for Cluster {
     ghost invariant = { λ c. record {
       sound : IsSound
           (record { horizon = c.horizon; processes = c.processes.items; waves = c.waves.items });
-      tables : AreTables c.processes.items (wave_nets c.waves.items) c.tables;
+      directory : IsDirectory c.processes.items (wave_nets c.waves.items) c.directory;
     } };
 }
 
@@ -78,7 +78,7 @@ impl Cluster {
             horizon: design.horizon(),
             processes,
             waves,
-            tables: Tables {
+            directory: Directory {
                 places,
                 driven,
                 inputs,
@@ -121,7 +121,7 @@ impl Cluster {
         ensures place { result ≡ slot_of self.now.waves net }
         ensures there { IfSome result (λ slot. slot < length self.now.waves) }
     {
-        match place_of(&self.tables.places, net) {
+        match place_of(&self.directory.places, net) {
             Some(slot) => Some(slot as usize),
             None => None,
         }

@@ -7,6 +7,7 @@ mod below;
 pub mod cluster;
 pub mod clustering;
 pub mod delivery;
+pub mod directory;
 pub mod laws;
 mod merge;
 mod node;
@@ -17,7 +18,6 @@ mod progress;
 mod readers;
 mod reads;
 mod stepping;
-pub mod tables;
 mod trim;
 
 pub use cluster::Cluster;

@@ -78,7 +78,7 @@ impl<'a> PinCursor<'a> {
 
 // Lets the changes of each pin through that reach the output by `now`, and answers the tick up to which the
 // levels that they leave stay, at most `until`.
-fn pass(pins: &mut [PinCursor], now: u32, until: u32) -> u32
+fn let_through(pins: &mut [PinCursor], now: u32, until: u32) -> u32
     requires { now < until }
     ensures { Passed pins.old pins.new now until result }
 {
@@ -128,7 +128,7 @@ pub(crate) fn merge(
     let mut last = before;
     let mut now = from;
     while now < until {
-        let next = pass(pins, now, until);
+        let next = let_through(pins, now, until);
         read_levels(pins, &mut seen)?;
         let level = gate(kind, &seen);
         if differ(level, last) {

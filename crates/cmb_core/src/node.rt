@@ -6,7 +6,7 @@ use crate::advance::{
     Span, flop_changes, gate_changes, input_changes, reach_of_flop, reach_of_gate,
 };
 use crate::pins::operand_wave;
-use crate::process::{Operand, Rule};
+use crate::process::{Pin, Rule};
 use cmb_wave::{Change, Wave};
 use std::alloc::AllocError;
 use std::marker::Model;
@@ -15,7 +15,7 @@ use std::marker::Model;
 #[derive(Drop)]
 pub(crate) struct Node {
     rule: Rule,
-    operands: Vec<Operand>,
+    operands: Vec<Pin>,
     stimulus: Vec<Change>,
 }
 
@@ -32,7 +32,7 @@ impl Node {
     ghost use Rattle.cmb_core.specs.Rows.{IsReadyFor, is_given, process_level, process_reach};
     ghost use Rattle.cmb_core.specs.Spans.{changes_from};
 
-    pub(crate) fn new(rule: Rule, operands: Vec<Operand>, stimulus: Vec<Change>) -> Node
+    pub(crate) fn new(rule: Rule, operands: Vec<Pin>, stimulus: Vec<Change>) -> Node
         ensures { result ≡ record { rule = rule; operands = operands.items; stimulus = stimulus.items } }
     {
         Node {
@@ -50,7 +50,7 @@ impl Node {
     }
 
     /// What the process reads.
-    pub(crate) fn operands(&self) -> &[Operand]
+    pub(crate) fn operands(&self) -> &[Pin]
         ensures { result.now ≡ self.now.operands }
     {
         self.operands.as_slice()

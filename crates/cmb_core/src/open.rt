@@ -11,11 +11,12 @@ ghost use Rattle.cmb_core.specs.Clustering.{cluster_of};
 ghost use Rattle.cmb_core.specs.Clusters.{AreOperands, IsDrivenBy};
 ghost use Rattle.cmb_core.specs.Opened.{AreProcessesOf, IsProcessOf, held_nets};
 ghost use Rattle.cmb_core.specs.Opening.{AreRead, ArePlaced, AreAt, StartsOn, AllStartOn};
-ghost use Rattle.cmb_core.specs.Tables.{place_in, driven_among, given_among};
+ghost use Rattle.cmb_core.specs.Directory.{place_in, driven_among, given_among};
 
 use crate::clustering::Clustering;
 use crate::node::Node;
-use crate::process::{Operand, Rule};
+use crate::process::{Pin, Rule};
+use cmb_bench::MAX_NETS;
 use cmb_bench::netlist::{Driver, Kind};
 use cmb_design::Design;
 use cmb_wave::Wave;
@@ -54,7 +55,7 @@ fn nets_read(
 ) -> Result<Vec<bool>, AllocError>
     requires { length clustering.now.assign ≡ nets_of design.now }
     ensures read { IfOk result (λ read. AreRead design.now clustering.now cluster (nets_of design.now) read.items) }
-    ensures few { IfOk result (λ read. length read.items ≤ 65535) }
+    ensures few { IfOk result (λ read. length read.items ≤ MAX_NETS) }
 {
     let netlist = design.netlist();
     let mut read = vec![in alloc; false; netlist.len()]?;
@@ -83,7 +84,7 @@ fn nets_marked(
     read: &[bool],
 ) -> Result<Vec<u32>, AllocError>
     requires nets { length clustering.now.assign ≡ length read.now }
-    requires few { length read.now ≤ 65535 }
+    requires few { length read.now ≤ MAX_NETS }
     ensures { IfOk result (λ nets. nets.items
         ≡ filter (λ net. (cluster_of clustering.now net == cluster) || slice_index_or read.now net false)
         (range_with_len 0 (length read.now))) }
@@ -118,7 +119,7 @@ pub(crate) fn places_among(
     count: usize,
 ) -> Result<Vec<Option<u16>>, AllocError>
     requires there { All (λ net. net < count) nets.now }
-    requires few { length nets.now ≤ 65535 }
+    requires few { length nets.now ≤ MAX_NETS }
     ensures places { IfOk result (λ places. (net : ℕ) → slice_index_or places.items net None ≡ place_in nets.now net) }
     ensures count { IfOk result (λ places. length places.items ≡ count) }
 {
@@ -136,19 +137,19 @@ fn operands_on(
     net: u32,
     sources: &[u32],
     places: &[Option<u16>],
-) -> Result<Vec<Operand>, AllocError>
+) -> Result<Vec<Pin>, AllocError>
     requires net { net < nets_of design.now }
     requires pins { sources.now ≡ pins_of (driver_of design.now.netlist net) }
     requires placed { ArePlaced places.now sources.now }
     requires there { All (λ source. source < length places.now) sources.now }
-    requires few { length places.now ≤ 65535 }
+    requires few { length places.now ≤ MAX_NETS }
     ensures operands { IfOk result (λ operands. AreOperands design.now net 1 sources.now operands.items) }
     ensures places { IfOk result (λ operands. AreAt places.now operands.items) }
     ensures count { IfOk result (λ operands. length operands.items ≡ length sources.now) }
 {
     let mut operands = Vec::with_capacity(alloc, sources.len())?;
     for (i, source) in sources.iter().enumerate() {
-        operands.push(Operand {
+        operands.push(Pin {
             net: *source as u16,
             slot: places[*source as usize].unwrap(),
             delay: design.delay(net as usize, i + 1),
@@ -182,7 +183,7 @@ fn gate_node(
     requires takes { MayTake kind (length sources.now) }
     requires placed { ArePlaced places.now sources.now }
     requires there { All (λ source. source < length places.now) sources.now }
-    requires few { length places.now ≤ 65535 }
+    requires few { length places.now ≤ MAX_NETS }
     ensures driven { IfOk result (λ node. IsDrivenBy design.now net (driver_of design.now.netlist net) node) }
     ensures starts { IfOk result (λ node. StartsOn places.now node) }
 {
@@ -202,7 +203,7 @@ fn flop_node(
     requires driver { driver_of design.now.netlist net ≡ Flop source }
     requires placed { ArePlaced places.now (source ∷ []) }
     requires there { source < length places.now }
-    requires few { length places.now ≤ 65535 }
+    requires few { length places.now ≤ MAX_NETS }
     ensures driven { IfOk result (λ node. IsDrivenBy design.now net (driver_of design.now.netlist net) node) }
     ensures starts { IfOk result (λ node. StartsOn places.now node) }
 {
@@ -226,7 +227,7 @@ fn driven_node(
     requires net { net < nets_of design.now }
     requires wired { IsWired (nets_of design.now) (driver_of design.now.netlist net) }
     requires places { length places.now ≡ nets_of design.now }
-    requires few { length places.now ≤ 65535 }
+    requires few { length places.now ≤ MAX_NETS }
     requires placed { ArePlaced places.now (pins_of (driver_of design.now.netlist net)) }
     ensures driven { IfOk result (λ node. IsDrivenBy design.now net (driver_of design.now.netlist net) node) }
     ensures starts { IfOk result (λ node. StartsOn places.now node) }

@@ -7,14 +7,14 @@ ghost use Rattle.cmb_core.specs.Rows.{delayed_wave, delayed_levels, IsReady, Are
 ghost use Rattle.cmb_core.specs.Step.{wave_at};
 
 use crate::merge::{Lag, PinCursor};
-use crate::process::Operand;
+use crate::process::Pin;
 use cmb_wave::Wave;
 use cmb_wave::search::{Rest, left_from};
 use std::alloc::{AllocError, Global};
 
 /// The wave that an operand reads.
 #[tactic(auto, using(crate::proofs::Slots::slot_there, crate::proofs::Slots::slot_wave))]
-pub(crate) fn operand_wave(waves: &[Wave], operand: Operand) -> &Wave
+pub(crate) fn operand_wave(waves: &[Wave], operand: Pin) -> &Wave
     requires { IsThere waves.now operand }
     ensures { result.now ≡ wave_at waves.now operand.net }
 {
@@ -22,7 +22,7 @@ pub(crate) fn operand_wave(waves: &[Wave], operand: Operand) -> &Wave
 }
 
 /// What is left from a tick on of the wave that an operand reads.
-pub(crate) fn operand_left(waves: &[Wave], operand: Operand, tick: u32) -> Rest<'_>
+pub(crate) fn operand_left(waves: &[Wave], operand: Pin, tick: u32) -> Rest<'_>
     requires { IsThere waves.now operand }
     ensures { (t : ℕ) → tick ≤ t → level_at result.level result.changes.now t
         ≡ level_at (wave_at waves.now operand.net).kept (wave_at waves.now operand.net).changes t }
@@ -32,7 +32,7 @@ pub(crate) fn operand_left(waves: &[Wave], operand: Operand, tick: u32) -> Rest<
 }
 
 /// The pin of an operand that reaches the output with a delay, from the output's clock on.
-pub(crate) fn pin_of(waves: &[Wave], operand: Operand, clock: u32) -> PinCursor<'_>
+pub(crate) fn pin_of(waves: &[Wave], operand: Pin, clock: u32) -> PinCursor<'_>
     requires { IsReady waves.now clock operand }
     ensures { (t : ℕ) → clock ≤ t → pin_at result t ≡ delayed_wave (wave_at waves.now operand.net) operand.delay t }
 {
@@ -49,7 +49,7 @@ pub(crate) fn pin_of(waves: &[Wave], operand: Operand, clock: u32) -> PinCursor<
 /// The pins of a gate, from the output's clock on.
 pub(crate) fn gate_pins<'a>(
     alloc: Global,
-    operands: &[Operand],
+    operands: &[Pin],
     waves: &'a [Wave],
     clock: u32,
 ) -> Result<Vec<PinCursor<'a>>, AllocError>

@@ -3,11 +3,12 @@
 ghost use Rattle.std.specs.Prelude.{◌≡◌, ◌<◌, ◌≤◌, ◌++◌, ◌∷◌, ℕ, [], IfOk, OnOk, length, map, slice_index_or};
 ghost use Rattle.std.specs.Prelude.{slice_set, replicate, All, if◌then◌else◌};
 ghost use Rattle.std.specs.List.{range_with_len};
-ghost use Rattle.cmb_core.specs.Tables.{pins_on, listed_readers, given_at};
+ghost use Rattle.cmb_core.specs.Directory.{pins_on, listed_readers, given_at};
 
+use crate::directory::Reader;
 use crate::node::Node;
-use crate::process::Operand;
-use crate::tables::Reader;
+use crate::process::Pin;
+use cmb_bench::MAX_NETS;
 use std::alloc::{AllocError, Global};
 
 // Adds a pin to the list of a place.
@@ -25,7 +26,7 @@ fn push_reader(readers: &mut [Vec<Reader>], place: usize, reader: Reader) -> Res
 fn push_readers(
     nodes: &[Node],
     slot: u32,
-    operands: &[Operand],
+    operands: &[Pin],
     readers: &mut [Vec<Reader>],
 ) -> Result<(), AllocError>
     requires within { All (λ operand. operand.slot < length nodes.now) operands.now }
@@ -62,7 +63,7 @@ fn empty_lists(alloc: Global, count: usize) -> Result<Vec<Vec<Reader>>, AllocErr
 /// For each place the pins that read its wave, none where that wave is driven here.
 pub(crate) fn readers_among(alloc: Global, nodes: &[Node]) -> Result<Vec<Vec<Reader>>, AllocError>
     requires within { All (λ node. All (λ operand. operand.slot < length nodes.now) node.operands) nodes.now }
-    requires few { length nodes.now ≤ 65535 }
+    requires few { length nodes.now ≤ MAX_NETS }
     ensures { IfOk result (λ readers. map (λ list. list.items) readers.items
         ≡ map (listed_readers nodes.now nodes.now) (range_with_len 0 (length nodes.now))) }
 {

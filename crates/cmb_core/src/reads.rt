@@ -112,7 +112,7 @@ impl Cluster {
         ensures own { (design : Design) (clustering : Clusters) (cluster : ℕ)
             → IsClusterOf design clustering cluster self.now → result.now ≡ own_nets design clustering cluster }
     {
-        self.tables.driven.as_slice()
+        self.directory.driven.as_slice()
     }
 
     /// The other nets that they read, by rising number. The waves of these keep what is still needed of them.
@@ -122,7 +122,7 @@ impl Cluster {
         ensures read { (design : Design) (clustering : Clusters) (cluster : ℕ)
             → IsClusterOf design clustering cluster self.now → result.now ≡ read_nets design clustering cluster }
     {
-        self.tables.inputs.as_slice()
+        self.directory.inputs.as_slice()
     }
 
     /// Whether every net that is driven here is known up to the horizon.

@@ -5,19 +5,19 @@ ghost use Rattle.cmb_design.specs.Design.{Design};
 ghost use Rattle.cmb_core.specs.Clustering.{Clustering};
 ghost use Rattle.cmb_core.specs.Clusters.{IsSameButWaves, slot_wave};
 ghost use Rattle.cmb_core.specs.Exactness.{IsExactCluster};
-ghost use Rattle.cmb_core.specs.Rows.{flop_need};
-ghost use Rattle.cmb_core.specs.Tables.{given_at, readers_from};
+ghost use Rattle.cmb_core.specs.Rows.{sample_need};
+ghost use Rattle.cmb_core.specs.Directory.{given_at, readers_from};
 ghost use Rattle.cmb_core.specs.Trims.{least_need, need, trimmed, trimmed_to, trimmed_wave};
 
 use crate::cluster::Cluster;
+use crate::directory::Reader;
 use crate::node::Node;
 use crate::process::Rule;
-use crate::tables::Reader;
 use cmb_wave::Wave;
 
 // From this tick on a flip-flop needs its data, as its output stands at a clock.
 fn need_of_flop(first: u32, period: u32, delay: u32, clock: u32) -> u32
-    ensures { result ≡ flop_need first period delay clock }
+    ensures { result ≡ sample_need first period delay clock }
 {
     if u64::from(clock) < u64::from(first) + u64::from(delay) {
         return 0;
@@ -75,7 +75,7 @@ impl Cluster {
             (slot_wave self.now slot).clock }
         ensures known { result ≤ (slot_wave self.now slot).clock }
     {
-        let readers = self.tables.readers[slot].as_slice();
+        let readers = self.directory.readers[slot].as_slice();
         let most = self.wave(slot).clock();
         least_need_of(&self.processes, &self.waves, readers, most)
     }

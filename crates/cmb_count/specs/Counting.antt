@@ -1,4 +1,4 @@
--- What there is of each part of a design.
+-- What there is of each kind of driver in a design.
 use Rattle.std.specs.Prelude.{◌≡◌, length}
 use Rattle.cmb_bench.specs.Netlist.{Netlist}
 use Rattle.cmb_bench.specs.declared.netlist.Kind.TheVariants as kind
@@ -7,29 +7,29 @@ use Rattle.cmb_loops.specs.declared.steps.Steps.TheVariants as steps
 use Rattle.cmb_count.specs.Clocks.{clock_count}
 use Rattle.cmb_count.specs.Largest.{IsLargestDelay}
 use Rattle.cmb_count.specs.Loops.{IsLoopCount}
-use Rattle.cmb_count.specs.Parts.{part_count, silent_count, still_count}
+use Rattle.cmb_count.specs.DriverKinds.{kind_count, silent_count, still_count}
 use Rattle.cmb_count.specs.Unused.{unused_count}
 use Rattle.cmb_count.specs.declared.counts.Counts.{Counts}
 use Rattle.cmb_count.specs.declared.counts.GateCounts.{GateCounts}
-use Rattle.cmb_count.specs.declared.drivers.Part.TheVariants.{Inputs, Gates, Flops}
+use Rattle.cmb_count.specs.declared.drivers.DriverKind.TheVariants.{Inputs, Gates, Flops}
 
 -- the gates of each kind
 pub record AreGateCounts (netlist : Netlist) (gates : GateCounts) : Type 0 where
-  pub and : gates.and ≡ part_count netlist (Gates kind.And)
-  pub nand : gates.nand ≡ part_count netlist (Gates kind.Nand)
-  pub or : gates.or ≡ part_count netlist (Gates kind.Or)
-  pub nor : gates.nor ≡ part_count netlist (Gates kind.Nor)
-  pub xor : gates.xor ≡ part_count netlist (Gates kind.Xor)
-  pub xnor : gates.xnor ≡ part_count netlist (Gates kind.Xnor)
-  pub not : gates.not ≡ part_count netlist (Gates kind.Not)
-  pub buff : gates.buff ≡ part_count netlist (Gates kind.Buff)
+  pub and : gates.and ≡ kind_count netlist (Gates kind.And)
+  pub nand : gates.nand ≡ kind_count netlist (Gates kind.Nand)
+  pub or : gates.or ≡ kind_count netlist (Gates kind.Or)
+  pub nor : gates.nor ≡ kind_count netlist (Gates kind.Nor)
+  pub xor : gates.xor ≡ kind_count netlist (Gates kind.Xor)
+  pub xnor : gates.xnor ≡ kind_count netlist (Gates kind.Xnor)
+  pub not : gates.not ≡ kind_count netlist (Gates kind.Not)
+  pub buff : gates.buff ≡ kind_count netlist (Gates kind.Buff)
 
 pub record AreCounts (design : Design) (counts : Counts) : Type 0 where
   pub nets : counts.nets ≡ length design.netlist.names
-  pub inputs : counts.inputs ≡ part_count design.netlist Inputs
+  pub inputs : counts.inputs ≡ kind_count design.netlist Inputs
   pub silent : counts.silent ≡ silent_count design
   pub gates : AreGateCounts design.netlist counts.gates
-  pub flops : counts.flops ≡ part_count design.netlist Flops
+  pub flops : counts.flops ≡ kind_count design.netlist Flops
   pub still : counts.still ≡ still_count design
   pub in_loops : IsLoopCount design.netlist steps.All counts.in_loops
   pub in_gate_loops : IsLoopCount design.netlist steps.Gates counts.in_gate_loops

@@ -1,8 +1,8 @@
 pub mod Below
-pub mod Parts
-pub mod Largest
+pub mod Clocks
 pub mod Counting
+pub mod DriverKinds
+pub mod Largest
+pub mod Loops
 pub mod Texts
 pub mod Unused
-pub mod Loops
-pub mod Clocks

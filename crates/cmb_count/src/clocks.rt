@@ -5,7 +5,7 @@ ghost use Rattle.std.specs.List.{list_any};
 ghost use Rattle.cmb_design.specs.declared.rows.Clock.{Clock as AnyClock};
 ghost use Rattle.cmb_count.specs.Clocks.{clock_count, same_clock};
 
-use crate::drivers::{Part, is_of_part};
+use crate::drivers::{DriverKind, has_kind};
 use cmb_design::{Clock, Design};
 use std::alloc::{AllocError, Global};
 
@@ -46,7 +46,7 @@ pub fn count_clocks(alloc: Global, design: &Design) -> Result<usize, AllocError>
 {
     let mut clocks = Vec::new(alloc);
     for net in 0..design.netlist().len() {
-        if is_of_part(&Part::Flops, design.netlist().driver(net)) {
+        if has_kind(&DriverKind::Flops, design.netlist().driver(net)) {
             note_clock(&mut clocks, design.clock(net))?;
         }
     }

@@ -4,7 +4,7 @@ ghost use Rattle.std.specs.Prelude.{IfOk};
 ghost use Rattle.cmb_count.specs.Counting.{AreCounts, AreGateCounts};
 
 use crate::clocks::count_clocks;
-use crate::drivers::{Part, count_drivers, count_silent, count_still};
+use crate::drivers::{DriverKind, count_drivers, count_silent, count_still};
 use crate::largest::largest_delay;
 use crate::loops::count_loops;
 use crate::unused::count_unused;
@@ -60,14 +60,14 @@ fn count_gates(netlist: &Netlist) -> GateCounts
     ensures { AreGateCounts netlist.now result }
 {
     GateCounts {
-        and: count_drivers(netlist, &Part::Gates(Kind::And)),
-        nand: count_drivers(netlist, &Part::Gates(Kind::Nand)),
-        or: count_drivers(netlist, &Part::Gates(Kind::Or)),
-        nor: count_drivers(netlist, &Part::Gates(Kind::Nor)),
-        xor: count_drivers(netlist, &Part::Gates(Kind::Xor)),
-        xnor: count_drivers(netlist, &Part::Gates(Kind::Xnor)),
-        not: count_drivers(netlist, &Part::Gates(Kind::Not)),
-        buff: count_drivers(netlist, &Part::Gates(Kind::Buff)),
+        and: count_drivers(netlist, &DriverKind::Gates(Kind::And)),
+        nand: count_drivers(netlist, &DriverKind::Gates(Kind::Nand)),
+        or: count_drivers(netlist, &DriverKind::Gates(Kind::Or)),
+        nor: count_drivers(netlist, &DriverKind::Gates(Kind::Nor)),
+        xor: count_drivers(netlist, &DriverKind::Gates(Kind::Xor)),
+        xnor: count_drivers(netlist, &DriverKind::Gates(Kind::Xnor)),
+        not: count_drivers(netlist, &DriverKind::Gates(Kind::Not)),
+        buff: count_drivers(netlist, &DriverKind::Gates(Kind::Buff)),
     }
 }
 
@@ -78,10 +78,10 @@ pub fn count_design(alloc: Global, design: &Design) -> Result<Counts, AllocError
     let netlist = design.netlist();
     Ok(Counts {
         nets: netlist.len(),
-        inputs: count_drivers(netlist, &Part::Inputs),
+        inputs: count_drivers(netlist, &DriverKind::Inputs),
         silent: count_silent(design),
         gates: count_gates(netlist),
-        flops: count_drivers(netlist, &Part::Flops),
+        flops: count_drivers(netlist, &DriverKind::Flops),
         still: count_still(design),
         in_loops: count_loops(alloc, netlist, Steps::All)?,
         in_gate_loops: count_loops(alloc, netlist, Steps::Gates)?,

@@ -3,14 +3,14 @@
 ghost use Rattle.std.specs.Prelude.{◌≡◌, ◌<◌, ◌≤◌, ◌==◌, length};
 ghost use Rattle.cmb_bench.specs.Netlist.{driver_of};
 ghost use Rattle.cmb_design.specs.Nets.{driver_cell, is_at, kind_number};
-ghost use Rattle.cmb_count.specs.Parts.{is_part, is_silent, is_still, part_count, silent_count, still_count};
+ghost use Rattle.cmb_count.specs.DriverKinds.{has_kind, is_silent, is_still, kind_count, silent_count, still_count};
 
 use cmb_bench::{Driver, Kind, Netlist};
 use cmb_design::Design;
 
 /// What drives the nets that are counted together.
 #[derive(Clone, Copy, Debug, PartialEq, Eq)]
-pub enum Part {
+pub enum DriverKind {
     /// INPUT statements.
     Inputs,
     /// Gates of a kind.
@@ -48,24 +48,24 @@ fn is_gate(kind: Kind, driver: &Driver) -> bool
     }
 }
 
-/// Whether a driver is of a part.
-pub(crate) fn is_of_part(part: &Part, driver: &Driver) -> bool
-    ensures { result ≡ is_part part.now driver.now }
+/// Whether a driver is of a kind.
+pub(crate) fn has_kind(wanted: &DriverKind, driver: &Driver) -> bool
+    ensures { result ≡ has_kind wanted.now driver.now }
 {
-    match part {
-        Part::Inputs => matches!(driver, Driver::Input),
-        Part::Gates(kind) => is_gate(*kind, driver),
-        Part::Flops => matches!(driver, Driver::Flop(_)),
+    match wanted {
+        DriverKind::Inputs => matches!(driver, Driver::Input),
+        DriverKind::Gates(kind) => is_gate(*kind, driver),
+        DriverKind::Flops => matches!(driver, Driver::Flop(_)),
     }
 }
 
-/// How many nets are driven by a part.
-pub fn count_drivers(netlist: &Netlist, part: &Part) -> usize
-    ensures { result ≡ part_count netlist.now part.now }
+/// How many nets are driven by drivers of a kind.
+pub fn count_drivers(netlist: &Netlist, wanted: &DriverKind) -> usize
+    ensures { result ≡ kind_count netlist.now wanted.now }
 {
     let mut count = 0;
     for net in 0..netlist.len() {
-        if is_of_part(part, netlist.driver(net)) {
+        if has_kind(wanted, netlist.driver(net)) {
             count += 1;
         }
     }
@@ -76,7 +76,8 @@ fn is_silent_input(design: &Design, net: usize) -> bool
     requires { net < length design.now.netlist.names }
     ensures { result ≡ is_silent design.now net }
 {
-    is_of_part(&Part::Inputs, design.netlist().driver(net)) && design.stim_changes(net).is_empty()
+    has_kind(&DriverKind::Inputs, design.netlist().driver(net))
+        && design.stim_changes(net).is_empty()
 }
 
 /// How many inputs are x at each tick below the horizon.
@@ -96,7 +97,7 @@ fn is_still_flop(design: &Design, net: usize) -> bool
     requires { net < length design.now.netlist.names }
     ensures { result ≡ is_still design.now net }
 {
-    is_of_part(&Part::Flops, design.netlist().driver(net))
+    has_kind(&DriverKind::Flops, design.netlist().driver(net))
         && design.horizon() <= design.clock(net).first
 }
 

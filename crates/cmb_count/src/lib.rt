@@ -13,7 +13,7 @@ pub mod unused;
 pub use clocks::count_clocks;
 pub use cmb_loops::Steps;
 pub use counts::{Counts, GateCounts, count_design};
-pub use drivers::{Part, count_drivers, count_silent, count_still};
+pub use drivers::{DriverKind, count_drivers, count_silent, count_still};
 pub use largest::largest_delay;
 pub use loops::count_loops;
 pub use text::counts_text;

@@ -13,7 +13,7 @@ ghost use Rattle.cmb_design.specs.Tables.{starts_of, table_size};
 use crate::fault::DesignFault;
 use crate::nets::{is_input_driver, number_of_cell, number_of_driver, pin_count};
 use crate::rows::{DelayRow, Delayed};
-use cmb_bench::Netlist;
+use cmb_bench::{MAX_TEXT, Netlist};
 use std::alloc::{AllocError, Global};
 
 fn place_of_pin(netlist: &Netlist, starts: &[usize], net: usize, pin: u64) -> Option<usize>
@@ -93,7 +93,7 @@ fn take_delay(
     table: &mut Vec<Option<u32>>,
 ) -> Result<(), DesignFault>
     requires within { i < length rows.now }
-    requires few { length rows.now ≤ 16777216 }
+    requires few { length rows.now ≤ MAX_TEXT }
     requires starts { starts.now ≡ starts_of netlist.now }
     requires room { table_size netlist.now < 2 ^ 64 }
     requires placed { all_placed netlist.now (take i rows.now) ≡ true }
@@ -128,7 +128,7 @@ fn take_delays(
     size: usize,
     rows: &[DelayRow],
 ) -> Result<Vec<Option<u32>>, DesignFault>
-    requires few { length rows.now ≤ 16777216 }
+    requires few { length rows.now ≤ MAX_TEXT }
     requires starts { starts.now ≡ starts_of netlist.now }
     requires size { size ≡ table_size netlist.now }
     ensures ok { IfOk result (λ v. (first_fault (rows_checks (delay_row_checks netlist.now) rows.now) ≡ None)
@@ -277,7 +277,7 @@ pub(crate) fn pin_delays(
     layout: &Layout,
     rows: &[DelayRow],
 ) -> Result<Vec<u32>, DesignFault>
-    requires few { length rows.now ≤ 16777216 }
+    requires few { length rows.now ≤ MAX_TEXT }
     requires starts { layout.now.starts.items ≡ starts_of netlist.now }
     requires size { layout.now.size ≡ table_size netlist.now }
     requires room { table_size netlist.now < 2 ^ 64 }

@@ -14,6 +14,7 @@ use crate::design::Design;
 use crate::fault::DesignFault;
 use crate::plain_cells::level_of_cell;
 use crate::plain_table::Table;
+use cmb_bench::MAX_NETS;
 use cmb_wave::{Change, Level, Wave};
 use std::alloc::{AllocError, Global};
 
@@ -105,7 +106,7 @@ fn wave_of(
 ) -> Result<Wave, AllocError>
     requires filled { HoldsTicks design.now table.now design.now.horizon }
     requires net { net < nets_of design.now }
-    requires few { nets_of design.now ≤ 65535 }
+    requires few { nets_of design.now ≤ MAX_NETS }
     ensures { IfOk result (λ wave. wave ≡ whole_wave design.now net) }
 {
     collect_changes(design, table, net, changes)?;
@@ -136,7 +137,7 @@ pub fn plain_waves(alloc: Global, design: &Design) -> Result<Vec<Wave>, DesignFa
     ensures waves { IfOk result (λ waves. waves.items ≡ whole_waves design.now) }
     ensures exact { IfOk result (λ waves. All (IsExactWaveIn design.now) waves.items) }
     ensures fault { IfErr result (λ e. (e ≡ fault.Memory) ⊎ (e ≡ fault.TableTooLarge)) }
-    ensures too_large { (result ≡ Err fault.TableTooLarge) ↔ (16777216 < cells_of design.now) }
+    ensures too_large { (result ≡ Err fault.TableTooLarge) ↔ (MOST_CELLS < cells_of design.now) }
 {
     if design.netlist().len() * design.horizon() as usize > MOST_CELLS {
         return Err(DesignFault::TableTooLarge);

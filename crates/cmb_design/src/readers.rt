@@ -16,7 +16,7 @@ use crate::fault::DesignFault;
 use crate::fields::{parse_number, split_at_colon, three_fields};
 use crate::rows::{ClockRow, ClockRows, DelayRow, DelayRows, Delayed, StimulusRow, StimulusRows};
 use crate::table::{TableRow, read_table};
-use cmb_bench::{Name, cell_named};
+use cmb_bench::{MAX_TEXT, Name, cell_named};
 use cmb_wave::Level;
 use csv::ByteRecord;
 use std::alloc::Global;
@@ -118,7 +118,7 @@ impl TableRow for DelayRow {
 /// The rows of a table of delays, or the first fault of its records: the header is tested first (23), then each record
 /// in order by 24, 25, 27, 34 and 28. `Memory` comes where a growth was refused.
 pub fn read_delays(alloc: Global, text: &[u8]) -> Result<DelayRows, DesignFault>
-    requires { length text.now ≤ 16777216 }
+    requires { length text.now ≤ MAX_TEXT }
     ensures { FollowsChecks (table_checks delay_header delay_record_checks (table_records text.now))
         (table_rows delay_row_of (table_records text.now)) result }
 {
@@ -186,7 +186,7 @@ impl TableRow for StimulusRow {
 /// The rows of a table of stimuli, or the first fault of its records: the header is tested first (23), then each record
 /// in order by 24, 25 and 31. `Memory` comes where a growth was refused.
 pub fn read_stimuli(alloc: Global, text: &[u8]) -> Result<StimulusRows, DesignFault>
-    requires { length text.now ≤ 16777216 }
+    requires { length text.now ≤ MAX_TEXT }
     ensures { FollowsChecks (table_checks stimulus_header stimulus_record_checks (table_records text.now))
         (table_rows stimulus_row_of (table_records text.now)) result }
 {
@@ -245,7 +245,7 @@ impl TableRow for ClockRow {
 /// The rows of a table of clocks, or the first fault of its records: the header is tested first (23), then each record
 /// in order by 24, 25 and 36. `Memory` comes where a growth was refused.
 pub fn read_clocks(alloc: Global, text: &[u8]) -> Result<ClockRows, DesignFault>
-    requires { length text.now ≤ 16777216 }
+    requires { length text.now ≤ MAX_TEXT }
     ensures { FollowsChecks (table_checks clock_header clock_record_checks (table_records text.now))
         (table_rows clock_row_of (table_records text.now)) result }
 {

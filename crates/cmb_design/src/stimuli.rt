@@ -13,7 +13,7 @@ use crate::fault::DesignFault;
 use crate::nets::is_input_driver;
 use crate::rows::StimulusRow;
 use crate::told::{ALL_TICKS, Told, add_level, settle};
-use cmb_bench::Netlist;
+use cmb_bench::{MAX_TEXT, Netlist};
 use std::alloc::{AllocError, Global};
 
 fn take_stimulus(
@@ -24,7 +24,7 @@ fn take_stimulus(
     table: &mut Vec<Told>,
 ) -> Result<(), DesignFault>
     requires within { i < length rows.now }
-    requires few { length rows.now ≤ 16777216 }
+    requires few { length rows.now ≤ MAX_TEXT }
     requires so_far { AreStimuli netlist.now (take i rows.now) table.old.items }
     ensures ok { OnOk result ((first_fault (checks_at (stimulus_row_checks netlist.now) rows.now i) ≡ None)
         × AreStimuli netlist.now (take (i + 1) rows.now) table.new.items) }
@@ -62,7 +62,7 @@ fn take_stimuli(
     netlist: &Netlist,
     rows: &[StimulusRow],
 ) -> Result<Vec<Told>, DesignFault>
-    requires { length rows.now ≤ 16777216 }
+    requires { length rows.now ≤ MAX_TEXT }
     ensures ok { IfOk result (λ v. (first_fault (rows_checks (stimulus_row_checks netlist.now) rows.now) ≡ None)
         × AreStimuli netlist.now rows.now v.items) }
     ensures err { IfErr result (λ e. (e ≡ fault.Memory)
@@ -95,7 +95,7 @@ pub(crate) fn stimuli_changes(
     netlist: &Netlist,
     rows: &[StimulusRow],
 ) -> Result<Vec<Told>, DesignFault>
-    requires { length rows.now ≤ 16777216 }
+    requires { length rows.now ≤ MAX_TEXT }
     ensures ok { IfOk result (λ v. (first_fault (rows_checks (stimulus_row_checks netlist.now) rows.now) ≡ None)
         × (map changes_in v.items ≡ stimulus_changes netlist.now rows.now ALL_TICKS)) }
     ensures err { IfErr result (λ e. (e ≡ fault.Memory)

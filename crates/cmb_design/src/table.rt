@@ -13,6 +13,7 @@ ghost use Rattle.cmb_design.specs.declared.fault.DesignFault.TheVariants as faul
 
 use crate::fault::DesignFault;
 use crate::records::{next_record, open_records};
+use cmb_bench::MAX_TEXT;
 use csv::ByteRecord;
 use std::alloc::Global;
 
@@ -65,7 +66,7 @@ fn take_record<T: TableRow>(
 
 /// Reads a table.
 pub(crate) fn read_table<T: TableRow>(alloc: Global, text: &[u8]) -> Result<Vec<T>, DesignFault>
-    requires { length text.now ≤ 16777216 }
+    requires { length text.now ≤ MAX_TEXT }
     ensures ok { IfOk result (λ v. (first_fault (table_checks T.header T.checks (table_records text.now)) ≡ None)
         × (v.items ≡ table_rows T.row_of (table_records text.now))) }
     ensures err { IfErr result (λ e. (e ≡ fault.Memory)

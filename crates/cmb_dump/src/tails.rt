@@ -5,6 +5,7 @@ ghost use Rattle.cmb_vcd.specs.Vcd.{code, line};
 ghost use Rattle.cmb_dump.specs.Tails.{AreTails, tail_bytes};
 
 use crate::tail::Tail;
+use cmb_bench::MAX_NETS;
 use cmb_vcd::ready_codes::{Code, code_of};
 use std::alloc::{AllocError, Global};
 
@@ -30,7 +31,7 @@ fn tail_of(net: u16) -> Tail
 /// The tails of so many nets, by their numbers.
 pub fn tails_of(alloc: Global, nets: u16) -> Result<Vec<Tail>, AllocError>
     ensures count { IfOk result (λ tails. length tails.items ≡ nets) }
-    ensures few { IfOk result (λ tails. length tails.items ≤ 65535) }
+    ensures few { IfOk result (λ tails. length tails.items ≤ MAX_NETS) }
     ensures right { IfOk result (λ tails. AreTails tails.items) }
 {
     let mut tails = Vec::with_capacity(alloc, nets as usize)?;

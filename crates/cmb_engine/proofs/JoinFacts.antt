@@ -60,27 +60,27 @@ pub room : (items starts : List ℕ) (last : ℕ) (lists : List (List ℕ)) (slo
 room items starts last lists slot h is inside = omega (arith, length-starts items starts last h, ap length is, inside)
 
 -- a list begins and ends at neighbouring places
-pub record IsPart (items lists : List ℕ) (begin end : ℕ) : Type 0 where
+pub record IsSublist (items lists : List ℕ) (begin end : ℕ) : Type 0 where
   pub rise : begin ≤ end
   pub within : end ≤ length items
   pub list : lists ≡ take (end - begin) (drop begin items)
 
 part_from : (items : List ℕ) (start : ℕ) (ends : List ℕ) (slot begin end : ℕ) → RiseTo (length items) start ends → slot < length ends
-    → begin ≡ get_or (start ∷ ends) slot begin → end ≡ get_or ends slot end → IsPart items (get_or (lists_from items start ends) slot []) begin end
+    → begin ≡ get_or (start ∷ ends) slot begin → end ≡ get_or ends slot end → IsSublist items (get_or (lists_from items start ends) slot []) begin end
 part_from items start [] slot begin end h inside is ends_at = absurd (omega arith)
 part_from items start (e ∷ ends) zero begin end h inside is ends_at =
     record { rise = omega (arith, h.0, is, ends_at); within = omega (arith, ends_at, rise-below (length items) e ends h.1); list = rw (is, ends_at) refl }
 part_from items start (e ∷ ends) (suc slot) begin end h inside is ends_at = part_from items e ends slot begin end h.1 (omega arith) is ends_at
 
 part_between : (items starts : List ℕ) (slot begin end : ℕ) → AreStarts (length items) starts → suc slot < length starts
-    → begin ≡ get_or starts slot begin → end ≡ get_or starts (suc slot) end → IsPart items (get_or (lists_between items starts) slot []) begin end
+    → begin ≡ get_or starts slot begin → end ≡ get_or starts (suc slot) end → IsSublist items (get_or (lists_between items starts) slot []) begin end
 part_between items [] slot begin end h inside is ends_at = absurd h
 part_between items (start ∷ ends) slot begin end h inside is ends_at = part_from items start ends slot begin end h (omega arith) is ends_at
 
 -- the list of a slot whose begin and end were read
 pub read-list : (items starts : List ℕ) (lists : List (List ℕ)) (slot begin end : ℕ) → AreStarts (length items) starts → lists_between items starts ≡ lists → slot < length lists
-    → begin ≡ get_or starts slot begin → end ≡ get_or starts (slot + 1) end → IsPart items (get_or lists slot []) begin end
+    → begin ≡ get_or starts slot begin → end ≡ get_or starts (slot + 1) end → IsSublist items (get_or lists slot []) begin end
 read-list items starts lists slot begin end h is inside begins ends =
-    subst (λ (ls : List (List ℕ)). IsPart items (get_or ls slot []) begin end) is
+    subst (λ (ls : List (List ℕ)). IsSublist items (get_or ls slot []) begin end) is
     (part_between items starts slot begin end h (omega (arith, room items starts (length items) lists slot h is inside)) begins
     (ends ∙ ap (λ n. get_or starts n end) (add-one slot)))

@@ -8,7 +8,7 @@ use Rattle.cmb_engine.specs.Plans.{pins_from}
 use Rattle.cmb_engine.specs.Cells.{Cell, Told, Gate}
 use Rattle.cmb_engine.specs.Tables.{cell_of, cells_of, pins_at, IsInside, AreInside}
 use Rattle.cmb_engine.specs.declared.cell.Pin.{Pin}
-use Rattle.cmb_engine.specs.declared.cells.Part.{Part}
+use Rattle.cmb_engine.specs.declared.cells.PinRange.{PinRange}
 use Rattle.cmb_engine.specs.declared.cells.Rule.{Rule}
 use Rattle.cmb_engine.specs.declared.cells.Rule.TheVariants as rule
 use Rattle.cmb_engine.proofs.JoinFacts.{behind, still}
@@ -24,7 +24,7 @@ cells_push pins (s ∷ rules) r = ap (λ cells. cell_of pins s ∷ cells) (cells
 
 -- ---- more pins
 
-pub pins_at-behind : (xs ys : List Pin) (part : Part) → part.first ≡ length xs → part.count ≡ length ys → pins_at (xs ++ ys) part ≡ ys
+pub pins_at-behind : (xs ys : List Pin) (part : PinRange) → part.first ≡ length xs → part.count ≡ length ys → pins_at (xs ++ ys) part ≡ ys
 pins_at-behind xs ys part first count = rw (first, count) (behind xs ys)
 
 inside_more : (xs ys : List Pin) (r : Rule) → IsInside xs r → IsInside (xs ++ ys) r
@@ -70,14 +70,14 @@ read-cell pins rules cells net r is inside read =
     ∙ ap (cell_of pins) (sym read)
 
 -- one more gate, whose pins are behind the others
-pub gate_cells : (xs ys : List Pin) (rules : List Rule) (kind : Kind) (part : Part) → AreInside xs rules → part.first ≡ length xs → part.count ≡ length ys
+pub gate_cells : (xs ys : List Pin) (rules : List Rule) (kind : Kind) (part : PinRange) → AreInside xs rules → part.first ≡ length xs → part.count ≡ length ys
     → cells_of (xs ++ ys) (rules ++ rule.Gate kind part ∷ []) ≡ cells_of xs rules ++ Gate kind ys ∷ []
 gate_cells xs ys rules kind part all first count =
     cells_push (xs ++ ys) rules (rule.Gate kind part)
     ∙ ap (λ cells. cells ++ Gate kind (pins_at (xs ++ ys) part) ∷ []) (cells_more xs ys rules all)
     ∙ ap (λ pins. cells_of xs rules ++ Gate kind pins ∷ []) (pins_at-behind xs ys part first count)
 
-pub gate_inside : (xs ys : List Pin) (rules : List Rule) (kind : Kind) (part : Part) → AreInside xs rules → part.first ≡ length xs → part.count ≡ length ys
+pub gate_inside : (xs ys : List Pin) (rules : List Rule) (kind : Kind) (part : PinRange) → AreInside xs rules → part.first ≡ length xs → part.count ≡ length ys
     → AreInside (xs ++ ys) (rules ++ rule.Gate kind part ∷ [])
 gate_inside xs ys rules kind part all first count =
     inside_push (xs ++ ys) rules (rule.Gate kind part) (all_inside_more xs ys rules all) (omega (arith, first, count, length-append xs ys))

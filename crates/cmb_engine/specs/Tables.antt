@@ -3,12 +3,12 @@ use Rattle.std.specs.Prelude.{◌+◌, ◌≤◌, List, [], ◌∷◌, length, m
 use Rattle.std.specs.List.{AllByRecursion}
 use Rattle.cmb_engine.specs.Cells.{Cell, Told, Gate, Flop}
 use Rattle.cmb_engine.specs.declared.cell.Pin.{Pin}
-use Rattle.cmb_engine.specs.declared.cells.Part.{Part}
+use Rattle.cmb_engine.specs.declared.cells.PinRange.{PinRange}
 use Rattle.cmb_engine.specs.declared.cells.Rule.{Rule}
 use Rattle.cmb_engine.specs.declared.cells.Rule.TheVariants as rule
 
 -- a part of the pins
-abbrev pub pins_at : List Pin → Part → List Pin
+abbrev pub pins_at : List Pin → PinRange → List Pin
 pins_at pins part = take part.count (drop part.first pins)
 
 -- the cell of a rule

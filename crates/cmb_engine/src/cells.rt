@@ -21,18 +21,18 @@ use std::marker::Model;
 
 /// Where the pins of a gate stand among those of all.
 #[derive(Clone, Copy)]
-pub(crate) struct Part {
+pub(crate) struct PinRange {
     pub first: u32,
     pub count: u32,
 }
 
-impl Part {
+impl PinRange {
     // The part at the end of a list to which so many items are about to be added.
-    fn behind(length: usize, count: usize) -> Result<Part, AllocError>
+    fn behind(length: usize, count: usize) -> Result<PinRange, AllocError>
         ensures { IfOk result (λ part. (part.first ≡ length) × (part.count ≡ count)) }
     {
         match (u32::try_from(length), u32::try_from(count)) {
-            (Ok(first), Ok(count)) => Ok(Part { first, count }),
+            (Ok(first), Ok(count)) => Ok(PinRange { first, count }),
             _ => Err(AllocError),
         }
     }
@@ -45,7 +45,7 @@ pub(crate) enum Rule {
     Told,
     Single(Kind, Pin),
     Double(Kind, Pin, Pin),
-    Gate(Kind, Part),
+    Gate(Kind, PinRange),
     Flop(Clock, Pin),
 }
 
@@ -120,7 +120,7 @@ impl Cells {
     fn push_listed(&mut self, kind: Kind, pins: &[Pin]) -> Result<(), AllocError>
         ensures { OnOk result (self.new ≡ self.old ++ Gate kind pins.now ∷ []) }
     {
-        let part = Part::behind(self.pins.len(), pins.len())?;
+        let part = PinRange::behind(self.pins.len(), pins.len())?;
         self.pins.extend_from_slice(pins)?;
         self.rules.push(Rule::Gate(kind, part))?;
         Ok(())

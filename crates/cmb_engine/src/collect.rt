@@ -10,6 +10,7 @@ ghost use Rattle.cmb_engine.specs.Words.{levels_of};
 
 use crate::marks::Marks;
 use crate::walk::Walk;
+use cmb_bench::MAX_NETS;
 use cmb_words::{Changed, Word};
 use std::alloc::AllocError;
 
@@ -24,7 +25,7 @@ pub(crate) fn collect(
     changed: &mut Vec<Changed>,
 ) -> Result<(), AllocError>
     requires nets { nets ≤ length words.now }
-    requires few { nets ≤ 65535 }
+    requires few { nets ≤ MAX_NETS }
     requires begun { 1 ≤ first }
     requires first { first < 64 }
     requires room { length words.now ≤ 64 * length live.now }

@@ -11,7 +11,7 @@ ghost use Rattle.cmb_engine.specs.Traces.{IsPlan};
 
 use crate::cell::Pin;
 use crate::cells::Cells;
-use cmb_bench::Driver;
+use cmb_bench::{Driver, MAX_NETS};
 use cmb_design::{Clock, Design};
 use std::alloc::{AllocError, Global};
 
@@ -43,7 +43,7 @@ struct Lines {
 impl Lines {
     // No lines.
     fn new(alloc: Global, nets: usize) -> Lines
-        requires { nets ≤ 65535 }
+        requires { nets ≤ MAX_NETS }
         ensures nets { result.nets ≡ nets }
         ensures none { result.list.items ≡ [] }
     {

@@ -6,12 +6,13 @@ ghost use Rattle.cmb_groups.specs.Groups.{AreGroupsOf};
 ghost use Rattle.cmb_restrict.specs.Components.{IsJoined};
 
 use crate::group::Group;
+use cmb_bench::MAX_NETS;
 use cmb_design::Design;
 use std::alloc::{AllocError, Global};
 
 // The nets that have a number.
 fn members(alloc: Global, numbers: &[u32], number: u32) -> Result<Vec<u32>, AllocError>
-    requires { length numbers.now ≤ 65535 }
+    requires { length numbers.now ≤ MAX_NETS }
     ensures { IfOk result (λ nets. nets.items
         ≡ filter (λ net. nat_eq (slice_index numbers.now net) number) (range_with_len 0 (length numbers.now))) }
 {

@@ -6,13 +6,13 @@ use Rattle.atomic_table.specs.Table.{State, Me, Act, step, keeps, stepped, carri
 use Rattle.cmb_wave.specs.Calls.{word_of}
 use Rattle.cmb_wave.specs.declared.level.Promise.{Promise}
 use Rattle.cmb_design.specs.Exact.{nets_of, IsRightIn}
-use Rattle.cmb_links.specs.Promises.{promise_of, newest}
+use Rattle.cmb_links.specs.Promises.{promise_in, newest}
 use Rattle.cmb_links.specs.Seats.{driver, after_publish, after_look, after_raise, after_check, after_finish, after_count, only, joined}
 use Rattle.cmb_links.specs.Boards.{IsBoard, seats_of, Leaves, Publishes, Looks, Raises, Checks, Finishes, Counts}
-use Rattle.cmb_links.specs.declared.view.Terms.{Terms}
+use Rattle.cmb_links.specs.declared.view.BoardTerms.{BoardTerms}
 use Rattle.cmb_links.specs.declared.view.View.{View}
 use Rattle.cmb_links.proofs.Joined.{place_of, at_joined, joined-set}
-use Rattle.cmb_links.proofs.Newest.{promise_of-word_of}
+use Rattle.cmb_links.proofs.Newest.{promise_in-word_of}
 use Rattle.cmb_links.proofs.Steps.{tells, publishes_kept, looks_kept, raises_kept, checks_kept, finishes_kept, counts_kept}
 
 -- the words with what the table keeps for each seat, and a seat's part of it
@@ -23,14 +23,14 @@ abbrev pub M : Type 0
 M = Me (Unit {0}) (List View)
 
 -- the rule of the table of a board
-abbrev pub Law : Terms → S → Type 0
+abbrev pub Law : BoardTerms → S → Type 0
 Law t s = IsBoard t (seats_of s)
 
 -- a seat with one view
 abbrev pub IsOne : M → Type 0
 IsOne me = me.0 ≡ only me.0 ∷ []
 
-module _ (t : Terms) (s : S) (id : ℕ) (me : M) (one : IsOne me) (at : get_elem? s.views id ≡ some me.0) where
+module _ (t : BoardTerms) (s : S) (id : ℕ) (me : M) (one : IsOne me) (at : get_elem? s.views id ≡ some me.0) where
   -- its view stands in its place
   pub seated : get_elem? (joined s.views) (place_of s.views id) ≡ some (only me.0)
   seated = at_joined s.views id (only me.0) [] (at ∙ ap some one)
@@ -40,18 +40,18 @@ module _ (t : Terms) (s : S) (id : ℕ) (me : M) (one : IsOne me) (at : get_elem
   settled k x w after = subst (λ (vs : List View). IsBoard t record { words = set s.words k x; homes = s.homes; views = vs })
       (sym (joined-set s.views id (only me.0) w (at ∙ ap some one))) after
 
-pub publish_allowed : (t : Terms) (slots id : ℕ) (me : M) (p : Promise) → IsOne me → driver (only me.0).terms p.net ≡ (only me.0).place → IsRightIn (only me.0).terms.design p
+pub publish_allowed : (t : BoardTerms) (slots id : ℕ) (me : M) (p : Promise) → IsOne me → driver (only me.0).terms p.net ≡ (only me.0).place → IsRightIn (only me.0).terms.design p
     → p.upto < 2 ^ 32 → (newest p.net (only me.0).promised.published).upto ≤ p.upto
     → Allows (Law t) slots id me p.net (λ _. word_of p) (λ _. Publishes (step slots p.net (word_of p) 0 none) me (word_of p))
 publish_allowed t slots id me p one drives right fits rises s kept _ at _ =
     let v : View = only me.0 in let f = seats_of s in let i = place_of s.views id in let here = seated t s id me one at in
     let old = kept.seats i v here in let x : ℕ = word_of p in
-    let owed = subst (λ (u : Terms). (driver u p.net ≡ i) × IsRightIn u.design p) old.terms (drives ∙ old.place, right) in
+    let owed = subst (λ (u : BoardTerms). (driver u p.net ≡ i) × IsRightIn u.design p) old.terms (drives ∙ old.place, right) in
     let after : IsBoard t (stepped f p.net x i [] (after_publish v p) keeps) = publishes_kept t f i v kept here [] p owed.0 owed.1 fits rises in
     let inside = owed.1.net in
     subst (λ (r : Promise). (w : List View) × (a : Act (Unit {0})) × Valid s.homes me.1 a × Law t (stepped s p.net x id me.1 w a)
     × Leaves p.net x (after_publish v r) me (w, carried_after me.1 a))
-    (sym (promise_of-word_of p p.net refl fits)) (
+    (sym (promise_in-word_of p p.net refl fits)) (
       after_publish v p ∷ [],
       keeps,
       tt,
@@ -59,19 +59,19 @@ publish_allowed t slots id me p one drives right fits rises s kept _ at _ =
       (refl, tells t f i v (after_publish v p) kept here [] p.net x (omega arith) (refl, refl, refl) after),
     )
 
-pub look_allowed : (t : Terms) (slots id : ℕ) (me : M) (k : ℕ) → IsOne me → k < nets_of (only me.0).terms.design → Allows (Law t) slots id me k (λ n. n) (Looks (step slots k 0 0 none) me)
+pub look_allowed : (t : BoardTerms) (slots id : ℕ) (me : M) (k : ℕ) → IsOne me → k < nets_of (only me.0).terms.design → Allows (Law t) slots id me k (λ n. n) (Looks (step slots k 0 0 none) me)
 look_allowed t slots id me k one in' s kept _ at _ =
     let v : View = only me.0 in let f = seats_of s in let i = place_of s.views id in let here = seated t s id me one at in
-    let old = kept.seats i v here in let x : ℕ = slice_index s.words k in let w : View = after_look v (promise_of k x) in
-    let inside : k < nets_of t.design = subst (λ (u : Terms). k < nets_of u.design) old.terms in' in
+    let old = kept.seats i v here in let x : ℕ = slice_index s.words k in let w : View = after_look v (promise_in k x) in
+    let inside : k < nets_of t.design = subst (λ (u : BoardTerms). k < nets_of u.design) old.terms in' in
     let after = looks_kept t f i v kept here [] k inside in
     (w ∷ [], keeps, tt, settled t s id me one at k x w after, (refl, tells t f i v w kept here [] k x (omega arith) (refl, refl, refl) after))
 
-pub raise_allowed : (t : Terms) (slots id : ℕ) (me : M) (k : ℕ) → IsOne me → k ≡ nets_of (only me.0).terms.design → Allows (Law t) slots id me k (λ _. 1) (λ _. Raises (step slots k 1 0 none) me 1)
+pub raise_allowed : (t : BoardTerms) (slots id : ℕ) (me : M) (k : ℕ) → IsOne me → k ≡ nets_of (only me.0).terms.design → Allows (Law t) slots id me k (λ _. 1) (λ _. Raises (step slots k 1 0 none) me 1)
 raise_allowed t slots id me k one is' s kept _ at _ =
     let v : View = only me.0 in let f = seats_of s in let i = place_of s.views id in let here = seated t s id me one at in
     let old = kept.seats i v here in let w : View = after_raise v in
-    let is : nets_of t.design ≡ k = sym (is' ∙ ap (λ (u : Terms). nets_of u.design) old.terms) in
+    let is : nets_of t.design ≡ k = sym (is' ∙ ap (λ (u : BoardTerms). nets_of u.design) old.terms) in
     let after = raises_kept t f i v kept here [] in
     subst (λ (j : ℕ). (z : List View) × (a : Act (Unit {0})) × Valid s.homes me.1 a × Law t (stepped s j 1 id me.1 z a) × Leaves j 1 w me (z, carried_after me.1 a)) is (
       w ∷ [],
@@ -81,11 +81,11 @@ raise_allowed t slots id me k one is' s kept _ at _ =
       (refl, tells t f i v w kept here [] (nets_of t.design) 1 (omega arith) (refl, refl, refl) after),
     )
 
-pub check_allowed : (t : Terms) (slots id : ℕ) (me : M) (k : ℕ) → IsOne me → k ≡ nets_of (only me.0).terms.design → Allows (Law t) slots id me k (λ n. n) (Checks (step slots k 0 0 none) me)
+pub check_allowed : (t : BoardTerms) (slots id : ℕ) (me : M) (k : ℕ) → IsOne me → k ≡ nets_of (only me.0).terms.design → Allows (Law t) slots id me k (λ n. n) (Checks (step slots k 0 0 none) me)
 check_allowed t slots id me k one is' s kept _ at _ =
     let v : View = only me.0 in let f = seats_of s in let i = place_of s.views id in let here = seated t s id me one at in
     let old = kept.seats i v here in
-    let is : nets_of t.design ≡ k = sym (is' ∙ ap (λ (u : Terms). nets_of u.design) old.terms) in
+    let is : nets_of t.design ≡ k = sym (is' ∙ ap (λ (u : BoardTerms). nets_of u.design) old.terms) in
     let after = checks_kept t f i v kept here [] in
     subst (λ (j : ℕ). (z : List View) × (a : Act (Unit {0})) × Valid s.homes me.1 a × Law t (stepped s j (slice_index s.words j) id me.1 z a)
     × Leaves j (slice_index s.words j) (after_check v (slice_index s.words j == 1)) me (z, carried_after me.1 a)) is
@@ -97,14 +97,14 @@ check_allowed t slots id me k one is' s kept _ at _ =
       (refl, tells t f i v w kept here [] (nets_of t.design) x (omega arith) (refl, refl, refl) after),
     ))
 
-pub finish_allowed : (t : Terms) (slots id : ℕ) (me : M) (k : ℕ) → IsOne me → k ≡ nets_of (only me.0).terms.design + 1 → (only me.0).place < (only me.0).terms.workers → (only me.0).endings.finished ≡ false
+pub finish_allowed : (t : BoardTerms) (slots id : ℕ) (me : M) (k : ℕ) → IsOne me → k ≡ nets_of (only me.0).terms.design + 1 → (only me.0).place < (only me.0).terms.workers → (only me.0).endings.finished ≡ false
     → Allows (Law t) slots id me k (λ n. (n + 1) % 2 ^ 64) (Finishes (step slots k 1 0 none) me)
 finish_allowed t slots id me k one is' works not_yet s kept _ at _ =
     let v : View = only me.0 in let f = seats_of s in let i = place_of s.views id in let here = seated t s id me one at in
     let old = kept.seats i v here in let w : View = after_finish v in
-    let is : nets_of t.design + 1 ≡ k = sym (is' ∙ ap (λ (u : Terms). nets_of u.design + 1) old.terms) in
+    let is : nets_of t.design + 1 ≡ k = sym (is' ∙ ap (λ (u : BoardTerms). nets_of u.design + 1) old.terms) in
     let place = old.place in
-    let works' : i < t.workers = subst (λ (u : Terms). i < u.workers) old.terms (omega arith) in
+    let works' : i < t.workers = subst (λ (u : BoardTerms). i < u.workers) old.terms (omega arith) in
     let after = finishes_kept t f i v kept here [] works' not_yet in
     subst (λ (j : ℕ). (z : List View) × (a : Act (Unit {0})) × Valid s.homes me.1 a × Law t (stepped s j ((slice_index s.words j + 1) % 2 ^ 64) id me.1 z a)
     × Leaves j ((slice_index s.words j + 1) % 2 ^ 64) w me (z, carried_after me.1 a)) is
@@ -116,11 +116,11 @@ finish_allowed t slots id me k one is' works not_yet s kept _ at _ =
       (refl, tells t f i v w kept here [] (nets_of t.design + 1) x (omega arith) (refl, refl, refl) after),
     ))
 
-pub count_allowed : (t : Terms) (slots id : ℕ) (me : M) (k : ℕ) → IsOne me → k ≡ nets_of (only me.0).terms.design + 1 → Allows (Law t) slots id me k (λ n. n) (Counts (step slots k 0 0 none) me)
+pub count_allowed : (t : BoardTerms) (slots id : ℕ) (me : M) (k : ℕ) → IsOne me → k ≡ nets_of (only me.0).terms.design + 1 → Allows (Law t) slots id me k (λ n. n) (Counts (step slots k 0 0 none) me)
 count_allowed t slots id me k one is' s kept _ at _ =
     let v : View = only me.0 in let f = seats_of s in let i = place_of s.views id in let here = seated t s id me one at in
     let old = kept.seats i v here in
-    let is : nets_of t.design + 1 ≡ k = sym (is' ∙ ap (λ (u : Terms). nets_of u.design + 1) old.terms) in
+    let is : nets_of t.design + 1 ≡ k = sym (is' ∙ ap (λ (u : BoardTerms). nets_of u.design + 1) old.terms) in
     let after = counts_kept t f i v kept here [] in
     subst (λ (j : ℕ). (z : List View) × (a : Act (Unit {0})) × Valid s.homes me.1 a × Law t (stepped s j (slice_index s.words j) id me.1 z a)
     × Leaves j (slice_index s.words j) (after_count v (slice_index s.words j)) me (z, carried_after me.1 a)) is

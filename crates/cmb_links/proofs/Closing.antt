@@ -11,15 +11,15 @@ use Rattle.atomic_table.specs.Table.{State, Joins}
 use Rattle.atomic_table.proofs.Lists.{at_map}
 use Rattle.cmb_wave.specs.declared.level.Promise.{Promise}
 use Rattle.cmb_design.specs.Exact.{nets_of}
-use Rattle.cmb_links.specs.Promises.{promise, promise_of, newest}
+use Rattle.cmb_links.specs.Promises.{promise, promise_in, newest}
 use Rattle.cmb_links.specs.Seats.{SeatData, driver, joined, AreAllSeats}
 use Rattle.cmb_links.specs.Boards.{IsBoard, IsKnown, EndsAs, published_at, promise_at, any_raised, some_raised, count_finished, number_finished}
-use Rattle.cmb_links.specs.declared.view.Terms.{Terms}
+use Rattle.cmb_links.specs.declared.view.BoardTerms.{BoardTerms}
 use Rattle.cmb_links.specs.declared.view.View.{View}
 use Rattle.cmb_links.proofs.Allowed.{S, Law}
 use Rattle.cmb_links.proofs.EndWord.{finished_few}
 use Rattle.cmb_links.proofs.Joined.{place_of, at_joined, joined-whole}
-use Rattle.cmb_links.proofs.Newest.{newest-net, promise_of-word_of}
+use Rattle.cmb_links.proofs.Newest.{newest-net, promise_in-word_of}
 use Rattle.cmb_links.proofs.Loads.{one_or_none}
 use Rattle.cmb_links.proofs.Seats.{gathers}
 use Rattle.cmb_links.proofs.Steps.{log_here, loads}
@@ -65,7 +65,7 @@ pub one_more : (all_seats seats rest : List SeatData) (u : SeatData) (all : List
 one_more all_seats seats rest u all is parted =
     sym (ap (λ (l : List View). l ++ all) (ap (map view_of) is ∙ map-append view_of rest (u ∷ [])) ∙ append_assoc (map view_of rest) (u.view ∷ []) all) ∙ parted
 
-pub joins : (t : Terms) (id two n : ℕ) (all_seats rest : List SeatData) (u : SeatData) (w all : List View) → w ≡ u.view ∷ [] → 0 < length all
+pub joins : (t : BoardTerms) (id two n : ℕ) (all_seats rest : List SeatData) (u : SeatData) (w all : List View) → w ≡ u.view ∷ [] → 0 < length all
     → map view_of rest ++ u.view ∷ all ≡ map view_of all_seats → map (λ (s : SeatData). s.view.place) all_seats ≡ range_with_len 0 n
     → Joins (Law t) id all two w (w ++ all) []
 joins t id two n all_seats rest u w all is any parted order =
@@ -80,35 +80,35 @@ at_place (x ∷ xs) (suc k) d in' = at_place xs k d (omega arith)
 -- ---- the end
 
 -- the seat that was joined with all others has all views
-pub all_told : (t : Terms) (s : S) (id : ℕ) (board : TableId) (seats : List SeatData) → AreAllSeats board seats → Law t s → get_elem? s.views id ≡ some (map view_of seats)
+pub all_told : (t : BoardTerms) (s : S) (id : ℕ) (board : TableId) (seats : List SeatData) → AreAllSeats board seats → Law t s → get_elem? s.views id ≡ some (map view_of seats)
     → IsBoard t record { words = s.words; homes = s.homes; views = map view_of seats }
 all_told t s id board [] are kept at = let none = are.some in absurd (omega arith)
 all_told t s id board (x ∷ xs) are kept at =
     let all : List View = map view_of (x ∷ xs) in
     let first = kept.seats (place_of s.views id) x.view (at_joined s.views id x.view (map view_of xs) at) in
-    let many : length (x ∷ xs) ≡ t.workers + 1 = subst (λ (u : Terms). length (x ∷ xs) ≡ u.workers + 1) first.terms (are.all 0 x (omega arith)) in
+    let many : length (x ∷ xs) ≡ t.workers + 1 = subst (λ (u : BoardTerms). length (x ∷ xs) ≡ u.workers + 1) first.terms (are.all 0 x (omega arith)) in
     let few = kept.few_seats in
     let whole : joined s.views ≡ all = joined-whole s.views id all at (omega (arith, length-map xs view_of)) in
     subst (λ (vs : List View). IsBoard t record { words = s.words; homes = s.homes; views = vs }) whole kept
 
-module _ (t : Terms) (s : State (Unit {0}) View) (kept : IsBoard t s) (promises : List Promise)
-    (read : (net : ℕ) → net < nets_of t.design → promise_at promises net ≡ promise_of net (slice_index s.words net)) where
+module _ (t : BoardTerms) (s : State (Unit {0}) View) (kept : IsBoard t s) (promises : List Promise)
+    (read : (net : ℕ) → net < nets_of t.design → promise_at promises net ≡ promise_in net (slice_index s.words net)) where
   -- each net's word is what its driving seat published last
   tells_newest : (net : ℕ) → net < nets_of t.design → promise_at promises net ≡ newest net (published_at s.views (driver t net))
   tells_newest net in' =
       let held = kept.nets net in' in let log : List Promise = published_at s.views (driver t net) in
-      read net in' ∙ ap (promise_of net) held.held ∙ promise_of-word_of (newest net log) net (newest-net net log) held.fits
+      read net in' ∙ ap (promise_in net) held.held ∙ promise_in-word_of (newest net log) net (newest-net net log) held.fits
 
   pub ends_as : (i : ℕ) (v : View) → get_elem? s.views i ≡ some v → EndsAs promises (some_raised s.views) (number_finished s.views) v
   ends_as i v at =
       let seat = kept.seats i v at in
       record {
         newest_own = λ net in' here.
-            let in'' = subst (λ (u : Terms). net < nets_of u.design) seat.terms in' in
-            let drives : driver t net ≡ i = subst (λ (u : Terms). driver u net ≡ i) seat.terms (here ∙ seat.place) in
+            let in'' = subst (λ (u : BoardTerms). net < nets_of u.design) seat.terms in' in
+            let drives : driver t net ≡ i = subst (λ (u : BoardTerms). driver u net ≡ i) seat.terms (here ∙ seat.place) in
             tells_newest net in'' ∙ ap (λ (l : List Promise). newest net l) (ap (published_at s.views) drives ∙ log_here s i v at);
         found = λ net in'.
-            let in'' = subst (λ (u : Terms). net < nets_of u.design) seat.terms in' in
+            let in'' = subst (λ (u : BoardTerms). net < nets_of u.design) seat.terms in' in
             let log : List Promise = published_at s.views (driver t net) in
             All-weaker (λ (q : Promise). q.net ≡ net → IsKnown net log q) (λ (q : Promise). q.net ≡ net → q.upto ≤ (promise_at promises net).upto)
             (λ q h same. subst (λ (p : Promise). q.upto ≤ p.upto) (sym (tells_newest net in'')) (h same).below)
@@ -129,12 +129,12 @@ pub record Tells (promises : List Promise) (raised : Bool) (finished : ℕ) (sea
 
 -- the promises that n words hold
 abbrev pub promises_of : List ℕ → ℕ → List Promise
-promises_of words n = map (λ net. promise_of net (slice_index words net)) (range_with_len 0 n)
+promises_of words n = map (λ net. promise_in net (slice_index words net)) (range_with_len 0 n)
 
-promises_of-at : (words : List ℕ) (n net : ℕ) → net < n → promise_at (promises_of words n) net ≡ promise_of net (slice_index words net)
-promises_of-at words n net in' = get_or-map-range_with_len (λ (k : ℕ). promise_of k (slice_index words k)) 0 n net net (promise net 0 0) in' (omega arith)
+promises_of-at : (words : List ℕ) (n net : ℕ) → net < n → promise_at (promises_of words n) net ≡ promise_in net (slice_index words net)
+promises_of-at words n net in' = get_or-map-range_with_len (λ (k : ℕ). promise_in k (slice_index words k)) 0 n net net (promise net 0 0) in' (omega arith)
 
-pub closes : (t : Terms) (s : S) (id n : ℕ) (board : TableId) (seats : List SeatData) (words : List ℕ) → AreAllSeats board seats → Law t s → get_elem? s.views id ≡ some (map view_of seats)
+pub closes : (t : BoardTerms) (s : S) (id n : ℕ) (board : TableId) (seats : List SeatData) (words : List ℕ) → AreAllSeats board seats → Law t s → get_elem? s.views id ≡ some (map view_of seats)
     → s.words ≡ words → length words ≡ n + 2 → Tells (promises_of words n) (slice_index words n == 1) (slice_index words (n + 1)) seats
 closes t s id n board seats words are kept at same width =
     let f : State (Unit {0}) View = record { words = s.words; homes = s.homes; views = map view_of seats } in
@@ -143,13 +143,13 @@ closes t s id n board seats words are kept at same width =
     let len = ap length same in
     let nets : n ≡ nets_of t.design = omega arith in
     let promises : List Promise = promises_of words n in
-    let read : (net : ℕ) → net < nets_of t.design → promise_at promises net ≡ promise_of net (slice_index s.words net) =
-    λ net in'. promises_of-at words n net (omega arith) ∙ ap (λ (ws : List ℕ). promise_of net (slice_index ws net)) (sym same) in
+    let read : (net : ℕ) → net < nets_of t.design → promise_at promises net ≡ promise_in net (slice_index s.words net) =
+    λ net in'. promises_of-at words n net (omega arith) ∙ ap (λ (ws : List ℕ). promise_in net (slice_index ws net)) (sym same) in
     let stop : (slice_index words n == 1) ≡ some_raised f.views = (λ i. slice_index (sym same i) (nets i) == 1) ∙ stop_told t f told promises read in
     let count : slice_index words (n + 1) ≡ number_finished f.views = (λ i. slice_index (sym same i) (nets i + 1)) ∙ told.finished.held in
     record {
-      nets = λ k d in'. length-map-range_with_len (λ (j : ℕ). promise_of j (slice_index words j)) 0 n ∙ nets
-          ∙ ap (λ (u : Terms). nets_of u.design) (sym (told.seats k (get_or seats k d).view (at_map view_of seats k (get_or seats k d) (at_place seats k d in'))).terms);
+      nets = λ k d in'. length-map-range_with_len (λ (j : ℕ). promise_in j (slice_index words j)) 0 n ∙ nets
+          ∙ ap (λ (u : BoardTerms). nets_of u.design) (sym (told.seats k (get_or seats k d).view (at_map view_of seats k (get_or seats k d) (at_place seats k d in'))).terms);
       words = λ k d in'. subst (λ (z : Bool × ℕ). EndsAs promises z.0 z.1 (get_or seats k d).view) (λ i. (sym stop i, sym count i))
           (ends_as t f told promises read k (get_or seats k d).view (at_map view_of seats k (get_or seats k d) (at_place seats k d in')));
       stop = stop ∙ ap any_raised (map-twice (λ (v : View). v.stops) seats);
@@ -157,7 +157,7 @@ closes t s id n board seats words are kept at same width =
     }
 
 -- no more finish than there are workers
-pub few_end : (t : Terms) (s : S) (n : ℕ) (words : List ℕ) → Law t s → s.words ≡ words → length words ≡ n + 2 → slice_index words (n + 1) ≤ 64
+pub few_end : (t : BoardTerms) (s : S) (n : ℕ) (words : List ℕ) → Law t s → s.words ≡ words → length words ≡ n + 2 → slice_index words (n + 1) ≤ 64
 few_end t s n words kept same width =
     let few = finished_few (joined s.views) t.workers (λ i u at' e. (kept.seats i u at').worker e) in
     let most = kept.few_workers in

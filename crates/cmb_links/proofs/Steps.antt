@@ -12,15 +12,15 @@ use Rattle.cmb_wave.specs.Calls.{word_of}
 use Rattle.cmb_wave.specs.declared.level.Promise.{Promise}
 use Rattle.cmb_design.specs.Design.{Design}
 use Rattle.cmb_design.specs.Exact.{nets_of, IsRightIn}
-use Rattle.cmb_links.specs.Promises.{promise_of, newest, NeverFalls}
+use Rattle.cmb_links.specs.Promises.{promise_in, newest, NeverFalls}
 use Rattle.cmb_links.specs.Seats.{driver, after_publish, after_look, after_raise, after_check, after_finish, after_count}
 use Rattle.cmb_links.specs.Boards.{MayPublish, IsSeated, IsKnown, IsNetKept, IsStopKept, IsEndKept, IsBoard, Moment, published_at}
-use Rattle.cmb_links.specs.declared.view.Terms.{Terms}
+use Rattle.cmb_links.specs.declared.view.BoardTerms.{BoardTerms}
 use Rattle.cmb_links.specs.declared.view.Stops.{Stops}
 use Rattle.cmb_links.specs.declared.view.Endings.{Endings}
 use Rattle.cmb_links.specs.declared.view.View.{View}
 use Rattle.cmb_links.proofs.Lists.{at_inside, get_at, map-set_unseen}
-use Rattle.cmb_links.proofs.Newest.{newest-net, promise_of-word_of, NeverFalls-push}
+use Rattle.cmb_links.proofs.Newest.{newest-net, promise_in-word_of, NeverFalls-push}
 use Rattle.cmb_links.proofs.NetWords as net
 use Rattle.cmb_links.proofs.StopWord as stop
 use Rattle.cmb_links.proofs.EndWord as end
@@ -37,13 +37,13 @@ log v = v.promised.published
 abbrev pub loads : View → List Promise
 loads v = v.promised.loads
 
-abbrev Nets : Terms → List ℕ → List View → Type 0
+abbrev Nets : BoardTerms → List ℕ → List View → Type 0
 Nets t words views = (n : ℕ) → n < (nets_of t.design) → IsNetKept t.design n (slice_index words n) (published_at views (driver t n)) (map loads views)
 
-abbrev Stopped : Terms → List ℕ → List View → Type 0
+abbrev Stopped : BoardTerms → List ℕ → List View → Type 0
 Stopped t words views = IsStopKept (slice_index words (nets_of t.design)) (map (λ (v : View). v.stops) views)
 
-abbrev Ended : Terms → List ℕ → List View → Type 0
+abbrev Ended : BoardTerms → List ℕ → List View → Type 0
 Ended t words views = IsEndKept (slice_index words (nets_of t.design + 1)) (map (λ (v : View). v.endings) views)
 
 pub net_along : (d : Design) (n : ℕ) (x y : ℕ) (l m : List Promise) (r q : List (List Promise)) → y ≡ x → m ≡ l → q ≡ r → IsNetKept d n x l r → IsNetKept d n y m q
@@ -59,7 +59,7 @@ end_along x y l m e f h = subst (λ (z : ℕ × List Endings). IsEndKept z.0 z.1
 abbrev Stays : View → View → Type 0
 Stays v w = (w.terms ≡ v.terms) × (w.place ≡ v.place) × (w.is_last ≡ v.is_last)
 
-module _ (t : Terms) (s : S) (id : ℕ) (v w : View) (kept : IsBoard t s) (at : get_elem? s.views id ≡ some v) (c : List (ℕ × Unit {0})) where
+module _ (t : BoardTerms) (s : S) (id : ℕ) (v w : View) (kept : IsBoard t s) (at : get_elem? s.views id ≡ some v) (c : List (ℕ × Unit {0})) where
   -- a seat that neither publishes nor finishes
   pub stays_seated : Stays v w → log w ≡ log v → w.endings.finished ≡ v.endings.finished → IsSeated t (length s.views) id w
   stays_seated stays same ended = let old = kept.seats id v at in record {
@@ -106,7 +106,7 @@ module _ (t : Terms) (s : S) (id : ℕ) (v w : View) (kept : IsBoard t s) (at : 
   pub tells : (i x : ℕ) → i < nets_of t.design + 2 → Stays v w → IsBoard t (stepped s i x id c w keeps) → Moment w (λ y. slice_index y.words i ≡ x)
   tells i x in' stays after = let old = kept.seats id v at in let width = kept.words in (
     stepped s i x id c w keeps,
-    subst (λ (u : Terms). IsBoard u (stepped s i x id c w keeps)) (sym (stays.0 ∙ old.terms)) after,
+    subst (λ (u : BoardTerms). IsBoard u (stepped s i x id c w keeps)) (sym (stays.0 ∙ old.terms)) after,
     subst (λ (j : ℕ). get_elem? (set s.views id w) j ≡ some w) (sym (stays.1 ∙ old.place)) (set_here s.views id w (at_inside s.views id v at)),
     get_or-set_same s.words i x 0 (omega arith),
   )
@@ -115,7 +115,7 @@ module _ (t : Terms) (s : S) (id : ℕ) (v w : View) (kept : IsBoard t s) (at : 
 pub log_here : (s : S) (id : ℕ) (v : View) → get_elem? s.views id ≡ some v → published_at s.views id ≡ log v
 log_here s id v at = get_at (map log s.views) id (log v) [] (at_map log s.views id v at)
 
-module _ (t : Terms) (s : S) (id : ℕ) (v : View) (kept : IsBoard t s) (at : get_elem? s.views id ≡ some v) (c : List (ℕ × Unit {0})) where
+module _ (t : BoardTerms) (s : S) (id : ℕ) (v : View) (kept : IsBoard t s) (at : get_elem? s.views id ≡ some v) (c : List (ℕ × Unit {0})) where
   log_there : (p : Promise) (d : ℕ) → d ≡ id → published_at (set s.views id (after_publish v p)) d ≡ published_at s.views d ++ p ∷ []
   log_there p d is = let here : id < length (map log s.views) = rw (length-map s.views log) (at_inside s.views id v at) in
       subst (λ (k : ℕ). published_at (set s.views id (after_publish v p)) k ≡ published_at s.views k ++ p ∷ []) (sym is)
@@ -153,8 +153,8 @@ module _ (t : Terms) (s : S) (id : ℕ) (v : View) (kept : IsBoard t s) (at : ge
       (stop_stays t s id v w kept at c p.net x (λ e. absurd (omega arith)) refl) (ended_stays t s id v w kept at c p.net x (λ e. absurd (omega arith)) refl)
 
   -- a load of net k
-  pub looks_kept : (k : ℕ) → k < (nets_of t.design) → IsBoard t (stepped s k (slice_index s.words k) id c (after_look v (promise_of k (slice_index s.words k))) keeps)
-  looks_kept k in' = let x : ℕ = slice_index s.words k in let q : Promise = promise_of k x in let w : View = after_look v q in
+  pub looks_kept : (k : ℕ) → k < (nets_of t.design) → IsBoard t (stepped s k (slice_index s.words k) id c (after_look v (promise_in k (slice_index s.words k))) keeps)
+  looks_kept k in' = let x : ℕ = slice_index s.words k in let q : Promise = promise_in k x in let w : View = after_look v q in
       let words : set s.words k x ≡ s.words = set-get_or s.words k 0 in
       let logs : map log (set s.views id w) ≡ map log s.views = map-set_unseen log s.views id v w at refl in
       assembles t s id v w kept at c k x (stays_seated t s id v w kept at c (refl, refl, refl) refl refl)
@@ -163,7 +163,7 @@ module _ (t : Terms) (s : S) (id : ℕ) (v : View) (kept : IsBoard t s) (at : ge
       (ap (λ (l : List (List Promise)). slice_index_or l (driver t n) []) logs) (map-set loads s.views id w)
       (net.loaded t.design n (slice_index s.words n) (published_at s.views (driver t n)) (map loads s.views) id (loads v) q (kept.nets n below) (at_map loads s.views id v at)
       (λ (is : k ≡ n). let held = kept.nets n below in let new : Promise = newest n (published_at s.views (driver t n)) in
-      let e : q ≡ new = (λ i. promise_of (is i) (slice_index s.words (is i))) ∙ ap (promise_of n) held.held ∙ promise_of-word_of new n (newest-net n (published_at s.views (driver t n))) held.fits in
+      let e : q ≡ new = (λ i. promise_in (is i) (slice_index s.words (is i))) ∙ ap (promise_in n) held.held ∙ promise_in-word_of new n (newest-net n (published_at s.views (driver t n))) held.fits in
       subst (IsKnown n (published_at s.views (driver t n))) (sym e) (net.knows_newest n (published_at s.views (driver t n))))))
       (stop_stays t s id v w kept at c k x (λ e. absurd (omega arith)) refl) (ended_stays t s id v w kept at c k x (λ e. absurd (omega arith)) refl)
 

@@ -8,9 +8,9 @@ use Rattle.cmb_wave.specs.Calls.{word_of}
 use Rattle.cmb_wave.specs.declared.level.Promise.{Promise}
 use Rattle.cmb_design.specs.Design.{Design}
 use Rattle.cmb_design.specs.Exact.{nets_of, IsRightIn}
-use Rattle.cmb_links.specs.Promises.{promise, promise_of, newest, NeverFalls}
+use Rattle.cmb_links.specs.Promises.{promise, promise_in, newest, NeverFalls}
 use Rattle.cmb_links.specs.Seats.{driver, after_publish, after_look, after_raise, after_check, after_finish, after_count, only, joined}
-use Rattle.cmb_links.specs.declared.view.Terms.{Terms}
+use Rattle.cmb_links.specs.declared.view.BoardTerms.{BoardTerms}
 use Rattle.cmb_links.specs.declared.view.Stops.{Stops}
 use Rattle.cmb_links.specs.declared.view.Endings.{Endings}
 use Rattle.cmb_links.specs.declared.view.View.{View}
@@ -62,12 +62,12 @@ number_finished views = count_finished (map (λ (v : View). v.endings) views)
 -- ---- the board
 
 -- a seat publishes right promises of nets that it drives
-pub record MayPublish (t : Terms) (place : ℕ) (p : Promise) : Type 0 where
+pub record MayPublish (t : BoardTerms) (place : ℕ) (p : Promise) : Type 0 where
   pub drives : driver t p.net ≡ place
   pub right : IsRightIn t.design p
 
 -- the view of seat i, where there are so many seats
-pub record IsSeated (t : Terms) (seats i : ℕ) (v : View) : Type 0 where
+pub record IsSeated (t : BoardTerms) (seats i : ℕ) (v : View) : Type 0 where
   pub terms : v.terms ≡ t
   pub place : v.place ≡ i
   pub last : v.is_last ≡ true → seats ≡ i + 1
@@ -76,7 +76,7 @@ pub record IsSeated (t : Terms) (seats i : ℕ) (v : View) : Type 0 where
   pub worker : v.endings.finished ≡ true → i < t.workers
 
 -- the words are one for each net, the stop word and the word of finished workers; seat i has the view i
-pub record IsBoard (t : Terms) (s : State (Unit {0}) View) : Type 0 where
+pub record IsBoard (t : BoardTerms) (s : State (Unit {0}) View) : Type 0 where
   pub some_workers : 1 ≤ t.workers
   pub few_workers : t.workers ≤ 64
   pub few_seats : length s.views ≤ t.workers + 1
@@ -102,10 +102,10 @@ abbrev pub Leaves : ℕ → ℕ → View → Me (Unit {0}) (List View) → Me (U
 Leaves word x w m m' = (m' ≡ (w ∷ [], m.1)) × Moment w (λ s. slice_index s.words word ≡ x)
 
 abbrev pub Publishes : Step (Unit {0}) → Me (Unit {0}) (List View) → ℕ → Me (Unit {0}) (List View) → Type 0
-Publishes step m found m' = Leaves step.word step.first (after_publish (only m.0) (promise_of step.word step.first)) m m'
+Publishes step m found m' = Leaves step.word step.first (after_publish (only m.0) (promise_in step.word step.first)) m m'
 
 abbrev pub Looks : Step (Unit {0}) → Me (Unit {0}) (List View) → ℕ → Me (Unit {0}) (List View) → Type 0
-Looks step m found m' = Leaves step.word found (after_look (only m.0) (promise_of step.word found)) m m'
+Looks step m found m' = Leaves step.word found (after_look (only m.0) (promise_in step.word found)) m m'
 
 abbrev pub Raises : Step (Unit {0}) → Me (Unit {0}) (List View) → ℕ → Me (Unit {0}) (List View) → Type 0
 Raises step m found m' = Leaves step.word 1 (after_raise (only m.0)) m m'

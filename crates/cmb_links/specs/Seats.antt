@@ -7,22 +7,22 @@ use Rattle.cmb_design.specs.Design.{Design}
 use Rattle.cmb_core.specs.Clustering.{Clustering, cluster_of}
 use Rattle.cmb_links.specs.Links.{no_design}
 use Rattle.cmb_links.specs.Workers.{worker_of}
-use Rattle.cmb_links.specs.declared.view.Terms.{Terms}
+use Rattle.cmb_links.specs.declared.view.BoardTerms.{BoardTerms}
 use Rattle.cmb_links.specs.declared.view.Told.{Told}
 use Rattle.cmb_links.specs.declared.view.View.{View}
 
-abbrev pub terms : Design → Clustering → ℕ → Terms
+abbrev pub terms : Design → Clustering → ℕ → BoardTerms
 terms design clustering workers = record { design = design; clustering = clustering; workers = workers }
 
-abbrev pub terms_of : Told → Terms
+abbrev pub terms_of : Told → BoardTerms
 terms_of told = terms told.design.value told.clustering.value told.workers
 
 -- the place of a net's driving seat: the worker that has the net's cluster
-abbrev pub driver : Terms → ℕ → ℕ
+abbrev pub driver : BoardTerms → ℕ → ℕ
 driver t net = worker_of t.workers (cluster_of t.clustering net)
 
 -- a seat that has done nothing
-abbrev pub new_view : Terms → ℕ → Bool → View
+abbrev pub new_view : BoardTerms → ℕ → Bool → View
 new_view t place last = record {
   terms = t;
   place = place;
@@ -77,15 +77,15 @@ pub record SeatData : Type 0 where
 abbrev pub with_view : SeatData → View → SeatData
 with_view seat view = record { board = seat.board; view = view }
 
-abbrev pub new_seat : TableId → Terms → Bool → ℕ → SeatData
+abbrev pub new_seat : TableId → BoardTerms → Bool → ℕ → SeatData
 new_seat board t last place = record { board = board; view = new_view t place last }
 
 -- the seats of a new board: one for each worker, in order, and the last one
-abbrev pub new_seats : TableId → Terms → List SeatData
+abbrev pub new_seats : TableId → BoardTerms → List SeatData
 new_seats board t = map (new_seat board t false) (range_with_len 0 t.workers) ++ new_seat board t true t.workers ∷ []
 
 -- the seat is of this board, which was opened for these terms
-abbrev pub IsSeatOf : TableId → Terms → SeatData → Type 0
+abbrev pub IsSeatOf : TableId → BoardTerms → SeatData → Type 0
 IsSeatOf board t seat = (seat.board ≡ board) × (seat.view.terms ≡ t)
 
 -- the seats of a board, all of them, as they were cut

@@ -9,7 +9,7 @@ ghost use Rattle.cmb_restrict.specs.Chosen.{each_once};
 ghost use Rattle.cmb_restrict.specs.Closed.{IsClosure, asked_by};
 ghost use Rattle.cmb_restrict.specs.Found.{IsFound, Gains, Follows};
 
-use cmb_bench::{Driver, Netlist};
+use cmb_bench::{Driver, MAX_NETS, Netlist};
 use std::alloc::{AllocError, Global};
 
 /// Nets in the order in which they were found, and for each net of the netlist whether it was.
@@ -99,7 +99,7 @@ fn follow(netlist: &Netlist, found: &mut Found) -> Result<(), AllocError>
 
 /// The numbers of the marks that are set, rising.
 fn marked(alloc: Global, marks: &[bool]) -> Result<Vec<u32>, AllocError>
-    requires { length marks.now ≤ 65535 }
+    requires { length marks.now ≤ MAX_NETS }
     ensures { IfOk result (λ v. v.items
         ≡ filter (λ net. slice_index_or marks.now net false) (range_with_len 0 (length marks.now))) }
 {
@@ -127,11 +127,11 @@ pub fn closure(alloc: Global, netlist: &Netlist, wanted: &[u32]) -> Result<Vec<u
 /// The nets of a list, each once, by rising number, of `count` nets in all.
 pub fn rising(alloc: Global, count: usize, nets: &[u32]) -> Result<Vec<u32>, AllocError>
     requires nets { All (λ net. net < count) nets.now }
-    requires few { count ≤ 65535 }
+    requires few { count ≤ MAX_NETS }
     ensures once { IfOk result (λ chosen. chosen.items ≡ each_once count nets.now) }
     ensures rising { IfOk result (λ chosen. IsStrictlyIncreasing chosen.items) }
     ensures within { IfOk result (λ chosen. All (λ net. net < count) chosen.items) }
-    ensures few { IfOk result (λ chosen. length chosen.items ≤ 65535) }
+    ensures few { IfOk result (λ chosen. length chosen.items ≤ MAX_NETS) }
 {
     let mut found = nothing(alloc, count)?;
     found.add_all(nets)?;

@@ -8,7 +8,7 @@ ghost use Rattle.cmb_restrict.specs.Closed.{IsClosed};
 ghost use Rattle.cmb_restrict.specs.Restriction.{IsPart, is_among, with_nets};
 ghost use Rattle.cmb_restrict.specs.Places.{ArePlaces};
 
-use cmb_bench::{Driver, Name, Netlist, Operands};
+use cmb_bench::{Driver, MAX_NETS, Name, Netlist, Operands};
 use indexmap::IndexSet;
 use std::alloc::{AllocError, Global};
 
@@ -16,7 +16,7 @@ use std::alloc::{AllocError, Global};
 fn places_of(alloc: Global, count: usize, nets: &[u32]) -> Result<Vec<u32>, AllocError>
     requires nets { All (λ net. net < count) nets.now }
     requires rising { IsStrictlyIncreasing nets.now }
-    requires few { length nets.now ≤ 65535 }
+    requires few { length nets.now ≤ MAX_NETS }
     ensures { IfOk result (λ v. (length v.items ≡ count) × ArePlaces nets.now v.items) }
 {
     let mut places = vec![in alloc; 0u32; count]?;
@@ -155,7 +155,7 @@ pub fn places_in(
 ) -> Result<Vec<u32>, AllocError>
     requires nets { All (λ net. net < count) nets.now }
     requires rising { IsStrictlyIncreasing nets.now }
-    requires few { length nets.now ≤ 65535 }
+    requires few { length nets.now ≤ MAX_NETS }
     requires there { All (Contains nets.now) some.now }
     requires some { IsStrictlyIncreasing some.now }
     ensures back { IfOk result (λ places. map (slice_index nets.now) places.items ≡ some.now) }

@@ -7,7 +7,7 @@ ghost use Rattle.cmb_restrict.specs.Closed.{asked_by};
 ghost use Rattle.cmb_restrict.specs.Components.{AreComponents, IsJoined};
 ghost use Rattle.cmb_restrict.specs.Forest.{AreNumbers, Agrees, IsForest, IsRoot, Joins};
 
-use cmb_bench::{Driver, Netlist};
+use cmb_bench::{Driver, MAX_NETS, Netlist};
 use std::alloc::{AllocError, Global};
 
 /// Numbers of the components of a netlist, from 0 on by their least nets.
@@ -93,7 +93,7 @@ fn alone(alloc: Global, count: u32) -> Result<Vec<u32>, AllocError>
 /// The trees of a netlist: those of a net and of the nets that its value rule asks for are one.
 fn trees(alloc: Global, netlist: &Netlist) -> Result<Vec<u32>, AllocError>
     ensures long { IfOk result (λ v. length v.items ≡ length netlist.now.names) }
-    ensures few { IfOk result (λ v. length v.items ≤ 65535) }
+    ensures few { IfOk result (λ v. length v.items ≤ MAX_NETS) }
     ensures forest { IfOk result (λ v. IsForest v.items) }
     ensures joined { IfOk result (λ v. (number : ℕ → ℕ) → Agrees v.items number → IsJoined netlist.now number) }
     ensures enough { IfOk result (λ v. (number : ℕ → ℕ) → IsJoined netlist.now number → Agrees v.items number) }
@@ -108,7 +108,7 @@ fn trees(alloc: Global, netlist: &Netlist) -> Result<Vec<u32>, AllocError>
 /// Numbers the trees by their roots.
 fn numbered(alloc: Global, parents: &[u32]) -> Result<Numbering, AllocError>
     requires forest { IsForest parents.now }
-    requires few { length parents.now ≤ 65535 }
+    requires few { length parents.now ≤ MAX_NETS }
     ensures numbers { IfOk result (λ c. AreNumbers parents.now c.numbers.items c.count) }
     ensures long { IfOk result (λ c. length c.numbers.items ≡ length parents.now) }
 {

@@ -13,7 +13,7 @@ use Rattle.cmb_core.specs.Onward.{GoesOn}
 use Rattle.cmb_core.specs.Opened.{IsClusterOf, IsOwnNet}
 use Rattle.cmb_core.specs.Rows.{slot_of}
 use Rattle.cmb_core.specs.Step.{wave_at, with_wave}
-use Rattle.cmb_core.specs.Tables.{given_at, readers_from}
+use Rattle.cmb_core.specs.Directory.{given_at, readers_from}
 use Rattle.cmb_core.specs.Trims.{least_need, trimmed, trimmed_to, trimmed_wave}
 use Rattle.cmb_core.proofs.ExactFacts.{never_clashes}
 use Rattle.cmb_core.proofs.Inputs.{input_put, input_wave}

@@ -13,12 +13,12 @@ use Rattle.cmb_core.specs.Clusters.{IsDrivenHere, IsSameButWaves, input_slot, to
 use Rattle.cmb_core.specs.Onward.{IsHeldTo, GoesOn}
 use Rattle.cmb_core.specs.Opened.{IsClusterOf, IsOwnNet, held_nets, read_nets}
 use Rattle.cmb_core.specs.Step.{wave_at}
-use Rattle.cmb_core.specs.Tables.{place_in}
+use Rattle.cmb_core.specs.Directory.{place_in}
 use Rattle.cmb_core.proofs.Homes.{input_home, input_there}
-use Rattle.cmb_core.proofs.OpenFacts.{filter_range_all, filter_range_place}
+use Rattle.cmb_core.proofs.OpeningFacts.{filter_range_all, filter_range_place}
 use Rattle.cmb_core.proofs.OwnFacts.{own_driven, place_at}
 use Rattle.cmb_core.proofs.Steps.{wave_at-net}
-use Rattle.cmb_core.proofs.SweepFacts.{still_of}
+use Rattle.cmb_core.proofs.NetByNet.{still_of}
 use Rattle.cmb_vcd.specs.Collector.{Collector, IsComplete, IsExactFor, wave_of}
 use Rattle.cmb_run.proofs.HandFacts.{new_clock, on_ok}
 use Rattle.cmb_run.proofs.RunClocks.{least_clock-whole}

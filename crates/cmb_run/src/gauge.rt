@@ -1,6 +1,6 @@
 //! About how much a worker has to do in a round.
 
-use crate::part::Part;
+use crate::exact_cluster::ExactCluster;
 use crate::terms::Terms;
 use std::alloc::{AllocError, Global};
 
@@ -19,8 +19,11 @@ pub struct Gauge {
 
 impl Gauge {
     /// The nets of a newly opened cluster that stand for all of them.
-    pub(crate) fn open<T: Terms>(alloc: Global, part: &Part<T>) -> Result<Gauge, AllocError> {
-        let driven = part.driven();
+    pub(crate) fn open<T: Terms>(
+        alloc: Global,
+        cluster: &ExactCluster<T>,
+    ) -> Result<Gauge, AllocError> {
+        let driven = cluster.driven();
         let each = (driven.len() / SAMPLES).max(1);
         let mut nets = Vec::new(alloc);
         for net in driven.iter().step_by(each) {
@@ -35,12 +38,12 @@ impl Gauge {
 
     /// About how many looks at a net the next round takes, if it is like the one before it: one for each
     /// net that isn't known to its end, and one for each change that came since the gauge was last read.
-    pub(crate) fn read<T: Terms>(&mut self, part: &Part<T>) -> usize {
+    pub(crate) fn read<T: Terms>(&mut self, cluster: &ExactCluster<T>) -> usize {
         let mut looks = 0_usize;
         let mut changes = 0_usize;
         for net in &self.nets {
-            if let Some(promise) = part.promise(*net) {
-                looks = looks.saturating_add(usize::from(promise.upto < part.horizon()));
+            if let Some(promise) = cluster.promise(*net) {
+                looks = looks.saturating_add(usize::from(promise.upto < cluster.horizon()));
                 changes = changes.saturating_add(promise.count as usize);
             }
         }

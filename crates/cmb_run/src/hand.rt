@@ -13,8 +13,8 @@ ghost use Rattle.cmb_vcd.specs.Collector.{wave_of};
 ghost use Rattle.cmb_run.specs.Rounds.{HasWorked, IsPassed};
 
 use crate::collected::Collected;
+use crate::exact_cluster::{ExactCluster, Posted};
 use crate::gauge::Gauge;
-use crate::part::{Part, Posted};
 use crate::terms::Terms;
 use cmb_core::Clustering;
 use cmb_design::Design;
@@ -24,7 +24,7 @@ use std::marker::Model;
 /// A worker's cluster, and how the worker stands.
 #[derive(Drop)]
 pub struct Hand<T: Terms> {
-    part: Part<T>,
+    cluster: ExactCluster<T>,
     gauge: Gauge,
     load: usize,
     refused: bool,
@@ -35,7 +35,7 @@ impl<T: Terms> Model for Hand<T> {
 
     ghost Value = { Hand };
 
-    ghost view = { λ h. record { cluster = h.part; refused = h.refused } };
+    ghost view = { λ h. record { cluster = h.cluster; refused = h.refused } };
 }
 
 impl<T: Terms> Hand<T> {
@@ -54,10 +54,10 @@ impl<T: Terms> Hand<T> {
         ensures new { IfOk result (λ hand. hand.cluster.waves
             ≡ map new_wave (held_nets design.now clustering.now worker)) }
     {
-        let part = Part::open(alloc, design, clustering, worker)?;
-        let gauge = Gauge::open(alloc, &part)?;
+        let cluster = ExactCluster::open(alloc, design, clustering, worker)?;
+        let gauge = Gauge::open(alloc, &cluster)?;
         Ok(Hand {
-            part,
+            cluster,
             gauge,
             load: usize::MAX,
             refused: false,
@@ -79,11 +79,11 @@ impl<T: Terms> Hand<T> {
             → OnOk result (GoesOn T.design T.clustering worker self.old.cluster.waves self.new.cluster.waves) }
     {
         self.load = 0;
-        if self.part.complete() {
+        if self.cluster.complete() {
             return Ok(());
         }
-        if self.part.step()? {
-            self.load = self.gauge.read(&self.part);
+        if self.cluster.step()? {
+            self.load = self.gauge.read(&self.cluster);
         }
         Ok(())
     }
@@ -106,14 +106,14 @@ impl<T: Terms> Hand<T> {
         ensures { (worker : ℕ) → IsClusterOf T.design T.clustering worker self.now.cluster
             → result.now ≡ read_nets T.design T.clustering worker }
     {
-        self.part.inputs()
+        self.cluster.inputs()
     }
 
     /// How far such a net is known to the worker, None of any other.
     pub fn in_clock(&self, net: u32) -> Option<u32>
         ensures { result ≡ told_at (λ wave. wave.clock) self.now.cluster net (input_slot self.now.cluster net) }
     {
-        self.part.in_clock(net)
+        self.cluster.in_clock(net)
     }
 
     /// The piece of a net from a tick up to its clock, none where it isn't known further or isn't driven here.
@@ -123,7 +123,7 @@ impl<T: Terms> Hand<T> {
         ensures new { IfOk result (λ posted.
             IsSome posted ↔ (IsDrivenHere self.now.cluster net × (from < (wave_at self.now.cluster.waves net).clock))) }
     {
-        self.part.post(net, from)
+        self.cluster.post(net, from)
     }
 
     /// Gives a piece to the cluster.
@@ -134,7 +134,7 @@ impl<T: Terms> Hand<T> {
             → OnOk result (IsPassed posted.now.net posted.now.to self.old.cluster.waves self.new.cluster.waves) }
         ensures same { IsSameButWaves self.old.cluster self.new.cluster }
     {
-        self.part.deliver(posted)
+        self.cluster.deliver(posted)
     }
 
     /// Gives the waves of the cluster to what is collected, which then knows each net that is driven here as far.
@@ -144,7 +144,7 @@ impl<T: Terms> Hand<T> {
             → IsOwnNet T.design T.clustering worker net
             → (wave_at self.cluster.waves net).clock ≤ (wave_of collected.new.waves net).clock }
     {
-        collected.adopt_all(self.part.into_waves());
+        collected.adopt_all(self.cluster.into_waves());
     }
 
     /// Whether each net that is driven here is known up to the horizon.
@@ -153,6 +153,6 @@ impl<T: Terms> Hand<T> {
             → IsOwnNet T.design T.clustering worker net → result ≡ true
             → (wave_at self.now.cluster.waves net).clock ≡ T.design.horizon }
     {
-        self.part.complete()
+        self.cluster.complete()
     }
 }

@@ -2,11 +2,11 @@
 #![tactic(auto)]
 
 mod collected;
+mod exact_cluster;
 mod free;
 mod gauge;
 mod hand;
 mod outlet;
-mod part;
 pub mod rounds;
 pub mod run_fault;
 mod terms;

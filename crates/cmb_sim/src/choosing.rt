@@ -62,7 +62,7 @@ fn is_lawful_count(count: u32) -> bool
 
 // Whether the table of mode plain would have too many cells.
 fn is_too_large(design: &Design) -> bool
-    ensures { result ≡ nat_lt 16777216 (cells_of design.now) }
+    ensures { result ≡ nat_lt MOST_CELLS (cells_of design.now) }
 {
     design.netlist().len() * design.horizon() as usize > MOST_CELLS
 }

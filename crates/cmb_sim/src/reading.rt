@@ -5,6 +5,7 @@ ghost use Rattle.std.specs.Io.KnownBytes.{IsAtEnd};
 ghost use Rattle.cmb_sim.specs.Sources.{IsWhole, IsTooLong};
 
 use crate::source::Source;
+use cmb_bench::MAX_TEXT;
 use std::alloc::{AllocError, Global};
 
 /// Why a source wasn't read whole.
@@ -17,9 +18,6 @@ pub enum ReadFault {
     /// 70: memory was refused.
     Memory,
 }
-
-/// The bytes that an input may have at most.
-pub const INPUT_LIMIT: usize = 16_777_216;
 
 const BLOCK: usize = 65_536;
 
@@ -56,7 +54,7 @@ pub fn read_whole<S: Source>(alloc: Global, source: &mut S) -> Result<Vec<u8>, R
         if count == 0 {
             return Ok(text);
         }
-        if count > INPUT_LIMIT - text.len() {
+        if count > MAX_TEXT - text.len() {
             return Err(ReadFault::TooLong);
         }
         if text.extend_from_slice(&buffer[..count]).is_err() {

@@ -3,9 +3,8 @@
 ghost use Rattle.std.specs.Prelude.{◌≤◌, length};
 
 use crate::words::Given;
-use cmb_bench::read_bench;
+use cmb_bench::{MAX_TEXT, read_bench};
 use cmb_design::{Design, DesignFault, Settings, read_clocks, read_delays, read_stimuli};
-use cmb_sim::reading::INPUT_LIMIT;
 use std::alloc::Global;
 
 /// A table.
@@ -30,10 +29,10 @@ pub(crate) fn text_of<'a>(given: &Given<'a>, table: Table) -> &'a [u8] {
 
 // The text, where it is this table's; else that of a table which isn't given.
 fn text_if<'a>(given: &Given<'a>, table: Table, wanted: Table) -> &'a [u8]
-    ensures { length result.now ≤ 16777216 }
+    ensures { length result.now ≤ MAX_TEXT }
 {
     let text = text_of(given, table);
-    if table == wanted && text.len() <= INPUT_LIMIT {
+    if table == wanted && text.len() <= MAX_TEXT {
         text
     } else {
         &[]
@@ -42,7 +41,7 @@ fn text_if<'a>(given: &Given<'a>, table: Table, wanted: Table) -> &'a [u8]
 
 // A design of the netlist with one table alone, each flip-flop having a clock. Without a netlist it is out of memory.
 fn design_with(alloc: Global, given: &Given<'_>, table: Table) -> Result<Design, DesignFault> {
-    if given.bench.len() > INPUT_LIMIT {
+    if given.bench.len() > MAX_TEXT {
         return Err(DesignFault::Memory);
     }
     let Ok(netlist) = read_bench(alloc, given.bench) else {

@@ -7,9 +7,8 @@ use crate::clocks::unclocked;
 use crate::netlist::{line_at, undriven};
 use crate::record::{push_wrong, record_at};
 use crate::table::{Table, table_of, text_of};
-use cmb_bench::read_bench;
+use cmb_bench::{MAX_TEXT, read_bench};
 use cmb_explain::{Explanation, Place, explanation_of};
-use cmb_sim::reading::INPUT_LIMIT;
 use cmb_sim::{Done, Fault, Line, Settings};
 use std::alloc::{AllocError, Global};
 
@@ -119,7 +118,7 @@ fn push_nowhere(
     entry: Explanation,
 ) -> Result<(), AllocError> {
     text.push_str(entry.meaning)?;
-    if entry.number != 22 || given.bench.len() > INPUT_LIMIT {
+    if entry.number != 22 || given.bench.len() > MAX_TEXT {
         return Ok(());
     }
     let Ok(netlist) = read_bench(alloc, given.bench) else {

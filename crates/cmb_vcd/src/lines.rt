@@ -7,7 +7,7 @@ ghost use Rattle.cmb_vcd.specs.Chosen.{chosen_from};
 ghost use Rattle.cmb_vcd.specs.Vcd.{begins_identifier, code, continues_identifier, header, is_identifier, level_byte};
 ghost use Rattle.cmb_vcd.specs.Vcd.{reference, tick_line, var_line, var_lines};
 
-use cmb_bench::Netlist;
+use cmb_bench::{MAX_NETS, Netlist};
 use cmb_wave::Level;
 use itoa::Buffer;
 use std::alloc::AllocError;
@@ -121,7 +121,7 @@ pub fn push_header(out: &mut Vec<u8>, netlist: &Netlist) -> Result<(), AllocErro
 /// The declarations of chosen nets, each with the code of its place in the list.
 fn push_chosen_vars(out: &mut Vec<u8>, netlist: &Netlist, nets: &[u32]) -> Result<(), AllocError>
     requires nets { All (λ net. net < length netlist.now.names) nets.now }
-    requires few { length nets.now ≤ 65535 }
+    requires few { length nets.now ≤ MAX_NETS }
     ensures { OnOk result (out.new.items ≡ out.old.items ++ var_lines 0 (map (name_of netlist.now) nets.now)) }
 {
     for (place, net) in nets.iter().enumerate() {
@@ -137,7 +137,7 @@ pub fn push_chosen_header(
     nets: &[u32],
 ) -> Result<(), AllocError>
     requires nets { All (λ net. net < length netlist.now.names) nets.now }
-    requires few { length nets.now ≤ 65535 }
+    requires few { length nets.now ≤ MAX_NETS }
     ensures { OnOk result (out.new.items ≡ out.old.items ++ header (chosen_from netlist.now nets.now)) }
 {
     out.extend_from_slice(

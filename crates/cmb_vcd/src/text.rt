@@ -15,6 +15,7 @@ use crate::ticks::{by_ticks, count_of, push_by_ticks};
 use crate::value_changes::{
     NetChanges, gather, net_changes_within, push_value_changes, sort_value_changes,
 };
+use cmb_bench::MAX_NETS;
 use cmb_design::Design;
 use cmb_wave::{Level, Wave};
 use std::alloc::{AllocError, Global};
@@ -36,7 +37,7 @@ fn first_level(wave: &Wave) -> Level
 }
 
 fn push_levels(out: &mut Vec<u8>, codes: &Codes, waves: &[Wave]) -> Result<(), AllocError>
-    requires few { length waves.now ≤ 65535 }
+    requires few { length waves.now ≤ MAX_NETS }
     ensures { OnOk result (out.new.items
         ≡ out.old.items ++ level_lines (collected_level waves.now) 0 0 (length waves.now)) }
 {
@@ -49,7 +50,7 @@ fn push_levels(out: &mut Vec<u8>, codes: &Codes, waves: &[Wave]) -> Result<(), A
 // The lines of tick 0.
 #[tactic(auto, unfolding(crate::specs::Vcd::tick_text))]
 fn push_first(out: &mut Vec<u8>, codes: &Codes, waves: &[Wave]) -> Result<(), AllocError>
-    requires few { length waves.now ≤ 65535 }
+    requires few { length waves.now ≤ MAX_NETS }
     ensures { OnOk result (out.new.items
         ≡ out.old.items ++ tick_text (length waves.now) (collected_level waves.now) 0) }
 {
@@ -122,7 +123,7 @@ fn push_later(
 ) -> Result<(), AllocError>
     requires late { 0 < from }
     requires order { from ≤ to }
-    requires few { length waves.now ≤ 65535 }
+    requires few { length waves.now ≤ MAX_NETS }
     ensures { OnOk result (out.new.items
         ≡ out.old.items ++ ticks_between (length waves.now) (collected_level waves.now) from to) }
 {
@@ -140,7 +141,7 @@ fn push_ticks(
     to: u32,
 ) -> Result<(), AllocError>
     requires order { from ≤ to }
-    requires few { length waves.now ≤ 65535 }
+    requires few { length waves.now ≤ MAX_NETS }
     ensures { OnOk result (out.new.items
         ≡ out.old.items ++ ticks_between (length waves.now) (collected_level waves.now) from to) }
 {
@@ -175,7 +176,7 @@ pub(crate) fn push_part(
     upto: u32,
 ) -> Result<(), AllocError>
     requires order { from ≤ upto }
-    requires few { length waves.now ≤ 65535 }
+    requires few { length waves.now ≤ MAX_NETS }
     ensures { OnOk result (out.new.items
         ≡ out.old.items ++ (ticks_between (length waves.now) (collected_level waves.now) from upto
         ++ end_line horizon from upto)) }

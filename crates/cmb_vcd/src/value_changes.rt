@@ -9,6 +9,7 @@ ghost use Rattle.cmb_vcd.specs.ValueChanges.{value_changes_in, tick_of, within};
 
 use crate::lines::push_tick;
 use crate::ready_codes::Codes;
+use cmb_bench::MAX_NETS;
 use cmb_wave::search::left_from;
 use cmb_wave::{Change, Level, Wave};
 use std::alloc::{AllocError, Global};
@@ -75,7 +76,7 @@ pub(crate) fn net_changes_within<'a>(
     from: u32,
     to: u32,
 ) -> Result<Vec<NetChanges<'a>>, AllocError>
-    requires few { length waves.now ≤ 65535 }
+    requires few { length waves.now ≤ MAX_NETS }
     ensures events { IfOk result (λ parts. value_changes_in parts.items ≡ all_value_changes from to 0 waves.now) }
     ensures traces { OnOk result (AreTraces waves.now) }
 {

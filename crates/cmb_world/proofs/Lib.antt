@@ -1,9 +1,9 @@
-pub mod Machine
-pub mod Progress
 pub mod Commute
-pub mod Worlds
+pub mod Machine
+pub mod NewWorlds
 pub mod Plays
+pub mod Progress
+pub mod RoundFacts
 pub mod Runs
 pub mod Turns
-pub mod RoundFacts
-pub mod Opens
+pub mod Worlds

@@ -25,10 +25,10 @@ use Rattle.cmb_core.specs.Clustering.{Clustering, cluster_of, has_input}
 use Rattle.cmb_core.specs.Step.{wave_at, step_reach, step_piece, with_wave}
 use Rattle.cmb_core.specs.Clusters.{Cluster, step_answer, step_waves, input_slot, IsDrivenHere, delivered, delivered_at, as_delivery, heard_at, told_at, RefusesDelivery}
 use Rattle.cmb_core.specs.Opened.{IsClusterOf, IsOwnNet}
-use Rattle.cmb_world.specs.World.{WorldWaves, Played, answered, turned_down, taken as took, deliver_in, look_in, waves_of, out_wave, in_wave, play_world}
+use Rattle.cmb_world.specs.World.{WorldWaves, Played, answered, turned_down, taken_in as took, deliver_in, look_in, waves_of, out_wave, in_wave, play_world}
 use Rattle.cmb_world.specs.Play.{World, shown, cluster_at, home_wave, IsWorldOf, HasDesign, IsSameBut, Plays, takes_memory, known_in}
 use Rattle.cmb_core.proofs.Steps.{wave_at-net}
-use Rattle.cmb_core.proofs.SweepFacts.{still_of}
+use Rattle.cmb_core.proofs.NetByNet.{still_of}
 use Rattle.cmb_core.proofs.Homes.{input_home}
 use Rattle.cmb_core.proofs.OwnFacts.{own_driven}
 use Rattle.cmb_world.specs.Faults.{fault_of_event}

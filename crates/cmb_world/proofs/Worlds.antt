@@ -23,7 +23,7 @@ use Rattle.cmb_world.specs.declared.event.Reply.TheVariants.{Stepped, Posted, De
 use Rattle.cmb_world.specs.declared.event.PlayFault.TheVariants.{Gap, Old}
 use Rattle.cmb_world.specs.Clocks.{Span, Bound, Clocks, Outcome, out_clock, in_clock, seen_clock, machine_reach, replied, start, stepped, posted, machine_delivered, machine_promised, looked, play, with_out, with_in, piece_of, promise_of}
 use Rattle.cmb_core.specs.Step.{wave_at, told_upto, told_from, step_reach, step_piece, with_wave}
-use Rattle.cmb_world.specs.World.{WorldWaves, Played, waves_of, world_with_wave, out_wave, in_wave, answered, step_in, post_in, deliver_in, taken, promise_in, look_in, play_world, world_after, world_replies, new_waves, new_clusters, new_world, Shows}
+use Rattle.cmb_world.specs.World.{WorldWaves, Played, waves_of, world_with_wave, out_wave, in_wave, answered, step_in, post_in, deliver_in, taken_in, promise_in, look_in, play_world, world_after, world_replies, new_waves, new_clusters, new_world, Shows}
 use Rattle.cmb_bench.specs.declared.netlist.Driver.{Driver}
 use Rattle.cmb_bench.specs.declared.netlist.Driver.TheVariants.{Input, Gate, Flop}
 use Rattle.cmb_bench.specs.Netlist.{driver_of, pins_of, IsNetlist}
@@ -317,7 +317,7 @@ module _ (design : Design) (netlist : IsNetlist design.netlist) (clustering : Cl
       clock-is : has_input design clustering cluster span.net ≡ true → wave.clock ≡ in_clock clocks cluster span.net
       clock-is reads = shows.ins cluster span.net c reads
 
-      takes : has_input design clustering cluster span.net ≡ true → span.from ≤ in_clock clocks cluster span.net → in_clock clocks cluster span.net < span.to → Follows design clustering (taken world cluster wave (piece_of design span) (clash (last_level wave.kept wave.changes) (at_or_after wave.clock (piece_of design span).changes))) (replied (with_in clocks cluster span.net span.to) (Delivered span.to))
+      takes : has_input design clustering cluster span.net ≡ true → span.from ≤ in_clock clocks cluster span.net → in_clock clocks cluster span.net < span.to → Follows design clustering (taken_in world cluster wave (piece_of design span) (clash (last_level wave.kept wave.changes) (at_or_after wave.clock (piece_of design span).changes))) (replied (with_in clocks cluster span.net span.to) (Delivered span.to))
       takes reads meets new =
           let posted' : IsPosted design clocks span = was span refl in
           let exact : IsExactWaveIn design wave = wave_at-exact design (waves_of world cluster) (shows.exact cluster) span.net posted'.0 in
@@ -329,13 +329,13 @@ module _ (design : Design) (netlist : IsNetlist design.netlist) (clustering : Cl
           let later : Wave = wave_with_piece wave (piece_of design span) in
           let later_exact : IsExactWaveIn design later = record { net = exact.net; exact = with_piece-exact (value design wave.net) design.horizon wave exact.exact (piece_of design span) piece_exact low high } in
           let held : has_wave (waves_of world cluster) wave.net ≡ true = ap (has_wave (waves_of world cluster)) net-is ∙ has.ins cluster span.net c posted'.0 reads in
-          let follows : Follows design clustering (taken world cluster wave (piece_of design span) None) (replied (with_in clocks cluster span.net span.to) (Delivered span.to)) = record {
+          let follows : Follows design clustering (taken_in world cluster wave (piece_of design span) None) (replied (with_in clocks cluster span.net span.to) (Delivered span.to)) = record {
             has = has-after design clustering world has cluster c later held;
             shows = subst (λ (n : ℕ). Shows design clustering (world_with_wave world cluster later) (with_in clocks cluster n span.to)) net-is
                 (in-after design clustering world has cluster c later held clocks sound shows later_exact (shows.whole cluster span.net) (ap (has_input design clustering cluster) net-is ∙ reads) exact.net);
             reply = refl;
           } in
-          subst (λ (o : Option ℕ). Follows design clustering (taken world cluster wave (piece_of design span) o) (replied (with_in clocks cluster span.net span.to) (Delivered span.to))) (sym calm) follows
+          subst (λ (o : Option ℕ). Follows design clustering (taken_in world cluster wave (piece_of design span) o) (replied (with_in clocks cluster span.net span.to) (Delivered span.to))) (sym calm) follows
 
   look-follows : (cluster : ℕ) → cluster < clustering.clusters → (promise : Option Bound) → ((bound : Bound) → promise ≡ Some bound → IsPromised design clocks bound) → Follows design clustering (look_in design clustering world cluster (option_map (promise_of design) promise)) (looked design clustering clocks cluster promise)
   unfolding after

@@ -1,6 +1,6 @@
-pub mod Faults
 pub mod Clocks
-pub mod Run
-pub mod World
+pub mod Faults
 pub mod Play
 pub mod Rounds
+pub mod Run
+pub mod World

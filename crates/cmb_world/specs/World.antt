@@ -59,9 +59,9 @@ post_in world wave from =
     else (if from == wave.clock then answered world (Posted None)
     else answered (record world { posts = world.posts ++ cut_of wave from ∷ [] }) (Posted (Some (length world.posts))))
 
-abbrev pub taken : WorldWaves → ℕ → Wave → Piece → Option ℕ → Played
-taken world cluster wave piece None = answered (world_with_wave world cluster (wave_with_piece wave piece)) (Delivered piece.to)
-taken world cluster wave piece (Some tick) = turned_down world (Clash tick)
+abbrev pub taken_in : WorldWaves → ℕ → Wave → Piece → Option ℕ → Played
+taken_in world cluster wave piece None = answered (world_with_wave world cluster (wave_with_piece wave piece)) (Delivered piece.to)
+taken_in world cluster wave piece (Some tick) = turned_down world (Clash tick)
 
 abbrev pub deliver_in : Design → Clustering → WorldWaves → ℕ → Option Piece → Played
 deliver_in design clustering world cluster None = turned_down world NoSuch
@@ -70,7 +70,7 @@ deliver_in design clustering world cluster (Some piece) =
     if has_input design clustering cluster piece.net
     then (if nat_lt wave.clock piece.from then turned_down world (Gap wave.clock)
     else (if nat_le piece.to wave.clock then turned_down world (Old wave.clock)
-    else taken world cluster wave piece (clash (last_level wave.kept wave.changes) (at_or_after wave.clock piece.changes))))
+    else taken_in world cluster wave piece (clash (last_level wave.kept wave.changes) (at_or_after wave.clock piece.changes))))
     else turned_down world Stranger
 
 abbrev pub promise_in : WorldWaves → Wave → Played

@@ -3,13 +3,13 @@ use Rattle.std.proofs.Common.{◌≡◌, false, ◌+◌, [], ◌∷◌, ap, arit
 use Rattle.std.specs.List.{All}
 use Rattle.std.proofs.lemmas.List.Elements.{All-cons, All-nil}
 use Rattle.cmb_links.specs.Seats.{SeatData, AreAllSeats, new_seat}
-use Rattle.cmb_links.specs.declared.view.Terms.{Terms}
+use Rattle.cmb_links.specs.declared.view.BoardTerms.{BoardTerms}
 use Rattle.links_stress.specs.Seats.{at_first}
 
 three : (P : SeatData → Type 0) (a b c : SeatData) → P a → P b → P c → All P (a ∷ b ∷ c ∷ [])
 three P a b c p q r = All-cons P a (b ∷ c ∷ []) p (All-cons P b (c ∷ []) q (All-cons P c [] r (All-nil P)))
 
-pub all_seats : (board : _) (t : Terms) (a b c : SeatData) → t.workers ≡ 2 → at_first a ≡ new_seat board t false 0 → at_first b ≡ new_seat board t false 1 → at_first c ≡ new_seat board t false 2 → AreAllSeats board (a ∷ b ∷ c ∷ [])
+pub all_seats : (board : _) (t : BoardTerms) (a b c : SeatData) → t.workers ≡ 2 → at_first a ≡ new_seat board t false 0 → at_first b ≡ new_seat board t false 1 → at_first c ≡ new_seat board t false 2 → AreAllSeats board (a ∷ b ∷ c ∷ [])
 all_seats board t a b c two first second last = record {
   some = omega arith;
   same = three (λ s. s.board ≡ board) a b c (ap (λ s. s.board) first) (ap (λ s. s.board) second) (ap (λ s. s.board) last);

@@ -4,7 +4,7 @@ ghost use Rattle.std.specs.Prelude.{◌≡◌, ◌≤◌, IfOk, length};
 ghost use Rattle.cmb_design.specs.Exact.{nets_of};
 
 use crate::trouble::Trouble;
-use cmb_bench::{Netlist, read_bench};
+use cmb_bench::{MAX_TEXT, Netlist, read_bench};
 use cmb_core::Clustering;
 use cmb_design::{
     Design, DesignFault, Settings, plain_waves, read_clocks, read_delays, read_stimuli,
@@ -41,7 +41,7 @@ fn design_of(alloc: Global, netlist: Netlist, horizon: u32) -> Result<Design, De
 
 /// The design of a netlist's text, without rows.
 fn read_design(alloc: Global, netlist: &[u8], horizon: u32) -> Result<Design, Trouble>
-    requires { length netlist.now ≤ 16777216 }
+    requires { length netlist.now ≤ MAX_TEXT }
 {
     let Ok(netlist) = read_bench(alloc, netlist) else {
         return Err(Trouble::Circuit);
@@ -104,7 +104,7 @@ impl Circuit {
         clusters: &[u32],
         horizon: u32,
     ) -> Result<Circuit, Trouble>
-        requires { length netlist.now ≤ 16777216 }
+        requires { length netlist.now ≤ MAX_TEXT }
     {
         let design = read_design(alloc, netlist, horizon)?;
         let (waves, clustering) = parts_of(alloc, &design, clusters)?;

@@ -93,7 +93,7 @@ fn trimmed(cluster: &mut Cluster, net: u32) -> (Option<u32>, Option<u32>) {
 }
 
 // The part of a step: its span and its changes.
-fn is_part(rt: &impl Abort, part: Option<Piece>, from: u32, to: u32, changes: &[Change]) {
+fn is_piece(rt: &impl Abort, part: Option<Piece>, from: u32, to: u32, changes: &[Change]) {
     let Some(piece) = part else {
         panic!(rt; "no part");
     };
@@ -146,7 +146,7 @@ fn step_of_a_slow_gate(rt: HostRuntime) -> Result<(), Fail> {
     };
     let mut all = cluster_of(&rt, rt.alloc(), texts, (10, None), 1, 0)?;
     let part = stepped(&mut all, 1)?;
-    is_part(&rt, part, 0, 10, &[]);
+    is_piece(&rt, part, 0, 10, &[]);
     Ok(())
 }
 
@@ -156,7 +156,7 @@ fn step_of_a_flip_flop(rt: HostRuntime) -> Result<(), Fail> {
     let texts = bare(b"INPUT(a)\nq = DFF(a)\n");
     let mut all = cluster_of(&rt, rt.alloc(), texts, (12, Some((0, 5))), 1, 0)?;
     let part = stepped(&mut all, 1)?;
-    is_part(&rt, part, 0, 1, &[at(0, Level::Zero)]);
+    is_piece(&rt, part, 0, 1, &[at(0, Level::Zero)]);
     Ok(())
 }
 
@@ -171,15 +171,15 @@ fn step_by_a_clock_row(rt: HostRuntime) -> Result<(), Fail> {
     };
     let mut last = cluster_of(&rt, rt.alloc(), texts, (12, Some((2, 4))), 3, 2)?;
     let part = stepped(&mut last, 2)?;
-    is_part(&rt, part, 0, 5, &[at(0, Level::Zero)]);
+    is_piece(&rt, part, 0, 5, &[at(0, Level::Zero)]);
     Ok(())
 }
 
 fn loop_steps(rt: &impl Abort, all: &mut Cluster) -> Result<(), Fail> {
-    is_part(rt, stepped(all, 0)?, 0, 1, &[]);
-    is_part(rt, stepped(all, 0)?, 1, 2, &[]);
-    is_part(rt, stepped(all, 0)?, 2, 3, &[]);
-    is_part(rt, stepped(all, 0)?, 3, 4, &[]);
+    is_piece(rt, stepped(all, 0)?, 0, 1, &[]);
+    is_piece(rt, stepped(all, 0)?, 1, 2, &[]);
+    is_piece(rt, stepped(all, 0)?, 2, 3, &[]);
+    is_piece(rt, stepped(all, 0)?, 3, 4, &[]);
     assert!(rt; stepped(all, 0)?.is_none());
     Ok(())
 }
@@ -280,7 +280,7 @@ fn wrong_steps(rt: &impl Abort, alloc: Global, second: &mut Cluster) -> Result<(
     delivers(rt, second, &unknown, Err(clash));
     let wrong = piece_of(alloc, 0, 3, 0, Level::One)?;
     delivers(rt, second, &wrong, Ok(3));
-    is_part(rt, stepped(second, 1)?, 0, 4, &[at(1, Level::Zero)]);
+    is_piece(rt, stepped(second, 1)?, 0, 4, &[at(1, Level::Zero)]);
     Ok(())
 }
 
@@ -294,11 +294,11 @@ fn step_by_what_was_delivered(rt: HostRuntime) -> Result<(), Fail> {
 fn trim_steps(rt: &impl Abort, alloc: Global, second: &mut Cluster) -> Result<(), Fail> {
     let first = piece_of(alloc, 0, 3, 0, Level::Zero)?;
     delivers(rt, second, &first, Ok(3));
-    is_part(rt, stepped(second, 1)?, 0, 4, &[at(1, Level::One)]);
+    is_piece(rt, stepped(second, 1)?, 0, 4, &[at(1, Level::One)]);
     assert_eq!(rt; trimmed(second, 0), (Some(3), Some(3)));
     let next = two_changes(alloc)?;
     delivers(rt, second, &next, Ok(7));
-    is_part(rt, stepped(second, 1)?, 4, 8, &[at(4, Level::Zero)]);
+    is_piece(rt, stepped(second, 1)?, 4, 8, &[at(4, Level::Zero)]);
     Ok(())
 }
 
@@ -327,13 +327,13 @@ fn row_steps(
     flop: &mut Cluster,
     gate: &mut Cluster,
 ) -> Result<(), Fail> {
-    is_part(rt, stepped(flop, 1)?, 0, 3, &[at(0, Level::Zero)]);
+    is_piece(rt, stepped(flop, 1)?, 0, 3, &[at(0, Level::Zero)]);
     let first = post(rt, flop, 1, 0)?;
     delivers(rt, gate, &first, Ok(3));
-    is_part(rt, stepped(input, 0)?, 0, 12, &[at(0, Level::Zero)]);
+    is_piece(rt, stepped(input, 0)?, 0, 12, &[at(0, Level::Zero)]);
     let data = post(rt, input, 0, 0)?;
     delivers(rt, flop, &data, Ok(12));
-    is_part(rt, stepped(flop, 1)?, 3, 12, &[]);
+    is_piece(rt, stepped(flop, 1)?, 3, 12, &[]);
     Ok(())
 }
 

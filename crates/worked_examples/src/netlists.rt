@@ -2,13 +2,13 @@
 
 ghost use Rattle.std.specs.Prelude.{◌<◌, ◌≤◌, length};
 
-use cmb_bench::{Cell, Driver, Kind, Netlist, Operands, cell_named, read_bench};
+use cmb_bench::{Cell, Driver, Kind, MAX_TEXT, Netlist, Operands, cell_named, read_bench};
 use std::alloc::{AllocError, Global};
 use std::process::Abort;
 
 // The number and the line of the fault, or 0 and 0 where the text has a netlist.
 fn outcome(alloc: Global, text: &[u8]) -> (u32, u32)
-    requires { length text.now ≤ 16777216 }
+    requires { length text.now ≤ MAX_TEXT }
 {
     match read_bench(alloc, text) {
         Ok(_) => (0, 0),
@@ -17,7 +17,7 @@ fn outcome(alloc: Global, text: &[u8]) -> (u32, u32)
 }
 
 fn netlist_of(rt: &impl Abort, alloc: Global, text: &[u8]) -> Netlist
-    requires { length text.now ≤ 16777216 }
+    requires { length text.now ≤ MAX_TEXT }
 {
     match read_bench(alloc, text) {
         Ok(netlist) => netlist,

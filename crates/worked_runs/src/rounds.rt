@@ -2,7 +2,7 @@
 
 ghost use Rattle.std.specs.Prelude.{◌≤◌, length};
 
-use cmb_bench::read_bench;
+use cmb_bench::{MAX_TEXT, read_bench};
 use cmb_core::Clustering;
 use cmb_design::{Design, Settings, read_clocks, read_delays, read_stimuli};
 use cmb_links::Workers;
@@ -23,9 +23,9 @@ pub fn design_of_tables(
     stimuli: &[u8],
     settings: Settings,
 ) -> Result<Design, Fail>
-    requires bench { length bench.now ≤ 16777216 }
-    requires delays { length delays.now ≤ 16777216 }
-    requires stimuli { length stimuli.now ≤ 16777216 }
+    requires bench { length bench.now ≤ MAX_TEXT }
+    requires delays { length delays.now ≤ MAX_TEXT }
+    requires stimuli { length stimuli.now ≤ MAX_TEXT }
 {
     let delays = read_delays(alloc, delays)?;
     let stimuli = read_stimuli(alloc, stimuli)?;
@@ -36,8 +36,8 @@ pub fn design_of_tables(
 
 /// A design whose flip-flops sample at ticks 2, 6, 10 and so on, and hold 0 before.
 pub fn design_of(alloc: Global, bench: &[u8], stimuli: &[u8], horizon: u32) -> Result<Design, Fail>
-    requires bench { length bench.now ≤ 16777216 }
-    requires stimuli { length stimuli.now ≤ 16777216 }
+    requires bench { length bench.now ≤ MAX_TEXT }
+    requires stimuli { length stimuli.now ≤ MAX_TEXT }
 {
     let settings = Settings {
         horizon,

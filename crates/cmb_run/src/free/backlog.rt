@@ -5,7 +5,7 @@ ghost use Rattle.cmb_vcd.specs.Collector.{Collector as CollectorOf, IsExactFor, 
 ghost use Rattle.cmb_vcd.specs.Writer.{IsNotBefore};
 ghost use Rattle.cmb_vcd.specs.declared.fault.CollectFault.{CollectFault as Refusal};
 
-use crate::part::Posted;
+use crate::exact_cluster::Posted;
 use crate::terms::Terms;
 use cmb_design::Design;
 use cmb_vcd::{CollectFault, Collector};

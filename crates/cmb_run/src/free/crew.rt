@@ -5,10 +5,10 @@ ghost use Rattle.std.specs.Arc.{arc_value};
 ghost use Rattle.cmb_design.specs.Exact.{nets_of};
 ghost use Rattle.cmb_links.specs.Seats.{IsSeatOf, new_seats, terms};
 
+use crate::exact_cluster::{ExactCluster, Posted};
 use crate::free::desk::Desk;
 use crate::free::ends::TakeEnd;
 use crate::free::worker::Worker;
-use crate::part::{Part, Posted};
 use crate::terms::Terms;
 use cmb_core::Clustering;
 use cmb_design::Design;
@@ -79,8 +79,8 @@ fn open_worker<T: Terms>(
     requires nets { length clustering.now.assign ≡ nets_of design.now }
     requires number { number < clustering.now.clusters }
 {
-    let part = Part::open(alloc, design, clustering, number)?;
-    Worker::open(alloc, desk, part)
+    let cluster = ExactCluster::open(alloc, design, clustering, number)?;
+    Worker::open(alloc, desk, cluster)
 }
 
 // No nets for each of so many workers.

@@ -3,7 +3,7 @@
 ghost use Rattle.std.specs.Prelude.{◌≡◌};
 ghost use Rattle.std.specs.Arc.{arc_value};
 
-use crate::part::Posted;
+use crate::exact_cluster::Posted;
 use crate::terms::Terms;
 use cmb_design::Design;
 use cmb_links::{Full, Link, PutPass, TakePass};

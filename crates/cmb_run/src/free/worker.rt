@@ -2,12 +2,12 @@
 
 ghost use Rattle.std.specs.Prelude.{◌≡◌};
 
+use crate::exact_cluster::{ExactCluster, Posted};
 use crate::free::desk::{Desk, Own};
 use crate::free::ends::{PutEnd, TakeEnd, open_link};
 use crate::free::idle::Idle;
 use crate::free::turnstile::Turnstile;
 use crate::outlet::Outlet;
-use crate::part::{Part, Posted};
 use crate::terms::Terms;
 use cmb_core::Clustering;
 use cmb_design::Design;
@@ -32,15 +32,15 @@ impl Outlet {
     // the next piece then begins at the same tick. Up to the horizon no piece follows, so the net is done.
     fn cut<T: Terms>(
         &mut self,
-        part: &Part<T>,
+        cluster: &ExactCluster<T>,
         takes_empty: bool,
     ) -> Result<Option<Posted<T>>, AllocError> {
-        let Some(posted) = part.post(self.net, self.sent)? else {
+        let Some(posted) = cluster.post(self.net, self.sent)? else {
             return Ok(None);
         };
         let to = posted.piece().to();
         if !takes_empty && posted.piece().changes().is_empty() {
-            if to >= part.horizon() {
+            if to >= cluster.horizon() {
                 self.sent = to;
             }
             return Ok(None);
@@ -99,7 +99,7 @@ impl<T: Terms> Out<T> {
 
     // Puts what is new of each net, and begins where it last stopped. Where the link was full something
     // is left. A net that was put up to the horizon is done.
-    fn put_all<R: Wait>(&mut self, rt: &R, part: &Part<T>) -> Result<(), AllocError> {
+    fn put_all<R: Wait>(&mut self, rt: &R, cluster: &ExactCluster<T>) -> Result<(), AllocError> {
         if !self.put_waiting(rt) {
             return Ok(());
         }
@@ -111,13 +111,13 @@ impl<T: Terms> Out<T> {
                 break;
             };
             self.next += 1;
-            if let Some(posted) = outlet.cut(part, self.takes_empty)? {
+            if let Some(posted) = outlet.cut(cluster, self.takes_empty)? {
                 if !self.put(rt, posted) {
                     return Ok(());
                 }
             }
         }
-        let horizon = part.horizon();
+        let horizon = cluster.horizon();
         self.outlets.retain(|outlet| outlet.sent < horizon);
         self.is_left = false;
         Ok(())
@@ -147,7 +147,7 @@ fn inlets_of(alloc: Global, nets: &[u32]) -> Result<Vec<Inlet>, AllocError> {
 #[derive(Drop)]
 pub struct Worker<T: Terms> {
     desk: Desk<T>,
-    part: Part<T>,
+    cluster: ExactCluster<T>,
     inlets: Vec<Inlet>,
     ins: Vec<TakeEnd<T>>,
     outs: Vec<Out<T>>,
@@ -163,12 +163,12 @@ impl<T: Terms> Worker<T> {
     pub(crate) fn open(
         alloc: Global,
         desk: Desk<T>,
-        part: Part<T>,
+        cluster: ExactCluster<T>,
     ) -> Result<Worker<T>, AllocError> {
-        let inlets = inlets_of(alloc, part.inputs())?;
+        let inlets = inlets_of(alloc, cluster.inputs())?;
         Ok(Worker {
             desk,
-            part,
+            cluster,
             inlets,
             ins: Vec::new(alloc),
             outs: Vec::new(alloc),
@@ -180,7 +180,7 @@ impl<T: Terms> Worker<T> {
 
     /// The nets that the worker is given.
     pub(crate) fn inputs(&self) -> &[u32] {
-        self.part.inputs()
+        self.cluster.inputs()
     }
 
     // Adds a link by which these nets go, and gives the end that takes.
@@ -219,7 +219,7 @@ impl<T: Terms> Worker<T> {
     ) -> Result<TakeEnd<T>, AllocError>
         requires { design.now ≡ T.design }
     {
-        let outlets = outlets_of(alloc, self.part.driven())?;
+        let outlets = outlets_of(alloc, self.cluster.driven())?;
         self.add_link(alloc, design, outlets, true)
     }
 
@@ -237,7 +237,7 @@ impl<T: Terms> Worker<T> {
     ) -> Result<(), AllocError>
         requires { clustering.now ≡ T.clustering }
     {
-        for net in self.part.driven() {
+        for net in self.cluster.driven() {
             if is_read.get(*net as usize) == Some(&true) {
                 if let Some(own) = Own::new(clustering, *net, self.desk.number()) {
                     self.own.push(own)?;
@@ -307,7 +307,7 @@ impl<T: Terms> Worker<T> {
                 let Some(posted) = end.take(rt) else {
                     break;
                 };
-                self.part.deliver(&posted)?;
+                self.cluster.deliver(&posted)?;
                 self.is_new = true;
             }
         }
@@ -323,7 +323,7 @@ impl<T: Terms> Worker<T> {
             if promise.upto <= inlet.known {
                 continue;
             }
-            let heard = self.part.hear(promise);
+            let heard = self.cluster.hear(promise);
             if heard != Heard::Ahead {
                 inlet.known = promise.upto;
             }
@@ -331,19 +331,19 @@ impl<T: Terms> Worker<T> {
                 self.is_new = true;
             }
         }
-        let horizon = self.part.horizon();
+        let horizon = self.cluster.horizon();
         self.inlets.retain(|inlet| inlet.known < horizon);
     }
 
     // Steps the cluster. Where nothing goes on there, a further step is of no use before something is taken or heard.
     fn step(&mut self) -> Result<(), AllocError> {
-        self.is_new = self.part.step()?;
+        self.is_new = self.cluster.step()?;
         if self.is_new {
             for out in self.outs.iter_mut() {
                 out.is_left = true;
             }
         }
-        self.is_complete = self.part.complete();
+        self.is_complete = self.cluster.complete();
         Ok(())
     }
 
@@ -351,7 +351,7 @@ impl<T: Terms> Worker<T> {
     fn put_all<R: Wait>(&mut self, rt: &R) -> Result<(), AllocError> {
         for out in self.outs.iter_mut() {
             if out.is_left {
-                out.put_all(rt, &self.part)?;
+                out.put_all(rt, &self.cluster)?;
             }
         }
         Ok(())
@@ -360,11 +360,11 @@ impl<T: Terms> Worker<T> {
     // Tells the board how far the nets that others read are known, until that is up to the horizon.
     fn publish_all(&mut self) {
         for own in self.own.iter_mut() {
-            if let Some(promise) = self.part.promise(own.net) {
+            if let Some(promise) = self.cluster.promise(own.net) {
                 self.desk.publish(own, promise);
             }
         }
-        let horizon = self.part.horizon();
+        let horizon = self.cluster.horizon();
         self.own.retain(|own| own.told < horizon);
     }
 }

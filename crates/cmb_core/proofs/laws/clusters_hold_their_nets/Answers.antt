@@ -1,5 +1,5 @@
 use Rattle.cmb_core.proofs.OwnFacts.{own_driven, input_read}
-use Rattle.cmb_core.proofs.SweepFacts.{still_of}
+use Rattle.cmb_core.proofs.NetByNet.{still_of}
 use Rattle.cmb_core.proofs.laws.clusters_hold_their_nets.Goals as goal
 
 pub returns : goal.returns

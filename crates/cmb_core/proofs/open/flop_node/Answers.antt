@@ -1,6 +1,6 @@
 use Rattle.std.proofs.Common.{arith, ap}
 use Rattle.cmb_design.proofs.AskFacts.{clock_of-positive}
-use Rattle.cmb_core.proofs.OpenFacts.{flop_starts}
+use Rattle.cmb_core.proofs.OpeningFacts.{flop_starts}
 use Rattle.cmb_core.proofs.open.flop_node.Goals as goal
 
 pub returns-clause-starts : goal.returns-clause-starts

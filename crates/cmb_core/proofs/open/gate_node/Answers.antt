@@ -1,4 +1,4 @@
-use Rattle.cmb_core.proofs.OpenFacts.{gate_starts}
+use Rattle.cmb_core.proofs.OpeningFacts.{gate_starts}
 use Rattle.cmb_core.proofs.open.gate_node.Goals as goal
 
 pub returns-clause-starts : goal.returns-clause-starts

@@ -1,6 +1,6 @@
 use Rattle.std.proofs.Common.{◌∙◌}
 use Rattle.cmb_design.specs.Timing.{stimulus}
-use Rattle.cmb_core.proofs.OpenFacts.{input_starts}
+use Rattle.cmb_core.proofs.OpeningFacts.{input_starts}
 use Rattle.cmb_core.proofs.open.input_node.Goals as goal
 
 pub returns-clause-starts : goal.returns-clause-starts

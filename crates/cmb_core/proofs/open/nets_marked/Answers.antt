@@ -3,7 +3,7 @@ use Rattle.std.specs.Prelude.{filter}
 use Rattle.std.specs.List.{range_with_len}
 use Rattle.std.proofs.lemmas.List.{append-nil}
 use Rattle.cmb_core.specs.Clustering.{cluster_of}
-use Rattle.cmb_core.proofs.OpenFacts.{filter_range_more}
+use Rattle.cmb_core.proofs.OpeningFacts.{filter_range_more}
 use Rattle.cmb_core.proofs.open.nets_marked.Goals as goal
 use Rattle.cmb_core.proofs.open.nets_marked.Goals.{then-is_held+in_ok-push, else-is_held}
 

@@ -1,6 +1,6 @@
 use Rattle.std.proofs.Common.{◌≡◌, ◌+◌, take, get_or, ap, ◌∙◌}
 use Rattle.std.proofs.lemmas.List.{take_more, length_push}
-use Rattle.cmb_core.proofs.OpenFacts.{processes_more, starts_more}
+use Rattle.cmb_core.proofs.OpeningFacts.{processes_more, starts_more}
 use Rattle.cmb_core.proofs.open.nodes_of.Goals as goal
 
 pub loop-net-preserved : goal.loop-net-preserved

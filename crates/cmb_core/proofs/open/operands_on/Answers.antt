@@ -1,7 +1,7 @@
 use Rattle.std.proofs.Common.{◌≡◌, ◌+◌, get_or, take, length, arith, refl, ◌∙◌, ap}
 use Rattle.std.proofs.lemmas.List.{take_more, length_push, length-take-le}
 use Rattle.cmb_design.specs.Timing.{delay}
-use Rattle.cmb_core.proofs.OpenFacts.{placed_at, operands_more, at_more}
+use Rattle.cmb_core.proofs.OpeningFacts.{placed_at, operands_more, at_more}
 use Rattle.cmb_core.proofs.open.operands_on.Goals as goal
 
 pub unwrap-requires : goal.unwrap-requires

@@ -1,6 +1,6 @@
 use Rattle.std.proofs.Common.{◌≡◌, ℕ, None, drop, length, get_or}
-use Rattle.cmb_core.specs.Tables.{place_in}
-use Rattle.cmb_core.proofs.OpenFacts.{shifted}
+use Rattle.cmb_core.specs.Directory.{place_in}
+use Rattle.cmb_core.proofs.OpeningFacts.{shifted}
 use Rattle.cmb_core.proofs.open.places_among.Given as goal
 
 abbrev pub invariant-loop-place : goal.invariant-loop-place

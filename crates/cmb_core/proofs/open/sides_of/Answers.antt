@@ -2,8 +2,8 @@ use Rattle.std.proofs.Common.{◌≡◌, ◌+◌, ◌<◌, ℕ, [], true, false,
 use Rattle.std.proofs.lemmas.List.{take_more, length-take-le, get_or_read, append-nil}
 use Rattle.cmb_core.specs.declared.process.Rule.TheVariants.{Given}
 use Rattle.cmb_core.specs.Rows.{Process, is_given}
-use Rattle.cmb_core.specs.Tables.{driven_among, given_among}
-use Rattle.cmb_core.proofs.OpenFacts.{driven_more, given_more}
+use Rattle.cmb_core.specs.Directory.{driven_among, given_among}
+use Rattle.cmb_core.proofs.OpeningFacts.{driven_more, given_more}
 use Rattle.cmb_core.proofs.open.sides_of.Goals as goal
 use Rattle.cmb_core.proofs.open.sides_of.Goals.{then-is_given+in_ok-push, else-is_given+in_ok-push-2}
 

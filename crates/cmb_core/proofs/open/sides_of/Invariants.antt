@@ -1,5 +1,5 @@
 use Rattle.std.proofs.Common.{◌≡◌, take}
-use Rattle.cmb_core.specs.Tables.{driven_among, given_among}
+use Rattle.cmb_core.specs.Directory.{driven_among, given_among}
 use Rattle.cmb_core.proofs.open.sides_of.Given as goal
 
 abbrev pub invariant-loop-i : goal.invariant-loop-i

@@ -1,5 +1,5 @@
 use Rattle.std.proofs.Common.{◌≡◌, ◌<◌, ℕ, length, [], map, take, get_or}
-use Rattle.cmb_core.specs.Tables.{listed_readers}
+use Rattle.cmb_core.specs.Directory.{listed_readers}
 use Rattle.cmb_core.proofs.readers.readers_among.Given as goal
 
 abbrev pub invariant-loop-slot : goal.invariant-loop-slot

@@ -15,8 +15,8 @@ loop-net-init c = record {
 
 pub loop-net-preserved : goal.loop-net-preserved
 loop-net-preserved c =
-    let told : c.is_of_part.result ≡ is_flop (driver_of c.args.design.now.netlist c.loop-net.net)
-    = c.is_of_part.ensures ∙ ap is_flop c.driver.ensures ∙ ap (λ (netlist : Netlist). is_flop (driver_of netlist c.loop-net.net)) c.netlist-in-loop-net.ensures in
+    let told : c.has_kind.result ≡ is_flop (driver_of c.args.design.now.netlist c.loop-net.net)
+    = c.has_kind.ensures ∙ ap is_flop c.driver.ensures ∙ ap (λ (netlist : Netlist). is_flop (driver_of netlist c.loop-net.net)) c.netlist-in-loop-net.ensures in
     elim c.if-is_of_part.branch [
       | then-is_of_part+in_ok-note_clock w ↦ record {
         count = rw (w.clocks-is)

@@ -1,6 +1,6 @@
 use Rattle.std.proofs.Common.{◌≡◌, ◌≤◌}
 use Rattle.cmb_count.specs.Below.{count_below}
-use Rattle.cmb_count.specs.Parts.{is_still}
+use Rattle.cmb_count.specs.DriverKinds.{is_still}
 use Rattle.cmb_count.proofs.drivers.count_still.Given as goal
 
 abbrev pub invariant-loop-net : goal.invariant-loop-net

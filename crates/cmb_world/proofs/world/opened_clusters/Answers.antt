@@ -1,6 +1,6 @@
 use Rattle.std.proofs.Common.{◌+◌, ap, ◌∙◌}
 use Rattle.std.proofs.lemmas.List.{length_push}
-use Rattle.cmb_world.proofs.Opens.{new_clusters_more, each_more}
+use Rattle.cmb_world.proofs.NewWorlds.{new_clusters_more, each_more}
 use Rattle.cmb_world.proofs.world.opened_clusters.Goals as goal
 
 pub loop-number-preserved : goal.loop-number-preserved

@@ -3,14 +3,14 @@ use Rattle.cmb_core.specs.Clusters.{wave_nets}
 use Rattle.cmb_core.proofs.ClusterLemmas.{IsKept, kept_by_loan}
 use Rattle.cmb_core.proofs.cluster.Cluster.hear_at.Goals as goal
 
-kept : (c : goal.After-self-1) → IsKept c.self.inside.horizon c.self.inside.processes.items c.self.inside.tables c.self.inside.waves.items (set c.self.inside.waves.items c.args.slot c.hear.new.self)
+kept : (c : goal.After-self-1) → IsKept c.self.inside.horizon c.self.inside.processes.items c.self.inside.directory c.self.inside.waves.items (set c.self.inside.waves.items c.args.slot c.hear.new.self)
 kept c =
     let i = c.self.inside in
     let there : c.args.slot < length i.waves.items = omega (arith, ap (λ s. length s.waves) c.self.view_is, c.requires) in
-    kept_by_loan i.horizon i.processes.items i.tables i.waves.items c.args.slot c.index_mut.result.now c.hear.new.self there c.index_mut.ensures.value c.hear.ensures.net c.hear.ensures.base c.hear.ensures.later c.self.invariant.sound c.self.invariant.tables
+    kept_by_loan i.horizon i.processes.items i.directory i.waves.items c.args.slot c.index_mut.result.now c.hear.new.self there c.index_mut.ensures.value c.hear.ensures.net c.hear.ensures.base c.hear.ensures.later c.self.invariant.sound c.self.invariant.directory
 
 pub invariant_of-self : goal.invariant_of-self
-invariant_of-self c = let k = kept c in record { sound = k.sound; tables = k.listed }
+invariant_of-self c = let k = kept c in record { sound = k.sound; directory = k.listed }
 
 pub returns-clause-same : goal.returns-clause-same
 returns-clause-same c =

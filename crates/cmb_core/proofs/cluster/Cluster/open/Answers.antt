@@ -8,7 +8,7 @@ use Rattle.cmb_design.specs.Exact.{nets_of, IsExactWaveIn}
 use Rattle.cmb_core.specs.Clusters.{IsSound, wave_nets}
 use Rattle.cmb_core.specs.Opened.{held_nets, AreProcessesOf}
 use Rattle.cmb_core.specs.Rows.{Process}
-use Rattle.cmb_core.specs.Tables.{place_in}
+use Rattle.cmb_core.specs.Directory.{place_in}
 use Rattle.cmb_core.proofs.ExactFacts.{new_exact}
 use Rattle.cmb_core.proofs.OpenedFacts.{held_below, held_length, pins_placed, slots_below, new_nets, opened_sound}
 use Rattle.cmb_core.proofs.cluster.Cluster.open.Goals as goal
@@ -60,7 +60,7 @@ invariant_of-result c =
     let S : List Wave → Type 0 = λ ws. IsSound (record { horizon = c.horizon.result; processes = c.in_ok-processes.processes.items; waves = ws }) in
     record {
       sound = subst S (sym waves) (opened_sound c.horizon.result c.deref-3.result.now c.in_ok-nets.nets.items c.in_ok-processes.processes.items at c.in_ok-processes.ensures.start count);
-      tables = record {
+      directory = record {
         places = λ net. c.in_ok-places.ensures.places net ∙ ap (λ ns. place_in ns net) (c.deref.ensures.value ∙ sym nets);
         driven = rw (c.deref-4.ensures.value, c.deref-5.ensures.value, sym nets) at c.in_ok-driven.ensures.0;
         inputs = rw (c.deref-4.ensures.value, c.deref-5.ensures.value, sym nets) at c.in_ok-driven.ensures.1;

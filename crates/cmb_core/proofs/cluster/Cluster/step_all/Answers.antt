@@ -3,7 +3,7 @@ use Rattle.std.specs.Prelude.{is_some}
 use Rattle.cmb_core.specs.Clusters.{Cluster}
 use Rattle.cmb_core.specs.Opened.{held_nets}
 use Rattle.cmb_core.specs.Sweep.{some_rises, stepped_waves}
-use Rattle.cmb_core.proofs.SweepFacts.{all_own, first_own, held_as_waves, same_length, at_err}
+use Rattle.cmb_core.proofs.NetByNet.{all_own, first_own, held_as_waves, same_length, at_err}
 use Rattle.cmb_core.proofs.Sweeps.{IsAdvanced, IsSwept, own_to, part_rises, swept_on}
 use Rattle.cmb_core.proofs.cluster.Cluster.step_all.Goals as goal
 

@@ -28,10 +28,10 @@ invariant_of-self-2 c =
     let lent : c.index_mut.result.now ≡ slot_wave c.args.self.now c.args.slot = get_or_read _ _ _ there c.index_mut.ensures.value (new_wave 0) ∙ ap (λ s. slot_wave s c.args.slot) c.self.view_is in
     let went = c.in_ok-piece.ensures.ok in
     let later : c.index_mut.result.now.clock ≤ c.grow.new.self.clock = omega (arith, c.in-Some.ensures.span.later, c.in-Some.ensures.span.from, ap (λ (w : Wave). w.clock) lent, ap (λ (w : Wave). w.clock) went) in
-    let kept : IsKept i.horizon i.processes.items i.tables i.waves.items (set i.waves.items c.args.slot c.grow.new.self) =
-    kept_by_loan i.horizon i.processes.items i.tables i.waves.items c.args.slot c.index_mut.result.now c.grow.new.self there c.index_mut.ensures.value (ap (λ (w : Wave). w.net) went) (ap (λ (w : Wave). w.base) went) later c.self.invariant.sound c.self.invariant.tables
+    let kept : IsKept i.horizon i.processes.items i.directory i.waves.items (set i.waves.items c.args.slot c.grow.new.self) =
+    kept_by_loan i.horizon i.processes.items i.directory i.waves.items c.args.slot c.index_mut.result.now c.grow.new.self there c.index_mut.ensures.value (ap (λ (w : Wave). w.net) went) (ap (λ (w : Wave). w.base) went) later c.self.invariant.sound c.self.invariant.directory
     in
-    record { sound = kept.sound; tables = kept.listed }
+    record { sound = kept.sound; directory = kept.listed }
 
 pub returns-clause-same : goal.returns-clause-same
 returns-clause-same c =
@@ -40,7 +40,7 @@ returns-clause-same c =
     let lent : c.index_mut.result.now ≡ slot_wave c.args.self.now c.args.slot = get_or_read _ _ _ there c.index_mut.ensures.value (new_wave 0) ∙ ap (λ s. slot_wave s c.args.slot) c.self.view_is in
     let went = c.in_ok-piece.ensures.ok in
     let later : c.index_mut.result.now.clock ≤ c.grow.new.self.clock = omega (arith, c.in-Some.ensures.span.later, c.in-Some.ensures.span.from, ap (λ (w : Wave). w.clock) lent, ap (λ (w : Wave). w.clock) went) in
-    let kept : IsKept i.horizon i.processes.items i.tables i.waves.items (set i.waves.items c.args.slot c.grow.new.self) =
-    kept_by_loan i.horizon i.processes.items i.tables i.waves.items c.args.slot c.index_mut.result.now c.grow.new.self there c.index_mut.ensures.value (ap (λ (w : Wave). w.net) went) (ap (λ (w : Wave). w.base) went) later c.self.invariant.sound c.self.invariant.tables
+    let kept : IsKept i.horizon i.processes.items i.directory i.waves.items (set i.waves.items c.args.slot c.grow.new.self) =
+    kept_by_loan i.horizon i.processes.items i.directory i.waves.items c.args.slot c.index_mut.result.now c.grow.new.self there c.index_mut.ensures.value (ap (λ (w : Wave). w.net) went) (ap (λ (w : Wave). w.base) went) later c.self.invariant.sound c.self.invariant.directory
     in
     record { horizon = ap (λ s. s.horizon) c.self.view_is; processes = ap (λ s. s.processes) c.self.view_is; nets = kept.nets ∙ ap (λ s. wave_nets s.waves) c.self.view_is }

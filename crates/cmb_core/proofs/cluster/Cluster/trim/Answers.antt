@@ -2,7 +2,7 @@ use Rattle.std.proofs.Common.{arith, sym, ap, subst}
 use Rattle.std.specs.List.{AllByRecursion}
 use Rattle.cmb_design.specs.Exact.{IsExactWaveIn}
 use Rattle.cmb_core.proofs.ExactFacts.{still_exact, trimmed_exact}
-use Rattle.cmb_core.proofs.SweepFacts.{same_length}
+use Rattle.cmb_core.proofs.NetByNet.{same_length}
 use Rattle.cmb_core.proofs.TrimFacts.{trim_none, trim_more, trim_all}
 use Rattle.cmb_core.proofs.cluster.Cluster.trim.Goals as goal
 

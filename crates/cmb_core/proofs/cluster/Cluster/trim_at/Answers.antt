@@ -5,9 +5,9 @@ use Rattle.std.proofs.lemmas.List.{get_or_read}
 use Rattle.cmb_wave.specs.Wave.{Wave, new_wave}
 use Rattle.cmb_core.specs.Clusters.{Cluster, IsSound, process_at, slot_wave, wave_nets}
 use Rattle.cmb_core.specs.Rows.{is_given}
-use Rattle.cmb_core.specs.Tables.{readers_from}
+use Rattle.cmb_core.specs.Directory.{readers_from}
 use Rattle.cmb_core.specs.Trims.{least_need, trimmed_to}
-use Rattle.cmb_core.proofs.ClusterLemmas.{tables_still}
+use Rattle.cmb_core.proofs.ClusterLemmas.{directory_stays}
 use Rattle.cmb_core.proofs.TrimFacts.{trim_net, trim_sound}
 use Rattle.cmb_core.proofs.cluster.Cluster.trim_at.Goals as goal
 
@@ -33,7 +33,7 @@ invariant_of-self c =
     let P : Wave → Type 0 = λ w. IsSound (record { horizon = i.horizon; processes = i.processes.items; waves = set i.waves.items c.args.slot w }) in
     record {
       sound = subst P (sym (trimmed c)) (trim_sound s c.self.invariant.sound c.args.slot there given);
-      tables = tables_still _ _ _ _ (nets c) c.self.invariant.tables;
+      directory = directory_stays _ _ _ _ (nets c) c.self.invariant.directory;
     }
 
 pub returns-clause-same : goal.returns-clause-same

@@ -1,5 +1,5 @@
 use Rattle.std.proofs.Common.{◌-◌, [], length, take, drop, get_or, sym, ap, ◌∙◌, arith}
-use Rattle.cmb_engine.proofs.JoinFacts.{IsPart, read-list, room}
+use Rattle.cmb_engine.proofs.JoinFacts.{IsSublist, read-list, room}
 use Rattle.cmb_engine.proofs.readers.Readers.of.Goals as goal
 use Rattle.cmb_engine.proofs.readers.Readers.of.Goals.{After-deref}
 
@@ -15,7 +15,7 @@ pub index-requires-2 : goal.index-requires-2
 index-requires-2 c =
     omega (arith, c.self.inside.starts.ok, room c.self.inside.nets.items c.self.inside.starts.items (length c.self.inside.nets.items) c.args.self.now c.args.slot c.self.invariant c.self.view_is c.requires)
 
-part : (c : After-deref) → IsPart c.self.inside.nets.items (get_or c.args.self.now c.args.slot []) c.index.result.now c.index-2.result.now
+part : (c : After-deref) → IsSublist c.self.inside.nets.items (get_or c.args.self.now c.args.slot []) c.index.result.now c.index-2.result.now
 part c =
     read-list c.self.inside.nets.items c.self.inside.starts.items c.args.self.now c.args.slot c.index.result.now c.index-2.result.now
     c.self.invariant c.self.view_is c.requires c.index.ensures c.index-2.ensures

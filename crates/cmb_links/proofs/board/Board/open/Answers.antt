@@ -2,7 +2,7 @@ use Rattle.std.proofs.Common.{◌≡◌, ◌+◌, ◌<◌, ◌≤◌, ◌++◌, 
 use Rattle.std.proofs.lemmas.List.FromFn.{map-range_with_len_more}
 use Rattle.cmb_design.specs.Exact.{nets_of}
 use Rattle.cmb_links.specs.Seats.{new_view, new_seat, new_seats, terms, cut_left, cut_right, only}
-use Rattle.cmb_links.specs.declared.view.Terms.{Terms}
+use Rattle.cmb_links.specs.declared.view.BoardTerms.{BoardTerms}
 use Rattle.cmb_links.specs.declared.view.View.{View}
 use Rattle.cmb_links.proofs.Seats.{opens, cuts, all_seats}
 use Rattle.cmb_links.proofs.board.Board.open.Goals as goal
@@ -30,7 +30,7 @@ pub loop-place-preserved : goal.loop-place-preserved
 loop-place-preserved c =
     let kept = c.loop-place.invariant in
     let place = c.loop-place._place in
-    let t : Terms = terms c.args.design.now c.args.clustering.now c.args.workers in
+    let t : BoardTerms = terms c.args.design.now c.args.clustering.now c.args.workers in
     let board = c.in_ok-table.table.shared.table_id in
     let cut = c.split_seat-next.ensures in
     let b : c.replace.result.table_id ≡ board = ap (λ s. s.table_id) c.replace.ensures.value ∙ cut.0 ∙ kept.board in
@@ -47,7 +47,7 @@ loop-place-preserved c =
 
 pub returns-clause-board : goal.returns-clause-board
 returns-clause-board c =
-    let t : Terms = terms c.args.design.now c.args.clustering.now c.args.workers in
+    let t : BoardTerms = terms c.args.design.now c.args.clustering.now c.args.workers in
     let board = c.in_ok-table.table.shared.table_id in
     let is : c.push_reserved-2.new.self.items ≡ new_seats board t = search rules in
     rw is (all_seats board t)

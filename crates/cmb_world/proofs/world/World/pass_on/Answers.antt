@@ -3,7 +3,7 @@ use Rattle.cmb_world.specs.Play.{shown}
 use Rattle.cmb_world.specs.Rounds.{pass_on_events}
 use Rattle.cmb_world.proofs.Turns.{turn_played, turn_begun}
 use Rattle.cmb_world.proofs.world.World.pass_on.Goals as goal
-use Rattle.cmb_core.proofs.SweepFacts.{at_err}
+use Rattle.cmb_core.proofs.NetByNet.{at_err}
 
 pub loop-cluster-preserved : goal.loop-cluster-preserved
 loop-cluster-preserved c = record {

@@ -6,7 +6,7 @@ use Rattle.cmb_world.specs.Play.{shown}
 use Rattle.cmb_world.specs.World.{WorldWaves, Shows}
 use Rattle.cmb_world.proofs.Runs.{turn_world, turn_replies, run_from}
 use Rattle.cmb_world.proofs.world.World.play_all.Goals as goal
-use Rattle.cmb_core.proofs.SweepFacts.{at_err}
+use Rattle.cmb_core.proofs.NetByNet.{at_err}
 
 pub loop-event-preserved : goal.loop-event-preserved
 loop-event-preserved c = record {

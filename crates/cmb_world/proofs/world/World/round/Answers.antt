@@ -9,7 +9,7 @@ use Rattle.cmb_world.proofs.RoundFacts.{round_clocks}
 use Rattle.cmb_world.proofs.Runs.{together_after, together_reached}
 use Rattle.cmb_world.proofs.Turns.{after_both, begun_second}
 use Rattle.cmb_world.proofs.world.World.round.Goals as goal
-use Rattle.cmb_core.proofs.SweepFacts.{at_err}
+use Rattle.cmb_core.proofs.NetByNet.{at_err}
 
 pub returns-in_err-pass_on_each-clause-memory : goal.returns-in_err-pass_on_each-clause-memory
 returns-in_err-pass_on_each-clause-memory c = λ design clustering of.

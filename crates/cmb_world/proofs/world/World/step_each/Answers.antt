@@ -4,7 +4,7 @@ use Rattle.cmb_world.specs.Rounds.{step_event}
 use Rattle.cmb_world.proofs.Turns.{turn_played, turn_begun, begun_none}
 use Rattle.cmb_world.proofs.Plays.{nets_are}
 use Rattle.cmb_world.proofs.world.World.step_each.Goals as goal
-use Rattle.cmb_core.proofs.SweepFacts.{at_err}
+use Rattle.cmb_core.proofs.NetByNet.{at_err}
 
 pub loop-net-preserved : goal.loop-net-preserved
 loop-net-preserved c = record {

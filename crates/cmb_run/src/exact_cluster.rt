@@ -70,7 +70,7 @@ impl<T: Terms> Posted<T> {
 
 /// A cluster of the run, each wave of which is its net's up to its clock.
 #[derive(Drop)]
-pub struct Part<T: Terms> {
+pub struct ExactCluster<T: Terms> {
     number: u32,
     cluster: Cluster,
     horizon: u32,
@@ -79,7 +79,7 @@ pub struct Part<T: Terms> {
     of: PhantomData<T>,
 }
 
-impl<T: Terms> Model for Part<T> {
+impl<T: Terms> Model for ExactCluster<T> {
     ghost use Rattle.cmb_core.specs.Clusters.{Cluster};
     ghost use Rattle.cmb_core.specs.Exactness.{IsExactCluster};
 
@@ -90,23 +90,23 @@ impl<T: Terms> Model for Part<T> {
     ghost invariant = { λ p. IsExactCluster T.design T.clustering p.number p.cluster };
 }
 
-impl<T: Terms> Part<T> {
+impl<T: Terms> ExactCluster<T> {
     /// The cluster with this number, of which nothing is known yet.
     pub fn open(
         alloc: Global,
         design: &Design,
         clustering: &Clustering,
         number: u32,
-    ) -> Result<Part<T>, AllocError>
+    ) -> Result<ExactCluster<T>, AllocError>
         requires design { design.now ≡ T.design }
         requires clustering { clustering.now ≡ T.clustering }
         requires nets { length clustering.now.assign ≡ nets_of design.now }
         requires number { number < clustering.now.clusters }
-        ensures new { IfOk result (λ part. part.waves ≡ map new_wave (held_nets design.now clustering.now number)) }
-        ensures of { IfOk result (λ part. IsClusterOf T.design T.clustering number part) }
+        ensures new { IfOk result (λ cluster. cluster.waves ≡ map new_wave (held_nets design.now clustering.now number)) }
+        ensures of { IfOk result (λ cluster. IsClusterOf T.design T.clustering number cluster) }
     {
         let cluster = Cluster::open(alloc, design, clustering, number)?;
-        Ok(Part {
+        Ok(ExactCluster {
             number,
             cluster,
             horizon: design.horizon(),

@@ -17,7 +17,7 @@ use Rattle.cmb_core.specs.Opened.{IsProcessOf, AreProcessesOf, IsClusterOf, is_o
 use Rattle.cmb_core.specs.Rows.{Process, slot_of}
 use Rattle.cmb_core.specs.Step.{wave_at, step_reach}
 use Rattle.cmb_core.specs.Sweep.{stepped_waves, some_rises}
-use Rattle.cmb_core.specs.Tables.{place_in}
+use Rattle.cmb_core.specs.Directory.{place_in}
 use Rattle.cmb_core.proofs.ClusterLemmas.{slot_place}
 use Rattle.cmb_core.proofs.Driven.{Drives, step_waves_are, reach_is, wave_here}
 use Rattle.cmb_core.proofs.ReadFacts.{held_own}

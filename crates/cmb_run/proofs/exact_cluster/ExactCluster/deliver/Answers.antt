@@ -3,7 +3,7 @@ use Rattle.std.specs.List.{AllByRecursion}
 use Rattle.cmb_design.specs.Exact.{IsExactIn, IsExactWaveIn}
 use Rattle.cmb_core.specs.Clusters.{Cluster}
 use Rattle.cmb_run.proofs.HandFacts.{on_ok, delivers_exact, passes}
-use Rattle.cmb_run.proofs.part.Part.deliver.Goals as goal
+use Rattle.cmb_run.proofs.exact_cluster.ExactCluster.deliver.Goals as goal
 
 pub returns-clause-taken : goal.returns-clause-taken
 returns-clause-taken g c = search rules

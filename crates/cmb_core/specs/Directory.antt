@@ -1,10 +1,10 @@
 -- What a cluster looks up: the place of each net's wave, the nets that it drives and those that it is given, and who reads each given wave.
 use Rattle.std.specs.Prelude.{◌≡◌, ℕ, suc, Bool, nat_eq, List, [], ◌∷◌, ◌++◌, if◌then◌else◌, length, map, slice_index_or, Option, Some, None, option_map}
 use Rattle.std.specs.List.{range_with_len}
-use Rattle.cmb_core.specs.declared.process.Operand.{Operand}
+use Rattle.cmb_core.specs.declared.process.Pin.{Pin}
 use Rattle.cmb_core.specs.declared.process.Rule.TheVariants.{Given}
-use Rattle.cmb_core.specs.declared.tables.Reader.{Reader}
-use Rattle.cmb_core.specs.declared.tables.Tables.{Tables}
+use Rattle.cmb_core.specs.declared.directory.Reader.{Reader}
+use Rattle.cmb_core.specs.declared.directory.Directory.{Directory}
 use Rattle.cmb_core.specs.Rows.{Process, is_given}
 
 -- the place of a net in a list of nets
@@ -26,7 +26,7 @@ given_among (process ∷ processes) (net ∷ nets) =
     if is_given process.rule then net ∷ given_among processes nets else given_among processes nets
 
 -- the pins that read the wave in a place, of the operands of the process in another
-abbrev pub pins_on : ℕ → ℕ → List Operand → List Reader
+abbrev pub pins_on : ℕ → ℕ → List Pin → List Reader
 pins_on place slot [] = []
 pins_on place slot (operand ∷ operands) =
     if nat_eq operand.slot place then record { slot = slot; delay = operand.delay } ∷ pins_on place slot operands
@@ -45,8 +45,8 @@ given_at processes place = is_given (slice_index_or processes place (record { ru
 abbrev pub listed_readers : List Process → List Process → ℕ → List Reader
 listed_readers all those place = if given_at all place then readers_from place 0 those else []
 
-pub record AreTables (processes : List Process) (nets : List ℕ) (tables : Tables) : Type 0 where
-  pub places : (net : ℕ) → slice_index_or tables.places.items net None ≡ place_in nets net
-  pub driven : tables.driven.items ≡ driven_among processes nets
-  pub inputs : tables.inputs.items ≡ given_among processes nets
-  pub readers : map (λ list. list.items) tables.readers.items ≡ map (listed_readers processes processes) (range_with_len 0 (length processes))
+pub record IsDirectory (processes : List Process) (nets : List ℕ) (directory : Directory) : Type 0 where
+  pub places : (net : ℕ) → slice_index_or directory.places.items net None ≡ place_in nets net
+  pub driven : directory.driven.items ≡ driven_among processes nets
+  pub inputs : directory.inputs.items ≡ given_among processes nets
+  pub readers : map (λ list. list.items) directory.readers.items ≡ map (listed_readers processes processes) (range_with_len 0 (length processes))

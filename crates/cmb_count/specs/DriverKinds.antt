@@ -7,18 +7,18 @@ use Rattle.cmb_design.specs.Nets.{driver_cell, is_at, is_flop, is_input, kind_nu
 use Rattle.cmb_design.specs.Timing.{clock_of, stimulus}
 use Rattle.cmb_wave.specs.Waveform.{changes_between}
 use Rattle.cmb_count.specs.Below.{count_below}
-use Rattle.cmb_count.specs.declared.drivers.Part.{Part}
-use Rattle.cmb_count.specs.declared.drivers.Part.TheVariants.{Inputs, Gates, Flops}
+use Rattle.cmb_count.specs.declared.drivers.DriverKind.{DriverKind}
+use Rattle.cmb_count.specs.declared.drivers.DriverKind.TheVariants.{Inputs, Gates, Flops}
 
--- the driver is of this part: an INPUT, a gate of this kind, or a flip-flop
-abbrev pub is_part : Part → Driver → Bool
-is_part Inputs driver = is_input driver
-is_part (Gates kind) driver = is_at (driver_cell driver) (kind_number kind)
-is_part Flops driver = is_flop driver
+-- the driver is of this kind: an INPUT, a gate of this kind, or a flip-flop
+abbrev pub has_kind : DriverKind → Driver → Bool
+has_kind Inputs driver = is_input driver
+has_kind (Gates kind) driver = is_at (driver_cell driver) (kind_number kind)
+has_kind Flops driver = is_flop driver
 
--- how many nets are driven by a part
-abbrev pub part_count : Netlist → Part → ℕ
-part_count netlist part = count_below (λ net. is_part part (driver_of netlist net)) (length netlist.names)
+-- how many nets are driven by drivers of a kind
+abbrev pub kind_count : Netlist → DriverKind → ℕ
+kind_count netlist wanted = count_below (λ net. has_kind wanted (driver_of netlist net)) (length netlist.names)
 
 -- an input that is x at each tick below the horizon
 abbrev pub is_silent : Design → ℕ → Bool

@@ -12,7 +12,7 @@ pub struct Reader {
 /// The place of each net's wave, the nets that are driven and those that are given, and who reads each
 /// given wave.
 #[derive(Drop)]
-pub struct Tables {
+pub struct Directory {
     pub places: Vec<Option<u16>>,
     pub driven: Vec<u32>,
     pub inputs: Vec<u32>,
