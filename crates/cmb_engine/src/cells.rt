@@ -11,7 +11,7 @@ ghost use Rattle.cmb_engine.specs.Words.{levels_of};
 
 use crate::arrivals::Arrival;
 use crate::cell::Pin;
-use crate::readers::push_pins;
+use crate::readers::{Numbers, push_pins};
 use crate::visit::{double_word, flop_word, gate_word, single_word};
 use cmb_bench::Kind;
 use cmb_design::Clock;
@@ -168,7 +168,7 @@ impl Cells {
     }
 
     /// Puts a net into the lists of the nets that its cell reads.
-    pub(crate) fn list_net(&self, net: usize, readers: &mut [Vec<u32>]) -> Result<(), AllocError>
+    pub(crate) fn list_net(&self, net: usize, readers: &mut [Numbers]) -> Result<(), AllocError>
         requires net { net < length self.now }
         requires small { net < 2 ^ 32 }
         requires pins { All (λ pin. pin.net < length readers.old) (pins_of_cell (slice_index_or self.now net Told)) }

@@ -7,7 +7,7 @@ ghost use Rattle.cmb_words.specs.Changes.{RisesWithin};
 ghost use Rattle.cmb_engine.specs.Lines.{AreFollowers, IsAhead, IsOfChange, IsOfFollower, IsOfLine, NotesEach};
 
 use crate::cell::Pin;
-use crate::readers::{empty_lists, push_reader};
+use crate::readers::{Numbers, empty_lists, push_reader};
 use cmb_calendar::{Calendar, Tell};
 use cmb_words::{Changed, Places, Word};
 use std::alloc::{AllocError, Global};
@@ -17,7 +17,7 @@ pub(crate) fn followers_of(
     alloc: Global,
     lines: &[Pin],
     nets: usize,
-) -> Result<Vec<Vec<u32>>, AllocError>
+) -> Result<Vec<Numbers>, AllocError>
     requires nets { All (λ line. line.net < nets) lines.now }
     requires few { length lines.now < 2 ^ 32 }
     ensures { IfOk result (λ lists. AreFollowers lines.now nets (map (λ list. list.items) lists.items)) }
@@ -95,7 +95,7 @@ fn note_followers(
 /// as many ticks later as the line's delay says. Nothing is noted that lies at the horizon or behind it.
 pub(crate) fn note_lines(
     changed: &[Changed],
-    followers: &[Vec<u32>],
+    followers: &[Numbers],
     lines: &[Pin],
     calendar: &mut Calendar,
     to: u32,

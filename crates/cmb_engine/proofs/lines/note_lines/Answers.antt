@@ -1,8 +1,9 @@
-use Rattle.std.proofs.Common.{◌≡◌, ◌+◌, ◌<◌, ℕ, [], List, Vec, Global, length, get_or, map, take, subst, sym, ◌∙◌, refl, arith}
+use Rattle.std.proofs.Common.{◌≡◌, ◌+◌, ◌<◌, ℕ, [], List, length, get_or, map, take, subst, sym, ◌∙◌, refl, arith}
 use Rattle.std.specs.Prelude.{◌↔◌, Contains}
 use Rattle.std.proofs.lemmas.List.{take_all}
 use Rattle.std.proofs.lemmas.List.Elements.{Contains-get_or}
 use Rattle.std.proofs.lemmas.Option.{slice_get_within}
+use Rattle.smallvec.specs.SmallVec.{SmallVec}
 use Rattle.cmb_words.specs.declared.changed.Changed.{Changed}
 use Rattle.cmb_engine.specs.Lines.{NotesEach, Follows, IsOfFollower, IsOfLine}
 use Rattle.cmb_engine.proofs.LineFacts.{line-none, line-parts, line-before, line-last, list_at, rises-within}
@@ -19,8 +20,8 @@ note_followers-requires-clause-within c = λ k d small.
     let inside : c.one-item.result.net < length c.args.followers.now =
     subst (λ (one : Changed). one.net < length c.args.followers.now) (sym c.one-item.is)
     (rises-within 0 (length c.args.followers.now) c.args.changed.now c.requires.changed c.loop-one.one-index c.one-item.result (omega arith)) in
-    let list : c.as_slice-numbers.result.now ≡ get_or (map (λ (v : Vec ℕ Global). v.items) c.args.followers.now) c.one-item.result.net [] =
-    list_at c.args.followers.now c.one-item.result.net c.index-followers-one.result c.as_slice-numbers.result.now inside c.index-followers-one.is c.as_slice-numbers.ensures.value in
+    let list : c.as_slice-numbers.result.now ≡ get_or (map (λ (v : SmallVec ℕ). v.items) c.args.followers.now) c.one-item.result.net [] =
+    list_at c.args.followers.now c.one-item.result.net c.index-followers-one.result c.as_slice-numbers.result.now inside c.index-followers-one.is c.as_slice-numbers.ensures in
     let number : ℕ = get_or c.as_slice-numbers.result.now k d in
     let follows : Follows c.args.lines.now number c.one-item.result.net =
     (c.requires.followers.exact c.one-item.result.net number).0
@@ -45,8 +46,8 @@ loop-one-preserved c =
     let inside : one.net < nets =
     subst (λ (one : Changed). one.net < length c.args.followers.now) (sym c.one-item.is)
     (rises-within 0 (length c.args.followers.now) c.args.changed.now c.requires.changed i one small) in
-    let list : c.as_slice-numbers.result.now ≡ get_or (map (λ (v : Vec ℕ Global). v.items) c.args.followers.now) one.net [] =
-    list_at c.args.followers.now one.net c.index-followers-one.result c.as_slice-numbers.result.now inside c.index-followers-one.is c.as_slice-numbers.ensures.value in
+    let list : c.as_slice-numbers.result.now ≡ get_or (map (λ (v : SmallVec ℕ). v.items) c.args.followers.now) one.net [] =
+    list_at c.args.followers.now one.net c.index-followers-one.result c.as_slice-numbers.result.now inside c.index-followers-one.is c.as_slice-numbers.ensures in
     let follow : (number : ℕ) → Contains c.as_slice-numbers.result.now number ↔ Follows c.args.lines.now number one.net =
     subst (λ (xs : List ℕ). (number : ℕ) → Contains xs number ↔ Follows c.args.lines.now number one.net) (sym list) (c.requires.followers.exact one.net) in
     record {
