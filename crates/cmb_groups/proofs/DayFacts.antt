@@ -49,3 +49,11 @@ module _ (width horizon : ℕ) (clocks : List ℕ) (days : AreDays width horizon
   take-next =
       let next : window_end width horizon (last_of (take k clocks)) ≡ clock_at clocks k = ap (window_end width horizon) last-take ∙ sym step.next in
       ap (λ c. take k clocks ++ c ∷ []) next ∙ sym (take_more clocks k 0 less)
+
+-- none of them is beyond a horizon that the last one isn't beyond
+pub days-within : (width horizon : ℕ) (clocks : List ℕ) (k : ℕ) → AreDays width horizon clocks → last_of clocks ≤ horizon → k < length clocks → clock_at clocks k ≤ horizon
+days-within width horizon clocks k days last inside = by (cases_eq (suc k) (length clocks))
+  where
+    by : (suc k ≡ length clocks) ⊎ (suc k ≡ length clocks → ⊥) → clock_at clocks k ≤ horizon
+    by (inl e) = let here : last_of clocks ≡ clock_at clocks k = ap (λ n. get_or clocks n 0) (omega (arith, e)) in omega (arith, here, last)
+    by (inr n) = omega (arith, (days k (omega (arith, inside, n))).below)

@@ -83,6 +83,7 @@ pub record AreParts (design : Design) (clocks : List ℕ) (parts : List Part) : 
 pub record IsBatch (design : Design) (width : ℕ) (clocks : List ℕ) (parts : List Part) : Type 0 where
   pub some : 1 ≤ length clocks
   pub days : AreDays width design.horizon clocks
+  pub within : last_of clocks ≤ design.horizon
   pub shared : AreParts design clocks parts
 
 -- ---- makers of windows

@@ -63,6 +63,7 @@ pub fn parted<'a>(
 ) -> Result<Batch<'a>, AllocError>
     requires some { 1 ≤ length clocks.items }
     requires days { AreDays width design.now.horizon clocks.items }
+    requires within { last_of clocks.items ≤ design.now.horizon }
     requires makers { AreMakersOf design.now width clocks.items makers.old }
     ensures design { IfOk result (λ batch. batch.design ≡ design.entry.now) }
     ensures clocks { IfOk result (λ batch. batch.clocks ≡ clocks.items) }
@@ -75,17 +76,6 @@ pub fn parted<'a>(
         clocks,
         parts,
     })
-}
-
-// How many nets changed in the windows at a place.
-fn weight_of(parts: &[Part<'_>], place: usize) -> usize
-    requires { All (λ part. suc place < length part.clocks) parts.now }
-{
-    let mut weight = 0_usize;
-    for part in parts {
-        weight = weight.saturating_add(part.changed(place).len());
-    }
-    weight
 }
 
 // Puts the changes of the windows at a place together, in place of what `changed` had.
@@ -121,16 +111,10 @@ impl<'a> Batch<'a> {
     /// The tick at which so many windows end.
     pub fn clock(&self, count: usize) -> u32
         requires { count < length self.now.clocks }
-        ensures { result ≡ clock_at self.now.clocks count }
+        ensures value { result ≡ clock_at self.now.clocks count }
+        ensures within { result ≤ self.now.design.horizon }
     {
         self.clocks[count]
-    }
-
-    /// How many nets changed in the window at a place.
-    pub fn weight(&self, place: usize) -> usize
-        requires { suc place < length self.now.clocks }
-    {
-        weight_of(&self.parts, place)
     }
 
     /// The nets that changed in the window at a place, by rising number, each with its levels, in place of what

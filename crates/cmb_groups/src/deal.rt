@@ -3,7 +3,7 @@
 ghost use Rattle.std.specs.Prelude.{◌≡◌, ◌<◌, ◌≤◌, length, slice_index, nat_eq, All, IfOk};
 ghost use Rattle.std.specs.List.{filter, range_with_len};
 ghost use Rattle.cmb_groups.specs.Groups.{AreGroupsOf};
-ghost use Rattle.cmb_restrict.specs.Components.{IsJoined};
+ghost use Rattle.cmb_restrict.specs.Components.{IsJoined, component};
 
 use crate::group::Group;
 use cmb_bench::MAX_NETS;
@@ -25,6 +25,24 @@ fn members(alloc: Global, numbers: &[u32], number: u32) -> Result<Vec<u32>, Allo
     Ok(nets)
 }
 
+/// The group of the nets that have a number, of those that value rules never change. Errors: memory was refused.
+pub fn group_of<'a>(
+    alloc: Global,
+    design: &'a Design,
+    numbers: &[u32],
+    number: u32,
+) -> Result<Group<'a>, AllocError>
+    requires nets { length numbers.now ≡ length design.now.netlist.names }
+    requires joined { IsJoined design.now.netlist (slice_index numbers.now) }
+    ensures whole { IfOk result (λ group. group.whole ≡ design.entry.now) }
+    ensures nets { IfOk result (λ group. group.nets ≡ component design.entry.now.netlist numbers.now number) }
+{
+    // What every netlist keeps is told by the contract of its length.
+    let _nets = design.netlist().len();
+    let nets = members(alloc, numbers, number)?;
+    Group::of(alloc, design, nets)
+}
+
 /// The groups of a design's nets to which its components were dealt: each has the nets of a number. Errors: memory was
 /// refused.
 pub fn groups_of<'a>(
@@ -43,7 +61,7 @@ pub fn groups_of<'a>(
     let _nets = design.netlist().len();
     let mut groups = Vec::with_capacity(alloc, count as usize)?;
     for number in 0..count {
-        groups.push(Group::of(alloc, design, members(alloc, numbers, number)?)?)?;
+        groups.push(group_of(alloc, design, numbers, number)?)?;
     }
     Ok(groups)
 }

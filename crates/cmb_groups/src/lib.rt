@@ -15,7 +15,7 @@ mod window;
 
 pub use batch::{Batch, parted};
 pub use days::clocks_of;
-pub use deal::groups_of;
+pub use deal::{group_of, groups_of};
 pub use group::Group;
 pub use maker::GroupMaker;
-pub use makers::{Makers, fill_all, open_makers};
+pub use makers::{Makers, fill_all, open_makers, with_one_width};

@@ -74,6 +74,22 @@ fn narrow_all(makers: &mut [GroupMaker<'_>], width: u32) -> Result<(), AllocErro
     Ok(())
 }
 
+/// Makers whose windows end at the same ticks, of makers that made nothing yet: their width is the least that one of
+/// them has. Errors: memory was refused.
+pub fn with_one_width<'a>(list: Vec<GroupMaker<'a>>) -> Result<Makers<'a>, AllocError>
+    requires { AreOpened (map (λ maker. maker.group) list.items) list.items }
+    ensures wide { IfOk result (λ makers. 2 ≤ makers.width) }
+    ensures narrow { IfOk result (λ makers. makers.width < 63) }
+    ensures count { IfOk result (λ makers. length makers.list.items ≡ length list.entry.items) }
+    ensures makers { (design : Design) → AreGroupsOf design (map (λ maker. maker.group) list.entry.items)
+        → IfOk result (λ makers. AreMakersOf design makers.width (1 ∷ []) makers.list.items) }
+{
+    let mut list = list;
+    let width = least_width(&list);
+    narrow_all(&mut list, width)?;
+    Ok(Makers { width, list })
+}
+
 /// Makers of all groups, at tick 1, whose windows end at the same ticks: their width is the least that an engine of one
 /// of them has alone. Errors: memory was refused.
 pub fn open_makers<'a>(alloc: Global, groups: &'a [Group<'a>]) -> Result<Makers<'a>, AllocError>
@@ -83,10 +99,7 @@ pub fn open_makers<'a>(alloc: Global, groups: &'a [Group<'a>]) -> Result<Makers<
     ensures makers { (design : Design) → AreGroupsOf design groups.entry.now
         → IfOk result (λ makers. AreMakersOf design makers.width (1 ∷ []) makers.list.items) }
 {
-    let mut list = opened(alloc, groups)?;
-    let width = least_width(&list);
-    narrow_all(&mut list, width)?;
-    Ok(Makers { width, list })
+    with_one_width(opened(alloc, groups)?)
 }
 
 /// Makes the windows of all groups of a design that meet at these ticks, one group after the other. Where memory is

@@ -1,25 +1,13 @@
-use Rattle.std.proofs.Common.{◌≡◌, ◌∙◌, ◌++◌, ◌∷◌, ℕ, List, [], length, map, get_or, ap, sym, subst, arith}
-use Rattle.std.specs.Prelude.{nat_eq}
-use Rattle.std.specs.List.{filter, range_with_len}
+use Rattle.std.proofs.Common.{◌≡◌, ◌∙◌, ◌++◌, ◌∷◌, ℕ, List, [], length, map, ap, sym, subst, arith}
+use Rattle.std.specs.List.{range_with_len}
 use Rattle.std.proofs.lemmas.List.{length-map, map-append}
 use Rattle.std.proofs.lemmas.List.Elements.{All-push}
 use Rattle.std.proofs.lemmas.List.FromFn.{length-range_with_len, map-range_with_len_more}
 use Rattle.cmb_bench.specs.Netlist.{IsNetlist}
-use Rattle.cmb_restrict.specs.Closed.{IsClosed}
 use Rattle.cmb_restrict.specs.Components.{component}
 use Rattle.cmb_groups.specs.Groups.{AreGroups, Group}
-use Rattle.cmb_groups.proofs.DealFacts.{numbers-closed, numbers-make-groups}
+use Rattle.cmb_groups.proofs.DealFacts.{numbers-make-groups}
 use Rattle.cmb_groups.proofs.deal.groups_of.Goals as goal
-
-pub of-requires : goal.of-requires
-of-requires c =
-    let netlist = c.args.design.now.netlist in
-    let numbers = c.args.numbers.now in
-    let number = c.loop-number.number in
-    let lawful : IsNetlist netlist = subst IsNetlist c.netlist.ensures c.len-nets.ensures.sound in
-    let members : c.in_ok-members.field-0.items ≡ component netlist numbers number =
-    c.in_ok-members.ensures ∙ ap (λ n. filter (λ net. nat_eq (get_or numbers net 0) number) (range_with_len 0 n)) c.requires.nets in
-    subst (IsClosed netlist) (sym members) (numbers-closed netlist numbers lawful c.requires.joined number)
 
 pub loop-number-preserved : goal.loop-number-preserved
 loop-number-preserved c =
@@ -28,15 +16,13 @@ loop-number-preserved c =
     let number = c.loop-number.number in
     let was = c.loop-number.invariant in
     let olds = c.loop-number.groups.items in
-    let group = c.in_ok-of.field-0 in
-    let members : c.in_ok-members.field-0.items ≡ component netlist numbers number =
-    c.in_ok-members.ensures ∙ ap (λ n. filter (λ net. nat_eq (get_or numbers net 0) number) (range_with_len 0 n)) c.requires.nets in
+    let group = c.in_ok-group_of.field-0 in
     rw c.in_ok-push.ensures.items (record {
-      whole = All-push (λ (g : Group). g.whole ≡ c.args.design.now) olds group was.whole c.in_ok-of.ensures.whole;
+      whole = All-push (λ (g : Group). g.whole ≡ c.args.design.now) olds group was.whole c.in_ok-group_of.ensures.whole;
       nets =
           map-append (λ (g : Group). g.nets) olds (group ∷ [])
           ∙ ap (λ l. l ++ group.nets ∷ []) was.nets
-          ∙ ap (λ (ns : List ℕ). map (component netlist numbers) (range_with_len 0 number) ++ ns ∷ []) (c.in_ok-of.ensures.nets ∙ members)
+          ∙ ap (λ (ns : List ℕ). map (component netlist numbers) (range_with_len 0 number) ++ ns ∷ []) c.in_ok-group_of.ensures.nets
           ∙ sym (map-range_with_len_more (component netlist numbers) 0 number number (omega arith));
     })
 

@@ -1,0 +1,2 @@
+pub mod OpeningFacts
+pub mod ShareFacts
