@@ -6,13 +6,13 @@ use Rattle.atomic_table.specs.Table.{State, Me, Act, step, keeps, stepped, carri
 use Rattle.cmb_wave.specs.Calls.{word_of}
 use Rattle.cmb_wave.specs.declared.level.Promise.{Promise}
 use Rattle.cmb_design.specs.Exact.{nets_of, IsRightIn}
-use Rattle.cmb_links.specs.Promises.{promise_in, newest}
+use Rattle.cmb_links.specs.Promises.{promise_of_word, newest}
 use Rattle.cmb_links.specs.Seats.{driver, after_publish, after_look, after_raise, after_check, after_finish, after_count, only, joined}
 use Rattle.cmb_links.specs.Boards.{IsBoard, seats_of, Leaves, Publishes, Looks, Raises, Checks, Finishes, Counts}
 use Rattle.cmb_links.specs.declared.view.BoardTerms.{BoardTerms}
 use Rattle.cmb_links.specs.declared.view.View.{View}
 use Rattle.cmb_links.proofs.Joined.{place_of, at_joined, joined-set}
-use Rattle.cmb_links.proofs.Newest.{promise_in-word_of}
+use Rattle.cmb_links.proofs.Newest.{promise_of_word-word_of}
 use Rattle.cmb_links.proofs.Steps.{tells, publishes_kept, looks_kept, raises_kept, checks_kept, finishes_kept, counts_kept}
 
 -- the words with what the table keeps for each seat, and a seat's part of it
@@ -51,7 +51,7 @@ publish_allowed t slots id me p one drives right fits rises s kept _ at _ =
     let inside = owed.1.net in
     subst (λ (r : Promise). (w : List View) × (a : Act (Unit {0})) × Valid s.homes me.1 a × Law t (stepped s p.net x id me.1 w a)
     × Leaves p.net x (after_publish v r) me (w, carried_after me.1 a))
-    (sym (promise_in-word_of p p.net refl fits)) (
+    (sym (promise_of_word-word_of p p.net refl fits)) (
       after_publish v p ∷ [],
       keeps,
       tt,
@@ -62,7 +62,7 @@ publish_allowed t slots id me p one drives right fits rises s kept _ at _ =
 pub look_allowed : (t : BoardTerms) (slots id : ℕ) (me : M) (k : ℕ) → IsOne me → k < nets_of (only me.0).terms.design → Allows (Law t) slots id me k (λ n. n) (Looks (step slots k 0 0 none) me)
 look_allowed t slots id me k one in' s kept _ at _ =
     let v : View = only me.0 in let f = seats_of s in let i = place_of s.views id in let here = seated t s id me one at in
-    let old = kept.seats i v here in let x : ℕ = slice_index s.words k in let w : View = after_look v (promise_in k x) in
+    let old = kept.seats i v here in let x : ℕ = slice_index s.words k in let w : View = after_look v (promise_of_word k x) in
     let inside : k < nets_of t.design = subst (λ (u : BoardTerms). k < nets_of u.design) old.terms in' in
     let after = looks_kept t f i v kept here [] k inside in
     (w ∷ [], keeps, tt, settled t s id me one at k x w after, (refl, tells t f i v w kept here [] k x (omega arith) (refl, refl, refl) after))

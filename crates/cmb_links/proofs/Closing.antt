@@ -11,7 +11,7 @@ use Rattle.atomic_table.specs.Table.{State, Joins}
 use Rattle.atomic_table.proofs.Lists.{at_map}
 use Rattle.cmb_wave.specs.declared.level.Promise.{Promise}
 use Rattle.cmb_design.specs.Exact.{nets_of}
-use Rattle.cmb_links.specs.Promises.{promise, promise_in, newest}
+use Rattle.cmb_links.specs.Promises.{promise, promise_of_word, newest}
 use Rattle.cmb_links.specs.Seats.{SeatData, driver, joined, AreAllSeats}
 use Rattle.cmb_links.specs.Boards.{IsBoard, IsKnown, EndsAs, published_at, promise_at, any_raised, some_raised, count_finished, number_finished}
 use Rattle.cmb_links.specs.declared.view.BoardTerms.{BoardTerms}
@@ -19,7 +19,7 @@ use Rattle.cmb_links.specs.declared.view.View.{View}
 use Rattle.cmb_links.proofs.Allowed.{S, Law}
 use Rattle.cmb_links.proofs.EndWord.{finished_few}
 use Rattle.cmb_links.proofs.Joined.{place_of, at_joined, joined-whole}
-use Rattle.cmb_links.proofs.Newest.{newest-net, promise_in-word_of}
+use Rattle.cmb_links.proofs.Newest.{newest-net, promise_of_word-word_of}
 use Rattle.cmb_links.proofs.Loads.{one_or_none}
 use Rattle.cmb_links.proofs.Seats.{gathers}
 use Rattle.cmb_links.proofs.Steps.{log_here, loads}
@@ -92,12 +92,12 @@ all_told t s id board (x ∷ xs) are kept at =
     subst (λ (vs : List View). IsBoard t record { words = s.words; homes = s.homes; views = vs }) whole kept
 
 module _ (t : BoardTerms) (s : State (Unit {0}) View) (kept : IsBoard t s) (promises : List Promise)
-    (read : (net : ℕ) → net < nets_of t.design → promise_at promises net ≡ promise_in net (slice_index s.words net)) where
+    (read : (net : ℕ) → net < nets_of t.design → promise_at promises net ≡ promise_of_word net (slice_index s.words net)) where
   -- each net's word is what its driving seat published last
   tells_newest : (net : ℕ) → net < nets_of t.design → promise_at promises net ≡ newest net (published_at s.views (driver t net))
   tells_newest net in' =
       let held = kept.nets net in' in let log : List Promise = published_at s.views (driver t net) in
-      read net in' ∙ ap (promise_in net) held.held ∙ promise_in-word_of (newest net log) net (newest-net net log) held.fits
+      read net in' ∙ ap (promise_of_word net) held.held ∙ promise_of_word-word_of (newest net log) net (newest-net net log) held.fits
 
   pub ends_as : (i : ℕ) (v : View) → get_elem? s.views i ≡ some v → EndsAs promises (some_raised s.views) (number_finished s.views) v
   ends_as i v at =
@@ -129,10 +129,10 @@ pub record Tells (promises : List Promise) (raised : Bool) (finished : ℕ) (sea
 
 -- the promises that n words hold
 abbrev pub promises_of : List ℕ → ℕ → List Promise
-promises_of words n = map (λ net. promise_in net (slice_index words net)) (range_with_len 0 n)
+promises_of words n = map (λ net. promise_of_word net (slice_index words net)) (range_with_len 0 n)
 
-promises_of-at : (words : List ℕ) (n net : ℕ) → net < n → promise_at (promises_of words n) net ≡ promise_in net (slice_index words net)
-promises_of-at words n net in' = get_or-map-range_with_len (λ (k : ℕ). promise_in k (slice_index words k)) 0 n net net (promise net 0 0) in' (omega arith)
+promises_of-at : (words : List ℕ) (n net : ℕ) → net < n → promise_at (promises_of words n) net ≡ promise_of_word net (slice_index words net)
+promises_of-at words n net in' = get_or-map-range_with_len (λ (k : ℕ). promise_of_word k (slice_index words k)) 0 n net net (promise net 0 0) in' (omega arith)
 
 pub closes : (t : BoardTerms) (s : S) (id n : ℕ) (board : TableId) (seats : List SeatData) (words : List ℕ) → AreAllSeats board seats → Law t s → get_elem? s.views id ≡ some (map view_of seats)
     → s.words ≡ words → length words ≡ n + 2 → Tells (promises_of words n) (slice_index words n == 1) (slice_index words (n + 1)) seats
@@ -143,12 +143,12 @@ closes t s id n board seats words are kept at same width =
     let len = ap length same in
     let nets : n ≡ nets_of t.design = omega arith in
     let promises : List Promise = promises_of words n in
-    let read : (net : ℕ) → net < nets_of t.design → promise_at promises net ≡ promise_in net (slice_index s.words net) =
-    λ net in'. promises_of-at words n net (omega arith) ∙ ap (λ (ws : List ℕ). promise_in net (slice_index ws net)) (sym same) in
+    let read : (net : ℕ) → net < nets_of t.design → promise_at promises net ≡ promise_of_word net (slice_index s.words net) =
+    λ net in'. promises_of-at words n net (omega arith) ∙ ap (λ (ws : List ℕ). promise_of_word net (slice_index ws net)) (sym same) in
     let stop : (slice_index words n == 1) ≡ some_raised f.views = (λ i. slice_index (sym same i) (nets i) == 1) ∙ stop_told t f told promises read in
     let count : slice_index words (n + 1) ≡ number_finished f.views = (λ i. slice_index (sym same i) (nets i + 1)) ∙ told.finished.held in
     record {
-      nets = λ k d in'. length-map-range_with_len (λ (j : ℕ). promise_in j (slice_index words j)) 0 n ∙ nets
+      nets = λ k d in'. length-map-range_with_len (λ (j : ℕ). promise_of_word j (slice_index words j)) 0 n ∙ nets
           ∙ ap (λ (u : BoardTerms). nets_of u.design) (sym (told.seats k (get_or seats k d).view (at_map view_of seats k (get_or seats k d) (at_place seats k d in'))).terms);
       words = λ k d in'. subst (λ (z : Bool × ℕ). EndsAs promises z.0 z.1 (get_or seats k d).view) (λ i. (sym stop i, sym count i))
           (ends_as t f told promises read k (get_or seats k d).view (at_map view_of seats k (get_or seats k d) (at_place seats k d in')));

@@ -6,13 +6,13 @@ use Rattle.atomic_table.proofs.Lists.{at_map}
 use Rattle.cmb_wave.specs.Calls.{word_of}
 use Rattle.cmb_wave.specs.declared.level.Promise.{Promise}
 use Rattle.cmb_design.specs.Exact.{nets_of, IsRightIn}
-use Rattle.cmb_links.specs.Promises.{promise_in, newest}
+use Rattle.cmb_links.specs.Promises.{promise_of_word, newest}
 use Rattle.cmb_links.specs.Seats.{driver, after_look, after_check, after_count}
 use Rattle.cmb_links.specs.Boards.{IsKnown, Moment, published_at, some_raised, number_finished}
 use Rattle.cmb_links.specs.declared.view.Stops.{Stops}
 use Rattle.cmb_links.specs.declared.view.View.{View}
 use Rattle.cmb_links.proofs.Lists.{list_any-at}
-use Rattle.cmb_links.proofs.Newest.{newest-net, promise_in-word_of}
+use Rattle.cmb_links.proofs.Newest.{newest-net, promise_of_word-word_of}
 use Rattle.cmb_links.proofs.NetWords.{knows_newest}
 use Rattle.cmb_links.proofs.EndWord.{counts_itself}
 use Rattle.cmb_links.proofs.Steps.{log_here, loads, few_ended}
@@ -27,12 +27,12 @@ pub record Looked (v : View) (n : ℕ) (q : Promise) : Type 0 where
   pub own : driver v.terms n ≡ v.place → q ≡ newest n v.promised.published
   pub moment : Moment (after_look v q) (λ s. (slice_index s.words n ≡ word_of q) × IsKnown n (published_at s.views (driver v.terms n)) q)
 
-pub looks : (v : View) (n found : ℕ) → n < (nets_of v.terms.design) → Moment (after_look v (promise_in n found)) (λ s. slice_index s.words n ≡ found) → Looked v n (promise_in n found)
+pub looks : (v : View) (n found : ℕ) → n < (nets_of v.terms.design) → Moment (after_look v (promise_of_word n found)) (λ s. slice_index s.words n ≡ found) → Looked v n (promise_of_word n found)
 looks v n found in' m =
-    let s = m.0 in let q : Promise = promise_in n found in let w : View = after_look v q in
+    let s = m.0 in let q : Promise = promise_of_word n found in let w : View = after_look v q in
     let log : List Promise = published_at s.views (driver v.terms n) in
     let held = m.1.nets n in' in
-    let is : q ≡ newest n log = ap (promise_in n) (sym m.3 ∙ held.held) ∙ promise_in-word_of (newest n log) n (newest-net n log) held.fits in
+    let is : q ≡ newest n log = ap (promise_of_word n) (sym m.3 ∙ held.held) ∙ promise_of_word-word_of (newest n log) n (newest-net n log) held.fits in
     let known = All-front (λ (p : Promise). p.net ≡ n → IsKnown n log p) v.promised.loads (q ∷ []) (held.found v.place w.promised.loads (at_map loads s.views v.place w m.2)) in
     record {
       right = subst (IsRightIn v.terms.design) (sym is) held.right;

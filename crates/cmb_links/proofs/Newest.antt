@@ -4,7 +4,7 @@ use Rattle.std.proofs.lemmas.Nat.{div-mul-add}
 use Rattle.std.proofs.Math.Nat.{mul-add-mod_self_right}
 use Rattle.std.proofs.lemmas.List.Elements.{All-push, All-nil, All-head, All-tail, All-cons, All-weaker}
 use Rattle.cmb_wave.specs.Calls.{word_of}
-use Rattle.cmb_links.specs.Promises.{promise, promise_in, newest_after, newest, NeverFalls}
+use Rattle.cmb_links.specs.Promises.{promise, promise_of_word, newest_after, newest, NeverFalls}
 use Rattle.cmb_wave.specs.declared.level.Promise.{Promise}
 
 pub newest_after-push : (p : Promise) (n : ℕ) (qs : List Promise) (r : Promise) → newest_after p n (qs ++ r ∷ []) ≡ (if r.net == n then r else newest_after p n qs)
@@ -47,8 +47,8 @@ pub newest-made : (n : ℕ) (qs : List Promise) → (newest n qs ≡ promise n 0
 newest-made n qs = newest_after-made (promise n 0 0) n qs
 
 -- a promise is what its word stands for
-pub promise_in-word_of : (p : Promise) (n : ℕ) → p.net ≡ n → p.upto < 2 ^ 32 → promise_in n (word_of p) ≡ p
-promise_in-word_of p n e h =
+pub promise_of_word-word_of : (p : Promise) (n : ℕ) → p.net ≡ n → p.upto < 2 ^ 32 → promise_of_word n (word_of p) ≡ p
+promise_of_word-word_of p n e h =
     let c : word_of p / 2 ^ 32 ≡ p.count = div-mul-add p.count (2 ^ 32) p.upto h in
     let u : word_of p % 2 ^ 32 ≡ p.upto = mul-add-mod_self_right p.count (2 ^ 32) p.upto ∙ mod-eq_of_lt h in
     λ i. promise (sym e i) (c i) (u i)

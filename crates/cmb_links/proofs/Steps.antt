@@ -12,7 +12,7 @@ use Rattle.cmb_wave.specs.Calls.{word_of}
 use Rattle.cmb_wave.specs.declared.level.Promise.{Promise}
 use Rattle.cmb_design.specs.Design.{Design}
 use Rattle.cmb_design.specs.Exact.{nets_of, IsRightIn}
-use Rattle.cmb_links.specs.Promises.{promise_in, newest, NeverFalls}
+use Rattle.cmb_links.specs.Promises.{promise_of_word, newest, NeverFalls}
 use Rattle.cmb_links.specs.Seats.{driver, after_publish, after_look, after_raise, after_check, after_finish, after_count}
 use Rattle.cmb_links.specs.Boards.{MayPublish, IsSeated, IsKnown, IsNetKept, IsStopKept, IsEndKept, IsBoard, Moment, published_at}
 use Rattle.cmb_links.specs.declared.view.BoardTerms.{BoardTerms}
@@ -20,7 +20,7 @@ use Rattle.cmb_links.specs.declared.view.Stops.{Stops}
 use Rattle.cmb_links.specs.declared.view.Endings.{Endings}
 use Rattle.cmb_links.specs.declared.view.View.{View}
 use Rattle.cmb_links.proofs.Lists.{at_inside, get_at, map-set_unseen}
-use Rattle.cmb_links.proofs.Newest.{newest-net, promise_in-word_of, NeverFalls-push}
+use Rattle.cmb_links.proofs.Newest.{newest-net, promise_of_word-word_of, NeverFalls-push}
 use Rattle.cmb_links.proofs.NetWords as net
 use Rattle.cmb_links.proofs.StopWord as stop
 use Rattle.cmb_links.proofs.EndWord as end
@@ -153,8 +153,8 @@ module _ (t : BoardTerms) (s : S) (id : ℕ) (v : View) (kept : IsBoard t s) (at
       (stop_stays t s id v w kept at c p.net x (λ e. absurd (omega arith)) refl) (ended_stays t s id v w kept at c p.net x (λ e. absurd (omega arith)) refl)
 
   -- a load of net k
-  pub looks_kept : (k : ℕ) → k < (nets_of t.design) → IsBoard t (stepped s k (slice_index s.words k) id c (after_look v (promise_in k (slice_index s.words k))) keeps)
-  looks_kept k in' = let x : ℕ = slice_index s.words k in let q : Promise = promise_in k x in let w : View = after_look v q in
+  pub looks_kept : (k : ℕ) → k < (nets_of t.design) → IsBoard t (stepped s k (slice_index s.words k) id c (after_look v (promise_of_word k (slice_index s.words k))) keeps)
+  looks_kept k in' = let x : ℕ = slice_index s.words k in let q : Promise = promise_of_word k x in let w : View = after_look v q in
       let words : set s.words k x ≡ s.words = set-get_or s.words k 0 in
       let logs : map log (set s.views id w) ≡ map log s.views = map-set_unseen log s.views id v w at refl in
       assembles t s id v w kept at c k x (stays_seated t s id v w kept at c (refl, refl, refl) refl refl)
@@ -163,7 +163,7 @@ module _ (t : BoardTerms) (s : S) (id : ℕ) (v : View) (kept : IsBoard t s) (at
       (ap (λ (l : List (List Promise)). slice_index_or l (driver t n) []) logs) (map-set loads s.views id w)
       (net.loaded t.design n (slice_index s.words n) (published_at s.views (driver t n)) (map loads s.views) id (loads v) q (kept.nets n below) (at_map loads s.views id v at)
       (λ (is : k ≡ n). let held = kept.nets n below in let new : Promise = newest n (published_at s.views (driver t n)) in
-      let e : q ≡ new = (λ i. promise_in (is i) (slice_index s.words (is i))) ∙ ap (promise_in n) held.held ∙ promise_in-word_of new n (newest-net n (published_at s.views (driver t n))) held.fits in
+      let e : q ≡ new = (λ i. promise_of_word (is i) (slice_index s.words (is i))) ∙ ap (promise_of_word n) held.held ∙ promise_of_word-word_of new n (newest-net n (published_at s.views (driver t n))) held.fits in
       subst (IsKnown n (published_at s.views (driver t n))) (sym e) (net.knows_newest n (published_at s.views (driver t n))))))
       (stop_stays t s id v w kept at c k x (λ e. absurd (omega arith)) refl) (ended_stays t s id v w kept at c k x (λ e. absurd (omega arith)) refl)
 

@@ -8,7 +8,7 @@ use Rattle.cmb_wave.specs.Calls.{word_of}
 use Rattle.cmb_wave.specs.declared.level.Promise.{Promise}
 use Rattle.cmb_design.specs.Design.{Design}
 use Rattle.cmb_design.specs.Exact.{nets_of, IsRightIn}
-use Rattle.cmb_links.specs.Promises.{promise, promise_in, newest, NeverFalls}
+use Rattle.cmb_links.specs.Promises.{promise, promise_of_word, newest, NeverFalls}
 use Rattle.cmb_links.specs.Seats.{driver, after_publish, after_look, after_raise, after_check, after_finish, after_count, only, joined}
 use Rattle.cmb_links.specs.declared.view.BoardTerms.{BoardTerms}
 use Rattle.cmb_links.specs.declared.view.Stops.{Stops}
@@ -102,10 +102,10 @@ abbrev pub Leaves : ℕ → ℕ → View → Me (Unit {0}) (List View) → Me (U
 Leaves word x w m m' = (m' ≡ (w ∷ [], m.1)) × Moment w (λ s. slice_index s.words word ≡ x)
 
 abbrev pub Publishes : Step (Unit {0}) → Me (Unit {0}) (List View) → ℕ → Me (Unit {0}) (List View) → Type 0
-Publishes step m found m' = Leaves step.word step.first (after_publish (only m.0) (promise_in step.word step.first)) m m'
+Publishes step m found m' = Leaves step.word step.first (after_publish (only m.0) (promise_of_word step.word step.first)) m m'
 
 abbrev pub Looks : Step (Unit {0}) → Me (Unit {0}) (List View) → ℕ → Me (Unit {0}) (List View) → Type 0
-Looks step m found m' = Leaves step.word found (after_look (only m.0) (promise_in step.word found)) m m'
+Looks step m found m' = Leaves step.word found (after_look (only m.0) (promise_of_word step.word found)) m m'
 
 abbrev pub Raises : Step (Unit {0}) → Me (Unit {0}) (List View) → ℕ → Me (Unit {0}) (List View) → Type 0
 Raises step m found m' = Leaves step.word 1 (after_raise (only m.0)) m m'

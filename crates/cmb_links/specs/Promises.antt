@@ -6,8 +6,8 @@ abbrev pub promise : ℕ → ℕ → ℕ → Promise
 promise net count upto = record { net = net; count = count; upto = upto }
 
 -- the promise of a net that a word stands for
-abbrev pub promise_in : ℕ → ℕ → Promise
-promise_in net word = promise net (word / 2 ^ 32) (word % 2 ^ 32)
+abbrev pub promise_of_word : ℕ → ℕ → Promise
+promise_of_word net word = promise net (word / 2 ^ 32) (word % 2 ^ 32)
 
 -- the last promise of a net in a list, or p
 abbrev pub newest_after : Promise → ℕ → List Promise → Promise

@@ -3,7 +3,7 @@ use Rattle.std.proofs.lemmas.List.FromFn.{map-range_with_len_more}
 use Rattle.std.specs.Mem.Slots.{slots_items}
 use mathlib.Core.Option.{some}
 use Rattle.cmb_wave.specs.declared.level.Promise.{Promise}
-use Rattle.cmb_links.specs.Promises.{promise_in}
+use Rattle.cmb_links.specs.Promises.{promise_of_word}
 use Rattle.cmb_links.proofs.Closing.{Tells, promises_of, closes, few_end}
 use Rattle.cmb_links.proofs.Lists.{get_at}
 use Rattle.cmb_links.proofs.board.Board.close.Goals as goal
@@ -17,9 +17,9 @@ loop-net-preserved c =
     let ws = slots_items c.close_with-closed.result.words in
     let n = c.loop-net.net in
     let word : slice_index ws n ≡ c.word.result = get_at ws n c.word.result 0 c.word.ensures in
-    let new : c.of_word.result ≡ promise_in n (slice_index ws n) = c.of_word.ensures.parts ∙ ap (promise_in n) (sym word) in
+    let new : c.of_word.result ≡ promise_of_word n (slice_index ws n) = c.of_word.ensures.parts ∙ ap (promise_of_word n) (sym word) in
     record {
-      items = c.push_reserved.ensures.items ∙ (λ i. kept.items i ++ new i ∷ []) ∙ sym (map-range_with_len_more (λ k. promise_in k (slice_index ws k)) 0 n n (omega arith));
+      items = c.push_reserved.ensures.items ∙ (λ i. kept.items i ++ new i ∷ []) ∙ sym (map-range_with_len_more (λ k. promise_of_word k (slice_index ws k)) 0 n n (omega arith));
       len = search rules;
       room = search rules;
     }
