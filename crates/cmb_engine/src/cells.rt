@@ -69,14 +69,14 @@ impl Model for Cells {
 }
 
 impl Cells {
-    /// No cells.
-    pub(crate) fn new(alloc: Global) -> Cells
-        ensures { result ≡ [] }
+    /// No cells, with room for so many.
+    pub(crate) fn with_capacity(alloc: Global, count: usize) -> Result<Cells, AllocError>
+        ensures { IfOk result (λ cells. cells ≡ []) }
     {
-        Cells {
-            rules: Vec::new(alloc),
+        Ok(Cells {
+            rules: Vec::with_capacity(alloc, count)?,
             pins: Vec::new(alloc),
-        }
+        })
     }
 
     /// Adds a net whose word is told.

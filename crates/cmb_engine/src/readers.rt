@@ -14,7 +14,7 @@ use std::marker::Model;
 /// Numbers of slots, or of lines. Up to four of them need no memory of their own.
 pub(crate) type Numbers = SmallVec<u32, 4>;
 
-/// Which nets read each slot, seen as a list for each.
+/// Which nets read each slot, or which lines follow each net, seen as a list for each.
 ///
 /// The lists stand one behind the other, so that those of many slots fit into a processor's cache.
 #[derive(Drop)]
@@ -36,12 +36,32 @@ impl Model for Readers {
 }
 
 impl Readers {
-    // The same lists, one behind the other.
-    fn joined(alloc: Global, lists: &[Numbers]) -> Result<Readers, AllocError>
+    /// So many empty lists.
+    pub(crate) fn empty(alloc: Global, count: usize) -> Result<Readers, AllocError>
+        ensures { IfOk result (λ readers. readers ≡ replicate count []) }
+    {
+        let Some(starts) = count.checked_add(1) else {
+            return Err(AllocError);
+        };
+        Ok(Readers {
+            starts: vec![in alloc; 0; starts]?,
+            nets: Vec::new(alloc),
+        })
+    }
+
+    /// How many lists there are.
+    pub(crate) fn len(&self) -> usize
+        ensures { result ≡ length self.now }
+    {
+        self.starts.len() - 1
+    }
+
+    /// The same lists, one behind the other.
+    pub(crate) fn joined(alloc: Global, lists: &[Numbers]) -> Result<Readers, AllocError>
         ensures { IfOk result (λ readers. readers ≡ map (λ list. list.items) lists.now) }
     {
-        let mut starts = Vec::new(alloc);
-        let mut nets = Vec::new(alloc);
+        let mut starts = Vec::with_capacity(alloc, lists.len().saturating_add(1))?;
+        let mut nets = Vec::with_capacity(alloc, lists.len().saturating_mul(2))?;
         starts.push(0)?;
         for list in lists {
             nets.extend_from_slice(list.as_slice())?;

@@ -54,7 +54,7 @@ impl<'a> Stream<'a> {
         Ok(Stream {
             engine,
             dump,
-            changed: Vec::new(alloc),
+            changed: Vec::with_capacity(alloc, design.netlist().len())?,
             kept,
         })
     }

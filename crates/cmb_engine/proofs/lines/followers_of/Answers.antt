@@ -1,5 +1,8 @@
 use Rattle.std.proofs.Common.{◌≡◌, ◌+◌, ◌<◌, ◌++◌, ◌∷◌, [], ℕ, List, length, map, get_or, set, take, subst, sym, ap, ◌∙◌, arith}
-use Rattle.std.proofs.lemmas.List.{length-map, take_all, with_items_is}
+use Rattle.std.specs.Prelude.{replicate}
+use Rattle.std.proofs.lemmas.Bool.{eqb-true}
+use Rattle.std.proofs.lemmas.List.{length-map, nil_from_length, take_all, with_items_is}
+use Rattle.std.proofs.lemmas.Result.{IfOk-weaker}
 use Rattle.smallvec.specs.SmallVec.{SmallVec}
 use Rattle.cmb_engine.specs.declared.cell.Pin.{Pin}
 use Rattle.cmb_engine.specs.Lines.{AreFollowers}
@@ -34,7 +37,16 @@ loop-number-preserved c =
     subst (λ (vs : List (SmallVec ℕ)). AreFollowers (take (i + 1) c.args.lines.now) c.args.nets (lists_of vs)) (sym whole)
     (followers-more c.args.lines.now i none inside c.args.nets (lists_of c.loop-number.followers.items) (lists_of c.push_reader.new.readers) small pushed c.loop-number.invariant)
 
+pub returns-then-is_empty : goal.returns-then-is_empty
+returns-then-is_empty c =
+    let none_at_all : c.args.lines.now ≡ [] = nil_from_length c.args.lines.now (eqb-true (length c.args.lines.now) 0 (sym c.is_empty.ensures ∙ c.if-is_empty.true)) in
+    IfOk-weaker c.empty.result (λ lists. lists ≡ replicate c.args.nets []) (λ lists. AreFollowers c.args.lines.now c.args.nets lists)
+    (λ lists is. subst (λ (lines : List Pin). AreFollowers lines c.args.nets lists) (sym none_at_all) (followers-none c.args.nets lists is)) c.empty.ensures
+
 pub returns : goal.returns
 returns c =
-    subst (λ (lines : List Pin). AreFollowers lines c.args.nets (lists_of c.loop-number.followers.items))
-    (take_all c.loop-number.number c.args.lines.now (omega arith)) c.loop-number.invariant
+    IfOk-weaker c.joined.result (λ lists. lists ≡ lists_of c.deref.result.now) (λ lists. AreFollowers c.args.lines.now c.args.nets lists)
+    (λ lists is.
+    subst (λ (ls : List (List ℕ)). AreFollowers c.args.lines.now c.args.nets ls) (ap lists_of (sym c.deref.ensures.value) ∙ sym is)
+    (subst (λ (lines : List Pin). AreFollowers lines c.args.nets (lists_of c.loop-number.followers.items))
+    (take_all c.loop-number.number c.args.lines.now (omega arith)) c.loop-number.invariant)) c.joined.ensures
