@@ -8,6 +8,4 @@ mod nets;
 #[cfg(test)]
 mod parts;
 #[cfg(test)]
-mod shared;
-#[cfg(test)]
 mod texts;
