@@ -102,7 +102,8 @@ impl<T: Terms> ExactCluster<T> {
         requires clustering { clustering.now ≡ T.clustering }
         requires nets { length clustering.now.assign ≡ nets_of design.now }
         requires number { number < clustering.now.clusters }
-        ensures new { IfOk result (λ cluster. cluster.waves ≡ map new_wave (held_nets design.now clustering.now number)) }
+        ensures new { IfOk result (λ cluster.
+            cluster.waves ≡ map new_wave (held_nets design.now clustering.now number)) }
         ensures of { IfOk result (λ cluster. IsClusterOf T.design T.clustering number cluster) }
     {
         let cluster = Cluster::open(alloc, design, clustering, number)?;

@@ -257,7 +257,8 @@ fn run_two<R: Threads + Wait + Sync>(
                 × (second.take.link ≡ room.now.there.link) × (second.take.design ≡ circuit.now.design) }
             ensures seat { IfOk result (λ left.
                 at_first left.seat
-                ≡ new_seat room.entry.now.board (terms circuit.entry.now.design circuit.entry.now.clustering 2) false 1) }
+                ≡ new_seat room.entry.now.board (terms circuit.entry.now.design circuit.entry.now.clustering 2)
+                false 1) }
             ensures put { IfOk result (λ left. left.put.link ≡ room.entry.now.back.link) }
             ensures take { IfOk result (λ left. left.take.link ≡ room.entry.now.there.link) }
         { work_second(rt, alloc, circuit, room, workers, second) },
@@ -266,7 +267,8 @@ fn run_two<R: Threads + Wait + Sync>(
                 ≡ new_seat room.now.board (terms circuit.now.design circuit.now.clustering 2) true 2) }
             ensures { IfOk result (λ found.
                 at_first found.0
-                ≡ new_seat room.entry.now.board (terms circuit.entry.now.design circuit.entry.now.clustering 2) false 2) }
+                ≡ new_seat room.entry.now.board (terms circuit.entry.now.design circuit.entry.now.clustering 2)
+                false 2) }
         { oversee(alloc, circuit, room, workers, last) },
     )
 }
@@ -317,7 +319,8 @@ fn run_in<R: Threads + Wait + Sync>(
                 × (first.take.link ≡ room.now.back.link) × (first.take.design ≡ circuit.now.design) }
             ensures seat { IfOk result (λ left.
                 at_first left.seat
-                ≡ new_seat room.entry.now.board (terms circuit.entry.now.design circuit.entry.now.clustering 2) false 0) }
+                ≡ new_seat room.entry.now.board (terms circuit.entry.now.design circuit.entry.now.clustering 2)
+                false 0) }
             ensures put { IfOk result (λ left. left.put.link ≡ room.entry.now.there.link) }
             ensures take { IfOk result (λ left. left.take.link ≡ room.entry.now.back.link) }
         { work_first(rt, alloc, circuit, room, workers, first) },
@@ -329,12 +332,14 @@ fn run_in<R: Threads + Wait + Sync>(
                 × (last ≡ new_seat room.now.board (terms circuit.now.design circuit.now.clustering 2) true 2) }
             ensures seat { IfOk result.0 (λ left.
                 at_first left.seat
-                ≡ new_seat room.entry.now.board (terms circuit.entry.now.design circuit.entry.now.clustering 2) false 1) }
+                ≡ new_seat room.entry.now.board (terms circuit.entry.now.design circuit.entry.now.clustering 2)
+                false 1) }
             ensures put { IfOk result.0 (λ left. left.put.link ≡ room.entry.now.back.link) }
             ensures take { IfOk result.0 (λ left. left.take.link ≡ room.entry.now.there.link) }
             ensures last { IfOk result.1 (λ found.
                 at_first found.0
-                ≡ new_seat room.entry.now.board (terms circuit.entry.now.design circuit.entry.now.clustering 2) false 2) }
+                ≡ new_seat room.entry.now.board (terms circuit.entry.now.design circuit.entry.now.clustering 2)
+                false 2) }
         { run_two(rt, alloc, circuit, room, workers, second, last) },
     );
     gathered(first, second, last)
