@@ -4,7 +4,7 @@ use Rattle.cmb_design.specs.Nets.{is_flop}
 use Rattle.cmb_design.specs.Timing.{clock_of}
 use Rattle.cmb_count.proofs.ClockFacts.{met, met_count, none_before, passed, passed_count}
 use Rattle.cmb_count.proofs.BelowFacts.{count_below-none}
-use Rattle.cmb_count.proofs.clocks.count_clocks.Goals.{then-is_of_part+in_ok-note_clock, else-is_of_part}
+use Rattle.cmb_count.proofs.clocks.count_clocks.Goals.{then-has_kind+in_ok-note_clock, else-has_kind}
 use Rattle.cmb_count.proofs.clocks.count_clocks.Goals as goal
 
 pub loop-net-init : goal.loop-net-init
@@ -17,17 +17,17 @@ pub loop-net-preserved : goal.loop-net-preserved
 loop-net-preserved c =
     let told : c.has_kind.result ≡ is_flop (driver_of c.args.design.now.netlist c.loop-net.net)
     = c.has_kind.ensures ∙ ap is_flop c.driver.ensures ∙ ap (λ (netlist : Netlist). is_flop (driver_of netlist c.loop-net.net)) c.netlist-in-loop-net.ensures in
-    elim c.if-is_of_part.branch [
-      | then-is_of_part+in_ok-note_clock w ↦ record {
+    elim c.if-has_kind.branch [
+      | then-has_kind+in_ok-note_clock w ↦ record {
         count = rw (w.clocks-is)
             (w.in_ok-note_clock.ensures.long
-            ∙ rw (w.clock.ensures.value) (met_count c.args.design.now c.loop-net.net _ _ (sym told ∙ w.if-is_of_part.true) (c.loop-net.invariant.found (clock_of c.args.design.now c.loop-net.net)) c.loop-net.invariant.count));
+            ∙ rw (w.clock.ensures.value) (met_count c.args.design.now c.loop-net.net _ _ (sym told ∙ w.if-has_kind.true) (c.loop-net.invariant.found (clock_of c.args.design.now c.loop-net.net)) c.loop-net.invariant.count));
         found = λ clock. rw (w.clocks-is)
             (w.in_ok-note_clock.ensures.found clock
-            ∙ rw (w.clock.ensures.value) (met c.args.design.now c.loop-net.net clock _ (sym told ∙ w.if-is_of_part.true) (c.loop-net.invariant.found clock)));
+            ∙ rw (w.clock.ensures.value) (met c.args.design.now c.loop-net.net clock _ (sym told ∙ w.if-has_kind.true) (c.loop-net.invariant.found clock)));
       }
-      | else-is_of_part w ↦ record {
-        count = rw (w.clocks-is) (passed_count c.args.design.now c.loop-net.net _ (sym told ∙ w.if-is_of_part.false) c.loop-net.invariant.count);
-        found = λ clock. rw (w.clocks-is) (passed c.args.design.now c.loop-net.net clock _ (sym told ∙ w.if-is_of_part.false) (c.loop-net.invariant.found clock));
+      | else-has_kind w ↦ record {
+        count = rw (w.clocks-is) (passed_count c.args.design.now c.loop-net.net _ (sym told ∙ w.if-has_kind.false) c.loop-net.invariant.count);
+        found = λ clock. rw (w.clocks-is) (passed c.args.design.now c.loop-net.net clock _ (sym told ∙ w.if-has_kind.false) (c.loop-net.invariant.found clock));
       }
     ]
