@@ -319,10 +319,10 @@ pub struct Parsed<'a> {
     pub names: IndexSet<Name>,
 }
 
-// About how many nets a text has, each driven by a line of 32 bytes. It is a matter of room alone, and may
-// be wrong.
+// About how many nets a text has, each driven by a line of 20 bytes, which is a short one. It is a matter of room
+// alone, and may be wrong: a set of names that has to grow is made anew, while little is lost by too much room.
 fn likely_nets(bytes: &[u8]) -> usize {
-    (bytes.len() / 32).min(MAX_NETS)
+    (bytes.len() / 20).min(MAX_NETS)
 }
 
 // About how many statements a text has, at most; lines of 16 bytes are short ones. It is a matter of room alone

@@ -6,6 +6,7 @@ pub mod dump;
 pub mod excerpt;
 mod fill;
 mod pick;
+mod room;
 mod tail;
 mod tails;
 mod text;

@@ -1,5 +1,6 @@
 -- Lists kept one behind the other.
 use Rattle.std.proofs.Common.{◌≡◌, ℕ, zero, suc, ◌+◌, ◌-◌, ◌<◌, ◌≤◌, List, [], ◌∷◌, ◌++◌, length, take, drop, get_or, refl, ap, ap₂, subst, ◌∙◌, add-one, arith}
+use Rattle.std.specs.Prelude.{replicate}
 use Rattle.std.proofs.lemmas.List.{length-append}
 use Rattle.cmb_engine.specs.Lists.{lists_between, lists_from, AreStarts, RiseTo}
 
@@ -51,7 +52,7 @@ length-lists_from : (items : List ℕ) (start : ℕ) (ends : List ℕ) → lengt
 length-lists_from items start [] = refl
 length-lists_from items start (end ∷ ends) = ap suc (length-lists_from items end ends)
 
-length-starts : (items starts : List ℕ) (last : ℕ) → AreStarts last starts → length starts ≡ length (lists_between items starts) + 1
+pub length-starts : (items starts : List ℕ) (last : ℕ) → AreStarts last starts → length starts ≡ length (lists_between items starts) + 1
 length-starts items [] last h = absurd h
 length-starts items (start ∷ ends) last h = omega (arith, length-lists_from items start ends)
 
@@ -84,3 +85,21 @@ read-list items starts lists slot begin end h is inside begins ends =
     subst (λ (ls : List (List ℕ)). IsSublist items (get_or ls slot []) begin end) is
     (part_between items starts slot begin end h (omega (arith, room items starts (length items) lists slot h is inside)) begins
     (ends ∙ ap (λ n. get_or starts n end) (add-one slot)))
+
+-- ---- lists of nothing
+
+none-from : (start count : ℕ) → lists_from [] start (replicate count start) ≡ replicate count []
+none-from start zero = refl
+none-from start (suc count) = ap₂ (λ l ls. l ∷ ls) (let e : start - start ≡ 0 = omega arith in rw e refl) (none-from start count)
+
+rise-none : (count : ℕ) → RiseTo 0 0 (replicate count 0)
+rise-none zero = refl
+rise-none (suc count) = (omega arith, rise-none count)
+
+pub none-between : (count starts : ℕ) → starts ≡ count + 1 → lists_between [] (replicate starts 0) ≡ replicate count []
+none-between count zero is = absurd (omega (arith, is))
+none-between count (suc starts) is = let e : starts ≡ count = omega (arith, is) in rw e (none-from 0 count)
+
+pub starts-none : (starts : ℕ) → 1 ≤ starts → AreStarts 0 (replicate starts 0)
+starts-none zero some = absurd (omega arith)
+starts-none (suc starts) some = rise-none starts

@@ -1,8 +1,7 @@
 -- What is told of lines.
-use Rattle.std.proofs.Common.{◌≡◌, ◌≢◌, ℕ, suc, Vec, Global, map, ◌+◌, ◌-◌, ◌*◌, ◌<◌, ◌≤◌, ◌⊎◌, ⊎_elim, inl, inr, true, false, List, [], ◌∷◌, ◌++◌, length, get_or, take, sym, ap, subst, ◌∙◌, arith}
+use Rattle.std.proofs.Common.{◌≡◌, ◌≢◌, ℕ, suc, ◌+◌, ◌-◌, ◌*◌, ◌<◌, ◌≤◌, ◌⊎◌, ⊎_elim, inl, inr, true, false, List, [], ◌∷◌, ◌++◌, length, get_or, take, sym, ap, subst, ◌∙◌, arith}
 use Rattle.std.specs.Prelude.{◌↔◌, All, Contains, not}
 use Rattle.std.proofs.lemmas.Bool.{cases_Bool, cases_lt, false≢true}
-use Rattle.std.proofs.lemmas.List.{get_or-map}
 use Rattle.std.proofs.lemmas.Option.{slice_get-get_or, get_or_from_slice_get}
 use Rattle.std.proofs.lemmas.List.Elements.{All-contains, All-nil, All-cons, All-head, All-same, All-weaker, Contains-append_left, Contains-push, Contains-push_cases}
 use Rattle.cmb_wave.specs.Waveform.{same_level}
@@ -184,9 +183,3 @@ module _ (changed : List Changed) (i : ℕ) (one : Changed) (inside : i < length
 pub rises-within : (low nets : ℕ) (changed : List Changed) → RisesWithin low nets changed → All (λ one. one.net < nets) changed
 rises-within low nets [] rises = All-nil (λ one. one.net < nets)
 rises-within low nets (c ∷ cs) rises = All-cons (λ one. one.net < nets) c cs rises.1 (rises-within (suc c.net) nets cs rises.2)
-
--- one of some lists
-pub list_at : (lists : List (Vec ℕ Global)) (place : ℕ) (list : Vec ℕ Global) (items : List ℕ) → place < length lists → list ≡ get_or lists place list → items ≡ list.items
-    → items ≡ get_or (map (λ (v : Vec ℕ Global). v.items) lists) place []
-list_at lists place list items inside is value =
-    value ∙ ap (λ (v : Vec ℕ Global). v.items) is ∙ sym (get_or-map (λ (v : Vec ℕ Global). v.items) lists place list [] inside)

@@ -1,5 +1,5 @@
 -- What an engine keeps, and what it is at a clock. Only contracts inside this crate cite these.
-use Rattle.std.specs.Prelude.{◌≡◌, ◌*◌, ◌^◌, ◌<◌, ◌≤◌, length, map}
+use Rattle.std.specs.Prelude.{◌≡◌, ◌*◌, ◌^◌, ◌<◌, ◌≤◌, length}
 use Rattle.cmb_design.specs.Design.{Design}
 use Rattle.cmb_design.specs.Exact.{nets_of}
 use Rattle.cmb_engine.specs.Ahead.{TellsAhead}
@@ -16,7 +16,7 @@ pub record IsCircuit (design : Design) (circuit : Circuit) : Type 0 where
   pub plan : IsPlan design circuit.lines.items circuit.wiring.most circuit.width circuit.wiring.cells
   pub wires : IsWiring circuit.wiring.cells circuit.wiring.readers circuit.wiring.flops.items circuit.wiring.most
   pub few : length circuit.wiring.cells < 2 ^ 32
-  pub follow : AreFollowers circuit.lines.items (nets_of design) (map (λ list. list.items) circuit.followers.items)
+  pub follow : AreFollowers circuit.lines.items (nets_of design) circuit.followers
 
 -- the state of a design's engine: its words show what the slots show up to its clock, and its calendar what is told from there on
 pub record IsState (design : Design) (circuit : Circuit) (state : State) : Type 0 where

@@ -11,7 +11,7 @@ ghost use Rattle.cmb_engine.specs.Words.{levels_of};
 
 use crate::arrivals::Arrival;
 use crate::cell::Pin;
-use crate::readers::push_pins;
+use crate::readers::{Numbers, push_pins};
 use crate::visit::{double_word, flop_word, gate_word, single_word};
 use cmb_bench::Kind;
 use cmb_design::Clock;
@@ -69,14 +69,14 @@ impl Model for Cells {
 }
 
 impl Cells {
-    /// No cells.
-    pub(crate) fn new(alloc: Global) -> Cells
-        ensures { result ≡ [] }
+    /// No cells, with room for so many.
+    pub(crate) fn with_capacity(alloc: Global, count: usize) -> Result<Cells, AllocError>
+        ensures { IfOk result (λ cells. cells ≡ []) }
     {
-        Cells {
-            rules: Vec::new(alloc),
+        Ok(Cells {
+            rules: Vec::with_capacity(alloc, count)?,
             pins: Vec::new(alloc),
-        }
+        })
     }
 
     /// Adds a net whose word is told.
@@ -168,7 +168,7 @@ impl Cells {
     }
 
     /// Puts a net into the lists of the nets that its cell reads.
-    pub(crate) fn list_net(&self, net: usize, readers: &mut [Vec<u32>]) -> Result<(), AllocError>
+    pub(crate) fn list_net(&self, net: usize, readers: &mut [Numbers]) -> Result<(), AllocError>
         requires net { net < length self.now }
         requires small { net < 2 ^ 32 }
         requires pins { All (λ pin. pin.net < length readers.old) (pins_of_cell (slice_index_or self.now net Told)) }

@@ -4,6 +4,7 @@ ghost use Rattle.std.specs.Prelude.{◌≡◌, ◌≤◌};
 ghost use Rattle.cmb_engine.specs.States.{IsCircuit};
 
 use crate::cell::Pin;
+use crate::readers::Readers;
 use crate::window::Wiring;
 use cmb_design::Design;
 use std::alloc::Global;
@@ -16,7 +17,7 @@ pub(crate) struct Circuit {
     /// The nets that lines follow, and how many ticks later each does.
     pub lines: Vec<Pin>,
     /// The numbers of the lines that follow each net.
-    pub followers: Vec<Vec<u32>>,
+    pub followers: Readers,
     /// The most ticks of a window.
     pub width: u32,
 }

@@ -7,26 +7,25 @@ ghost use Rattle.cmb_words.specs.Changes.{RisesWithin};
 ghost use Rattle.cmb_engine.specs.Lines.{AreFollowers, IsAhead, IsOfChange, IsOfFollower, IsOfLine, NotesEach};
 
 use crate::cell::Pin;
-use crate::readers::{empty_lists, push_reader};
+use crate::readers::{Readers, empty_lists, push_reader};
 use cmb_calendar::{Calendar, Tell};
 use cmb_words::{Changed, Places, Word};
 use std::alloc::{AllocError, Global};
 
-/// For each of so many nets the numbers of the lines that follow it.
-pub(crate) fn followers_of(
-    alloc: Global,
-    lines: &[Pin],
-    nets: usize,
-) -> Result<Vec<Vec<u32>>, AllocError>
+/// For each of so many nets the numbers of the lines that follow it. Most designs have no lines.
+pub(crate) fn followers_of(alloc: Global, lines: &[Pin], nets: usize) -> Result<Readers, AllocError>
     requires nets { All (λ line. line.net < nets) lines.now }
     requires few { length lines.now < 2 ^ 32 }
-    ensures { IfOk result (λ lists. AreFollowers lines.now nets (map (λ list. list.items) lists.items)) }
+    ensures { IfOk result (λ lists. AreFollowers lines.now nets lists) }
 {
+    if lines.is_empty() {
+        return Readers::empty(alloc, nets);
+    }
     let mut followers = empty_lists(alloc, nets)?;
     for (number, line) in lines.iter().enumerate() {
         push_reader(&mut followers, line.net as usize, number as u32)?;
     }
-    Ok(followers)
+    Readers::joined(alloc, &followers)
 }
 
 // Notes the changes of a word from a place on, for a slot that shows them so many ticks later.
@@ -95,14 +94,14 @@ fn note_followers(
 /// as many ticks later as the line's delay says. Nothing is noted that lies at the horizon or behind it.
 pub(crate) fn note_lines(
     changed: &[Changed],
-    followers: &[Vec<u32>],
+    followers: &Readers,
     lines: &[Pin],
     calendar: &mut Calendar,
     to: u32,
     first: u32,
 ) -> Result<(), AllocError>
     requires changed { RisesWithin 0 (length followers.now) changed.now }
-    requires followers { AreFollowers lines.now (length followers.now) (map (λ list. list.items) followers.now) }
+    requires followers { AreFollowers lines.now (length followers.now) followers.now }
     requires few { length followers.now + length lines.now < 2 ^ 32 }
     requires ahead { All (IsAhead calendar.old to first) lines.now }
     requires to { to ≤ 1000000 }
@@ -121,7 +120,7 @@ pub(crate) fn note_lines(
     }
     let nets = followers.len() as u32;
     for one in changed {
-        let numbers = followers[one.net as usize].as_slice();
+        let numbers = followers.of(one.net as usize);
         note_followers(one.word, numbers, lines, nets, calendar, to, first)?;
     }
     Ok(())

@@ -177,7 +177,7 @@ fn net_cells(alloc: Global, design: &Design, lines: &mut Lines) -> Result<Cells,
     ensures cells { IfOk result (λ cells. AreCells design.now (nets_of design.now) cells
         lines.new.list.items lines.new.most) }
 {
-    let mut cells = Cells::new(alloc);
+    let mut cells = Cells::with_capacity(alloc, design.netlist().len())?;
     let mut pins = Vec::new(alloc);
     for net in 0..design.netlist().len() {
         push_net(design, net, lines, &mut pins, &mut cells)?;

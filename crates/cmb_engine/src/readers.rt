@@ -7,10 +7,14 @@ ghost use Rattle.cmb_engine.specs.Cells.{Told, AreBelow, AreReaders, IsListed, p
 
 use crate::cell::Pin;
 use crate::cells::Cells;
+use smallvec::SmallVec;
 use std::alloc::{AllocError, Global};
 use std::marker::Model;
 
-/// Which nets read each slot, seen as a list for each.
+/// Numbers of slots, or of lines. Up to four of them need no memory of their own.
+pub(crate) type Numbers = SmallVec<u32, 4>;
+
+/// Which nets read each slot, or which lines follow each net, seen as a list for each.
 ///
 /// The lists stand one behind the other, so that those of many slots fit into a processor's cache.
 #[derive(Drop)]
@@ -32,12 +36,32 @@ impl Model for Readers {
 }
 
 impl Readers {
-    // The same lists, one behind the other.
-    fn joined(alloc: Global, lists: &[Vec<u32>]) -> Result<Readers, AllocError>
+    /// So many empty lists.
+    pub(crate) fn empty(alloc: Global, count: usize) -> Result<Readers, AllocError>
+        ensures { IfOk result (λ readers. readers ≡ replicate count []) }
+    {
+        let Some(starts) = count.checked_add(1) else {
+            return Err(AllocError);
+        };
+        Ok(Readers {
+            starts: vec![in alloc; 0; starts]?,
+            nets: Vec::new(alloc),
+        })
+    }
+
+    /// How many lists there are.
+    pub(crate) fn len(&self) -> usize
+        ensures { result ≡ length self.now }
+    {
+        self.starts.len() - 1
+    }
+
+    /// The same lists, one behind the other.
+    pub(crate) fn joined(alloc: Global, lists: &[Numbers]) -> Result<Readers, AllocError>
         ensures { IfOk result (λ readers. readers ≡ map (λ list. list.items) lists.now) }
     {
-        let mut starts = Vec::new(alloc);
-        let mut nets = Vec::new(alloc);
+        let mut starts = Vec::with_capacity(alloc, lists.len().saturating_add(1))?;
+        let mut nets = Vec::with_capacity(alloc, lists.len().saturating_mul(2))?;
         starts.push(0)?;
         for list in lists {
             nets.extend_from_slice(list.as_slice())?;
@@ -62,11 +86,7 @@ impl Readers {
 }
 
 /// Adds a net to the list of a place.
-pub(crate) fn push_reader(
-    readers: &mut [Vec<u32>],
-    place: usize,
-    net: u32,
-) -> Result<(), AllocError>
+pub(crate) fn push_reader(readers: &mut [Numbers], place: usize, net: u32) -> Result<(), AllocError>
     requires { place < length readers.old }
     ensures len { length readers.new ≡ length readers.old }
     ensures lists { OnOk result (map (λ list. list.items) readers.new
@@ -78,7 +98,7 @@ pub(crate) fn push_reader(
 }
 
 /// Adds a net to the lists of the nets on its pins.
-pub(crate) fn push_pins(readers: &mut [Vec<u32>], pins: &[Pin], net: u32) -> Result<(), AllocError>
+pub(crate) fn push_pins(readers: &mut [Numbers], pins: &[Pin], net: u32) -> Result<(), AllocError>
     requires { All (λ pin. pin.net < length readers.old) pins.now }
     ensures len { length readers.new ≡ length readers.old }
     ensures within { OnOk result ((bound : ℕ) → net < bound
@@ -98,18 +118,18 @@ pub(crate) fn push_pins(readers: &mut [Vec<u32>], pins: &[Pin], net: u32) -> Res
 }
 
 /// So many empty lists.
-pub(crate) fn empty_lists(alloc: Global, count: usize) -> Result<Vec<Vec<u32>>, AllocError>
+pub(crate) fn empty_lists(alloc: Global, count: usize) -> Result<Vec<Numbers>, AllocError>
     ensures { IfOk result (λ lists. map (λ list. list.items) lists.items ≡ replicate count []) }
 {
     let mut lists = Vec::with_capacity(alloc, count)?;
     for _ in 0..count {
-        lists.push(Vec::new(alloc))?;
+        lists.push(Numbers::new(alloc))?;
     }
     Ok(lists)
 }
 
 // For each net a list of those whose cells read it.
-fn reader_lists(alloc: Global, cells: &Cells) -> Result<Vec<Vec<u32>>, AllocError>
+fn reader_lists(alloc: Global, cells: &Cells) -> Result<Vec<Numbers>, AllocError>
     requires few { length cells.now < 2 ^ 32 }
     requires pins { (net : ℕ) → net < length cells.now
         → All (λ pin. pin.net < length cells.now) (pins_of (slice_index_or cells.now net Told)) }

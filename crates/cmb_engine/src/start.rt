@@ -44,7 +44,7 @@ fn net_words(alloc: Global, design: &Design) -> Result<Vec<Word>, AllocError>
     ensures len { IfOk result (λ words. length words.items ≡ nets_of design.now) }
     ensures shows { IfOk result (λ words. Shows (levels_of words.items) (value design.now) (nets_of design.now) 1) }
 {
-    let mut words = Vec::new(alloc);
+    let mut words = Vec::with_capacity(alloc, design.netlist().len())?;
     for net in 0..design.netlist().len() {
         words.push(start_word(start_level(design, net)))?;
     }

@@ -1,6 +1,7 @@
 //! Flip-flops over words.
 
 ghost use Rattle.std.specs.Prelude.{◌≡◌, ℕ, ◌-◌, ◌%◌, ◌<◌, ◌≤◌, ◌==◌, ◌&&◌, nat_le, if◌then◌else◌};
+ghost use Rattle.cmb_words.specs.Bits.{level_in};
 ghost use Rattle.cmb_words.specs.Word.{level_at_place};
 
 use crate::masks::every;
@@ -32,11 +33,9 @@ fn carried(seen: Word, arrival: u32, period: u32) -> Word
     Word { ones, unknown }
 }
 
-/// The word of a flip-flop of which `own` is known below `from`, where samples arrive at `arrival` and after each whole
-/// period that follows. It has there the level that its data, `input`, had the delay before, and elsewhere from `from`
-/// on the level of the place before.
+// What `held` gives, whatever the levels are.
 #[inline]
-pub fn held(own: Word, input: Word, delay: u32, arrival: u32, period: u32, from: u32) -> Word
+fn held_any(own: Word, input: Word, delay: u32, arrival: u32, period: u32, from: u32) -> Word
     requires least { 1 ≤ from }
     requires most { from < 64 }
     requires delay { delay ≤ from }
@@ -58,5 +57,60 @@ pub fn held(own: Word, input: Word, delay: u32, arrival: u32, period: u32, from:
         )
     } else {
         before
+    }
+}
+
+// What `held` gives where no level is x: the places that are 1.
+#[inline]
+fn held_known(own: u64, input: u64, delay: u32, arrival: u32, period: u32, from: u32) -> u64
+    requires least { 1 ≤ from }
+    requires most { from < 64 }
+    requires delay { delay ≤ from }
+    requires arrival { from ≤ arrival }
+    requires period { 1 ≤ period }
+    ensures below { (i : ℕ) → i < from → level_in result 0 i ≡ level_in own 0 i }
+    ensures from { (i : ℕ) → from ≤ i → i < 64
+        → level_in result 0 i
+        ≡ (if nat_le arrival i && ((i - arrival) % period == 0)
+        then level_in input 0 (i - delay)
+        else level_in result 0 (i - 1)) }
+{
+    let before = Word {
+        ones: own,
+        unknown: 0,
+    };
+    let data = Word {
+        ones: input,
+        unknown: 0,
+    };
+    held_any(before, data, delay, arrival, period, from).ones
+}
+
+/// The word of a flip-flop of which `own` is known below `from`, where samples arrive at `arrival` and after each whole
+/// period that follows. It has there the level that its data, `input`, had the delay before, and elsewhere from `from`
+/// on the level of the place before.
+///
+/// Mostly no level is x, and then half of the work is spared.
+#[inline]
+pub fn held(own: Word, input: Word, delay: u32, arrival: u32, period: u32, from: u32) -> Word
+    requires least { 1 ≤ from }
+    requires most { from < 64 }
+    requires delay { delay ≤ from }
+    requires arrival { from ≤ arrival }
+    requires period { 1 ≤ period }
+    ensures below { (i : ℕ) → i < from → level_at_place result i ≡ level_at_place own i }
+    ensures from { (i : ℕ) → from ≤ i → i < 64
+        → level_at_place result i
+        ≡ (if nat_le arrival i && ((i - arrival) % period == 0)
+        then level_at_place input (i - delay)
+        else level_at_place result (i - 1)) }
+{
+    if own.unknown == 0 && input.unknown == 0 {
+        Word {
+            ones: held_known(own.ones, input.ones, delay, arrival, period, from),
+            unknown: 0,
+        }
+    } else {
+        held_any(own, input, delay, arrival, period, from)
     }
 }

@@ -6,4 +6,4 @@ pub returns-clause-lists : goal.returns-clause-lists
 returns-clause-lists c =
     let read = get_or-map (λ list. list.items) c.args.readers.now c.args.place c.index-readers-place.result [] c.requires in
     map-set (λ list. list.items) c.args.readers.now c.args.place c.push.new.self
-    ∙ ap (λ xs. set (map (λ list. list.items) c.args.readers.now) c.args.place xs) (c.in_ok-push.ensures.items ∙ ap (λ xs. xs ++ c.args.net ∷ []) (sym read))
+    ∙ ap (λ xs. set (map (λ list. list.items) c.args.readers.now) c.args.place xs) (c.in_ok-push.ensures.ok ∙ ap (λ xs. xs ++ c.args.net ∷ []) (sym read))

@@ -1,12 +1,13 @@
-use Rattle.std.proofs.Common.{◌≡◌, ℕ, length, List, Vec, Global, ◌++◌, map, take, drop, arith, sym, subst, ◌∙◌, ap}
+use Rattle.std.proofs.Common.{◌≡◌, ℕ, length, List, ◌++◌, map, take, drop, arith, sym, subst, ◌∙◌, ap}
 use Rattle.std.proofs.lemmas.List.{take_at}
+use Rattle.smallvec.specs.SmallVec.{SmallVec}
 use Rattle.cmb_engine.specs.Cells.{AreBelow, IsListed}
 use Rattle.cmb_engine.proofs.ReaderFacts.{listed-more}
 use Rattle.cmb_engine.proofs.readers.reader_lists.Goals as goal
 
 pub loop-net-preserved : goal.loop-net-preserved
 loop-net-preserved c =
-    let items : List (Vec ℕ Global) → List (List ℕ) = λ vs. map (λ (v : Vec ℕ Global). v.items) vs in
+    let items : List (SmallVec ℕ) → List (List ℕ) = λ vs. map (λ (v : SmallVec ℕ). v.items) vs in
     let before = c.deref_mut.ensures.value in
     let len : length c.list_net.new.readers ≡ length c.args.cells.now = c.list_net.ensures.len ∙ ap length before ∙ c.loop-net.invariant.len in
     let whole : take c.loop-net.lists.len (c.list_net.new.readers ++ drop (length c.list_net.new.readers) c.loop-net.lists.items) ≡ c.list_net.new.readers =
@@ -14,11 +15,11 @@ loop-net-preserved c =
     (omega (arith, ap length before, c.deref_mut.ensures.len, c.list_net.ensures.len)) in
     record {
       len = ap length whole ∙ len;
-      within = subst (λ (vs : List (Vec ℕ Global)). AreBelow (length c.args.cells.now) (items vs)) (sym whole)
-          (c.in_ok-list_net.ensures.within (subst (λ (vs : List (Vec ℕ Global)). AreBelow (length c.args.cells.now) (items vs)) (sym before) c.loop-net.invariant.within));
+      within = subst (λ (vs : List (SmallVec ℕ)). AreBelow (length c.args.cells.now) (items vs)) (sym whole)
+          (c.in_ok-list_net.ensures.within (subst (λ (vs : List (SmallVec ℕ)). AreBelow (length c.args.cells.now) (items vs)) (sym before) c.loop-net.invariant.within));
       listed = λ m place small read.
-          subst (λ (vs : List (Vec ℕ Global)). IsListed (items vs) place m) (sym whole)
+          subst (λ (vs : List (SmallVec ℕ)). IsListed (items vs) place m) (sym whole)
           (listed-more c.args.cells.now (items c.loop-net.lists.items) (items c.list_net.new.readers) c.loop-net.net c.loop-net.invariant.listed
-          (λ p number h. c.in_ok-list_net.ensures.kept p number (subst (λ (vs : List (Vec ℕ Global)). IsListed (items vs) p number) (sym before) h))
+          (λ p number h. c.in_ok-list_net.ensures.kept p number (subst (λ (vs : List (SmallVec ℕ)). IsListed (items vs) p number) (sym before) h))
           c.in_ok-list_net.ensures.listed m place small read);
     }

@@ -18,7 +18,7 @@ loop-net-preserved c = record {
 
 pub returns : goal.returns
 returns c =
-    let all : c.loop-net.net ≡ nets_of c.args.design.now = omega (arith, ap (λ (netlist : Netlist). length netlist.names) c.netlist.ensures) in
+    let all : c.loop-net.net ≡ nets_of c.args.design.now = omega (arith, ap (λ (netlist : Netlist). length netlist.names) c.netlist-2.ensures) in
     record {
       len = c.loop-net.invariant.len ∙ all;
       shows = subst (λ n. Shows (levels_of c.loop-net.words.items) (value c.args.design.now) n 1) all c.loop-net.invariant.shows;

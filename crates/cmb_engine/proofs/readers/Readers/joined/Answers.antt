@@ -1,12 +1,13 @@
-use Rattle.std.proofs.Common.{◌≡◌, ℕ, List, [], ◌∷◌, ◌++◌, Vec, Global, length, map, take, sym, ap, ap₂, ◌∙◌, arith}
+use Rattle.std.proofs.Common.{◌≡◌, ℕ, List, [], ◌∷◌, ◌++◌, length, map, take, sym, ap, ap₂, ◌∙◌, arith}
 use Rattle.std.proofs.lemmas.List.{map_more}
+use Rattle.smallvec.specs.SmallVec.{SmallVec}
 use Rattle.cmb_engine.specs.Lists.{lists_between}
 use Rattle.cmb_engine.proofs.JoinFacts.{lists_between-append, starts-append}
 use Rattle.cmb_engine.proofs.readers.Readers.joined.Goals as goal
 
 pub loop-list-preserved : goal.loop-list-preserved
 loop-list-preserved c =
-    let items : Vec ℕ Global → List ℕ = λ v. v.items in
+    let items : SmallVec ℕ → List ℕ = λ v. v.items in
     let nets : List ℕ = c.loop-list.nets.items in
     let list : List ℕ = c.as_slice.result.now in
     let grows = c.in_ok-extend_from_slice.ensures.items in
@@ -16,6 +17,6 @@ loop-list-preserved c =
       lists = ap₂ lists_between grows c.in_ok-push-2.ensures.items
           ∙ lists_between-append nets list c.loop-list.starts.items _ c.loop-list.invariant.starts end
           ∙ ap (λ ls. ls ++ list ∷ []) c.loop-list.invariant.lists
-          ∙ ap (λ l. map items (take c.loop-list.list-index c.args.lists.now) ++ l ∷ []) (c.as_slice.ensures.value ∙ ap items c.list-item.is)
+          ∙ ap (λ l. map items (take c.loop-list.list-index c.args.lists.now) ++ l ∷ []) (c.as_slice.ensures ∙ ap items c.list-item.is)
           ∙ sym (map_more items c.args.lists.now c.loop-list.list-index c.list-item.result c.loop-list-test.true);
     }

@@ -1,6 +1,6 @@
-use Rattle.std.proofs.Common.{◌≡◌, ◌<◌, ℕ, ◌-◌, List, length, Vec, Global, sym, ap, subst, ◌∙◌, arith}
+use Rattle.std.proofs.Common.{◌≡◌, ◌<◌, ℕ, ◌-◌, List, length, sym, ap, subst, ◌∙◌, arith}
 use Rattle.std.specs.Prelude.{All, Contains, false}
-use Rattle.std.proofs.lemmas.List.{length-map, with_items_is}
+use Rattle.std.proofs.lemmas.List.{with_items_is}
 use Rattle.cmb_calendar.specs.declared.tell.Tell.{Tell}
 use Rattle.cmb_design.specs.Exact.{nets_of}
 use Rattle.cmb_words.specs.declared.changed.Changed.{Changed}
@@ -33,9 +33,7 @@ collect-requires-clause-quiet c =
 
 pub note_lines-requires-clause-few : goal.note_lines-requires-clause-few
 note_lines-requires-clause-few c =
-    let follow : length c.args.circuit.now.followers.items ≡ nets_of c.args.design.now =
-    sym (length-map c.args.circuit.now.followers.items (λ (v : Vec ℕ Global). v.items)) ∙ c.requires.circuit.follow.count in
-    omega (arith, ap length c.deref-4.ensures.value, ap length c.deref-5.ensures.value, follow, c.requires.circuit.plan.count, c.requires.circuit.few)
+    omega (arith, ap length c.deref-4.ensures.value, c.requires.circuit.follow.count, c.requires.circuit.plan.count, c.requires.circuit.few)
 
 module _ (c : goal.In_ok-note_lines) where
   len : length c.go_on.new.words ≡ c.args.self.words.len
@@ -72,13 +70,11 @@ module _ (c : goal.In_ok-note_lines) where
   noted : NotesEach (IsOfLine c.collect.new.changed.items c.args.circuit.now.lines.items (nets_of c.args.design.now) c.next_day-to.result (64 - (c.next_day-to.result - c.args.self.clock)))
       c.take.new.self c.note_lines.new.calendar
   noted =
-      let follow : length c.deref-4.result.now ≡ nets_of c.args.design.now =
-      ap length c.deref-4.ensures.value ∙ sym (length-map c.args.circuit.now.followers.items (λ (v : Vec ℕ Global). v.items)) ∙ c.requires.circuit.follow.count in
       subst (λ (n : ℕ). NotesEach (IsOfLine c.collect.new.changed.items c.args.circuit.now.lines.items n c.next_day-to.result (64 - (c.next_day-to.result - c.args.self.clock)))
-      c.take.new.self c.note_lines.new.calendar) follow
-      (subst (λ (lines : List Pin). NotesEach (IsOfLine c.collect.new.changed.items lines (length c.deref-4.result.now) c.next_day-to.result (64 - (c.next_day-to.result - c.args.self.clock)))
-      c.take.new.self c.note_lines.new.calendar) c.deref-5.ensures.value
-      (subst (λ (changed : List Changed). NotesEach (IsOfLine changed c.deref-5.result.now (length c.deref-4.result.now) c.next_day-to.result (64 - (c.next_day-to.result - c.args.self.clock)))
+      c.take.new.self c.note_lines.new.calendar) c.requires.circuit.follow.count
+      (subst (λ (lines : List Pin). NotesEach (IsOfLine c.collect.new.changed.items lines (length c.args.circuit.now.followers) c.next_day-to.result (64 - (c.next_day-to.result - c.args.self.clock)))
+      c.take.new.self c.note_lines.new.calendar) c.deref-4.ensures.value
+      (subst (λ (changed : List Changed). NotesEach (IsOfLine changed c.deref-4.result.now (length c.args.circuit.now.followers) c.next_day-to.result (64 - (c.next_day-to.result - c.args.self.clock)))
       c.take.new.self c.note_lines.new.calendar) c.deref-3.ensures.value c.in_ok-note_lines.ensures.notes))
 
 pub returns-clause-state : goal.returns-clause-state

@@ -2,7 +2,7 @@ use Rattle.std.proofs.Common.{◌≤◌, ◌∙◌, ⊎_elim, arith}
 use Rattle.std.proofs.lemmas.Bool.{cases_lt}
 use Rattle.cmb_words.specs.Word.{level_at_place}
 use Rattle.cmb_words.proofs.SpanFacts.{every-none, every-some}
-use Rattle.cmb_words.proofs.hold.held.Goals as goal
+use Rattle.cmb_words.proofs.hold.held_any.Goals as goal
 
 pub returns-then-arrival-lt64-clause-from : goal.returns-then-arrival-lt64-clause-from
 returns-then-arrival-lt64-clause-from c i from small =
