@@ -1,5 +1,5 @@
 -- What a tally says after more of a text of waveforms went by: by bytes, as the text may be cut anywhere.
-use Rattle.std.specs.Prelude.{ℕ, List, [], ◌∷◌, ◌+◌, ◌-◌, ◌*◌, ◌^◌, ◌||◌, min, nat_eq, if◌then◌else◌}
+use Rattle.std.specs.Prelude.{ℕ, List, [], ◌∷◌, ◌+◌, ◌-◌, ◌*◌, ◌^◌, ◌||◌, Bool, min, nat_eq, length, if◌then◌else◌}
 use Rattle.std.specs.Char.{is_ascii_digit}
 use Rattle.cmb_tell.specs.declared.tally.Tally.{Tally}
 use Rattle.cmb_tell.specs.declared.tally.At.{At}
@@ -63,3 +63,7 @@ tallied tally (byte ∷ rest) = tallied (stepped tally byte) rest
 abbrev pub lengthened : Tally → ℕ → Tally
 lengthened tally count = record
     { bytes = limited (tally.bytes + count); changes = tally.changes; tick = tally.tick; at = tally.at; digits = tally.digits }
+
+-- these bytes went by, where anything is watched
+abbrev pub went_by : Bool → Tally → List ℕ → Tally
+went_by is_watched tally text = if is_watched then lengthened (tallied tally text) (length text) else tally

@@ -1,6 +1,7 @@
 //! A sink that watches what goes through it.
 
-ghost use Rattle.std.specs.Prelude.{◌≡◌, None};
+ghost use Rattle.std.specs.Prelude.{◌≡◌, ◌||◌, length, take, IfOk, None, OnErr};
+ghost use Rattle.cmb_tell.specs.Tallies.{lengthened, no_text, tallied, went_by};
 
 use crate::tally::Tally;
 use cmb_sim::{Failed, Line, Sink};
@@ -40,7 +41,7 @@ impl<K: Clock, E: Write> Watch<K, E> {
         ensures counts { result.counts ≡ line.now.stats }
         ensures shows { result.shows ≡ line.now.progress }
         ensures horizon { result.horizon ≡ line.now.settings.horizon }
-        ensures bytes { result.tally.bytes ≡ 0 }
+        ensures tally { result.tally ≡ no_text }
         ensures screen { result.screen ≡ screen }
         ensures shown { result.shown ≡ None }
     {
@@ -57,7 +58,9 @@ impl<K: Clock, E: Write> Watch<K, E> {
         }
     }
 
-    fn is_on(&self) -> bool {
+    fn is_on(&self) -> bool
+        ensures { result ≡ (self.now.counts || self.now.shows) }
+    {
         self.counts || self.shows
     }
 
@@ -79,7 +82,9 @@ impl<K: Clock, E: Write> Watch<K, E> {
         format!(in self.alloc; "\r\x1b[Kcmbsim: tick {tick} of {horizon}, {changes} changes")
     }
 
-    fn show(&mut self, now: Instant) {
+    fn show(&mut self, now: Instant)
+        ensures { self.new.tally ≡ self.old.tally }
+    {
         if let Ok(line) = self.progress() {
             let _ = self.screen.write(line.as_bytes());
             self.shown = Some(now);
@@ -87,7 +92,9 @@ impl<K: Clock, E: Write> Watch<K, E> {
     }
 
     // A write took these bytes, and began then.
-    fn note(&mut self, text: &[u8], began: Option<Instant>) {
+    fn note(&mut self, text: &[u8], began: Option<Instant>)
+        ensures { self.new.tally ≡ lengthened (tallied self.old.tally text.now) (length text.now) }
+    {
         self.tally.add(text);
         let Some(now) = self.now() else {
             return;
@@ -124,7 +131,12 @@ impl<O: Sink, K: Clock, E: Write> Sink for Watched<O, K, E> {
 
     ghost failures = { λ s. O.failures s.sink };
 
-    fn write(&mut self, text: &[u8]) -> Result<usize, Failed> {
+    // What the sink took went by, where anything is watched.
+    fn write(&mut self, text: &[u8]) -> Result<usize, Failed>
+        ensures tally { IfOk result (λ count. self.new.watch.tally
+            ≡ went_by (self.old.watch.counts || self.old.watch.shows) self.old.watch.tally (take count text.now)) }
+        ensures kept { OnErr result (self.new.watch.tally ≡ self.old.watch.tally) }
+    {
         if !self.watch.is_on() {
             return self.sink.write(text);
         }
