@@ -1,11 +1,11 @@
 //! The text of a design of which each thread simulates a group of the nets.
 
-ghost use Rattle.std.specs.Prelude.{◌≡◌, ℕ, suc, ◌+◌, ◌*◌, ◌-◌, ◌^◌, ◌<◌, ◌≤◌, ◌++◌, ◌∷◌, [], false, true, List, Option};
-ghost use Rattle.std.specs.Prelude.{length, slice_index_or, take, vec_len, IfErr, IfOk, OnOk};
+ghost use Rattle.std.specs.Prelude.{◌≡◌, ℕ, suc, ◌*◌, ◌-◌, ◌^◌, ◌<◌, ◌≤◌, false, true, List, Option, length, take};
+ghost use Rattle.std.specs.Prelude.{IfErr, IfOk, OnOk};
 ghost use Rattle.std.specs.Io.KnownBytes.{Appends};
 ghost use Rattle.cmb_groups.specs.Groups.{AreGroupsOf};
 ghost use Rattle.cmb_groups.specs.Windows.{clock_at, last_of};
-ghost use Rattle.cmb_partition.specs.Tellers.{AreTellersOf, HaveTold, cut_at};
+ghost use Rattle.cmb_partition.specs.Tellers.{AreTellersOf, HaveTold};
 ghost use Rattle.cmb_stream.specs.Parts.{made_text};
 ghost use Rattle.cmb_stream.specs.Streams.{IsBrokenOff};
 ghost use Rattle.cmb_vcd.specs.Vcd.{vcd};

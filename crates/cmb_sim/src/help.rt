@@ -105,9 +105,10 @@ Modes; each writes the same text:
     rounds  threads carry their clusters on by changes, and hand over what is new after each round
     free    threads run freely, and promise one another up to which tick a net doesn't change
     plain   one thread fills a table with a place for each net and tick, at most 16,777,216
-With --threads, in modes rounds and free, one thread carries all nets on and others make the text;
-in mode free it is written meanwhile. --workers and --clusters say instead who has which nets
-in a run of at most 262,144 nets times ticks; a longer one is shared as with --threads.
+With --threads, in modes rounds and free, each thread carries on a part of the netlist that reads no
+other, or one carries on all of it and others make the text; in mode free it is written meanwhile.
+--workers and --clusters say instead who has which nets in a run of at most 262,144 nets times
+ticks; a longer one is shared as with --threads.
 A worker without a cluster gets no thread: give at least as many --clusters as --workers.
 
 Status 0: the text was written. Status 2: the command line is wrong.

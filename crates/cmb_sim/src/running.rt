@@ -13,7 +13,7 @@ use cmb_core::{Clustering, ClusteringFault};
 use cmb_design::{Design, plain_waves};
 use cmb_links::Workers;
 use cmb_run::{Collector, OpenGate, Sink, run_free_text, run_rounds, vcd_text, write_whole};
-use cmb_team::{team_text, write_team};
+use cmb_share::{text_by_threads, write_by_threads};
 use std::alloc::Global;
 use std::sync::Wait;
 use std::thread::Threads;
@@ -106,7 +106,7 @@ fn rounds_text<R: AllocGlobal + Threads + Sync>(
     ensures fault { IfErr result (IsUnrun (Mode.Rounds workers clusters) design.now) }
 {
     if suits_engine(workers, clusters, design) {
-        let text = team_text(rt, rt.alloc(), design, workers.min(clusters))?;
+        let text = text_by_threads(rt, rt.alloc(), design, workers.min(clusters))?;
         return Ok(text);
     }
     workers_text(rt, workers, clusters, design)
@@ -155,7 +155,7 @@ fn write_free<R: AllocGlobal + Threads + Wait + Sync, O: Sink>(
         (output (O.taken out.old) (O.taken out.new) (O.failures out.old) (O.failures out.new))) }
 {
     if suits_engine(workers, clusters, design) {
-        let written = write_team(rt, rt.alloc(), design, workers.min(clusters), out)?;
+        let written = write_by_threads(rt, rt.alloc(), design, workers.min(clusters), out)?;
         return Ok(written);
     }
     write_by_workers(rt, workers, clusters, design, out)
@@ -172,7 +172,7 @@ fn shared_text<R: AllocGlobal + Threads + Sync>(
     ensures fault { IfErr result (IsUnrun (Mode.Shared threads) design.now) }
 {
     let _lawful = workers_of(threads)?;
-    let text = team_text(rt, rt.alloc(), design, threads)?;
+    let text = text_by_threads(rt, rt.alloc(), design, threads)?;
     Ok(text)
 }
 
@@ -192,7 +192,7 @@ fn write_shared<R: AllocGlobal + Threads + Sync, O: Sink>(
         (output (O.taken out.old) (O.taken out.new) (O.failures out.old) (O.failures out.new))) }
 {
     let _lawful = workers_of(threads)?;
-    let written = write_team(rt, rt.alloc(), design, threads, out)?;
+    let written = write_by_threads(rt, rt.alloc(), design, threads, out)?;
     Ok(written)
 }
 

@@ -8,4 +8,6 @@ mod nets;
 #[cfg(test)]
 mod parts;
 #[cfg(test)]
+mod shared;
+#[cfg(test)]
 mod texts;

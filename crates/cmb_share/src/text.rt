@@ -1,0 +1,58 @@
+//! The whole text of a design by so many threads at most.
+
+ghost use Rattle.std.specs.Prelude.{◌≡◌, ◌-◌, ◌^◌, ◌<◌, length, IfErr, IfOk, OnOk};
+ghost use Rattle.std.specs.Io.KnownBytes.{Appends};
+ghost use Rattle.cmb_stream.specs.Streams.{IsBrokenOff};
+ghost use Rattle.cmb_vcd.specs.Vcd.{vcd};
+
+use crate::groups::groups_that_pay;
+use cmb_design::Design;
+use cmb_partition::{partition_text, write_partition};
+use cmb_stream::StreamFault;
+use cmb_team::{team_text, write_team};
+use cmb_vcd::Sink;
+use std::alloc::{AllocError, Global};
+use std::thread::Threads;
+
+/// The VCD text of a design's run, whole in memory, by so many threads at most; with one thread, or none, by
+/// `stream_text`. Threads are started only where there is enough to do for them. The text is the same for any number.
+pub fn text_by_threads<R: Threads + Sync>(
+    rt: &R,
+    alloc: Global,
+    design: &Design,
+    threads: u32,
+) -> Result<Vec<u8>, AllocError>
+    ensures { IfOk result (λ text. text.items ≡ vcd design.now) }
+{
+    if threads >= 2 {
+        if let Some(dealt) = groups_that_pay(alloc, design, threads)? {
+            return partition_text(rt, alloc, design, &dealt.numbers, dealt.count);
+        }
+    }
+    team_text(rt, alloc, design, threads)
+}
+
+/// Writes the VCD text of a design's run while it is made, by so many threads at most, and gives its length; with one
+/// thread, or none, by `write_stream`. What it needs of memory doesn't grow with the horizon. Whatever the fault, the
+/// sink took a beginning of the text. A failed write is the answer then and only then; else memory was refused.
+pub fn write_by_threads<R: Threads + Sync, S: Sink>(
+    rt: &R,
+    alloc: Global,
+    design: &Design,
+    threads: u32,
+    sink: &mut S,
+) -> Result<u64, StreamFault>
+    requires { S.failures sink.old < 2 ^ 64 - 1 }
+    ensures length { IfOk result (λ written. written ≡ length (vcd design.now)) }
+    ensures text { OnOk result (Appends (S.taken sink.old) (S.taken sink.new) (vcd design.now)) }
+    ensures no_failure { OnOk result (S.failures sink.new ≡ S.failures sink.old) }
+    ensures fault { IfErr result (IsBrokenOff design.now (S.taken sink.old) (S.taken sink.new) (S.failures sink.old)
+        (S.failures sink.new)) }
+{
+    if threads >= 2 {
+        if let Some(dealt) = groups_that_pay(alloc, design, threads)? {
+            return write_partition(rt, alloc, design, &dealt.numbers, dealt.count, sink);
+        }
+    }
+    write_team(rt, alloc, design, threads, sink)
+}
