@@ -1,6 +1,8 @@
 //! A sink that watches what goes through it.
 
-ghost use Rattle.std.specs.Prelude.{◌≡◌, ◌||◌, length, take, IfOk, None, OnErr};
+ghost use Rattle.std.specs.Prelude.{◌≡◌, ◌+◌, ◌-◌, ◌^◌, ◌<◌, ◌≤◌, ◌||◌, length, take, IfOk, None, OnErr};
+ghost use Rattle.std.specs.Io.KnownBytes.{WriteAppends};
+ghost use Rattle.cmb_vcd.specs.Ends.{write_failures};
 ghost use Rattle.cmb_tell.specs.Tallies.{lengthened, no_text, tallied, went_by};
 
 use crate::tally::Tally;
@@ -133,6 +135,10 @@ impl<O: Sink, K: Clock, E: Write> Sink for Watched<O, K, E> {
 
     // What the sink took went by, where anything is watched.
     fn write(&mut self, text: &[u8]) -> Result<usize, Failed>
+        requires { O.failures self.old.sink < 2 ^ 64 - 1 }
+        ensures bound { IfOk result (λ n. n ≤ length text.now) }
+        ensures bytes { WriteAppends (O.taken self.old.sink) (O.taken self.new.sink) result text.now }
+        ensures failures { O.failures self.new.sink ≡ O.failures self.old.sink + write_failures result text.now }
         ensures tally { IfOk result (λ count. self.new.watch.tally
             ≡ went_by (self.old.watch.counts || self.old.watch.shows) self.old.watch.tally (take count text.now)) }
         ensures kept { OnErr result (self.new.watch.tally ≡ self.old.watch.tally) }
