@@ -5,7 +5,7 @@ use cmb_design::{Design, Settings, read_clocks, read_delays, read_stimuli};
 use cmb_partition::{partition_text, write_partition};
 use cmb_restrict::deal;
 use cmb_stream::StreamFault;
-use cmb_vcd::{Limited, Room};
+use cmb_vcd::Limited;
 use cmb_wave::Level;
 use std::alloc::Global;
 use std::test::Fail;
@@ -73,18 +73,27 @@ $end
 #200
 ";
 
-/// Whether the text that two threads make is as it should be, in memory and written.
-fn is_whole<R: Threads + Sync>(rt: &R, alloc: Global, design: &Design) -> Option<()> {
+/// Whether there are two groups.
+fn are_two(alloc: Global, design: &Design) -> bool {
+    match deal(alloc, design.netlist(), 2) {
+        Ok(dealt) => dealt.count == 2,
+        Err(_) => false,
+    }
+}
+
+/// Whether the text that two threads make in memory is as it should be.
+fn is_made<R: Threads + Sync>(rt: &R, alloc: Global, design: &Design) -> Option<bool> {
     let dealt = deal(alloc, design.netlist(), 2).ok()?;
     let text = partition_text(rt, alloc, design, &dealt.numbers, dealt.count).ok()?;
-    let mut room = Room::new(alloc, TEXT.len()).ok()?;
-    let written = write_partition(rt, alloc, design, &dealt.numbers, dealt.count, &mut room).ok()?;
-    let same = text.as_slice() == TEXT.as_bytes() && room.bytes.as_slice() == TEXT.as_bytes();
-    if dealt.count == 2 && same && written == TEXT.len() as u64 {
-        Some(())
-    } else {
-        None
-    }
+    Some(text.as_slice() == TEXT.as_bytes())
+}
+
+/// Whether the text that two threads write is as it should be, and its length is told.
+fn is_written<R: Threads + Sync>(rt: &R, alloc: Global, design: &Design) -> Option<bool> {
+    let dealt = deal(alloc, design.netlist(), 2).ok()?;
+    let mut sink = Limited::new(alloc, 1_000);
+    let answer = write_partition(rt, alloc, design, &dealt.numbers, dealt.count, &mut sink);
+    Some(answer == Ok(TEXT.len() as u64) && sink.bytes.as_slice() == TEXT.as_bytes())
 }
 
 /// Whether a sink that fails after 17 bytes took the first 17 of the text, and the answer tells so.
@@ -103,7 +112,9 @@ fn is_broken_off<R: Threads + Sync>(rt: &R, alloc: Global, design: &Design) -> O
 #[test]
 fn two_groups(rt: HostRuntime) -> Result<(), Fail> {
     let design = two_dividers(rt.alloc())?;
-    assert!(&rt; is_whole(&rt, rt.alloc(), &design).is_some());
+    assert!(&rt; are_two(rt.alloc(), &design));
+    assert!(&rt; is_made(&rt, rt.alloc(), &design) == Some(true));
+    assert!(&rt; is_written(&rt, rt.alloc(), &design) == Some(true));
     assert!(&rt; is_broken_off(&rt, rt.alloc(), &design).is_some());
     Ok(())
 }
