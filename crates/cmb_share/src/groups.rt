@@ -12,7 +12,8 @@ use std::alloc::{AllocError, Global};
 const LEAST_NETS: usize = 2_048;
 
 // So many samples its flip-flops take at least, where they pay: an estimate of how much changes in a run. Dealing the
-// components out and opening an engine of each group takes up to 50 ms, which only a run of a second or more gives back.
+// components out and opening an engine of each group takes up to 50 ms, which only a run of a second or more gives
+// back.
 const LEAST: u64 = 134_217_728;
 
 // About how many samples the flip-flops of a design take in its run.

@@ -1,5 +1,5 @@
-//! The text of a whole design by so many threads at most: each simulates a group of its components where that pays, else
-//! they are a team of which one goes on with the engine.
+//! The text of a whole design by so many threads at most: each simulates a group of its components where that pays,
+//! else they are a team of which one goes on with the engine.
 #![tactic(auto)]
 
 mod groups;
