@@ -1,14 +1,10 @@
 //! The text of a design of which each thread simulates a group of the nets.
 
-ghost use Rattle.std.specs.Prelude.{◌≡◌, ℕ, suc, ◌*◌, ◌-◌, ◌^◌, ◌<◌, ◌≤◌, false, true, List, Option, length, take};
-ghost use Rattle.std.specs.Prelude.{IfErr, IfOk, OnOk};
-ghost use Rattle.std.specs.Io.KnownBytes.{Appends};
+ghost use Rattle.std.specs.Prelude.{◌≡◌, ℕ, suc, ◌*◌, ◌<◌, ◌≤◌, length, IfOk, OnOk};
 ghost use Rattle.cmb_groups.specs.Groups.{AreGroupsOf};
 ghost use Rattle.cmb_groups.specs.Windows.{clock_at, last_of};
 ghost use Rattle.cmb_partition.specs.Tellers.{AreTellersOf, HaveTold};
-ghost use Rattle.cmb_stream.specs.Parts.{made_text};
-ghost use Rattle.cmb_stream.specs.Streams.{IsBrokenOff};
-ghost use Rattle.cmb_vcd.specs.Vcd.{vcd};
+ghost use Rattle.cmb_stream.specs.Parts.{IsAtEndOf};
 
 use crate::opening::open_makers;
 use crate::round::{fill, tell};
@@ -18,8 +14,7 @@ use cmb_design::Design;
 use cmb_dump::Dump;
 use cmb_engine::Engine;
 use cmb_groups::{Batch, Group, GroupMaker, Makers, clocks_of, parted};
-use cmb_stream::{Kept, StreamFault, first_dump};
-use cmb_vcd::Sink;
+use cmb_stream::{Kept, TextMaker, first_text};
 use std::alloc::{AllocError, Global};
 use std::marker::Model;
 use std::thread::Threads;
@@ -47,10 +42,10 @@ fn ticks_of(width: u32, tellers: usize, share: usize) -> u32 {
         .saturating_add(1)
 }
 
-/// The text of a design of which each thread simulates a group of the nets. What was made of it and not handed on is
-/// kept.
+/// Makes the text of a design of which each thread simulates a group of the nets.
 #[derive(Drop)]
-pub(crate) struct Partition<'a> {
+pub(crate) struct Partition<'a, R> {
+    rt: &'a R,
     alloc: Global,
     design: &'a Design,
     width: u32,
@@ -59,18 +54,28 @@ pub(crate) struct Partition<'a> {
     /// How many windows each teller is to have in the next round.
     share: usize,
     clock: u32,
-    kept: Kept<'a>,
 }
 
-impl<'a> Model for Partition<'a> {
-    ghost use Rattle.cmb_stream.specs.Parts.{Kept};
+impl<'a, R> Model for Partition<'a, R> {
+    ghost use Rattle.cmb_stream.specs.Parts.{Made};
     ghost use Rattle.cmb_partition.specs.Parts.{IsPartition};
 
-    ghost Value = { Kept };
+    ghost Value = { Made };
 
-    ghost view = { λ p. p.kept };
+    ghost view = { λ p. record { design = p.design.now; clock = p.clock } };
 
-    ghost invariant = { λ p. IsPartition p.design.now p.width p.makers.items p.tellers.items p.clock p.kept };
+    ghost invariant = { λ p. IsPartition p.design.now p.width p.makers.items p.tellers.items p.clock };
+}
+
+// The text of a design up to tick 1, and the dump that goes on from there.
+fn first_of<'a>(alloc: Global, design: &'a Design) -> Result<(Dump<'a>, Kept<'a>), AllocError>
+    ensures dumped { IfOk result (λ first. first.0.design ≡ design.entry.now) }
+    ensures design { IfOk result (λ first. first.1.design ≡ design.entry.now) }
+    ensures clock { IfOk result (λ first. first.1.clock ≡ 1) }
+    ensures given { IfOk result (λ first. first.1.given ≡ 0) }
+{
+    let engine = Engine::open(alloc, design)?;
+    first_text(alloc, design, &engine)
 }
 
 // So many tellers of a design, of which the first has a dump.
@@ -117,55 +122,53 @@ fn gather(
     Ok(())
 }
 
-impl<'a> Partition<'a> {
+impl<'a, R: Threads + Sync> Partition<'a, R> {
     /// The text up to tick 1, and engines of all groups that go on from there, each opened in a thread of its own.
-    pub(crate) fn open<R: Threads + Sync>(
-        rt: &R,
+    pub(crate) fn open(
+        rt: &'a R,
         alloc: Global,
         design: &'a Design,
         groups: &'a [Group<'a>],
-    ) -> Result<Partition<'a>, AllocError>
+    ) -> Result<(Partition<'a, R>, Kept<'a>), AllocError>
         requires { AreGroupsOf design.now groups.now }
-        ensures design { IfOk result (λ partition. partition.design ≡ design.entry.now) }
-        ensures given { IfOk result (λ partition. partition.given ≡ 0) }
+        ensures here { IfOk result (λ begun. IsAtEndOf begun.1 begun.0) }
+        ensures design { IfOk result (λ begun. begun.1.design ≡ design.entry.now) }
+        ensures given { IfOk result (λ begun. begun.1.given ≡ 0) }
     {
+        let (dump, kept) = first_of(alloc, design)?;
+        let tellers = tellers_of(alloc, design, dump, groups.len())?;
         let Makers {
             width,
             list: makers,
         } = open_makers(rt, alloc, groups)?;
-        let engine = Engine::open(alloc, design)?;
-        let dump = first_dump(alloc, design, &engine)?;
-        let kept = Kept::open(alloc, design, &dump)?;
-        let tellers = tellers_of(alloc, design, dump, groups.len())?;
-        Ok(Partition {
-            alloc,
-            design,
-            width,
-            makers,
-            tellers,
-            share: 1,
-            clock: 1,
+        Ok((
+            Partition {
+                rt,
+                alloc,
+                design,
+                width,
+                makers,
+                tellers,
+                share: 1,
+                clock: 1,
+            },
             kept,
-        })
+        ))
     }
+}
 
-    /// Whether the whole text was made.
-    pub(crate) fn is_done(&self) -> bool
-        ensures done { result ≡ true → self.now.clock ≡ self.now.design.horizon }
-        ensures open { result ≡ false → self.now.clock < self.now.design.horizon }
-    {
-        self.kept.is_done()
-    }
+impl<'a, R: Threads + Sync> TextMaker for Partition<'a, R> {
+    ghost use Rattle.std.specs.Thread.{IsSync};
 
-    /// Goes on by a round: all make the windows of their groups, then all make the text of a share of them, which comes
-    /// behind what is kept.
-    pub(crate) fn step<R: Threads + Sync>(self, rt: &R) -> Result<Partition<'a>, AllocError>
-        requires { self.clock < self.design.horizon }
-        ensures design { IfOk result (λ partition. partition.design ≡ self.entry.design) }
-        ensures given { IfOk result (λ partition. partition.given ≡ self.entry.given) }
-        ensures later { IfOk result (λ partition. self.entry.clock < partition.clock) }
-    {
+    ghost made = { λ p. p };
+
+    ghost ready = { IsSync R.row };
+
+    // Goes on by a round: all make the windows of their groups, then all make the text of a share of them, which comes
+    // behind what is kept.
+    fn step(self, kept: &mut Kept<'_>) -> Result<Self, AllocError> {
         let Partition {
+            rt,
             alloc,
             design,
             width,
@@ -173,7 +176,6 @@ impl<'a> Partition<'a> {
             mut tellers,
             share,
             clock,
-            mut kept,
         } = self;
         let before = kept.len();
         let ticks = ticks_of(width, tellers.len(), share);
@@ -182,11 +184,12 @@ impl<'a> Partition<'a> {
         let batch = parted(alloc, design, width, clocks, &mut makers)?;
         let size = batch.len().div_ceil(tellers.len());
         tell(rt, &batch, size, &mut tellers);
-        gather(&mut kept, &tellers, &batch, size)?;
+        gather(kept, &tellers, &batch, size)?;
         let made = kept.len().saturating_sub(before);
         let share = share_of(tellers.len(), batch.len(), made);
         let clock = batch.clock(batch.len());
         Ok(Partition {
+            rt,
             alloc,
             design,
             width,
@@ -194,46 +197,6 @@ impl<'a> Partition<'a> {
             tellers,
             share,
             clock,
-            kept,
         })
-    }
-
-    /// How many bytes are kept.
-    pub(crate) fn kept(&self) -> usize {
-        self.kept.len()
-    }
-
-    /// How many bytes were handed on.
-    pub(crate) fn given(&self) -> u64
-        ensures { result ≡ self.now.given }
-    {
-        self.kept.given()
-    }
-
-    /// Hands on what is kept. After an Err it isn't to be used again.
-    pub(crate) fn give<S: Sink>(&mut self, sink: &mut S) -> Result<(), StreamFault>
-        requires room { S.failures sink.old < 2 ^ 64 - 1 }
-        ensures text { (start : Option (List ℕ))
-            → Appends start (S.taken sink.old) (take self.old.given (vcd self.old.design))
-            → OnOk result (Appends start (S.taken sink.new) (take self.new.given (vcd self.old.design))) }
-        ensures given { OnOk result (self.new.given ≡ length (made_text self.old.design self.old.clock)) }
-        ensures design { OnOk result (self.new.design ≡ self.old.design) }
-        ensures clock { OnOk result (self.new.clock ≡ self.old.clock) }
-        ensures no_failure { OnOk result (S.failures sink.new ≡ S.failures sink.old) }
-        ensures fault { (start : Option (List ℕ))
-            → Appends start (S.taken sink.old) (take self.old.given (vcd self.old.design))
-            → IfErr result (IsBrokenOff self.old.design start (S.taken sink.new) (S.failures sink.old)
-            (S.failures sink.new)) }
-    {
-        self.kept.give(sink)
-    }
-
-    /// The whole text, of which nothing was handed on.
-    pub(crate) fn into_text(self) -> Vec<u8>
-        requires done { self.clock ≡ self.design.horizon }
-        requires all { self.given ≡ 0 }
-        ensures { result.items ≡ vcd self.entry.design }
-    {
-        self.kept.into_text()
     }
 }

@@ -9,25 +9,10 @@ ghost use Rattle.cmb_vcd.specs.Vcd.{vcd};
 use crate::opening::open_groups;
 use crate::partition::Partition;
 use cmb_design::Design;
-use cmb_stream::StreamFault;
+use cmb_stream::{StreamFault, text_rest, write_rest};
 use cmb_vcd::Sink;
 use std::alloc::{AllocError, Global};
 use std::thread::Threads;
-
-// What is written at a time has so many bytes at least.
-const PART: usize = 65_536;
-
-// Makes the rest of a text, of which nothing was handed on.
-fn text_rest<R: Threads + Sync>(rt: &R, partition: Partition<'_>) -> Result<Vec<u8>, AllocError>
-    requires { partition.given ≡ 0 }
-    ensures { IfOk result (λ text. text.items ≡ vcd partition.entry.design) }
-{
-    let mut partition = partition;
-    while !partition.is_done() {
-        partition = partition.step(rt)?;
-    }
-    Ok(partition.into_text())
-}
 
 /// The VCD text of a design's run, whole in memory, by a thread for each of the groups to which its components were
 /// dealt. The text is the same for any number of them.
@@ -42,33 +27,8 @@ pub fn partition_text<R: Threads + Sync>(
     ensures { IfOk result (λ text. text.items ≡ vcd design.now) }
 {
     let groups = open_groups(rt, alloc, design, numbers, count)?;
-    let partition = Partition::open(rt, alloc, design, &groups)?;
-    text_rest(rt, partition)
-}
-
-// Makes the rest of a text and writes it, part after part. Gives the text's length.
-fn write_rest<R: Threads + Sync, S: Sink>(
-    rt: &R,
-    partition: Partition<'_>,
-    sink: &mut S,
-) -> Result<u64, StreamFault>
-    requires room { S.failures sink.old < 2 ^ 64 - 1 }
-    requires all { partition.given ≡ 0 }
-    ensures length { IfOk result (λ written. written ≡ length (vcd partition.entry.design)) }
-    ensures text { OnOk result (Appends (S.taken sink.old) (S.taken sink.new) (vcd partition.entry.design)) }
-    ensures no_failure { OnOk result (S.failures sink.new ≡ S.failures sink.old) }
-    ensures fault { IfErr result (IsBrokenOff partition.entry.design (S.taken sink.old) (S.taken sink.new)
-        (S.failures sink.old) (S.failures sink.new)) }
-{
-    let mut partition = partition;
-    while !partition.is_done() {
-        if partition.kept() >= PART {
-            partition.give(sink)?;
-        }
-        partition = partition.step(rt)?;
-    }
-    partition.give(sink)?;
-    Ok(partition.given())
+    let (partition, kept) = Partition::open(rt, alloc, design, &groups)?;
+    text_rest(partition, kept)
 }
 
 /// Writes the VCD text of a design's run while it is made, by a thread for each of the groups to which its components
@@ -91,6 +51,6 @@ pub fn write_partition<R: Threads + Sync, S: Sink>(
         (S.failures sink.new)) }
 {
     let groups = open_groups(rt, alloc, design, numbers, count)?;
-    let partition = Partition::open(rt, alloc, design, &groups)?;
-    write_rest(rt, partition, sink)
+    let (partition, kept) = Partition::open(rt, alloc, design, &groups)?;
+    write_rest(partition, kept, sink)
 }

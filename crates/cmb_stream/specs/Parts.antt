@@ -1,4 +1,4 @@
--- The text of a run as it is made, and what a stream keeps from window to window.
+-- The text of a design as it is made, what of it is kept, and who goes on with it.
 use Rattle.std.specs.Prelude.{◌≡◌, ℕ, ◌≤◌, List, ◌++◌, length, take}
 use Rattle.cmb_design.specs.Design.{Design}
 use Rattle.cmb_design.specs.Lawful.{IsDesign}
@@ -25,9 +25,17 @@ pub record IsKept (design : Design) (clock given : ℕ) (text : List ℕ) : Type
   pub handed : given ≤ length (vcd design)
   pub made : take given (vcd design) ++ text ≡ made_text design clock
 
--- engine and dump are where the text that is kept ends
-pub record IsStream (engine : Engine) (dump : Dump) (kept : Kept) : Type 0 where
-  pub engaged : engine.design ≡ kept.design
-  pub dumped : dump.design ≡ kept.design
-  pub timed : engine.clock ≡ kept.clock
-  pub same : dump.clock ≡ kept.clock
+-- of which design a text was made, and up to which tick
+pub record Made : Type 0 where
+  pub design : Design
+  pub clock : ℕ
+
+-- what is kept was made up to where a maker is
+pub record IsAtEndOf (kept : Kept) (made : Made) : Type 0 where
+  pub same : kept.design ≡ made.design
+  pub here : kept.clock ≡ made.clock
+
+-- a dump goes on where an engine does
+pub record IsStream (engine : Engine) (dump : Dump) : Type 0 where
+  pub dumped : dump.design ≡ engine.design
+  pub timed : dump.clock ≡ engine.clock

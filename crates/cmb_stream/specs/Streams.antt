@@ -1,4 +1,4 @@
--- A stream of a design's text, and why one broke off.
+-- Why the text of a design broke off.
 use Rattle.std.specs.Prelude.{◌≡◌, ℕ, List, Option}
 use Rattle.cmb_design.specs.Design.{Design}
 use Rattle.cmb_vcd.specs.Beginnings.{HasBegun, IsCutOff}

@@ -1,4 +1,4 @@
-//! The dump of a design from its beginning on.
+//! The text of a design from its beginning on, by a dump.
 
 ghost use Rattle.std.specs.Prelude.{◌≡◌, ℕ, ◌+◌, ◌<◌, ◌≤◌, ◌++◌, length, slice_index_or, IfOk, OnOk};
 ghost use Rattle.cmb_wave.specs.declared.level.Level.TheVariants.{X};
@@ -7,6 +7,7 @@ ghost use Rattle.cmb_design.specs.Value.{value};
 ghost use Rattle.cmb_stream.specs.Parts.{made_text};
 ghost use Rattle.cmb_words.specs.Changes.{RisesWithin, Tells};
 
+use crate::kept::Kept;
 use cmb_design::Design;
 use cmb_dump::Dump;
 use cmb_engine::Engine;
@@ -34,8 +35,8 @@ fn first_levels(
     Ok(levels)
 }
 
-/// The dump of a design, where its engine begins: it has the text up to tick 1.
-pub fn first_dump<'a>(
+// The dump of a design, where its engine begins: it has the text up to tick 1.
+fn first_dump<'a>(
     alloc: Global,
     design: &'a Design,
     engine: &Engine<'_>,
@@ -48,6 +49,25 @@ pub fn first_dump<'a>(
 {
     let levels = first_levels(alloc, design, engine)?;
     Dump::open(alloc, design, &levels)
+}
+
+/// The text of a design up to tick 1, where its engine begins, and the dump that goes on from there.
+pub fn first_text<'a>(
+    alloc: Global,
+    design: &'a Design,
+    engine: &Engine<'_>,
+) -> Result<(Dump<'a>, Kept<'a>), AllocError>
+    requires engaged { engine.now.design ≡ design.now }
+    requires begun { engine.now.clock ≡ 1 }
+    ensures dumped { IfOk result (λ first. first.0.design ≡ design.entry.now) }
+    ensures timed { IfOk result (λ first. first.0.clock ≡ 1) }
+    ensures design { IfOk result (λ first. first.1.design ≡ design.entry.now) }
+    ensures clock { IfOk result (λ first. first.1.clock ≡ 1) }
+    ensures given { IfOk result (λ first. first.1.given ≡ 0) }
+{
+    let dump = first_dump(alloc, design, engine)?;
+    let kept = Kept::open(alloc, design, &dump)?;
+    Ok((dump, kept))
 }
 
 /// The text of a window, by the nets that changed in it: where there are none, that costs nothing.

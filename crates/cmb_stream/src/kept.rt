@@ -59,6 +59,14 @@ impl<'a> Kept<'a> {
         self.clock >= self.design.horizon()
     }
 
+    /// The tick below which the text was made.
+    pub fn clock(&self) -> u32
+        ensures value { result ≡ self.now.clock }
+        ensures begun { 1 ≤ result }
+    {
+        self.clock
+    }
+
     /// Adds the text of the ticks from the clock on below `upto`. Where memory runs out nothing changes.
     pub fn grow(&mut self, text: &[u8], upto: u32) -> Result<(), AllocError>
         requires order { self.old.clock ≤ upto }

@@ -6,9 +6,11 @@ pub mod first;
 pub mod kept;
 pub mod stream;
 pub mod text;
+pub mod text_maker;
 
 pub use fault::StreamFault;
-pub use first::{first_dump, tell_window};
+pub use first::{first_text, tell_window};
 pub use kept::Kept;
 pub use stream::Stream;
-pub use text::{stream_rest, stream_text, write_rest, write_stream};
+pub use text::{stream_text, text_rest, write_rest, write_stream};
+pub use text_maker::TextMaker;

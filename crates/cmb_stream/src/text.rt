@@ -2,11 +2,14 @@
 
 ghost use Rattle.std.specs.Prelude.{◌≡◌, ◌-◌, ◌^◌, ◌<◌, length, IfErr, IfOk, OnOk};
 ghost use Rattle.std.specs.Io.KnownBytes.{Appends};
+ghost use Rattle.cmb_stream.specs.Parts.{IsAtEndOf};
 ghost use Rattle.cmb_stream.specs.Streams.{IsBrokenOff};
 ghost use Rattle.cmb_vcd.specs.Vcd.{vcd};
 
 use crate::fault::StreamFault;
+use crate::kept::Kept;
 use crate::stream::Stream;
+use crate::text_maker::TextMaker;
 use cmb_design::Design;
 use cmb_vcd::Sink;
 use std::alloc::{AllocError, Global};
@@ -15,43 +18,56 @@ use std::alloc::{AllocError, Global};
 const PART: usize = 65_536;
 
 /// Makes the rest of a text of which nothing was handed on, whole in memory.
-pub fn stream_rest(stream: Stream<'_>) -> Result<Vec<u8>, AllocError>
-    requires { stream.given ≡ 0 }
-    ensures { IfOk result (λ text. text.items ≡ vcd stream.entry.design) }
+pub fn text_rest<M: TextMaker>(maker: M, kept: Kept<'_>) -> Result<Vec<u8>, AllocError>
+    requires ready { M.ready }
+    requires here { IsAtEndOf kept (M.made maker) }
+    requires all { kept.given ≡ 0 }
+    ensures { IfOk result (λ text. text.items ≡ vcd kept.entry.design) }
 {
-    let mut stream = stream;
-    while !stream.is_done() {
-        stream = stream.step()?;
+    let mut maker = maker;
+    let mut kept = kept;
+    while !kept.is_done() {
+        maker = maker.step(&mut kept)?;
     }
-    Ok(stream.into_text())
+    Ok(kept.into_text())
 }
 
 /// The VCD text of a design's run, whole in memory.
 pub fn stream_text(alloc: Global, design: &Design) -> Result<Vec<u8>, AllocError>
     ensures { IfOk result (λ text. text.items ≡ vcd design.now) }
 {
-    stream_rest(Stream::open(alloc, design)?)
+    let (stream, kept) = Stream::open(alloc, design)?;
+    text_rest(stream, kept)
 }
 
-/// Makes the rest of a text and writes it, part after part. Gives the text's length.
-pub fn write_rest<S: Sink>(stream: Stream<'_>, sink: &mut S) -> Result<u64, StreamFault>
+/// Makes the rest of a text of which nothing was handed on and writes it, part after part. Gives the text's length.
+/// Whatever the fault, the sink took a beginning of the text. A failed write is the answer then and only then; else
+/// memory was refused.
+pub fn write_rest<M: TextMaker, S: Sink>(
+    maker: M,
+    kept: Kept<'_>,
+    sink: &mut S,
+) -> Result<u64, StreamFault>
     requires room { S.failures sink.old < 2 ^ 64 - 1 }
-    requires all { stream.given ≡ 0 }
-    ensures length { IfOk result (λ written. written ≡ length (vcd stream.entry.design)) }
-    ensures text { OnOk result (Appends (S.taken sink.old) (S.taken sink.new) (vcd stream.entry.design)) }
+    requires ready { M.ready }
+    requires here { IsAtEndOf kept (M.made maker) }
+    requires all { kept.given ≡ 0 }
+    ensures length { IfOk result (λ written. written ≡ length (vcd kept.entry.design)) }
+    ensures text { OnOk result (Appends (S.taken sink.old) (S.taken sink.new) (vcd kept.entry.design)) }
     ensures no_failure { OnOk result (S.failures sink.new ≡ S.failures sink.old) }
-    ensures fault { IfErr result (IsBrokenOff stream.entry.design (S.taken sink.old) (S.taken sink.new)
+    ensures fault { IfErr result (IsBrokenOff kept.entry.design (S.taken sink.old) (S.taken sink.new)
         (S.failures sink.old) (S.failures sink.new)) }
 {
-    let mut stream = stream;
-    while !stream.is_done() {
-        if stream.kept() >= PART {
-            stream.give(sink)?;
+    let mut maker = maker;
+    let mut kept = kept;
+    while !kept.is_done() {
+        if kept.len() >= PART {
+            kept.give(sink)?;
         }
-        stream = stream.step()?;
+        maker = maker.step(&mut kept)?;
     }
-    stream.give(sink)?;
-    Ok(stream.given())
+    kept.give(sink)?;
+    Ok(kept.given())
 }
 
 /// Writes the VCD text of a design's run while it is made, and gives its length. What it needs of memory doesn't
@@ -69,6 +85,6 @@ pub fn write_stream<S: Sink>(
     ensures fault { IfErr result (IsBrokenOff design.now (S.taken sink.old) (S.taken sink.new) (S.failures sink.old)
         (S.failures sink.new)) }
 {
-    let stream = Stream::open(alloc, design)?;
-    write_rest(stream, sink)
+    let (stream, kept) = Stream::open(alloc, design)?;
+    write_rest(stream, kept, sink)
 }

@@ -1,7 +1,7 @@
 -- Several tellers of a run's text. Only contracts inside the crate cite these.
 use Rattle.std.specs.Prelude.{◌≡◌, ℕ, suc, ◌<◌, ◌≤◌, false, List, ◌++◌, length, slice_index_or}
 use Rattle.cmb_design.specs.Design.{Design}
-use Rattle.cmb_stream.specs.Parts.{Kept, made_text}
+use Rattle.cmb_stream.specs.Parts.{Made, made_text}
 use Rattle.cmb_team.specs.Batches.{Batch, clock_at, last_clock}
 use Rattle.cmb_team.specs.declared.teller.Teller.{Teller}
 
@@ -19,11 +19,13 @@ HaveTold batch cuts tellers = (k : ℕ) (d : Teller) → k < length tellers → 
 abbrev pub AreTellersOf : Design → List Teller → Type 0
 AreTellersOf design tellers = (k : ℕ) (d : Teller) → k < length tellers → (slice_index_or tellers k d).dump.design ≡ design
 
--- what is kept ends where the windows begin that were made and not told
-pub record IsTeam (design : Design) (made : Batch) (all : List Teller) (kept : Kept) : Type 0 where
-  pub same : kept.design ≡ design
+-- of which design the text was made by a team, and up to which tick: there the windows begin that were made and not told
+abbrev pub made_by : Batch → Made
+made_by batch = record { design = batch.design; clock = clock_at batch 0 }
+
+-- windows are made ahead of what is told
+pub record IsTeam (design : Design) (made : Batch) (all : List Teller) : Type 0 where
   pub engaged : made.design ≡ design
   pub tellers : AreTellersOf design all
   pub some : 1 ≤ length all
-  pub clock : clock_at made 0 ≡ kept.clock
-  pub later : kept.clock < kept.design.horizon → kept.clock < last_clock made
+  pub later : clock_at made 0 < made.design.horizon → clock_at made 0 < last_clock made

@@ -1,12 +1,7 @@
 //! The text of a design by a team: a maker of windows, and tellers of their text.
 
-ghost use Rattle.std.specs.Prelude.{◌≡◌, ℕ, suc, ◌+◌, ◌<◌, ◌≤◌, ◌++◌, false, true, List, Option, length};
-ghost use Rattle.std.specs.Prelude.{slice_index_or, take, vec_len, IfErr, IfOk, OnOk};
-ghost use Rattle.std.specs.Prelude.{◌-◌, ◌^◌};
-ghost use Rattle.std.specs.Io.KnownBytes.{Appends};
+ghost use Rattle.std.specs.Prelude.{◌≡◌, ℕ, suc, ◌+◌, ◌<◌, ◌≤◌, ◌++◌, length, slice_index_or, vec_len, IfOk, OnOk};
 ghost use Rattle.cmb_stream.specs.Parts.{made_text};
-ghost use Rattle.cmb_stream.specs.Streams.{IsBrokenOff};
-ghost use Rattle.cmb_vcd.specs.Vcd.{vcd};
 ghost use Rattle.cmb_team.specs.Batches.{AreCuts, clock_at};
 ghost use Rattle.cmb_team.specs.Teams.{AreTellersOf, HaveTold};
 
@@ -16,8 +11,7 @@ use crate::round::{pays, round};
 use crate::shares::cuts_of;
 use crate::teller::Teller;
 use cmb_design::Design;
-use cmb_stream::{Kept, Stream, StreamFault};
-use cmb_vcd::Sink;
+use cmb_stream::{Kept, Stream, TextMaker};
 use std::alloc::{AllocError, Global};
 use std::marker::Model;
 use std::thread::Threads;
@@ -31,16 +25,16 @@ const PART: usize = 2_097_152;
 // The least ticks of a batch: some windows for each teller.
 const SHORT: usize = 256;
 
-// How long batches are to be, going by what was made of a text.
-fn ticks_of(stream: &Stream<'_>) -> u32 {
-    let dense = (stream.kept() / stream.clock() as usize).max(1);
+/// How long batches are to be, going by what was made of a text.
+pub(crate) fn ticks_of(kept: &Kept<'_>) -> u32 {
+    let dense = (kept.len() / kept.clock() as usize).max(1);
     (PART / dense).max(SHORT) as u32
 }
 
-/// The text of a design, by a maker of windows and tellers of their text. What was made of it and not handed on is
-/// kept.
+/// Makes the text of a design by a maker of windows and tellers of their text.
 #[derive(Drop)]
-pub(crate) struct Team<'a> {
+pub(crate) struct Team<'a, R> {
+    rt: &'a R,
     alloc: Global,
     design: &'a Design,
     maker: Maker<'a>,
@@ -48,18 +42,17 @@ pub(crate) struct Team<'a> {
     most: usize,
     /// How many ticks a batch is long.
     ticks: u32,
-    kept: Kept<'a>,
 }
 
-impl<'a> Model for Team<'a> {
-    ghost use Rattle.cmb_stream.specs.Parts.{Kept};
-    ghost use Rattle.cmb_team.specs.Teams.{IsTeam};
+impl<'a, R> Model for Team<'a, R> {
+    ghost use Rattle.cmb_stream.specs.Parts.{Made};
+    ghost use Rattle.cmb_team.specs.Teams.{IsTeam, made_by};
 
-    ghost Value = { Kept };
+    ghost Value = { Made };
 
-    ghost view = { λ t. t.kept };
+    ghost view = { λ t. made_by t.maker };
 
-    ghost invariant = { λ t. IsTeam t.design.now t.maker t.tellers.items t.kept };
+    ghost invariant = { λ t. IsTeam t.design.now t.maker t.tellers.items };
 }
 
 // Adds what the tellers made of a batch, in order.
@@ -107,58 +100,55 @@ fn with_tellers<'a>(
     Ok(tellers)
 }
 
-impl<'a> Team<'a> {
-    /// Goes on with a stream's text: the first windows behind it are made in the calling thread.
+impl<'a, R: Threads + Sync> Team<'a, R> {
+    /// Goes on where a stream does, with batches so many ticks long: the first windows behind it are made in the
+    /// calling thread.
     pub(crate) fn of(
+        rt: &'a R,
         alloc: Global,
         design: &'a Design,
         stream: Stream<'a>,
+        ticks: u32,
         threads: usize,
-    ) -> Result<Team<'a>, AllocError>
+    ) -> Result<Team<'a, R>, AllocError>
         requires threads { 1 ≤ threads }
         requires design { stream.design ≡ design.now }
-        ensures design { IfOk result (λ team. team.design ≡ design.entry.now) }
-        ensures given { IfOk result (λ team. team.given ≡ stream.entry.given) }
+        ensures design { IfOk result (λ team. team.design ≡ stream.entry.design) }
+        ensures clock { IfOk result (λ team. team.clock ≡ stream.entry.clock) }
     {
-        let ticks = ticks_of(&stream);
-        let (engine, dump, kept) = stream.into_parts();
+        let (engine, dump) = stream.into_parts();
         let mut tellers = Vec::new(alloc);
         tellers.push(Teller::of(alloc, dump))?;
         let maker = Maker::open(alloc, design, engine)?.fill(ticks)?;
         Ok(Team {
+            rt,
             alloc,
             design,
             maker,
             tellers,
             most: threads.min(MOST) - 1,
             ticks,
-            kept,
         })
     }
+}
 
-    /// Whether the whole text was made.
-    pub(crate) fn is_done(&self) -> bool
-        ensures done { result ≡ true → self.now.clock ≡ self.now.design.horizon }
-        ensures open { result ≡ false → self.now.clock < self.now.design.horizon }
-    {
-        self.kept.is_done()
-    }
+impl<'a, R: Threads + Sync> TextMaker for Team<'a, R> {
+    ghost use Rattle.std.specs.Thread.{IsSync};
 
-    /// Goes on by a batch: its text comes behind what is kept, and the next one is made.
-    pub(crate) fn step<R: Threads + Sync>(self, rt: &R) -> Result<Team<'a>, AllocError>
-        requires { self.clock < self.design.horizon }
-        ensures design { IfOk result (λ team. team.design ≡ self.entry.design) }
-        ensures given { IfOk result (λ team. team.given ≡ self.entry.given) }
-        ensures later { IfOk result (λ team. self.entry.clock < team.clock) }
-    {
+    ghost made = { λ t. t };
+
+    ghost ready = { IsSync R.row };
+
+    // Goes on by a batch: its text comes behind what is kept, and the next one is made.
+    fn step(self, kept: &mut Kept<'_>) -> Result<Self, AllocError> {
         let Team {
+            rt,
             alloc,
             design,
             maker,
             tellers,
             most,
             ticks,
-            mut kept,
         } = self;
         let (batch, maker) = maker.part()?;
         let count = if pays(&batch) { most } else { 1 };
@@ -166,54 +156,15 @@ impl<'a> Team<'a> {
         let cuts = cuts_of(alloc, &batch, tellers.len())?;
         let (tellers, maker) = round(rt, maker, tellers, &batch, &cuts, ticks);
         let maker = maker?;
-        gather(&mut kept, &tellers, &batch, &cuts)?;
+        gather(kept, &tellers, &batch, &cuts)?;
         Ok(Team {
+            rt,
             alloc,
             design,
             maker,
             tellers,
             most,
             ticks,
-            kept,
         })
-    }
-
-    /// How many bytes are kept.
-    pub(crate) fn kept(&self) -> usize {
-        self.kept.len()
-    }
-
-    /// How many bytes were handed on.
-    pub(crate) fn given(&self) -> u64
-        ensures { result ≡ self.now.given }
-    {
-        self.kept.given()
-    }
-
-    /// Hands on what is kept. After an Err the team isn't to be used again.
-    pub(crate) fn give<S: Sink>(&mut self, sink: &mut S) -> Result<(), StreamFault>
-        requires room { S.failures sink.old < 2 ^ 64 - 1 }
-        ensures text { (start : Option (List ℕ))
-            → Appends start (S.taken sink.old) (take self.old.given (vcd self.old.design))
-            → OnOk result (Appends start (S.taken sink.new) (take self.new.given (vcd self.old.design))) }
-        ensures given { OnOk result (self.new.given ≡ length (made_text self.old.design self.old.clock)) }
-        ensures design { OnOk result (self.new.design ≡ self.old.design) }
-        ensures clock { OnOk result (self.new.clock ≡ self.old.clock) }
-        ensures no_failure { OnOk result (S.failures sink.new ≡ S.failures sink.old) }
-        ensures fault { (start : Option (List ℕ))
-            → Appends start (S.taken sink.old) (take self.old.given (vcd self.old.design))
-            → IfErr result (IsBrokenOff self.old.design start (S.taken sink.new) (S.failures sink.old)
-            (S.failures sink.new)) }
-    {
-        self.kept.give(sink)
-    }
-
-    /// The whole text, of which nothing was handed on.
-    pub(crate) fn into_text(self) -> Vec<u8>
-        requires done { self.clock ≡ self.design.horizon }
-        requires all { self.given ≡ 0 }
-        ensures { result.items ≡ vcd self.entry.design }
-    {
-        self.kept.into_text()
     }
 }

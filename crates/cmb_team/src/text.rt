@@ -2,18 +2,18 @@
 
 ghost use Rattle.std.specs.Prelude.{◌≡◌, ◌-◌, ◌^◌, ◌<◌, ◌≤◌, length, IfErr, IfOk, OnOk};
 ghost use Rattle.std.specs.Io.KnownBytes.{Appends};
+ghost use Rattle.cmb_stream.specs.Parts.{IsAtEndOf};
 ghost use Rattle.cmb_stream.specs.Streams.{IsBrokenOff};
 ghost use Rattle.cmb_vcd.specs.Vcd.{vcd};
 
-use crate::team::Team;
+use crate::team::{Team, ticks_of};
 use cmb_design::Design;
-use cmb_stream::{Stream, StreamFault, stream_rest, stream_text, write_rest, write_stream};
+use cmb_stream::{
+    Kept, Stream, StreamFault, TextMaker, stream_text, text_rest, write_rest, write_stream,
+};
 use cmb_vcd::Sink;
 use std::alloc::{AllocError, Global};
 use std::thread::Threads;
-
-// What is written at a time has so many bytes at least.
-const PART: usize = 65_536;
 
 // So many bytes of the text are made in one thread before it is asked whether more of them pay.
 const FIRST: usize = 524_288;
@@ -24,61 +24,61 @@ const LEAST: u64 = 8_388_608;
 // So many bytes a tick, where windows are large enough to be told apart: an estimate.
 const DENSE: u64 = 64;
 
-// How many bytes a stream told of a tick, but for those that it began with.
-fn dense_of(stream: &Stream<'_>, first: usize) -> u64 {
-    stream.kept().saturating_sub(first) as u64 / u64::from(stream.clock())
-}
-
-// The first part of a text, in one thread, and how many bytes it told of a tick behind the declarations and tick 0.
-fn begin(alloc: Global, design: &Design) -> Result<(Stream<'_>, u64), AllocError>
-    ensures design { IfOk result (λ begun. begun.0.design ≡ design.entry.now) }
-    ensures given { IfOk result (λ begun. begun.0.given ≡ 0) }
-{
-    let mut stream = Stream::open(alloc, design)?;
-    let first = stream.kept();
-    while !stream.is_done() && stream.kept() < first.saturating_add(FIRST) {
-        stream = stream.step()?;
-    }
-    let dense = dense_of(&stream, first);
-    Ok((stream, dense))
-}
-
-// Whether more than one thread pays for the rest of a text, of which so many bytes were told of a tick.
-fn pays(stream: &Stream<'_>, design: &Design, dense: u64) -> bool {
-    let left = design.horizon().saturating_sub(stream.clock());
-    dense >= DENSE && dense.saturating_mul(u64::from(left)) >= LEAST
-}
-
-// Makes the rest of a team's text, of which nothing was handed on.
-fn team_rest<R: Threads + Sync>(rt: &R, team: Team<'_>) -> Result<Vec<u8>, AllocError>
-    requires { team.given ≡ 0 }
-    ensures { IfOk result (λ text. text.items ≡ vcd team.entry.design) }
-{
-    let mut team = team;
-    while !team.is_done() {
-        team = team.step(rt)?;
-    }
-    Ok(team.into_text())
-}
-
-// Makes the rest of a stream's text, of which nothing was handed on, by a team where that pays.
-fn text_rest<R: Threads + Sync>(
-    rt: &R,
-    alloc: Global,
-    design: &Design,
-    threads: u32,
-    stream: Stream<'_>,
+// A text that one thread began: who goes on with it, what was made, and how many bytes of that were told of a tick,
+// but for the declarations and tick 0.
+#[derive(Drop)]
+struct Begun<'a> {
+    stream: Stream<'a>,
+    kept: Kept<'a>,
     dense: u64,
+}
+
+// The first part of a text, in one thread.
+fn begin(alloc: Global, design: &Design) -> Result<Begun<'_>, AllocError>
+    ensures here { IfOk result (λ begun. IsAtEndOf begun.kept begun.stream) }
+    ensures design { IfOk result (λ begun. begun.kept.design ≡ design.entry.now) }
+    ensures given { IfOk result (λ begun. begun.kept.given ≡ 0) }
+{
+    let (mut stream, mut kept) = Stream::open(alloc, design)?;
+    let first = kept.len();
+    while !kept.is_done() && kept.len() < first.saturating_add(FIRST) {
+        stream = stream.step(&mut kept)?;
+    }
+    let dense = kept.len().saturating_sub(first) as u64 / u64::from(kept.clock());
+    Ok(Begun {
+        stream,
+        kept,
+        dense,
+    })
+}
+
+// Whether more than one thread pays for the rest of a text.
+fn pays(begun: &Begun<'_>, design: &Design) -> bool {
+    let left = design.horizon().saturating_sub(begun.kept.clock());
+    begun.dense >= DENSE && begun.dense.saturating_mul(u64::from(left)) >= LEAST
+}
+
+// Makes the rest of a text, by a team where that pays.
+fn text_on<'a, R: Threads + Sync>(
+    rt: &'a R,
+    alloc: Global,
+    design: &'a Design,
+    threads: u32,
+    begun: Begun<'a>,
 ) -> Result<Vec<u8>, AllocError>
     requires threads { 1 ≤ threads }
-    requires design { stream.design ≡ design.now }
-    requires all { stream.given ≡ 0 }
+    requires here { IsAtEndOf begun.kept begun.stream }
+    requires design { begun.kept.design ≡ design.now }
+    requires all { begun.kept.given ≡ 0 }
     ensures { IfOk result (λ text. text.items ≡ vcd design.now) }
 {
-    if !pays(&stream, design, dense) {
-        return stream_rest(stream);
+    let pays = pays(&begun, design);
+    let Begun { stream, kept, .. } = begun;
+    if !pays {
+        return text_rest(stream, kept);
     }
-    team_rest(rt, Team::of(alloc, design, stream, threads as usize)?)
+    let team = Team::of(rt, alloc, design, stream, ticks_of(&kept), threads as usize)?;
+    text_rest(team, kept)
 }
 
 /// The VCD text of a design's run, whole in memory, by so many threads at most; with one thread, or none, by
@@ -94,60 +94,37 @@ pub fn team_text<R: Threads + Sync>(
     if threads < 2 {
         return stream_text(alloc, design);
     }
-    let (stream, dense) = begin(alloc, design)?;
-    text_rest(rt, alloc, design, threads, stream, dense)
+    let begun = begin(alloc, design)?;
+    text_on(rt, alloc, design, threads, begun)
 }
 
-// Makes the rest of a text and writes it, part after part. Gives the text's length.
-fn write_by_team<R: Threads + Sync, S: Sink>(
-    rt: &R,
-    team: Team<'_>,
-    sink: &mut S,
-) -> Result<u64, StreamFault>
-    requires room { S.failures sink.old < 2 ^ 64 - 1 }
-    requires all { team.given ≡ 0 }
-    ensures length { IfOk result (λ written. written ≡ length (vcd team.entry.design)) }
-    ensures text { OnOk result (Appends (S.taken sink.old) (S.taken sink.new) (vcd team.entry.design)) }
-    ensures no_failure { OnOk result (S.failures sink.new ≡ S.failures sink.old) }
-    ensures fault { IfErr result (IsBrokenOff team.entry.design (S.taken sink.old) (S.taken sink.new)
-        (S.failures sink.old) (S.failures sink.new)) }
-{
-    let mut team = team;
-    while !team.is_done() {
-        if team.kept() >= PART {
-            team.give(sink)?;
-        }
-        team = team.step(rt)?;
-    }
-    team.give(sink)?;
-    Ok(team.given())
-}
-
-// Writes a stream's text, of which nothing was handed on, by a team where that pays. Gives its length.
-fn write_on<R: Threads + Sync, S: Sink>(
-    rt: &R,
+// Writes the rest of a text, by a team where that pays. Gives the text's length.
+fn write_on<'a, R: Threads + Sync, S: Sink>(
+    rt: &'a R,
     alloc: Global,
-    design: &Design,
+    design: &'a Design,
     threads: u32,
-    stream: Stream<'_>,
-    dense: u64,
+    begun: Begun<'a>,
     sink: &mut S,
 ) -> Result<u64, StreamFault>
     requires room { S.failures sink.old < 2 ^ 64 - 1 }
     requires threads { 1 ≤ threads }
-    requires design { stream.design ≡ design.now }
-    requires all { stream.given ≡ 0 }
+    requires here { IsAtEndOf begun.kept begun.stream }
+    requires design { begun.kept.design ≡ design.now }
+    requires all { begun.kept.given ≡ 0 }
     ensures length { IfOk result (λ written. written ≡ length (vcd design.now)) }
     ensures text { OnOk result (Appends (S.taken sink.old) (S.taken sink.new) (vcd design.now)) }
     ensures no_failure { OnOk result (S.failures sink.new ≡ S.failures sink.old) }
     ensures fault { IfErr result (IsBrokenOff design.now (S.taken sink.old) (S.taken sink.new) (S.failures sink.old)
         (S.failures sink.new)) }
 {
-    if !pays(&stream, design, dense) {
-        return write_rest(stream, sink);
+    let pays = pays(&begun, design);
+    let Begun { stream, kept, .. } = begun;
+    if !pays {
+        return write_rest(stream, kept, sink);
     }
-    let team = Team::of(alloc, design, stream, threads as usize)?;
-    write_by_team(rt, team, sink)
+    let team = Team::of(rt, alloc, design, stream, ticks_of(&kept), threads as usize)?;
+    write_rest(team, kept, sink)
 }
 
 /// Writes the VCD text of a design's run while it is made, by so many threads at most, and gives its length; with one
@@ -170,6 +147,6 @@ pub fn write_team<R: Threads + Sync, S: Sink>(
     if threads < 2 {
         return write_stream(alloc, design, sink);
     }
-    let (stream, dense) = begin(alloc, design)?;
-    write_on(rt, alloc, design, threads, stream, dense, sink)
+    let begun = begin(alloc, design)?;
+    write_on(rt, alloc, design, threads, begun, sink)
 }

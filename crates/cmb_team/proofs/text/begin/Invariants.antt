@@ -1,11 +1,13 @@
 use Rattle.std.proofs.Common.{◌≡◌, ◌-◌}
+use Rattle.cmb_stream.specs.Parts.{IsAtEndOf}
 use Rattle.cmb_team.proofs.text.begin.Given as goal
 
-abbrev pub invariant-loop-stream : goal.invariant-loop-stream
-invariant-loop-stream l = record {
-  design : l.stream.design ≡ l.design;
-  given : l.stream.given ≡ 0;
+abbrev pub invariant-loop-kept : goal.invariant-loop-kept
+invariant-loop-kept l = record {
+  here : IsAtEndOf l.kept l.stream;
+  design : l.kept.design ≡ l.design;
+  given : l.kept.given ≡ 0;
 }
 
-abbrev pub decreases-loop-stream : goal.decreases-loop-stream
-decreases-loop-stream l = l.design.horizon - l.stream.clock
+abbrev pub decreases-loop-kept : goal.decreases-loop-kept
+decreases-loop-kept l = l.design.horizon - l.kept.clock

@@ -3,10 +3,8 @@ use Rattle.cmb_partition.proofs.partition.Partition.open.Goals as goal
 
 pub invariant_of-result : goal.invariant_of-result
 invariant_of-result g c = record {
-  same = c.in_ok-kept.ensures.design;
   wide = c.in_ok-width.ensures.wide;
   narrow = c.in_ok-width.ensures.narrow;
-  at = c.in_ok-kept.ensures.clock;
   late = omega arith;
   paced = c.in_ok-width.ensures.makers c.args.design.now c.requires;
   telling = c.in_ok-tellers.ensures.tellers;

@@ -1,0 +1,9 @@
+use Rattle.std.proofs.Common.{refl}
+use Rattle.std.proofs.lemmas.Result.{err_from_is_err_and}
+use Rattle.cmb_vcd.proofs.BeginFacts.{HasBegun-none}
+use Rattle.cmb_team.proofs.text.write_on.Goals as goal
+
+pub returns-in_err-team-clause-fault : goal.returns-in_err-team-clause-fault
+returns-in_err-team-clause-fault g c =
+    let p = err_from_is_err_and c.from_residual.result c.from_residual.ensures.1 in
+    rw (p.1, p.2) (HasBegun-none c.args.design.now (g.S.Sink.taken c.args.sink.now), refl)
