@@ -5,7 +5,7 @@ use Rattle.std.proofs.lemmas.Bool.{cases_Bool, cases_eq, cases_lt, false≢true}
 use Rattle.std.proofs.lemmas.List.{get_or_past, length-map, take_more}
 use Rattle.std.proofs.lemmas.List.Elements.{All-contains, Contains-get_or}
 use Rattle.cmb_wave.specs.declared.level.Level.{Level}
-use Rattle.cmb_bench.specs.Netlist.{driver_of, pins_of}
+use Rattle.cmb_bench.specs.Netlist.{driver_of, pins_of, IsNetlist}
 use Rattle.cmb_design.specs.Design.{Design}
 use Rattle.cmb_design.specs.Exact.{nets_of}
 use Rattle.cmb_design.specs.Value.{value}
@@ -142,7 +142,7 @@ absent-undriven Driven h = absurd (false≢true h)
 absent-undriven Given h = refl
 absent-undriven Absent h = refl
 
-only-among : (net other : ℕ) → Contains (net ∷ []) other → net ≡ other
+pub only-among : (net other : ℕ) → Contains (net ∷ []) other → net ≡ other
 only-among net other among = go among.0 among.1 among.2
   where
     go : (k : ℕ) → k < length (net ∷ []) → get_or (net ∷ []) k other ≡ other → net ≡ other
@@ -261,8 +261,11 @@ module _ (design : Design) (driven : List Bool) where
         read = read;
       }
 
-  pub roles-all : (roles : List Role) (upto : ℕ) → nets_of design ≤ upto → length driven ≡ nets_of design → AreSoFar design driven upto roles → AreOf design driven roles
-  roles-all roles upto all count so_far = record {
+  pub roles-all : (roles : List Role) (upto : ℕ) → IsNetlist design.netlist → nets_of design ≤ upto → length driven ≡ nets_of design → AreSoFar design driven upto roles
+      → AreOf design driven roles
+  roles-all roles upto netlist all count so_far = record {
+    netlist = netlist;
+    count = len;
     same = so_far.same;
     lawful = record {
       few = omega (arith, len);

@@ -2,7 +2,7 @@
 -- crate cite these.
 use Rattle.std.specs.Prelude.{◌≡◌, ℕ, ◌<◌, ◌≤◌, ◌⊎◌, Bool, true, false, List, Contains, length, map, slice_index_or, if◌then◌else◌}
 use Rattle.cmb_wave.specs.declared.level.Level.{Level}
-use Rattle.cmb_bench.specs.Netlist.{driver_of, pins_of}
+use Rattle.cmb_bench.specs.Netlist.{driver_of, pins_of, IsNetlist}
 use Rattle.cmb_design.specs.Design.{Design}
 use Rattle.cmb_design.specs.Exact.{nets_of}
 use Rattle.cmb_design.specs.Value.{value}
@@ -62,6 +62,8 @@ pub record Gives (old new : List Role) (nets : List ℕ) : Type 0 where
 
 -- the roles of a design's nets where an engine drives some of them: it is given just what they read
 pub record AreOf (design : Design) (driven : List Bool) (roles : List Role) : Type 0 where
+  pub netlist : IsNetlist design.netlist
+  pub count : length roles ≡ nets_of design
   pub same : driven_of roles ≡ driven
   pub lawful : AreRoles design roles
   pub gifts : (net : ℕ) → gives roles net ≡ true → IsGiven design driven net

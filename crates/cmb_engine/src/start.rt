@@ -61,7 +61,8 @@ pub(crate) fn start_words(
     requires lines { All (λ line. (line.net < nets_of design.now) × (1 ≤ line.delay)) lines.now }
     ensures len { IfOk result (λ words. length words.items ≡ nets_of design.now + length lines.now) }
     ensures shows { IfOk result (λ words. (roles : List Role)
-        → Shows (levels_of words.items) (trace_of design.now roles lines.now) (nets_of design.now + length lines.now) 1) }
+        → Shows (levels_of words.items) (trace_of design.now roles lines.now)
+        (nets_of design.now + length lines.now) 1) }
 {
     let mut words = net_words(alloc, design)?;
     for _ in lines {

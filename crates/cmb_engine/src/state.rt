@@ -56,7 +56,8 @@ impl State {
         ensures later { IfOk result (λ state. (self.clock < state.clock) × (state.clock ≤ self.clock + 63)) }
         ensures nets { IfOk result (λ state. RisesWithin 0 (nets_of design.now) changed.new.items) }
         ensures tells { IfOk result (λ state. Tells
-            (level_in design.now circuit.now.wiring.roles.items) (nets_of design.now) self.clock state.clock changed.new.items) }
+            (level_in design.now circuit.now.wiring.roles.items) (nets_of design.now)
+            self.clock state.clock changed.new.items) }
     {
         let State {
             mut words,

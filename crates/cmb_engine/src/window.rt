@@ -25,8 +25,8 @@ use crate::told::write_told;
 use cmb_calendar::Tell;
 use cmb_words::{Changed, Word};
 
-/// What stays as it is while an engine goes on: what it does with each net, its cells, who reads each slot, the groups of
-/// flip-flops, and how many ticks back a pin looks at most.
+/// What stays as it is while an engine goes on: what it does with each net, its cells, who reads each slot, the groups
+/// of flip-flops, and how many ticks back a pin looks at most.
 #[derive(Drop)]
 pub(crate) struct Wiring {
     /// Empty where all nets are driven.
@@ -79,15 +79,7 @@ pub(crate) fn go_on(
     move_on(words, live, ticks);
     mark_news(readers, words, live, marks, first - wiring.most);
     write_told(tells, readers, words, live, marks, to);
-    write_given(
-        given,
-        wiring.roles.as_slice(),
-        readers,
-        words,
-        live,
-        marks,
-        first,
-    );
+    write_given(given, &wiring.roles, readers, words, live, marks, first);
     mark_arrivals(
         wiring.flops.as_slice(),
         &wiring.cells,

@@ -1,6 +1,6 @@
 use Rattle.std.proofs.Common.{◌≡◌, ◌+◌, ℕ, Bool, List, length, sym, subst, ap, ◌∙◌, arith}
 use Rattle.std.proofs.lemmas.List.{with_items_is}
-use Rattle.cmb_bench.specs.Netlist.{Netlist, driver_of, pins_of}
+use Rattle.cmb_bench.specs.Netlist.{IsNetlist, Netlist, driver_of, pins_of}
 use Rattle.cmb_design.specs.Design.{Design}
 use Rattle.cmb_engine.specs.Roles.{Gives}
 use Rattle.cmb_engine.specs.declared.role.Role.{Role}
@@ -32,4 +32,5 @@ loop-net-preserved c =
 pub returns : goal.returns
 returns c =
     roles-all c.args.design.now c.args.driven.now c.loop-net.roles.items c.loop-net.net
+    (subst IsNetlist c.netlist.ensures c.len-net-end.ensures.sound)
     (omega (arith, ap (λ (netlist : Netlist). length netlist.names) c.netlist.ensures, c.loop-net-test.false, c.len-net-end.ensures.value)) c.requires c.loop-net.invariant.roles

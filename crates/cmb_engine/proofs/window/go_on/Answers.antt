@@ -28,14 +28,14 @@ settle-requires-clause-wired c =
 
 pub mark_arrivals-requires-clause-paces : goal.mark_arrivals-requires-clause-paces
 mark_arrivals-requires-clause-paces c =
-    let paced : All (λ group. IsPace group.clock × (group.delay ≤ c.args.wiring.now.most)) c.as_slice-2.result.now =
-    subst (λ (groups : List Group). All (λ group. IsPace group.clock × (group.delay ≤ c.args.wiring.now.most)) groups) (sym c.as_slice-2.ensures.value)
+    let paced : All (λ group. IsPace group.clock × (group.delay ≤ c.args.wiring.now.most)) c.as_slice.result.now =
+    subst (λ (groups : List Group). All (λ group. IsPace group.clock × (group.delay ≤ c.args.wiring.now.most)) groups) (sym c.as_slice.ensures.value)
     (groups-paced c.args.wiring.now.cells c.args.wiring.now.flops.items c.requires.wiring.flip_flops c.args.wiring.now.most c.requires.wiring.lawful) in
     λ k d l. ((paced k d l).0, omega (arith, (paced k d l).1, c.requires.fits))
 
 pub mark_arrivals-requires-clause-slots : goal.mark_arrivals-requires-clause-slots
 mark_arrivals-requires-clause-slots c =
-    subst (λ (groups : List Group). All (λ group. All (λ slot. slot < length c.args.wiring.now.cells) group.flops.items) groups) (sym c.as_slice-2.ensures.value)
+    subst (λ (groups : List Group). All (λ group. All (λ slot. slot < length c.args.wiring.now.cells) group.flops.items) groups) (sym c.as_slice.ensures.value)
     (groups-inside c.args.wiring.now.cells c.args.wiring.now.flops.items c.requires.wiring.flip_flops)
 
 pub mark_arrivals-requires-clause-lawful : goal.mark_arrivals-requires-clause-lawful
@@ -46,8 +46,8 @@ mark_arrivals-requires-clause-lawful c =
 
 pub write_given-requires-clause-slots : goal.write_given-requires-clause-slots
 write_given-requires-clause-slots c = λ slot gift.
-    let gifts : AreToldNets c.args.wiring.now.cells c.as_slice.result.now =
-    subst (λ (roles : List Role). AreToldNets c.args.wiring.now.cells roles) (sym c.as_slice.ensures.value) c.requires.gives in
+    let gifts : AreToldNets c.args.wiring.now.cells c.deref.result.now =
+    subst (λ (roles : List Role). AreToldNets c.args.wiring.now.cells roles) (sym c.deref.ensures.value) c.requires.gives in
     omega (arith, (gifts slot gift).0, c.requires.nets, c.move_on.ensures.len, c.write_told.ensures.len)
 
 pub returns-clause-shows : goal.returns-clause-shows
@@ -55,7 +55,7 @@ returns-clause-shows c = λ trace meets shows right given slot place inside smal
     let lists : List (List ℕ) = c.args.wiring.now.readers in
     let cells : List Cell = c.args.wiring.now.cells in
     let roles : List Role = c.args.wiring.now.roles.items in
-    let same_roles : roles ≡ c.as_slice.result.now = sym c.as_slice.ensures.value in
+    let same_roles : roles ≡ c.deref.result.now = sym c.deref.ensures.value in
     let window : IsWindow (c.args.to - c.args.ticks) c.args.ticks c.args.to (64 - c.args.ticks) c.args.wiring.now.most =
     record { ends = omega (arith, c.requires.later); places = omega (arith, c.requires.fits); begun = omega (arith, c.requires.later); some = c.requires.some; fits = omega (arith, c.requires.fits) } in
     let shown_before : Shows (levels_of c.args.words.now) trace (length cells) (c.args.to - c.args.ticks) = λ s p l. shows s p (omega (arith, l, c.requires.nets)) in
@@ -92,8 +92,8 @@ returns-clause-shows c = λ trace meets shows right given slot place inside smal
           shown_before c.move_on.ensures.moved c.args.tells.now tells c.args.given.now given c.requires.gives told_words writes;
       arrivals = λ s p late small h.
           let arrival = arrives-flop (cell_at cells s) (c.args.to + p - 64) h in
-          let grouped : IsInGroup arrival.clock arrival.delay s c.as_slice-2.result.now =
-          subst (λ (groups : List Group). IsInGroup arrival.clock arrival.delay s groups) (sym c.as_slice-2.ensures.value)
+          let grouped : IsInGroup arrival.clock arrival.delay s c.as_slice.result.now =
+          subst (λ (groups : List Group). IsInGroup arrival.clock arrival.delay s groups) (sym c.as_slice.ensures.value)
           (c.requires.wiring.flip_flops.all s arrival.clock arrival.delay arrival.flop) in
           c.mark_arrivals.ensures.arrivals arrival.clock arrival.delay s p grouped late small arrival.arrives;
     } in
