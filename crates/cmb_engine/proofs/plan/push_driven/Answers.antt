@@ -8,7 +8,7 @@ use Rattle.cmb_engine.specs.Cells.{Gate}
 use Rattle.cmb_engine.specs.Plans.{pins_from, StandsFor}
 use Rattle.cmb_engine.specs.declared.cell.Pin.{Pin}
 use Rattle.cmb_engine.proofs.PlanFacts.{gate-stands, wired-flop, wired-gate}
-use Rattle.cmb_engine.proofs.plan.push_net.Goals as goal
+use Rattle.cmb_engine.proofs.plan.push_driven.Goals as goal
 
 pub collect_pins-requires-clause-within : goal.collect_pins-requires-clause-within
 collect_pins-requires-clause-within c =
