@@ -2,17 +2,17 @@ use Rattle.std.proofs.Common.{◌≡◌, ℕ, ◌+◌, ◌∷◌, List, false, a
 use Rattle.std.specs.Prelude.{if◌then◌else◌}
 use Rattle.cmb_bench.specs.declared.text.Class.{Class}
 use Rattle.cmb_bench.specs.Text.{class_of, line_feeds}
-use Rattle.cmb_bench.specs.Inner.Part.{parts_of}
-use Rattle.cmb_bench.proofs.Lexing.{IsRun, first_part, feeds_of}
-use Rattle.cmb_bench.proofs.text.first_piece.Goals as goal
-use Rattle.cmb_bench.proofs.text.first_piece.Goals.{then-first-eq10, else-first-eq10}
+use Rattle.cmb_bench.specs.Inner.Snippet.{snippets_of}
+use Rattle.cmb_bench.proofs.Lexing.{IsRun, first_snippet, feeds_of}
+use Rattle.cmb_bench.proofs.text.first_snippet.Goals as goal
+use Rattle.cmb_bench.proofs.text.first_snippet.Goals.{then-first-eq10, else-first-eq10}
 
-part : (bytes after : List ℕ) (b n : ℕ) (class : Class) (text rest : List ℕ) → bytes ≡ b ∷ after → class ≡ class_of b → IsRun class after n → text ≡ take (1 + n) bytes → rest ≡ drop (1 + n) bytes →
-    parts_of bytes ≡ record { class = class; bytes = text } ∷ parts_of rest
-part bytes after b n class text rest whole is_class run front back = rw (front, back, whole) (rw is_class (first_part b after n (rw is_class at run)))
+snippet : (bytes after : List ℕ) (b n : ℕ) (class : Class) (text rest : List ℕ) → bytes ≡ b ∷ after → class ≡ class_of b → IsRun class after n → text ≡ take (1 + n) bytes → rest ≡ drop (1 + n) bytes →
+    snippets_of bytes ≡ record { class = class; bytes = text } ∷ snippets_of rest
+snippet bytes after b n class text rest whole is_class run front back = rw (front, back, whole) (rw is_class (first_snippet b after n (rw is_class at run)))
 
-pub returns-clause-part : goal.returns-clause-part
-returns-clause-part c = part _ _ _ _ _ _ _ c.in_ok-first.ensures.cases.0 c.class_of-class.ensures (record { within = c.run_len-len.ensures.within; before = c.run_len-len.ensures.before; stops = c.run_len-len.ensures.stops }) c.split_at.ensures.front c.split_at.ensures.back
+pub returns-clause-snippet : goal.returns-clause-snippet
+returns-clause-snippet c = snippet _ _ _ _ _ _ _ c.in_ok-first.ensures.cases.0 c.class_of-class.ensures (record { within = c.run_len-len.ensures.within; before = c.run_len-len.ensures.before; stops = c.run_len-len.ensures.stops }) c.split_at.ensures.front c.split_at.ensures.back
 
 feeds : (bytes after : List ℕ) (b n : ℕ) (class : Class) (text : List ℕ) → bytes ≡ b ∷ after → class ≡ class_of b → IsRun class after n → text ≡ take (1 + n) bytes →
     line_feeds text ≡ (if nat_eq b 10 then 1 else 0)
