@@ -5,8 +5,8 @@ ghost use Rattle.cmb_bench.specs.declared.text.Class.TheVariants.{End};
 ghost use Rattle.cmb_bench.specs.Text.{class_of, continues, is_token, line_feeds};
 ghost use Rattle.cmb_bench.specs.Inner.Snippet.{snippets_of};
 
-/// What a byte is at the front of a snippet of the text. A token has the class of its first byte, and `End` stands at the
-/// end of input.
+/// What a byte is at the front of a snippet of the text. A token has the class of its first byte, and `End` stands at
+/// the end of input.
 #[derive(Clone, Copy)]
 pub enum Class {
     White,

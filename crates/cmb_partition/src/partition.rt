@@ -73,6 +73,15 @@ impl<'a> Model for Partition<'a> {
     ghost invariant = { λ p. IsPartition p.design.now p.width p.makers.items p.tellers.items p.clock p.kept };
 }
 
+// The dump of a design up to tick 1. The engine that tells it the levels is given up.
+fn opened_dump<'a>(alloc: Global, design: &'a Design) -> Result<Dump<'a>, AllocError>
+    ensures design { IfOk result (λ dump. dump.design ≡ design.entry.now) }
+    ensures text { IfOk result (λ dump. dump.text ≡ made_text design.entry.now 1) }
+{
+    let engine = Engine::open(alloc, design)?;
+    first_dump(alloc, design, &engine)
+}
+
 // So many tellers of a design, of which the first has a dump.
 fn tellers_of<'a>(
     alloc: Global,
@@ -133,8 +142,7 @@ impl<'a> Partition<'a> {
             width,
             list: makers,
         } = open_makers(rt, alloc, groups)?;
-        let engine = Engine::open(alloc, design)?;
-        let dump = first_dump(alloc, design, &engine)?;
+        let dump = opened_dump(alloc, design)?;
         let kept = Kept::open(alloc, design, &dump)?;
         let tellers = tellers_of(alloc, design, dump, groups.len())?;
         Ok(Partition {
