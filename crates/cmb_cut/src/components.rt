@@ -63,8 +63,8 @@ fn members(alloc: Global, components: &Components) -> Result<Vec<Member>, AllocE
     Ok(members)
 }
 
-// By what rank the component of a net stands behind the components that the net reads: behind a heavy one, which weighs more than
-// `heavy`, by one more.
+// The rank of a net's component behind those that the net reads: one more than that of a heavy one, which weighs more
+// than `heavy`, and no less than that of any other.
 fn rank_at(netlist: &Netlist, components: &Components, ranks: &[u64], heavy: u64, net: usize) -> u64
     requires components { AreOf netlist.now components.now }
     requires net { net < length netlist.now.names }
@@ -101,9 +101,9 @@ fn ranks_of(
     Ok(ranks)
 }
 
-/// The components in the order in which they are dealt out. What a component reads comes before it. First come all that read no
-/// heavy component, which weighs more than `heavy`; then the heavy ones among them; then those that read these, and so on.
-/// So heavy components stand next to one another as far as may be, and whole shares can be made of them.
+/// The components in the order in which they are dealt out. What a component reads comes before it. First come all that
+/// read no heavy component, which weighs more than `heavy`; then the heavy ones among them; then those that read these,
+/// and so on. So heavy components stand next to one another as far as may be, and whole shares can be made of them.
 pub(crate) fn in_order(
     alloc: Global,
     netlist: &Netlist,

@@ -15,8 +15,8 @@ pub(crate) struct Owners {
     pub count: u32,
 }
 
-/// Fills one share after another with components, up to the limit, but the last of `most`, which gets all that are left: for
-/// each of `count` numbers of components the share, and how many shares there are.
+/// Fills one share after another with components, up to the limit, but the last of `most`, which gets all that are
+/// left: for each of `count` numbers of components the share, and how many shares there are.
 fn fill(
     alloc: Global,
     order: &[Component],

@@ -35,7 +35,8 @@ pub struct Sharing {
 fn shares_of(alloc: Global, netlist: &Netlist, owners: &Owners) -> Result<Vec<Share>, AllocError>
     requires { AreOwners netlist.now owners.now }
     ensures count { IfOk result (λ shares. length shares.items ≡ owners.now.count) }
-    ensures marks { IfOk result (λ shares. All (λ share. length share.driven.items ≡ length netlist.now.names) shares.items) }
+    ensures marks { IfOk result (λ shares.
+        All (λ share. length share.driven.items ≡ length netlist.now.names) shares.items) }
 {
     let stages = stages_of(alloc, netlist, owners)?;
     let mut shares = Vec::with_capacity(alloc, stages.len())?;
@@ -81,10 +82,10 @@ fn whole(alloc: Global, netlist: &Netlist) -> Result<Sharing, AllocError>
 /// shares never wait for each other in a ring, and each can be a window or more behind those that it reads.
 ///
 /// The strongly connected components of the netlist are put in an order in which each comes behind those that it reads,
-/// and the order is cut into as many runs of about the same weight (an acyclic partition; J. Cong, Z. Li and R. Bagrodia,
-/// *Acyclic multi-way partitioning of Boolean networks*, Design Automation Conference 1994). A run is a share. Inputs are
-/// driven by each share that reads them. Nothing is smaller than a component, so a netlist whose nets nearly all reach
-/// one another isn't cut; `pays` tells.
+/// and the order is cut into as many runs of about the same weight (an acyclic partition; J. Cong, Z. Li and
+/// R. Bagrodia, *Acyclic multi-way partitioning of Boolean networks*, Design Automation Conference 1994). A run is a
+/// share. Inputs are driven by each share that reads them. Nothing is smaller than a component, so a netlist whose nets
+/// nearly all reach one another isn't cut; `pays` tells.
 ///
 /// What comes of it is checked; where the check failed there would be one share. Work is linear, but for a factor of
 /// the logarithm and one of the shares.

@@ -42,19 +42,36 @@ impl<'a> Model for Stream<'a> {
     ghost invariant = { λ s. IsStream s.engine s.dump s.kept };
 }
 
+// The dump of a design where its engine begins, and its text as what is kept.
+fn first_text<'a>(
+    alloc: Global,
+    design: &'a Design,
+    engine: &Engine<'_>,
+) -> Result<(Dump<'a>, Kept<'a>), AllocError>
+    requires design { engine.now.design ≡ design.now }
+    requires clock { engine.now.clock ≡ 1 }
+    ensures dump { IfOk result (λ first. (first.0.design ≡ design.entry.now) × (first.0.clock ≡ 1)) }
+    ensures kept { IfOk result (λ first. (first.1.design ≡ design.entry.now) × (first.1.clock ≡ 1)) }
+    ensures given { IfOk result (λ first. first.1.given ≡ 0) }
+{
+    let dump = first_dump(alloc, design, engine)?;
+    let kept = Kept::open(alloc, design, &dump)?;
+    Ok((dump, kept))
+}
+
 impl<'a> Stream<'a> {
     /// The text up to tick 1: the declarations, and all levels at tick 0.
     pub fn open(alloc: Global, design: &'a Design) -> Result<Stream<'a>, AllocError>
         ensures design { IfOk result (λ stream. stream.design ≡ design.entry.now) }
         ensures given { IfOk result (λ stream. stream.given ≡ 0) }
     {
+        let changed = Vec::with_capacity(alloc, design.netlist().len())?;
         let engine = Engine::open(alloc, design)?;
-        let dump = first_dump(alloc, design, &engine)?;
-        let kept = Kept::open(alloc, design, &dump)?;
+        let (dump, kept) = first_text(alloc, design, &engine)?;
         Ok(Stream {
             engine,
             dump,
-            changed: Vec::with_capacity(alloc, design.netlist().len())?,
+            changed,
             kept,
         })
     }
