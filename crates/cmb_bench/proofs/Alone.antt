@@ -9,7 +9,7 @@ use Rattle.cmb_bench.specs.declared.fault.BenchFault.{BenchFault}
 use Rattle.cmb_bench.specs.declared.fault.FaultKind.{FaultKind}
 use Rattle.cmb_bench.specs.declared.fault.FaultKind.TheVariants as faults
 use Rattle.cmb_bench.specs.Text.{Lexeme, Word, name, mark, tokens_of}
-use Rattle.cmb_bench.specs.Inner.Part.{parts_of}
+use Rattle.cmb_bench.specs.Inner.Snippet.{snippets_of}
 use Rattle.cmb_bench.specs.Kinds.{is_word}
 use Rattle.cmb_bench.specs.Statement.{Statement, input, output, drive, Mention, driven_by, driven, used_by, is_member}
 use Rattle.cmb_bench.specs.declared.netlist.Driver.{Driver}
@@ -135,17 +135,17 @@ none_first ts f none h =
     let below : length h.before < length ts = omega (arith, ap length h.is, length-append h.before (h.token ∷ h.after)) in
     none h.before h.token h.after f.kind h.is below h.stands
 
-first_in : (bytes : List ℕ) (f : BenchFault) → IsFirstFault bytes f → FirstAt (tokens_of (parts_of bytes)) f ⊎ OnlyUndriven (tokens_of (parts_of bytes)) f
-first_in bytes f h = subst (λ ps. FirstAt (tokens_of ps) f ⊎ OnlyUndriven (tokens_of ps) f) (cutting_unique bytes h.parts h.cut) h.fault
+first_in : (bytes : List ℕ) (f : BenchFault) → IsFirstFault bytes f → FirstAt (tokens_of (snippets_of bytes)) f ⊎ OnlyUndriven (tokens_of (snippets_of bytes)) f
+first_in bytes f h = subst (λ ps. FirstAt (tokens_of ps) f ⊎ OnlyUndriven (tokens_of ps) f) (cutting_unique bytes h.snippets h.cut) h.fault
 
 pub never_both : (bytes : List ℕ) (c : Netlist) (f : BenchFault) → Reads bytes c → IsFirstFault bytes f → ⊥
 never_both bytes c f r h =
-    let ts = tokens_of (parts_of bytes) in
+    let ts = tokens_of (snippets_of bytes) in
     let spelled = spelled_by bytes c r in
     ⊎_elim
-    (λ first. none_first (tokens_of (parts_of bytes)) f (none_stands r.statements (tokens_of (parts_of bytes)) spelled r.lawful) first)
+    (λ first. none_first (tokens_of (snippets_of bytes)) f (none_stands r.statements (tokens_of (snippets_of bytes)) spelled r.lawful) first)
     (λ only.
-    let same = same_all r.statements only.statements (tokens_of (parts_of bytes)) (all_weaker r.statements (tokens_of (parts_of bytes)) spelled) only.spelled in
+    let same = same_all r.statements only.statements (tokens_of (snippets_of bytes)) (all_weaker r.statements (tokens_of (snippets_of bytes)) spelled) only.spelled in
     let known = built_known (driven r.statements) r.statements [] _ (means_built (driven r.statements) r.statements [] c.drivers r.meant.numbers r.meant.drivers r.meant.outputs) in
     let u = only.first in
     let yes : is_member u.mention.name (driven r.statements) ≡ true = known_at (driven r.statements) u.before u.mention u.after (subst (Known (driven r.statements)) (same.uses ∙ u.is) known) in
@@ -241,6 +241,6 @@ same_undriven ts f g h k =
 pub one_first_fault : (bytes : List ℕ) (f g : BenchFault) → IsFirstFault bytes f → IsFirstFault bytes g → f ≡ g
 one_first_fault bytes f g h k =
     ⊎_elim
-    (λ a. ⊎_elim (λ b. same_first (tokens_of (parts_of bytes)) f g a b) (λ b. absurd (none_first (tokens_of (parts_of bytes)) f b.none a)) (first_in bytes g k))
-    (λ a. ⊎_elim (λ b. absurd (none_first (tokens_of (parts_of bytes)) g a.none b)) (λ b. same_undriven (tokens_of (parts_of bytes)) f g a b) (first_in bytes g k))
+    (λ a. ⊎_elim (λ b. same_first (tokens_of (snippets_of bytes)) f g a b) (λ b. absurd (none_first (tokens_of (snippets_of bytes)) f b.none a)) (first_in bytes g k))
+    (λ a. ⊎_elim (λ b. absurd (none_first (tokens_of (snippets_of bytes)) g a.none b)) (λ b. same_undriven (tokens_of (snippets_of bytes)) f g a b) (first_in bytes g k))
     (first_in bytes f h)

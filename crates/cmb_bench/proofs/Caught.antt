@@ -7,7 +7,7 @@ use Rattle.cmb_bench.specs.declared.fault.BenchFault.{BenchFault}
 use Rattle.cmb_bench.specs.declared.fault.FaultKind.{FaultKind}
 use Rattle.cmb_bench.specs.declared.fault.FaultKind.TheVariants as faults
 use Rattle.cmb_bench.specs.declared.netlist.Cell.{Cell}
-use Rattle.cmb_bench.specs.Text.{Lexeme, Word, name, mark, Part, tokens_from, is_token, word_of, line_feeds}
+use Rattle.cmb_bench.specs.Text.{Lexeme, Word, name, mark, Snippet, tokens_from, is_token, word_of, line_feeds}
 use Rattle.cmb_bench.specs.Inner.Word.{is_bad, is_open, is_close, is_comma, is_equals, is_end, name_in}
 use Rattle.cmb_bench.specs.Kinds.{is_word, cell_of, takes_one}
 use Rattle.cmb_bench.specs.Statement.{Statement, input, output, drive, Mention, driven_by, is_member, driven}
@@ -394,7 +394,7 @@ parses_caught d names ts (s ∷ ss) mid h more e c =
     statement_clear (Caught d) (carry d) names s ts h.0 b.spelled b.lawful
     (parses_caught d (names ++ driven_by s) h.0 ss mid h.2 more (ap (λ l. statement_at l mid) (append_assoc names (driven_by s) (driven ss)) ∙ e) (statement_end s ts h.0 b.spelled c))
 
-tokens_end : (line last : ℕ) (ps : List Part) → Closed (tokens_from line last ps)
+tokens_end : (line last : ℕ) (ps : List Snippet) → Closed (tokens_from line last ps)
 tokens_end line last [] = inl refl
 tokens_end line last (p ∷ ps) = elim (is_token p.class) as (λ v. Closed (if v then record { word = word_of p.class p.bytes; line = line } ∷ tokens_from (line + line_feeds p.bytes) line ps else tokens_from (line + line_feeds p.bytes) last ps)) [ true ↦ inr (tokens_end (line + line_feeds p.bytes) line ps) | false ↦ tokens_end (line + line_feeds p.bytes) last ps ]
 
@@ -432,5 +432,5 @@ caught_first ts f h =
     }
 
 -- the fault of the first statement that can't be read is the first fault
-pub front_first : (line last : ℕ) (ps : List Part) (ss : List Statement) (mid : List Lexeme) (f : BenchFault) → Parses [] (tokens_from line last ps) ss mid → begins_more mid → statement_at (driven ss) mid ≡ Err f → FirstAt (tokens_from line last ps) f
+pub front_first : (line last : ℕ) (ps : List Snippet) (ss : List Statement) (mid : List Lexeme) (f : BenchFault) → Parses [] (tokens_from line last ps) ss mid → begins_more mid → statement_at (driven ss) mid ≡ Err f → FirstAt (tokens_from line last ps) f
 front_first line last ps ss mid f h more e = caught_first (tokens_from line last ps) f (parses_caught f [] (tokens_from line last ps) ss mid h more e (tokens_end line last ps))

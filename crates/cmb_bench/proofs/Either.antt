@@ -5,9 +5,9 @@ use Rattle.cmb_bench.specs.declared.text.Class.{Class}
 use Rattle.cmb_bench.specs.declared.text.Class.TheVariants.{White, Comment, Open, Close, Comma, Equals, Name, Bad, End}
 use Rattle.cmb_bench.specs.declared.fault.BenchFault.{BenchFault}
 use Rattle.cmb_bench.specs.declared.fault.ReadError.TheVariants as errors
-use Rattle.cmb_bench.specs.Text.{Lexeme, Word, name, mark, Part, IsPart, IsCutting, class_of, tokens_from, tokens_of, is_token, word_of, line_feeds}
+use Rattle.cmb_bench.specs.Text.{Lexeme, Word, name, mark, Snippet, IsSnippet, IsCutting, class_of, tokens_from, tokens_of, is_token, word_of, line_feeds}
 use Rattle.cmb_bench.specs.Inner.Word.{is_end}
-use Rattle.cmb_bench.specs.Inner.Part.{parts_of}
+use Rattle.cmb_bench.specs.Inner.Snippet.{snippets_of}
 use Rattle.cmb_bench.specs.Statement.{Statement, input, output, drive, Mention, driven_by, driven}
 use Rattle.cmb_bench.specs.declared.netlist.Driver.{Driver}
 use Rattle.cmb_bench.specs.Netlist.{Netlist}
@@ -46,15 +46,15 @@ not_end b bs =
     (choose (nat_eq b 61) Equals word bs refl
     (choose (nat_le 33 b && nat_le b 126) Name Bad bs refl refl))))))
 
-part_not_end : (class : Class) (bytes rest : List ℕ) → IsPart class bytes rest → is_end (word_of class bytes) ≡ false
-part_not_end class [] rest h = absurd h
-part_not_end class (b ∷ bs) rest h = subst (λ c. is_end (word_of c (b ∷ bs)) ≡ false) h.0 (not_end b (b ∷ bs))
+snippet_not_end : (class : Class) (bytes rest : List ℕ) → IsSnippet class bytes rest → is_end (word_of class bytes) ≡ false
+snippet_not_end class [] rest h = absurd h
+snippet_not_end class (b ∷ bs) rest h = subst (λ c. is_end (word_of c (b ∷ bs)) ≡ false) h.0 (not_end b (b ∷ bs))
 
-tokens_ends : (line last : ℕ) (ps : List Part) (bytes : List ℕ) → IsCutting bytes ps → Ends (tokens_from line last ps)
+tokens_ends : (line last : ℕ) (ps : List Snippet) (bytes : List ℕ) → IsCutting bytes ps → Ends (tokens_from line last ps)
 tokens_ends line last [] bytes h = inl (refl, refl)
 tokens_ends line last (p ∷ ps) bytes h =
     elim (is_token p.class) as (λ v. Ends (if v then record { word = word_of p.class p.bytes; line = line } ∷ tokens_from (line + line_feeds p.bytes) line ps else tokens_from (line + line_feeds p.bytes) last ps)) [
-      | true ↦ inr (part_not_end p.class p.bytes h.0 h.2, tokens_ends (line + line_feeds p.bytes) line ps h.0 h.3)
+      | true ↦ inr (snippet_not_end p.class p.bytes h.0 h.2, tokens_ends (line + line_feeds p.bytes) line ps h.0 h.3)
       | false ↦ tokens_ends (line + line_feeds p.bytes) last ps h.0 h.3
     ]
 
@@ -129,7 +129,7 @@ either_one bytes =
     (λ err. inr (err.0, fault_of bytes all.statements all.statements all.line (driven all.statements) (Err (errors.Fault err.0)) refl refl all.parsed err.1))
     (looked (built (driven all.statements) [] all.statements)))
     (λ stopped. inr (stopped.fault, front_fault bytes (errors.Fault stopped.fault) (stopped.statements, stopped.mid, stopped.parsed, stopped.more, stopped.stops)))
-    (read_all (length (tokens_of (parts_of bytes))) [] (tokens_of (parts_of bytes)) (omega arith) (tokens_ends 1 1 (parts_of bytes) bytes (cutting_is bytes)))
+    (read_all (length (tokens_of (snippets_of bytes))) [] (tokens_of (snippets_of bytes)) (omega arith) (tokens_ends 1 1 (snippets_of bytes) bytes (cutting_is bytes)))
 
 -- two netlists of one text have the statements that are read, so they are the same
 pub one_netlist : (bytes : List ℕ) (c d : Netlist) → Reads bytes c → Reads bytes d → c ≡ d
@@ -144,4 +144,4 @@ one_netlist bytes c d r q =
     let same : x ≡ y = ok_is (sym a.1 ∙ b.1) in
     same_netlist c d (a.0 ∙ sym b.0) (ap (λ (p : List Driver × List ℕ). p.0) same) (ap (λ (p : List Driver × List ℕ). p.1) same))
     (λ stopped. absurd (reads_never bytes c stopped.statements stopped.mid stopped.fault r stopped.parsed stopped.more stopped.stops))
-    (read_all (length (tokens_of (parts_of bytes))) [] (tokens_of (parts_of bytes)) (omega arith) (tokens_ends 1 1 (parts_of bytes) bytes (cutting_is bytes)))
+    (read_all (length (tokens_of (snippets_of bytes))) [] (tokens_of (snippets_of bytes)) (omega arith) (tokens_ends 1 1 (snippets_of bytes) bytes (cutting_is bytes)))

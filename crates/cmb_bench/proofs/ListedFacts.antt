@@ -1,7 +1,7 @@
 -- A list read token by token.
 use Rattle.std.proofs.Common.{◌≡◌, ◌∙◌, ℕ, List, [], ◌∷◌, ◌++◌, true, false, None, Some, refl, sym, ap, append_assoc, append-nil}
 use Rattle.cmb_bench.specs.declared.text.Class.TheVariants.{White, Comment, Open, Close, Comma, Equals, Name, Bad, End}
-use Rattle.cmb_bench.specs.Inner.Part.{parts_of}
+use Rattle.cmb_bench.specs.Inner.Snippet.{snippets_of}
 use Rattle.cmb_bench.specs.Inner.Scan.{behind}
 use Rattle.cmb_bench.specs.Inner.Word.{is_end}
 use Rattle.cmb_bench.specs.Listed.{HasUnknown, Lists, is_unknown, named_by, named_numbers, unknown_line}
@@ -47,20 +47,20 @@ module _ (netlist : Netlist) (s after : List Lexeme) (token : Lexeme) (is : s �
       by (name bytes) h = cc h
 
 -- all tokens were read
-pub Lists-read : (netlist : Netlist) (bytes numbers : List ℕ) (s t : List Lexeme) → s ≡ tokens_of (parts_of bytes) → unknown_line netlist s ≡ unknown_line netlist t → unknown_line netlist t ≡ None
+pub Lists-read : (netlist : Netlist) (bytes numbers : List ℕ) (s t : List Lexeme) → s ≡ tokens_of (snippets_of bytes) → unknown_line netlist s ≡ unknown_line netlist t → unknown_line netlist t ≡ None
     → numbers ++ named_numbers netlist t ≡ named_numbers netlist s → named_numbers netlist t ≡ [] → Lists netlist bytes numbers
 Lists-read netlist bytes numbers s t all known last named none = record {
-  parts = parts_of bytes;
+  snippets = snippets_of bytes;
   cut = cutting_is bytes;
   known = ap (unknown_line netlist) (sym all) ∙ known ∙ last;
   are = sym (append-nil numbers) ∙ ap (λ l. numbers ++ l) (sym none) ∙ named ∙ ap (named_numbers netlist) all;
 }
 
 -- one was read that is no net's name
-pub HasUnknown-read : (netlist : Netlist) (bytes : List ℕ) (s t : List Lexeme) (line : ℕ) → s ≡ tokens_of (parts_of bytes) → unknown_line netlist s ≡ unknown_line netlist t → unknown_line netlist t ≡ Some line
+pub HasUnknown-read : (netlist : Netlist) (bytes : List ℕ) (s t : List Lexeme) (line : ℕ) → s ≡ tokens_of (snippets_of bytes) → unknown_line netlist s ≡ unknown_line netlist t → unknown_line netlist t ≡ Some line
     → HasUnknown netlist bytes line
 HasUnknown-read netlist bytes s t line all known here = record {
-  parts = parts_of bytes;
+  snippets = snippets_of bytes;
   cut = cutting_is bytes;
   first = ap (unknown_line netlist) (sym all) ∙ known ∙ here;
 }

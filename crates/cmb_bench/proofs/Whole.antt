@@ -6,7 +6,7 @@ use Rattle.cmb_bench.specs.declared.fault.ReadError.TheVariants as errors
 use Rattle.cmb_bench.specs.declared.text.Class.TheVariants.{End}
 use Rattle.cmb_bench.specs.declared.fault.BenchFault.{BenchFault}
 use Rattle.cmb_bench.specs.Text.{Lexeme, mark, tokens_of}
-use Rattle.cmb_bench.specs.Inner.Part.{parts_of}
+use Rattle.cmb_bench.specs.Inner.Snippet.{snippets_of}
 use Rattle.cmb_bench.specs.Statement.{Statement, input, output, drive, driven_by, driven}
 use Rattle.cmb_bench.specs.declared.netlist.Driver.{Driver}
 use Rattle.cmb_bench.specs.Netlist.{Netlist}
@@ -74,27 +74,27 @@ pub no_statements : (ts : List Lexeme) (ss : List Statement) (mid : List Lexeme)
 no_statements ts ss mid f all h begins e spelled lawful = let rest = follows [] ts ss mid all h spelled lawful in never (driven ss) mid rest.more f begins e rest.spelled rest.lawful
 
 -- a text with this netlist has these statements
-pub spelled_by : (bytes : List ℕ) (c : Netlist) (r : Reads bytes c) → SpellsAll IsKind r.statements (tokens_of (parts_of bytes))
-spelled_by bytes c r = subst (λ ps. SpellsAll IsKind r.statements (tokens_of ps)) (cutting_unique bytes r.parts r.cut) r.spelled
+pub spelled_by : (bytes : List ℕ) (c : Netlist) (r : Reads bytes c) → SpellsAll IsKind r.statements (tokens_of (snippets_of bytes))
+spelled_by bytes c r = subst (λ ps. SpellsAll IsKind r.statements (tokens_of ps)) (cutting_unique bytes r.snippets r.cut) r.spelled
 
-pub reads_builds : (bytes : List ℕ) (c : Netlist) (ss : List Statement) (line : ℕ) → Reads bytes c → Parses [] (tokens_of (parts_of bytes)) ss (at (mark End) line ∷ []) → (c.names ≡ driven ss) × (built (driven ss) [] ss ≡ Ok (c.drivers, c.outputs))
+pub reads_builds : (bytes : List ℕ) (c : Netlist) (ss : List Statement) (line : ℕ) → Reads bytes c → Parses [] (tokens_of (snippets_of bytes)) ss (at (mark End) line ∷ []) → (c.names ≡ driven ss) × (built (driven ss) [] ss ≡ Ok (c.drivers, c.outputs))
 reads_builds bytes c ss line r h =
-    let same = same_statements (tokens_of (parts_of bytes)) ss r.statements line h (spelled_by bytes c r) r.lawful in
+    let same = same_statements (tokens_of (snippets_of bytes)) ss r.statements line h (spelled_by bytes c r) r.lawful in
     let built_is = means_built (driven r.statements) r.statements [] c.drivers r.meant.numbers r.meant.drivers r.meant.outputs ∙ ap (λ l. Ok (c.drivers, l)) (sym r.meant.once) in
     (r.meant.names ∙ ap driven same, ap (λ l. built (driven l) [] l) (sym same) ∙ built_is)
 
-pub reads_never : (bytes : List ℕ) (c : Netlist) (ss : List Statement) (mid : List Lexeme) (f : BenchFault) → Reads bytes c → Parses [] (tokens_of (parts_of bytes)) ss mid → begins_more mid → statement_at (driven ss) mid ≡ Err f → ⊥
-reads_never bytes c ss mid f r h begins e = no_statements (tokens_of (parts_of bytes)) ss mid f r.statements h begins e (spelled_by bytes c r) r.lawful
+pub reads_never : (bytes : List ℕ) (c : Netlist) (ss : List Statement) (mid : List Lexeme) (f : BenchFault) → Reads bytes c → Parses [] (tokens_of (snippets_of bytes)) ss mid → begins_more mid → statement_at (driven ss) mid ≡ Err f → ⊥
+reads_never bytes c ss mid f r h begins e = no_statements (tokens_of (snippets_of bytes)) ss mid f r.statements h begins e (spelled_by bytes c r) r.lawful
 
 pub same_netlist : (a b : Netlist) → a.names ≡ b.names → a.drivers ≡ b.drivers → a.outputs ≡ b.outputs → a ≡ b
 same_netlist a b names drivers outputs = λ i. record { names = names i; drivers = drivers i; outputs = outputs i }
 
-pub builds_reads : (bytes : List ℕ) (c : Netlist) (ss : List Statement) (line : ℕ) → c.names ≡ driven ss → Parses [] (tokens_of (parts_of bytes)) ss (at (mark End) line ∷ []) → built (driven ss) [] ss ≡ Ok (c.drivers, c.outputs) → Reads bytes c
+pub builds_reads : (bytes : List ℕ) (c : Netlist) (ss : List Statement) (line : ℕ) → c.names ≡ driven ss → Parses [] (tokens_of (snippets_of bytes)) ss (at (mark End) line ∷ []) → built (driven ss) [] ss ≡ Ok (c.drivers, c.outputs) → Reads bytes c
 builds_reads bytes c ss line names h e =
-    let spelled = parses_spells [] (tokens_of (parts_of bytes)) ss line h in
+    let spelled = parses_spells [] (tokens_of (snippets_of bytes)) ss line h in
     let means = built_means (driven ss) ss [] (c.drivers, c.outputs) e in
     record {
-      parts = parts_of bytes;
+      snippets = snippets_of bytes;
       cut = cutting_is bytes;
       statements = ss;
       spelled = spelled.0;
@@ -102,12 +102,12 @@ builds_reads bytes c ss line names h e =
       meant = record { names = names; drivers = means.drives; numbers = means.numbers; outputs = means.named; once = means.once };
     }
 
-pub found_of : (bytes : List ℕ) (ss given : List Statement) (line : ℕ) (names : List (List ℕ)) (r : Result Netlist ReadError) → names ≡ driven ss → given ≡ ss → Parses [] (tokens_of (parts_of bytes)) ss (at (mark End) line ∷ []) →
+pub found_of : (bytes : List ℕ) (ss given : List Statement) (line : ℕ) (names : List (List ℕ)) (r : Result Netlist ReadError) → names ≡ driven ss → given ≡ ss → Parses [] (tokens_of (snippets_of bytes)) ss (at (mark End) line ∷ []) →
     Gives (λ n. (n.drivers, n.outputs)) r (built names [] given) → IfOk r (λ n. n.names ≡ names) → IfOk r (λ n. Reads bytes n)
 found_of bytes ss given line names (Err e) names_are given_is h gives named = tt
 found_of bytes ss given line names (Ok n) names_are given_is h gives named = builds_reads bytes n ss line (named ∙ names_are) h (ap (λ l. built l [] ss) (sym names_are) ∙ ap (built names []) (sym given_is) ∙ gives)
 
-pub only_of : (bytes : List ℕ) (ss given : List Statement) (line : ℕ) (names : List (List ℕ)) (r : Result Netlist ReadError) → names ≡ driven ss → given ≡ ss → Parses [] (tokens_of (parts_of bytes)) ss (at (mark End) line ∷ []) →
+pub only_of : (bytes : List ℕ) (ss given : List Statement) (line : ℕ) (names : List (List ℕ)) (r : Result Netlist ReadError) → names ≡ driven ss → given ≡ ss → Parses [] (tokens_of (snippets_of bytes)) ss (at (mark End) line ∷ []) →
     Gives (λ n. (n.drivers, n.outputs)) r (built names [] given) → IfOk r (λ n. n.names ≡ names) → (c : Netlist) → Reads bytes c → AnswersOnly r c
 only_of bytes ss given line names (Err errors.Memory) names_are given_is h gives named c reads = tt
 only_of bytes ss given line names (Err (errors.Fault f)) names_are given_is h gives named c reads =
@@ -123,31 +123,31 @@ only_of bytes ss given line names (Ok n) names_are given_is h gives named c read
     let same : x ≡ y = ok_is (sym e ∙ b.1) in
     same_netlist n c (named ∙ names_are ∙ sym b.0) (ap (λ (p : List Driver × List ℕ). p.0) same) (ap (λ (p : List Driver × List ℕ). p.1) same)
 
-pub never_of : (bytes : List ℕ) (e : ReadError) → Fronts e (tokens_of (parts_of bytes)) → (c : Netlist) → Reads bytes c → AnswersOnly (Err e) c
+pub never_of : (bytes : List ℕ) (e : ReadError) → Fronts e (tokens_of (snippets_of bytes)) → (c : Netlist) → Reads bytes c → AnswersOnly (Err e) c
 never_of bytes errors.Memory h c reads = tt
 never_of bytes (errors.Fault f) h c reads = reads_never bytes c h.0 h.1 f reads h.2 h.3 h.4
 
-pub few_of : (bytes : List ℕ) (ss : List Statement) (line : ℕ) (names : List (List ℕ)) → names ≡ driven ss → Parses [] (tokens_of (parts_of bytes)) ss (at (mark End) line ∷ []) → length names ≤ 65535
+pub few_of : (bytes : List ℕ) (ss : List Statement) (line : ℕ) (names : List (List ℕ)) → names ≡ driven ss → Parses [] (tokens_of (snippets_of bytes)) ss (at (mark End) line ∷ []) → length names ≤ 65535
 few_of bytes ss line names names_are h =
-    let few = few_nets [] ss (parses_spells [] (tokens_of (parts_of bytes)) ss line h).1 (omega arith) in
+    let few = few_nets [] ss (parses_spells [] (tokens_of (snippets_of bytes)) ss line h).1 (omega arith) in
     omega (arith, ap length names_are, few)
 
-pub front_fault : (bytes : List ℕ) (e : ReadError) → Fronts e (tokens_of (parts_of bytes)) → IsFaulty bytes e
+pub front_fault : (bytes : List ℕ) (e : ReadError) → Fronts e (tokens_of (snippets_of bytes)) → IsFaulty bytes e
 front_fault bytes errors.Memory h = tt
-front_fault bytes (errors.Fault f) h = record { parts = parts_of bytes; cut = cutting_is bytes; fault = inl (front_first 1 1 (parts_of bytes) h.0 h.1 f h.2 h.3 h.4) }
+front_fault bytes (errors.Fault f) h = record { snippets = snippets_of bytes; cut = cutting_is bytes; fault = inl (front_first 1 1 (snippets_of bytes) h.0 h.1 f h.2 h.3 h.4) }
 
-pub fault_of : (bytes : List ℕ) (ss given : List Statement) (line : ℕ) (names : List (List ℕ)) (r : Result Netlist ReadError) → names ≡ driven ss → given ≡ ss → Parses [] (tokens_of (parts_of bytes)) ss (at (mark End) line ∷ []) →
+pub fault_of : (bytes : List ℕ) (ss given : List Statement) (line : ℕ) (names : List (List ℕ)) (r : Result Netlist ReadError) → names ≡ driven ss → given ≡ ss → Parses [] (tokens_of (snippets_of bytes)) ss (at (mark End) line ∷ []) →
     Gives (λ n. (n.drivers, n.outputs)) r (built names [] given) → IfErr r (λ e. IsFaulty bytes e)
 fault_of bytes ss given line names (Ok n) names_are given_is h gives = tt
 fault_of bytes ss given line names (Err errors.Memory) names_are given_is h gives = tt
 fault_of bytes ss given line names (Err (errors.Fault f)) names_are given_is h gives =
     let e = ap (λ l. built l [] ss) (sym names_are) ∙ ap (built names []) (sym given_is) ∙ gives in
     let missing = built_missing (driven ss) ss [] f e in
-    let spelled = parses_spells [] (tokens_of (parts_of bytes)) ss line h in
-    let only : OnlyUndriven (tokens_of (parts_of bytes)) f = record {
-      none = none_stands ss (tokens_of (parts_of bytes)) spelled.0 spelled.1;
+    let spelled = parses_spells [] (tokens_of (snippets_of bytes)) ss line h in
+    let only : OnlyUndriven (tokens_of (snippets_of bytes)) f = record {
+      none = none_stands ss (tokens_of (snippets_of bytes)) spelled.0 spelled.1;
       statements = ss;
-      spelled = all_weaker ss (tokens_of (parts_of bytes)) spelled.0;
+      spelled = all_weaker ss (tokens_of (snippets_of bytes)) spelled.0;
       first = record { before = missing.before; mention = missing.mention; after = missing.after; is = missing.is; earlier = missing.earlier; missing = missing.missing; fault = missing.fault };
     } in
-    record { parts = parts_of bytes; cut = cutting_is bytes; fault = inr only }
+    record { snippets = snippets_of bytes; cut = cutting_is bytes; fault = inr only }

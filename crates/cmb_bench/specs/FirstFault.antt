@@ -8,7 +8,7 @@ use Rattle.cmb_bench.specs.declared.fault.BenchFault.{BenchFault}
 use Rattle.cmb_bench.specs.declared.fault.FaultKind.{FaultKind}
 use Rattle.cmb_bench.specs.declared.fault.FaultKind.TheVariants as faults
 use Rattle.cmb_bench.specs.declared.netlist.Cell.{Cell}
-use Rattle.cmb_bench.specs.Text.{Part, IsCutting, Lexeme, name, mark, tokens_of}
+use Rattle.cmb_bench.specs.Text.{Snippet, IsCutting, Lexeme, name, mark, tokens_of}
 use Rattle.cmb_bench.specs.Kinds.{is_word, cell_of, takes_one}
 use Rattle.cmb_bench.specs.Statement.{Statement, Mention, used_by, is_member, driven}
 use Rattle.cmb_bench.specs.Grammar.{at, said, Spells, SpellsAll}
@@ -131,9 +131,9 @@ pub record OnlyUndriven (tokens : List Lexeme) (f : BenchFault) : Type 0 where
 
 -- the first fault of the bytes
 pub record IsFirstFault (bytes : List ℕ) (f : BenchFault) : Type 0 where
-  pub parts : List Part
-  pub cut : IsCutting bytes parts
-  pub fault : FirstAt (tokens_of parts) f ⊎ OnlyUndriven (tokens_of parts) f
+  pub snippets : List Snippet
+  pub cut : IsCutting bytes snippets
+  pub fault : FirstAt (tokens_of snippets) f ⊎ OnlyUndriven (tokens_of snippets) f
 
 -- what is answered where memory runs out
 abbrev pub out_of_memory : BenchFault

@@ -1,5 +1,5 @@
 -- What the functions inside the crate promise each other: reading from left to right. No public contract cites it.
-pub mod Part
+pub mod Snippet
 pub mod Word
 pub mod Scan
 pub mod Views

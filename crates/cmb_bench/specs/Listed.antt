@@ -4,7 +4,7 @@ use Rattle.cmb_bench.specs.declared.listed.ListFault.{ListFault}
 use Rattle.cmb_bench.specs.declared.listed.ListFault.TheVariants.{Memory, Unknown}
 use Rattle.cmb_bench.specs.declared.text.Class.TheVariants.{End}
 use Rattle.cmb_bench.specs.Netlist.{Netlist, number_of}
-use Rattle.cmb_bench.specs.Text.{IsCutting, Lexeme, Part, Word, mark, name, tokens_of}
+use Rattle.cmb_bench.specs.Text.{IsCutting, Lexeme, Snippet, Word, mark, name, tokens_of}
 
 -- a token that is no net's name; the end of the list isn't meant as one
 abbrev pub is_unknown : Netlist → Word → Bool
@@ -33,16 +33,16 @@ named_numbers netlist (token ∷ tokens) = with_number (named_by netlist token.w
 
 -- each token of the text is the name of a net, and these are the nets' numbers, in the order of the text
 pub record Lists (netlist : Netlist) (bytes numbers : List ℕ) : Type 0 where
-  pub parts : List Part
-  pub cut : IsCutting bytes parts
-  pub known : unknown_line netlist (tokens_of parts) ≡ None
-  pub are : numbers ≡ named_numbers netlist (tokens_of parts)
+  pub snippets : List Snippet
+  pub cut : IsCutting bytes snippets
+  pub known : unknown_line netlist (tokens_of snippets) ≡ None
+  pub are : numbers ≡ named_numbers netlist (tokens_of snippets)
 
 -- the first token of the text that is no net's name stands on this line
 pub record HasUnknown (netlist : Netlist) (bytes : List ℕ) (line : ℕ) : Type 0 where
-  pub parts : List Part
-  pub cut : IsCutting bytes parts
-  pub first : unknown_line netlist (tokens_of parts) ≡ Some line
+  pub snippets : List Snippet
+  pub cut : IsCutting bytes snippets
+  pub first : unknown_line netlist (tokens_of snippets) ≡ Some line
 
 -- why a text is no list of nets: memory aside, a token that is no net's name
 abbrev pub IsRefused : Netlist → List ℕ → ListFault → Type 0

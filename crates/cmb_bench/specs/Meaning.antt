@@ -5,7 +5,7 @@ use Rattle.std.specs.Str.{bytes_eq}
 use Rattle.indexmap.specs.IndexSet.{insert_all}
 use Rattle.cmb_bench.specs.declared.netlist.Cell.{Cell}
 use Rattle.cmb_bench.specs.declared.netlist.Cell.TheVariants as cells
-use Rattle.cmb_bench.specs.Text.{Part, IsCutting, tokens_of}
+use Rattle.cmb_bench.specs.Text.{Snippet, IsCutting, tokens_of}
 use Rattle.cmb_bench.specs.Kinds.{cell_of}
 use Rattle.cmb_bench.specs.Statement.{Statement, input, output, drive, Mention, driven}
 use Rattle.cmb_bench.specs.declared.netlist.Driver.{Driver}
@@ -57,9 +57,9 @@ IsKind word cell = cell_of word ≡ Some cell
 -- The bytes spell this netlist: their tokens are those of a list of lawful statements, which mean it. A bad byte is no token of a
 -- statement, so there is none.
 pub record Reads (bytes : List ℕ) (netlist : Netlist) : Type 0 where
-  pub parts : List Part
-  pub cut : IsCutting bytes parts
+  pub snippets : List Snippet
+  pub cut : IsCutting bytes snippets
   pub statements : List Statement
-  pub spelled : SpellsAll IsKind statements (tokens_of parts)
+  pub spelled : SpellsAll IsKind statements (tokens_of snippets)
   pub lawful : AreLawful [] statements
   pub meant : Means statements netlist

@@ -5,12 +5,12 @@ ghost use Rattle.cmb_bench.specs.declared.fault.BenchFault.{BenchFault};
 ghost use Rattle.cmb_bench.specs.Netlist.{Netlist, IsNetlist, name_of, number_of};
 ghost use Rattle.cmb_bench.specs.Meaning.{Reads};
 ghost use Rattle.cmb_bench.specs.FirstFault.{IsFirstFault};
-ghost use Rattle.cmb_bench.specs.Text.{Part, IsCutting};
+ghost use Rattle.cmb_bench.specs.Text.{Snippet, IsCutting};
 
-/// Each text has one cutting into parts, and no other.
+/// Each text has one cutting into snippets, and no other.
 pub fn one_cutting()
-    ensures { (bytes : List ℕ) → (parts : List Part) × IsCutting bytes parts
-        × ((others : List Part) → IsCutting bytes others → others ≡ parts) }
+    ensures { (bytes : List ℕ) → (snippets : List Snippet) × IsCutting bytes snippets
+        × ((others : List Snippet) → IsCutting bytes others → others ≡ snippets) }
 {}
 
 /// Each text spells a netlist or has a first fault.

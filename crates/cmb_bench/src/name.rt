@@ -12,6 +12,27 @@ use std::alloc::{AllocError, Global};
 use std::hash::{Hash, Hasher};
 use std::marker::Model;
 
+/// Up to how many bytes names are compared byte by byte.
+const SHORT: usize = 16;
+
+// Whether two texts have the same bytes. Most names are so short that a comparison of many bytes at once doesn't pay.
+fn are_same(a: &[u8], b: &[u8]) -> bool
+    ensures { result ≡ bytes_eq a.now b.now }
+{
+    if a.len() != b.len() {
+        return false;
+    }
+    if a.len() > SHORT {
+        return a == b;
+    }
+    for i in 0..a.len() {
+        if a[i] != b[i] {
+            return false;
+        }
+    }
+    true
+}
+
 /// A name, as its bytes. Up to 16 of them need no memory of their own.
 #[derive(Drop)]
 pub struct Name {
@@ -107,6 +128,6 @@ impl<'a> Equivalent<Name> for Spelled<'a> {
     ghost respects_eq = { λ a. nat_list_eq_equiv.congr a.bytes.now };
 
     fn equivalent(&self, key: &Name) -> bool {
-        self.bytes == key.as_bytes()
+        are_same(self.bytes, key.as_bytes())
     }
 }

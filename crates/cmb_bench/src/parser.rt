@@ -11,7 +11,7 @@ ghost use Rattle.cmb_bench.specs.Inner.Reading.{statement_at};
 ghost use Rattle.cmb_bench.specs.Statement.{driven_by, is_member, driven};
 ghost use Rattle.cmb_bench.specs.Inner.Building.{Stops};
 ghost use Rattle.cmb_bench.specs.Text.{tokens_of};
-ghost use Rattle.cmb_bench.specs.Inner.Part.{parts_of};
+ghost use Rattle.cmb_bench.specs.Inner.Snippet.{snippets_of};
 
 use crate::fault::{BenchFault, FaultKind, ReadError};
 use crate::kinds::{cell_named, is_word, takes_one};
@@ -334,7 +334,7 @@ fn likely_statements(bytes: &[u8]) -> usize {
 /// Reads the statements of a text.
 pub fn parse(alloc: Global, bytes: &[u8]) -> Result<Parsed<'_>, ReadError>
     requires { length bytes.now ≤ MAX_TEXT }
-    ensures read { Stops (λ p. map statement p.items.items) result (tokens_of (parts_of bytes.now)) }
+    ensures read { Stops (λ p. map statement p.items.items) result (tokens_of (snippets_of bytes.now)) }
     ensures names { IfOk result (λ p. p.names.keys ≡ driven (map statement p.items.items)) }
 {
     let mut cursor = Cursor::new(bytes);

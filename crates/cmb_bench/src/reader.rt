@@ -13,16 +13,6 @@ use crate::netlist::Netlist;
 use crate::parser::{Parsed, parse};
 use std::alloc::Global;
 
-/// The size of a large block, in bytes.
-const LARGE: usize = 8_388_608;
-
-// Takes a large block and gives it back at once. An allocator that maps large blocks apart, as glibc's, then keeps
-// blocks of up to this size among the others, where they are used again. Where it is refused nothing is lost: it is a
-// matter of speed alone.
-fn take_and_give_back(alloc: Global) {
-    let _ = Vec::<u8>::with_capacity(alloc, LARGE);
-}
-
 // Statement by statement, and then what the statements mean.
 fn read(alloc: Global, bytes: &[u8]) -> Result<Netlist, ReadError>
     requires { length bytes.now ≤ MAX_TEXT }
@@ -30,7 +20,6 @@ fn read(alloc: Global, bytes: &[u8]) -> Result<Netlist, ReadError>
     ensures only { (c : Netlist) → Reads bytes.now c → AnswersOnly result c }
     ensures fault { IfErr result (λ e. IsFaulty bytes.now e) }
 {
-    take_and_give_back(alloc);
     let Parsed { items, names } = parse(alloc, bytes)?;
     build(alloc, names, &items)
 }

@@ -3,10 +3,10 @@ ghost use Rattle.std.specs.Prelude.{◌≡◌, ℕ, ◌+◌, ◌^◌, ◌<◌, �
 ghost use Rattle.std.specs.Prelude.{MatchOption, IfSome};
 ghost use Rattle.cmb_bench.specs.declared.text.Class.TheVariants.{End};
 ghost use Rattle.cmb_bench.specs.Text.{class_of, continues, is_token, line_feeds};
-ghost use Rattle.cmb_bench.specs.Inner.Part.{parts_of};
+ghost use Rattle.cmb_bench.specs.Inner.Snippet.{snippets_of};
 
-/// What a byte is at the front of a part of the text. A token has the class of its first byte, and `End` stands at the
-/// end of input.
+/// What a byte is at the front of a snippet of the text. A token has the class of its first byte, and `End` stands at
+/// the end of input.
 #[derive(Clone, Copy)]
 pub enum Class {
     White,
@@ -59,7 +59,7 @@ fn class_of(byte: u8) -> Class
     }
 }
 
-/// Whether a part of this class goes on with this byte.
+/// Whether a snippet of this class goes on with this byte.
 #[inline(always)]
 fn continues(class: Class, byte: u8) -> bool
     ensures { result ≡ continues class byte }
@@ -71,7 +71,7 @@ fn continues(class: Class, byte: u8) -> bool
     }
 }
 
-/// With how many bytes from the front a part of this class goes on.
+/// With how many bytes from the front a snippet of this class goes on.
 fn run_len(bytes: &[u8], class: Class) -> usize
     ensures within { result ≤ length bytes.now }
     ensures before { (k : ℕ) → k < result → continues class (slice_index bytes.now k) ≡ true }
@@ -95,19 +95,19 @@ fn is_token(class: Class) -> bool
     }
 }
 
-/// The part of a text that comes first, and what follows it.
+/// The snippet of a text that comes first, and what follows it.
 #[derive(Clone, Copy)]
-struct Piece<'a> {
+struct Snippet<'a> {
     class: Class,
     text: &'a [u8],
     line_feeds: u32,
     rest: &'a [u8],
 }
 
-/// The first part of a text.
-fn first_piece(bytes: &[u8]) -> Option<Piece<'_>>
-    ensures part { MatchOption result (bytes.now ≡ []) (λ p.
-        parts_of bytes.now ≡ record { class = p.class; bytes = p.text.now } ∷ parts_of p.rest.now) }
+/// The first snippet of a text.
+fn first_snippet(bytes: &[u8]) -> Option<Snippet<'_>>
+    ensures snippet { MatchOption result (bytes.now ≡ []) (λ p.
+        snippets_of bytes.now ≡ record { class = p.class; bytes = p.text.now } ∷ snippets_of p.rest.now) }
     ensures line_feeds { IfSome result (λ p. p.line_feeds ≡ line_feeds p.text.now) }
     ensures shorter { IfSome result (λ p. length p.rest.now < length bytes.now) }
     ensures fits { IfSome result (λ p. p.line_feeds + length p.rest.now ≤ length bytes.now) }
@@ -118,7 +118,7 @@ fn first_piece(bytes: &[u8]) -> Option<Piece<'_>>
     let len = run_len(after, class);
     let (text, rest) = bytes.split_at(1 + len);
     let line_feeds = if *first == b'\n' { 1 } else { 0 };
-    Some(Piece {
+    Some(Snippet {
         class,
         text,
         line_feeds,
@@ -206,12 +206,12 @@ impl<'a> Cursor<'a> {
     ghost use Rattle.cmb_bench.specs.declared.text.Class.TheVariants.{End};
     ghost use Rattle.cmb_bench.specs.Text.{tokens_of};
     ghost use Rattle.cmb_bench.specs.Inner.Word.{is_end};
-    ghost use Rattle.cmb_bench.specs.Inner.Part.{parts_of};
+    ghost use Rattle.cmb_bench.specs.Inner.Snippet.{snippets_of};
     ghost use Rattle.cmb_bench.specs.Inner.Scan.{scan, lexeme, behind};
 
     #[tactic(auto, unfolding(crate::specs::Inner::Scan::scan))]
     pub fn new(text: &'a [u8]) -> Self
-        ensures tokens { scan result ≡ tokens_of (parts_of text.now) }
+        ensures tokens { scan result ≡ tokens_of (snippets_of text.now) }
         ensures whole { result.rest.now ≡ text.now }
         ensures line { result.line ≡ 1 }
     {
@@ -231,15 +231,15 @@ impl<'a> Cursor<'a> {
         ensures shorter { length self.new.rest.now ≤ length self.old.rest.now }
         ensures goes { is_end (lexeme result).word ≡ false → length self.new.rest.now < length self.old.rest.now }
     {
-        while let Some(piece) = first_piece(self.rest) {
+        while let Some(snippet) = first_snippet(self.rest) {
             let line = self.line;
-            self.line += piece.line_feeds;
-            self.rest = piece.rest;
-            if is_token(piece.class) {
+            self.line += snippet.line_feeds;
+            self.rest = snippet.rest;
+            if is_token(snippet.class) {
                 self.last = line;
                 return Token {
-                    class: piece.class,
-                    text: piece.text,
+                    class: snippet.class,
+                    text: snippet.text,
                     line,
                 };
             }

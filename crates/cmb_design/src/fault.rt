@@ -2,68 +2,50 @@
 
 ghost use Rattle.std.specs.Prelude.{◌≡◌};
 
-use thiserror::Error;
+use std::error::Error;
+use std::fmt;
 
 /// Why a table, the settings or the rows make no design. A fault of a table or of its rows holds the number of the
 /// record at which it stands; the header is record 1.
-#[derive(Clone, Copy, Debug, PartialEq, Eq, Error)]
+#[derive(Clone, Copy, Debug, PartialEq, Eq)]
 pub enum DesignFault {
     /// 20: the horizon isn't 1 to 1,000,000 ticks.
-    #[error("the horizon isn't 1 to 1,000,000")]
     Horizon,
     /// 21: the common clock's first tick is above 1,000,000, or its period isn't 1 to 1,000,000 ticks.
-    #[error("the common clock's first tick is above 1,000,000, or its period isn't 1 to 1,000,000")]
     Clock,
     /// 22: a flip-flop has no clock row, and no common clock is given.
-    #[error("a flip-flop has no clock row, and there is no common clock")]
     NoClock,
     /// 23: the first record isn't the table's header.
-    #[error("record {0}: not the table's header")]
     Header(u32),
     /// 24: a record hasn't three fields.
-    #[error("record {0}: not three fields")]
     Fields(u32),
     /// 25: a number isn't 1 to 10 digits.
-    #[error("record {0}: a number is 1 to 10 digits")]
     Number(u32),
     /// 26: the netlist hasn't the net.
-    #[error("record {0}: the netlist hasn't this net")]
     UnknownNet(u32),
     /// 27: a delay row is by none of `kind`, `net` and `pin`, or its kind is none.
-    #[error("record {0}: no such kind")]
     UnknownKind(u32),
     /// 28: the delay isn't 1 to 1,000,000 ticks.
-    #[error("record {0}: the delay isn't 1 to 1,000,000")]
     DelayRange(u32),
     /// 29: an earlier row is about the same kind, net, pin, or net and tick.
-    #[error("record {0}: an earlier row is about the same")]
     RepeatedRow(u32),
     /// 30: a stimulus is of a net that is no input.
-    #[error("record {0}: the net isn't an input")]
     NotInput(u32),
     /// 31: a value isn't 0, 1, x or X.
-    #[error("record {0}: a value is 0, 1, x or X")]
     Level(u32),
     /// 32: an input has no delay.
-    #[error("record {0}: an input has no delay")]
     DelayOfInput(u32),
     /// 33: the table of all levels would have more than 16,777,216 cells.
-    #[error("the table of all levels would have more than 16,777,216 cells")]
     TableTooLarge,
     /// 34: the name of a pin isn't a net's name, `:` and a number.
-    #[error("record {0}: a pin's name is a net's name, a colon and a number")]
     PinName(u32),
     /// 35: the net has no such pin.
-    #[error("record {0}: the net has no such pin")]
     NoPin(u32),
     /// 36: the first tick is above 1,000,000, or the period isn't 1 to 1,000,000 ticks.
-    #[error("record {0}: the first tick is above 1,000,000, or the period isn't 1 to 1,000,000")]
     ClockRange(u32),
     /// 37: a clock is of a net that no flip-flop drives.
-    #[error("record {0}: the net isn't driven by a flip-flop")]
     NotFlop(u32),
     /// 70: memory ran out. This is no fault of the inputs.
-    #[error("out of memory")]
     Memory,
 }
 
@@ -123,4 +105,46 @@ impl DesignFault {
             | DesignFault::NotFlop(record) => *record,
         }
     }
+
+    // What is wrong, without the record.
+    fn words(&self) -> &'static str {
+        match self {
+            DesignFault::Horizon => "the horizon isn't 1 to 1,000,000",
+            DesignFault::Clock => {
+                "the common clock's first tick is above 1,000,000, or its period isn't 1 to 1,000,000"
+            }
+            DesignFault::NoClock => "a flip-flop has no clock row, and there is no common clock",
+            DesignFault::Header(_) => "not the table's header",
+            DesignFault::Fields(_) => "not three fields",
+            DesignFault::Number(_) => "a number is 1 to 10 digits",
+            DesignFault::UnknownNet(_) => "the netlist hasn't this net",
+            DesignFault::UnknownKind(_) => "no such kind",
+            DesignFault::DelayRange(_) => "the delay isn't 1 to 1,000,000",
+            DesignFault::RepeatedRow(_) => "an earlier row is about the same",
+            DesignFault::NotInput(_) => "the net isn't an input",
+            DesignFault::Level(_) => "a value is 0, 1, x or X",
+            DesignFault::DelayOfInput(_) => "an input has no delay",
+            DesignFault::TableTooLarge => {
+                "the table of all levels would have more than 16,777,216 cells"
+            }
+            DesignFault::PinName(_) => "a pin's name is a net's name, a colon and a number",
+            DesignFault::NoPin(_) => "the net has no such pin",
+            DesignFault::ClockRange(_) => {
+                "the first tick is above 1,000,000, or the period isn't 1 to 1,000,000"
+            }
+            DesignFault::NotFlop(_) => "the net isn't driven by a flip-flop",
+            DesignFault::Memory => "out of memory",
+        }
+    }
 }
+
+impl fmt::Display for DesignFault {
+    fn fmt<W: fmt::Write>(&self, f: &mut fmt::Formatter<W>) -> fmt::Result {
+        match self.record() {
+            0 => f.write_str(self.words()),
+            record => write!(f, "record {record}: {}", self.words()),
+        }
+    }
+}
+
+impl Error for DesignFault {}

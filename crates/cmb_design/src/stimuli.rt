@@ -1,6 +1,7 @@
 //! The changes of input nets, from the rows of their stimuli.
 
-ghost use Rattle.std.specs.Prelude.{◌≡◌, ◌+◌, ◌<◌, ◌≤◌, ◌⊎◌, length, take, map, Some, IfOk, IfErr, OnOk};
+ghost use Rattle.std.specs.Prelude.{◌≡◌, ◌+◌, ◌<◌, ◌≤◌, ◌⊎◌, length, take, map, Some, IfOk, IfErr, MatchOption, OnOk};
+ghost use Rattle.cmb_bench.specs.Netlist.{number_of};
 ghost use Rattle.cmb_wave.specs.Waveform.{changes_between};
 ghost use Rattle.cmb_design.specs.Checks.{checks_at, first_fault, rows_checks};
 ghost use Rattle.cmb_design.specs.declared.fault.DesignFault.TheVariants as fault;
@@ -13,14 +14,27 @@ use crate::fault::DesignFault;
 use crate::nets::is_input_driver;
 use crate::rows::StimulusRow;
 use crate::told::{ALL_TICKS, Told, add_level, settle};
-use cmb_bench::{MAX_TEXT, Netlist};
+use cmb_bench::{MAX_NETS, MAX_TEXT, Netlist};
 use std::alloc::{AllocError, Global};
 
+// The number of the net with a name. The net that is likely to have it is asked first, which spares the search.
+fn number_of(netlist: &Netlist, name: &[u8], likely: usize) -> Option<usize>
+    ensures value { result ≡ number_of netlist.now name.now }
+    ensures below { MatchOption result (Unit {0}) (λ net. (net < length netlist.now.names) × (net < MAX_NETS)) }
+{
+    if likely < netlist.len() && netlist.name(likely) == name {
+        return Some(likely);
+    }
+    netlist.number(name)
+}
+
+// Tables go through the nets in order, mostly: the net after that of a row is likely to be that of the next.
 fn take_stimulus(
     alloc: Global,
     netlist: &Netlist,
     rows: &[StimulusRow],
     i: usize,
+    likely: &mut usize,
     table: &mut Vec<Told>,
 ) -> Result<(), DesignFault>
     requires within { i < length rows.now }
@@ -33,9 +47,10 @@ fn take_stimulus(
 {
     let row = &rows[i];
     let number = i as u32 + 2;
-    let Some(net) = netlist.number(row.net.as_bytes()) else {
+    let Some(net) = number_of(netlist, row.net.as_bytes(), *likely) else {
         return Err(DesignFault::UnknownNet(number));
     };
+    *likely = net + 1;
     let old = add_level(alloc, &mut table[net], row.tick, row.level)?;
     if old.is_some() {
         return Err(DesignFault::RepeatedRow(number));
@@ -71,8 +86,9 @@ fn take_stimuli(
     let Ok(mut table) = no_levels(alloc, netlist.len()) else {
         return Err(DesignFault::Memory);
     };
+    let mut likely = 0;
     for i in 0..rows.len() {
-        take_stimulus(alloc, netlist, rows, i, &mut table)?;
+        take_stimulus(alloc, netlist, rows, i, &mut likely, &mut table)?;
     }
     Ok(table)
 }

@@ -64,6 +64,11 @@ fn take_record<T: TableRow>(
     }
 }
 
+// About how many rows a text has, at most; 12 bytes are a short row. It is a matter of room alone, and may be wrong.
+fn likely_rows(text: &[u8]) -> usize {
+    text.len() / 12
+}
+
 /// Reads a table.
 pub(crate) fn read_table<T: TableRow>(alloc: Global, text: &[u8]) -> Result<Vec<T>, DesignFault>
     requires { length text.now ≤ MAX_TEXT }
@@ -74,7 +79,9 @@ pub(crate) fn read_table<T: TableRow>(alloc: Global, text: &[u8]) -> Result<Vec<
 {
     let mut reader = open_records(alloc, text);
     let mut row = ByteRecord::new(alloc);
-    let mut rows = Vec::new(alloc);
+    let Ok(mut rows) = Vec::with_capacity(alloc, likely_rows(text)) else {
+        return Err(DesignFault::Memory);
+    };
     for number in 1..u32::MAX {
         match next_record(&mut reader, &mut row) {
             Err(_) => return Err(DesignFault::Memory),

@@ -17,7 +17,9 @@ use Rattle.cmb_engine.specs.Ahead.{TellsAhead}
 use Rattle.cmb_engine.specs.Cells.{cell_at, is_made, IsSteadyFrom}
 use Rattle.cmb_engine.specs.Circuits.{MeetsCells, Shows}
 use Rattle.cmb_engine.specs.Engines.{window_end}
+use Rattle.cmb_engine.specs.Gifts.{AreGiven}
 use Rattle.cmb_engine.specs.Lines.{IsAhead, IsOfLine, NotesEach}
+use Rattle.cmb_engine.specs.Roles.{AreToldNets, gives, level_in}
 use Rattle.cmb_engine.specs.States.{IsCircuit, IsState}
 use Rattle.cmb_engine.specs.Tells.{AreOfWindow}
 use Rattle.cmb_engine.specs.Traces.{trace_of}
@@ -25,6 +27,8 @@ use Rattle.cmb_engine.specs.Words.{levels_of}
 use Rattle.cmb_engine.specs.declared.circuit.Circuit.{Circuit}
 use Rattle.cmb_engine.specs.declared.state.State.{State}
 use Rattle.cmb_engine.proofs.CollectFacts.{HasWord, collected-tells}
+use Rattle.cmb_engine.proofs.GivenFacts.{given-traced}
+use Rattle.cmb_engine.proofs.RoleFacts.{given-inside, given-other}
 use Rattle.cmb_engine.proofs.SlotFacts.{trace-net, shown-last, shows-nets}
 use Rattle.cmb_engine.proofs.ToldFacts.{taken-tells, taken-ahead, noted-tells}
 use Rattle.cmb_engine.proofs.WordFacts.{levels_of-read}
@@ -35,12 +39,18 @@ module _ (design : Design) (circuit : Circuit) (state : State) (is_circuit : IsC
   has-word net small = omega (arith, small, is_circuit.plan.count, is_state.slots)
 
   -- in the last place of a net's word is its level at the last tick that is known
-  pub level-known : (net : ℕ) (word : Word) → net < nets_of design → word ≡ get_or state.words.items net word → level_at_place word 63 ≡ value design net (state.clock - 1)
+  pub level-known : (net : ℕ) (word : Word) → net < nets_of design → word ≡ get_or state.words.items net word → level_at_place word 63 ≡ level_in design circuit.wiring.roles.items net (state.clock - 1)
   level-known net word small is =
       sym (levels_of-read state.words.items net word 63 (has-word net small) is)
-      ∙ shown-last (levels_of state.words.items) (trace_of design circuit.lines.items) (length circuit.wiring.cells) state.clock net is_state.shows
+      ∙ shown-last (levels_of state.words.items) (trace_of design circuit.wiring.roles.items circuit.lines.items) (length circuit.wiring.cells) state.clock net is_state.shows
       (omega (arith, has-word net small, is_state.slots)) is_state.begun
-      ∙ trace-net design circuit.lines.items net (state.clock - 1) small
+      ∙ trace-net design circuit.wiring.roles.items circuit.lines.items net (state.clock - 1) small
+
+  -- a given net is a slot whose word no cell makes
+  pub gift-slots : AreToldNets circuit.wiring.cells circuit.wiring.roles.items
+  gift-slots slot gift =
+      let inside : slot < nets_of design = omega (arith, given-inside circuit.wiring.roles.items slot gift, is_circuit.roles.few) in
+      (omega (arith, inside, is_circuit.plan.count), is_circuit.plan.others slot inside (given-other circuit.wiring.roles.items slot gift))
 
   -- a window of the next day's ticks, of which the tells were taken out
   module _ (between : Calendar) (taken : List Tell) (to : ℕ) (below : state.clock < design.horizon) (ends : to ≡ min (day_end state.calendar) state.calendar.horizon)
@@ -77,9 +87,9 @@ module _ (design : Design) (circuit : Circuit) (state : State) (is_circuit : IsC
     place : to + (64 - (to - state.clock)) ≡ state.clock + 64
     place = omega (arith, later, short, is_circuit.plan.fits)
 
-    pub window-tells : AreInOrder taken → AreOfWindow (trace_of design circuit.lines.items) (cell_at circuit.wiring.cells) (length circuit.wiring.cells) state.clock to taken
+    pub window-tells : AreInOrder taken → AreOfWindow (trace_of design circuit.wiring.roles.items circuit.lines.items) (cell_at circuit.wiring.cells) (gives circuit.wiring.roles.items) (length circuit.wiring.cells) state.clock to taken
     window-tells =
-        taken-tells design circuit.lines.items circuit.wiring.most circuit.width circuit.wiring.cells is_circuit.plan state.calendar between taken state.clock to
+        taken-tells design circuit.wiring.roles.items circuit.lines.items circuit.wiring.most circuit.width circuit.wiring.cells is_circuit.plan state.calendar between taken state.clock to
         (64 - (to - state.clock)) is_state.ahead is_state.begun below ends-soon place takes
 
     pub told-slots : AreInOrder taken → (tell : Tell) → Contains taken tell
@@ -92,44 +102,47 @@ module _ (design : Design) (circuit : Circuit) (state : State) (is_circuit : IsC
     back = omega (arith, later)
 
     -- words that went on by the window show what the slots show up to its end
-    pub next-shows : (old new : List Word) (tells : List Tell) → old ≡ state.words.items → tells ≡ taken → AreInOrder taken
+    pub next-shows : (old new : List Word) (tells : List Tell) (given : List Changed) → AreGiven (value design) circuit.wiring.roles.items state.clock to given → old ≡ state.words.items → tells ≡ taken → AreInOrder taken
         → ((trace : ℕ → ℕ → Level) → MeetsCells trace (cell_at circuit.wiring.cells) → Shows (levels_of old) trace (length old) (to - (to - state.clock))
-        → AreOfWindow trace (cell_at circuit.wiring.cells) (length old) (to - (to - state.clock)) to tells → Shows (levels_of new) trace (length old) to)
-        → Shows (levels_of new) (trace_of design circuit.lines.items) (length circuit.wiring.cells) to
-    next-shows old new tells same those order shows =
-        let trace : ℕ → ℕ → Level = trace_of design circuit.lines.items in
+        → AreOfWindow trace (cell_at circuit.wiring.cells) (gives circuit.wiring.roles.items) (length old) (to - (to - state.clock)) to tells
+        → AreGiven trace circuit.wiring.roles.items (to - (to - state.clock)) to given → Shows (levels_of new) trace (length old) to)
+        → Shows (levels_of new) (trace_of design circuit.wiring.roles.items circuit.lines.items) (length circuit.wiring.cells) to
+    next-shows old new tells given gifts same those order shows =
+        let trace : ℕ → ℕ → Level = trace_of design circuit.wiring.roles.items circuit.lines.items in
         let count : length old ≡ length circuit.wiring.cells = ap length same ∙ is_state.slots in
         let known : Shows (levels_of state.words.items) trace (length state.words.items) (to - (to - state.clock)) =
         subst (λ (n : ℕ). Shows (levels_of state.words.items) trace n (to - (to - state.clock))) (sym is_state.slots)
         (subst (λ (t : ℕ). Shows (levels_of state.words.items) trace (length circuit.wiring.cells) t) (sym back) is_state.shows) in
         let before : Shows (levels_of old) trace (length old) (to - (to - state.clock)) =
         subst (λ (ws : List Word). Shows (levels_of ws) trace (length ws) (to - (to - state.clock))) (sym same) known in
-        let told : AreOfWindow trace (cell_at circuit.wiring.cells) (length circuit.wiring.cells) (to - (to - state.clock)) to tells =
-        subst (λ (t : ℕ). AreOfWindow trace (cell_at circuit.wiring.cells) (length circuit.wiring.cells) t to tells) (sym back)
-        (subst (λ (xs : List Tell). AreOfWindow trace (cell_at circuit.wiring.cells) (length circuit.wiring.cells) state.clock to xs) (sym those) (window-tells order)) in
+        let told : AreOfWindow trace (cell_at circuit.wiring.cells) (gives circuit.wiring.roles.items) (length circuit.wiring.cells) (to - (to - state.clock)) to tells =
+        subst (λ (t : ℕ). AreOfWindow trace (cell_at circuit.wiring.cells) (gives circuit.wiring.roles.items) (length circuit.wiring.cells) t to tells) (sym back)
+        (subst (λ (xs : List Tell). AreOfWindow trace (cell_at circuit.wiring.cells) (gives circuit.wiring.roles.items) (length circuit.wiring.cells) state.clock to xs) (sym those) (window-tells order)) in
         subst (λ (n : ℕ). Shows (levels_of new) trace n to) count
         (shows trace is_circuit.plan.meets before
-        (subst (λ (n : ℕ). AreOfWindow trace (cell_at circuit.wiring.cells) n (to - (to - state.clock)) to tells) (sym count) told))
+        (subst (λ (n : ℕ). AreOfWindow trace (cell_at circuit.wiring.cells) (gives circuit.wiring.roles.items) n (to - (to - state.clock)) to tells) (sym count) told)
+        (subst (λ (t : ℕ). AreGiven trace circuit.wiring.roles.items t to given) (sym back)
+        (given-traced design circuit.wiring.roles.items circuit.lines.items state.clock to given is_circuit.roles gifts)))
 
     -- and of which the words show what the slots show
-    module _ (words : List Word) (shows : Shows (levels_of words) (trace_of design circuit.lines.items) (length circuit.wiring.cells) to) (changed : List Changed)
+    module _ (words : List Word) (shows : Shows (levels_of words) (trace_of design circuit.wiring.roles.items circuit.lines.items) (length circuit.wiring.cells) to) (changed : List Changed)
         (rises : RisesWithin 0 (nets_of design) changed) (right : All (HasWord (levels_of words)) changed)
         (others : (net : ℕ) → net < nets_of design → is_among net changed ≡ false → IsSteadyFrom (levels_of words net) (64 - (to - state.clock))) where
-      pub window-changes : Tells (value design) (nets_of design) state.clock to changed
+      pub window-changes : Tells (level_in design circuit.wiring.roles.items) (nets_of design) state.clock to changed
       window-changes =
           let begins : to + (64 - (to - state.clock)) - 64 ≡ state.clock = omega (arith, place) in
-          subst (λ (from : ℕ). Tells (value design) (nets_of design) from to changed) begins
-          (collected-tells (levels_of words) (value design) (nets_of design) (nets_of design) to (64 - (to - state.clock)) changed
-          (shows-nets (levels_of words) design circuit.lines.items (length circuit.wiring.cells) to (omega (arith, is_circuit.plan.count)) shows)
+          subst (λ (from : ℕ). Tells (level_in design circuit.wiring.roles.items) (nets_of design) from to changed) begins
+          (collected-tells (levels_of words) (level_in design circuit.wiring.roles.items) (nets_of design) (nets_of design) to (64 - (to - state.clock)) changed
+          (shows-nets (levels_of words) design circuit.wiring.roles.items circuit.lines.items (length circuit.wiring.cells) to (omega (arith, is_circuit.plan.count)) shows)
           (omega arith) (omega (arith, short, is_circuit.plan.fits)) (omega (arith, place, is_state.begun)) rises right others)
 
       pub next-ahead : (new : Calendar) → NotesEach (IsOfLine changed circuit.lines.items (nets_of design) to (64 - (to - state.clock))) between new → new.width ≡ between.width
-          → new.horizon ≡ between.horizon → new.day ≡ between.day → TellsAhead design circuit.lines.items circuit.width circuit.wiring.cells to new
+          → new.horizon ≡ between.horizon → new.day ≡ between.day → TellsAhead design circuit.wiring.roles.items circuit.lines.items circuit.width circuit.wiring.cells to new
       next-ahead new noted same_width same_horizon same_day =
-          noted-tells design circuit.lines.items circuit.wiring.most circuit.width circuit.wiring.cells is_circuit.plan state.calendar between taken state.clock to
+          noted-tells design circuit.wiring.roles.items circuit.lines.items circuit.wiring.most circuit.width circuit.wiring.cells is_circuit.plan state.calendar between taken state.clock to
           (64 - (to - state.clock)) is_state.ahead is_state.begun below ends-soon place takes new changed noted same_width same_horizon same_day window-changes
 
     pub lines-ahead : All (IsAhead between to (64 - (to - state.clock))) circuit.lines.items
     lines-ahead =
-        taken-ahead design circuit.lines.items circuit.wiring.most circuit.width circuit.wiring.cells is_circuit.plan state.calendar between taken state.clock to
+        taken-ahead design circuit.wiring.roles.items circuit.lines.items circuit.wiring.most circuit.width circuit.wiring.cells is_circuit.plan state.calendar between taken state.clock to
         (64 - (to - state.clock)) is_state.ahead is_state.begun below ends-soon place takes

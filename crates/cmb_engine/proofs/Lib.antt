@@ -5,6 +5,7 @@ pub mod CellFacts
 pub mod CollectFacts
 pub mod EngineFacts
 pub mod FollowerFacts
+pub mod GivenFacts
 pub mod GroupFacts
 pub mod JoinFacts
 pub mod LineFacts
@@ -14,8 +15,10 @@ pub mod NoteFacts
 pub mod OpenFacts
 pub mod PlanFacts
 pub mod ReaderFacts
+pub mod RoleFacts
 pub mod RowFacts
 pub mod SampleFacts
+pub mod ShareFacts
 pub mod ShowFacts
 pub mod SlotFacts
 pub mod StartFacts

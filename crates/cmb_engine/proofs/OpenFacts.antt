@@ -13,18 +13,20 @@ use Rattle.cmb_engine.specs.Lines.{NotesEach}
 use Rattle.cmb_engine.specs.Starts.{IsOfInput, IsOfStart}
 use Rattle.cmb_engine.specs.Traces.{IsPlan, trace_of}
 use Rattle.cmb_engine.specs.declared.cell.Pin.{Pin}
+use Rattle.cmb_engine.specs.declared.role.Role.{Role}
 use Rattle.cmb_engine.proofs.StartFacts.{starts-told}
 
 -- windows may be narrower than a plan's
-pub narrower-plan : (design : Design) (lines : List Pin) (most width narrow : ℕ) (cells : List Cell) → 2 ≤ narrow → narrow ≤ width → IsPlan design lines most width cells
-    → IsPlan design lines most narrow cells
-narrower-plan design lines most width narrow cells some less plan = record {
+pub narrower-plan : (design : Design) (roles : List Role) (lines : List Pin) (most width narrow : ℕ) (cells : List Cell) → 2 ≤ narrow → narrow ≤ width → IsPlan design roles lines most width cells
+    → IsPlan design roles lines most narrow cells
+narrower-plan design roles lines most width narrow cells some less plan = record {
   count = plan.count;
   meets = plan.meets;
   lawful = plan.lawful;
   later = plan.later;
   inputs = plan.inputs;
   drivers = plan.drivers;
+  others = plan.others;
   told = plan.told;
   sources = λ k d inside. let parts = plan.sources k d inside in (parts.0, omega (arith, parts.1, less), parts.2);
   some = plan.some;
@@ -38,10 +40,10 @@ pub record HasDays (old new : Calendar) : Type 0 where
   pub horizon : new.horizon ≡ old.horizon
   pub day : new.day ≡ old.day
 
-module _ (design : Design) (lines : List Pin) (most width : ℕ) (cells : List Cell) (plan : IsPlan design lines most width cells) (words : ℕ → ℕ → Level)
-    (shows : Shows words (trace_of design lines) (nets_of design + length lines) 1) (empty noted started : Calendar) (none : empty.tells ≡ []) (wide : empty.width ≡ width)
+module _ (design : Design) (roles : List Role) (lines : List Pin) (most width : ℕ) (cells : List Cell) (plan : IsPlan design roles lines most width cells) (words : ℕ → ℕ → Level)
+    (shows : Shows words (trace_of design roles lines) (nets_of design + length lines) 1) (empty noted started : Calendar) (none : empty.tells ≡ []) (wide : empty.width ≡ width)
     (ends : empty.horizon ≡ design.horizon) (zero_day : empty.day ≡ 0) (first : HasDays empty noted) (second : HasDays noted started)
-    (inputs : NotesEach (IsOfInput design) empty noted) (starts : NotesEach (IsOfStart words lines (nets_of design)) noted started) where
+    (inputs : NotesEach (IsOfInput design roles) empty noted) (starts : NotesEach (IsOfStart words lines (nets_of design)) noted started) where
   day-zero : started.day ≡ 0
   day-zero = second.day ∙ first.day ∙ zero_day
 
@@ -51,7 +53,7 @@ module _ (design : Design) (lines : List Pin) (most width : ℕ) (cells : List C
   noted-below : (tell : Tell) → Contains noted.tells tell → tell.tick < design.horizon
   noted-below tell h = go ((inputs tell).0 h)
     where
-      go : Contains empty.tells tell ⊎ (IsOfInput design tell × (tell.tick < empty.horizon)) → tell.tick < design.horizon
+      go : Contains empty.tells tell ⊎ (IsOfInput design roles tell × (tell.tick < empty.horizon)) → tell.tick < design.horizon
       go (inl h) = absurd (omega (arith, h.1, ap length none))
       go (inr h) = omega (arith, h.1, ends)
 
@@ -62,7 +64,7 @@ module _ (design : Design) (lines : List Pin) (most width : ℕ) (cells : List C
       go (inl h) = noted-below tell h
       go (inr h) = omega (arith, h.1, first.horizon, ends)
 
-  pub starts-ahead : TellsAhead design lines width cells 1 started
+  pub starts-ahead : TellsAhead design roles lines width cells 1 started
   starts-ahead = record {
     same_width = has-width;
     same_horizon = second.horizon ∙ first.horizon ∙ ends;
@@ -71,5 +73,5 @@ module _ (design : Design) (lines : List Pin) (most width : ℕ) (cells : List C
         let over : day_end started ≡ (0 + 1) * started.width = ap (λ n. (n + 1) * started.width) day-zero in
         (omega (arith, begins), omega (arith, over, has-width, plan.wide));
     below = started-below;
-    told = starts-told design lines most width cells plan words shows empty noted started none ends first.horizon inputs starts;
+    told = starts-told design roles lines most width cells plan words shows empty noted started none ends first.horizon inputs starts;
   }

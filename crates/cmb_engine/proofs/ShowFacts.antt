@@ -1,5 +1,5 @@
 -- What is told of a slot in a window is what it shows.
-use Rattle.std.proofs.Common.{◌≡◌, ℕ, zero, suc, ◌+◌, ◌-◌, ◌<◌, ◌≤◌, ◌⊎◌, inl, inr, true, false, ◌&&◌, ◌==◌, List, [], ◌∷◌, length, get_or, refl, sym, ap, ap₂, ◌∙◌, arith}
+use Rattle.std.proofs.Common.{◌≡◌, ℕ, zero, suc, ◌+◌, ◌-◌, ◌<◌, ◌≤◌, ◌⊎◌, inl, inr, Bool, true, false, ◌&&◌, ◌==◌, List, [], ◌∷◌, length, get_or, refl, sym, ap, ap₂, ◌∙◌, arith}
 use Rattle.std.specs.Prelude.{nat_le, Contains, if◌then◌else◌}
 use Rattle.std.proofs.lemmas.Bool.{cases_lt, cases_eq, cases_Bool, ne_eqb, eq-eqb, eqb-true, leb-true, le-leb, lt-leb, and_parts, and_from, and_left, and_right}
 use Rattle.std.proofs.lemmas.List.Elements.{Contains-get_or, Contains-append_right, Contains-append_cases}
@@ -104,8 +104,8 @@ told-step (tell ∷ tells) slot tick level held early begun order says same =
     go (inl e) (inr k) rest = rest (λ a b. k b)
     go (inr e) _ rest = rest (λ a b. e a)
 
-module _ (trace : ℕ → ℕ → Level) (cells : ℕ → Cell) (count from upto : ℕ) (tells : List Tell) (slot : ℕ) (window : AreOfWindow trace cells count from upto tells) (begun : 1 ≤ from)
-    (inside : slot < count) (told : is_made (cells slot) ≡ false) where
+module _ (trace : ℕ → ℕ → Level) (cells : ℕ → Cell) (gives : ℕ → Bool) (count from upto : ℕ) (tells : List Tell) (slot : ℕ) (window : AreOfWindow trace cells gives count from upto tells)
+    (begun : 1 ≤ from) (inside : slot < count) (told : is_made (cells slot) ≡ false) (other : gives slot ≡ false) where
   shows-before : (tick : ℕ) → tick ≡ from - 1 → told_level tells slot (trace slot (from - 1)) tick ≡ trace slot tick
   shows-before tick is =
       told-same tells slot tick (trace slot tick) (trace slot (from - 1)) (λ tell among e l. absurd (omega (arith, (window.right tell among).1))) (ap (trace slot) (sym is))
@@ -130,7 +130,7 @@ module _ (trace : ℕ → ℕ → Level) (cells : ℕ → Cell) (count from upto
           shows-next tick (so_far l)
           (told-step tells slot (suc tick) (trace slot (suc tick)) (trace slot (from - 1)) (trace slot (from - 1)) (omega arith) window.order
           (λ tell among e t. (window.right tell among).0.level ∙ ap₂ trace e t) refl)
-          (window.all slot (suc tick) inside told l small)
+          (window.all slot (suc tick) inside told other l small)
 
   -- what is told of a slot in a window is what it shows
   pub told-shows : (tick : ℕ) → from ≤ tick → tick < upto → told_level tells slot (trace slot (from - 1)) tick ≡ trace slot tick

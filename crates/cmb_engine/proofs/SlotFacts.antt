@@ -8,26 +8,28 @@ use Rattle.cmb_design.specs.Design.{Design}
 use Rattle.cmb_design.specs.Exact.{nets_of}
 use Rattle.cmb_design.specs.Value.{delayed, value}
 use Rattle.cmb_engine.specs.Circuits.{Shows}
+use Rattle.cmb_engine.specs.Roles.{level_in}
 use Rattle.cmb_engine.specs.Tells.{reach_of}
 use Rattle.cmb_engine.specs.Traces.{line_level, trace_of}
 use Rattle.cmb_engine.specs.Windows.{in_place}
 use Rattle.cmb_engine.specs.declared.cell.Pin.{Pin}
+use Rattle.cmb_engine.specs.declared.role.Role.{Role}
 use Rattle.cmb_engine.proofs.TruthFacts.{in_place-tick}
 
-pub trace-net : (design : Design) (lines : List Pin) (slot tick : ℕ) → slot < nets_of design → trace_of design lines slot tick ≡ value design slot tick
+pub trace-net : (design : Design) (roles : List Role) (lines : List Pin) (slot tick : ℕ) → slot < nets_of design → trace_of design roles lines slot tick ≡ level_in design roles slot tick
 unfolding trace_of value
-trace-net design lines slot tick net = let e : ltb slot (nets_of design) ≡ true = lt-ltb _ _ net in rw e
+trace-net design roles lines slot tick net = let e : ltb slot (nets_of design) ≡ true = lt-ltb _ _ net in rw e
 
 -- a slot behind the nets
-pub trace-behind : (design : Design) (lines : List Pin) (slot tick : ℕ) → nets_of design ≤ slot
-    → trace_of design lines slot tick ≡ line_level design (slice_get lines (slot - nets_of design)) tick
+pub trace-behind : (design : Design) (roles : List Role) (lines : List Pin) (slot tick : ℕ) → nets_of design ≤ slot
+    → trace_of design roles lines slot tick ≡ line_level (level_in design roles) (slice_get lines (slot - nets_of design)) tick
 unfolding trace_of
-trace-behind design lines slot tick behind = let e : ltb slot (nets_of design) ≡ false = le-ltb _ _ behind in rw e refl
+trace-behind design roles lines slot tick behind = let e : ltb slot (nets_of design) ≡ false = le-ltb _ _ behind in rw e refl
 
 -- the slot of a line
-pub trace-line : (design : Design) (lines : List Pin) (slot tick : ℕ) (line : Pin) → nets_of design ≤ slot → slice_get lines (slot - nets_of design) ≡ Some line
-    → trace_of design lines slot tick ≡ delayed (value design line.net) line.delay tick
-trace-line design lines slot tick line behind is = trace-behind design lines slot tick behind ∙ ap (λ found. line_level design found tick) is
+pub trace-line : (design : Design) (roles : List Role) (lines : List Pin) (slot tick : ℕ) (line : Pin) → nets_of design ≤ slot → slice_get lines (slot - nets_of design) ≡ Some line
+    → trace_of design roles lines slot tick ≡ delayed (level_in design roles line.net) line.delay tick
+trace-line design roles lines slot tick line behind is = trace-behind design roles lines slot tick behind ∙ ap (λ found. line_level (level_in design roles) found tick) is
 
 pub reach-net : (nets : ℕ) (lines : List Pin) (horizon slot : ℕ) → slot < nets → reach_of nets lines horizon slot ≡ horizon
 unfolding reach_of
@@ -46,10 +48,10 @@ in_place-same f g to place same = go (cases_lt (to + place) 64)
     go (inr l) = let e : ltb (to + place) 64 ≡ false = le-ltb _ _ l in rw e (same (to + place - 64))
 
 -- words that show what the slots show, show the values of the nets
-pub shows-nets : (words : ℕ → ℕ → Level) (design : Design) (lines : List Pin) (count to : ℕ) → nets_of design ≤ count → Shows words (trace_of design lines) count to
-    → Shows words (value design) (nets_of design) to
-shows-nets words design lines count to fits shows slot place net small =
-    shows slot place (omega (arith, net, fits)) small ∙ in_place-same (trace_of design lines slot) (value design slot) to place (λ tick. trace-net design lines slot tick net)
+pub shows-nets : (words : ℕ → ℕ → Level) (design : Design) (roles : List Role) (lines : List Pin) (count to : ℕ) → nets_of design ≤ count → Shows words (trace_of design roles lines) count to
+    → Shows words (level_in design roles) (nets_of design) to
+shows-nets words design roles lines count to fits shows slot place net small =
+    shows slot place (omega (arith, net, fits)) small ∙ in_place-same (trace_of design roles lines slot) (level_in design roles slot) to place (λ tick. trace-net design roles lines slot tick net)
 
 -- in the last place stands the level at the last tick that is known
 pub shown-last : (words : ℕ → ℕ → Level) (level : ℕ → ℕ → Level) (count to slot : ℕ) → Shows words level count to → slot < count → 1 ≤ to → words slot 63 ≡ level slot (to - 1)

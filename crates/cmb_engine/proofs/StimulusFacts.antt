@@ -1,5 +1,5 @@
 -- What is told of inputs when an engine begins: the changes of their stimuli.
-use Rattle.std.proofs.Common.{◌≡◌, ◌≢◌, ℕ, zero, suc, ◌+◌, ◌-◌, ◌<◌, ◌≤◌, ◌⊎◌, inl, inr, List, [], ◌∷◌, ◌++◌, length, get_or, take, refl, sym, ap, ap₂, subst, ◌∙◌, arith}
+use Rattle.std.proofs.Common.{◌≡◌, ◌≢◌, ℕ, zero, suc, ◌+◌, ◌-◌, ◌<◌, ◌≤◌, ◌⊎◌, inl, inr, true, List, [], ◌∷◌, ◌++◌, length, get_or, take, refl, sym, ap, ap₂, subst, ◌∙◌, arith}
 use Rattle.std.specs.Prelude.{Contains}
 use Rattle.std.proofs.lemmas.Bool.{cases_lt}
 use Rattle.std.proofs.lemmas.List.Elements.{Contains-append_left, Contains-append_right, Contains-append_cases, Contains-push, Contains-push_cases}
@@ -15,7 +15,9 @@ use Rattle.cmb_design.specs.Design.{Design}
 use Rattle.cmb_design.specs.Exact.{nets_of}
 use Rattle.cmb_design.specs.Timing.{stimulus}
 use Rattle.cmb_engine.specs.Lines.{NotesEach}
+use Rattle.cmb_engine.specs.Roles.{drives}
 use Rattle.cmb_engine.specs.Starts.{IsOfInput, IsOfStimulus}
+use Rattle.cmb_engine.specs.declared.role.Role.{Role}
 use Rattle.cmb_engine.proofs.NoteFacts.{notes-one, notes-as, notes-more, taken-before, taken-last, taken-cases}
 
 -- a change is told of a slot
@@ -153,42 +155,43 @@ changes-are_stimulus design net old new notes =
 
 -- ---- one more net
 
-module _ (design : Design) (net : ℕ) (old between new : Calendar) (same : between.horizon ≡ old.horizon)
-    (so_far : NotesEach (λ tell. IsOfInput design tell × (tell.slot < net)) old between) where
-  pub inputs-noted : net < nets_of design → driver_of design.netlist net ≡ Input → NotesEach (IsOfStimulus design net) between new
-      → NotesEach (λ tell. IsOfInput design tell × (tell.slot < net + 1)) old new
+module _ (design : Design) (roles : List Role) (net : ℕ) (old between new : Calendar) (same : between.horizon ≡ old.horizon)
+    (so_far : NotesEach (λ tell. IsOfInput design roles tell × (tell.slot < net)) old between) where
+  pub inputs-noted : net < nets_of design → (driver_of design.netlist net ≡ Input) × (drives roles net ≡ true) → NotesEach (IsOfStimulus design net) between new
+      → NotesEach (λ tell. IsOfInput design roles tell × (tell.slot < net + 1)) old new
   inputs-noted inside is noted =
-      notes-more (λ tell. IsOfInput design tell × (tell.slot < net)) (IsOfStimulus design net) (λ tell. IsOfInput design tell × (tell.slot < net + 1)) old between new same
+      notes-more (λ tell. IsOfInput design roles tell × (tell.slot < net)) (IsOfStimulus design net) (λ tell. IsOfInput design roles tell × (tell.slot < net + 1)) old between new same
       (λ tell h. parts tell h (cases_lt tell.slot net)) (λ tell h. (h.0, omega (arith, h.1))) last so_far noted
     where
-      parts : (tell : Tell) → IsOfInput design tell × (tell.slot < net + 1) → (tell.slot < net) ⊎ (net ≤ tell.slot)
-          → (IsOfInput design tell × (tell.slot < net)) ⊎ IsOfStimulus design net tell
+      parts : (tell : Tell) → IsOfInput design roles tell × (tell.slot < net + 1) → (tell.slot < net) ⊎ (net ≤ tell.slot)
+          → (IsOfInput design roles tell × (tell.slot < net)) ⊎ IsOfStimulus design net tell
       parts tell h (inl l) = inl (h.0, l)
       parts tell h (inr l) =
           let e : tell.slot ≡ net = omega (arith, l, h.1) in
           inr (subst (λ (n : ℕ). IsOfStimulus design n tell) e h.0.change)
 
-      last : (tell : Tell) → IsOfStimulus design net tell → IsOfInput design tell × (tell.slot < net + 1)
+      last : (tell : Tell) → IsOfStimulus design net tell → IsOfInput design roles tell × (tell.slot < net + 1)
       last tell h =
-          let input : IsOfInput design tell = record {
+          let input : IsOfInput design roles tell = record {
             net = omega (arith, h.slot, inside);
-            input = ap (driver_of design.netlist) h.slot ∙ is;
+            input = ap (driver_of design.netlist) h.slot ∙ is.0;
+            driven = ap (drives roles) h.slot ∙ is.1;
             change = subst (λ (n : ℕ). IsOfStimulus design n tell) (sym h.slot) h;
           } in
           (input, omega (arith, h.slot))
 
-  pub inputs-passed : driver_of design.netlist net ≢ Input → NotesEach (λ tell. IsOfInput design tell × (tell.slot < net + 1)) old between
+  pub inputs-passed : (driver_of design.netlist net ≡ Input → drives roles net ≡ true → ⊥) → NotesEach (λ tell. IsOfInput design roles tell × (tell.slot < net + 1)) old between
   inputs-passed other =
-      notes-as (λ tell. IsOfInput design tell × (tell.slot < net)) (λ tell. IsOfInput design tell × (tell.slot < net + 1)) old between
+      notes-as (λ tell. IsOfInput design roles tell × (tell.slot < net)) (λ tell. IsOfInput design roles tell × (tell.slot < net + 1)) old between
       (λ tell h. (h.0, omega (arith, h.1))) (λ tell h. kept tell h (cases_lt tell.slot net)) so_far
     where
-      kept : (tell : Tell) → IsOfInput design tell × (tell.slot < net + 1) → (tell.slot < net) ⊎ (net ≤ tell.slot) → IsOfInput design tell × (tell.slot < net)
+      kept : (tell : Tell) → IsOfInput design roles tell × (tell.slot < net + 1) → (tell.slot < net) ⊎ (net ≤ tell.slot) → IsOfInput design roles tell × (tell.slot < net)
       kept tell h (inl l) = (h.0, l)
       kept tell h (inr l) =
           let e : tell.slot ≡ net = omega (arith, l, h.1) in
-          absurd (other (ap (driver_of design.netlist) (sym e) ∙ h.0.input))
+          absurd (other (ap (driver_of design.netlist) (sym e) ∙ h.0.input) (ap (drives roles) (sym e) ∙ h.0.driven))
 
-pub inputs-all : (design : Design) (nets : ℕ) (old new : Calendar) → nets_of design ≤ nets
-    → NotesEach (λ tell. IsOfInput design tell × (tell.slot < nets)) old new → NotesEach (IsOfInput design) old new
-inputs-all design nets old new all notes =
-    notes-as (λ tell. IsOfInput design tell × (tell.slot < nets)) (IsOfInput design) old new (λ tell h. h.0) (λ tell h. (h, omega (arith, h.net, all))) notes
+pub inputs-all : (design : Design) (roles : List Role) (nets : ℕ) (old new : Calendar) → nets_of design ≤ nets
+    → NotesEach (λ tell. IsOfInput design roles tell × (tell.slot < nets)) old new → NotesEach (IsOfInput design roles) old new
+inputs-all design roles nets old new all notes =
+    notes-as (λ tell. IsOfInput design roles tell × (tell.slot < nets)) (IsOfInput design roles) old new (λ tell h. h.0) (λ tell h. (h, omega (arith, h.net, all))) notes

@@ -13,16 +13,18 @@ use Rattle.cmb_calendar.specs.Calendars.{Calendar, Takes, AreInOrder, day_begin,
 use Rattle.cmb_calendar.specs.declared.tell.Tell.{Tell}
 use Rattle.cmb_design.specs.Design.{Design}
 use Rattle.cmb_design.specs.Exact.{nets_of}
-use Rattle.cmb_design.specs.Value.{delayed, value}
+use Rattle.cmb_design.specs.Value.{delayed}
 use Rattle.cmb_words.specs.declared.changed.Changed.{Changed}
 use Rattle.cmb_words.specs.Changes.{Tells, TellsNet, is_among}
 use Rattle.cmb_words.specs.Word.{level_at_place}
 use Rattle.cmb_engine.specs.Ahead.{TellsAhead}
 use Rattle.cmb_engine.specs.Cells.{Cell, cell_at, is_made}
 use Rattle.cmb_engine.specs.Lines.{IsAhead, IsOfLine, NotesEach}
+use Rattle.cmb_engine.specs.Roles.{gives, level_in}
 use Rattle.cmb_engine.specs.Tells.{AreTold, AreOfWindow, IsRight, IsTold, reach_of}
 use Rattle.cmb_engine.specs.Traces.{IsPlan, trace_of}
 use Rattle.cmb_engine.specs.declared.cell.Pin.{Pin}
+use Rattle.cmb_engine.specs.declared.role.Role.{Role}
 use Rattle.cmb_engine.proofs.SlotFacts.{trace-line, reach-net, reach-line}
 
 -- a window goes from the clock to the end of a calendar's next day, or to the horizon where that comes first
@@ -65,10 +67,10 @@ tell-same tick tick' slot slot' level level' a b c =
     ap (λ t. tell_at t slot level) a ∙ ap (λ s. tell_at tick' s level) b ∙ ap (λ l. tell_at tick' slot' l) c
 
 -- a calendar's day is taken: `from` is the clock, `to` where it goes
-module _ (design : Design) (lines : List Pin) (most width horizon : ℕ) (cells : List Cell) (plan : IsPlan design lines most width cells)
+module _ (design : Design) (roles : List Role) (lines : List Pin) (most width horizon : ℕ) (cells : List Cell) (plan : IsPlan design roles lines most width cells)
     (old between : Calendar) (taken : List Tell) (from to first : ℕ) (window : IsWindow old width horizon from to first) (takes : Takes old between taken)
     (below : (tell : Tell) → Contains old.tells tell → tell.tick < horizon)
-    (told : AreTold (trace_of design lines) (cell_at cells) (length cells) (reach_of (nets_of design) lines horizon) horizon from old.tells) where
+    (told : AreTold (trace_of design roles lines) (cell_at cells) (gives roles) (length cells) (reach_of (nets_of design) lines horizon) horizon from old.tells) where
   -- a window isn't longer than a day
   short : to ≤ from + width
   short = omega (arith, window.begins, window.ends, window.same_width)
@@ -105,21 +107,21 @@ module _ (design : Design) (lines : List Pin) (most width horizon : ℕ) (cells 
           omega (arith, reach-line (nets_of design) lines horizon slot line.0 l line.1, line.3, short)
 
   -- what was taken tells of the window
-  pub window-told : AreInOrder taken → AreOfWindow (trace_of design lines) (cell_at cells) (length cells) from to taken
+  pub window-told : AreInOrder taken → AreOfWindow (trace_of design roles lines) (cell_at cells) (gives roles) (length cells) from to taken
   window-told order = record {
     right = λ tell h.
         let was = (takes.early tell).0 h in
         let right = told.right tell was.0 in
         let small = below tell was.0 in
         (right.0, right.1, omega (arith, was.1, small, window.ends));
-    all = λ slot tick inside untold late small.
+    all = λ slot tick inside untold other late small.
         let reach = reached slot inside in
         let near : tick < horizon = omega (arith, small, window.ends) in
-        go slot tick small (told.all slot tick inside untold late (omega (arith, small, reach)) near);
+        go slot tick small (told.all slot tick inside untold other late (omega (arith, small, reach)) near);
     order = order;
   }
     where
-      go : (slot tick : ℕ) → tick < to → IsTold (trace_of design lines) old.tells slot tick → IsTold (trace_of design lines) taken slot tick
+      go : (slot tick : ℕ) → tick < to → IsTold (trace_of design roles lines) old.tells slot tick → IsTold (trace_of design roles lines) taken slot tick
       go slot tick small (inl h) = inl h
       go slot tick small (inr h) = inr ((takes.early _).1 (h, omega (arith, small, within-day)))
 
@@ -132,7 +134,7 @@ module _ (design : Design) (lines : List Pin) (most width horizon : ℕ) (cells 
 
   -- the calendar then, of which the tells of lines were noted
   module _ (new : Calendar) (changed : List Changed) (noted : NotesEach (IsOfLine changed lines (nets_of design) to first) between new)
-      (tells : Tells (value design) (nets_of design) from to changed) where
+      (tells : Tells (level_in design roles) (nets_of design) from to changed) where
     same : between.horizon ≡ horizon
     same = takes.horizon ∙ window.same_horizon
 
@@ -145,9 +147,9 @@ module _ (design : Design) (lines : List Pin) (most width horizon : ℕ) (cells 
         go (inr a) = omega (arith, a.1, same)
 
     -- a tell of a line is right, and ahead of the window
-    noted-right : (tell : Tell) → IsOfLine changed lines (nets_of design) to first tell → IsRight (trace_of design lines) (cell_at cells) (length cells) tell × (to ≤ tell.tick)
+    noted-right : (tell : Tell) → IsOfLine changed lines (nets_of design) to first tell → IsRight (trace_of design roles lines) (cell_at cells) (length cells) tell × (to ≤ tell.tick)
     noted-right tell h =
-        subst (λ (t : Tell). IsRight (trace_of design lines) (cell_at cells) (length cells) t × (to ≤ t.tick)) (sym h.change.is)
+        subst (λ (t : Tell). IsRight (trace_of design roles lines) (cell_at cells) (length cells) t × (to ≤ t.tick)) (sym h.change.is)
         (record { slot = omega (arith, inside, plan.count); told = plan.told (nets_of design + h.number) (omega arith); level = level }, omega (arith, source.1, window.place, h.change.from, short))
       where
         inside : h.number < length lines
@@ -158,70 +160,70 @@ module _ (design : Design) (lines : List Pin) (most width horizon : ℕ) (cells 
             subst (λ (line : Pin). (line.net < nets_of design) × (width ≤ line.delay) × (line.delay ≤ 1000000)) (get_or_from_slice_get lines h.number h.line h.line h.has_number)
             (plan.sources h.number h.line inside)
 
-        word : level_at_place h.one.word h.change.place ≡ value design h.one.net (to + h.change.place - 64)
+        word : level_at_place h.one.word h.change.place ≡ level_in design roles h.one.net (to + h.change.place - 64)
         word =
-            word-tells (value design) from to first h.change.place (to + h.change.place - 64) h.one (All-contains (TellsNet (value design) from to) changed h.one tells.words h.among) window.place
+            word-tells (level_in design roles) from to first h.change.place (to + h.change.place - 64) h.one (All-contains (TellsNet (level_in design roles) from to) changed h.one tells.words h.among) window.place
             (omega (arith, h.change.from)) h.change.within (omega (arith, window.place, h.change.from))
 
         slot : nets_of design + h.number - nets_of design ≡ h.number
         slot = omega arith
 
-        level : level_at_place h.one.word h.change.place ≡ trace_of design lines (nets_of design + h.number) (to + h.change.place - 64 + h.line.delay)
+        level : level_at_place h.one.word h.change.place ≡ trace_of design roles lines (nets_of design + h.number) (to + h.change.place - 64 + h.line.delay)
         level =
-            word ∙ ap (λ n. value design n (to + h.change.place - 64)) (sym h.follows)
-            ∙ sym (delayed-later (value design h.line.net) h.line.delay (to + h.change.place - 64) (to + h.change.place - 64 + h.line.delay) refl)
-            ∙ sym (trace-line design lines (nets_of design + h.number) (to + h.change.place - 64 + h.line.delay) h.line (omega arith) (ap (λ n. slice_get lines n) slot ∙ h.has_number))
+            word ∙ ap (λ n. level_in design roles n (to + h.change.place - 64)) (sym h.follows)
+            ∙ sym (delayed-later (level_in design roles h.line.net) h.line.delay (to + h.change.place - 64) (to + h.change.place - 64 + h.line.delay) refl)
+            ∙ sym (trace-line design roles lines (nets_of design + h.number) (to + h.change.place - 64 + h.line.delay) h.line (omega arith) (ap (λ n. slice_get lines n) slot ∙ h.has_number))
 
     -- what was told is told still
-    told-still : (slot tick : ℕ) → to ≤ tick → tick < horizon → IsTold (trace_of design lines) old.tells slot tick → IsTold (trace_of design lines) new.tells slot tick
+    told-still : (slot tick : ℕ) → to ≤ tick → tick < horizon → IsTold (trace_of design roles lines) old.tells slot tick → IsTold (trace_of design roles lines) new.tells slot tick
     told-still slot tick late near (inl h) = inl h
     told-still slot tick late near (inr h) = inr ((noted _).1 (inl ((takes.late _).1 (h, ahead-day tick late near))))
 
     -- what a line shows of the window is told
     told-line : (slot tick past : ℕ) (line : Pin) → nets_of design ≤ slot → slice_get lines (slot - nets_of design) ≡ Some line → line.net < nets_of design
-        → tick ≡ past + line.delay → from ≤ past → past < to → tick < horizon → IsTold (trace_of design lines) new.tells slot tick
+        → tick ≡ past + line.delay → from ≤ past → past < to → tick < horizon → IsTold (trace_of design roles lines) new.tells slot tick
     told-line slot tick past line late is net at begun ended near = go (cases_Bool (is_among line.net changed))
       where
-        now : trace_of design lines slot tick ≡ value design line.net past
-        now = trace-line design lines slot tick line late is ∙ delayed-later (value design line.net) line.delay past tick at
+        now : trace_of design roles lines slot tick ≡ level_in design roles line.net past
+        now = trace-line design roles lines slot tick line late is ∙ delayed-later (level_in design roles line.net) line.delay past tick at
 
-        before : trace_of design lines slot (tick - 1) ≡ value design line.net (past - 1)
-        before = trace-line design lines slot (tick - 1) line late is ∙ delayed-later (value design line.net) line.delay (past - 1) (tick - 1) (omega (arith, at, begun, window.begun))
+        before : trace_of design roles lines slot (tick - 1) ≡ level_in design roles line.net (past - 1)
+        before = trace-line design roles lines slot (tick - 1) line late is ∙ delayed-later (level_in design roles line.net) line.delay (past - 1) (tick - 1) (omega (arith, at, begun, window.begun))
 
         next : suc (past - 1) ≡ past
         next = omega (arith, begun, window.begun)
 
-        steady : value design line.net (past - 1) ≡ value design line.net past → IsTold (trace_of design lines) new.tells slot tick
+        steady : level_in design roles line.net (past - 1) ≡ level_in design roles line.net past → IsTold (trace_of design roles lines) new.tells slot tick
         steady e = inl (before ∙ e ∙ sym now)
 
         change : (one : Changed) → Contains changed one → one.net ≡ line.net
             → (same_level (level_at_place one.word (past + 64 - to - 1)) (level_at_place one.word (past + 64 - to)) ≡ true)
             ⊎ (same_level (level_at_place one.word (past + 64 - to - 1)) (level_at_place one.word (past + 64 - to)) ≡ false)
-            → IsTold (trace_of design lines) new.tells slot tick
+            → IsTold (trace_of design roles lines) new.tells slot tick
         change one among of either = decide either
           where
-            word : TellsNet (value design) from to one
-            word = All-contains (TellsNet (value design) from to) changed one tells.words among
+            word : TellsNet (level_in design roles) from to one
+            word = All-contains (TellsNet (level_in design roles) from to) changed one tells.words among
 
             begins : 1 ≤ first
             begins = omega (arith, window.place, short, plan.fits)
 
-            here : level_at_place one.word (past + 64 - to) ≡ value design one.net past
+            here : level_at_place one.word (past + 64 - to) ≡ level_in design roles one.net past
             here =
-                word-tells (value design) from to first (past + 64 - to) past one word window.place (omega (arith, window.place, begun)) (omega (arith, ended))
+                word-tells (level_in design roles) from to first (past + 64 - to) past one word window.place (omega (arith, window.place, begun)) (omega (arith, ended))
                 (omega (arith, window.place, begun))
 
-            there : level_at_place one.word (past + 64 - to - 1) ≡ value design one.net (past - 1)
+            there : level_at_place one.word (past + 64 - to - 1) ≡ level_in design roles one.net (past - 1)
             there =
-                word-tells (value design) from to first (past + 64 - to - 1) (past - 1) one word window.place (omega (arith, window.place, begun, begins)) (omega (arith, ended))
+                word-tells (level_in design roles) from to first (past + 64 - to - 1) (past - 1) one word window.place (omega (arith, window.place, begun, begins)) (omega (arith, ended))
                 (omega (arith, window.place, window.begun, begun, begins))
 
             decide : (same_level (level_at_place one.word (past + 64 - to - 1)) (level_at_place one.word (past + 64 - to)) ≡ true)
                 ⊎ (same_level (level_at_place one.word (past + 64 - to - 1)) (level_at_place one.word (past + 64 - to)) ≡ false)
-                → IsTold (trace_of design lines) new.tells slot tick
+                → IsTold (trace_of design roles lines) new.tells slot tick
             decide (inl e) =
-                steady (subst (λ (n : ℕ). value design n (past - 1) ≡ value design n past) of (sym there ∙ same_level-true _ _ e ∙ here))
-            decide (inr d) = inr ((noted (tell_at tick slot (trace_of design lines slot tick))).1 (inr (
+                steady (subst (λ (n : ℕ). level_in design roles n (past - 1) ≡ level_in design roles n past) of (sym there ∙ same_level-true _ _ e ∙ here))
+            decide (inr d) = inr ((noted (tell_at tick slot (trace_of design roles lines slot tick))).1 (inr (
               record {
                 one = one;
                 number = slot - nets_of design;
@@ -234,52 +236,52 @@ module _ (design : Design) (lines : List Pin) (most width horizon : ℕ) (cells 
                   from = omega (arith, window.place, begun);
                   within = omega (arith, ended);
                   differs = λ e. absurd (false≢true (sym d ∙ same_level-same _ _ e));
-                  is = tell-same tick (to + (past + 64 - to) - 64 + line.delay) slot (nets_of design + (slot - nets_of design)) (trace_of design lines slot tick) (level_at_place one.word (past + 64 - to))
-                      (omega (arith, at, window.place, begun)) (omega (arith, late)) (now ∙ ap (λ n. value design n past) (sym of) ∙ sym here);
+                  is = tell-same tick (to + (past + 64 - to) - 64 + line.delay) slot (nets_of design + (slot - nets_of design)) (trace_of design roles lines slot tick) (level_at_place one.word (past + 64 - to))
+                      (omega (arith, at, window.place, begun)) (omega (arith, late)) (now ∙ ap (λ n. level_in design roles n past) (sym of) ∙ sym here);
                 };
               },
               omega (arith, same, near),
             )))
 
-        go : (is_among line.net changed ≡ true) ⊎ (is_among line.net changed ≡ false) → IsTold (trace_of design lines) new.tells slot tick
+        go : (is_among line.net changed ≡ true) ⊎ (is_among line.net changed ≡ false) → IsTold (trace_of design roles lines) new.tells slot tick
         go (inl h) =
             let one = among-one line.net changed h in
             change one.0 one.1 one.2 (cases_Bool (same_level (level_at_place one.0.word (past + 64 - to - 1)) (level_at_place one.0.word (past + 64 - to))))
         go (inr h) =
             let still = tells.others line.net net h (past - 1) (omega (arith, next, begun)) (omega (arith, next, ended)) in
-            steady (still ∙ ap (λ n. value design line.net n) next)
+            steady (still ∙ ap (λ n. level_in design roles line.net n) next)
 
     -- the calendar has what is told of the ticks from the window's end on
-    pub told-ahead : AreTold (trace_of design lines) (cell_at cells) (length cells) (reach_of (nets_of design) lines horizon) horizon to new.tells
+    pub told-ahead : AreTold (trace_of design roles lines) (cell_at cells) (gives roles) (length cells) (reach_of (nets_of design) lines horizon) horizon to new.tells
     told-ahead = record {
       right = λ tell h. judged tell ((noted tell).0 h);
-      all = λ slot tick inside untold late ahead near.
-          split slot tick inside untold late ahead near (cases_lt tick (from + reach_of (nets_of design) lines horizon slot)) (cases_lt slot (nets_of design));
+      all = λ slot tick inside untold other late ahead near.
+          split slot tick inside untold other late ahead near (cases_lt tick (from + reach_of (nets_of design) lines horizon slot)) (cases_lt slot (nets_of design));
     }
       where
         judged : (tell : Tell) → Contains between.tells tell ⊎ (IsOfLine changed lines (nets_of design) to first tell × (tell.tick < between.horizon))
-            → IsRight (trace_of design lines) (cell_at cells) (length cells) tell × (to ≤ tell.tick)
+            → IsRight (trace_of design roles lines) (cell_at cells) (length cells) tell × (to ≤ tell.tick)
         judged tell (inl a) =
             let late = (takes.late tell).0 a in
             let right = told.right tell late.0 in
             (right.0, omega (arith, late.1, within-day))
         judged tell (inr a) = noted-right tell a.0
 
-        split : (slot tick : ℕ) → slot < length cells → is_made (cell_at cells slot) ≡ false → to ≤ tick → tick < to + reach_of (nets_of design) lines horizon slot → tick < horizon
+        split : (slot tick : ℕ) → slot < length cells → is_made (cell_at cells slot) ≡ false → gives roles slot ≡ false → to ≤ tick → tick < to + reach_of (nets_of design) lines horizon slot → tick < horizon
             → (tick < from + reach_of (nets_of design) lines horizon slot) ⊎ (from + reach_of (nets_of design) lines horizon slot ≤ tick) → (slot < nets_of design) ⊎ (nets_of design ≤ slot)
-            → IsTold (trace_of design lines) new.tells slot tick
-        split slot tick inside untold late ahead near (inl soon) net =
-            told-still slot tick late near (told.all slot tick inside untold (omega (arith, late, window.some)) soon near)
-        split slot tick inside untold late ahead near (inr far) (inl net) = absurd (omega (arith, far, near, reach-net (nets_of design) lines horizon slot net))
-        split slot tick inside untold late ahead near (inr far) (inr line) =
+            → IsTold (trace_of design roles lines) new.tells slot tick
+        split slot tick inside untold other late ahead near (inl soon) net =
+            told-still slot tick late near (told.all slot tick inside untold other (omega (arith, late, window.some)) soon near)
+        split slot tick inside untold other late ahead near (inr far) (inl net) = absurd (omega (arith, far, near, reach-net (nets_of design) lines horizon slot net))
+        split slot tick inside untold other late ahead near (inr far) (inr line) =
             let of = line-of slot inside line in
             let reach = reach-line (nets_of design) lines horizon slot of.0 line of.1 in
             told-line slot tick (tick - of.0.delay) of.0 line of.1 of.2 (omega (arith, far, reach)) (omega (arith, far, reach)) (omega (arith, ahead, far, reach, window.some)) near
 
 -- ---- the same of an engine's calendar
 
-module _ (design : Design) (lines : List Pin) (most width : ℕ) (cells : List Cell) (plan : IsPlan design lines most width cells)
-    (old between : Calendar) (taken : List Tell) (from to first : ℕ) (kept : TellsAhead design lines width cells from old)
+module _ (design : Design) (roles : List Role) (lines : List Pin) (most width : ℕ) (cells : List Cell) (plan : IsPlan design roles lines most width cells)
+    (old between : Calendar) (taken : List Tell) (from to first : ℕ) (kept : TellsAhead design roles lines width cells from old)
     (begun : 1 ≤ from) (soon : from < design.horizon) (ends : to ≡ min (day_end old) design.horizon) (place : to + first ≡ from + 64) (takes : Takes old between taken) where
   window : IsWindow old width design.horizon from to first
   window = record {
@@ -293,22 +295,22 @@ module _ (design : Design) (lines : List Pin) (most width : ℕ) (cells : List C
   }
 
   -- what was taken tells of the window
-  pub taken-tells : AreInOrder taken → AreOfWindow (trace_of design lines) (cell_at cells) (length cells) from to taken
-  taken-tells order = window-told design lines most width design.horizon cells plan old between taken from to first window takes kept.below kept.told order
+  pub taken-tells : AreInOrder taken → AreOfWindow (trace_of design roles lines) (cell_at cells) (gives roles) (length cells) from to taken
+  taken-tells order = window-told design roles lines most width design.horizon cells plan old between taken from to first window takes kept.below kept.told order
 
   -- lines may be noted
   pub taken-ahead : All (IsAhead between to first) lines
-  taken-ahead = lines-ahead design lines most width design.horizon cells plan old between taken from to first window takes kept.below kept.told
+  taken-ahead = lines-ahead design roles lines most width design.horizon cells plan old between taken from to first window takes kept.below kept.told
 
   -- and once they are, the calendar has what is told from the window's end on
   pub noted-tells : (new : Calendar) (changed : List Changed) → NotesEach (IsOfLine changed lines (nets_of design) to first) between new → new.width ≡ between.width
-      → new.horizon ≡ between.horizon → new.day ≡ between.day → Tells (value design) (nets_of design) from to changed → TellsAhead design lines width cells to new
+      → new.horizon ≡ between.horizon → new.day ≡ between.day → Tells (level_in design roles) (nets_of design) from to changed → TellsAhead design roles lines width cells to new
   noted-tells new changed noted same_width same_horizon day tells = record {
     same_width = same_width ∙ takes.width ∙ kept.same_width;
     same_horizon = same_horizon ∙ takes.horizon ∙ kept.same_horizon;
     today = λ near. (omega (arith, begins, ends, near), omega (arith, begins, ends, near, wide));
-    below = still-below design lines most width design.horizon cells plan old between taken from to first window takes kept.below kept.told new changed noted tells;
-    told = told-ahead design lines most width design.horizon cells plan old between taken from to first window takes kept.below kept.told new changed noted tells;
+    below = still-below design roles lines most width design.horizon cells plan old between taken from to first window takes kept.below kept.told new changed noted tells;
+    told = told-ahead design roles lines most width design.horizon cells plan old between taken from to first window takes kept.below kept.told new changed noted tells;
   }
     where
       begins : day_begin new ≡ day_end old

@@ -1,21 +1,17 @@
 -- Why words show a trace at the end of a window that showed it at its begin.
 use Rattle.std.proofs.Common.{◌≡◌, ℕ, ◌+◌, ◌-◌, ◌<◌, ◌≤◌, ◌⊎◌, inl, inr, min, true, false, List, [], length, get_or, refl, sym, ap, subst, ◌∙◌, arith}
-use Rattle.std.specs.Prelude.{Contains}
 use Rattle.std.specs.List.{AllByRecursion}
 use Rattle.std.proofs.lemmas.Bool.{cases_lt, cases_Bool, false≢true}
 use Rattle.cmb_wave.specs.declared.level.Level.{Level}
-use Rattle.cmb_calendar.specs.declared.tell.Tell.{Tell}
 use Rattle.cmb_design.specs.Gate.{gate}
 use Rattle.cmb_design.specs.Value.{delayed}
 use Rattle.cmb_engine.specs.Bits.{has}
 use Rattle.cmb_engine.specs.Cells.{Cell, Told, Gate, Flop, is_made, seen, IsSteady, IsSteadyFrom, IsReadable, IsReady, IsTrueBelow, IsWired, AreMarked, AreSettled, KeepsTold, cell_at, pins_of, reads}
 use Rattle.cmb_engine.specs.Circuits.{cell_row, Arrives, AreQuiet, IsMarkedOrRests, IsWiring, MeetsCells, Shows}
-use Rattle.cmb_engine.specs.Tells.{told_level, AreOfWindow}
 use Rattle.cmb_engine.specs.Windows.{in_place}
 use Rattle.cmb_engine.specs.declared.cell.Pin.{Pin}
 use Rattle.cmb_engine.specs.declared.group.Group.{Group}
 use Rattle.cmb_engine.proofs.CellFacts.{all-weaker, seen-same, settled-steady}
-use Rattle.cmb_engine.proofs.ShowFacts.{told-keeps, told-shows}
 use Rattle.cmb_engine.proofs.TraceFacts.{all-both, each-pins, lawful-pins, lawful-later, pins-read, made-inside, shown, pins-shown, shown-settled}
 use Rattle.cmb_engine.proofs.TruthFacts.{in_place-tick}
 use Rattle.cmb_engine.proofs.VisitFacts.{reader-marked}
@@ -76,20 +72,21 @@ module _ (trace : ℕ → ℕ → Level) (from ticks to first most count : ℕ) 
 
 -- ---- before they are settled
 
--- what stands before words are settled: those that moved on, what was told of them, and marks of all that read something new
-pub record IsBegun (cells : List Cell) (readers : List (List ℕ)) (most : ℕ) (tells : List Tell) (moved told : ℕ → ℕ → Level) (live marks : List ℕ) (to first : ℕ) : Type 0 where
+-- what stands before words are settled: those that moved on, with what was told and given written into them, and marks of all that
+-- read something new
+pub record IsBegun (trace : ℕ → ℕ → Level) (cells : List Cell) (readers : List (List ℕ)) (most : ℕ) (moved told : ℕ → ℕ → Level) (live marks : List ℕ) (to first : ℕ) : Type 0 where
   pub quiet : AreQuiet moved (has live) (length cells)
   pub news : (slot : ℕ) → slot < length cells → has live slot ≡ true → IsSteadyFrom (moved slot) (first - most) ⊎ AreMarked (has marks) (get_or readers slot [])
-  pub told_words : (slot place : ℕ) → slot < length cells → place < 64 → told slot place ≡ told_level tells slot (moved slot place) (to + place - 64)
-  pub told_news : (tell : Tell) → Contains tells tell → AreMarked (has marks) (get_or readers tell.slot [])
+  pub kept : (slot : ℕ) → slot < length cells → (AreMarked (has marks) (get_or readers slot []) → ⊥) → (place : ℕ) → place < 64 → told slot place ≡ moved slot place
+  pub made : (slot place : ℕ) → is_made (cell_at cells slot) ≡ true → place < 64 → told slot place ≡ moved slot place
+  pub told_true : (slot place : ℕ) → slot < length cells → is_made (cell_at cells slot) ≡ false → place < 64 → told slot place ≡ shown trace to slot place
   pub arrivals : (slot place : ℕ) → first ≤ place → place < 64 → Arrives (cell_at cells slot) (to + place - 64) → IsMarkedOrRests (has marks) told first cells slot
 
 module _ (trace : ℕ → ℕ → Level) (cells : List Cell) (readers : List (List ℕ)) (flops : List Group) (most : ℕ) (wiring : IsWiring cells readers flops most)
     (meets : MeetsCells trace (cell_at cells)) (from ticks to first : ℕ) (window : IsWindow from ticks to first most) (old moved told : ℕ → ℕ → Level)
     (shows : Shows old trace (length cells) from) (moves : (slot place : ℕ) → place < 64 → moved slot place ≡ old slot (min (place + ticks) 63))
-    (tells : List Tell) (right : AreOfWindow trace (cell_at cells) (length cells) from to tells) (live marks : List ℕ)
-    (begun : IsBegun cells readers most tells moved told live marks to first) where
-  -- a slot of which nothing is new: it isn't told, and repeats its level as far back as a pin looks
+    (live marks : List ℕ) (begun : IsBegun trace cells readers most moved told live marks to first) where
+  -- a slot of which nothing is new: nothing is told or given of it, and it repeats its level as far back as a pin looks
   abbrev IsCalm : ℕ → Type 0
   IsCalm slot = ((place : ℕ) → place < 64 → told slot place ≡ moved slot place) × IsSteadyFrom (moved slot) (first - most)
 
@@ -99,9 +96,7 @@ module _ (trace : ℕ → ℕ → Level) (cells : List Cell) (readers : List (Li
   -- so is what a slot reads that isn't marked
   calm : (reader slot : ℕ) → has marks reader ≡ false → reads (cell_at cells reader) slot ≡ true → slot < length cells → IsCalm slot
   calm reader slot none read inside = (
-    λ place small.
-        begun.told_words slot place inside small
-        ∙ told-keeps tells slot (to + place - 64) (moved slot place) (λ tell among e l. marked (subst (λ (n : ℕ). AreMarked (has marks) (get_or readers n [])) e (begun.told_news tell among))),
+    begun.kept slot inside marked,
     go (cases_Bool (has live slot)),
   )
     where
@@ -149,16 +144,9 @@ module _ (trace : ℕ → ℕ → Level) (cells : List Cell) (readers : List (Li
   )
   steady-cell slot (Flop clock pin) row so none = λ place late small a. none place late small a place late small a
 
-  -- a made slot isn't told
-  made-kept : (slot place : ℕ) → is_made (cell_at cells slot) ≡ true → place < 64 → told slot place ≡ moved slot place
-  made-kept slot place made small =
-      begun.told_words slot place (made-inside cells slot made) small
-      ∙ told-keeps tells slot (to + place - 64) (moved slot place)
-      (λ tell among e l. false≢true (sym (subst (λ (n : ℕ). is_made (cell_at cells n) ≡ false) e (right.right tell among).0.told) ∙ made))
-
   made-below : (slot place : ℕ) → is_made (cell_at cells slot) ≡ true → place < first → told slot place ≡ shown trace to slot place
   made-below slot place made below =
-      made-kept slot place made (omega arith)
+      begun.made slot place made (omega arith)
       ∙ moved-below trace from ticks to first most (length cells) window old moved shows moves slot place (made-inside cells slot made) below
 
   -- the samples of a slot that isn't marked bring the level that it has
@@ -171,30 +159,13 @@ module _ (trace : ℕ → ℕ → Level) (cells : List Cell) (readers : List (Li
   begun-settled slot made none =
       settled-steady told to first slot (cell_at cells slot) made (omega arith)
       (λ place late small.
-      made-kept slot place made small
+      begun.made slot place made small
       ∙ moved-steady trace from ticks to first most (length cells) window old moved shows moves slot place late small
-      ∙ sym (made-kept slot (first - 1) made (omega arith)))
+      ∙ sym (begun.made slot (first - 1) made (omega arith)))
       (steady-cell slot (cell_at cells slot)
       (made-below slot (first - 1) made (omega arith) ∙ in_place-tick (trace slot) to (first - 1) (omega arith) ∙ meets slot (to + (first - 1) - 64) made)
       (pins-calm slot made none)
       (λ place late small a. rests slot none (begun.arrivals slot place late small a)))
-
-  -- the told words show the trace
-  told-early : (slot place : ℕ) → slot < length cells → place < first → told slot place ≡ moved slot place
-  told-early slot place inside below =
-      begun.told_words slot place inside (omega arith)
-      ∙ told-keeps tells slot (to + place - 64) (moved slot place) (λ tell among e l. absurd (omega (arith, (right.right tell among).1)))
-
-  told-true : (slot place : ℕ) → slot < length cells → is_made (cell_at cells slot) ≡ false → place < 64 → told slot place ≡ shown trace to slot place
-  told-true slot place inside isnt small = go (cases_lt place first)
-    where
-      go : (place < first) ⊎ (first ≤ place) → told slot place ≡ in_place (trace slot) to place
-      go (inl l) = told-early slot place inside l ∙ moved-below trace from ticks to first most (length cells) window old moved shows moves slot place inside l
-      go (inr l) =
-          begun.told_words slot place inside small
-          ∙ ap (λ held. told_level tells slot held (to + place - 64)) (moved-held trace from ticks to first most (length cells) window old moved shows moves slot place inside l small)
-          ∙ told-shows trace (cell_at cells) (length cells) from to tells slot right window.begun inside isnt (to + place - 64) (omega arith) (omega arith)
-          ∙ sym (in_place-tick (trace slot) to place (omega arith))
 
   begun-ready : IsReady told (shown trace to) (cell_at cells) to first
   begun-ready = record {
@@ -205,7 +176,7 @@ module _ (trace : ℕ → ℕ → Level) (cells : List Cell) (readers : List (Li
         each-pins (IsReadable told (shown trace to) (cell_at cells) place) to place (cell_at cells slot)
         (all-both (λ pin. is_made (cell_at cells pin.net) ≡ true → 1 ≤ pin.delay) (λ pin. (pin.net < length cells) × (pin.delay ≤ most)) (IsReadable told (shown trace to) (cell_at cells) place)
         (pins_of (cell_at cells slot))
-        (λ pin later inside. (later, λ isnt. told-true pin.net (place - pin.delay) inside.0 isnt (omega arith)))
+        (λ pin later inside. (later, λ isnt. begun.told_true pin.net (place - pin.delay) inside.0 isnt (omega arith)))
         (wiring.later slot)
         (lawful-pins (length cells) most (cell_at cells slot) (wiring.lawful slot (made-inside cells slot made))));
   }
@@ -219,4 +190,4 @@ module _ (trace : ℕ → ℕ → Level) (cells : List Cell) (readers : List (Li
     where
       go : (is_made (cell_at cells slot) ≡ true) ⊎ (is_made (cell_at cells slot) ≡ false) → new slot place ≡ in_place (trace slot) to place
       go (inl made) = exact (shown trace to) begun-ready begun-settled made-below slot place made small
-      go (inr isnt) = kept slot place isnt ∙ told-true slot place inside isnt small
+      go (inr isnt) = kept slot place isnt ∙ begun.told_true slot place inside isnt small

@@ -23,10 +23,12 @@ use Rattle.cmb_words.specs.declared.word.Word.{Word}
 use Rattle.cmb_words.specs.Word.{level_at_place}
 use Rattle.cmb_design.specs.Exact.{nets_of}
 use Rattle.cmb_engine.specs.Circuits.{Shows}
+use Rattle.cmb_engine.specs.Roles.{level_in}
 use Rattle.cmb_engine.specs.Traces.{line_level, trace_of}
 use Rattle.cmb_engine.specs.Windows.{in_place}
 use Rattle.cmb_engine.specs.Words.{levels_of}
 use Rattle.cmb_engine.specs.declared.cell.Pin.{Pin}
+use Rattle.cmb_engine.specs.declared.role.Role.{Role}
 use Rattle.cmb_engine.proofs.ArrivalFacts.{flop_level-start}
 use Rattle.cmb_engine.proofs.SlotFacts.{trace-behind}
 
@@ -93,17 +95,17 @@ flop-starts design net source e = value-at_flop design net 0 source e ∙ flop_l
 -- ---- lines
 
 -- below its delay a line is x
-pub line-early : (design : Design) (line : Pin) (tick : ℕ) → tick < line.delay → line_level design (Some line) tick ≡ X
-line-early design line tick early = let here : ltb tick line.delay ≡ true = lt-ltb _ _ early in rw here refl
+pub line-early : (level : ℕ → ℕ → Level) (line : Pin) (tick : ℕ) → tick < line.delay → line_level level (Some line) tick ≡ X
+line-early level line tick early = let here : ltb tick line.delay ≡ true = lt-ltb _ _ early in rw here refl
 
-pub lines-start : (design : Design) (lines : List Pin) (number : ℕ) → number < length lines → All (λ line. (line.net < nets_of design) × (1 ≤ line.delay)) lines
-    → trace_of design lines (nets_of design + number) 0 ≡ X
-lines-start design lines number inside lawful =
+pub lines-start : (design : Design) (roles : List Role) (lines : List Pin) (number : ℕ) → number < length lines → All (λ line. (line.net < nets_of design) × (1 ≤ line.delay)) lines
+    → trace_of design roles lines (nets_of design + number) 0 ≡ X
+lines-start design roles lines number inside lawful =
     let none : Pin = record { net = 0; delay = 0 } in
     let place : nets_of design + number - nets_of design ≡ number = omega arith in
     let found : slice_get lines number ≡ Some (get_or lines number none) = slice_get-get_or lines number none inside in
-    trace-behind design lines (nets_of design + number) 0 (omega arith) ∙ ap (λ k. line_level design (slice_get lines k) 0) place
-    ∙ ap (λ line. line_level design line 0) found ∙ line-early design (get_or lines number none) 0 (lawful number none inside).1
+    trace-behind design roles lines (nets_of design + number) 0 (omega arith) ∙ ap (λ k. line_level (level_in design roles) (slice_get lines k) 0) place
+    ∙ ap (λ line. line_level (level_in design roles) line 0) found ∙ line-early (level_in design roles) (get_or lines number none) 0 (lawful number none inside).1
 
 -- ---- words
 

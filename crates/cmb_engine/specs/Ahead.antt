@@ -5,14 +5,16 @@ use Rattle.cmb_calendar.specs.declared.tell.Tell.{Tell}
 use Rattle.cmb_design.specs.Design.{Design}
 use Rattle.cmb_design.specs.Exact.{nets_of}
 use Rattle.cmb_engine.specs.Cells.{Cell, cell_at}
+use Rattle.cmb_engine.specs.Roles.{gives}
 use Rattle.cmb_engine.specs.Tells.{AreTold, reach_of}
 use Rattle.cmb_engine.specs.Traces.{trace_of}
 use Rattle.cmb_engine.specs.declared.cell.Pin.{Pin}
+use Rattle.cmb_engine.specs.declared.role.Role.{Role}
 
 -- it has what is told of the ticks from the clock on and below the horizon, and the clock is within its next day
-pub record TellsAhead (design : Design) (lines : List Pin) (width : ℕ) (cells : List Cell) (clock : ℕ) (calendar : Calendar) : Type 0 where
+pub record TellsAhead (design : Design) (roles : List Role) (lines : List Pin) (width : ℕ) (cells : List Cell) (clock : ℕ) (calendar : Calendar) : Type 0 where
   pub same_width : calendar.width ≡ width
   pub same_horizon : calendar.horizon ≡ design.horizon
   pub today : clock < design.horizon → (day_begin calendar ≤ clock) × (clock < day_end calendar)
   pub below : (tell : Tell) → Contains calendar.tells tell → tell.tick < design.horizon
-  pub told : AreTold (trace_of design lines) (cell_at cells) (length cells) (reach_of (nets_of design) lines design.horizon) design.horizon clock calendar.tells
+  pub told : AreTold (trace_of design roles lines) (cell_at cells) (gives roles) (length cells) (reach_of (nets_of design) lines design.horizon) design.horizon clock calendar.tells

@@ -8,7 +8,10 @@ use Rattle.cmb_design.specs.Design.{Design}
 use Rattle.cmb_design.specs.Exact.{nets_of}
 use Rattle.cmb_design.specs.Timing.{clock_of, delay}
 use Rattle.cmb_engine.specs.Cells.{Cell, Told, Gate, Flop, cell_at, IsPace}
+use Rattle.cmb_engine.specs.Roles.{role_of}
 use Rattle.cmb_engine.specs.declared.cell.Pin.{Pin}
+use Rattle.cmb_engine.specs.declared.role.Role.{Role}
+use Rattle.cmb_engine.specs.declared.role.Role.TheVariants.{Driven, Given, Absent}
 
 -- a net's pins from one on, each with its delay
 abbrev pub pins_from : Design → ℕ → ℕ → List ℕ → List Pin
@@ -24,6 +27,12 @@ cell_by design net (driver.Flop source) = Flop (clock_of design net) (record { n
 
 abbrev pub cell_in : Design → ℕ → Cell
 cell_in design net = cell_by design net (driver_of design.netlist net)
+
+-- what an engine makes of a net by the net's role: the word of one that it doesn't drive is told
+abbrev pub cell_as : Design → ℕ → Role → Cell
+cell_as design net Driven = cell_in design net
+cell_as design net Given = Told
+cell_as design net Absent = Told
 
 -- ---- what stands for them
 
@@ -71,6 +80,6 @@ pub record Pushes (old new : List Cell) (nets : ℕ) (lines : List Pin) (most : 
   pub stands : CellStandsFor nets lines most wanted cell
 
 -- the cells of the first nets
-pub record AreCells (design : Design) (upto : ℕ) (cells : List Cell) (lines : List Pin) (most : ℕ) : Type 0 where
+pub record AreCells (design : Design) (roles : List Role) (upto : ℕ) (cells : List Cell) (lines : List Pin) (most : ℕ) : Type 0 where
   pub count : length cells ≡ upto
-  pub stand : (net : ℕ) → net < upto → CellStandsFor (nets_of design) lines most (cell_in design net) (cell_at cells net)
+  pub stand : (net : ℕ) → net < upto → CellStandsFor (nets_of design) lines most (cell_as design net (role_of roles net)) (cell_at cells net)

@@ -6,14 +6,16 @@ use Rattle.cmb_engine.specs.Ahead.{TellsAhead}
 use Rattle.cmb_engine.specs.Bits.{has}
 use Rattle.cmb_engine.specs.Circuits.{AreQuiet, IsWiring, Shows}
 use Rattle.cmb_engine.specs.Lines.{AreFollowers}
+use Rattle.cmb_engine.specs.Roles.{AreRoles}
 use Rattle.cmb_engine.specs.Traces.{IsPlan, trace_of}
 use Rattle.cmb_engine.specs.Words.{levels_of}
 use Rattle.cmb_engine.specs.declared.circuit.Circuit.{Circuit}
 use Rattle.cmb_engine.specs.declared.state.State.{State}
 
--- a circuit is that of a design: its plan, who reads each slot, and which lines follow each net
+-- a circuit is that of a design: what it does with each net, its plan, who reads each slot, and which lines follow each net
 pub record IsCircuit (design : Design) (circuit : Circuit) : Type 0 where
-  pub plan : IsPlan design circuit.lines.items circuit.wiring.most circuit.width circuit.wiring.cells
+  pub roles : AreRoles design circuit.wiring.roles.items
+  pub plan : IsPlan design circuit.wiring.roles.items circuit.lines.items circuit.wiring.most circuit.width circuit.wiring.cells
   pub wires : IsWiring circuit.wiring.cells circuit.wiring.readers circuit.wiring.flops.items circuit.wiring.most
   pub few : length circuit.wiring.cells < 2 ^ 32
   pub follow : AreFollowers circuit.lines.items (nets_of design) circuit.followers
@@ -23,8 +25,8 @@ pub record IsState (design : Design) (circuit : Circuit) (state : State) : Type 
   pub slots : length state.words.items ≡ length circuit.wiring.cells
   pub live_room : length circuit.wiring.cells ≤ 64 * length state.live
   pub marks_room : length circuit.wiring.cells ≤ 64 * length state.marks
-  pub shows : Shows (levels_of state.words.items) (trace_of design circuit.lines.items) (length circuit.wiring.cells) state.clock
+  pub shows : Shows (levels_of state.words.items) (trace_of design circuit.wiring.roles.items circuit.lines.items) (length circuit.wiring.cells) state.clock
   pub quiet : AreQuiet (levels_of state.words.items) (has state.live) (length circuit.wiring.cells)
-  pub ahead : TellsAhead design circuit.lines.items circuit.width circuit.wiring.cells state.clock state.calendar
+  pub ahead : TellsAhead design circuit.wiring.roles.items circuit.lines.items circuit.width circuit.wiring.cells state.clock state.calendar
   pub begun : 1 ≤ state.clock
   pub within : state.clock ≤ design.horizon

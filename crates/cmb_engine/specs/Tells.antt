@@ -1,5 +1,5 @@
 -- What is told of slots whose words no cell makes: their changes that lie ahead. Only contracts inside this crate cite these.
-use Rattle.std.specs.Prelude.{◌≡◌, ℕ, ◌+◌, ◌-◌, ◌<◌, ◌≤◌, ◌⊎◌, nat_lt, nat_le, ◌&&◌, ◌==◌, false, List, [], ◌∷◌, Option, None, Some, slice_get, Contains, if◌then◌else◌}
+use Rattle.std.specs.Prelude.{◌≡◌, ℕ, ◌+◌, ◌-◌, ◌<◌, ◌≤◌, ◌⊎◌, nat_lt, nat_le, ◌&&◌, ◌==◌, Bool, false, List, [], ◌∷◌, Option, None, Some, slice_get, Contains, if◌then◌else◌}
 use Rattle.cmb_wave.specs.declared.level.Level.{Level}
 use Rattle.cmb_calendar.specs.Calendars.{AreInOrder}
 use Rattle.cmb_calendar.specs.declared.tell.Tell.{Tell}
@@ -31,14 +31,14 @@ unfoldable pub reach_of : ℕ → List Pin → ℕ → ℕ → ℕ
 reach_of nets lines horizon slot =
     if nat_lt slot nets then horizon else line_reach horizon (slice_get lines (slot - nets))
 
--- the tells are those of what the told slots show from a tick on, as far as they are told
-pub record AreTold (trace : ℕ → ℕ → Level) (cells : ℕ → Cell) (count : ℕ) (reach : ℕ → ℕ) (horizon clock : ℕ) (tells : List Tell) : Type 0 where
+-- the tells are those of what the told slots show from a tick on, as far as they are told, but for the given ones
+pub record AreTold (trace : ℕ → ℕ → Level) (cells : ℕ → Cell) (gives : ℕ → Bool) (count : ℕ) (reach : ℕ → ℕ) (horizon clock : ℕ) (tells : List Tell) : Type 0 where
   pub right : (tell : Tell) → Contains tells tell → IsRight trace cells count tell × (clock ≤ tell.tick)
-  pub all : (slot tick : ℕ) → slot < count → is_made (cells slot) ≡ false → clock ≤ tick → tick < clock + reach slot → tick < horizon
+  pub all : (slot tick : ℕ) → slot < count → is_made (cells slot) ≡ false → gives slot ≡ false → clock ≤ tick → tick < clock + reach slot → tick < horizon
       → IsTold trace tells slot tick
 
--- the tells of a window's ticks [from, upto), by rising ticks
-pub record AreOfWindow (trace : ℕ → ℕ → Level) (cells : ℕ → Cell) (count from upto : ℕ) (tells : List Tell) : Type 0 where
+-- the tells of a window's ticks [from, upto), by rising ticks, but those of given slots
+pub record AreOfWindow (trace : ℕ → ℕ → Level) (cells : ℕ → Cell) (gives : ℕ → Bool) (count from upto : ℕ) (tells : List Tell) : Type 0 where
   pub right : (tell : Tell) → Contains tells tell → IsRight trace cells count tell × (from ≤ tell.tick) × (tell.tick < upto)
-  pub all : (slot tick : ℕ) → slot < count → is_made (cells slot) ≡ false → from ≤ tick → tick < upto → IsTold trace tells slot tick
+  pub all : (slot tick : ℕ) → slot < count → is_made (cells slot) ≡ false → gives slot ≡ false → from ≤ tick → tick < upto → IsTold trace tells slot tick
   pub order : AreInOrder tells

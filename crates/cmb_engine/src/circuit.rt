@@ -30,6 +30,7 @@ impl Circuit {
         requires narrower { width ≤ self.width }
         ensures circuit { IsCircuit design.now result }
         ensures width { result.width ≡ width }
+        ensures roles { result.wiring.roles.items ≡ self.wiring.roles.items }
     {
         Circuit { width, ..self }
     }

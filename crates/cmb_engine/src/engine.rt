@@ -29,6 +29,7 @@ pub struct Engine<'d> {
 }
 
 impl<'d> Model for Engine<'d> {
+    ghost use Rattle.std.specs.Prelude.{◌≡◌, []};
     ghost use Rattle.cmb_engine.specs.Engines.{Engine};
 
     ghost Value = { Engine };
@@ -42,7 +43,8 @@ impl<'d> Model for Engine<'d> {
     } };
 
     ghost invariant = { λ engine. IsCircuit engine.design.now engine.circuit
-        × IsState engine.design.now engine.circuit engine.state };
+        × IsState engine.design.now engine.circuit engine.state
+        × (engine.circuit.wiring.roles.items ≡ []) };
 }
 
 impl<'d> Engine<'d> {
@@ -51,7 +53,7 @@ impl<'d> Engine<'d> {
         ensures design { IfOk result (λ engine. engine.design ≡ design.entry.now) }
         ensures clock { IfOk result (λ engine. engine.clock ≡ 1) }
     {
-        let circuit = open_circuit(alloc, design)?;
+        let circuit = open_circuit(alloc, design, Vec::new(alloc))?;
         let state = open_state(alloc, design, &circuit)?;
         Ok(Engine {
             design,
@@ -128,7 +130,7 @@ impl<'d> Engine<'d> {
             circuit,
             state,
         } = self;
-        let state = state.advance(design, &circuit, changed)?;
+        let state = state.advance(design, &circuit, &[], changed)?;
         Ok(Engine {
             design,
             circuit,

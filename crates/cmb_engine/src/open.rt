@@ -2,6 +2,7 @@
 
 ghost use Rattle.std.specs.Prelude.{◌≡◌, ℕ, ◌*◌, ◌^◌, ◌<◌, ◌≤◌, true, length, IfOk};
 ghost use Rattle.cmb_engine.specs.Bits.{has};
+ghost use Rattle.cmb_engine.specs.Roles.{AreRoles};
 ghost use Rattle.cmb_engine.specs.States.{IsCircuit, IsState};
 
 use crate::circuit::Circuit;
@@ -10,6 +11,7 @@ use crate::lines::followers_of;
 use crate::marks::Marks;
 use crate::plan::{Plan, plan_of};
 use crate::readers::readers_of;
+use crate::role::Role;
 use crate::start::start_words;
 use crate::state::State;
 use crate::stimuli::{note_starts, note_stimuli};
@@ -18,21 +20,28 @@ use cmb_calendar::Calendar;
 use cmb_design::Design;
 use std::alloc::{AllocError, Global};
 
-/// The circuit of a design.
-pub(crate) fn open_circuit(alloc: Global, design: &Design) -> Result<Circuit, AllocError>
-    ensures { IfOk result (λ circuit. IsCircuit design.now circuit) }
+/// The circuit of a design, of which each net has its role.
+pub(crate) fn open_circuit(
+    alloc: Global,
+    design: &Design,
+    roles: Vec<Role>,
+) -> Result<Circuit, AllocError>
+    requires { AreRoles design.now roles.items }
+    ensures circuit { IfOk result (λ circuit. IsCircuit design.now circuit) }
+    ensures roles { IfOk result (λ circuit. circuit.wiring.roles.items ≡ roles.items) }
 {
     let Plan {
         cells,
         lines,
         most,
         width,
-    } = plan_of(alloc, design)?;
+    } = plan_of(alloc, design, roles.as_slice())?;
     let readers = readers_of(alloc, &cells)?;
     let flops = flops_of(alloc, &cells)?;
     let followers = followers_of(alloc, &lines, design.netlist().len())?;
     Ok(Circuit {
         wiring: Wiring {
+            roles,
             cells,
             readers,
             flops,
@@ -70,7 +79,7 @@ pub(crate) fn open_state(
     let live = all_below(alloc, words.len())?;
     let marks = Marks::new(alloc, words.len())?;
     let mut calendar = Calendar::open(alloc, circuit.width, design.horizon())?;
-    note_stimuli(design, &mut calendar)?;
+    note_stimuli(design, circuit.wiring.roles.as_slice(), &mut calendar)?;
     note_starts(
         &words,
         &circuit.lines,

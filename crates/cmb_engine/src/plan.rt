@@ -6,11 +6,13 @@ ghost use Rattle.cmb_bench.specs.Netlist.{driver_of, pins_of, IsNetlist};
 ghost use Rattle.cmb_bench.specs.declared.netlist.Driver.TheVariants as driver;
 ghost use Rattle.cmb_design.specs.Exact.{nets_of};
 ghost use Rattle.cmb_design.specs.Ranges.{IsDelay};
-ghost use Rattle.cmb_engine.specs.Plans.{cell_in, pins_from, AreCells, AreLines, Grows, Pushes, StandsFor};
+ghost use Rattle.cmb_engine.specs.Plans.{cell_as, cell_in, pins_from, AreCells, AreLines, Grows, Pushes, StandsFor};
+ghost use Rattle.cmb_engine.specs.Roles.{role_of, AreRoles};
 ghost use Rattle.cmb_engine.specs.Traces.{IsPlan};
 
 use crate::cell::Pin;
 use crate::cells::Cells;
+use crate::role::{Role, is_driven};
 use cmb_bench::{Driver, MAX_NETS};
 use cmb_design::{Clock, Design};
 use std::alloc::{AllocError, Global};
@@ -143,8 +145,8 @@ fn push_flop(
     cells.push_flop(Clock { first, ..clock }, pin)
 }
 
-// Adds the cell of a net; `pins` is room for its pins.
-fn push_net(
+// Adds the cell of a net that is driven; `pins` is room for its pins.
+fn push_driven(
     design: &Design,
     net: usize,
     lines: &mut Lines,
@@ -170,17 +172,47 @@ fn push_net(
     }
 }
 
+// Adds the cell of a net; `pins` is room for its pins.
+fn push_net(
+    design: &Design,
+    roles: &[Role],
+    net: usize,
+    lines: &mut Lines,
+    pins: &mut Vec<Pin>,
+    cells: &mut Cells,
+) -> Result<(), AllocError>
+    requires netlist { IsNetlist design.now.netlist }
+    requires net { net < nets_of design.now }
+    requires nets { lines.old.nets ≡ nets_of design.now }
+    ensures nets { lines.new.nets ≡ lines.old.nets }
+    ensures grows { OnOk result (Grows lines.old.list.items lines.new.list.items lines.old.most lines.new.most) }
+    ensures cell { OnOk result (Pushes cells.old cells.new
+        lines.new.nets lines.new.list.items lines.new.most
+        (cell_as design.now net (role_of roles.now net))) }
+{
+    if is_driven(roles, net) {
+        push_driven(design, net, lines, pins, cells)
+    } else {
+        cells.push_told()
+    }
+}
+
 // The cells of all nets.
-fn net_cells(alloc: Global, design: &Design, lines: &mut Lines) -> Result<Cells, AllocError>
+fn net_cells(
+    alloc: Global,
+    design: &Design,
+    roles: &[Role],
+    lines: &mut Lines,
+) -> Result<Cells, AllocError>
     requires { lines.old.nets ≡ nets_of design.now }
     ensures nets { lines.new.nets ≡ lines.old.nets }
-    ensures cells { IfOk result (λ cells. AreCells design.now (nets_of design.now) cells
+    ensures cells { IfOk result (λ cells. AreCells design.now roles.now (nets_of design.now) cells
         lines.new.list.items lines.new.most) }
 {
     let mut cells = Cells::with_capacity(alloc, design.netlist().len())?;
     let mut pins = Vec::new(alloc);
     for net in 0..design.netlist().len() {
-        push_net(design, net, lines, &mut pins, &mut cells)?;
+        push_net(design, roles, net, lines, &mut pins, &mut cells)?;
     }
     Ok(cells)
 }
@@ -197,12 +229,13 @@ fn width_of(lines: &[Pin], most: u32) -> u32
 }
 
 /// The plan of a design.
-pub(crate) fn plan_of(alloc: Global, design: &Design) -> Result<Plan, AllocError>
-    ensures plan { IfOk result (λ plan. IsPlan design.now plan.lines.items plan.most plan.width plan.cells) }
+pub(crate) fn plan_of(alloc: Global, design: &Design, roles: &[Role]) -> Result<Plan, AllocError>
+    requires { AreRoles design.now roles.now }
+    ensures plan { IfOk result (λ plan. IsPlan design.now roles.now plan.lines.items plan.most plan.width plan.cells) }
     ensures few { IfOk result (λ plan. length plan.cells < 2 ^ 32) }
 {
     let mut lines = Lines::new(alloc, design.netlist().len());
-    let mut cells = net_cells(alloc, design, &mut lines)?;
+    let mut cells = net_cells(alloc, design, roles, &mut lines)?;
     cells.push_told_ones(lines.list.len())?;
     let Lines {
         nets: _,

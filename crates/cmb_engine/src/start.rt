@@ -1,6 +1,6 @@
 //! What the slots of a design's engine show at tick 0.
 
-ghost use Rattle.std.specs.Prelude.{◌≡◌, ℕ, ◌+◌, ◌<◌, ◌≤◌, All, IfOk, length};
+ghost use Rattle.std.specs.Prelude.{◌≡◌, ℕ, ◌+◌, ◌<◌, ◌≤◌, List, All, IfOk, length};
 ghost use Rattle.cmb_wave.specs.declared.level.Level.{Level};
 ghost use Rattle.cmb_bench.specs.Netlist.{IsNetlist};
 ghost use Rattle.cmb_design.specs.Exact.{nets_of};
@@ -10,6 +10,7 @@ ghost use Rattle.cmb_engine.specs.Circuits.{Shows};
 ghost use Rattle.cmb_engine.specs.Traces.{trace_of};
 ghost use Rattle.cmb_engine.specs.Windows.{in_place};
 ghost use Rattle.cmb_engine.specs.Words.{levels_of};
+ghost use Rattle.cmb_engine.specs.declared.role.Role.{Role};
 
 use crate::cell::Pin;
 use cmb_bench::Driver;
@@ -59,7 +60,8 @@ pub(crate) fn start_words(
 ) -> Result<Vec<Word>, AllocError>
     requires lines { All (λ line. (line.net < nets_of design.now) × (1 ≤ line.delay)) lines.now }
     ensures len { IfOk result (λ words. length words.items ≡ nets_of design.now + length lines.now) }
-    ensures shows { IfOk result (λ words. Shows (levels_of words.items) (trace_of design.now lines.now)
+    ensures shows { IfOk result (λ words. (roles : List Role)
+        → Shows (levels_of words.items) (trace_of design.now roles lines.now)
         (nets_of design.now + length lines.now) 1) }
 {
     let mut words = net_words(alloc, design)?;

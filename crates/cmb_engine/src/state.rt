@@ -5,6 +5,8 @@ ghost use Rattle.cmb_design.specs.Exact.{nets_of};
 ghost use Rattle.cmb_design.specs.Value.{value};
 ghost use Rattle.cmb_words.specs.Changes.{RisesWithin, Tells};
 ghost use Rattle.cmb_engine.specs.Engines.{window_end};
+ghost use Rattle.cmb_engine.specs.Gifts.{AreGiven};
+ghost use Rattle.cmb_engine.specs.Roles.{level_in};
 ghost use Rattle.cmb_engine.specs.States.{IsCircuit, IsState};
 
 use crate::circuit::Circuit;
@@ -35,22 +37,26 @@ pub(crate) struct State {
 }
 
 impl State {
-    /// Goes on by a window, and says which nets changed in it.
+    /// Goes on by a window, of which the given nets are told, and says which nets changed in it.
     pub(crate) fn advance(
         self,
         design: &Design,
         circuit: &Circuit,
+        given: &[Changed],
         changed: &mut Vec<Changed>,
     ) -> Result<State, AllocError>
         requires circuit { IsCircuit design.now circuit.now }
         requires state { IsState design.now circuit.now self }
         requires below { self.clock < design.now.horizon }
+        requires given { AreGiven (value design.now) circuit.now.wiring.roles.items self.clock
+            (window_end circuit.now.width design.now.horizon self.clock) given.now }
         ensures state { IfOk result (λ state. IsState design.now circuit.now state) }
         ensures clock { IfOk result (λ state.
             state.clock ≡ window_end circuit.now.width design.now.horizon self.clock) }
         ensures later { IfOk result (λ state. (self.clock < state.clock) × (state.clock ≤ self.clock + 63)) }
         ensures nets { IfOk result (λ state. RisesWithin 0 (nets_of design.now) changed.new.items) }
-        ensures tells { IfOk result (λ state. Tells (value design.now) (nets_of design.now)
+        ensures tells { IfOk result (λ state. Tells
+            (level_in design.now circuit.now.wiring.roles.items) (nets_of design.now)
             self.clock state.clock changed.new.items) }
     {
         let State {
@@ -67,6 +73,7 @@ impl State {
         go_on(
             &circuit.wiring,
             &tells,
+            given,
             &mut words,
             &mut live,
             &mut marks,

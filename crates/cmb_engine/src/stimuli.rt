@@ -1,12 +1,16 @@
 //! What is told of told slots when an engine begins.
 
-ghost use Rattle.std.specs.Prelude.{◌≡◌, ◌+◌, ◌^◌, ◌<◌, All, OnOk, length};
+ghost use Rattle.std.specs.Prelude.{◌≡◌, ◌+◌, ◌^◌, ◌<◌, true, All, OnOk, length};
+ghost use Rattle.cmb_bench.specs.Netlist.{driver_of};
+ghost use Rattle.cmb_bench.specs.declared.netlist.Driver.TheVariants.{Input};
 ghost use Rattle.cmb_design.specs.Exact.{nets_of};
 ghost use Rattle.cmb_engine.specs.Lines.{NotesEach};
+ghost use Rattle.cmb_engine.specs.Roles.{drives};
 ghost use Rattle.cmb_engine.specs.Starts.{IsOfInput, IsOfStart, IsOfStimulus};
 ghost use Rattle.cmb_engine.specs.Words.{levels_of};
 
 use crate::cell::Pin;
+use crate::role::{Role, is_driven};
 use cmb_bench::Driver;
 use cmb_calendar::{Calendar, Tell};
 use cmb_design::Design;
@@ -36,16 +40,32 @@ fn note_stimulus(design: &Design, net: usize, calendar: &mut Calendar) -> Result
     Ok(())
 }
 
-/// Notes the changes of a design's inputs after tick 0.
-pub(crate) fn note_stimuli(design: &Design, calendar: &mut Calendar) -> Result<(), AllocError>
+// Whether a net is an input that is driven.
+fn is_driven_input(design: &Design, roles: &[Role], net: usize) -> bool
+    requires { net < nets_of design.now }
+    ensures so { result ≡ true → (driver_of design.now.netlist net ≡ Input) × (drives roles.now net ≡ true) }
+    ensures all { driver_of design.now.netlist net ≡ Input → drives roles.now net ≡ true → result ≡ true }
+{
+    match design.netlist().driver(net) {
+        Driver::Input => is_driven(roles, net),
+        _ => false,
+    }
+}
+
+/// Notes the changes of a design's driven inputs after tick 0.
+pub(crate) fn note_stimuli(
+    design: &Design,
+    roles: &[Role],
+    calendar: &mut Calendar,
+) -> Result<(), AllocError>
     requires { calendar.old.day ≡ 0 }
-    ensures notes { OnOk result (NotesEach (IsOfInput design.now) calendar.old calendar.new) }
+    ensures notes { OnOk result (NotesEach (IsOfInput design.now roles.now) calendar.old calendar.new) }
     ensures width { calendar.new.width ≡ calendar.old.width }
     ensures horizon { calendar.new.horizon ≡ calendar.old.horizon }
     ensures day { calendar.new.day ≡ calendar.old.day }
 {
     for net in 0..design.netlist().len() {
-        if let Driver::Input = design.netlist().driver(net) {
+        if is_driven_input(design, roles, net) {
             note_stimulus(design, net, calendar)?;
         }
     }

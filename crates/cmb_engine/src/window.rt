@@ -6,36 +6,43 @@ ghost use Rattle.cmb_calendar.specs.declared.tell.Tell.{Tell};
 ghost use Rattle.cmb_engine.specs.Bits.{has};
 ghost use Rattle.cmb_engine.specs.Cells.{cell_at, is_made};
 ghost use Rattle.cmb_engine.specs.Circuits.{AreQuiet, IsWiring, MeetsCells, Shows};
+ghost use Rattle.cmb_engine.specs.Gifts.{AreGiven};
+ghost use Rattle.cmb_engine.specs.Roles.{AreToldNets, gives};
 ghost use Rattle.cmb_engine.specs.Tells.{AreOfWindow};
 ghost use Rattle.cmb_engine.specs.Words.{levels_of};
 
 use crate::begin::mark_news;
 use crate::cells::Cells;
 use crate::flops::mark_arrivals;
+use crate::given::write_given;
 use crate::group::Group;
 use crate::marks::Marks;
 use crate::moves::move_on;
 use crate::readers::Readers;
+use crate::role::Role;
 use crate::settle::settle;
 use crate::told::write_told;
 use cmb_calendar::Tell;
-use cmb_words::Word;
+use cmb_words::{Changed, Word};
 
-/// What stays as it is while an engine goes on: its cells, who reads each slot, the groups of flip-flops, and how many
-/// ticks back a pin looks at most.
+/// What stays as it is while an engine goes on: what it does with each net, its cells, who reads each slot, the groups
+/// of flip-flops, and how many ticks back a pin looks at most.
 #[derive(Drop)]
 pub(crate) struct Wiring {
+    /// Empty where all nets are driven.
+    pub roles: Vec<Role>,
     pub cells: Cells,
     pub readers: Readers,
     pub flops: Vec<Group>,
     pub most: u32,
 }
 
-/// Goes on by a window of so many ticks, up to the clock `to`, where the tells are those of its ticks: words that show
-/// what the slots do up to the clock before show it up to this one then.
+/// Goes on by a window of so many ticks, up to the clock `to`, where the tells are those of its ticks, and what others
+/// drive is given: words that show what the slots do up to the clock before show it up to this one then.
 pub(crate) fn go_on(
     wiring: &Wiring,
     tells: &[Tell],
+    given: &[Changed],
     words: &mut [Word],
     live: &mut Marks,
     marks: &mut Marks,
@@ -44,6 +51,7 @@ pub(crate) fn go_on(
 )
     requires wiring { IsWiring wiring.now.cells wiring.now.readers
         wiring.now.flops.items wiring.now.most }
+    requires gives { AreToldNets wiring.now.cells wiring.now.roles.items }
     requires nets { length wiring.now.cells ≡ length words.old }
     requires room { length words.old ≤ 64 * length marks.old }
     requires live { length words.old ≤ 64 * length live.old }
@@ -61,7 +69,9 @@ pub(crate) fn go_on(
     ensures quiet { AreQuiet (levels_of words.new) (has live.new) (length words.old) }
     ensures shows { (trace : ℕ → ℕ → Level) → MeetsCells trace (cell_at wiring.now.cells)
         → Shows (levels_of words.old) trace (length words.old) (to - ticks)
-        → AreOfWindow trace (cell_at wiring.now.cells) (length words.old) (to - ticks) to tells.now
+        → AreOfWindow trace (cell_at wiring.now.cells) (gives wiring.now.roles.items) (length words.old) (to - ticks) to
+        tells.now
+        → AreGiven trace wiring.now.roles.items (to - ticks) to given.now
         → Shows (levels_of words.new) trace (length words.old) to }
 {
     let first = 64 - ticks;
@@ -69,6 +79,7 @@ pub(crate) fn go_on(
     move_on(words, live, ticks);
     mark_news(readers, words, live, marks, first - wiring.most);
     write_told(tells, readers, words, live, marks, to);
+    write_given(given, &wiring.roles, readers, words, live, marks, first);
     mark_arrivals(
         wiring.flops.as_slice(),
         &wiring.cells,

@@ -2,12 +2,13 @@
 use Rattle.std.proofs.Common.{◌≡◌, ℕ, ◌+◌, ◌^◌, ◌<◌, ◌≤◌, ◌==◌, Bool, true, false, List, [], ◌∷◌, ◌++◌, if◌then◌else◌, map, slice_index, sym, refl, ap, ◌∙◌, subst, arith, All, Contains, length-append, div-add-mod'}
 use Rattle.std.proofs.lemmas.List.Elements.{All-weaker, All-contains}
 use Rattle.std.proofs.lemmas.List.{get_or_append_left}
+use Rattle.atomic_table.specs.Seated.{TableId}
 use Rattle.atomic_table.proofs.Lists.{at_map}
 use Rattle.cmb_wave.specs.Calls.{word_of}
 use Rattle.cmb_wave.specs.declared.level.Promise.{Promise}
 use Rattle.cmb_design.specs.Exact.{nets_of, IsRightIn}
 use Rattle.cmb_links.specs.Promises.{promise_of_word, newest}
-use Rattle.cmb_links.specs.Seats.{driver, after_look, after_check, after_count}
+use Rattle.cmb_links.specs.Seats.{SeatData, driver, after_look, after_check, after_count}
 use Rattle.cmb_links.specs.Boards.{IsKnown, Moment, published_at, some_raised, number_finished}
 use Rattle.cmb_links.specs.declared.view.Stops.{Stops}
 use Rattle.cmb_links.specs.declared.view.View.{View}
@@ -16,6 +17,13 @@ use Rattle.cmb_links.proofs.Newest.{newest-net, promise_of_word-word_of}
 use Rattle.cmb_links.proofs.NetWords.{knows_newest}
 use Rattle.cmb_links.proofs.EndWord.{counts_itself}
 use Rattle.cmb_links.proofs.Steps.{log_here, loads, few_ended}
+
+-- a seat of a board: its table is the board's, and the board's nets are those of its design
+pub seat_at : (mine own board : TableId) (v : View) (seat : SeatData) (nets : ℕ) → record { board = mine; view = v } ≡ seat → seat.board ≡ board → own ≡ board
+    → mine.words ≡ nets_of v.terms.design + 2 → own.words ≡ nets + 2 → (mine ≡ own) × (nets ≡ nets_of v.terms.design)
+seat_at mine own board v seat nets is of same wide wide' =
+    let one : mine ≡ own = ap (λ (s : SeatData). s.board) is ∙ of ∙ sym same in
+    (one, omega (arith, ap (λ (t : TableId). t.words) one, wide, wide'))
 
 All-front : {X : Type 0} (P : X → Type 0) (xs ys : List X) → All P (xs ++ ys) → All P xs
 All-front P xs ys a k d in' = subst P (get_or_append_left xs ys d k in') (a k d (omega (arith, length-append xs ys)))

@@ -4,15 +4,17 @@ use Rattle.std.specs.Prelude.{All}
 use Rattle.std.proofs.lemmas.Bool.{cases_lt}
 use Rattle.std.proofs.lemmas.List.{get_or_past, get_or-replicate, length-replicate}
 use Rattle.std.proofs.lemmas.List.Elements.{All-cons, All-get_or, All-nil}
+use Rattle.std.proofs.lemmas.List.Sums.{count_by-le-length}
 use Rattle.cmb_bench.specs.Netlist.{Netlist, IsNetlist, IsWired, driver_of}
 use Rattle.cmb_bench.specs.declared.netlist.Driver.{Driver}
 use Rattle.cmb_bench.specs.declared.netlist.Driver.TheVariants.{Input, Gate, Flop}
 use Rattle.cmb_loops.specs.Loops.{targets, targets_of}
-use Rattle.cmb_loops.specs.Search.{IsBegun, IsSearch, IsUnderWay}
+use Rattle.cmb_loops.specs.Search.{IsBegun, IsSearch, IsUnderWay, is_new}
 use Rattle.cmb_loops.specs.declared.steps.Steps.{Steps}
 use Rattle.cmb_loops.specs.declared.steps.Steps.TheVariants as kind
 use Rattle.cmb_loops.specs.declared.search.Search.{Search}
 use Rattle.cmb_loops.specs.declared.search.Seen.TheVariants.{New}
+use Rattle.cmb_loops.proofs.NumberFacts.{numbered_begun}
 
 -- what all elements are, one past the end is too
 same_all : {X : Type 0} (n x : ℕ) (v : X) → get_or (replicate n v) x v ≡ v
@@ -56,9 +58,16 @@ wired netlist net lawful = by (cases_lt net (length netlist.drivers))
     by (inl l) = All-get_or (IsWired (length netlist.names)) netlist.drivers net Input l lawful.wired
     by (inr g) = let P : Driver → Type 0 = λ d. IsWired (length netlist.names) d in subst P (sym (get_or_past netlist.drivers net Input g)) tt
 
+pub targets_inside : (netlist : Netlist) (steps : Steps) (net : ℕ) → IsNetlist netlist → All (λ target. target < length netlist.names) (targets netlist steps net)
+targets_inside netlist steps net lawful = inside (length netlist.names) steps (driver_of netlist net) (wired netlist net lawful)
+
 pub begun : (netlist : Netlist) (steps : Steps) (search : Search) → IsNetlist netlist → IsBegun (length netlist.names) search → IsUnderWay netlist steps search []
 begun netlist steps search lawful is = record {
-  inside = λ net. inside (length netlist.names) steps (driver_of netlist net) (wired netlist net lawful);
+  inside = λ net. targets_inside netlist steps net lawful;
   sized = ap length is.seen ∙ length-replicate (length netlist.names) New;
   is = rw (is.seen, is.marks, is.path, is.starts) (nothing (targets netlist steps) (length netlist.names));
+  numbered = rw (is.seen, is.numbers, is.done) (numbered_begun (targets netlist steps) (length netlist.names) (λ net. same_all (length netlist.names) net New));
+  room =
+      let few = count_by-le-length is_new (replicate (length netlist.names) New) in
+      rw (is.seen, is.path, is.done) (omega (arith, few, length-replicate (length netlist.names) New));
 }

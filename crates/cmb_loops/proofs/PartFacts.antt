@@ -4,13 +4,20 @@ use Rattle.std.specs.Prelude.{All, Contains}
 use Rattle.std.proofs.lemmas.Bool.{cases_eq, cases_lt}
 use Rattle.std.proofs.lemmas.List.{get_or-drop, get_or-take, get_or_default, length-drop, length-take}
 use Rattle.std.proofs.lemmas.List.Elements.{All-contains, All-weaker, Contains-append_left, Contains-get_or, Contains-push, Contains-push_cases}
-use Rattle.cmb_loops.specs.Loops.{Walk, one, more}
-use Rattle.cmb_loops.specs.Search.{IsClosedPart, IsFollowed, IsLeft, IsLooped, IsOnePart, IsSearch, Reaches, seen_of}
+use Rattle.cmb_loops.specs.Loops.{Reaches, Walk, one, more}
+use Rattle.cmb_loops.specs.Search.{IsClosedPart, IsFollowed, IsLeft, IsLooped, IsOnePart, IsSearch, seen_of}
 use Rattle.cmb_loops.specs.declared.search.Frame.{Frame}
 use Rattle.cmb_loops.specs.declared.search.Seen.{Seen}
 use Rattle.cmb_loops.specs.declared.search.Seen.TheVariants.{On, Done}
 use Rattle.cmb_loops.proofs.SearchFacts.{all_last, contains_none, pairs_front, pairs_last}
 use Rattle.cmb_loops.proofs.WalkFacts.{reach_to, walk_stays}
+
+-- where a net of the part stands on the path
+pub place_in_part : (path : List ℕ) (place net : ℕ) → Contains (drop place path) net → (p : ℕ) × (place ≤ p) × (p < length path) × (get_or path p 0 ≡ net)
+place_in_part path place net there =
+    let l : there.0 < length (drop place path) = there.1 in
+    let h : place + there.0 < length path = omega (arith, length-drop place path) in
+    (place + there.0, omega arith, h, get_or_default path (place + there.0) 0 net h ∙ sym (get_or-drop place path there.0 net) ∙ there.2)
 
 pub closed : (next : ℕ → List ℕ) (seen seen' : List Seen) (marks marks' : List Bool) (path starts : List ℕ) (frames : List Frame) (place k : ℕ)
     → IsSearch next seen marks path (starts ++ place ∷ []) (frames ++ record { place = place; next = k } ∷ [])
@@ -84,10 +91,7 @@ closed next seen seen' marks marks' path starts frames place k is end shut loope
         subst P e there
 
     out : (x : ℕ) → Contains (drop place path) x → (p : ℕ) × (place ≤ p) × (p < length path) × (get_or path p 0 ≡ x)
-    out x there =
-        let l : there.0 < length (drop place path) = there.1 in
-        let h : place + there.0 < length path = omega (arith, length-drop place path) in
-        (place + there.0, omega arith, h, get_or_default path (place + there.0) 0 x h ∙ sym (get_or-drop place path there.0 x) ∙ there.2)
+    out x there = place_in_part path place x there
 
     shut-at : (p : ℕ) → place ≤ p → p < length path → seen_of seen' (get_or path p 0) ≡ Done
     shut-at p le h = All-contains (λ x. seen_of seen' x ≡ Done) (drop place path) (get_or path p 0) shut.done (into p le h)

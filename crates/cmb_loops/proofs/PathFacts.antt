@@ -1,12 +1,12 @@
 -- A search of a netlist, step by step.
-use Rattle.std.proofs.Common.{◌≡◌, ◌≢◌, ◌⊎◌, inl, inr, ℕ, ◌+◌, ◌-◌, ◌<◌, ◌≤◌, true, false, List, [], ◌∷◌, ◌++◌, length, take, drop, get_or, set, refl, sym, ap, ◌∙◌, subst, arith}
+use Rattle.std.proofs.Common.{◌≡◌, ◌≢◌, ◌⊎◌, inl, inr, ℕ, ◌+◌, ◌-◌, ◌<◌, ◌≤◌, List, [], ◌∷◌, ◌++◌, length, take, drop, get_or, set, refl, sym, ap, ◌∙◌, subst, arith}
 use Rattle.std.specs.Prelude.{All, AllPairs, Contains, count_by, Some, None}
 use Rattle.std.proofs.lemmas.Bool.{cases_eq, cases_lt}
-use Rattle.std.proofs.lemmas.List.{get_or_default, get_or_past, get_or_read, get_or-set_same, get_or-set_other, length-drop, length-set, take_all}
+use Rattle.std.proofs.lemmas.List.{get_or_default, get_or_past, get_or_read, get_or-set_same, get_or-set_other, length-drop, length-set, length-take, length_push, take_all}
 use Rattle.std.proofs.lemmas.List.Elements.{All-contains, Contains-get_or}
 use Rattle.cmb_bench.specs.Netlist.{Netlist}
-use Rattle.cmb_loops.specs.Loops.{AreLoops, Walk, one, targets}
-use Rattle.cmb_loops.specs.Search.{IsClosedPart, IsEntered, IsLooped, IsScanned, IsStill, IsUnderWay, Reaches, is_new, seen_of, targets_at}
+use Rattle.cmb_loops.specs.Loops.{AreLoops, Reaches, Walk, one, targets}
+use Rattle.cmb_loops.specs.Search.{IsClosedPart, IsEntered, IsLooped, IsNumberedAs, IsScanned, IsSearch, IsStill, IsUnderWay, is_new, seen_of, targets_at}
 use Rattle.cmb_loops.specs.declared.search.Frame.{Frame}
 use Rattle.cmb_loops.specs.declared.search.Search.{Search}
 use Rattle.cmb_loops.specs.declared.search.Seen.{Seen}
@@ -15,6 +15,7 @@ use Rattle.cmb_loops.specs.declared.steps.Steps.{Steps}
 use Rattle.cmb_loops.proofs.SearchFacts.{advanced, all_last, dropped, entered, last_reaches, merged, starts_before}
 use Rattle.cmb_loops.proofs.PartFacts.{closed}
 use Rattle.cmb_loops.proofs.MarkFacts.{one_fewer, split_last}
+use Rattle.cmb_loops.proofs.NumberFacts.{numbered_done, numbered_entered}
 use Rattle.cmb_loops.proofs.WalkFacts.{reach_from, reach_on}
 
 pub on_within : (seen : List Seen) (x place : ℕ) → seen_of seen x ≡ On place → x < length seen
@@ -68,6 +69,8 @@ scan_done netlist steps old new frames place next targets_now read under at with
       sized = under.sized;
       is = advanced (targets netlist steps) old.seen.items old.marks.items old.path.items old.starts.items frames place next under.is (rw at at within)
           (inl (seen_read netlist steps old (frames ++ record { place = place; next = next } ∷ []) (get_or old.path.items place 0) next read Done under (rw at at within) (rw at at is) done));
+      numbered = under.numbered;
+      room = under.room;
     })
 
 -- a step to a net on the path: the parts from there on become one
@@ -75,15 +78,18 @@ pub scan_on : (netlist : Netlist) (steps : Steps) (old new : Search) (frames : L
     → IsUnderWay netlist steps old (frames ++ record { place = place; next = next } ∷ []) → targets_now ≡ targets_at netlist steps old place → next < length targets_now
     → read ≡ get_or old.seen.items (get_or targets_now next 0) read → read ≡ On there
     → new.seen.items ≡ old.seen.items → new.marks.items ≡ old.marks.items → new.path.items ≡ old.path.items
+    → new.numbers.items ≡ old.numbers.items → new.done ≡ old.done
     → (gone : List ℕ) × (old.starts.items ≡ new.starts.items ++ gone) × All (λ start. there < start) gone
     → (AllPairs (λ one other. one < other) old.starts.items → All (λ start. start ≤ there) new.starts.items)
     → IsUnderWay netlist steps new (frames ++ record { place = place; next = next + 1 } ∷ [])
-scan_on netlist steps old new frames place next targets_now read there under at within is on seen marks path split low = record {
+scan_on netlist steps old new frames place next targets_now read there under at within is on seen marks path numbers done split low = record {
   inside = under.inside;
   sized = ap length seen ∙ under.sized;
   is = rw (seen, marks, path) (advanced to old.seen.items old.marks.items old.path.items new.starts.items frames place next
       (merged to old.seen.items old.marks.items old.path.items new.starts.items split.0 (frames ++ frame ∷ []) there (rw split.1 at under.is) split.2 reaches)
       within' (inr (there, state, λ start here under. All-contains (λ start. start ≤ there) new.starts.items start (low under-way) here)));
+  numbered = rw (seen, numbers, done) under.numbered;
+  room = rw (seen, path, done) under.room;
 }
   where
     to : ℕ → List ℕ
@@ -120,15 +126,24 @@ path_inside netlist steps search frames under k d within =
 pub finished : (netlist : Netlist) (steps : Steps) (old new : Search) (frames : List Frame) (place : ℕ) → IsScanned netlist steps old frames place None
     → 0 < length old.starts.items → get_or old.starts.items (length old.starts.items - 1) 0 ≡ place → new.starts.items ≡ take (length old.starts.items - 1) old.starts.items
     → new.path.items ≡ take place old.path.items → IsLooped (targets netlist steps) old.marks.items (drop place old.path.items) new.marks.items
-    → IsClosedPart old.seen.items (drop place old.path.items) new.seen.items → IsUnderWay netlist steps new frames
-finished netlist steps old new frames place (next, end, under) some last starts path looped shut = record {
+    → IsClosedPart old.seen.items (drop place old.path.items) new.seen.items → IsNumberedAs old.done old.numbers.items (drop place old.path.items) new.numbers.items
+    → new.done ≡ old.done + length (drop place old.path.items) → count_by is_new new.seen.items ≤ count_by is_new old.seen.items
+    → IsUnderWay netlist steps new frames
+finished netlist steps old new frames place (next, end, under) some last starts path looped shut given more fewer = record {
   inside = under.inside;
   sized = shut.long ∙ under.sized;
-  is = rw path (closed (targets netlist steps) old.seen.items new.seen.items old.marks.items new.marks.items old.path.items new.starts.items frames place next (rw begun at under.is) end shut looped);
+  is = rw path is;
+  numbered = rw more (numbered_done (targets netlist steps) old.seen.items new.seen.items old.numbers.items new.numbers.items old.marks.items old.path.items old.starts.items frames place next old.done under.is
+      is.closed shut given under.numbered);
+  room = let l = last_within netlist steps old frames (record { place = place; next = next }) under in
+      rw path (omega (arith, under.room, more, fewer, l, length-drop place old.path.items, length-take place old.path.items));
 }
   where
     begun : old.starts.items ≡ new.starts.items ++ place ∷ []
     begun = split_last old.starts.items some ∙ ap (λ s. s ++ get_or old.starts.items (length old.starts.items - 1) 0 ∷ []) (sym starts) ∙ ap (λ x. new.starts.items ++ x ∷ []) last
+
+    is : IsSearch (targets netlist steps) new.seen.items new.marks.items (take place old.path.items) new.starts.items frames
+    is = closed (targets netlist steps) old.seen.items new.seen.items old.marks.items new.marks.items old.path.items new.starts.items frames place next (rw begun at under.is) end shut looped
 
 -- a net within its part has no steps left
 pub kept : (netlist : Netlist) (steps : Steps) (search : Search) (frames : List Frame) (place : ℕ) → IsScanned netlist steps search frames place None
@@ -138,6 +153,8 @@ kept netlist steps search frames place (next, end, under) none = record {
   sized = under.sized;
   is = dropped (targets netlist steps) search.seen.items search.marks.items search.path.items search.starts.items frames place next under.is end
       (starts_before (targets netlist steps) search.seen.items search.marks.items search.path.items search.starts.items frames place next under.is none);
+  numbered = under.numbered;
+  room = under.room;
 }
 
 -- a new net is entered, which all nets of the path reach
@@ -149,6 +166,9 @@ entered_under netlist steps old new frames net under is within new_net reached s
   sized = ap length is.seen ∙ length-set old.seen.items net (On (length old.path.items)) ∙ under.sized;
   is = rw (is.seen, is.marks, is.path, is.starts, is.frames, same)
       (entered (targets netlist steps) old.seen.items old.marks.items old.path.items old.starts.items frames net under.is within new_net reached);
+  numbered = rw (is.seen, is.numbers, is.done) (numbered_entered (targets netlist steps) old.seen.items old.numbers.items old.done net (length old.path.items) within under.numbered);
+  room = let fewer = one_fewer old.seen.items net (length old.path.items) within new_net in
+      rw (is.seen, is.path, is.done) (omega (arith, under.room, fewer, length_push old.path.items net));
 }
 
 pub still_entered : (old new : List Seen) (net place : ℕ) → net < length old → new ≡ set old net (On place) → IsStill old new
@@ -187,6 +207,7 @@ reaches_next netlist steps search frames place next under within low h =
 module _ (netlist : Netlist) (steps : Steps) (old mid new : Search) (place next : ℕ) (targets_now : List ℕ)
     (scanned : IsScanned netlist steps old old.frames.items place (Some next)) (at : targets_now ≡ targets_at netlist steps old place)
     (seen : mid.seen.items ≡ old.seen.items) (marks : mid.marks.items ≡ old.marks.items) (path : mid.path.items ≡ old.path.items) (starts : mid.starts.items ≡ old.starts.items)
+    (numbers : mid.numbers.items ≡ old.numbers.items) (done : mid.done ≡ old.done)
     (is : IsEntered mid (get_or targets_now next 0) new) where
   net : ℕ
   net = get_or (targets_at netlist steps old place) next 0
@@ -200,7 +221,13 @@ module _ (netlist : Netlist) (steps : Steps) (old mid new : Search) (place next 
   pub descended : mid.frames.items ≡ old.frames.items ++ record { place = place; next = next } ∷ [] → IsUnderWay netlist steps new new.frames.items
   descended frames =
       entered_under netlist steps mid new (old.frames.items ++ record { place = place; next = next } ∷ []) (get_or (targets_at netlist steps old place) next 0)
-      (record { inside = scanned.2.inside; sized = ap length seen ∙ scanned.2.sized; is = rw (seen, marks, path, starts) scanned.2.is }) entered-is (rw seen within) (rw seen scanned.1)
+      (record {
+        inside = scanned.2.inside;
+        sized = ap length seen ∙ scanned.2.sized;
+        is = rw (seen, marks, path, starts) scanned.2.is;
+        numbered = rw (seen, numbers, done) scanned.2.numbered;
+        room = rw (seen, path, done) scanned.2.room;
+      }) entered-is (rw seen within) (rw seen scanned.1)
       (rw path (reaches_next netlist steps old old.frames.items place next scanned.2 scanned.0)) frames
 
   pub descended_fresh : count_by is_new new.seen.items + 1 ≡ count_by is_new old.seen.items
@@ -229,14 +256,18 @@ begun_under netlist steps old new net under frames is within fresh =
     entered_under netlist steps old new [] net under is (omega (arith, under.sized)) fresh (λ place h. absurd (idle_path netlist steps old under place h)) frames
 
 pub all_done : (netlist : Netlist) (steps : Steps) (search : Search) (end : ℕ) → IsUnderWay netlist steps search [] → length netlist.names ≤ end
-    → ((net : ℕ) → net < end → seen_of search.seen.items net ≢ New) → AreLoops netlist steps search.marks.items
-all_done netlist steps search end under far found = record {
+    → ((net : ℕ) → net < end → seen_of search.seen.items net ≢ New) → (net : ℕ) → net < length netlist.names → seen_of search.seen.items net ≡ Done
+all_done netlist steps search end under far found net within = by (seen_of search.seen.items net) refl
+  where
+    by : (s : Seen) → seen_of search.seen.items net ≡ s → seen_of search.seen.items net ≡ Done
+    by New e = absurd (found net (omega arith) e)
+    by (On place) e = absurd (idle_path netlist steps search under place (under.is.placed net place e).0)
+    by Done e = e
+
+pub looped_all : (netlist : Netlist) (steps : Steps) (search : Search) → IsUnderWay netlist steps search []
+    → ((net : ℕ) → net < length netlist.names → seen_of search.seen.items net ≡ Done) → AreLoops netlist steps search.marks.items
+looped_all netlist steps search under done = record {
   long = under.is.long ∙ under.sized;
   loops = λ net within marked. under.is.loops net marked;
-  all = λ net within loop. by net within loop (seen_of search.seen.items net) refl;
+  all = λ net within loop. under.is.all net (done net within) loop;
 }
-  where
-    by : (net : ℕ) → net < length netlist.names → Walk (targets netlist steps) net net → (s : Seen) → seen_of search.seen.items net ≡ s → get_or search.marks.items net false ≡ true
-    by net within loop New e = absurd (found net (omega arith) e)
-    by net within loop (On place) e = absurd (idle_path netlist steps search under place (under.is.placed net place e).0)
-    by net within loop Done e = under.is.all net e loop

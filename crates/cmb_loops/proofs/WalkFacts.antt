@@ -1,8 +1,7 @@
 -- Walks, and what they reach.
 use Rattle.std.proofs.Common.{ℕ, inl, inr, List, sym, subst}
 use Rattle.std.specs.Prelude.{Contains}
-use Rattle.cmb_loops.specs.Loops.{Walk, one, more}
-use Rattle.cmb_loops.specs.Search.{Reaches}
+use Rattle.cmb_loops.specs.Loops.{Reaches, Walk, one, more}
 
 pub walk_on : (next : ℕ → List ℕ) (a b c : ℕ) → Walk next a b → Walk next b c → Walk next a c
 walk_on next a b c (one h) w = more h w

@@ -1,17 +1,17 @@
 -- Feedback loops of a netlist, as a directed graph: a step leads from a net to each net that its driver reads.
-use Rattle.std.specs.Prelude.{◌≡◌, ℕ, ◌<◌, Bool, true, false, List, [], length, slice_index_or, Contains}
+use Rattle.std.specs.Prelude.{◌≡◌, ◌⊎◌, ℕ, ◌<◌, ◌≤◌, Bool, true, false, List, [], length, slice_index, slice_index_or, All, Contains}
 use Rattle.cmb_bench.specs.Netlist.{Netlist, driver_of, pins_of}
 use Rattle.cmb_bench.specs.declared.netlist.Driver.{Driver}
 use Rattle.cmb_bench.specs.declared.netlist.Driver.TheVariants.{Input, Gate, Flop}
 use Rattle.cmb_loops.specs.declared.steps.Steps.{Steps}
-use Rattle.cmb_loops.specs.declared.steps.Steps.TheVariants.{All, Gates}
+use Rattle.cmb_loops.specs.declared.steps.Steps.TheVariants as kind
 
 -- where steps lead from a net with this driver: to a gate's operands; to a flip-flop's data too, unless only gates count
 abbrev pub targets_of : Steps → Driver → List ℕ
-targets_of All driver = pins_of driver
-targets_of Gates Input = []
-targets_of Gates (Gate kind operands) = operands
-targets_of Gates (Flop source) = []
+targets_of kind.All driver = pins_of driver
+targets_of kind.Gates Input = []
+targets_of kind.Gates (Gate kind operands) = operands
+targets_of kind.Gates (Flop source) = []
 
 -- where steps lead from a net
 abbrev pub targets : Netlist → Steps → ℕ → List ℕ
@@ -32,3 +32,16 @@ pub record AreLoops (netlist : Netlist) (steps : Steps) (marks : List Bool) : Ty
   pub long : length marks ≡ length netlist.names
   pub loops : (net : ℕ) → net < length netlist.names → slice_index_or marks net false ≡ true → IsInLoop netlist steps net
   pub all : (net : ℕ) → net < length netlist.names → IsInLoop netlist steps net → slice_index_or marks net false ≡ true
+
+-- a net itself, or one to which a walk leads
+abbrev pub Reaches : (ℕ → List ℕ) → ℕ → ℕ → Type 0
+Reaches next a b = (a ≡ b) ⊎ Walk next a b
+
+-- a number for each net: nets with one number reach each other, and steps lead to no greater number, so nets that reach each other have one
+-- number
+pub record AreStrongComponents (netlist : Netlist) (steps : Steps) (numbers : List ℕ) : Type 0 where
+  pub nets : length numbers ≡ length netlist.names
+  pub below : All (λ number. number < length netlist.names) numbers
+  pub falls : (net : ℕ) → net < length netlist.names → All (λ target. slice_index numbers target ≤ slice_index numbers net) (targets netlist steps net)
+  pub together : (net other : ℕ) → net < length netlist.names → other < length netlist.names
+      → slice_index numbers net ≡ slice_index numbers other → Reaches (targets netlist steps) net other

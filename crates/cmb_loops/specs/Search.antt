@@ -1,8 +1,8 @@
 -- A path-based search for strongly connected components (H. N. Gabow, Path-based depth-first search for strong and biconnected components,
 -- Information Processing Letters 74, 2000; the first of its kind is of P. Purdom, 1970).
-use Rattle.std.specs.Prelude.{◌≡◌, ◌⊎◌, ℕ, ◌<◌, ◌≤◌, Bool, true, false, Option, Some, None, List, [], ◌∷◌, ◌++◌, length, drop, slice_index, slice_index_or, slice_set, replicate, All, AllPairs, Contains}
+use Rattle.std.specs.Prelude.{◌≡◌, ◌⊎◌, ℕ, ◌<◌, ◌≤◌, Bool, true, false, Option, Some, None, List, [], ◌∷◌, ◌++◌, length, drop, slice_index, count_by, ◌+◌, slice_index_or, slice_set, replicate, All, AllPairs, Contains}
 use Rattle.cmb_bench.specs.Netlist.{Netlist}
-use Rattle.cmb_loops.specs.Loops.{Walk, targets}
+use Rattle.cmb_loops.specs.Loops.{Reaches, Walk, targets}
 use Rattle.cmb_loops.specs.declared.steps.Steps.{Steps}
 use Rattle.cmb_loops.specs.declared.search.Search.{Search}
 use Rattle.cmb_loops.specs.declared.search.Frame.{Frame}
@@ -11,10 +11,6 @@ use Rattle.cmb_loops.specs.declared.search.Seen.TheVariants.{New, On, Done}
 
 abbrev pub seen_of : List Seen → ℕ → Seen
 seen_of seen net = slice_index_or seen net New
-
--- a net itself, or one to which a walk leads
-abbrev pub Reaches : (ℕ → List ℕ) → ℕ → ℕ → Type 0
-Reaches next a b = (a ≡ b) ⊎ Walk next a b
 
 -- no part begins between two places of the path
 abbrev pub IsOnePart : List ℕ → ℕ → ℕ → Type 0
@@ -52,11 +48,25 @@ pub record IsSearch (next : ℕ → List ℕ) (seen : List Seen) (marks : List B
   pub starts_left : (start : ℕ) → Contains starts start → (frame : Frame) × Contains frames frame × (frame.place ≡ start)
   pub first : 0 < length path → Contains starts 0
 
+-- nets that are done have numbers below how many are done: the nets of one part the same, and steps lead to no greater one
+pub record IsNumbered (next : ℕ → List ℕ) (seen : List Seen) (numbers : List ℕ) (done : ℕ) : Type 0 where
+  pub long : length numbers ≡ length seen
+  pub below : (net : ℕ) → seen_of seen net ≡ Done → slice_index numbers net < done
+  pub falls : (net target : ℕ) → seen_of seen net ≡ Done → Contains (next net) target → slice_index numbers target ≤ slice_index numbers net
+  pub together : (net other : ℕ) → seen_of seen net ≡ Done → seen_of seen other ≡ Done → slice_index numbers net ≡ slice_index numbers other → Reaches next net other
+
+abbrev pub is_new : Seen → Bool
+is_new New = true
+is_new (On place) = false
+is_new Done = false
+
 -- a search of a netlist, with these nets of which steps are left
 pub record IsUnderWay (netlist : Netlist) (steps : Steps) (search : Search) (frames : List Frame) : Type 0 where
   pub inside : (net : ℕ) → All (λ target. target < length netlist.names) (targets netlist steps net)
   pub sized : length search.seen.items ≡ length netlist.names
   pub is : IsSearch (targets netlist steps) search.seen.items search.marks.items search.path.items search.starts.items frames
+  pub numbered : IsNumbered (targets netlist steps) search.seen.items search.numbers.items search.done
+  pub room : search.done + length search.path.items + count_by is_new search.seen.items ≤ length netlist.names
 
 -- where steps lead from a place of the path
 abbrev pub targets_at : Netlist → Steps → Search → ℕ → List ℕ
@@ -74,15 +84,12 @@ IsScanned netlist steps search frames place None =
 abbrev pub IsStill : List Seen → List Seen → Type 0
 IsStill old new = (net : ℕ) → seen_of new net ≡ New → seen_of old net ≡ New
 
-abbrev pub is_new : Seen → Bool
-is_new New = true
-is_new (On place) = false
-is_new Done = false
-
 -- a new net was put at the end of the path, as a part of its own
 pub record IsEntered (old : Search) (net : ℕ) (new : Search) : Type 0 where
   pub seen : new.seen.items ≡ slice_set old.seen.items net (On (length old.path.items))
   pub marks : new.marks.items ≡ old.marks.items
+  pub numbers : new.numbers.items ≡ old.numbers.items
+  pub done : new.done ≡ old.done
   pub path : new.path.items ≡ old.path.items ++ net ∷ []
   pub starts : new.starts.items ≡ old.starts.items ++ length old.path.items ∷ []
   pub frames : new.frames.items ≡ old.frames.items ++ record { place = length old.path.items; next = 0 } ∷ []
@@ -111,10 +118,18 @@ pub record IsMarked (old : List Bool) (nets : List ℕ) (new : List Bool) : Type
   pub all : All (λ net. slice_index_or new net false ≡ true) nets
   pub only : (net : ℕ) → slice_index_or new net false ≡ true → (slice_index_or old net false ≡ true) ⊎ Contains nets net
 
+-- these nets have one number, and the others the one that they had
+pub record IsNumberedAs (number : ℕ) (old : List ℕ) (nets : List ℕ) (new : List ℕ) : Type 0 where
+  pub long : length new ≡ length old
+  pub all : All (λ net. slice_index new net ≡ number) nets
+  pub only : (net : ℕ) → Contains nets net ⊎ (slice_index new net ≡ slice_index old net)
+
 -- a search of so many nets of which none was found
 pub record IsBegun (count : ℕ) (search : Search) : Type 0 where
   pub seen : search.seen.items ≡ replicate count New
   pub marks : search.marks.items ≡ replicate count false
+  pub numbers : search.numbers.items ≡ replicate count 0
+  pub done : search.done ≡ 0
   pub path : search.path.items ≡ []
   pub starts : search.starts.items ≡ []
   pub frames : search.frames.items ≡ []

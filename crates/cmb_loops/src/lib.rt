@@ -7,5 +7,5 @@ mod path;
 mod search;
 pub mod steps;
 
-pub use loops::nets_in_loops;
-pub use steps::Steps;
+pub use loops::{nets_in_loops, strong_components};
+pub use steps::{Steps, targets_from};

@@ -1,7 +1,7 @@
-//! Which nets are in loops.
+//! Which nets are in loops, and the strongly connected components.
 
 ghost use Rattle.std.specs.Prelude.{IfOk};
-ghost use Rattle.cmb_loops.specs.Loops.{AreLoops};
+ghost use Rattle.cmb_loops.specs.Loops.{AreLoops, AreStrongComponents};
 ghost use Rattle.cmb_loops.specs.Search.{IsBegun};
 
 use crate::path::search_all;
@@ -17,6 +17,8 @@ fn begin(alloc: Global, count: usize) -> Result<Search, AllocError>
     Ok(Search {
         seen: vec![in alloc; Seen::New; count]?,
         marks: vec![in alloc; false; count]?,
+        numbers: vec![in alloc; 0usize; count]?,
+        done: 0,
         path: Vec::new(alloc),
         starts: Vec::new(alloc),
         frames: Vec::new(alloc),
@@ -42,9 +44,37 @@ pub fn nets_in_loops(
     let Search {
         seen: _,
         marks,
+        numbers: _,
+        done: _,
         path: _,
         starts: _,
         frames: _,
     } = search;
     Ok(marks)
+}
+
+/// The strongly connected components of a netlist: for each net a number, the same for two nets just where steps lead
+/// from each to the other. Steps lead to numbers that are as low or lower, so whoever goes by rising numbers finds what
+/// a component reads before it. A number is how many nets come before its component.
+///
+/// The search is that of `nets_in_loops`. Work and room are linear in the nets and pins.
+pub fn strong_components(
+    alloc: Global,
+    netlist: &Netlist,
+    steps: Steps,
+) -> Result<Vec<usize>, AllocError>
+    ensures { IfOk result (λ numbers. AreStrongComponents netlist.now steps numbers.items) }
+{
+    let mut search = begin(alloc, netlist.len())?;
+    search_all(&mut search, netlist, steps)?;
+    let Search {
+        seen: _,
+        marks: _,
+        numbers,
+        done: _,
+        path: _,
+        starts: _,
+        frames: _,
+    } = search;
+    Ok(numbers)
 }

@@ -3,7 +3,7 @@
 ghost use Rattle.std.specs.Prelude.{◌≡◌, ◌≢◌, ◌++◌, ◌-◌, ℕ, ◌<◌, ◌≤◌, List, true, false, length, slice_index};
 ghost use Rattle.std.specs.Prelude.{All, AllPairs, count_by};
 ghost use Rattle.cmb_loops.specs.Loops.{targets};
-ghost use Rattle.cmb_loops.specs.Search.{HasEdge, IsClosedPart, IsLooped, IsMarked, is_new};
+ghost use Rattle.cmb_loops.specs.Search.{HasEdge, IsClosedPart, IsLooped, IsMarked, IsNumberedAs, is_new};
 
 use crate::search::Seen;
 use crate::steps::{Steps, targets_from};
@@ -52,6 +52,16 @@ pub(crate) fn close(seen: &mut [Seen], part: &[u32])
 {
     for net in part {
         seen[*net as usize] = Seen::Done;
+    }
+}
+
+/// Gives each of these nets one number.
+pub(crate) fn number_all(numbers: &mut [usize], nets: &[u32], number: usize)
+    requires { All (λ net. net < length numbers.old) nets.now }
+    ensures { IsNumberedAs number numbers.old nets.now numbers.new }
+{
+    for net in nets {
+        numbers[*net as usize] = number;
     }
 }
 

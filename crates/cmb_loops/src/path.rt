@@ -2,11 +2,11 @@
 
 ghost use Rattle.std.specs.Prelude.{◌≡◌, ◌++◌, ◌∷◌, [], ◌+◌, ◌-◌, ◌<◌, ◌≤◌, ◌≢◌, length, slice_index, count_by};
 ghost use Rattle.std.specs.Prelude.{OnOk};
-ghost use Rattle.cmb_loops.specs.Loops.{AreLoops};
+ghost use Rattle.cmb_loops.specs.Loops.{AreLoops, AreStrongComponents};
 ghost use Rattle.cmb_loops.specs.Search.{IsEntered, IsScanned, IsStill, IsUnderWay, is_new, seen_of};
 ghost use Rattle.cmb_loops.specs.declared.search.Seen.TheVariants.{New};
 
-use crate::part::{close, ends_at, mark_loops, merge};
+use crate::part::{close, ends_at, mark_loops, merge, number_all};
 use crate::search::{Frame, Search, Seen};
 use crate::steps::{Steps, targets_from};
 use cmb_bench::Netlist;
@@ -57,7 +57,9 @@ fn finish(search: &mut Search, netlist: &Netlist, steps: Steps, place: usize)
     let _ = search.starts.pop();
     let part = &search.path.as_slice()[place..];
     mark_loops(search.marks.as_mut_slice(), netlist, steps, part);
+    number_all(search.numbers.as_mut_slice(), part, search.done);
     close(search.seen.as_mut_slice(), part);
+    search.done += part.len();
     search.path.truncate(place);
 }
 
@@ -137,7 +139,8 @@ pub(crate) fn search_all(
 ) -> Result<(), AllocError>
     requires under { IsUnderWay netlist.now steps search.old [] }
     requires frames { search.old.frames.items ≡ [] }
-    ensures { OnOk result (AreLoops netlist.now steps search.new.marks.items) }
+    ensures loops { OnOk result (AreLoops netlist.now steps search.new.marks.items) }
+    ensures parts { OnOk result (AreStrongComponents netlist.now steps search.new.numbers.items) }
 {
     for net in 0..netlist.len() {
         visit(search, netlist, steps, net as u32)?;

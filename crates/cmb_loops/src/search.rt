@@ -27,6 +27,10 @@ pub(crate) struct Search {
     pub seen: Vec<Seen>,
     /// For each net whether it was found in a loop.
     pub marks: Vec<bool>,
+    /// For each net that is done how many were done before its part.
+    pub numbers: Vec<usize>,
+    /// How many nets are done.
+    pub done: usize,
     /// The nets that aren't done, in the order in which they were found.
     pub path: Vec<u32>,
     /// Where the parts of the path begin. All nets of one part reach one another.

@@ -29,7 +29,7 @@ fn targets_by(steps: Steps, driver: &Driver) -> &[u32]
 }
 
 /// The nets to which a step leads from a net.
-pub(crate) fn targets_from(netlist: &Netlist, steps: Steps, net: usize) -> &[u32]
+pub fn targets_from(netlist: &Netlist, steps: Steps, net: usize) -> &[u32]
     requires { net < length netlist.now.names }
     ensures { result.now ≡ targets netlist.now steps net }
 {

@@ -174,22 +174,43 @@ fn check_command<'a>(alloc: Global) -> Result<Command<'a>, AllocError> {
     with_settings(alloc, Command::new(alloc, "check").about(CHECK))
 }
 
+// The program's command line without its commands.
+fn bare_command<'a>(alloc: Global) -> Result<Command<'a>, AllocError> {
+    Ok(
+        Command::new(alloc, "cmbsim")
+            .version(VERSION)
+            .about(ABOUT)
+            .before_help(USUAL)
+            .after_help(FILES)
+            .bin_name("cmbsim")?
+            .no_binary_name(true)
+            .subcommand_required(true),
+    )
+}
+
+// A command line with `run`.
+fn with_run<'a>(alloc: Global, command: Command<'a>) -> Result<Command<'a>, AllocError> {
+    let run = run_command(alloc)?;
+    command.subcommand(run)
+}
+
+// A command line with `check`.
+fn with_check<'a>(alloc: Global, command: Command<'a>) -> Result<Command<'a>, AllocError> {
+    let check = check_command(alloc)?;
+    command.subcommand(check)
+}
+
+// A command line with `explain`.
+fn with_explain<'a>(alloc: Global, command: Command<'a>) -> Result<Command<'a>, AllocError> {
+    let explain = explain_command(alloc)?;
+    command.subcommand(explain)
+}
+
 // The whole command line.
 fn whole_command<'a>(alloc: Global) -> Result<Command<'a>, AllocError> {
-    let run = run_command(alloc)?;
-    let check = check_command(alloc)?;
-    let explain = explain_command(alloc)?;
-    Command::new(alloc, "cmbsim")
-        .version(VERSION)
-        .about(ABOUT)
-        .before_help(USUAL)
-        .after_help(FILES)
-        .bin_name("cmbsim")?
-        .no_binary_name(true)
-        .subcommand_required(true)
-        .subcommand(run)?
-        .subcommand(check)?
-        .subcommand(explain)
+    let command = with_run(alloc, bare_command(alloc)?)?;
+    let command = with_check(alloc, command)?;
+    with_explain(alloc, command)
 }
 
 fn parse<'a>(alloc: Global, words: &'a [String]) -> Result<ArgMatches<'a>, Error> {
@@ -310,30 +331,56 @@ fn file_of(
     }
 }
 
+// The files that a line names.
+#[derive(Drop)]
+struct Files {
+    delays: Option<String>,
+    stimuli: Option<String>,
+    clocks: Option<String>,
+    only: Option<String>,
+}
+
+fn files_of(alloc: Global, matches: &ArgMatches<'_>) -> Result<Files, AllocError> {
+    Ok(Files {
+        delays: file_of(alloc, matches, "delays")?,
+        stimuli: file_of(alloc, matches, "stimuli")?,
+        clocks: file_of(alloc, matches, "clocks")?,
+        only: file_of(alloc, matches, "only")?,
+    })
+}
+
+fn settings_of(matches: &ArgMatches<'_>) -> Result<Settings, LineFault>
+    ensures { IfOk result (λ settings. (1 ≤ settings.horizon) × (settings.horizon ≤ 1000000)) }
+{
+    let horizon = horizon_of(matches)?;
+    let clock = common_clock(matches)?;
+    let init = init_of(matches);
+    Ok(Settings {
+        horizon,
+        clock,
+        init,
+    })
+}
+
 fn line_of(alloc: Global, task: Task, matches: &ArgMatches<'_>) -> Result<Line, LineFault>
     ensures horizon { IfOk result (λ line. (1 ≤ line.settings.horizon) × (line.settings.horizon ≤ 1000000)) }
     ensures mode { IfOk result (λ line. IsLawful line.mode) }
 {
-    let horizon = horizon_of(matches)?;
     let mode = mode_of(matches)?;
-    let clock = common_clock(matches)?;
-    let init = init_of(matches);
+    let settings = settings_of(matches)?;
+    let files = files_of(alloc, matches)?;
     Ok(Line {
         task,
         explain: matches.get_flag("explain"),
         progress: matches.get_flag("progress"),
         stats: matches.get_flag("stats"),
-        settings: Settings {
-            horizon,
-            clock,
-            init,
-        },
+        settings,
         mode,
         choice: choice_of(matches),
-        delays: file_of(alloc, matches, "delays")?,
-        stimuli: file_of(alloc, matches, "stimuli")?,
-        clocks: file_of(alloc, matches, "clocks")?,
-        only: file_of(alloc, matches, "only")?,
+        delays: files.delays,
+        stimuli: files.stimuli,
+        clocks: files.clocks,
+        only: files.only,
     })
 }
 

@@ -39,6 +39,16 @@ pub(crate) fn read_input<S: Source>(
     }
 }
 
+/// The size of a large block, in bytes.
+const LARGE: usize = 8_388_608;
+
+// Takes a large block and gives it back at once. An allocator that maps large blocks apart, as glibc's, then keeps
+// blocks of up to this size among the others, where they are used again: those of the texts too, if this comes first.
+// Where it is refused nothing is lost: it is a matter of speed alone.
+fn take_and_give_back(alloc: Global) {
+    let _ = Vec::<u8>::with_capacity(alloc, LARGE);
+}
+
 /// Reads the four inputs whole, in order: 60 where one has more than 16,777,216 bytes, 61 where a read of it failed, 70
 /// where memory was refused.
 pub fn read_texts<B: Source, D: Source, S: Source, C: Source>(
@@ -69,6 +79,7 @@ pub fn read_texts<B: Source, D: Source, S: Source, C: Source>(
         (input (S.remaining stimuli.old) (S.failures stimuli.old) (S.failures stimuli.new))
         (input (C.remaining clocks.old) (C.failures clocks.old) (C.failures clocks.new))) }
 {
+    take_and_give_back(alloc);
     Ok(InputTexts {
         bench: read_input(alloc, bench, 1)?,
         delays: read_input(alloc, delays, 2)?,

@@ -199,7 +199,7 @@ impl Wave {
     ///
     /// The piece may begin before the clock, and before the base too. Where it does, what it says of
     /// the ticks below the clock isn't compared with what is known of them.
-    #[tactic(auto, using(crate::proofs::Lists::rises_of_part, crate::proofs::Lists::part_drop, crate::proofs::Lists::trace_of_part))]
+    #[tactic(auto, using(crate::proofs::Lists::rises_of_part, crate::proofs::Lists::trace_of_part))]
     pub fn take(&mut self, piece: &Piece) -> Result<u32, WaveFault>
         ensures ok { OnOk result (taken self.old piece.now ≡ Ok self.new) }
         ensures clock { IfOk result (λ clock. clock ≡ self.new.clock) }
@@ -227,7 +227,7 @@ impl Wave {
 
     /// Goes on to the tick `to` by the changes between the clock and there, which continue the wave:
     /// their ticks rise, and the first is to another level than the wave's last. Makes no piece.
-    #[tactic(auto, using(crate::proofs::Lists::extended_trace, crate::proofs::Lists::trace_low, crate::proofs::Lists::length_span))]
+    #[tactic(auto, using(crate::proofs::Lists::trace_low, crate::proofs::Lists::length_span))]
     pub fn extend(&mut self, to: u32, changes: &[Change]) -> Result<(), AllocError>
         requires { IsTrace (last_level self.old.kept self.old.changes) self.old.clock changes.now to }
         ensures ok { OnOk result (self.new ≡ grown self.old to changes.now) }
@@ -299,7 +299,7 @@ impl Wave {
 
     /// The piece from the tick `from` up to the tick `upto`, None where they are one, of a wave that is
     /// known to go on without a change from its clock up to `upto`.
-    #[tactic(auto, using(crate::proofs::Lists::trace_drop, crate::proofs::Lists::trace_widen, crate::proofs::Lists::part_of_trace))]
+    #[tactic(auto, using(crate::proofs::Lists::trace_widen, crate::proofs::Lists::part_of_trace))]
     pub fn cut_up_to(&self, from: u32, upto: u32) -> Result<Option<Piece>, AllocError>
         requires later { self.now.clock ≤ upto }
         requires known { from ≤ upto }
@@ -316,7 +316,7 @@ impl Wave {
 
     /// Forgets the changes below the tick `upto`, which is then the base, and keeps the level that
     /// they leave and the count. Takes no memory.
-    #[tactic(auto, using(crate::proofs::Lists::forgotten_head, crate::proofs::Lists::take_below, crate::proofs::Lists::below_length))]
+    #[tactic(auto, using(crate::proofs::Lists::forgotten_head, crate::proofs::Lists::take_below))]
     pub fn forget(&mut self, upto: u32)
         requires known { upto ≤ self.old.clock }
         requires kept { self.old.base ≤ upto }

@@ -71,12 +71,10 @@ module _ (design : Design) (netlist : IsNetlist design.netlist) (clustering : Cl
 -- ---- one event
 
 -- what an event came to over a world that came about from newly opened clusters
-module _ (design : Design) (clustering : Clustering) (now after : WorldWaves) (past : List Event) (event at : Event) (reply : Result Reply PlayFault) (netlist : IsNetlist design.netlist) (lawful : IsClustering (nets_of design) clustering) (reached : IsReached design clustering now past) (is : event ≡ at)
-    (played : Plays (play_world design clustering now at) now after reply) (some : reply ≡ Err Memory → ⊥) where
+module _ (design : Design) (clustering : Clustering) (now after : WorldWaves) (past : List Event) (event : Event) (reply : Result Reply PlayFault) (netlist : IsNetlist design.netlist) (lawful : IsClustering (nets_of design) clustering) (reached : IsReached design clustering now past)
+    (played : Plays (play_world design clustering now event) now after reply) (some : reply ≡ Err Memory → ⊥) where
   went : ((play_world design clustering now event).world ≡ after) × ((play_world design clustering now event).reply ≡ reply)
-  went =
-      let P : Event → Type 0 = λ e. Plays (play_world design clustering now e) now after reply in
-      plays_on (play_world design clustering now event) now after reply some (subst P (sym is) played)
+  went = plays_on (play_world design clustering now event) now after reply some played
 
   pub play_shows : Shows design clustering after (play design clustering (clocks_after design clustering (start design clustering) past) event).clocks
   play_shows =

@@ -40,6 +40,24 @@ impl World {
     ghost use Rattle.cmb_core.specs.Step.{wave_at, with_wave};
     ghost use Rattle.cmb_world.specs.World.{Shows, play_world, world_after, world_replies};
 
+    // Makes an event happen.
+    fn answer(&mut self, event: Event) -> Result<Reply, PlayFault>
+        ensures played { (design : Design) (clustering : Clustering) → IsWorldOf design clustering self.old
+            → Plays (play_world design clustering (shown self.old) event) (shown self.old) (shown self.new) result }
+        ensures kept { (design : Design) (clustering : Clustering) → IsWorldOf design clustering self.old
+            → IsWorldOf design clustering self.new }
+        ensures unchanged { OnErr result (self.new ≡ self.old) }
+        ensures size { IsSameSize self.old self.new }
+    {
+        match event {
+            Event::Step(net) => self.step(net),
+            Event::Post(net, from) => self.post(net, from),
+            Event::Deliver(cluster, number) => self.deliver(cluster, number),
+            Event::Promise(net) => self.promise(net),
+            Event::Look(cluster, number) => self.look(cluster, number),
+        }
+    }
+
     /// What an event does: the call on its cluster, over that cluster's own waves as they stand. 45 where the net, the
     /// cluster or the number isn't there, 46 where a piece would begin beyond the clock, and then as the cluster
     /// refuses: 44, 42, 43, and 47, which doesn't come over exact waves. 70 where there is no memory for what a reply
@@ -63,13 +81,7 @@ impl World {
             (play_clocks design clustering (clocks_after design clustering (start design clustering) past)
             event).clocks }
     {
-        match event {
-            Event::Step(net) => self.step(net),
-            Event::Post(net, from) => self.post(net, from),
-            Event::Deliver(cluster, number) => self.deliver(cluster, number),
-            Event::Promise(net) => self.promise(net),
-            Event::Look(cluster, number) => self.look(cluster, number),
-        }
+        self.answer(event)
     }
 
     /// Each event in turn, refused ones too, with all their replies. The room for these is made first. Where

@@ -4,11 +4,11 @@ use Rattle.cmb_bench.specs.declared.text.Token.{Token}
 use Rattle.cmb_bench.specs.declared.text.Cursor.{Cursor}
 use Rattle.cmb_bench.specs.Text.{Word, word_of, Lexeme, tokens_from}
 use Rattle.cmb_bench.specs.Inner.Word.{is_end}
-use Rattle.cmb_bench.specs.Inner.Part.{parts_of}
+use Rattle.cmb_bench.specs.Inner.Snippet.{snippets_of}
 
 -- the tokens from a cursor on
 unfoldable pub scan : Cursor → List Lexeme
-scan cursor = tokens_from cursor.line cursor.last (parts_of cursor.rest.now)
+scan cursor = tokens_from cursor.line cursor.last (snippets_of cursor.rest.now)
 
 abbrev pub lexeme : Token → Lexeme
 lexeme token = record { word = word_of token.class token.text.now; line = token.line }

@@ -25,17 +25,11 @@ impl Started {
         self.threads.len()
     }
 
-    // Runs a worker in a thread of its own, and says whether it could.
-    fn add<'s, E, T: Terms + Send + Sync + 's, G: Turnstile + Sync, R: Threads + Wait + Sync>(
-        &mut self,
-        rt: &'s R,
-        scope: &Scope<'s, E>,
-        worker: Worker<T>,
-        gate: &'s G,
-    ) -> bool {
-        match scope.spawn(move || worker.run(rt, gate)) {
-            Ok(thread) => self.threads.push(thread).is_ok(),
-            Err(_unstarted) => false,
+    // Takes the handle of a thread, if there is one, and says whether it could.
+    fn take(&mut self, thread: Option<JoinHandle<bool>>) -> bool {
+        match thread {
+            Some(thread) => self.threads.push(thread).is_ok(),
+            None => false,
         }
     }
 
@@ -47,6 +41,16 @@ impl Started {
         }
         refused
     }
+}
+
+// Runs a worker in a thread of its own, None where that was refused.
+fn spawned<'s, E, T: Terms + Send + Sync + 's, G: Turnstile + Sync, R: Threads + Wait + Sync>(
+    rt: &'s R,
+    scope: &Scope<'s, E>,
+    worker: Worker<T>,
+    gate: &'s G,
+) -> Option<JoinHandle<bool>> {
+    scope.spawn(move || worker.run(rt, gate)).ok()
 }
 
 /// Runs each worker in a thread of its own. Where one is refused the stop word is raised.
@@ -69,7 +73,7 @@ pub(crate) fn start<
         refused: false,
     };
     for worker in workers {
-        if !started.add(rt, scope, worker, gate) {
+        if !started.take(spawned(rt, scope, worker, gate)) {
             started.refused = true;
             lookout.raise();
         }

@@ -16,7 +16,7 @@ checks_in header checks n earlier fields = record_checks header checks n fields
 
 pub loop-number-init : goal.loop-number-init
 unfolding checks_after first_fault
-loop-number-init g c = (c.open_records-reader.ensures.reading, [], ap (map fields_in) (sym c.open_records-reader.ensures.all), refl, refl, c.new-rows.ensures.items)
+loop-number-init g c = (c.open_records-reader.ensures.reading, [], ap (map fields_in) (sym c.open_records-reader.ensures.all), refl, refl, c.in-Ok.ensures.items)
 
 pub returns-in_err-take_record-in-Ok-true-clause-err : goal.returns-in_err-take_record-in-Ok-true-clause-err
 returns-in_err-take_record-in-Ok-true-clause-err g c =

@@ -21,7 +21,7 @@ returns-clause-plan c =
     c.in_ok-push_told_ones.ensures ∙ ap (λ (n : ℕ). c.in_ok-cells.cells ++ replicate n Told) count in
     let sooner : All (λ (line : Pin). width ≤ line.delay) lines.list.items =
     subst (λ (list : List Pin). All (λ line. width ≤ line.delay) list) c.as_slice.ensures.value c.width_of-width.ensures.lines in
-    subst (λ (all : List Cell). IsPlan design lines.list.items lines.most width all) (sym cells)
-    (plan-is design lines.list.items lines.most c.in_ok-cells.cells c.in_ok-cells.ensures.cells width
+    subst (λ (all : List Cell). IsPlan design c.args.roles.now lines.list.items lines.most width all) (sym cells)
+    (plan-is design c.args.roles.now lines.list.items lines.most c.in_ok-cells.cells c.requires c.in_ok-cells.ensures.cells width
     (subst (λ (n : ℕ). AreLines n lines.list.items lines.most) nets lines.lawful)
     c.width_of-width.ensures.fits (omega (arith, c.width_of-width.ensures.wide)) sooner)

@@ -1,35 +1,36 @@
-use Rattle.std.proofs.Common.{◌≡◌, ◌+◌, ◌<◌, subst, sym, ap, ◌∙◌, arith, length}
-use Rattle.cmb_bench.specs.Netlist.{Netlist, driver_of}
+use Rattle.std.proofs.Common.{◌+◌, ◌<◌, List, subst, sym, ap, ◌∙◌, arith, length}
+use Rattle.std.proofs.lemmas.Bool.{false≢true}
+use Rattle.cmb_bench.specs.Netlist.{Netlist}
 use Rattle.cmb_calendar.specs.Calendars.{Calendar}
 use Rattle.cmb_design.specs.Design.{Design}
 use Rattle.cmb_design.specs.Exact.{nets_of}
 use Rattle.cmb_engine.specs.Lines.{NotesEach}
 use Rattle.cmb_engine.specs.Starts.{IsOfInput}
+use Rattle.cmb_engine.specs.declared.role.Role.{Role}
 use Rattle.cmb_engine.proofs.StimulusFacts.{inputs-all, inputs-noted, inputs-passed}
 use Rattle.cmb_engine.proofs.stimuli.note_stimuli.Goals as goal
-use Rattle.cmb_engine.proofs.stimuli.note_stimuli.Goals.{in-Input+in_ok-note_stimulus, in_default}
+use Rattle.cmb_engine.proofs.stimuli.note_stimuli.Goals.{then-is_driven_input+in_ok-note_stimulus, else-is_driven_input}
 
 pub loop-net-preserved : goal.loop-net-preserved
 loop-net-preserved c =
     let design : Design = c.args.design.now in
+    let roles : List Role = c.args.roles.now in
     let old : Calendar = c.args.calendar.now in
     let inside : c.loop-net.net < nets_of design =
     omega (arith, ap (λ (netlist : Netlist). length netlist.names) c.netlist.ensures, c.loop-net-test.true, c.len-net-end.ensures.value) in
-    let driver : c.driver.result.now ≡ driver_of design.netlist c.loop-net.net =
-    c.driver.ensures ∙ ap (λ (netlist : Netlist). driver_of netlist c.loop-net.net) c.netlist-in-loop-net.ensures in
-    elim c.match-driver.branch [
-      | in-Input+in_ok-note_stimulus w ↦ record {
-        notes = subst (λ (calendar : Calendar). NotesEach (λ tell. IsOfInput design tell × (tell.slot < c.loop-net.net + 1)) old calendar) (sym w.calendar-is)
-            (inputs-noted design c.loop-net.net old c.loop-net.calendar w.note_stimulus.new.calendar c.loop-net.invariant.horizon c.loop-net.invariant.notes inside
-            (sym driver ∙ w.in-Input.is) w.in_ok-note_stimulus.ensures.notes);
+    elim c.if-is_driven_input.branch [
+      | then-is_driven_input+in_ok-note_stimulus w ↦ record {
+        notes = subst (λ (calendar : Calendar). NotesEach (λ tell. IsOfInput design roles tell × (tell.slot < c.loop-net.net + 1)) old calendar) (sym w.calendar-is)
+            (inputs-noted design roles c.loop-net.net old c.loop-net.calendar w.note_stimulus.new.calendar c.loop-net.invariant.horizon c.loop-net.invariant.notes inside
+            (c.is_driven_input.ensures.so w.if-is_driven_input.true) w.in_ok-note_stimulus.ensures.notes);
         width = ap (λ (calendar : Calendar). calendar.width) w.calendar-is ∙ w.note_stimulus.ensures.width ∙ c.loop-net.invariant.width;
         horizon = ap (λ (calendar : Calendar). calendar.horizon) w.calendar-is ∙ w.note_stimulus.ensures.horizon ∙ c.loop-net.invariant.horizon;
         day = ap (λ (calendar : Calendar). calendar.day) w.calendar-is ∙ w.note_stimulus.ensures.day ∙ c.loop-net.invariant.day;
       }
-      | in_default w ↦ record {
-        notes = subst (λ (calendar : Calendar). NotesEach (λ tell. IsOfInput design tell × (tell.slot < c.loop-net.net + 1)) old calendar) (sym w.calendar-is)
-            (inputs-passed design c.loop-net.net old c.loop-net.calendar c.loop-net.calendar c.loop-net.invariant.horizon c.loop-net.invariant.notes
-            (λ is. w.in_default.not-Input (driver ∙ is)));
+      | else-is_driven_input w ↦ record {
+        notes = subst (λ (calendar : Calendar). NotesEach (λ tell. IsOfInput design roles tell × (tell.slot < c.loop-net.net + 1)) old calendar) (sym w.calendar-is)
+            (inputs-passed design roles c.loop-net.net old c.loop-net.calendar c.loop-net.calendar c.loop-net.invariant.horizon c.loop-net.invariant.notes
+            (λ is driven. false≢true (sym w.if-is_driven_input.false ∙ c.is_driven_input.ensures.all is driven)));
         width = ap (λ (calendar : Calendar). calendar.width) w.calendar-is ∙ c.loop-net.invariant.width;
         horizon = ap (λ (calendar : Calendar). calendar.horizon) w.calendar-is ∙ c.loop-net.invariant.horizon;
         day = ap (λ (calendar : Calendar). calendar.day) w.calendar-is ∙ c.loop-net.invariant.day;
@@ -38,5 +39,5 @@ loop-net-preserved c =
 
 pub returns-clause-notes : goal.returns-clause-notes
 returns-clause-notes c =
-    inputs-all c.args.design.now c.loop-net.net c.args.calendar.now c.loop-net.calendar
+    inputs-all c.args.design.now c.args.roles.now c.loop-net.net c.args.calendar.now c.loop-net.calendar
     (omega (arith, ap (λ (netlist : Netlist). length netlist.names) c.netlist.ensures, c.loop-net-test.false, c.len-net-end.ensures.value)) c.loop-net.invariant.notes

@@ -5,7 +5,7 @@ use Rattle.cmb_engine.proofs.stimuli.note_stimuli.Given as goal
 
 abbrev pub invariant-loop-net : goal.invariant-loop-net
 invariant-loop-net l = record {
-  notes : NotesEach (λ tell. IsOfInput l.design tell × (tell.slot < l.net)) l.initial.calendar l.calendar;
+  notes : NotesEach (λ tell. IsOfInput l.design l.roles tell × (tell.slot < l.net)) l.initial.calendar l.calendar;
   width : l.calendar.width ≡ l.initial.calendar.width;
   horizon : l.calendar.horizon ≡ l.initial.calendar.horizon;
   day : l.calendar.day ≡ l.initial.calendar.day;

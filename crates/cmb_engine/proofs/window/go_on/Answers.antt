@@ -1,12 +1,18 @@
-use Rattle.std.proofs.Common.{◌+◌, ◌-◌, ◌<◌, ◌≤◌, ℕ, List, [], length, get_or, sym, subst, arith}
+use Rattle.std.proofs.Common.{◌≡◌, ◌+◌, ◌-◌, ◌<◌, ◌≤◌, true, ℕ, List, [], length, get_or, sym, subst, arith}
 use Rattle.std.specs.Prelude.{All}
-use Rattle.cmb_engine.specs.Cells.{IsPace, IsSteadyFrom, cell_at}
-use Rattle.cmb_engine.specs.Circuits.{IsInGroup}
-use Rattle.cmb_engine.specs.Tells.{AreOfWindow}
+use Rattle.cmb_engine.specs.Bits.{has}
+use Rattle.cmb_engine.specs.Cells.{Cell, IsPace, IsSteadyFrom, AreMarked, cell_at}
+use Rattle.cmb_engine.specs.Circuits.{IsInGroup, Shows}
+use Rattle.cmb_engine.specs.Gifts.{is_written}
+use Rattle.cmb_engine.specs.Roles.{AreToldNets, gives}
+use Rattle.cmb_engine.specs.Tells.{told_level, AreOfWindow}
 use Rattle.cmb_engine.specs.Words.{levels_of}
 use Rattle.cmb_engine.specs.declared.group.Group.{Group}
+use Rattle.cmb_engine.specs.declared.role.Role.{Role}
+use Rattle.cmb_engine.proofs.GivenFacts.{AreWritten, made-kept, unmarked-kept, written-true}
 use Rattle.cmb_engine.proofs.GroupFacts.{arrives-flop, groups-inside, groups-paced}
-use Rattle.cmb_engine.proofs.WindowFacts.{IsBegun, marked-kept, window-wired, window-shows}
+use Rattle.cmb_engine.proofs.TraceFacts.{made-inside}
+use Rattle.cmb_engine.proofs.WindowFacts.{IsBegun, IsWindow, marked-kept, window-wired, window-shows}
 use Rattle.cmb_engine.proofs.window.go_on.Goals as goal
 
 pub write_told-requires-clause-slots : goal.write_told-requires-clause-slots
@@ -18,7 +24,7 @@ pub settle-requires-clause-wired : goal.settle-requires-clause-wired
 settle-requires-clause-wired c =
     window-wired c.args.wiring.now.cells c.args.wiring.now.readers c.args.wiring.now.flops.items c.args.wiring.now.most
     c.requires.wiring
-    (length c.write_told.new.words) (64 - c.args.ticks) (omega (arith, c.requires.nets, c.move_on.ensures.len, c.write_told.ensures.len)) (omega (arith, c.requires.fits))
+    (length c.write_given.new.words) (64 - c.args.ticks) (omega (arith, c.requires.nets, c.move_on.ensures.len, c.write_told.ensures.len, c.write_given.ensures.len)) (omega (arith, c.requires.fits))
 
 pub mark_arrivals-requires-clause-paces : goal.mark_arrivals-requires-clause-paces
 mark_arrivals-requires-clause-paces c =
@@ -36,34 +42,65 @@ pub mark_arrivals-requires-clause-lawful : goal.mark_arrivals-requires-clause-la
 mark_arrivals-requires-clause-lawful c =
     (window-wired c.args.wiring.now.cells c.args.wiring.now.readers c.args.wiring.now.flops.items c.args.wiring.now.most
     c.requires.wiring
-    (length c.write_told.new.words) (64 - c.args.ticks) (omega (arith, c.requires.nets, c.move_on.ensures.len, c.write_told.ensures.len)) (omega (arith, c.requires.fits))).lawful
+    (length c.write_given.new.words) (64 - c.args.ticks) (omega (arith, c.requires.nets, c.move_on.ensures.len, c.write_told.ensures.len, c.write_given.ensures.len)) (omega (arith, c.requires.fits))).lawful
+
+pub write_given-requires-clause-slots : goal.write_given-requires-clause-slots
+write_given-requires-clause-slots c = λ slot gift.
+    let gifts : AreToldNets c.args.wiring.now.cells c.deref.result.now =
+    subst (λ (roles : List Role). AreToldNets c.args.wiring.now.cells roles) (sym c.deref.ensures.value) c.requires.gives in
+    omega (arith, (gifts slot gift).0, c.requires.nets, c.move_on.ensures.len, c.write_told.ensures.len)
 
 pub returns-clause-shows : goal.returns-clause-shows
-returns-clause-shows c = λ trace meets shows right slot place inside small.
+returns-clause-shows c = λ trace meets shows right given slot place inside small.
     let lists : List (List ℕ) = c.args.wiring.now.readers in
-    let begun : IsBegun c.args.wiring.now.cells lists c.args.wiring.now.most c.args.tells.now (levels_of c.move_on.new.words) (levels_of c.write_told.new.words)
+    let cells : List Cell = c.args.wiring.now.cells in
+    let roles : List Role = c.args.wiring.now.roles.items in
+    let same_roles : roles ≡ c.deref.result.now = sym c.deref.ensures.value in
+    let window : IsWindow (c.args.to - c.args.ticks) c.args.ticks c.args.to (64 - c.args.ticks) c.args.wiring.now.most =
+    record { ends = omega (arith, c.requires.later); places = omega (arith, c.requires.fits); begun = omega (arith, c.requires.later); some = c.requires.some; fits = omega (arith, c.requires.fits) } in
+    let shown_before : Shows (levels_of c.args.words.now) trace (length cells) (c.args.to - c.args.ticks) = λ s p l. shows s p (omega (arith, l, c.requires.nets)) in
+    let tells : AreOfWindow trace (cell_at cells) (gives roles) (length cells) (c.args.to - c.args.ticks) c.args.to c.args.tells.now = subst (λ (n : ℕ). AreOfWindow trace (cell_at cells) (gives roles) n (c.args.to - c.args.ticks) c.args.to c.args.tells.now) (sym c.requires.nets) right in
+    let told_words : (s p : ℕ) → s < length cells → p < 64
+    → levels_of c.write_told.new.words s p ≡ told_level c.args.tells.now s (levels_of c.move_on.new.words s p) (c.args.to + p - 64) =
+    λ s p l. c.write_told.ensures.words s p (omega (arith, l, c.requires.nets, c.move_on.ensures.len)) in
+    let writes : AreWritten roles c.args.given.now (levels_of c.write_told.new.words) (levels_of c.write_given.new.words) (64 - c.args.ticks) =
+    subst (λ (rs : List Role). AreWritten rs c.args.given.now (levels_of c.write_told.new.words) (levels_of c.write_given.new.words) (64 - c.args.ticks)) (sym same_roles)
+    (record { past = c.write_given.ensures.past; others = c.write_given.ensures.others; written = c.write_given.ensures.written }) in
+    let given_news : (s : ℕ) → is_written roles c.args.given.now s ≡ true → AreMarked (has c.write_given.new.marks) (get_or lists s []) =
+    subst (λ (rs : List Role). (s : ℕ) → is_written rs c.args.given.now s ≡ true → AreMarked (has c.write_given.new.marks) (get_or lists s [])) (sym same_roles) c.write_given.ensures.news in
+    let begun : IsBegun trace cells lists c.args.wiring.now.most (levels_of c.move_on.new.words) (levels_of c.write_given.new.words)
     c.move_on.new.live c.mark_arrivals.new.marks c.args.to (64 - c.args.ticks) =
     record {
       quiet = λ s p l. c.move_on.ensures.quiet s p (omega (arith, l, c.requires.nets));
       news = λ s l is.
           marked-kept (IsSteadyFrom (levels_of c.move_on.new.words s) (64 - c.args.ticks - c.args.wiring.now.most)) c.mark_news.new.marks c.mark_arrivals.new.marks (get_or lists s [])
-          (λ m h. c.mark_arrivals.ensures.kept m (c.write_told.ensures.marks m h))
+          (λ m h. c.mark_arrivals.ensures.kept m (c.write_given.ensures.marks m (c.write_told.ensures.marks m h)))
           (c.mark_news.ensures.news s (omega (arith, l, c.requires.nets, c.move_on.ensures.len)) is);
-      told_words = λ s p l. c.write_told.ensures.words s p (omega (arith, l, c.requires.nets, c.move_on.ensures.len));
-      told_news = λ tell among k l. c.mark_arrivals.ensures.kept _ (c.write_told.ensures.news tell among k l);
+      kept =
+          unmarked-kept trace cells roles (c.args.to - c.args.ticks) c.args.ticks c.args.to (64 - c.args.ticks) c.args.wiring.now.most window
+          (levels_of c.args.words.now) (levels_of c.move_on.new.words) (levels_of c.write_told.new.words) (levels_of c.write_given.new.words)
+          shown_before c.move_on.ensures.moved c.args.tells.now tells c.args.given.now given c.requires.gives told_words writes lists c.mark_arrivals.new.marks
+          (λ tell among k l. c.mark_arrivals.ensures.kept _ (c.write_given.ensures.marks _ (c.write_told.ensures.news tell among k l)))
+          (λ s h k l. c.mark_arrivals.ensures.kept _ (given_news s h k l));
+      made = λ s p m l.
+          made-kept trace cells roles (c.args.to - c.args.ticks) c.args.ticks c.args.to (64 - c.args.ticks) c.args.wiring.now.most window
+          (levels_of c.args.words.now) (levels_of c.move_on.new.words) (levels_of c.write_told.new.words) (levels_of c.write_given.new.words)
+          shown_before c.move_on.ensures.moved c.args.tells.now tells c.args.given.now given c.requires.gives told_words writes s p (made-inside cells s m) m l;
+      told_true =
+          written-true trace cells roles (c.args.to - c.args.ticks) c.args.ticks c.args.to (64 - c.args.ticks) c.args.wiring.now.most window
+          (levels_of c.args.words.now) (levels_of c.move_on.new.words) (levels_of c.write_told.new.words) (levels_of c.write_given.new.words)
+          shown_before c.move_on.ensures.moved c.args.tells.now tells c.args.given.now given c.requires.gives told_words writes;
       arrivals = λ s p late small h.
-          let arrival = arrives-flop (cell_at c.args.wiring.now.cells s) (c.args.to + p - 64) h in
+          let arrival = arrives-flop (cell_at cells s) (c.args.to + p - 64) h in
           let grouped : IsInGroup arrival.clock arrival.delay s c.as_slice.result.now =
           subst (λ (groups : List Group). IsInGroup arrival.clock arrival.delay s groups) (sym c.as_slice.ensures.value)
           (c.requires.wiring.flip_flops.all s arrival.clock arrival.delay arrival.flop) in
           c.mark_arrivals.ensures.arrivals arrival.clock arrival.delay s p grouped late small arrival.arrives;
     } in
-    window-shows trace c.args.wiring.now.cells lists c.args.wiring.now.flops.items c.args.wiring.now.most
+    window-shows trace cells lists c.args.wiring.now.flops.items c.args.wiring.now.most
     c.requires.wiring
-    meets (c.args.to - c.args.ticks) c.args.ticks c.args.to (64 - c.args.ticks)
-    (record { ends = omega (arith, c.requires.later); places = omega (arith, c.requires.fits); begun = omega (arith, c.requires.later); some = c.requires.some; fits = omega (arith, c.requires.fits) })
-    (levels_of c.args.words.now) (levels_of c.move_on.new.words) (levels_of c.write_told.new.words)
-    (λ s p l. shows s p (omega (arith, l, c.requires.nets))) c.move_on.ensures.moved c.args.tells.now
-    (subst (λ (n : ℕ). AreOfWindow trace (cell_at c.args.wiring.now.cells) n (c.args.to - c.args.ticks) c.args.to c.args.tells.now) (sym c.requires.nets) right)
+    meets (c.args.to - c.args.ticks) c.args.ticks c.args.to (64 - c.args.ticks) window
+    (levels_of c.args.words.now) (levels_of c.move_on.new.words) (levels_of c.write_given.new.words)
+    shown_before c.move_on.ensures.moved
     c.move_on.new.live c.mark_arrivals.new.marks begun (levels_of c.settle.new.words) c.settle.ensures.told c.settle.ensures.exact
     slot place (omega (arith, inside, c.requires.nets)) small

@@ -21,16 +21,16 @@ at c = targets_read c.args.netlist.now c.args.steps c.args.search.now c.args.sea
 
 pub returns-clause-under : goal.returns-clause-under
 returns-clause-under c = on_ok_weaker c.enter.result
-    (λ is. descended c.args.netlist.now c.args.steps c.args.search.now _ c.enter.new.search c.args.place c.args.next c.targets_from-targets.result.now c.requires (at c) refl refl refl refl is
+    (λ is. descended c.args.netlist.now c.args.steps c.args.search.now _ c.enter.new.search c.args.place c.args.next c.targets_from-targets.result.now c.requires (at c) refl refl refl refl refl refl is
     c.in_ok-push.ensures.items)
     c.enter.ensures
 
 pub returns-clause-fresh : goal.returns-clause-fresh
 returns-clause-fresh c = on_ok_weaker c.enter.result
-    (λ is. descended_fresh c.args.netlist.now c.args.steps c.args.search.now _ c.enter.new.search c.args.place c.args.next c.targets_from-targets.result.now c.requires (at c) refl refl refl refl is)
+    (λ is. descended_fresh c.args.netlist.now c.args.steps c.args.search.now _ c.enter.new.search c.args.place c.args.next c.targets_from-targets.result.now c.requires (at c) refl refl refl refl refl refl is)
     c.enter.ensures
 
 pub returns-clause-still : goal.returns-clause-still
 returns-clause-still c = on_ok_weaker c.enter.result
-    (λ is. descended_still c.args.netlist.now c.args.steps c.args.search.now _ c.enter.new.search c.args.place c.args.next c.targets_from-targets.result.now c.requires (at c) refl refl refl refl is)
+    (λ is. descended_still c.args.netlist.now c.args.steps c.args.search.now _ c.enter.new.search c.args.place c.args.next c.targets_from-targets.result.now c.requires (at c) refl refl refl refl refl refl is)
     c.enter.ensures

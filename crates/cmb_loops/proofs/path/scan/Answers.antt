@@ -16,11 +16,13 @@ loop-next-preserved c =
           let seen : c.match-index.search.seen.items ≡ c.loop-next.search.seen.items = ap (λ (s : Search). s.seen.items) w.search-is in
           let marks : c.match-index.search.marks.items ≡ c.loop-next.search.marks.items = ap (λ (s : Search). s.marks.items) w.search-is in
           let path : c.match-index.search.path.items ≡ c.loop-next.search.path.items = ap (λ (s : Search). s.path.items) w.search-is in
+          let numbers : c.match-index.search.numbers.items ≡ c.loop-next.search.numbers.items = ap (λ (s : Search). s.numbers.items) w.search-is in
+          let done : c.match-index.search.done ≡ c.loop-next.search.done = ap (λ (s : Search). s.done) w.search-is in
           let frames : c.match-index.search.frames.items ≡ c.loop-next.search.frames.items = ap (λ (s : Search). s.frames.items) w.search-is in
           let starts : c.match-index.search.starts.items ≡ w.merge.new.starts.items = ap (λ (s : Search). s.starts.items) w.search-is in
           record {
             under = scan_on c.args.netlist.now c.args.steps c.loop-next.search c.match-index.search c.args.search.now.frames.items c.args.frame.place c.loop-next.next c.targets_from-targets.result.now
-                c.index-in-loop-next.result.now w.in-On.place c.loop-next.invariant.under at c.loop-next-test.true c.index-in-loop-next.ensures w.in-On.is seen marks path
+                c.index-in-loop-next.result.now w.in-On.place c.loop-next.invariant.under at c.loop-next-test.true c.index-in-loop-next.ensures w.in-On.is seen marks path numbers done
                 (rw starts w.merge.ensures.split) (rw starts w.merge.ensures.low);
             seen = seen ∙ c.loop-next.invariant.seen;
             path = path ∙ c.loop-next.invariant.path;

@@ -6,7 +6,8 @@ returns-clause-circuit c =
     let was = c.requires.circuit in
     let circuit = c.args.self in
     record {
-      plan = narrower-plan c.args.design.now circuit.lines.items circuit.wiring.most circuit.width c.args.width circuit.wiring.cells c.requires.some c.requires.narrower was.plan;
+      roles = was.roles;
+      plan = narrower-plan c.args.design.now circuit.wiring.roles.items circuit.lines.items circuit.wiring.most circuit.width c.args.width circuit.wiring.cells c.requires.some c.requires.narrower was.plan;
       wires = was.wires;
       few = was.few;
       follow = was.follow;

@@ -3,18 +3,20 @@ use Rattle.std.specs.Prelude.{All, Contains, false}
 use Rattle.std.proofs.lemmas.List.{with_items_is}
 use Rattle.cmb_calendar.specs.declared.tell.Tell.{Tell}
 use Rattle.cmb_design.specs.Exact.{nets_of}
+use Rattle.cmb_design.specs.Value.{value}
 use Rattle.cmb_words.specs.declared.changed.Changed.{Changed}
 use Rattle.cmb_words.specs.declared.word.Word.{Word}
 use Rattle.cmb_words.specs.Changes.{RisesWithin, is_among}
 use Rattle.cmb_engine.specs.Bits.{has}
 use Rattle.cmb_engine.specs.Cells.{IsSteadyFrom}
 use Rattle.cmb_engine.specs.Circuits.{AreQuiet, Shows}
-use Rattle.cmb_engine.specs.Lines.{IsOfLine, NotesEach}
+use Rattle.cmb_engine.specs.Gifts.{AreGiven}
+use Rattle.cmb_engine.specs.Lines.{IsAhead, IsOfLine, NotesEach}
 use Rattle.cmb_engine.specs.Traces.{trace_of}
 use Rattle.cmb_engine.specs.Words.{levels_of}
 use Rattle.cmb_engine.specs.declared.cell.Pin.{Pin}
 use Rattle.cmb_engine.proofs.CollectFacts.{HasWord}
-use Rattle.cmb_engine.proofs.EngineFacts.{at-end, before-horizon, later, next-ahead, next-shows, told-slots, window-changes}
+use Rattle.cmb_engine.proofs.EngineFacts.{at-end, before-horizon, gift-slots, later, lines-ahead, next-ahead, next-shows, told-slots, window-changes}
 use Rattle.cmb_engine.proofs.state.State.advance.Goals as goal
 
 pub go_on-requires-clause-told : goal.go_on-requires-clause-told
@@ -23,6 +25,15 @@ go_on-requires-clause-told c = λ tell h.
     c.next_day-to.result c.requires.below c.next_day-to.ensures c.in_ok-take.ensures.takes c.in_ok-take.ensures.order tell
     (subst (λ (xs : List Tell). Contains xs tell) c.deref.ensures.value h) in
     (omega (arith, told.0, c.requires.state.slots, ap length c.deref_mut.ensures.value), told.1, told.2, told.3)
+
+pub go_on-requires-clause-gives : goal.go_on-requires-clause-gives
+go_on-requires-clause-gives c = gift-slots c.args.design.now c.args.circuit.now c.args.self c.requires.circuit c.requires.state
+
+pub note_lines-requires-clause-ahead : goal.note_lines-requires-clause-ahead
+note_lines-requires-clause-ahead c =
+    subst (λ (lines : List Pin). All (IsAhead c.take.new.self c.next_day-to.result (64 - (c.next_day-to.result - c.args.self.clock))) lines) (sym c.deref-4.ensures.value)
+    (lines-ahead c.args.design.now c.args.circuit.now c.args.self c.requires.circuit c.requires.state c.take.new.self c.take.new.taken.items c.next_day-to.result
+    c.requires.below c.next_day-to.ensures c.in_ok-take.ensures.takes)
 
 pub collect-requires-clause-quiet : goal.collect-requires-clause-quiet
 collect-requires-clause-quiet c =
@@ -49,10 +60,17 @@ module _ (c : goal.In_ok-note_lines) where
   nets : c.len.result ≡ nets_of c.args.design.now
   nets = c.len.ensures.value ∙ ap (λ n. length n.names) c.netlist.ensures
 
-  shows : Shows (levels_of c.go_on.new.words) (trace_of c.args.design.now c.args.circuit.now.lines.items) (length c.args.circuit.now.wiring.cells) c.next_day-to.result
+  -- what is given is given up to the window's end
+  given : AreGiven (value c.args.design.now) c.args.circuit.now.wiring.roles.items c.args.self.clock c.next_day-to.result c.args.given.now
+  given =
+      subst (λ (to : ℕ). AreGiven (value c.args.design.now) c.args.circuit.now.wiring.roles.items c.args.self.clock to c.args.given.now)
+      (sym (at-end c.args.design.now c.args.circuit.now c.args.self c.requires.circuit c.requires.state c.take.new.self c.take.new.taken.items c.next_day-to.result
+      c.requires.below c.next_day-to.ensures c.in_ok-take.ensures.takes)) c.requires.given
+
+  shows : Shows (levels_of c.go_on.new.words) (trace_of c.args.design.now c.args.circuit.now.wiring.roles.items c.args.circuit.now.lines.items) (length c.args.circuit.now.wiring.cells) c.next_day-to.result
   shows =
       next-shows c.args.design.now c.args.circuit.now c.args.self c.requires.circuit c.requires.state c.take.new.self c.take.new.taken.items c.next_day-to.result
-      c.requires.below c.next_day-to.ensures c.in_ok-take.ensures.takes c.deref_mut.result.now c.go_on.new.words c.deref.result.now c.deref_mut.ensures.value
+      c.requires.below c.next_day-to.ensures c.in_ok-take.ensures.takes c.deref_mut.result.now c.go_on.new.words c.deref.result.now c.args.given.now given c.deref_mut.ensures.value
       c.deref.ensures.value c.in_ok-take.ensures.order c.go_on.ensures.shows
 
   rises : RisesWithin 0 (nets_of c.args.design.now) c.collect.new.changed.items
@@ -84,7 +102,7 @@ returns-clause-state c =
       slots = ap length same ∙ c.go_on.ensures.len ∙ count c;
       live_room = omega (arith, c.go_on.ensures.live, c.requires.state.live_room);
       marks_room = omega (arith, c.go_on.ensures.room, c.requires.state.marks_room);
-      shows = subst (λ (ws : List Word). Shows (levels_of ws) (trace_of c.args.design.now c.args.circuit.now.lines.items) (length c.args.circuit.now.wiring.cells) c.next_day-to.result) (sym same) (shows c);
+      shows = subst (λ (ws : List Word). Shows (levels_of ws) (trace_of c.args.design.now c.args.circuit.now.wiring.roles.items c.args.circuit.now.lines.items) (length c.args.circuit.now.wiring.cells) c.next_day-to.result) (sym same) (shows c);
       quiet = subst (λ (ws : List Word). AreQuiet (levels_of ws) (has c.go_on.new.live) (length c.args.circuit.now.wiring.cells)) (sym same)
           (subst (λ (n : ℕ). AreQuiet (levels_of c.go_on.new.words) (has c.go_on.new.live) n) (count c) c.go_on.ensures.quiet);
       ahead = next-ahead c.args.design.now c.args.circuit.now c.args.self c.requires.circuit c.requires.state c.take.new.self c.take.new.taken.items c.next_day-to.result

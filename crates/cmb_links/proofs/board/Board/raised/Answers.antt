@@ -3,27 +3,21 @@ use Rattle.cmb_links.specs.Seats.{after_check, only}
 use Rattle.cmb_links.specs.Boards.{Moment, some_raised}
 use Rattle.cmb_links.specs.declared.view.View.{View}
 use Rattle.cmb_links.proofs.Allowed.{check_allowed}
-use Rattle.cmb_links.proofs.Loads.{Checked, looks_at_stop}
+use Rattle.cmb_links.proofs.Loads.{Checked, looks_at_stop, seat_at}
 use Rattle.cmb_links.proofs.board.Board.raised.Goals as goal
 
 pub load-requires : goal.load-requires
 load-requires c =
-    let wide = c.seat.invariant.1 in
-    let wide' = c.self.invariant.0 in
-    let board : c.seat.inside.inner.table_id ≡ c.self.inside.table.shared.table_id = ap (λ s. s.board) c.seat.view_is ∙ c.requires.board ∙ sym c.self.view_is in
-    let width = ap (λ t. t.words) board in
-    (board, omega arith, check_allowed _ _ _ _ _ (ap (λ m. m.0) c.seat.invariant.0) (omega arith))
+    let at = seat_at _ _ _ (only c.seat.inside.inner.me.0) _ c.self.inside.nets c.seat.view_is c.requires.board c.self.view_is c.seat.invariant.1 c.self.invariant.0 in
+    (at.0, omega (arith, at.1, c.seat.invariant.1), check_allowed _ _ _ _ _ (ap (λ m. m.0) c.seat.invariant.0) (omega (arith, at.1)))
 
 pub returns : goal.returns
 returns c =
     let v = only c.seat.inside.inner.me.0 in
     let seen : v ≡ c.args.seat.now.view = ap (λ s. s.view) c.seat.view_is in
-    let wide = c.seat.invariant.1 in
-    let wide' = c.self.invariant.0 in
-    let board : c.seat.inside.inner.table_id ≡ c.self.inside.table.shared.table_id = ap (λ s. s.board) c.seat.view_is ∙ c.requires.board ∙ sym c.self.view_is in
-    let width = ap (λ t. t.words) board in
+    let at = seat_at _ _ _ (only c.seat.inside.inner.me.0) _ c.self.inside.nets c.seat.view_is c.requires.board c.self.view_is c.seat.invariant.1 c.self.invariant.0 in
     let told = c.load.ensures.2 in
-    let told' = looks_at_stop v c.self.inside.nets c.load.result (omega arith) told.1 in
+    let told' = looks_at_stop v c.self.inside.nets c.load.result (omega (arith, at.1)) told.1 in
     let h = subst (λ (z : View). Checked z (c.load.result == 1)) seen told' in
     let now : after_check c.args.seat.now.view (c.load.result == 1) ≡ only c.load.new.seat.me.0 = sym (ap (λ m. only m.0) told.0 ∙ (λ i. after_check (seen i) (c.load.result == 1))) in
     record {

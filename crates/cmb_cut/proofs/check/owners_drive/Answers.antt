@@ -1,0 +1,17 @@
+use Rattle.std.proofs.Common.{ℕ, ◌<◌, arith, length}
+use Rattle.cmb_cut.specs.Sharings.{Drives, Owns}
+use Rattle.cmb_cut.specs.declared.sharing.Share.{Share}
+use Rattle.cmb_cut.proofs.ShareFacts.{drives_read, owns_read, upto_more, within_marks}
+use Rattle.cmb_cut.proofs.check.owners_drive.Goals as goal
+
+pub loop-net-preserved : goal.loop-net-preserved
+loop-net-preserved c =
+    let P : ℕ → Type 0 = λ net. (owner : Share) × Owns c.args.sharing.now owner net × Drives owner net in
+    let within : c.loop-net.net < length c.args.netlist.now.names = omega (arith, c.loop-net-test.true, c.len-net-end.ensures.value) in
+    let owns = owns_read c.args.sharing.now c.index-owner.result.now c.loop-net.net c.index.result.now (omega (arith, c.requires.nets, within)) c.requires.below c.index.ensures c.index-owner.ensures in
+    let long = within_marks c.args.netlist.now c.args.sharing.now c.index-owner.result.now c.loop-net.net c.requires.marks owns in
+    upto_more P c.loop-net.net c.loop-net.invariant (
+      c.index-owner.result.now,
+      owns,
+      drives_read c.index-owner.result.now c.loop-net.net c.index-in-loop-net.result.now (omega (arith, long, within)) c.index-in-loop-net.ensures c.if-not-index.false,
+    )

@@ -1,0 +1,2 @@
+pub mod Sharings
+pub mod Shapes

@@ -1,0 +1,217 @@
+-- What words show where something is given of their nets.
+use Rattle.std.proofs.Common.{◌≡◌, ℕ, zero, suc, ◌+◌, ◌-◌, ◌<◌, ◌≤◌, ◌⊎◌, inl, inr, min, true, false, ◌||◌, List, [], ◌∷◌, length, get_or, set, take, refl, sym, ap, subst, ◌∙◌, arith}
+use Rattle.std.specs.Prelude.{◌==◌, Contains}
+use Rattle.std.proofs.lemmas.Bool.{cases_lt, cases_eq, cases_Bool, eq-eqb, ne_eqb, false≢true, and_from, and_left, and_parts}
+use Rattle.std.proofs.lemmas.List.{take_more}
+use Rattle.std.proofs.lemmas.List.Folds.{list_any-append}
+use Rattle.cmb_wave.specs.declared.level.Level.{Level}
+use Rattle.cmb_calendar.specs.declared.tell.Tell.{Tell}
+use Rattle.cmb_design.specs.Design.{Design}
+use Rattle.cmb_design.specs.Value.{value}
+use Rattle.cmb_words.specs.declared.changed.Changed.{Changed}
+use Rattle.cmb_words.specs.Changes.{IsStill, is_among}
+use Rattle.cmb_words.specs.declared.word.Word.{Word}
+use Rattle.cmb_words.specs.Word.{level_at_place}
+use Rattle.cmb_engine.specs.Bits.{has}
+use Rattle.cmb_engine.specs.Cells.{Cell, AreMarked, cell_at, is_made}
+use Rattle.cmb_engine.specs.Circuits.{Shows}
+use Rattle.cmb_engine.specs.Gifts.{AreGiven, is_written}
+use Rattle.cmb_engine.specs.Roles.{AreRoles, AreToldNets, gives}
+use Rattle.cmb_engine.specs.Tells.{told_level, AreOfWindow}
+use Rattle.cmb_engine.specs.Traces.{trace_of}
+use Rattle.cmb_engine.specs.Words.{levels_of}
+use Rattle.cmb_engine.specs.declared.cell.Pin.{Pin}
+use Rattle.cmb_engine.specs.declared.role.Role.{Role}
+use Rattle.cmb_engine.proofs.RoleFacts.{given-inside, given-known, level-present}
+use Rattle.cmb_engine.proofs.ShowFacts.{told-keeps, told-same, told-shows}
+use Rattle.cmb_engine.proofs.SlotFacts.{trace-net}
+use Rattle.cmb_engine.proofs.TraceFacts.{shown}
+use Rattle.cmb_engine.proofs.TruthFacts.{in_place-tick}
+use Rattle.cmb_engine.proofs.WindowFacts.{IsWindow, moved-below, moved-held}
+use Rattle.cmb_engine.proofs.WordFacts.{levels_of-set_same, levels_of-set_other}
+
+-- ---- words
+
+-- a word of which a place stays
+pub word-kept : (words : List Word) (net : ℕ) (word : Word) (slot place : ℕ) → net < length words → level_at_place word place ≡ levels_of words net place
+    → levels_of (set words net word) slot place ≡ levels_of words slot place
+word-kept words net word slot place inside same = go (cases_eq slot net)
+  where
+    go : (slot ≡ net) ⊎ (slot ≡ net → ⊥) → levels_of (set words net word) slot place ≡ levels_of words slot place
+    go (inl e) =
+        ap (λ (s : ℕ). levels_of (set words net word) s place) e ∙ levels_of-set_same words net word place inside ∙ same ∙ ap (λ (s : ℕ). levels_of words s place) (sym e)
+    go (inr other) = levels_of-set_other words net slot word place other
+
+-- ---- which nets are written
+
+pub unwritten : (roles : List Role) (given : List Changed) (net : ℕ) → gives roles net ≡ false → is_written roles given net ≡ false
+unwritten roles given net h = and_left (gives roles net) (is_among net given) h
+
+pub among-one : (one : Changed) (net : ℕ) → is_among net (one ∷ []) ≡ true → one.net ≡ net
+among-one one net h = go (cases_eq one.net net)
+  where
+    go : (one.net ≡ net) ⊎ (one.net ≡ net → ⊥) → one.net ≡ net
+    go (inl e) = e
+    go (inr other) = let none : is_among net (one ∷ []) ≡ false = let e : (one.net == net) ≡ false = ne_eqb one.net net other in rw e refl in absurd (false≢true (sym none ∙ h))
+
+pub one-among : (one : Changed) (net : ℕ) → one.net ≡ net → is_among net (one ∷ []) ≡ true
+one-among one net same = let e : (one.net == net) ≡ true = eq-eqb one.net net same in rw e refl
+
+-- of one thing
+pub written-one : (roles : List Role) (one : Changed) (net : ℕ) → is_written roles (one ∷ []) net ≡ true → (gives roles one.net ≡ true) × (one.net ≡ net)
+written-one roles one net is =
+    let parts = and_parts (gives roles net) (is_among net (one ∷ [])) is in
+    let same : one.net ≡ net = among-one one net parts.1 in
+    (ap (gives roles) same ∙ parts.0, same)
+
+pub unwritten-one : (roles : List Role) (one : Changed) (net : ℕ) → gives roles one.net ≡ true → is_written roles (one ∷ []) net ≡ false → one.net ≡ net → ⊥
+unwritten-one roles one net gift isnt same =
+    false≢true (sym isnt ∙ and_from (gives roles net) (is_among net (one ∷ [])) (ap (gives roles) (sym same) ∙ gift) (one-among one net same))
+
+-- one thing more is given
+pub written-more : (roles : List Role) (given : List Changed) (k : ℕ) (one : Changed) (net : ℕ) → k < length given → one ≡ get_or given k one
+    → is_written roles (take (k + 1) given) net ≡ (is_written roles (take k given) net || is_written roles (one ∷ []) net)
+written-more roles given k one net small is = go (cases_Bool (gives roles net))
+  where
+    among : is_among net (take (k + 1) given) ≡ (is_among net (take k given) || is_among net (one ∷ []))
+    among =
+        ap (is_among net) (take_more given k one small)
+        ∙ list_any-append (λ (c : Changed). c.net == net) (take k given) (get_or given k one ∷ [])
+        ∙ ap (λ (c : Changed). is_among net (take k given) || is_among net (c ∷ [])) (sym is)
+
+    go : (gives roles net ≡ true) ⊎ (gives roles net ≡ false)
+        → is_written roles (take (k + 1) given) net ≡ (is_written roles (take k given) net || is_written roles (one ∷ []) net)
+    go (inl h) = rw h among
+    go (inr h) = rw h refl
+
+-- what is written, but not by the last one, is so by the others
+pub written-before : (roles : List Role) (given : List Changed) (k : ℕ) (one : Changed) (net : ℕ) → k < length given → one ≡ get_or given k one
+    → is_written roles (take (k + 1) given) net ≡ true → is_written roles (one ∷ []) net ≡ false → is_written roles (take k given) net ≡ true
+written-before roles given k one net small same is other = go (cases_Bool (is_written roles (take k given) net))
+  where
+    go : (is_written roles (take k given) net ≡ true) ⊎ (is_written roles (take k given) net ≡ false) → is_written roles (take k given) net ≡ true
+    go (inl h) = h
+    go (inr h) =
+        let none : (is_written roles (take k given) net || is_written roles (one ∷ []) net) ≡ false = rw (h, other) refl in
+        absurd (false≢true (sym none ∙ sym (written-more roles given k one net small same) ∙ is))
+
+-- what is given of the design's nets is given of what the slots show
+pub given-traced : (design : Design) (roles : List Role) (lines : List Pin) (from to : ℕ) (given : List Changed) → AreRoles design roles → AreGiven (value design) roles from to given
+    → AreGiven (trace_of design roles lines) roles from to given
+given-traced design roles lines from to given lawful right = record {
+  words = λ one among gift tick late small. right.words one among gift tick late small ∙ sym (same one.net tick gift);
+  others = λ net gift none tick late small. same net tick gift ∙ right.others net gift none tick late small ∙ sym (same net (suc tick) gift);
+}
+  where
+    same : (net tick : ℕ) → gives roles net ≡ true → trace_of design roles lines net tick ≡ value design net tick
+    same net tick gift =
+        trace-net design roles lines net tick (omega (arith, given-inside roles net gift, lawful.few))
+        ∙ level-present design roles net tick (given-known roles net gift)
+
+-- a waveform that is still has one level from the tick before a window on
+still-from : (level : ℕ → Level) (from upto tick : ℕ) → IsStill level from upto → 1 ≤ from → from ≤ tick + 1 → tick < upto → level tick ≡ level (from - 1)
+still-from level from upto zero still begun late small = ap level (omega arith)
+still-from level from upto (suc tick) still begun late small = go (cases_lt (tick + 1) from) (λ l. still-from level from upto tick still begun (omega arith) (omega arith))
+  where
+    go : (tick + 1 < from) ⊎ (from ≤ tick + 1) → (from ≤ tick + 1 → level tick ≡ level (from - 1)) → level (suc tick) ≡ level (from - 1)
+    go (inl l) so_far = ap level (omega arith)
+    go (inr l) so_far = sym (still tick (omega arith) small) ∙ so_far l
+
+-- ---- words into which what is told and given was written
+
+-- what was written of the given nets from a place on
+pub record AreWritten (roles : List Role) (given : List Changed) (told new : ℕ → ℕ → Level) (first : ℕ) : Type 0 where
+  pub past : (slot place : ℕ) → place < first → new slot place ≡ told slot place
+  pub others : (slot place : ℕ) → is_written roles given slot ≡ false → new slot place ≡ told slot place
+  pub written : (level : ℕ → ℕ → Level)
+      → ((one : Changed) → Contains given one → gives roles one.net ≡ true → (place : ℕ) → first ≤ place → place < 64 → level_at_place one.word place ≡ level one.net place)
+      → (slot place : ℕ) → is_written roles given slot ≡ true → first ≤ place → place < 64 → new slot place ≡ level slot place
+
+module _ (trace : ℕ → ℕ → Level) (cells : List Cell) (roles : List Role) (from ticks to first most : ℕ) (window : IsWindow from ticks to first most) (old moved told new : ℕ → ℕ → Level)
+    (shows : Shows old trace (length cells) from) (moves : (slot place : ℕ) → place < 64 → moved slot place ≡ old slot (min (place + ticks) 63))
+    (tells : List Tell) (right : AreOfWindow trace (cell_at cells) (gives roles) (length cells) from to tells) (given : List Changed) (gifts : AreGiven trace roles from to given)
+    (told_nets : AreToldNets cells roles)
+    (told_words : (slot place : ℕ) → slot < length cells → place < 64 → told slot place ≡ told_level tells slot (moved slot place) (to + place - 64))
+    (writes : AreWritten roles given told new first) where
+  below : (slot place : ℕ) → slot < length cells → place < first → told slot place ≡ moved slot place
+  below slot place inside early =
+      told_words slot place inside (omega arith)
+      ∙ told-keeps tells slot (to + place - 64) (moved slot place) (λ tell among e l. absurd (omega (arith, (right.right tell among).1)))
+
+  -- a told slot that isn't given
+  told-other : (slot place : ℕ) → slot < length cells → is_made (cell_at cells slot) ≡ false → gives roles slot ≡ false → first ≤ place → place < 64 → told slot place ≡ shown trace to slot place
+  told-other slot place inside isnt other late small =
+      told_words slot place inside small
+      ∙ ap (λ held. told_level tells slot held (to + place - 64)) (moved-held trace from ticks to first most (length cells) window old moved shows moves slot place inside late small)
+      ∙ told-shows trace (cell_at cells) (gives roles) (length cells) from to tells slot right window.begun inside isnt other (to + place - 64) (omega arith) (omega arith)
+      ∙ sym (in_place-tick (trace slot) to place (omega arith))
+
+  -- a given slot of which nothing is given
+  told-still : (slot place : ℕ) → slot < length cells → IsStill (trace slot) from to → first ≤ place → place < 64 → told slot place ≡ shown trace to slot place
+  told-still slot place inside still late small =
+      told_words slot place inside small
+      ∙ told-same tells slot (to + place - 64) (trace slot (to + place - 64)) (moved slot place)
+      (λ tell among e l.
+      (right.right tell among).0.level
+      ∙ ap (λ n. trace n tell.tick) e
+      ∙ still-from (trace slot) from to tell.tick still window.begun (omega (arith, (right.right tell among).1)) (omega (arith, (right.right tell among).2))
+      ∙ sym now)
+      (moved-held trace from ticks to first most (length cells) window old moved shows moves slot place inside late small ∙ sym now)
+      ∙ sym (in_place-tick (trace slot) to place (omega arith))
+    where
+      now : trace slot (to + place - 64) ≡ trace slot (from - 1)
+      now = still-from (trace slot) from to (to + place - 64) still window.begun (omega arith) (omega arith)
+
+  -- what is given shows the trace
+  word-shows : (one : Changed) → Contains given one → gives roles one.net ≡ true → (place : ℕ) → first ≤ place → place < 64 → level_at_place one.word place ≡ shown trace to one.net place
+  word-shows one among gift place late small =
+      let at : to + place - 64 + 64 - to ≡ place = omega arith in
+      ap (level_at_place one.word) (sym at)
+      ∙ gifts.words one among gift (to + place - 64) (omega arith) (omega arith)
+      ∙ sym (in_place-tick (trace one.net) to place (omega arith))
+
+  -- all told slots show the trace
+  pub written-true : (slot place : ℕ) → slot < length cells → is_made (cell_at cells slot) ≡ false → place < 64 → new slot place ≡ shown trace to slot place
+  written-true slot place inside isnt small = go (cases_lt place first)
+    where
+      by_gift : first ≤ place → gives roles slot ≡ true → (is_among slot given ≡ true) ⊎ (is_among slot given ≡ false) → new slot place ≡ shown trace to slot place
+      by_gift late gift (inl among) = writes.written (shown trace to) word-shows slot place (and_from (gives roles slot) (is_among slot given) gift among) late small
+      by_gift late gift (inr none) =
+          let idle : is_written roles given slot ≡ false = rw (gift, none) refl in
+          writes.others slot place idle ∙ told-still slot place inside (gifts.others slot gift none) late small
+
+      by_role : first ≤ place → (gives roles slot ≡ true) ⊎ (gives roles slot ≡ false) → new slot place ≡ shown trace to slot place
+      by_role late (inl gift) = by_gift late gift (cases_Bool (is_among slot given))
+      by_role late (inr other) = writes.others slot place (unwritten roles given slot other) ∙ told-other slot place inside isnt other late small
+
+      go : (place < first) ⊎ (first ≤ place) → new slot place ≡ shown trace to slot place
+      go (inl l) =
+          writes.past slot place l
+          ∙ below slot place inside l
+          ∙ moved-below trace from ticks to first most (length cells) window old moved shows moves slot place inside l
+      go (inr l) = by_role l (cases_Bool (gives roles slot))
+
+  -- a made slot is neither told nor given
+  pub made-kept : (slot place : ℕ) → slot < length cells → is_made (cell_at cells slot) ≡ true → place < 64 → new slot place ≡ moved slot place
+  made-kept slot place inside made small =
+      writes.others slot place (unwritten roles given slot (idle (cases_Bool (gives roles slot))))
+      ∙ told_words slot place inside small
+      ∙ told-keeps tells slot (to + place - 64) (moved slot place)
+      (λ tell among e l. false≢true (sym (subst (λ (n : ℕ). is_made (cell_at cells n) ≡ false) e (right.right tell among).0.told) ∙ made))
+    where
+      idle : (gives roles slot ≡ true) ⊎ (gives roles slot ≡ false) → gives roles slot ≡ false
+      idle (inl gift) = absurd (false≢true (sym (told_nets slot gift).1 ∙ made))
+      idle (inr other) = other
+
+  -- a slot whose readers aren't all marked is as it was
+  pub unmarked-kept : (readers : List (List ℕ)) (marks : List ℕ) → ((tell : Tell) → Contains tells tell → AreMarked (has marks) (get_or readers tell.slot []))
+      → ((slot : ℕ) → is_written roles given slot ≡ true → AreMarked (has marks) (get_or readers slot []))
+      → (slot : ℕ) → slot < length cells → (AreMarked (has marks) (get_or readers slot []) → ⊥) → (place : ℕ) → place < 64 → new slot place ≡ moved slot place
+  unmarked-kept readers marks told_news given_news slot inside none place small =
+      writes.others slot place (idle (cases_Bool (is_written roles given slot)))
+      ∙ told_words slot place inside small
+      ∙ told-keeps tells slot (to + place - 64) (moved slot place) (λ tell among e l. none (subst (λ (n : ℕ). AreMarked (has marks) (get_or readers n [])) e (told_news tell among)))
+    where
+      idle : (is_written roles given slot ≡ true) ⊎ (is_written roles given slot ≡ false) → is_written roles given slot ≡ false
+      idle (inl h) = absurd (none (given_news slot h))
+      idle (inr h) = h

@@ -1,0 +1,20 @@
+use Rattle.std.proofs.Common.{◌≡◌, ◌<◌, ℕ, true, List, length, get_or, sym, subst, ◌∙◌, arith}
+use Rattle.cmb_engine.specs.Roles.{gives}
+use Rattle.cmb_engine.proofs.given.give_word.Goals as goal
+
+pub of-requires : goal.of-requires
+of-requires c =
+    let gift : gives c.args.roles.now c.args.one.net ≡ true = sym c.is_given.ensures ∙ c.if-not-is_given.false in
+    omega (arith, c.requires.slots c.args.one.net gift, c.requires.lists)
+
+pub write_word-requires-clause-slot : goal.write_word-requires-clause-slot
+write_word-requires-clause-slot c =
+    let gift : gives c.args.roles.now c.args.one.net ≡ true = sym c.is_given.ensures ∙ c.if-not-is_given.false in
+    c.requires.slots c.args.one.net gift
+
+pub write_word-requires-clause-within : goal.write_word-requires-clause-within
+write_word-requires-clause-within c = λ k d small.
+    let below : get_or c.of.result.now k d < length c.args.words.now =
+    subst (λ (readers : List ℕ). get_or readers k d < length c.args.words.now) (sym c.of.ensures)
+    (c.requires.within c.args.one.net k d (subst (λ (readers : List ℕ). k < length readers) c.of.ensures small)) in
+    omega (arith, below, c.requires.room)

@@ -1,0 +1,16 @@
+-- What is given of a window: the words of nets that others drive. Only contracts inside this crate cite these.
+use Rattle.std.specs.Prelude.{◌≡◌, ℕ, ◌&&◌, Bool, true, false, List, Contains}
+use Rattle.cmb_wave.specs.declared.level.Level.{Level}
+use Rattle.cmb_words.specs.declared.changed.Changed.{Changed}
+use Rattle.cmb_words.specs.Changes.{IsStill, TellsNet, is_among}
+use Rattle.cmb_engine.specs.Roles.{gives}
+use Rattle.cmb_engine.specs.declared.role.Role.{Role}
+
+-- whether a net is a given one and among what is given
+abbrev pub is_written : List Role → List Changed → ℕ → Bool
+is_written roles given net = gives roles net && is_among net given
+
+-- the words tell what the given nets do at the ticks of [from, upto)
+pub record AreGiven (level : ℕ → ℕ → Level) (roles : List Role) (from upto : ℕ) (given : List Changed) : Type 0 where
+  pub words : (one : Changed) → Contains given one → gives roles one.net ≡ true → TellsNet level from upto one
+  pub others : (net : ℕ) → gives roles net ≡ true → is_among net given ≡ false → IsStill (level net) from upto

@@ -1,0 +1,34 @@
+-- A share of a design's nets, simulated by an engine of its own: it drives them, and what they read of other nets is given to it.
+use Rattle.std.specs.Prelude.{◌≡◌, ℕ, Bool, true, false, List, Contains, slice_index_or}
+use Rattle.cmb_wave.specs.declared.level.Level.{Level}
+use Rattle.cmb_bench.specs.Netlist.{driver_of, pins_of}
+use Rattle.cmb_design.specs.Design.{Design}
+use Rattle.cmb_words.specs.declared.changed.Changed.{Changed}
+use Rattle.cmb_words.specs.Changes.{IsStill, TellsNet, is_among}
+use Rattle.cmb_engine.specs.Engines.{window_end}
+
+-- a design, which of its nets are driven, the most ticks of a window, and the tick below which the driven nets are known
+pub record ShareEngine : Type 0 where
+  pub design : Design
+  pub driven : List Bool
+  pub width : ℕ
+  pub clock : ℕ
+
+abbrev pub IsDriven : List Bool → ℕ → Type 0
+IsDriven driven net = slice_index_or driven net false ≡ true
+
+-- a net is given: it isn't driven, and a net that is driven reads it
+pub record IsGiven (design : Design) (driven : List Bool) (net : ℕ) : Type 0 where
+  pub undriven : slice_index_or driven net false ≡ false
+  pub reader : ℕ
+  pub reader_driven : IsDriven driven reader
+  pub read : Contains (pins_of (driver_of design.netlist reader)) net
+
+-- the words tell all changes of some nets at the ticks of [from, upto); what they tell of other nets may be anything
+pub record TellsThose (Those : ℕ → Type 0) (level : ℕ → ℕ → Level) (from upto : ℕ) (changed : List Changed) : Type 0 where
+  pub words : (one : Changed) → Contains changed one → Those one.net → TellsNet level from upto one
+  pub others : (net : ℕ) → Those net → is_among net changed ≡ false → IsStill (level net) from upto
+
+-- the tick below which the driven nets are known after the next window
+abbrev pub share_clock : ShareEngine → ℕ
+share_clock engine = window_end engine.width engine.design.horizon engine.clock

@@ -1,0 +1,129 @@
+//! What is given of the nets that others drive.
+
+ghost use Rattle.std.specs.Prelude.{◌≡◌, ℕ, ◌*◌, ◌<◌, ◌≤◌, true, false, [], ◌∷◌, All, Contains, length, slice_index_or};
+ghost use Rattle.cmb_wave.specs.declared.level.Level.{Level};
+ghost use Rattle.cmb_words.specs.declared.changed.Changed.{Changed};
+ghost use Rattle.cmb_words.specs.Word.{level_at_place};
+ghost use Rattle.cmb_engine.specs.Bits.{has};
+ghost use Rattle.cmb_engine.specs.Cells.{AreBelow, AreMarked};
+ghost use Rattle.cmb_engine.specs.Gifts.{is_written};
+ghost use Rattle.cmb_engine.specs.Roles.{gives};
+ghost use Rattle.cmb_engine.specs.Words.{levels_of};
+
+use crate::marks::Marks;
+use crate::readers::Readers;
+use crate::role::{Role, is_given};
+use crate::settle::mark_all;
+use cmb_words::{Changed, Word, spliced};
+
+// Writes the word of one net from a place on, and marks who reads the net.
+fn write_word(
+    one: Changed,
+    readers: &[u32],
+    words: &mut [Word],
+    live: &mut Marks,
+    marks: &mut Marks,
+    first: u32,
+)
+    requires slot { one.net < length words.old }
+    requires first { first < 64 }
+    requires within { All (λ reader. reader < 64 * length marks.old) readers.now }
+    requires live { length words.old ≤ 64 * length live.old }
+    ensures len { length words.new ≡ length words.old }
+    ensures room { length marks.new ≡ length marks.old }
+    ensures live_room { length live.new ≡ length live.old }
+    ensures past { (slot place : ℕ) → place < first → levels_of words.new slot place ≡ levels_of words.old slot place }
+    ensures others { (slot place : ℕ) → (one.net ≡ slot → ⊥)
+        → levels_of words.new slot place ≡ levels_of words.old slot place }
+    ensures written { (place : ℕ) → first ≤ place → place < 64
+        → levels_of words.new one.net place ≡ level_at_place one.word place }
+    ensures kept { (m : ℕ) → has live.old m ≡ true → has live.new m ≡ true }
+    ensures same { (m place : ℕ) → has live.new m ≡ false
+        → (has live.old m ≡ false) × (levels_of words.new m place ≡ levels_of words.old m place) }
+    ensures marks { (m : ℕ) → has marks.old m ≡ true → has marks.new m ≡ true }
+    ensures news { AreMarked (has marks.new) readers.now }
+{
+    let slot = one.net as usize;
+    words[slot] = spliced(words[slot], one.word, first);
+    live.insert(slot);
+    mark_all(marks, readers);
+}
+
+// Writes the word of a net from a place on and marks who reads it, where the net is given.
+fn give_word(
+    one: Changed,
+    roles: &[Role],
+    readers: &Readers,
+    words: &mut [Word],
+    live: &mut Marks,
+    marks: &mut Marks,
+    first: u32,
+)
+    requires slots { (slot : ℕ) → gives roles.now slot ≡ true → slot < length words.old }
+    requires first { first < 64 }
+    requires lists { length readers.now ≡ length words.old }
+    requires within { AreBelow (length words.old) readers.now }
+    requires room { length words.old ≤ 64 * length marks.old }
+    requires live { length words.old ≤ 64 * length live.old }
+    ensures len { length words.new ≡ length words.old }
+    ensures room { length marks.new ≡ length marks.old }
+    ensures live_room { length live.new ≡ length live.old }
+    ensures past { (slot place : ℕ) → place < first → levels_of words.new slot place ≡ levels_of words.old slot place }
+    ensures others { (slot place : ℕ) → is_written roles.now (one ∷ []) slot ≡ false
+        → levels_of words.new slot place ≡ levels_of words.old slot place }
+    ensures written { (level : ℕ → ℕ → Level)
+        → (gives roles.now one.net ≡ true
+        → (place : ℕ) → first ≤ place → place < 64 → level_at_place one.word place ≡ level one.net place)
+        → (slot place : ℕ) → is_written roles.now (one ∷ []) slot ≡ true → first ≤ place → place < 64
+        → levels_of words.new slot place ≡ level slot place }
+    ensures kept { (m : ℕ) → has live.old m ≡ true → has live.new m ≡ true }
+    ensures same { (m place : ℕ) → has live.new m ≡ false → levels_of words.new m place ≡ levels_of words.old m place }
+    ensures marks { (m : ℕ) → has marks.old m ≡ true → has marks.new m ≡ true }
+    ensures news { (slot : ℕ) → is_written roles.now (one ∷ []) slot ≡ true
+        → AreMarked (has marks.new) (slice_index_or readers.now slot []) }
+{
+    let net = one.net as usize;
+    if !is_given(roles, net) {
+        return;
+    }
+    write_word(one, readers.of(net), words, live, marks, first);
+}
+
+/// Writes the words of the given nets from a place on, and marks who reads them.
+#[inline(never)]
+pub(crate) fn write_given(
+    given: &[Changed],
+    roles: &[Role],
+    readers: &Readers,
+    words: &mut [Word],
+    live: &mut Marks,
+    marks: &mut Marks,
+    first: u32,
+)
+    requires slots { (slot : ℕ) → gives roles.now slot ≡ true → slot < length words.old }
+    requires first { first < 64 }
+    requires lists { length readers.now ≡ length words.old }
+    requires within { AreBelow (length words.old) readers.now }
+    requires room { length words.old ≤ 64 * length marks.old }
+    requires live { length words.old ≤ 64 * length live.old }
+    ensures len { length words.new ≡ length words.old }
+    ensures room { length marks.new ≡ length marks.old }
+    ensures live_room { length live.new ≡ length live.old }
+    ensures past { (slot place : ℕ) → place < first → levels_of words.new slot place ≡ levels_of words.old slot place }
+    ensures others { (slot place : ℕ) → is_written roles.now given.now slot ≡ false
+        → levels_of words.new slot place ≡ levels_of words.old slot place }
+    ensures written { (level : ℕ → ℕ → Level)
+        → ((one : Changed) → Contains given.now one → gives roles.now one.net ≡ true
+        → (place : ℕ) → first ≤ place → place < 64 → level_at_place one.word place ≡ level one.net place)
+        → (slot place : ℕ) → is_written roles.now given.now slot ≡ true → first ≤ place → place < 64
+        → levels_of words.new slot place ≡ level slot place }
+    ensures kept { (m : ℕ) → has live.old m ≡ true → has live.new m ≡ true }
+    ensures same { (m place : ℕ) → has live.new m ≡ false → levels_of words.new m place ≡ levels_of words.old m place }
+    ensures marks { (m : ℕ) → has marks.old m ≡ true → has marks.new m ≡ true }
+    ensures news { (slot : ℕ) → is_written roles.now given.now slot ≡ true
+        → AreMarked (has marks.new) (slice_index_or readers.now slot []) }
+{
+    for one in given {
+        give_word(*one, roles, readers, words, live, marks, first);
+    }
+}

@@ -1,0 +1,167 @@
+//! The engine of a share of a design's nets.
+
+ghost use Rattle.std.specs.Prelude.{◌≡◌, ℕ, ◌+◌, ◌-◌, ◌<◌, ◌≤◌, true, IfOk, length};
+ghost use Rattle.cmb_design.specs.Exact.{nets_of};
+ghost use Rattle.cmb_design.specs.Value.{value};
+ghost use Rattle.cmb_engine.specs.Shares.{share_clock, IsDriven, IsGiven, TellsThose};
+ghost use Rattle.cmb_words.specs.Changes.{RisesWithin};
+
+use crate::circuit::Circuit;
+use crate::engine::LONGEST_WINDOW;
+use crate::open::{open_circuit, open_state};
+use crate::sharing::{is_fed, roles_of};
+use crate::state::State;
+use cmb_design::Design;
+use cmb_wave::Level;
+use cmb_words::Changed;
+use std::alloc::{AllocError, Global};
+use std::marker::Model;
+
+/// Simulates some of a design's nets, window by window of ticks: it drives them, and of each window it is given what
+/// they read of other nets. Engines that drive all nets among them simulate the design, a logical process each.
+///
+/// Nets have the design's numbers. An engine does nothing for nets that it neither drives nor is given.
+#[derive(Drop)]
+pub struct ShareEngine<'d> {
+    design: &'d Design,
+    circuit: Circuit,
+    state: State,
+}
+
+impl<'d> Model for ShareEngine<'d> {
+    ghost use Rattle.cmb_engine.specs.Roles.{driven_of, AreOf};
+    ghost use Rattle.cmb_engine.specs.Shares.{ShareEngine};
+    ghost use Rattle.cmb_engine.specs.States.{IsCircuit, IsState};
+
+    ghost Value = { ShareEngine };
+
+    ghost view = { λ engine. record {
+      design = engine.design.now;
+      driven = driven_of engine.circuit.wiring.roles.items;
+      width = engine.circuit.width;
+      clock = engine.state.clock;
+    } };
+
+    ghost invariant = { λ engine. IsCircuit engine.design.now engine.circuit
+        × IsState engine.design.now engine.circuit engine.state
+        × AreOf engine.design.now (driven_of engine.circuit.wiring.roles.items) engine.circuit.wiring.roles.items };
+}
+
+impl<'d> ShareEngine<'d> {
+    /// The engine of the nets that `driven` marks, of which tick 0 is known. Inputs among them have their stimuli.
+    pub fn open(
+        alloc: Global,
+        design: &'d Design,
+        driven: &[bool],
+    ) -> Result<ShareEngine<'d>, AllocError>
+        requires { length driven.now ≡ nets_of design.now }
+        ensures design { IfOk result (λ engine. engine.design ≡ design.entry.now) }
+        ensures driven { IfOk result (λ engine. engine.driven ≡ driven.now) }
+        ensures clock { IfOk result (λ engine. engine.clock ≡ 1) }
+    {
+        let roles = roles_of(alloc, design, driven)?;
+        let circuit = open_circuit(alloc, design, roles)?;
+        let state = open_state(alloc, design, &circuit)?;
+        Ok(ShareEngine {
+            design,
+            circuit,
+            state,
+        })
+    }
+
+    /// The engine begun anew, of which tick 0 is known, with windows of at most so many ticks. Engines that are to give
+    /// each other what they read have windows of the same width.
+    pub fn narrowed(self, alloc: Global, width: u32) -> Result<ShareEngine<'d>, AllocError>
+        requires some { 2 ≤ width }
+        requires narrower { width ≤ self.width }
+        ensures design { IfOk result (λ engine. engine.design ≡ self.entry.design) }
+        ensures driven { IfOk result (λ engine. engine.driven ≡ self.entry.driven) }
+        ensures width { IfOk result (λ engine. engine.width ≡ width) }
+        ensures clock { IfOk result (λ engine. engine.clock ≡ 1) }
+    {
+        let ShareEngine {
+            design,
+            circuit,
+            state: _,
+        } = self;
+        let circuit = circuit.narrowed(design, width);
+        let state = open_state(alloc, design, &circuit)?;
+        Ok(ShareEngine {
+            design,
+            circuit,
+            state,
+        })
+    }
+
+    /// The most ticks of a window. Windows end at the multiples of it, and the last one at the horizon.
+    pub fn width(&self) -> u32
+        ensures value { result ≡ self.now.width }
+        ensures some { 2 ≤ result }
+        ensures most { result < LONGEST_WINDOW }
+    {
+        self.circuit.width
+    }
+
+    /// The tick below which the driven nets are known, in ticks.
+    pub fn clock(&self) -> u32
+        ensures value { result ≡ self.now.clock }
+        ensures begun { 1 ≤ result }
+        ensures within { result ≤ self.now.design.horizon }
+    {
+        self.state.clock
+    }
+
+    /// Whether all that the engine is given are nets that `driven` marks, which others drive.
+    pub fn is_fed_by(&self, driven: &[bool]) -> bool
+        ensures all { result ≡ true
+            → (net : ℕ) → IsGiven self.now.design self.now.driven net → IsDriven driven.now net }
+        ensures only { ((net : ℕ) → IsGiven self.now.design self.now.driven net → IsDriven driven.now net)
+            → result ≡ true }
+    {
+        is_fed(self.circuit.wiring.roles.as_slice(), driven)
+    }
+
+    /// The level of a driven net, given by its number, at the last tick that is known.
+    pub fn level(&self, net: usize) -> Level
+        requires { IsDriven self.now.driven net }
+        ensures { result ≡ value self.now.design net (self.now.clock - 1) }
+    {
+        self.state.words[net].level(63)
+    }
+
+    /// Goes on by a window of at least one tick and at most `LONGEST_WINDOW`, never beyond the horizon. `given` has the
+    /// changes in it of the nets that driven nets read and this engine doesn't drive, in any order; what else it has is
+    /// passed over. `changed` gets the driven nets that changed, by rising number, each with its levels up to the
+    /// window's end, in place of what it had; given nets that changed stand among them.
+    pub fn advance(
+        self,
+        given: &[Changed],
+        changed: &mut Vec<Changed>,
+    ) -> Result<ShareEngine<'d>, AllocError>
+        requires below { self.clock < self.design.horizon }
+        requires given { TellsThose (IsGiven self.design self.driven) (value self.design)
+            self.clock (share_clock self) given.now }
+        ensures design { IfOk result (λ engine. engine.design ≡ self.entry.design) }
+        ensures driven { IfOk result (λ engine. engine.driven ≡ self.entry.driven) }
+        ensures width { IfOk result (λ engine. engine.width ≡ self.entry.width) }
+        ensures clock { IfOk result (λ engine. engine.clock ≡ share_clock self.entry) }
+        ensures later { IfOk result (λ engine. self.entry.clock < engine.clock) }
+        ensures short { IfOk result (λ engine. engine.clock ≤ self.entry.clock + LONGEST_WINDOW) }
+        ensures within { IfOk result (λ engine. engine.clock ≤ self.entry.design.horizon) }
+        ensures nets { IfOk result (λ engine. RisesWithin 0 (nets_of self.entry.design) changed.new.items) }
+        ensures tells { IfOk result (λ engine. TellsThose (IsDriven self.entry.driven) (value self.entry.design)
+            self.entry.clock engine.clock changed.new.items) }
+    {
+        let ShareEngine {
+            design,
+            circuit,
+            state,
+        } = self;
+        let state = state.advance(design, &circuit, given, changed)?;
+        Ok(ShareEngine {
+            design,
+            circuit,
+            state,
+        })
+    }
+}

@@ -1,0 +1,107 @@
+//! What an engine does with each net, where it drives a share of them.
+
+ghost use Rattle.std.specs.Prelude.{◌≡◌, ℕ, ◌<◌, ◌∷◌, [], false, true, All, IfOk, length, slice_index_or};
+ghost use Rattle.cmb_bench.specs.Netlist.{driver_of, pins_of, IsNetlist};
+ghost use Rattle.cmb_design.specs.Exact.{nets_of};
+ghost use Rattle.cmb_engine.specs.Roles.{driven_of, gives, is_driven, is_given, AreOf, Gives};
+ghost use Rattle.cmb_engine.specs.Shares.{IsDriven};
+
+use crate::role::{Role, is_given};
+use cmb_bench::Driver;
+use cmb_design::Design;
+use std::alloc::{AllocError, Global};
+
+// The role of a net where nothing is given yet.
+fn first_role(driven: bool) -> Role
+    ensures driven { is_driven result ≡ driven }
+    ensures none { is_given result ≡ false }
+{
+    if driven { Role::Driven } else { Role::Absent }
+}
+
+// The roles of nets of which some are driven, where nothing is given yet.
+fn first_roles(alloc: Global, driven: &[bool]) -> Result<Vec<Role>, AllocError>
+    ensures driven { IfOk result (λ roles. driven_of roles.items ≡ driven.now) }
+    ensures none { IfOk result (λ roles. (net : ℕ) → gives roles.items net ≡ false) }
+{
+    let mut roles = Vec::with_capacity(alloc, driven.len())?;
+    for one in driven {
+        roles.push(first_role(*one))?;
+    }
+    Ok(roles)
+}
+
+// Lets a net be given, where it isn't driven.
+fn give(roles: &mut [Role], net: usize)
+    requires { net < length roles.old }
+    ensures { Gives roles.old roles.new (net ∷ []) }
+{
+    if let Role::Absent = roles[net] {
+        roles[net] = Role::Given;
+    }
+}
+
+// Lets some nets be given, where they aren't driven.
+fn give_all(roles: &mut [Role], nets: &[u32])
+    requires { All (λ net. net < length roles.old) nets.now }
+    ensures { Gives roles.old roles.new nets.now }
+{
+    for net in nets {
+        give(roles, *net as usize);
+    }
+}
+
+// Lets be given what a net reads.
+fn give_pins(design: &Design, net: usize, roles: &mut [Role])
+    requires netlist { IsNetlist design.now.netlist }
+    requires net { net < nets_of design.now }
+    requires count { length roles.old ≡ nets_of design.now }
+    ensures { Gives roles.old roles.new (pins_of (driver_of design.now.netlist net)) }
+{
+    match design.netlist().driver(net) {
+        Driver::Input => {}
+        Driver::Gate(_, operands) => give_all(roles, operands.as_slice()),
+        Driver::Flop(source) => give(roles, *source as usize),
+    }
+}
+
+/// The roles of a design's nets for an engine that drives those that `driven` marks: what these read is given.
+pub(crate) fn roles_of(
+    alloc: Global,
+    design: &Design,
+    driven: &[bool],
+) -> Result<Vec<Role>, AllocError>
+    requires { length driven.now ≡ nets_of design.now }
+    ensures { IfOk result (λ roles. AreOf design.now driven.now roles.items) }
+{
+    let mut roles = first_roles(alloc, driven)?;
+    for net in 0..design.netlist().len() {
+        if driven[net] {
+            give_pins(design, net, &mut roles);
+        }
+    }
+    Ok(roles)
+}
+
+// Whether a net is marked.
+fn is_marked(driven: &[bool], net: usize) -> bool
+    ensures { result ≡ slice_index_or driven.now net false }
+{
+    match driven.get(net) {
+        Some(driven) => *driven,
+        None => false,
+    }
+}
+
+/// Whether all given nets are among those that `driven` marks.
+pub(crate) fn is_fed(roles: &[Role], driven: &[bool]) -> bool
+    ensures all { result ≡ true → (net : ℕ) → gives roles.now net ≡ true → IsDriven driven.now net }
+    ensures only { ((net : ℕ) → gives roles.now net ≡ true → IsDriven driven.now net) → result ≡ true }
+{
+    for net in 0..roles.len() {
+        if is_given(roles, net) && !is_marked(driven, net) {
+            return false;
+        }
+    }
+    true
+}

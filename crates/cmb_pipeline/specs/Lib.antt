@@ -1,0 +1,5 @@
+pub mod Batches
+pub mod Makers
+pub mod Merges
+pub mod Shares
+pub mod Windows
