@@ -4,9 +4,9 @@ use cmb_bench::read_bench;
 use cmb_loops::{Steps, strong_components};
 use std::test::Fail;
 
-// Two rings, of a and b and of c and d, read an input; y reads both. Each component has as its number how many nets come
-// before it: none before the input, one before the first ring, three before the second, five before y. Where steps to a
-// flip-flop's data don't count, each net is alone.
+// Two rings, of a and b and of c and d, read an input; y reads both. Each component has as its number how many nets
+// come before it: none before the input, one before the first ring, three before the second, five before y. Where steps
+// to a flip-flop's data don't count, each net is alone.
 #[test]
 fn two_rings(rt: HostRuntime) -> Result<(), Fail> {
     let text = b"INPUT(i)\na = DFF(b)\nb = NAND(i, a)\nc = DFF(d)\nd = NAND(i, c)\ny = AND(a, c)\n";
