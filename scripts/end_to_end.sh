@@ -348,12 +348,27 @@ shared() {
     fi
 }
 
-# long WORDS..: the sum of the text of 600 registers of 16 bits with feedback. It has some 25 MB: of half of that too little would be
-# left for threads to join. The horizon stands first among the circuit's own options.
+# long WORDS..: the sum of the text of a long run of the circuit in $cases.long, whose horizon stands first among its options
 long() {
     local options
     read -r -a options <"$cases.long/options"
-    "$program" run --horizon 4800 "${options[@]:2}" --clocks "$cases.long/clocks.csv" "$@" <"$cases.long/netlist.bench" | cksum
+    "$program" run --horizon "$horizon" "${options[@]:2}" --clocks "$cases.long/clocks.csv" --stimuli "$cases.long/stimuli.csv" "$@" \
+        <"$cases.long/netlist.bench" | cksum
+}
+
+# shared_out CIRCUIT HORIZON: a circuit of the benchmarks by one thread and by several
+shared_out() {
+    horizon=$2
+    mkdir -p "$cases.long"
+    rm -f "$cases.long"/*
+    bench/circuits.py write "$1" "$cases.long"
+    touch "$cases.long/clocks.csv" "$cases.long/stimuli.csv"
+    one=$(long)
+    shared --mode free
+    for threads in 2 4 64; do
+        shared --threads "$threads"
+        shared --mode free --threads "$threads"
+    done
 }
 
 # told_besides WANT WORDS..: of the inverter's run this is on standard error, its times left out, and the text is what it is without these words
@@ -415,12 +430,9 @@ for name in aes128 sha256; do
     real "$name" --threads 4
     real "$name" --mode free --workers 2 --clusters 2
 done
-bench/circuits.py write "600 LFSRs of 16" "$cases.long"
-one=$(long)
-shared --mode free
-for threads in 2 4 64; do
-    shared --threads "$threads"
-    shared --mode free --threads "$threads"
-done
+# Some 25 MB of text: of half of that too little would be left for threads to join. None of the registers reads another.
+shared_out "600 LFSRs of 16" 4800
+# Its parts read one another, so that each thread is given nets of those before it.
+shared_out "clocked, local" 9000
 echo "$passed passed, $failed failed"
 [ "$failed" = 0 ]

@@ -1,12 +1,12 @@
 -- What a check of a sharing says.
 use Rattle.std.proofs.Common.{◌≡◌, ◌⊎◌, inl, inr, ℕ, zero, suc, ◌+◌, ◌<◌, ◌≤◌, Bool, true, false, List, [], ◌∷◌, length, take, get_or, replicate, refl, sym, ap, ◌∙◌, subst, arith}
-use Rattle.std.specs.Prelude.{All, Some, slice_get}
+use Rattle.std.specs.Prelude.{All, IfSome, Option, Some, slice_get}
 use Rattle.std.proofs.lemmas.Bool.{cases_lt}
 use Rattle.std.proofs.lemmas.List.{get_or-replicate, get_or_read, length-replicate, take_all, take_more}
 use Rattle.std.proofs.lemmas.List.Elements.{All-push}
 use Rattle.std.proofs.lemmas.Option.{get_or_from_slice_get, slice_get_read, slice_get_within}
 use Rattle.cmb_bench.specs.Netlist.{Netlist, driver_of, pins_of}
-use Rattle.cmb_cut.specs.Sharings.{Drives, IsSharing, Knows, Owns}
+use Rattle.cmb_cut.specs.Sharings.{Drives, IsSharing, Owns, ShareDrives}
 use Rattle.cmb_cut.specs.declared.sharing.Share.{Share}
 use Rattle.cmb_cut.specs.declared.sharing.Sharing.{Sharing}
 
@@ -52,18 +52,40 @@ drives_read share net mark within at set = sym (get_or_read share.driven.items n
 pub drives_not : (share : Share) (net : ℕ) (mark : Bool) → net < length share.driven.items → mark ≡ get_or share.driven.items net mark → mark ≡ false → Drives share net → ⊥
 drives_not share net mark within at clear driving = let e = get_or_read share.driven.items net mark within at false in cc
 
+-- whether the share of a number drives a net is its mark
+pub share_drives : (netlist : Netlist) (sharing : Sharing) (number net : ℕ) (share : Share) (mark : Bool) → number < length sharing.shares.items → net < length netlist.names
+    → All (λ (share : Share). length share.driven.items ≡ length netlist.names) sharing.shares.items → share ≡ get_or sharing.shares.items number share
+    → mark ≡ get_or share.driven.items net mark → mark ≡ true → ShareDrives sharing number net
+share_drives netlist sharing number net share mark within inside marks is at set =
+    let e = slice_get_read sharing.shares.items (length sharing.shares.items) number share refl within is in
+    let P : Share → Type 0 = λ s. length s.driven.items ≡ length netlist.names in
+    let long : P share = subst P (sym is) (marks number share within) in
+    let d : Drives share net = drives_read share net mark (omega (arith, long)) at set in
+    let Q : Option Share → Type 0 = λ o. IfSome o (λ (s : Share). Drives s net) in
+    subst Q (sym e) d
+
+pub share_drives_not : (netlist : Netlist) (sharing : Sharing) (number net : ℕ) (share : Share) (mark : Bool) → number < length sharing.shares.items → net < length netlist.names
+    → All (λ (share : Share). length share.driven.items ≡ length netlist.names) sharing.shares.items → share ≡ get_or sharing.shares.items number share
+    → mark ≡ get_or share.driven.items net mark → mark ≡ false → ShareDrives sharing number net → ⊥
+share_drives_not netlist sharing number net share mark within inside marks is at clear driving =
+    let e = slice_get_read sharing.shares.items (length sharing.shares.items) number share refl within is in
+    let P : Share → Type 0 = λ s. length s.driven.items ≡ length netlist.names in
+    let long : P share = subst P (sym is) (marks number share within) in
+    let Q : Option Share → Type 0 = λ o. IfSome o (λ (s : Share). Drives s net) in
+    drives_not share net mark (omega (arith, long)) at clear (subst Q e driving)
+
 -- one share that drives all nets
 pub whole_is : (netlist : Netlist) (sharing : Sharing) (share : Share) → ((net : ℕ) → All (λ other. other < length netlist.names) (pins_of (driver_of netlist net)))
-    → sharing.owners.items ≡ replicate (length netlist.names) 0 → sharing.shares.items ≡ share ∷ [] → share.driven.items ≡ replicate (length netlist.names) true
+    → sharing.owners.items ≡ replicate (length netlist.names) 0 → sharing.crossing.items ≡ replicate (length netlist.names) false → sharing.shares.items ≡ share ∷ []
+    → share.driven.items ≡ replicate (length netlist.names) true
     → IsSharing netlist sharing
-whole_is netlist sharing share inside owners shares driven = record {
+whole_is netlist sharing share inside owners crossing shares driven = record {
   nets = ap length owners ∙ length-replicate (length netlist.names) 0;
+  crossed = ap length crossing ∙ length-replicate (length netlist.names) false;
+  few = let e = ap length shares in omega (arith, e);
   marks = rw shares (one (λ (s : Share). length s.driven.items ≡ length netlist.names) (ap length driven ∙ length-replicate (length netlist.names) true));
   owned = λ net within. (share, owns net within, drives net within);
-  known =
-      let P : Share → Type 0 = λ s. (net : ℕ) → net < length netlist.names → Drives s net → All (Knows sharing s) (pins_of (driver_of netlist net)) in
-      let Q : List Share → Type 0 = λ xs. All P xs in
-      subst Q (sym shares) (one P (λ net within driving k d h. inl (drives _ (inside net k d h))));
+  known = λ number within net inside_net driving k d h. inl (drives_at number _ within (inside net k d h));
 }
   where
     one : (P : Share → Type 0) → P share → All P (share ∷ [])
@@ -77,3 +99,9 @@ whole_is netlist sharing share inside owners shares driven = record {
 
     drives : (net : ℕ) → net < length netlist.names → Drives share net
     drives net within = ap (λ xs. get_or xs net false) driven ∙ get_or-replicate (length netlist.names) net true false within
+
+    drives_at : (number net : ℕ) → number < length sharing.shares.items → net < length netlist.names → ShareDrives sharing number net
+    drives_at number net inside_shares within =
+        let e = ap length shares in
+        let z : number ≡ 0 = omega (arith, e) in
+        rw (z, shares) (drives net within)

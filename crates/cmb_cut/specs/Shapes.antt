@@ -1,5 +1,5 @@
 -- Components and owners as they are counted: a number for each net.
-use Rattle.std.specs.Prelude.{◌≡◌, ◌<◌, length, All}
+use Rattle.std.specs.Prelude.{◌≡◌, ◌<◌, ◌^◌, length, All}
 use Rattle.cmb_bench.specs.Netlist.{IsNetlist, Netlist}
 use Rattle.cmb_cut.specs.declared.components.Components.{Components}
 use Rattle.cmb_cut.specs.declared.owners.Owners.{Owners}
@@ -23,5 +23,7 @@ pub record AreOwners (netlist : Netlist) (owners : Owners) : Type 0 where
 pub record IsShaped (netlist : Netlist) (sharing : Sharing) : Type 0 where
   pub sound : IsNetlist netlist
   pub nets : length sharing.owners.items ≡ length netlist.names
+  pub crossed : length sharing.crossing.items ≡ length netlist.names
+  pub few : length sharing.shares.items < 2 ^ 32
   pub below : All (λ owner. owner < length sharing.shares.items) sharing.owners.items
   pub marks : All (λ (share : Share). length share.driven.items ≡ length netlist.names) sharing.shares.items

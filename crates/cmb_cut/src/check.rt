@@ -2,10 +2,11 @@
 
 ghost use Rattle.std.specs.Prelude.{◌≡◌, ℕ, ◌<◌, true, length, All};
 ghost use Rattle.cmb_bench.specs.Netlist.{driver_of, pins_of};
-ghost use Rattle.cmb_cut.specs.Sharings.{Drives, IsSharing, Knows, Owns};
+ghost use Rattle.cmb_cut.specs.Sharings.{Drives, IsSharing, Knows, KnowsAll, Owns};
 ghost use Rattle.cmb_cut.specs.Shapes.{IsShaped};
+ghost use Rattle.cmb_cut.specs.declared.sharing.Share.{Share};
 
-use crate::sharing::{Share, Sharing};
+use crate::sharing::Sharing;
 use cmb_bench::Netlist;
 use cmb_loops::{Steps, targets_from};
 
@@ -24,41 +25,40 @@ fn owners_drive(netlist: &Netlist, sharing: &Sharing) -> bool
     true
 }
 
-// Whether a share drives a net or is given it.
-fn knows(netlist: &Netlist, sharing: &Sharing, share: &Share, net: usize) -> bool
+// Whether the share of a number drives a net or is given it.
+fn knows(netlist: &Netlist, sharing: &Sharing, number: usize, net: usize) -> bool
     requires shaped { IsShaped netlist.now sharing.now }
-    requires marks { length share.now.driven.items ≡ length netlist.now.names }
+    requires number { number < length sharing.now.shares.items }
     requires net { net < length netlist.now.names }
-    ensures { result ≡ true → Knows sharing.now share.now net }
+    ensures { result ≡ true → Knows sharing.now number net }
 {
-    let owner = &sharing.shares[sharing.owners[net] as usize];
-    share.driven[net] || owner.stage < share.stage
+    let is_given = sharing.crossing[net] && (sharing.owners[net] as usize) < number;
+    is_given || sharing.shares[number].driven[net]
 }
 
-// Whether a share knows what a net's value rule asks for.
-fn knows_asked(netlist: &Netlist, sharing: &Sharing, share: &Share, net: usize) -> bool
+// Whether the share of a number knows what a net's value rule asks for.
+fn knows_asked(netlist: &Netlist, sharing: &Sharing, number: usize, net: usize) -> bool
     requires shaped { IsShaped netlist.now sharing.now }
-    requires marks { length share.now.driven.items ≡ length netlist.now.names }
+    requires number { number < length sharing.now.shares.items }
     requires net { net < length netlist.now.names }
-    ensures { result ≡ true → All (Knows sharing.now share.now) (pins_of (driver_of netlist.now net)) }
+    ensures { result ≡ true → All (Knows sharing.now number) (pins_of (driver_of netlist.now net)) }
 {
     for other in targets_from(netlist, Steps::All, net) {
-        if !knows(netlist, sharing, share, *other as usize) {
+        if !knows(netlist, sharing, number, *other as usize) {
             return false;
         }
     }
     true
 }
 
-// Whether a share knows what the value rules of the nets ask for that it drives.
-fn knows_all(netlist: &Netlist, sharing: &Sharing, share: &Share) -> bool
+// Whether the share of a number knows what the value rules of the nets ask for that it drives.
+fn knows_all(netlist: &Netlist, sharing: &Sharing, number: usize) -> bool
     requires shaped { IsShaped netlist.now sharing.now }
-    requires marks { length share.now.driven.items ≡ length netlist.now.names }
-    ensures { result ≡ true → (net : ℕ) → net < length netlist.now.names → Drives share.now net
-        → All (Knows sharing.now share.now) (pins_of (driver_of netlist.now net)) }
+    requires number { number < length sharing.now.shares.items }
+    ensures { result ≡ true → KnowsAll netlist.now sharing.now number }
 {
     for net in 0..netlist.len() {
-        if share.driven[net] && !knows_asked(netlist, sharing, share, net) {
+        if sharing.shares[number].driven[net] && !knows_asked(netlist, sharing, number, net) {
             return false;
         }
     }
@@ -73,8 +73,8 @@ pub(crate) fn is_lawful(netlist: &Netlist, sharing: &Sharing) -> bool
     if !owners_drive(netlist, sharing) {
         return false;
     }
-    for share in &sharing.shares {
-        if !knows_all(netlist, sharing, share) {
+    for number in 0..sharing.shares.len() {
+        if !knows_all(netlist, sharing, number) {
             return false;
         }
     }

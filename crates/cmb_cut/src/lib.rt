@@ -3,10 +3,10 @@
 
 mod check;
 mod components;
+mod crossing;
 mod drives;
 mod limit;
 mod owners;
 pub mod sharing;
-mod stages;
 
 pub use sharing::{LEAST_NETS, Share, Sharing, pays, share_out};

@@ -5,9 +5,9 @@ ghost use Rattle.cmb_cut.specs.Sharings.{AreEven, IsSharing, drives_count};
 ghost use Rattle.cmb_cut.specs.Shapes.{AreOwners, IsShaped};
 
 use crate::check::is_lawful;
+use crate::crossing::crossing_of;
 use crate::drives::driven_by;
 use crate::owners::{Owners, owners_of};
-use crate::stages::stages_of;
 use cmb_bench::Netlist;
 use std::alloc::{AllocError, Global};
 
@@ -17,9 +17,6 @@ pub const LEAST_NETS: usize = 2_048;
 /// The nets that one engine drives.
 #[derive(Drop)]
 pub struct Share {
-    /// What the share reads and doesn't drive is owned by shares of earlier stages, so it can make a window once these
-    /// have made it. Where shares go on side by side, each may be as many batches of windows behind as its stage says.
-    pub stage: u32,
     /// For each net whether the share drives it.
     pub driven: Vec<bool>,
 }
@@ -29,6 +26,9 @@ pub struct Share {
 pub struct Sharing {
     /// For each net the number of the share that owns it: of the shares that drive it the one that tells its changes.
     pub owners: Vec<u32>,
+    /// For each net whether a share reads it that doesn't drive it.
+    pub crossing: Vec<bool>,
+    /// In an order in which each reads only what it drives itself or earlier ones own.
     pub shares: Vec<Share>,
 }
 
@@ -38,12 +38,10 @@ fn shares_of(alloc: Global, netlist: &Netlist, owners: &Owners) -> Result<Vec<Sh
     ensures marks { IfOk result (λ shares.
         All (λ share. length share.driven.items ≡ length netlist.now.names) shares.items) }
 {
-    let stages = stages_of(alloc, netlist, owners)?;
-    let mut shares = Vec::with_capacity(alloc, stages.len())?;
+    let mut shares = Vec::with_capacity(alloc, owners.count as usize)?;
     for number in 0..owners.count {
         let driven = driven_by(alloc, netlist, owners, number)?;
-        let stage = stages[number as usize];
-        shares.push(Share { stage, driven })?;
+        shares.push(Share { driven })?;
     }
     Ok(shares)
 }
@@ -56,9 +54,11 @@ fn cut(alloc: Global, netlist: &Netlist, most: u32) -> Result<Sharing, AllocErro
 {
     let owners = owners_of(alloc, netlist, most)?;
     let shares = shares_of(alloc, netlist, &owners)?;
+    let crossing = crossing_of(alloc, netlist, &shares)?;
     let Owners { numbers, count: _ } = owners;
     Ok(Sharing {
         owners: numbers,
+        crossing,
         shares,
     })
 }
@@ -70,16 +70,17 @@ fn whole(alloc: Global, netlist: &Netlist) -> Result<Sharing, AllocError>
 {
     let driven = vec![in alloc; true; netlist.len()]?;
     let mut shares = Vec::with_capacity(alloc, 1)?;
-    shares.push(Share { stage: 0, driven })?;
+    shares.push(Share { driven })?;
     Ok(Sharing {
         owners: vec![in alloc; 0u32; netlist.len()]?,
+        crossing: vec![in alloc; false; netlist.len()]?,
         shares,
     })
 }
 
 /// Shares the nets of a netlist out to so many threads at most, so that the thread with the most to do has as little as
-/// may be. Each net is owned by one share. What a share reads it drives or is given by shares of earlier stages, so
-/// shares never wait for each other in a ring, and each can be a window or more behind those that it reads.
+/// may be. Each net is owned by one share. What a share reads it drives or is given by earlier shares, so windows can
+/// go through all shares one after the other, each of which is at work on another window.
 ///
 /// The strongly connected components of the netlist are put in an order in which each comes behind those that it reads,
 /// and the order is cut into as many runs of about the same weight (an acyclic partition; J. Cong, Z. Li and

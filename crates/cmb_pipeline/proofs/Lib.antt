@@ -1,8 +1,9 @@
 pub mod BatchFacts
 pub mod DayFacts
+pub mod MadeFacts
 pub mod MakerFacts
+pub mod MakersFacts
 pub mod MergeFacts
-pub mod NarrowFacts
+pub mod OpeningFacts
 pub mod OwnFacts
-pub mod TogetherFacts
-pub mod WindowFacts
+pub mod SharingFacts

@@ -1,57 +1,38 @@
--- What a maker gives its engine, and where its windows end.
-use Rattle.std.proofs.Common.{◌≡◌, ◌∙◌, ℕ, suc, ◌+◌, ◌-◌, ◌<◌, Bool, List, length, get_or, take, ap, sym, subst, arith}
-use Rattle.std.proofs.lemmas.List.{get_or-take, length-take-le}
+-- Windows that a maker makes one by one.
+use Rattle.std.proofs.Common.{◌≡◌, ◌⊎◌, inl, inr, ℕ, suc, ◌+◌, ◌<◌, ◌≤◌, Bool, List, length, get_or, set, sym, subst, arith}
+use Rattle.std.proofs.lemmas.Bool.{cases_eq}
+use Rattle.std.proofs.lemmas.List.{get_or-set_other, get_or-set_same, length-set}
 use Rattle.cmb_design.specs.Design.{Design}
-use Rattle.cmb_design.specs.Value.{value}
-use Rattle.cmb_engine.specs.Engines.{window_end}
-use Rattle.cmb_engine.specs.Shares.{IsGiven, ShareEngine, TellsThose, share_clock}
-use Rattle.cmb_words.specs.declared.changed.Changed.{Changed}
-use Rattle.cmb_pipeline.specs.Batches.{Batch, HasMade, IsFed}
-use Rattle.cmb_pipeline.specs.Makers.{GoesOn}
-use Rattle.cmb_pipeline.specs.Shares.{DesignShare}
-use Rattle.cmb_pipeline.specs.Windows.{IsStep, clock_at, last_of}
+use Rattle.cmb_pipeline.specs.Windows.{AreMade, IsWindow, clock_at}
+use Rattle.cmb_pipeline.specs.declared.window.Window.{Window}
 
--- where the first windows end
-pub last-take : (clocks : List ℕ) (k : ℕ) → k < length clocks → last_of (take (k + 1) clocks) ≡ clock_at clocks k
-last-take clocks k less =
-    ap (λ n. get_or (take (k + 1) clocks) (n - 1) 0) (length-take-le (k + 1) clocks (omega (arith, less)))
-    ∙ ap (λ n. get_or (take (k + 1) clocks) n 0) (omega arith)
-    ∙ get_or-take (k + 1) clocks k 0 (omega arith)
+-- the first windows were made by one share more than the others
+pub record AreBeingMade (design : Design) (owners : List ℕ) (crossing : List Bool) (made : ℕ) (clocks : List ℕ) (windows : List Window) (place : ℕ) : Type 0 where
+  pub before : (k : ℕ) (d : Window) → k < place → k < length windows → IsWindow design owners crossing (suc made) (clock_at clocks k) (clock_at clocks (suc k)) (get_or windows k d)
+  pub rest : (k : ℕ) (d : Window) → place ≤ k → k < length windows → IsWindow design owners crossing made (clock_at clocks k) (clock_at clocks (suc k)) (get_or windows k d)
 
--- what a batch has of a window is what the engine reads there
-module _ (batch : Batch) (share : DesignShare) (width : ℕ) (clocks : List ℕ) (engine : ShareEngine) (place : ℕ) (goes : GoesOn share width clocks engine) (design : batch.design ≡ share.design)
-    (wide : batch.width ≡ width) (next : last_of clocks ≡ clock_at batch.clocks place)
-    (step : IsStep batch.width batch.design.horizon (clock_at batch.clocks place) (clock_at batch.clocks (suc place))) where
-  abbrev from : ℕ
-  from = clock_at batch.clocks place
+module _ (design : Design) (owners : List ℕ) (crossing : List Bool) (made : ℕ) (clocks : List ℕ) (windows : List Window) where
+  pub making-none : AreMade design owners crossing made clocks windows → AreBeingMade design owners crossing made clocks windows 0
+  making-none are = record { before = λ k d h. absurd (omega (arith, h)); rest = λ k d _ within. are k d within }
 
-  abbrev upto : ℕ
-  upto = clock_at batch.clocks (suc place)
+  pub making-all : (place : ℕ) → length windows ≤ place → AreBeingMade design owners crossing made clocks windows place → AreMade design owners crossing (suc made) clocks windows
+  making-all place through are k d within = are.before k d (omega (arith, through, within)) within
 
-  whole : engine.design ≡ batch.design
-  whole = goes.engaged ∙ sym design
-
-  begins : engine.clock ≡ clock_at batch.clocks place
-  begins = goes.clock ∙ next
-
-  ends : share_clock engine ≡ clock_at batch.clocks (suc place)
-  ends =
-      ap (λ (d : Design). window_end engine.width d.horizon engine.clock) whole
-      ∙ ap (λ w. window_end w batch.design.horizon engine.clock) (goes.wide ∙ sym wide)
-      ∙ ap (λ n. window_end batch.width batch.design.horizon n) begins
-      ∙ sym step.next
-
-  pub given : (told : List Changed) → IsFed share batch → TellsThose (HasMade batch) (value batch.design) (clock_at batch.clocks place) (clock_at batch.clocks (suc place)) told
-      → TellsThose (IsGiven engine.design engine.driven) (value engine.design) engine.clock (share_clock engine) told
-  given told fed tells =
-      subst (λ n. TellsThose (IsGiven engine.design engine.driven) (value engine.design) engine.clock n told) (sym ends)
-      (subst (λ n. TellsThose (IsGiven engine.design engine.driven) (value engine.design) n upto told) (sym begins)
-      (subst (λ (ds : List Bool). TellsThose (IsGiven engine.design ds) (value engine.design) from upto told) (sym goes.driven)
-      (subst (λ (d : Design). TellsThose (IsGiven d share.driven) (value d) from upto told) (sym goes.engaged)
-      (subst (λ (d : Design). TellsThose (IsGiven share.design share.driven) (value d) from upto told) design here))))
+  -- one more
+  pub making-more : (place : ℕ) (window : Window) → place < length windows → IsWindow design owners crossing (suc made) (clock_at clocks place) (clock_at clocks (suc place)) window
+      → AreBeingMade design owners crossing made clocks windows place → AreBeingMade design owners crossing made clocks (set windows place window) (place + 1)
+  making-more place window less is are = record {
+    before = λ k d h within. by k d h (omega (arith, within, length-set windows place window)) (cases_eq k place);
+    rest = λ k d h within.
+        let other : get_or (set windows place window) k d ≡ get_or windows k d = get_or-set_other windows place k window d (omega (arith, h)) in
+        subst (IsWindow design owners crossing made (clock_at clocks k) (clock_at clocks (suc k))) (sym other) (are.rest k d (omega (arith, h)) (omega (arith, within, length-set windows place window)));
+  }
     where
-      here : TellsThose (IsGiven share.design share.driven) (value batch.design) from upto told
-      here = record {
-        words = λ one h g. tells.words one h (fed one.net g);
-        others = λ net g none. tells.others net (fed net g) none;
-      }
+      by : (k : ℕ) (d : Window) → k < place + 1 → k < length windows → (k ≡ place) ⊎ (k ≡ place → ⊥)
+          → IsWindow design owners crossing (suc made) (clock_at clocks k) (clock_at clocks (suc k)) (get_or (set windows place window) k d)
+      by k d h within (inl e) =
+          subst (λ n. IsWindow design owners crossing (suc made) (clock_at clocks n) (clock_at clocks (suc n)) (get_or (set windows place window) n d)) (sym e)
+          (subst (IsWindow design owners crossing (suc made) (clock_at clocks place) (clock_at clocks (suc place))) (sym (get_or-set_same windows place window d less)) is)
+      by k d h within (inr n) =
+          subst (IsWindow design owners crossing (suc made) (clock_at clocks k) (clock_at clocks (suc k))) (sym (get_or-set_other windows place k window d n))
+          (are.before k d (omega (arith, h, n)) within)

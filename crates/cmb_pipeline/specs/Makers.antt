@@ -1,44 +1,49 @@
--- Makers of the windows of shares.
-use Rattle.std.specs.Prelude.{◌≡◌, ℕ, ◌<◌, ◌≤◌, Bool, false, List, [], ◌∷◌, Option, IfSome, All, map}
+-- Makers of a share's windows.
+use Rattle.std.specs.Prelude.{◌≡◌, ℕ, suc, ◌<◌, ◌≤◌, List, All, map}
 use Rattle.cmb_engine.specs.Shares.{ShareEngine}
-use Rattle.cmb_pipeline.specs.Batches.{Batch, IsFed}
-use Rattle.cmb_pipeline.specs.Shares.{DesignShare}
-use Rattle.cmb_pipeline.specs.Windows.{ShareBatch, clock_at, last_of}
+use Rattle.cmb_pipeline.specs.Batches.{Batch}
+use Rattle.cmb_pipeline.specs.Shares.{DesignShare, IsShare}
+use Rattle.cmb_pipeline.specs.Windows.{clock_at, last_of}
 
--- a share, the most ticks of a window, the ticks at which the windows meet that were made last, and whether memory was refused
+-- a share, the most ticks of a window, and the tick up to which its windows were made
 pub record Maker : Type 0 where
   pub share : DesignShare
   pub width : ℕ
-  pub clocks : List ℕ
-  pub refused : Bool
+  pub clock : ℕ
 
--- an engine goes on where its windows end
-pub record GoesOn (share : DesignShare) (width : ℕ) (clocks : List ℕ) (engine : ShareEngine) : Type 0 where
+-- an engine of a share, whose rules hold
+pub record IsEngineOf (share : DesignShare) (engine : ShareEngine) : Type 0 where
+  pub lawful : IsShare share
   pub engaged : engine.design ≡ share.design
   pub driven : engine.driven ≡ share.driven
-  pub wide : engine.width ≡ width
-  pub clock : engine.clock ≡ last_of clocks
 
--- a maker's windows, and its engine where memory wasn't refused
-pub record IsMaker (share : DesignShare) (width : ℕ) (batch : ShareBatch) (engine : Option ShareEngine) : Type 0 where
-  pub same : batch.share ≡ share
-  pub goes : IfSome engine (GoesOn share width batch.clocks)
+-- a batch is of the same run as a share
+pub record IsFor (share : DesignShare) (width' : ℕ) (batch : Batch) : Type 0 where
+  pub design : batch.design ≡ share.design
+  pub owners : batch.owners ≡ share.owners
+  pub crossing : batch.crossing ≡ share.crossing
+  pub width : batch.width ≡ width'
 
--- a maker has all that it needs to make the windows of a batch, and those before them
-pub record CanFill (batch : Batch) (maker : Maker) : Type 0 where
-  pub design : batch.design ≡ maker.share.design
-  pub width : batch.width ≡ maker.width
-  pub fed : IsFed maker.share batch
-  pub next : maker.refused ≡ false → maker.clocks ≡ clock_at batch.clocks 0 ∷ []
+-- a batch comes by whose windows all shares before this one made, and no other, and which begins where the maker is
+pub record IsNextOf (maker : Maker) (batch : Batch) : Type 0 where
+  pub same : IsFor maker.share maker.width batch
+  pub made : batch.made ≡ maker.share.number
+  pub next : clock_at batch.clocks 0 ≡ maker.clock
 
--- a maker made the windows that meet at some ticks, unless memory was refused
-pub record HasFilled (clocks : List ℕ) (old new : Maker) : Type 0 where
-  pub share : new.share ≡ old.share
-  pub width : new.width ≡ old.width
-  pub made : new.refused ≡ false → new.clocks ≡ clocks
+-- a maker made its share of a batch
+pub record HasWorked (maker maker' : Maker) (batch batch' : Batch) : Type 0 where
+  pub share : maker'.share ≡ maker.share
+  pub width : maker'.width ≡ maker.width
+  pub clock : maker'.clock ≡ last_of batch.clocks
+  pub design : batch'.design ≡ batch.design
+  pub owners : batch'.owners ≡ batch.owners
+  pub crossing : batch'.crossing ≡ batch.crossing
+  pub wide : batch'.width ≡ batch.width
+  pub clocks : batch'.clocks ≡ batch.clocks
+  pub made : batch'.made ≡ suc batch.made
 
 -- makers that made nothing yet, one for each share
 pub record AreOpened (shares : List DesignShare) (makers : List Maker) : Type 0 where
   pub same : map (λ maker. maker.share) makers ≡ shares
-  pub begun : All (λ maker. maker.clocks ≡ 1 ∷ []) makers
+  pub begun : All (λ maker. maker.clock ≡ 1) makers
   pub wide : All (λ maker. (2 ≤ maker.width) × (maker.width < 63)) makers

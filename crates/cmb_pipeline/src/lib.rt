@@ -1,19 +1,23 @@
-//! Shares of a design's nets, each simulated by an engine of its own: how what they make goes from one to the next, and
-//! how it is put together.
+//! The whole text of a design by threads of which each simulates a share of its nets: batches of windows go through the
+//! shares one after the other, and the calling thread makes the text of those that all shares made.
 #![tactic(auto)]
 
-pub mod batch;
-pub mod days;
-pub mod maker;
-pub mod makers;
+mod batch;
+mod days;
+mod flow;
+mod idle;
+mod maker;
+mod makers;
 mod merge;
-pub mod share;
-pub mod share_batch;
+mod opening;
+mod parcel;
+mod share;
+mod sharing;
+mod source;
+mod stage;
+mod terms;
+pub mod text;
+mod threads;
 mod window;
 
-pub use batch::Batch;
-pub use days::clocks_of;
-pub use maker::ShareMaker;
-pub use makers::{Makers, open_makers};
-pub use share::DesignShare;
-pub use share_batch::ShareBatch;
+pub use text::{pipeline_text, write_pipeline};

@@ -1,174 +1,159 @@
-//! An engine of a share, and the windows that it made last.
+//! The engine of a share, which makes its windows.
 
-ghost use Rattle.std.specs.Prelude.{◌≡◌, ℕ, suc, ◌<◌, ◌≤◌, ◌++◌, ◌∷◌, [], true, false, length, IfOk, OnErr, OnOk};
-ghost use Rattle.cmb_engine.specs.Shares.{IsDriven, IsGiven};
-ghost use Rattle.cmb_pipeline.specs.Batches.{IsFed};
-ghost use Rattle.cmb_pipeline.specs.Makers.{CanFill, HasFilled};
-ghost use Rattle.cmb_pipeline.specs.Windows.{clock_at, last_of};
+ghost use Rattle.std.specs.Prelude.{◌≡◌, ℕ, suc, ◌+◌, ◌<◌, ◌≤◌, length, IfOk, OnOk};
+ghost use Rattle.cmb_pipeline.specs.Windows.{AreDays, AreMade, IsStep, IsWindow, clock_at, last_of};
 
-use crate::batch::Batch;
 use crate::share::DesignShare;
-use crate::share_batch::ShareBatch;
+use crate::window::{Room, Window};
 use cmb_engine::ShareEngine;
 use cmb_words::Changed;
 use std::alloc::{AllocError, Global};
 use std::marker::Model;
-use std::mem::replace;
 
-/// An engine of a share, and the windows that it made last.
+/// The engine of a share, which makes its windows.
 #[derive(Drop)]
 pub struct ShareMaker<'a> {
     alloc: Global,
     share: &'a DesignShare<'a>,
-    width: u32,
-    /// There is none once memory was refused.
-    engine: Option<ShareEngine<'a>>,
-    given: Vec<Changed>,
-    changed: Vec<Changed>,
-    batch: ShareBatch<'a>,
+    engine: ShareEngine<'a>,
+    told: Vec<Changed>,
+    room: Room,
 }
 
 impl<'a> Model for ShareMaker<'a> {
-    ghost use Rattle.cmb_pipeline.specs.Makers.{IsMaker, Maker};
-    ghost use Rattle.std.specs.Option.{is_none};
+    ghost use Rattle.cmb_pipeline.specs.Makers.{IsEngineOf, Maker};
 
     ghost Value = { Maker };
 
     ghost view = { λ m. record {
       share = m.share.now;
-      width = m.width;
-      clocks = m.batch.clocks;
-      refused = is_none m.engine;
+      width = m.engine.width;
+      clock = m.engine.clock;
     } };
 
-    ghost invariant = { λ m. IsMaker m.share.now m.width m.batch m.engine };
+    ghost invariant = { λ m. IsEngineOf m.share.now m.engine };
 }
 
 impl<'a> ShareMaker<'a> {
     /// An engine that made nothing yet, at tick 1. Errors: memory was refused.
-    pub fn open(alloc: Global, share: &'a DesignShare<'a>) -> Result<ShareMaker<'a>, AllocError>
+    pub(crate) fn open(
+        alloc: Global,
+        share: &'a DesignShare<'a>,
+    ) -> Result<ShareMaker<'a>, AllocError>
         ensures share { IfOk result (λ maker. maker.share ≡ share.entry.now) }
-        ensures clocks { IfOk result (λ maker. maker.clocks ≡ 1 ∷ []) }
+        ensures clock { IfOk result (λ maker. maker.clock ≡ 1) }
         ensures wide { IfOk result (λ maker. (2 ≤ maker.width) × (maker.width < 63)) }
     {
         let engine = ShareEngine::open(alloc, share.design(), share.driven())?;
-        let width = engine.width();
+        // Its contract tells how wide windows are.
+        let _width = engine.width();
         Ok(ShareMaker {
             alloc,
             share,
-            width,
-            engine: Some(engine),
-            given: Vec::new(alloc),
-            changed: Vec::new(alloc),
-            batch: ShareBatch::open(alloc, share, 1),
+            engine,
+            told: Vec::new(alloc),
+            room: Room::new(alloc),
         })
     }
 
     /// The most ticks of a window.
-    pub fn width(&self) -> u32
+    pub(crate) fn width(&self) -> u32
         ensures { result ≡ self.now.width }
     {
-        self.width
+        self.engine.width()
     }
 
-    /// Whether memory was refused. Then the maker makes no more windows.
-    pub fn is_refused(&self) -> bool
-        ensures { result ≡ self.now.refused }
+    /// The tick up to which windows were made.
+    pub(crate) fn clock(&self) -> u32
+        ensures { result ≡ self.now.clock }
     {
-        self.engine.is_none()
+        self.engine.clock()
     }
 
-    /// Whether all that the share is given are nets that `driven` marks. It says no where memory was refused.
-    pub fn is_fed_by(&self, driven: &[bool]) -> bool
-        ensures all { result ≡ true
-            → (net : ℕ) → IsGiven self.now.share.design self.now.share.driven net → IsDriven driven.now net }
-        ensures only { self.now.refused ≡ false
-            → ((net : ℕ) → IsGiven self.now.share.design self.now.share.driven net → IsDriven driven.now net)
-            → result ≡ true }
+    /// The number of the share.
+    pub(crate) fn number(&self) -> u32
+        ensures { result ≡ self.now.share.number }
     {
-        match &self.engine {
-            Some(engine) => engine.is_fed_by(driven),
-            None => false,
-        }
+        self.share.number()
     }
 
     /// Begins anew, at tick 1, with windows of at most so many ticks. Errors: memory was refused.
-    pub fn narrow(&mut self, width: u32) -> Result<(), AllocError>
+    pub(crate) fn narrowed(self, width: u32) -> Result<ShareMaker<'a>, AllocError>
         requires some { 2 ≤ width }
-        requires narrower { width ≤ self.old.width }
-        ensures share { self.new.share ≡ self.old.share }
-        ensures width { OnOk result (self.new.width ≡ width) }
-        ensures clocks { OnOk result (self.new.clocks ≡ 1 ∷ []) }
+        requires narrower { width ≤ self.width }
+        ensures share { IfOk result (λ maker. maker.share ≡ self.entry.share) }
+        ensures width { IfOk result (λ maker. maker.width ≡ width) }
+        ensures clock { IfOk result (λ maker. maker.clock ≡ 1) }
     {
-        let Some(engine) = self.engine.take() else {
-            return Err(AllocError);
-        };
-        let engine = engine.narrowed(self.alloc, width)?;
-        self.batch = ShareBatch::open(self.alloc, self.share, 1);
-        self.width = width;
-        self.engine = Some(engine);
-        Ok(())
+        let ShareMaker {
+            alloc,
+            share,
+            engine,
+            told,
+            room,
+        } = self;
+        let engine = engine.narrowed(alloc, width)?;
+        Ok(ShareMaker {
+            alloc,
+            share,
+            engine,
+            told,
+            room,
+        })
     }
 
-    // Makes the window at a place of a batch.
-    fn step(&mut self, batch: &Batch<'_>, place: usize) -> Result<(), AllocError>
-        requires place { suc place < length batch.now.clocks }
-        requires design { batch.now.design ≡ self.old.share.design }
-        requires width { batch.now.width ≡ self.old.width }
-        requires fed { IsFed self.old.share batch.now }
-        requires next { last_of self.old.clocks ≡ clock_at batch.now.clocks place }
-        ensures share { self.new.share ≡ self.old.share }
-        ensures width { self.new.width ≡ self.old.width }
-        ensures refused { OnErr result (self.new.refused ≡ true) }
-        ensures clocks { OnOk result (self.new.clocks
-            ≡ self.old.clocks ++ clock_at batch.now.clocks (suc place) ∷ []) }
+    // Makes its share of a window, which all earlier shares made.
+    fn step(self, window: &mut Window, upto: u32) -> Result<ShareMaker<'a>, AllocError>
+        requires step { IsStep self.width self.share.design.horizon self.clock upto }
+        requires made { IsWindow self.share.design self.share.owners self.share.crossing self.share.number
+            self.clock upto window.old }
+        ensures share { IfOk result (λ maker. maker.share ≡ self.entry.share) }
+        ensures width { IfOk result (λ maker. maker.width ≡ self.entry.width) }
+        ensures clock { IfOk result (λ maker. maker.clock ≡ upto) }
+        ensures made { OnOk result (IsWindow self.entry.share.design self.entry.share.owners
+            self.entry.share.crossing (suc self.entry.share.number) self.entry.clock upto window.new) }
     {
-        let Some(engine) = self.engine.take() else {
-            return Err(AllocError);
-        };
-        batch.given(place, &mut self.changed, &mut self.given)?;
-        let engine = engine.advance(&self.given, &mut self.changed)?;
-        self.batch.push(&self.changed, engine.clock())?;
-        self.engine = Some(engine);
-        Ok(())
+        let ShareMaker {
+            alloc,
+            share,
+            engine,
+            mut told,
+            mut room,
+        } = self;
+        let engine = engine.advance(&window.crossing, &mut told)?;
+        window.add(share, &told, &mut room)?;
+        Ok(ShareMaker {
+            alloc,
+            share,
+            engine,
+            told,
+            room,
+        })
     }
 
-    // Makes the windows of a batch.
-    fn fill_all(&mut self, batch: &Batch<'_>) -> Result<(), AllocError>
-        requires can { CanFill batch.now self.old }
-        requires fine { self.old.refused ≡ false }
-        ensures share { self.new.share ≡ self.old.share }
-        ensures width { self.new.width ≡ self.old.width }
-        ensures refused { OnErr result (self.new.refused ≡ true) }
-        ensures clocks { OnOk result (self.new.clocks ≡ batch.now.clocks) }
+    /// Makes its share of windows that follow one another and meet at these ticks, which all earlier shares made.
+    /// Errors: memory was refused.
+    pub(crate) fn work(
+        self,
+        clocks: &[u32],
+        windows: &mut [Window],
+    ) -> Result<ShareMaker<'a>, AllocError>
+        requires count { length clocks.now ≡ suc (length windows.old) }
+        requires days { AreDays self.width self.share.design.horizon clocks.now }
+        requires next { clock_at clocks.now 0 ≡ self.clock }
+        requires made { AreMade self.share.design self.share.owners self.share.crossing self.share.number clocks.now
+            windows.old }
+        ensures share { IfOk result (λ maker. maker.share ≡ self.entry.share) }
+        ensures width { IfOk result (λ maker. maker.width ≡ self.entry.width) }
+        ensures clock { IfOk result (λ maker. maker.clock ≡ last_of clocks.now) }
+        ensures len { length windows.new ≡ length windows.old }
+        ensures made { OnOk result (AreMade self.entry.share.design self.entry.share.owners
+            self.entry.share.crossing (suc self.entry.share.number) clocks.now windows.new) }
     {
-        for place in 0..batch.len() {
-            self.step(batch, place)?;
+        let mut maker = self;
+        for place in 0..windows.len() {
+            maker = maker.step(&mut windows[place], clocks[place + 1])?;
         }
-        Ok(())
-    }
-
-    /// Makes the windows of a batch, of which the shares that own what is read made theirs. Where memory is refused it
-    /// notes so.
-    pub fn fill(&mut self, batch: &Batch<'_>)
-        requires { CanFill batch.now self.old }
-        ensures { HasFilled batch.now.clocks self.old self.new }
-    {
-        if !self.is_refused() {
-            let _made = self.fill_all(batch);
-        }
-    }
-
-    /// Takes the windows away: the next ones begin where they end.
-    pub fn take(&mut self) -> ShareBatch<'a>
-        ensures share { result.share ≡ self.old.share }
-        ensures clocks { result.clocks ≡ self.old.clocks }
-        ensures same { self.new.share ≡ self.old.share }
-        ensures width { self.new.width ≡ self.old.width }
-        ensures refused { self.new.refused ≡ self.old.refused }
-        ensures next { self.new.clocks ≡ last_of self.old.clocks ∷ [] }
-    {
-        let next = ShareBatch::open(self.alloc, self.share, self.batch.end());
-        replace(&mut self.batch, next)
+        Ok(maker)
     }
 }

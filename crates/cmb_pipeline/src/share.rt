@@ -1,15 +1,11 @@
 //! A share of a design's nets.
 
-ghost use Rattle.std.specs.Prelude.{◌≡◌, ℕ, ◌==◌, filter, length, slice_index, IfOk};
+ghost use Rattle.std.specs.Prelude.{◌≡◌, ℕ, length};
 ghost use Rattle.cmb_design.specs.Exact.{nets_of};
-ghost use Rattle.cmb_design.specs.Value.{value};
-ghost use Rattle.cmb_engine.specs.Shares.{IsDriven, TellsThose};
-ghost use Rattle.cmb_pipeline.specs.Shares.{Owns, TellsOwned};
-ghost use Rattle.cmb_words.specs.Changes.{RisesWithin};
+ghost use Rattle.cmb_engine.specs.Shares.{IsDriven, IsGiven};
+ghost use Rattle.cmb_pipeline.specs.Shares.{Crosses, IsMade, IsShare, Owns};
 
 use cmb_design::Design;
-use cmb_words::Changed;
-use std::alloc::{AllocError, Global};
 use std::marker::Model;
 
 /// Some nets of a design that one engine drives. Of the shares that drive a net one owns it, and tells its changes.
@@ -17,6 +13,7 @@ use std::marker::Model;
 pub struct DesignShare<'a> {
     design: &'a Design,
     owners: &'a [u32],
+    crossing: &'a [bool],
     number: u32,
     driven: &'a [bool],
 }
@@ -29,6 +26,7 @@ impl<'a> Model for DesignShare<'a> {
     ghost view = { λ s. record {
       design = s.design.now;
       owners = s.owners.now;
+      crossing = s.crossing.now;
       number = s.number;
       driven = s.driven.now;
     } };
@@ -36,51 +34,38 @@ impl<'a> Model for DesignShare<'a> {
     ghost invariant = { λ s. IsShare (record {
       design = s.design.now;
       owners = s.owners.now;
+      crossing = s.crossing.now;
       number = s.number;
       driven = s.driven.now;
     }) };
 }
 
-// Those of changed nets that a share owns.
-fn owned_of(
-    alloc: Global,
-    owners: &[u32],
-    number: u32,
-    changed: &[Changed],
-) -> Result<Vec<Changed>, AllocError>
-    requires { RisesWithin 0 (length owners.now) changed.now }
-    ensures { IfOk result (λ own. own.items
-        ≡ filter (λ one. slice_index owners.now one.net == number) changed.now) }
-{
-    let mut own = Vec::new(alloc);
-    for one in changed {
-        if owners[one.net as usize] == number {
-            own.push(*one)?;
-        }
-    }
-    Ok(own)
-}
-
 impl<'a> DesignShare<'a> {
     /// The share of a number, which drives the nets that `driven` marks. `owners` has for each net the number of the
-    /// share that owns it.
-    pub fn new(
+    /// share that owns it, and `crossing` marks the nets that shares are given.
+    pub(crate) fn new(
         design: &'a Design,
         owners: &'a [u32],
+        crossing: &'a [bool],
         number: u32,
         driven: &'a [bool],
     ) -> DesignShare<'a>
         requires owners { length owners.now ≡ nets_of design.now }
+        requires crossing { length crossing.now ≡ nets_of design.now }
         requires marks { length driven.now ≡ nets_of design.now }
         requires drives { (net : ℕ) → Owns owners.now number net → IsDriven driven.now net }
+        requires earlier { (net : ℕ) → IsGiven design.now driven.now net → IsMade owners.now number net }
+        requires crosses { (net : ℕ) → IsGiven design.now driven.now net → Crosses crossing.now net }
         ensures design { result.design ≡ design.entry.now }
         ensures owners { result.owners ≡ owners.entry.now }
+        ensures crossing { result.crossing ≡ crossing.entry.now }
         ensures number { result.number ≡ number }
         ensures driven { result.driven ≡ driven.entry.now }
     {
         DesignShare {
             design,
             owners,
+            crossing,
             number,
             driven,
         }
@@ -96,9 +81,27 @@ impl<'a> DesignShare<'a> {
     /// For each net whether the share drives it.
     pub(crate) fn driven(&self) -> &'a [bool]
         ensures value { result.now ≡ self.now.driven }
+        ensures share { IsShare self.now }
         ensures marks { length result.now ≡ nets_of self.now.design }
     {
         self.driven
+    }
+
+    /// For each net the number of its owner.
+    pub(crate) fn owners(&self) -> &'a [u32]
+        ensures value { result.now ≡ self.now.owners }
+        ensures share { IsShare self.now }
+        ensures nets { length result.now ≡ nets_of self.now.design }
+    {
+        self.owners
+    }
+
+    /// For each net whether shares are given it.
+    pub(crate) fn crossing(&self) -> &'a [bool]
+        ensures value { result.now ≡ self.now.crossing }
+        ensures nets { length result.now ≡ nets_of self.now.design }
+    {
+        self.crossing
     }
 
     /// Its number.
@@ -106,20 +109,5 @@ impl<'a> DesignShare<'a> {
         ensures { result ≡ self.now.number }
     {
         self.number
-    }
-
-    /// What the share tells of a window, of what its engine tells.
-    pub(crate) fn told(
-        &self,
-        alloc: Global,
-        changed: &[Changed],
-    ) -> Result<Vec<Changed>, AllocError>
-        requires { RisesWithin 0 (nets_of self.now.design) changed.now }
-        ensures { IfOk result (λ own. (from upto : ℕ)
-            → TellsThose (IsDriven self.now.driven) (value self.now.design) from upto changed.now
-            → TellsOwned self.now from upto own.items) }
-    {
-        let own = owned_of(alloc, self.owners, self.number, changed)?;
-        Ok(own)
     }
 }

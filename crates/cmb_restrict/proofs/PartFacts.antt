@@ -1,12 +1,12 @@
 -- A netlist of a closed set of nets: it is lawful, and read back by the set it is the part of the whole.
-use Rattle.std.proofs.Common.{subst, ◌≢◌, ◌⊎◌, inl, inr, set, ◌≡◌, ℕ, zero, suc, ◌+◌, ◌-◌, ◌<◌, ◌≤◌, List, [], ◌∷◌, ◌++◌, length, map, take, get_or, refl, sym, ap, ◌∙◌, arith, Bool, true, false, cond, Vec, Global}
-use Rattle.std.specs.Prelude.{if◌then◌else◌, All, Contains, Any, nat_eq, bytes_eq}
+use Rattle.std.proofs.Common.{subst, ◌≢◌, ◌⊎◌, inl, inr, set, ◌≡◌, ℕ, zero, suc, ◌+◌, ◌<◌, ◌≤◌, List, [], ◌∷◌, ◌++◌, length, map, take, get_or, refl, sym, ap, ◌∙◌, arith, Bool, true, false, cond}
+use Rattle.std.specs.Prelude.{if◌then◌else◌, All, Contains, nat_eq, bytes_eq}
 use Rattle.std.specs.List.{IsDistinct, filter, list_any}
 use Rattle.std.specs.List.Sorted.{IsStrictlyIncreasing}
 use Rattle.std.proofs.lemmas.Bool.{cases_lt}
 use Rattle.std.proofs.lemmas.Bool.Decides.{nat_tests}
 use Rattle.std.proofs.lemmas.List.{append-nil, map-append, map_more, length-map, get_or-map, get_or_default, get_or-set_same, get_or-set_other, get_or-take, length-take}
-use Rattle.std.proofs.lemmas.List.Elements.{All-contains, All-weaker, filter_more, All-map, All-filter, filter_passes, All-get_or, All-contains_itself}
+use Rattle.std.proofs.lemmas.List.Elements.{All-contains, All-weaker, filter_more, All-map, All-filter, filter_passes, All-get_or}
 use Rattle.std.proofs.lemmas.List.Folds.{list_any_none, list_any_at, Any-from_list_any}
 use Rattle.std.proofs.lemmas.List.Kept.{AllPairs-from_increasing}
 use Rattle.std.proofs.lemmas.Map.Keys.{apart_from_distinct, IsDistinct-from_apart}

@@ -1,5 +1,5 @@
 -- A design on a part of its netlist is a restriction of it, and none of its checks stands.
-use Rattle.std.proofs.Common.{◌≡◌, ◌⊎◌, inl, inr, ℕ, List, Some, None, refl, sym, ap, ◌∙◌, subst}
+use Rattle.std.proofs.Common.{◌≡◌, ◌⊎◌, inl, inr, ℕ, List, Some, None, refl}
 use Rattle.cmb_bench.specs.Netlist.{Netlist, IsNetlist}
 use Rattle.cmb_design.specs.Checks.{first_fault}
 use Rattle.cmb_design.specs.Design.{Design}

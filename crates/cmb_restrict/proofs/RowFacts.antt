@@ -1,20 +1,19 @@
 -- What the rows say of a part's nets is what they say of the whole's.
-use Rattle.std.proofs.Common.{◌≡◌, ℕ, zero, suc, ◌+◌, ◌<◌, ◌≤◌, List, [], ◌∷◌, ◌++◌, length, map, get_or, refl, sym, ap, ◌∙◌, arith, Option, Some, None, Bool, true, false, cond}
+use Rattle.std.proofs.Common.{◌≡◌, ℕ, zero, suc, ◌<◌, List, [], ◌∷◌, length, get_or, refl, sym, ap, ◌∙◌, arith, Option, Some, None, Bool, true, false, cond}
 use Rattle.std.specs.Prelude.{◌&&◌, ◌||◌, ◌==◌, find, option_map, is_some, unwrap_or, max}
 use Rattle.std.specs.Option.{option_or}
 use Rattle.std.specs.List.{filter, list_any}
 use Rattle.std.proofs.lemmas.List.{get_or-map}
-use Rattle.cmb_wave.specs.declared.level.Level.{Level}
 use Rattle.cmb_wave.specs.declared.level.Level.TheVariants.{X}
 use Rattle.cmb_bench.specs.declared.netlist.Driver.{Driver}
 use Rattle.cmb_bench.specs.declared.netlist.Driver.TheVariants.{Input, Gate, Flop}
 use Rattle.cmb_bench.specs.Netlist.{Netlist, IsNetlist, driver_of, name_of, number_of}
 use Rattle.cmb_bench.proofs.Names.{number_name, number-name_of}
 use Rattle.cmb_design.specs.Design.{Design}
-use Rattle.cmb_design.specs.Nets.{cell_number, driver_cell, is_at}
+use Rattle.cmb_design.specs.Nets.{driver_cell, is_at}
 use Rattle.cmb_design.specs.Part.{has_net, has_delayed, design_on}
 use Rattle.cmb_design.specs.Tables.{clock_of_row}
-use Rattle.cmb_design.specs.Timing.{is_of_pin, is_of_net, is_of_kind, delay_in, delay_by, delay, level_by, row_level, stimulus, common_clock, clock_of}
+use Rattle.cmb_design.specs.Timing.{is_of_pin, is_of_net, is_of_kind, delay_in, delay_by, level_by, row_level, common_clock, clock_of}
 use Rattle.cmb_design.specs.declared.rows.Delayed.{Delayed}
 use Rattle.cmb_design.specs.declared.rows.Delayed.TheVariants.{Pin, Net, Kind as ByKind}
 use Rattle.cmb_design.specs.declared.rows.DelayRow.{DelayRow}

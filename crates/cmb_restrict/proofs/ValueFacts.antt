@@ -1,18 +1,15 @@
 -- A restriction has the values of the whole: by induction on the tick, since each rule looks at earlier ticks.
-use Rattle.std.proofs.Common.{◌≡◌, ℕ, zero, suc, ◌+◌, ◌-◌, ◌<◌, ◌≤◌, List, [], ◌∷◌, length, map, get_or, refl, sym, ap, ◌∙◌, arith}
-use Rattle.std.specs.Prelude.{All, nat_lt, Option, if◌then◌else◌}
-use Rattle.std.proofs.lemmas.List.{get_or-map, length-map, get_or_past}
+use Rattle.std.proofs.Common.{◌≡◌, ℕ, zero, suc, ◌<◌, List, [], ◌∷◌, length, map, get_or, refl, sym, ap, ◌∙◌, arith}
+use Rattle.std.specs.Prelude.{All}
+use Rattle.std.proofs.lemmas.List.{get_or-map, length-map}
 use Rattle.std.proofs.lemmas.List.Elements.{All-get_or, All-head, All-tail}
-use Rattle.cmb_wave.specs.declared.level.Level.{Level}
-use Rattle.cmb_wave.specs.declared.level.Level.TheVariants.{X}
-use Rattle.cmb_bench.specs.declared.netlist.Kind.{Kind}
 use Rattle.cmb_bench.specs.declared.netlist.Driver.{Driver}
 use Rattle.cmb_bench.specs.declared.netlist.Driver.TheVariants.{Input, Gate, Flop}
-use Rattle.cmb_bench.specs.Netlist.{Netlist, IsNetlist, IsWired, driver_of, pins_of}
+use Rattle.cmb_bench.specs.Netlist.{Netlist, IsNetlist, IsWired, driver_of}
 use Rattle.cmb_design.specs.Design.{Design}
 use Rattle.cmb_design.specs.Gate.{gate}
-use Rattle.cmb_design.specs.Timing.{delay, stimulus, clock_of, last_sample}
-use Rattle.cmb_design.specs.Value.{delayed, pin_levels, sampled, flop_level, driven_level, value}
+use Rattle.cmb_design.specs.Timing.{delay, clock_of}
+use Rattle.cmb_design.specs.Value.{delayed, pin_levels, flop_level, driven_level, value}
 use Rattle.cmb_design.proofs.ValueFacts.{AgreeBefore, delayed-agrees, flop_level-agrees, value-is}
 use Rattle.cmb_design.proofs.SampleFacts.{delay-positive}
 use Rattle.cmb_restrict.specs.Restriction.{IsPart, IsRestriction, with_nets}

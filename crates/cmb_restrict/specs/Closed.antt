@@ -1,5 +1,5 @@
 -- Sets of nets whose levels depend on no other net.
-use Rattle.std.specs.Prelude.{◌≡◌, ℕ, ◌<◌, List, length, All, Contains}
+use Rattle.std.specs.Prelude.{ℕ, ◌<◌, List, length, All, Contains}
 use Rattle.std.specs.List.Sorted.{IsStrictlyIncreasing}
 use Rattle.cmb_bench.specs.Netlist.{Netlist, driver_of, pins_of}
 

@@ -1,5 +1,5 @@
 -- A design of some nets of another one, numbered in their order.
-use Rattle.std.specs.Prelude.{◌≡◌, ℕ, ◌<◌, Bool, List, [], ◌∷◌, map, length, slice_index, nat_eq}
+use Rattle.std.specs.Prelude.{◌≡◌, ℕ, ◌<◌, Bool, List, map, length, slice_index, nat_eq}
 use Rattle.std.specs.List.{filter, list_any}
 use Rattle.cmb_bench.specs.declared.netlist.Driver.{Driver}
 use Rattle.cmb_bench.specs.declared.netlist.Driver.TheVariants.{Input, Gate, Flop}

@@ -41,11 +41,7 @@ fn is_kept(nets: &[u32], places: &[u32], net: u32) -> bool
 }
 
 /// The places of nets of a list, in its order.
-pub(crate) fn renumbered_all(
-    alloc: Global,
-    nets: &[u32],
-    places: &[u32],
-) -> Result<Vec<u32>, AllocError>
+fn renumbered_all(alloc: Global, nets: &[u32], places: &[u32]) -> Result<Vec<u32>, AllocError>
     requires { All (λ net. net < length places.now) nets.now }
     ensures { IfOk result (λ v. v.items ≡ map (slice_index places.now) nets.now) }
 {

@@ -5,18 +5,20 @@ ghost use Rattle.std.specs.Io.KnownBytes.{Appends};
 ghost use Rattle.cmb_stream.specs.Streams.{IsBrokenOff};
 ghost use Rattle.cmb_vcd.specs.Vcd.{vcd};
 
-use crate::groups::groups_that_pay;
+use crate::sharing::sharing_that_pays;
 use cmb_design::Design;
-use cmb_partition::{partition_text, write_partition};
+use cmb_pipeline::{pipeline_text, write_pipeline};
 use cmb_stream::StreamFault;
 use cmb_team::{team_text, write_team};
 use cmb_vcd::Sink;
 use std::alloc::{AllocError, Global};
+use std::sync::Wait;
 use std::thread::Threads;
 
 /// The VCD text of a design's run, whole in memory, by so many threads at most; with one thread, or none, by
 /// `stream_text`. Threads are started only where there is enough to do for them. The text is the same for any number.
-pub fn text_by_threads<R: Threads + Sync>(
+/// Errors: memory or a thread was refused.
+pub fn text_by_threads<R: Threads + Wait + Sync>(
     rt: &R,
     alloc: Global,
     design: &Design,
@@ -25,8 +27,8 @@ pub fn text_by_threads<R: Threads + Sync>(
     ensures { IfOk result (λ text. text.items ≡ vcd design.now) }
 {
     if threads >= 2 {
-        if let Some(dealt) = groups_that_pay(alloc, design, threads)? {
-            return partition_text(rt, alloc, design, &dealt.numbers, dealt.count);
+        if let Some(sharing) = sharing_that_pays(alloc, design, threads)? {
+            return pipeline_text(rt, alloc, design, &sharing);
         }
     }
     team_text(rt, alloc, design, threads)
@@ -34,8 +36,9 @@ pub fn text_by_threads<R: Threads + Sync>(
 
 /// Writes the VCD text of a design's run while it is made, by so many threads at most, and gives its length; with one
 /// thread, or none, by `write_stream`. What it needs of memory doesn't grow with the horizon. Whatever the fault, the
-/// sink took a beginning of the text. A failed write is the answer then and only then; else memory was refused.
-pub fn write_by_threads<R: Threads + Sync, S: Sink>(
+/// sink took a beginning of the text. A failed write is the answer then and only then; else memory or a thread was
+/// refused.
+pub fn write_by_threads<R: Threads + Wait + Sync, S: Sink>(
     rt: &R,
     alloc: Global,
     design: &Design,
@@ -50,8 +53,8 @@ pub fn write_by_threads<R: Threads + Sync, S: Sink>(
         (S.failures sink.new)) }
 {
     if threads >= 2 {
-        if let Some(dealt) = groups_that_pay(alloc, design, threads)? {
-            return write_partition(rt, alloc, design, &dealt.numbers, dealt.count, sink);
+        if let Some(sharing) = sharing_that_pays(alloc, design, threads)? {
+            return write_pipeline(rt, alloc, design, &sharing, sink);
         }
     }
     write_team(rt, alloc, design, threads, sink)

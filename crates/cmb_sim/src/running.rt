@@ -95,7 +95,7 @@ fn suits_engine(workers: u32, clusters: u32, design: &Design) -> bool
 }
 
 // The text of a design, by rounds of workers: by the engine where it carries all nets.
-fn rounds_text<R: AllocGlobal + Threads + Sync>(
+fn rounds_text<R: AllocGlobal + Threads + Wait + Sync>(
     rt: &R,
     workers: u32,
     clusters: u32,
@@ -162,7 +162,7 @@ fn write_free<R: AllocGlobal + Threads + Wait + Sync, O: Sink>(
 }
 
 // The text of a design, by so many threads at most.
-fn shared_text<R: AllocGlobal + Threads + Sync>(
+fn shared_text<R: AllocGlobal + Threads + Wait + Sync>(
     rt: &R,
     threads: u32,
     design: &Design,
@@ -177,7 +177,7 @@ fn shared_text<R: AllocGlobal + Threads + Sync>(
 }
 
 // Writes the text of a design while it is made, by so many threads at most, and gives its length.
-fn write_shared<R: AllocGlobal + Threads + Sync, O: Sink>(
+fn write_shared<R: AllocGlobal + Threads + Wait + Sync, O: Sink>(
     rt: &R,
     threads: u32,
     design: &Design,

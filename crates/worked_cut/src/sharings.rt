@@ -5,34 +5,25 @@ use cmb_cut::{LEAST_NETS, Share, Sharing, pays, share_out};
 use std::alloc::{AllocError, Global};
 use std::test::Fail;
 
-/// Whether a share of this stage drives just the nets with a mark.
-fn is_share(share: &Share, stage: u32, driven: &[bool]) -> bool {
-    share.stage == stage && share.driven.as_slice() == driven
+/// Whether a share drives just the nets with a mark.
+fn is_share(share: &Share, driven: &[bool]) -> bool {
+    share.driven.as_slice() == driven
 }
 
 /// Whether a sharing has one share, which drives all nets.
 fn is_whole(sharing: &Sharing, driven: &[bool]) -> bool {
-    sharing.shares.len() == 1 && is_share(&sharing.shares[0], 0, driven)
+    sharing.shares.len() == 1 && is_share(&sharing.shares[0], driven)
 }
 
-/// Whether the input and the first ring are one share, the second ring, which reads the input too, another beside it,
-/// and the net that reads both rings a third behind them.
+/// Whether the input and the first ring are one share, the second ring, which reads the input too, the next, and the
+/// net that reads both rings the last.
 fn is_ring_by_ring(sharing: &Sharing) -> bool {
     sharing.owners.as_slice() == [0, 0, 0, 1, 1, 2].as_slice()
         && sharing.shares.len() == 3
-        && is_share(
-            &sharing.shares[0],
-            0,
-            &[true, true, true, false, false, false],
-        )
-        && is_share(
-            &sharing.shares[1],
-            0,
-            &[true, false, false, true, true, false],
-        )
+        && is_share(&sharing.shares[0], &[true, true, true, false, false, false])
+        && is_share(&sharing.shares[1], &[true, false, false, true, true, false])
         && is_share(
             &sharing.shares[2],
-            1,
             &[false, false, false, false, false, true],
         )
 }
@@ -60,12 +51,12 @@ fn one_thread(rt: HostRuntime) -> Result<(), Fail> {
     Ok(())
 }
 
-/// Whether an input and the first of three inverters are one share, and the others one of the stage behind it.
+/// Whether an input and the first of three inverters are one share, and the others the next.
 fn is_chain_in_halves(sharing: &Sharing) -> bool {
     sharing.owners.as_slice() == [0, 0, 1, 1].as_slice()
         && sharing.shares.len() == 2
-        && is_share(&sharing.shares[0], 0, &[true, true, false, false])
-        && is_share(&sharing.shares[1], 1, &[false, false, true, true])
+        && is_share(&sharing.shares[0], &[true, true, false, false])
+        && is_share(&sharing.shares[1], &[false, false, true, true])
 }
 
 // The input weighs 2 and each inverter 3, so the heavier of two shares weighs 6.
@@ -80,13 +71,29 @@ fn chain(rt: HostRuntime) -> Result<(), Fail> {
     Ok(())
 }
 
+// The last share reads a net of each ring. The second reads the input, but drives it itself.
+#[test]
+fn given(rt: HostRuntime) -> Result<(), Fail> {
+    let netlist = two_rings(rt.alloc())?;
+    let sharing = share_out(rt.alloc(), &netlist, 3)?;
+    assert!(&rt;
+        sharing.crossing.as_slice() == [false, true, false, true, false, false].as_slice()
+    );
+    let whole = share_out(rt.alloc(), &netlist, 1)?;
+    assert!(&rt; whole.crossing.as_slice() == [false; 6].as_slice());
+    Ok(())
+}
+
 /// A sharing of so many nets whose one share drives all of them or none.
 fn of_nets(alloc: Global, count: usize, mark: bool) -> Result<Sharing, AllocError> {
     let driven = vec![in alloc; mark; count]?;
     let mut shares = Vec::with_capacity(alloc, 1)?;
-    shares.push(Share { stage: 0, driven })?;
-    let owners = vec![in alloc; 0u32; count]?;
-    Ok(Sharing { owners, shares })
+    shares.push(Share { driven })?;
+    Ok(Sharing {
+        owners: vec![in alloc; 0u32; count]?,
+        crossing: vec![in alloc; false; count]?,
+        shares,
+    })
 }
 
 #[test]

@@ -1,13 +1,11 @@
-//! Worked examples of parts of a design, of groups of nets, and of the text of chosen nets, as tests.
+//! Worked examples of parts of a design, of the text of chosen nets, and of shares of a design's nets, as tests.
 #![tactic(auto)]
 
-#[cfg(test)]
-mod groups;
 #[cfg(test)]
 mod nets;
 #[cfg(test)]
 mod parts;
 #[cfg(test)]
-mod shared;
+mod pipeline;
 #[cfg(test)]
 mod texts;

@@ -1,11 +1,11 @@
-//! A design of two parts that have nothing in common, and what it falls into.
+//! A design of two parts that have nothing in common, and one of them alone.
 
 ghost use Rattle.std.specs.Prelude.{◌≡◌, IfOk};
 ghost use Rattle.cmb_design.specs.Exact.{nets_of};
 
 use cmb_bench::{Driver, Kind, Netlist, Operands, read_bench};
 use cmb_design::{Design, Settings, read_clocks, read_delays, read_stimuli};
-use cmb_restrict::{closure, components, deal, restrict};
+use cmb_restrict::{closure, restrict};
 use cmb_wave::Level;
 use std::alloc::{AllocError, Global};
 use std::process::Abort;
@@ -90,39 +90,5 @@ fn design_of_a_part(rt: HostRuntime) -> Result<(), Fail> {
     let part = second_part(rt.alloc(), &design)?;
     assert!(&rt; is_second_part(part.netlist()));
     assert_eq!(&rt; part.horizon(), 8);
-    Ok(())
-}
-
-#[test]
-fn components_of_a_design(rt: HostRuntime) -> Result<(), Fail> {
-    let design = two_parts(&rt, rt.alloc())?;
-    let found = components(rt.alloc(), design.netlist())?;
-    assert_eq!(&rt; found.count, 2);
-    assert!(&rt; found.numbers.as_slice() == [0, 1, 0, 1, 1].as_slice());
-    Ok(())
-}
-
-/// Chains of inverters behind the inputs `a` to `e`: two, three, one, one and none. An input weighs 2 and an inverter
-/// 3, so the chains weigh 8, 11, 5, 5 and 2.
-const CHAINS: &[u8] =
-    b"INPUT(a)\nINPUT(b)\nINPUT(c)\nINPUT(d)\nINPUT(e)\nb1 = NOT(b)\nb2 = NOT(b1)\nb3 = NOT(b2)
-a1 = NOT(a)\na2 = NOT(a1)\nc1 = NOT(c)\nd1 = NOT(d)\n";
-
-// To two groups: 11 to the first, 8 and 5 to the second, then 5 to the first and 2 to the second.
-#[test]
-fn components_dealt_to_two(rt: HostRuntime) -> Result<(), Fail> {
-    let netlist = read_bench(rt.alloc(), CHAINS)?;
-    let dealt = deal(rt.alloc(), &netlist, 2)?;
-    assert_eq!(&rt; dealt.count, 2);
-    assert!(&rt; dealt.numbers.as_slice() == [1, 0, 1, 0, 1, 0, 0, 0, 1, 1, 1, 0].as_slice());
-    Ok(())
-}
-
-#[test]
-fn fewer_components_than_groups(rt: HostRuntime) -> Result<(), Fail> {
-    let design = two_parts(&rt, rt.alloc())?;
-    let dealt = deal(rt.alloc(), design.netlist(), 4)?;
-    assert_eq!(&rt; dealt.count, 2);
-    assert!(&rt; dealt.numbers.as_slice() == [1, 0, 1, 0, 0].as_slice());
     Ok(())
 }

@@ -6,9 +6,9 @@ use Rattle.cmb_cut.proofs.check.knows_asked.Goals as goal
 
 pub loop-other-preserved : goal.loop-other-preserved
 loop-other-preserved c =
-    all_more (Knows c.args.sharing.now c.args.share.now) c.targets_from-other-items.result.now c.loop-other.other-index 0 c.loop-other-test.true c.loop-other.invariant (c.knows.ensures c.if-not-knows.false)
+    all_more (Knows c.args.sharing.now c.args.number) c.targets_from-other-items.result.now c.loop-other.other-index 0 c.loop-other-test.true c.loop-other.invariant (c.knows.ensures c.if-not-knows.false)
 
 pub returns : goal.returns
 returns c = λ whole.
-    all_taken (Knows c.args.sharing.now c.args.share.now) c.targets_from-other-items.result.now (pins_of (driver_of c.args.netlist.now c.args.net)) c.loop-other.other-index
+    all_taken (Knows c.args.sharing.now c.args.number) c.targets_from-other-items.result.now (pins_of (driver_of c.args.netlist.now c.args.net)) c.loop-other.other-index
     (omega (arith, c.loop-other-test.false)) c.targets_from-other-items.ensures c.loop-other.invariant

@@ -15,3 +15,6 @@ loop-net-preserved c =
       owns,
       drives_read c.index-owner.result.now c.loop-net.net c.index-in-loop-net.result.now (omega (arith, long, within)) c.index-in-loop-net.ensures c.if-not-index.false,
     )
+
+pub returns : goal.returns
+returns c = λ whole net within. c.loop-net.invariant net (omega (arith, within, c.loop-net-test.false, c.len-net-end.ensures.value))

@@ -1,4 +1,4 @@
-use Rattle.std.proofs.Common.{ℕ, Vec, Global, ap, ◌∙◌, rules}
+use Rattle.std.proofs.Common.{rules}
 use Rattle.std.proofs.lemmas.Result.{IfOk-weaker}
 use Rattle.cmb_restrict.proofs.FoundFacts.{closure_is}
 use Rattle.cmb_restrict.proofs.closed.closure.Goals as goal

@@ -1,6 +1,6 @@
-use Rattle.std.proofs.Common.{◌<◌, ◌≤◌, length, arith, rules, ◌∙◌}
+use Rattle.std.proofs.Common.{◌<◌, ◌≤◌, length, rules, ◌∙◌}
 use Rattle.std.proofs.lemmas.List.{get_or_read}
-use Rattle.cmb_restrict.proofs.FoundFacts.{asked_more, asked_all, found_few}
+use Rattle.cmb_restrict.proofs.FoundFacts.{asked_more, asked_all}
 use Rattle.cmb_restrict.proofs.closed.follow.Goals as goal
 
 pub loop-done-preserved : goal.loop-done-preserved

@@ -1,4 +1,4 @@
-use Rattle.std.proofs.Common.{ℕ, Vec, Global, ap, ◌∙◌, rules}
+use Rattle.std.proofs.Common.{rules}
 use Rattle.std.proofs.lemmas.Result.{IfOk-weaker}
 use Rattle.cmb_restrict.proofs.ChosenFacts.{once_below, once_few, once_is, once_rises}
 use Rattle.cmb_restrict.proofs.closed.rising.Goals as goal

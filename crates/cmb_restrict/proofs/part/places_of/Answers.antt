@@ -1,4 +1,4 @@
-use Rattle.std.proofs.Common.{◌∙◌, rules}
+use Rattle.std.proofs.Common.{◌∙◌}
 use Rattle.std.proofs.lemmas.List.{length-set}
 use Rattle.cmb_restrict.proofs.PartFacts.{places_more}
 use Rattle.cmb_restrict.proofs.part.places_of.Goals as goal

@@ -1,7 +1,6 @@
-use Rattle.std.proofs.Common.{◌+◌, arith, sym, subst, ◌∙◌}
-use Rattle.cmb_bench.specs.Netlist.{Netlist}
+use Rattle.std.proofs.Common.{◌+◌, arith, sym, subst}
 use Rattle.cmb_design.specs.Design.{Design}
-use Rattle.cmb_restrict.specs.Restriction.{IsPart, IsRestriction}
+use Rattle.cmb_restrict.specs.Restriction.{IsRestriction}
 use Rattle.cmb_restrict.proofs.RestrictFacts.{restriction-is, only_memory}
 use Rattle.cmb_restrict.proofs.ValueFacts.{value-restricted}
 use Rattle.cmb_restrict.proofs.restriction.restrict.Goals as goal

@@ -1,3 +1,0 @@
-pub mod Groups
-pub mod Merges
-pub mod Windows

@@ -1,2 +1,0 @@
-pub mod OpeningFacts
-pub mod ShareFacts
