@@ -430,8 +430,8 @@ for name in aes128 sha256; do
     real "$name" --threads 4
     real "$name" --mode free --workers 2 --clusters 2
 done
-# Some 25 MB of text: of half of that too little would be left for threads to join. None of the registers reads another.
-shared_out "600 LFSRs of 16" 4800
+# Some 60 MB of text: of less too little would be left for a second thread to join. None of the registers reads another.
+shared_out "600 LFSRs of 16" 12000
 # Its parts read one another, so that each thread is given nets of those before it.
 shared_out "clocked, local" 9000
 echo "$passed passed, $failed failed"

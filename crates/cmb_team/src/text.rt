@@ -19,7 +19,7 @@ use std::thread::Threads;
 const FIRST: usize = 524_288;
 
 // What is left has so many bytes at least, where threads pay for it: an estimate.
-const LEAST: u64 = 8_388_608;
+const LEAST: u64 = 50_331_648;
 
 // So many bytes a tick, where windows are large enough to be told apart: an estimate.
 const DENSE: u64 = 64;
