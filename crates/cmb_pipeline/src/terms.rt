@@ -2,8 +2,8 @@
 
 use std::marker::Brand;
 
-/// Names the design of a run, how its nets are shared out, and the most ticks of a window. `Brand` stands for any that a
-/// call picks. So what goes from thread to thread says what it is of by its type.
+/// Names the design of a run, how its nets are shared out, and the most ticks of a window. `Brand` stands for any that
+/// a call picks. So what goes from thread to thread says what it is of by its type.
 pub trait Terms {
     ghost use Rattle.std.specs.Prelude.{ℕ, Bool, List};
     ghost use Rattle.cmb_design.specs.Design.{Design};

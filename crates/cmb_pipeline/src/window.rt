@@ -64,7 +64,8 @@ impl Window {
         ensures { OnOk result ((from upto : ℕ)
             → IsWindow share.now.design share.now.owners share.now.crossing share.now.number from upto self.old
             → TellsThose (IsDriven share.now.driven) (value share.now.design) from upto told.now
-            → IsWindow share.now.design share.now.owners share.now.crossing (suc share.now.number) from upto self.new) }
+            → IsWindow share.now.design share.now.owners share.now.crossing (suc share.now.number) from upto
+            self.new) }
     {
         room.take(share, told)?;
         merge(&self.changes, &room.own, &mut room.both)?;
