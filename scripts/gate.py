@@ -3,6 +3,9 @@
 then the program on whole files and the tools on small ones, sees that docs/MODEL.md lists what has to be believed, and
 says at the end what each part came to and what it took. The last line is 'N passed, M failed' over all; the status is 0 where nothing failed.
 
+Each check gets one job, as many checks at a time as there are processors: more jobs for one check take up to twice as
+much of the processors, which other checks can use. Where RT_JOBS is set already it stays as it is.
+
 Processor seconds are read from /proc once a second, of each of the toolchain's processes by its own command line,
 so a process that ends between two readings lacks what it did after the last one."""
 import os
@@ -137,6 +140,7 @@ def built():
 
 def main():
     meter, counts = Meter(programs()), {}
+    os.environ.setdefault("RT_JOBS", str(len(os.sched_getaffinity(0))))
     meter.thread.start()
     began = time.monotonic()
     proved, unproved = run(["rt", "ci"], counts)
