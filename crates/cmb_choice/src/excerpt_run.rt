@@ -10,23 +10,22 @@ ghost use Rattle.cmb_dump.specs.Excerpts.{AreAmong};
 
 use cmb_design::Design;
 use cmb_dump::Excerpt;
-use cmb_engine::Engine;
+use cmb_engine::{Engine, start_level};
 use cmb_wave::Level;
 use cmb_words::Changed;
 use std::alloc::{AllocError, Global};
 use std::marker::Model;
 
-// The levels of chosen nets at tick 0, as the engine begins.
-fn first_levels(alloc: Global, nets: &[u32], engine: &Engine<'_>) -> Result<Vec<Level>, AllocError>
-    requires nets { All (λ net. net < nets_of engine.now.design) nets.now }
-    requires clock { engine.now.clock ≡ 1 }
+// The levels of chosen nets at tick 0.
+fn first_levels(alloc: Global, design: &Design, nets: &[u32]) -> Result<Vec<Level>, AllocError>
+    requires { All (λ net. net < nets_of design.now) nets.now }
     ensures count { IfOk result (λ levels. length levels.items ≡ length nets.now) }
     ensures levels { IfOk result (λ levels. (place : ℕ) → place < length nets.now
-        → slice_index_or levels.items place X ≡ value engine.now.design (slice_index nets.now place) 0) }
+        → slice_index_or levels.items place X ≡ value design.now (slice_index nets.now place) 0) }
 {
     let mut levels = Vec::with_capacity(alloc, nets.len())?;
     for net in nets {
-        levels.push(engine.level(*net as usize))?;
+        levels.push(start_level(design, *net as usize))?;
     }
     Ok(levels)
 }
@@ -70,7 +69,7 @@ impl<'a> Run<'a> {
         ensures within { IfOk result (λ run. run.clock ≤ design.entry.now.horizon) }
     {
         let engine = Engine::open(alloc, design)?;
-        let levels = first_levels(alloc, nets, &engine)?;
+        let levels = first_levels(alloc, design, nets)?;
         let excerpt = Excerpt::open(alloc, design, nets, &levels)?;
         let text = excerpt.text().to_vec(alloc)?;
         let _begun = engine.clock();

@@ -1,5 +1,5 @@
 -- What an engine's state tells of its design, and how it goes on.
-use Rattle.std.proofs.Common.{◌≡◌, ℕ, ◌+◌, ◌-◌, ◌*◌, ◌/◌, ◌<◌, ◌≤◌, min, false, List, length, get_or, sym, ap, subst, ◌∙◌, arith}
+use Rattle.std.proofs.Common.{◌≡◌, ℕ, ◌+◌, ◌-◌, ◌*◌, ◌/◌, ◌<◌, ◌≤◌, min, false, List, length, sym, ap, subst, ◌∙◌, arith}
 use Rattle.std.specs.Prelude.{All, Contains}
 use Rattle.std.proofs.Math.Nat.{div-lt_iff_lt-mul}
 use Rattle.std.proofs.lemmas.Nat.{le-div}
@@ -12,7 +12,6 @@ use Rattle.cmb_design.specs.Value.{value}
 use Rattle.cmb_words.specs.declared.changed.Changed.{Changed}
 use Rattle.cmb_words.specs.declared.word.Word.{Word}
 use Rattle.cmb_words.specs.Changes.{RisesWithin, Tells, is_among}
-use Rattle.cmb_words.specs.Word.{level_at_place}
 use Rattle.cmb_engine.specs.Ahead.{TellsAhead}
 use Rattle.cmb_engine.specs.Cells.{cell_at, is_made, IsSteadyFrom}
 use Rattle.cmb_engine.specs.Circuits.{MeetsCells, Shows}
@@ -29,23 +28,10 @@ use Rattle.cmb_engine.specs.declared.state.State.{State}
 use Rattle.cmb_engine.proofs.CollectFacts.{HasWord, collected-tells}
 use Rattle.cmb_engine.proofs.GivenFacts.{given-traced}
 use Rattle.cmb_engine.proofs.RoleFacts.{given-inside, given-other}
-use Rattle.cmb_engine.proofs.SlotFacts.{trace-net, shown-last, shows-nets}
+use Rattle.cmb_engine.proofs.SlotFacts.{shows-nets}
 use Rattle.cmb_engine.proofs.ToldFacts.{taken-tells, taken-ahead, noted-tells}
-use Rattle.cmb_engine.proofs.WordFacts.{levels_of-read}
 
 module _ (design : Design) (circuit : Circuit) (state : State) (is_circuit : IsCircuit design circuit) (is_state : IsState design circuit state) where
-  -- a net is a slot that has a word
-  pub has-word : (net : ℕ) → net < nets_of design → net < length state.words.items
-  has-word net small = omega (arith, small, is_circuit.plan.count, is_state.slots)
-
-  -- in the last place of a net's word is its level at the last tick that is known
-  pub level-known : (net : ℕ) (word : Word) → net < nets_of design → word ≡ get_or state.words.items net word → level_at_place word 63 ≡ level_in design circuit.wiring.roles.items net (state.clock - 1)
-  level-known net word small is =
-      sym (levels_of-read state.words.items net word 63 (has-word net small) is)
-      ∙ shown-last (levels_of state.words.items) (trace_of design circuit.wiring.roles.items circuit.lines.items) (length circuit.wiring.cells) state.clock net is_state.shows
-      (omega (arith, has-word net small, is_state.slots)) is_state.begun
-      ∙ trace-net design circuit.wiring.roles.items circuit.lines.items net (state.clock - 1) small
-
   -- a given net is a slot whose word no cell makes
   pub gift-slots : AreToldNets circuit.wiring.cells circuit.wiring.roles.items
   gift-slots slot gift =

@@ -14,7 +14,6 @@ use Rattle.cmb_engine.specs.Traces.{line_level, trace_of}
 use Rattle.cmb_engine.specs.Windows.{in_place}
 use Rattle.cmb_engine.specs.declared.cell.Pin.{Pin}
 use Rattle.cmb_engine.specs.declared.role.Role.{Role}
-use Rattle.cmb_engine.proofs.TruthFacts.{in_place-tick}
 
 pub trace-net : (design : Design) (roles : List Role) (lines : List Pin) (slot tick : ℕ) → slot < nets_of design → trace_of design roles lines slot tick ≡ level_in design roles slot tick
 unfolding trace_of value
@@ -52,9 +51,3 @@ pub shows-nets : (words : ℕ → ℕ → Level) (design : Design) (roles : List
     → Shows words (level_in design roles) (nets_of design) to
 shows-nets words design roles lines count to fits shows slot place net small =
     shows slot place (omega (arith, net, fits)) small ∙ in_place-same (trace_of design roles lines slot) (level_in design roles slot) to place (λ tick. trace-net design roles lines slot tick net)
-
--- in the last place stands the level at the last tick that is known
-pub shown-last : (words : ℕ → ℕ → Level) (level : ℕ → ℕ → Level) (count to slot : ℕ) → Shows words level count to → slot < count → 1 ≤ to → words slot 63 ≡ level slot (to - 1)
-shown-last words level count to slot shows small begun =
-    let e : to + 63 - 64 ≡ to - 1 = omega arith in
-    shows slot 63 small (omega arith) ∙ in_place-tick (level slot) to 63 (omega arith) ∙ ap (level slot) e

@@ -1,6 +1,6 @@
 //! The engine of a design.
 
-ghost use Rattle.std.specs.Prelude.{◌≡◌, ◌+◌, ◌-◌, ◌<◌, ◌≤◌, IfOk};
+ghost use Rattle.std.specs.Prelude.{◌≡◌, ◌+◌, ◌<◌, ◌≤◌, IfOk};
 ghost use Rattle.cmb_design.specs.Exact.{nets_of};
 ghost use Rattle.cmb_design.specs.Value.{value};
 ghost use Rattle.cmb_engine.specs.Engines.{next_clock};
@@ -10,7 +10,6 @@ use crate::circuit::Circuit;
 use crate::open::{open_circuit, open_state};
 use crate::state::State;
 use cmb_design::Design;
-use cmb_wave::Level;
 use cmb_words::Changed;
 use std::alloc::{AllocError, Global};
 use std::marker::Model;
@@ -100,14 +99,6 @@ impl<'d> Engine<'d> {
         ensures within { result ≤ self.now.design.horizon }
     {
         self.state.clock
-    }
-
-    /// The level of a net, given by its number, at the last tick that is known.
-    pub fn level(&self, net: usize) -> Level
-        requires { net < nets_of self.now.design }
-        ensures { result ≡ value self.now.design net (self.now.clock - 1) }
-    {
-        self.state.words[net].level(63)
     }
 
     /// Goes on by a window of at least one tick and at most `LONGEST_WINDOW`, never beyond the horizon. `changed` gets

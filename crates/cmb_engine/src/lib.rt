@@ -23,7 +23,7 @@ mod role;
 mod settle;
 pub mod share;
 mod sharing;
-mod start;
+pub mod start;
 mod state;
 mod stimuli;
 mod told;
@@ -33,3 +33,4 @@ mod window;
 
 pub use engine::Engine;
 pub use share::ShareEngine;
+pub use start::start_level;

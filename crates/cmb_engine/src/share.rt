@@ -1,6 +1,6 @@
 //! The engine of a share of a design's nets.
 
-ghost use Rattle.std.specs.Prelude.{◌≡◌, ℕ, ◌+◌, ◌-◌, ◌<◌, ◌≤◌, true, IfOk, length};
+ghost use Rattle.std.specs.Prelude.{◌≡◌, ℕ, ◌+◌, ◌<◌, ◌≤◌, true, IfOk, length};
 ghost use Rattle.cmb_design.specs.Exact.{nets_of};
 ghost use Rattle.cmb_design.specs.Value.{value};
 ghost use Rattle.cmb_engine.specs.Shares.{share_clock, IsDriven, IsGiven, TellsThose};
@@ -12,7 +12,6 @@ use crate::open::{open_circuit, open_state};
 use crate::sharing::{is_fed, roles_of};
 use crate::state::State;
 use cmb_design::Design;
-use cmb_wave::Level;
 use cmb_words::Changed;
 use std::alloc::{AllocError, Global};
 use std::marker::Model;
@@ -119,14 +118,6 @@ impl<'d> ShareEngine<'d> {
             → result ≡ true }
     {
         is_fed(self.circuit.wiring.roles.as_slice(), driven)
-    }
-
-    /// The level of a driven net, given by its number, at the last tick that is known.
-    pub fn level(&self, net: usize) -> Level
-        requires { IsDriven self.now.driven net }
-        ensures { result ≡ value self.now.design net (self.now.clock - 1) }
-    {
-        self.state.words[net].level(63)
     }
 
     /// Goes on by a window of at least one tick and at most `LONGEST_WINDOW`, never beyond the horizon. `given` has the

@@ -1,8 +1,7 @@
-//! What the slots of a design's engine show at tick 0.
+//! What nets show at tick 0, and the slots of a design's engine.
 
 ghost use Rattle.std.specs.Prelude.{◌≡◌, ℕ, ◌+◌, ◌<◌, ◌≤◌, List, All, IfOk, length};
 ghost use Rattle.cmb_wave.specs.declared.level.Level.{Level};
-ghost use Rattle.cmb_bench.specs.Netlist.{IsNetlist};
 ghost use Rattle.cmb_design.specs.Exact.{nets_of};
 ghost use Rattle.cmb_design.specs.Value.{value};
 ghost use Rattle.cmb_words.specs.Word.{level_at_place};
@@ -19,13 +18,16 @@ use cmb_wave::Level;
 use cmb_words::Word;
 use std::alloc::{AllocError, Global};
 
-// The level of a net at tick 0: a gate's is x, since before tick 0 all its pins are.
-fn start_level(design: &Design, net: usize) -> Level
-    requires net { net < nets_of design.now }
-    requires netlist { IsNetlist design.now.netlist }
+/// The level of a net, given by its number, at tick 0: an input's by its stimulus, a flip-flop's the initial one, and a
+/// gate's x, since before tick 0 all its pins are.
+pub fn start_level(design: &Design, net: usize) -> Level
+    requires { net < nets_of design.now }
     ensures { result ≡ value design.now net 0 }
 {
-    match design.netlist().driver(net) {
+    let netlist = design.netlist();
+    // The proof learns here that the netlist is lawful.
+    let _nets = netlist.len();
+    match netlist.driver(net) {
         Driver::Input => design.stim(net, 0),
         Driver::Gate(_, _) => Level::X,
         Driver::Flop(_) => design.init(),

@@ -12,8 +12,6 @@ use crate::source::Source;
 use crate::stage::Stage;
 use crate::terms::Terms;
 use cmb_design::Design;
-use cmb_dump::Dump;
-use cmb_engine::Engine;
 use cmb_stream::{Kept, first_text};
 use rtrb::RingBuffer;
 use std::alloc::{AllocError, Global};
@@ -47,18 +45,6 @@ fn stages_of<'a, T: Terms>(
     Ok((stages, inlet))
 }
 
-// The text of a design up to tick 1, and the dump that goes on from there.
-fn first_of<'a>(alloc: Global, design: &'a Design) -> Result<(Dump<'a>, Kept<'a>), AllocError>
-    ensures dumped { IfOk result (λ first. first.0.design ≡ design.entry.now) }
-    ensures timed { IfOk result (λ first. first.0.clock ≡ 1) }
-    ensures design { IfOk result (λ first. first.1.design ≡ design.entry.now) }
-    ensures clock { IfOk result (λ first. first.1.clock ≡ 1) }
-    ensures given { IfOk result (λ first. first.1.given ≡ 0) }
-{
-    let engine = Engine::open(alloc, design)?;
-    first_text(alloc, design, &engine)
-}
-
 /// What the run of the design begins with that `T` names. Errors: memory was refused.
 pub(crate) fn open_run<'a, T: Terms, R>(
     rt: &'a R,
@@ -73,7 +59,7 @@ pub(crate) fn open_run<'a, T: Terms, R>(
     ensures design { IfOk result (λ run. run.kept.design ≡ design.entry.now) }
     ensures all { IfOk result (λ run. run.kept.given ≡ 0) }
 {
-    let (dump, kept) = first_of(alloc, design)?;
+    let (dump, kept) = first_text(alloc, design)?;
     let Makers { width, list } = makers;
     let shares = list.len();
     let most = shares.saturating_add(1).saturating_mul(ROOM);

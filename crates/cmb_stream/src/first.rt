@@ -10,19 +10,13 @@ ghost use Rattle.cmb_words.specs.Changes.{RisesWithin, Tells};
 use crate::kept::Kept;
 use cmb_design::Design;
 use cmb_dump::Dump;
-use cmb_engine::Engine;
+use cmb_engine::start_level;
 use cmb_wave::Level;
 use cmb_words::Changed;
 use std::alloc::{AllocError, Global};
 
-// The levels of all nets at tick 0, as the engine begins.
-fn first_levels(
-    alloc: Global,
-    design: &Design,
-    engine: &Engine<'_>,
-) -> Result<Vec<Level>, AllocError>
-    requires design { engine.now.design ≡ design.now }
-    requires clock { engine.now.clock ≡ 1 }
+// The levels of all nets at tick 0.
+fn first_levels(alloc: Global, design: &Design) -> Result<Vec<Level>, AllocError>
     ensures count { IfOk result (λ levels. length levels.items ≡ nets_of design.now) }
     ensures levels { IfOk result (λ levels. (net : ℕ) → net < nets_of design.now
         → slice_index_or levels.items net X ≡ value design.now net 0) }
@@ -30,42 +24,30 @@ fn first_levels(
     let nets = design.netlist().len();
     let mut levels = Vec::with_capacity(alloc, nets)?;
     for net in 0..nets {
-        levels.push(engine.level(net))?;
+        levels.push(start_level(design, net))?;
     }
     Ok(levels)
 }
 
-// The dump of a design, where its engine begins: it has the text up to tick 1.
-fn first_dump<'a>(
-    alloc: Global,
-    design: &'a Design,
-    engine: &Engine<'_>,
-) -> Result<Dump<'a>, AllocError>
-    requires design { engine.now.design ≡ design.now }
-    requires clock { engine.now.clock ≡ 1 }
+// The dump of a design as it begins: it has the text up to tick 1.
+fn first_dump(alloc: Global, design: &Design) -> Result<Dump<'_>, AllocError>
     ensures design { IfOk result (λ dump. dump.design ≡ design.entry.now) }
     ensures clock { IfOk result (λ dump. dump.clock ≡ 1) }
     ensures text { IfOk result (λ dump. dump.text ≡ made_text design.entry.now 1) }
 {
-    let levels = first_levels(alloc, design, engine)?;
+    let levels = first_levels(alloc, design)?;
     Dump::open(alloc, design, &levels)
 }
 
-/// The text of a design up to tick 1, where its engine begins, and the dump that goes on from there.
-pub fn first_text<'a>(
-    alloc: Global,
-    design: &'a Design,
-    engine: &Engine<'_>,
-) -> Result<(Dump<'a>, Kept<'a>), AllocError>
-    requires engaged { engine.now.design ≡ design.now }
-    requires begun { engine.now.clock ≡ 1 }
+/// The text of a design up to tick 1, and the dump that goes on from there.
+pub fn first_text<'a>(alloc: Global, design: &'a Design) -> Result<(Dump<'a>, Kept<'a>), AllocError>
     ensures dumped { IfOk result (λ first. first.0.design ≡ design.entry.now) }
     ensures timed { IfOk result (λ first. first.0.clock ≡ 1) }
     ensures design { IfOk result (λ first. first.1.design ≡ design.entry.now) }
     ensures clock { IfOk result (λ first. first.1.clock ≡ 1) }
     ensures given { IfOk result (λ first. first.1.given ≡ 0) }
 {
-    let dump = first_dump(alloc, design, engine)?;
+    let dump = first_dump(alloc, design)?;
     let kept = Kept::open(alloc, design, &dump)?;
     Ok((dump, kept))
 }

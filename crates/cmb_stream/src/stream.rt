@@ -44,7 +44,7 @@ impl<'a> Stream<'a> {
     {
         let changed = Vec::with_capacity(alloc, design.netlist().len())?;
         let engine = Engine::open(alloc, design)?;
-        let (dump, kept) = first_text(alloc, design, &engine)?;
+        let (dump, kept) = first_text(alloc, design)?;
         Ok((
             Stream {
                 engine,

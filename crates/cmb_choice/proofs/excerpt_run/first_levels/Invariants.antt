@@ -6,5 +6,5 @@ use Rattle.cmb_choice.proofs.excerpt_run.first_levels.Given as goal
 abbrev pub invariant-loop-net : goal.invariant-loop-net
 invariant-loop-net l = record {
   count : length l.levels.items ≡ l.net-index;
-  right : (place : ℕ) → place < l.net-index → get_or l.levels.items place X ≡ value l.engine.design (get_or l.nets place 0) 0;
+  right : (place : ℕ) → place < l.net-index → get_or l.levels.items place X ≡ value l.design (get_or l.nets place 0) 0;
 }
