@@ -5,7 +5,6 @@ mod collect;
 mod crew;
 mod desk;
 mod ends;
-mod idle;
 pub mod run;
 mod teller;
 pub mod text_run;

@@ -4,8 +4,8 @@ ghost use Rattle.std.specs.Prelude.{◌≡◌};
 
 use crate::free::backlog::Backlog;
 use crate::free::crew::Lookout;
-use crate::free::idle::Idle;
 use crate::terms::Terms;
+use cmb_idle::Idle;
 use std::alloc::AllocError;
 use std::sync::Wait;
 

@@ -11,7 +11,6 @@ ghost use Rattle.cmb_run.specs.Tellers.{decision, IsDecided, IsGiven, IsUnfinish
 use crate::free::backlog::Backlog;
 use crate::free::collect::take_round;
 use crate::free::crew::{Crew, Lookout};
-use crate::free::idle::Idle;
 use crate::free::run::ended;
 use crate::free::teller::Teller;
 use crate::free::threads::start;
@@ -20,6 +19,7 @@ use crate::run_fault::RunFault;
 use crate::terms::Terms;
 use cmb_core::Clustering;
 use cmb_design::Design;
+use cmb_idle::Idle;
 use cmb_links::Workers;
 use cmb_vcd::{Collector, Sink};
 use std::alloc::Global;

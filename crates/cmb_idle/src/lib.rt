@@ -1,0 +1,6 @@
+//! What a thread does that finds nothing to do.
+#![tactic(auto)]
+
+pub mod idle;
+
+pub use idle::Idle;
