@@ -5,7 +5,6 @@
 mod batch;
 mod days;
 mod flow;
-mod idle;
 mod maker;
 mod makers;
 mod merge;

@@ -3,8 +3,8 @@
 ghost use Rattle.std.specs.Prelude.{◌≡◌};
 
 use crate::batch::Batch;
-use crate::idle::Idle;
 use crate::terms::Terms;
+use cmb_idle::Idle;
 use rtrb::{Consumer, Producer, PushError};
 use std::marker::PhantomData;
 use std::sync::Wait;
