@@ -1,4 +1,4 @@
-use Rattle.std.proofs.Common.{List, sym, subst}
+use Rattle.std.proofs.Common.{sym, subst}
 use Rattle.cmb_design.specs.Ranges.{AreClockRows}
 use Rattle.cmb_design.proofs.PartFacts.{clocks_kept}
 use Rattle.cmb_design.proofs.part.clocks_on.Goals as goal

@@ -1,4 +1,4 @@
-use Rattle.std.proofs.Common.{List, sym, subst}
+use Rattle.std.proofs.Common.{sym, subst}
 use Rattle.cmb_design.specs.Ranges.{AreStimulusRows}
 use Rattle.cmb_design.proofs.PartFacts.{stimuli_kept}
 use Rattle.cmb_design.proofs.part.stimuli_on.Goals as goal
