@@ -11,15 +11,15 @@ use Rattle.cmb_core.specs.Spans.{changes_from}
 use Rattle.cmb_core.specs.declared.process.Pin.{Pin}
 use Rattle.cmb_core.specs.declared.process.Rule.{Rule}
 use Rattle.cmb_core.specs.declared.process.Rule.TheVariants.{Given, Input, Gate, Flop}
-use Rattle.cmb_core.specs.Arrivals.{last_sample}
+use Rattle.cmb_design.specs.Timing.{sample_upto}
 use Rattle.cmb_core.specs.Step.{wave_at}
 use Rattle.cmb_core.specs.Rows.{Process, AreReady, IsReadyFor, sample_need, slot_of}
-use Rattle.cmb_core.specs.Clusters.{IsSound, wave_nets}
+use Rattle.cmb_core.specs.Clusters.{Cluster, IsSameButWaves, IsSound, slot_wave, wave_nets}
 use Rattle.cmb_core.specs.Directory.{IsDirectory, place_in}
 use Rattle.cmb_core.specs.declared.directory.Directory.{Directory}
 use Rattle.std.proofs.Math.Seq.{map-set_same}
 use Rattle.cmb_core.proofs.Changes.{trace_of_changes}
-use Rattle.cmb_core.proofs.Skips.{last_sample_le}
+use Rattle.cmb_core.proofs.Skips.{sample_upto_le}
 use Rattle.cmb_core.proofs.Slots.{set_slots, set_bases}
 
 pub step_trace : (f : ℕ → Level) (before : Level) (from until : ℕ) (cs : List Change) → from ≤ until → cs ≡ changes_from f before from (until - from) → IsTrace before from cs until
@@ -60,7 +60,7 @@ are_ready_still old new clock later (o ∷ os) g h r =
 
 sample_need_le : (first period delay clock later : ℕ) → 0 < period → clock ≤ later → sample_need first period delay clock ≤ sample_need first period delay later
 sample_need_le first period delay clock later pos h =
-    let samples : last_sample first period (clock - delay) ≤ last_sample first period (later - delay) = last_sample_le first period (clock - delay) (later - delay) pos (omega arith) in
+    let samples : sample_upto first period (clock - delay) ≤ sample_upto first period (later - delay) = sample_upto_le first period (clock - delay) (later - delay) pos (omega arith) in
     grind (arith, nat_tests)
 
 pub ready_still : (old new : List Wave) (clock later : ℕ) (rule : Rule) (os : List Pin) (cs : List Change) → GoneOn old new → clock ≤ later → IsReadyFor old clock rule os cs → IsReadyFor new later rule os cs
@@ -108,10 +108,29 @@ kept_by_set horizon processes directory old new n w e h net base later sound lis
       nets = gone.nets;
     })
 
+-- a wave that was read is that of the cluster
+pub read_as : (s : Cluster) (horizon : ℕ) (processes : List Process) (waves : List Wave) (n : ℕ) (w : Wave)
+    → record { horizon = horizon; processes = processes; waves = waves } ≡ s → n < length s.waves → w ≡ get_or waves n w → w ≡ slot_wave s n
+read_as s horizon processes waves n w view within is =
+    let there : n < length waves = omega (arith, ap (λ s. length s.waves) view, within) in
+    get_or_read _ _ _ there is (new_wave 0) ∙ ap (λ s. slot_wave s n) view
+
 -- the same of a wave that was lent, and came back later
-pub kept_by_loan : (horizon : ℕ) (processes : List Process) (directory : Directory) (old : List Wave) (n : ℕ) (lent w : Wave) → n < length old → lent ≡ get_or old n lent
+pub kept_by_loan : (s : Cluster) (horizon : ℕ) (processes : List Process) (directory : Directory) (old : List Wave) (n : ℕ) (lent w : Wave)
+    → record { horizon = horizon; processes = processes; waves = old } ≡ s → n < length s.waves → lent ≡ get_or old n lent
     → w.net ≡ lent.net → w.base ≡ lent.base → lent.clock ≤ w.clock
     → IsSound (record { horizon = horizon; processes = processes; waves = old }) → IsDirectory processes (wave_nets old) directory → IsKept horizon processes directory old (set old n w)
-kept_by_loan horizon processes directory old n lent w h was net base later sound listed =
+kept_by_loan s horizon processes directory old n lent w view within was net base later sound listed =
+    let h : n < length old = omega (arith, ap (λ s. length s.waves) view, within) in
     let is : lent ≡ get_or old n (new_wave 0) = get_or_read old n lent h was (new_wave 0) in
     kept_by_set horizon processes directory old (set old n w) n w refl h (net ∙ ap (λ (v : Wave). v.net) is) (base ∙ ap (λ (v : Wave). v.base) is) (omega (arith, later, ap (λ (v : Wave). v.clock) is)) sound listed
+
+-- what stays of the cluster then
+pub kept_same : (s : Cluster) (horizon : ℕ) (processes : List Process) (directory : Directory) (old new : List Wave)
+    → record { horizon = horizon; processes = processes; waves = old } ≡ s → IsKept horizon processes directory old new
+    → IsSameButWaves s (record { horizon = horizon; processes = processes; waves = new })
+kept_same s horizon processes directory old new view kept = record {
+  horizon = ap (λ s. s.horizon) view;
+  processes = ap (λ s. s.processes) view;
+  nets = kept.nets ∙ ap (λ s. wave_nets s.waves) view;
+}

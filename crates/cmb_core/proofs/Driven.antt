@@ -13,7 +13,7 @@ use Rattle.cmb_bench.specs.declared.netlist.Driver.TheVariants.{Input as InputNe
 use Rattle.cmb_bench.specs.Netlist.{driver_of}
 use Rattle.cmb_design.specs.Design.{Design}
 use Rattle.cmb_design.specs.Gate.{gate}
-use Rattle.cmb_design.specs.Timing.{delay, clock_of, stimulus, last_sample as last_tick, next_sample as next_tick}
+use Rattle.cmb_design.specs.Timing.{delay, clock_of, stimulus, last_sample, next_sample}
 use Rattle.cmb_design.specs.Value.{pin_levels, flop_level, driven_level}
 use Rattle.cmb_core.specs.declared.process.Pin.{Pin}
 use Rattle.cmb_core.specs.declared.process.Rule.TheVariants.{Flop}
@@ -49,7 +49,7 @@ pins_reach-same design waves net pin (source ∷ sources) [] a = absurd a
 
 -- a flip-flop holds the initial level up to its delay after the first sample
 flop-same : (design : Design) (waves : List Wave) (net source tick : ℕ) → sampled_wave (wave_at waves source) (clock_of design net).first (clock_of design net).period design.init (delay design net 1) tick ≡ flop_level design (told_level waves source) net tick
-unfolding last_tick
+unfolding last_sample
 flop-same design waves net source tick =
     go (cases_lt tick (delay design net 1)) (cases_lt (tick - delay design net 1) (clock_of design net).first)
   where
@@ -77,7 +77,7 @@ flop_row design waves net source tick (o ∷ []) cs a = rw (a.0, a.1) (flop-same
 flop_row design waves net source tick (o ∷ q ∷ os) cs a = absurd a.2
 
 flop_reach-same : (design : Design) (waves : List Wave) (net source : ℕ) (os : List Pin) → AreOperands design net 1 (source ∷ []) os → process_reach design.horizon waves (Flop (clock_of design net).first (clock_of design net).period design.init) os ≡ driver_reach design (told_upto waves) net (FlopNet source)
-unfolding next_tick
+unfolding next_sample
 flop_reach-same design waves net source [] a = absurd a
 flop_reach-same design waves net source (o ∷ []) a = rw (a.0, a.1) refl
 flop_reach-same design waves net source (o ∷ q ∷ os) a = absurd a.2
@@ -127,6 +127,20 @@ before-continued w f zero e = refl
 before-continued w f (suc tick) e = let below : ltb tick w.clock ≡ true = lt-ltb tick w.clock (omega arith) in rw below refl
 
 -- ---- a step
+
+-- of two tests of one step each takes its side of it
+later_or_not : {A : Type 0} (none went other : A) (reach known clock : ℕ) → reach ≡ known → (clock < reach → went ≡ other) → cond (leb reach clock) none went ≡ cond (ltb clock known) other none
+later_or_not none went other reach known clock is same = go (cases_lt clock reach)
+  where
+    go : (clock < reach) ⊎ (reach ≤ clock) → cond (leb reach clock) none went ≡ cond (ltb clock known) other none
+    go (inl more) =
+        let a : leb reach clock ≡ false = lt-leb _ _ more in
+        let b : ltb clock known ≡ true = lt-ltb _ _ (omega (arith, more, is)) in
+        rw (a, b) (same more)
+    go (inr at_most) =
+        let a : leb reach clock ≡ true = le-leb _ _ at_most in
+        let b : ltb clock known ≡ false = le-ltb _ _ (omega (arith, at_most, is)) in
+        rw (a, b) refl
 
 module _ (design : Design) (s : Cluster) (net slot : ℕ) (d : Drives design s net slot) where
   pub driven_wave : slot_wave s slot ≡ wave_at s.waves net
@@ -179,31 +193,12 @@ module _ (design : Design) (s : Cluster) (net slot : ℕ) (d : Drives design s n
       λ i. grown (slot_wave s slot) (reach_is i) (same i)
 
   part_is : new_part s slot ≡ step_answer design s.waves (slot_wave s slot)
-  part_is = go (cases_lt (slot_wave s slot).clock (reach_at s slot))
-    where
-      go : ((slot_wave s slot).clock < reach_at s slot) ⊎ (reach_at s slot ≤ (slot_wave s slot).clock) → new_part s slot ≡ step_answer design s.waves (slot_wave s slot)
-      go (inl more) =
-          let a : leb (reach_at s slot) (slot_wave s slot).clock ≡ false = lt-leb _ _ more in
-          let b : ltb (slot_wave s slot).clock (step_reach design s.waves (slot_wave s slot).net) ≡ true = lt-ltb _ _ (omega (arith, more, reach_is)) in
-          rw (a, b) (ap (λ piece. Some piece) (piece_is more))
-      go (inr none) =
-          let a : leb (reach_at s slot) (slot_wave s slot).clock ≡ true = le-leb _ _ none in
-          let b : ltb (slot_wave s slot).clock (step_reach design s.waves (slot_wave s slot).net) ≡ false = le-ltb _ _ (omega (arith, none, reach_is)) in
-          rw (a, b) refl
+  part_is = later_or_not _ _ _ (reach_at s slot) (step_reach design s.waves (slot_wave s slot).net) (slot_wave s slot).clock reach_is (λ more. ap (λ piece. Some piece) (piece_is more))
 
   waves_are : new_waves_at s slot ≡ step_waves design s.waves (slot_wave s slot)
-  waves_are = go (cases_lt (slot_wave s slot).clock (reach_at s slot))
-    where
-      go : ((slot_wave s slot).clock < reach_at s slot) ⊎ (reach_at s slot ≤ (slot_wave s slot).clock) → new_waves_at s slot ≡ step_waves design s.waves (slot_wave s slot)
-      go (inl more) =
-          let a : leb (reach_at s slot) (slot_wave s slot).clock ≡ false = lt-leb _ _ more in
-          let b : ltb (slot_wave s slot).clock (step_reach design s.waves (slot_wave s slot).net) ≡ true = lt-ltb _ _ (omega (arith, more, reach_is)) in
-          let place : slot_of s.waves (slot_wave s slot).net ≡ Some slot = ap (slot_of s.waves) net_here ∙ d.here in
-          rw (a, b) (ap (λ v. set s.waves slot v) (grown_is more (omega (arith, more, reach_is))) ∙ set_with s.waves slot (wave_with_piece (slot_wave s slot) (step_piece design s.waves (slot_wave s slot))) place)
-      go (inr none) =
-          let a : leb (reach_at s slot) (slot_wave s slot).clock ≡ true = le-leb _ _ none in
-          let b : ltb (slot_wave s slot).clock (step_reach design s.waves (slot_wave s slot).net) ≡ false = le-ltb _ _ (omega (arith, none, reach_is)) in
-          rw (a, b) refl
+  waves_are = later_or_not _ _ _ (reach_at s slot) (step_reach design s.waves (slot_wave s slot).net) (slot_wave s slot).clock reach_is (λ more.
+      let place : slot_of s.waves (slot_wave s slot).net ≡ Some slot = ap (slot_of s.waves) net_here ∙ d.here in
+      ap (λ v. set s.waves slot v) (grown_is more (omega (arith, more, reach_is))) ∙ set_with s.waves slot (wave_with_piece (slot_wave s slot) (step_piece design s.waves (slot_wave s slot))) place)
 
   pub step_part_is : new_part s slot ≡ step_answer design s.waves (wave_at s.waves net)
   step_part_is = part_is ∙ ap (step_answer design s.waves) wave_here

@@ -18,7 +18,7 @@ use Rattle.cmb_bench.specs.declared.netlist.Driver.TheVariants.{Input as InputNe
 use Rattle.cmb_bench.specs.Netlist.{driver_of}
 use Rattle.cmb_design.specs.Design.{Design}
 use Rattle.cmb_design.specs.Exact.{nets_of, IsExactIn, IsExactWaveIn, IsRightIn}
-use Rattle.cmb_design.specs.Timing.{delay, clock_of, last_sample as last_tick}
+use Rattle.cmb_design.specs.Timing.{delay, clock_of, last_sample}
 use Rattle.cmb_design.specs.Value.{value}
 use Rattle.cmb_core.specs.declared.process.Pin.{Pin}
 use Rattle.cmb_core.specs.declared.process.Rule.{Rule}
@@ -59,7 +59,7 @@ none_some (Some a) e h = cc
 -- ---- what a process still needs is kept
 
 need_same : (design : Design) (net clock : ℕ) → sample_need (clock_of design net).first (clock_of design net).period (delay design net 1) clock ≤ flop_need design net clock
-unfolding last_tick
+unfolding last_sample
 need_same design net clock = go (cases_lt clock ((clock_of design net).first + delay design net 1)) (cases_lt (clock - delay design net 1) (clock_of design net).first)
   where
     go : (clock < (clock_of design net).first + delay design net 1) ⊎ ((clock_of design net).first + delay design net 1 ≤ clock) → (clock - delay design net 1 < (clock_of design net).first) ⊎ ((clock_of design net).first ≤ clock - delay design net 1)

@@ -5,7 +5,8 @@ use Rattle.std.proofs.lemmas.Bool.{and_parts, eqb-true, eq-eqb}
 use Rattle.cmb_wave.specs.Wave.{Wave, new_wave}
 use Rattle.cmb_design.specs.Design.{Design}
 use Rattle.cmb_core.specs.Clustering.{Clustering}
-use Rattle.cmb_core.specs.Clusters.{Cluster, IsSound, driven_waves, is_complete, process_at, slot_wave}
+use Rattle.cmb_core.specs.Clusters.{Cluster, IsSound, is_complete, process_at, slot_wave}
+use Rattle.cmb_core.specs.Directory.{driven_among}
 use Rattle.cmb_core.specs.Opened.{IsClusterOf, IsOwnNet, is_own}
 use Rattle.cmb_core.specs.Rows.{Process, is_given, slot_of}
 use Rattle.cmb_core.specs.Step.{wave_at}
@@ -14,13 +15,13 @@ use Rattle.cmb_core.proofs.OwnFacts.{own_placed, given_here}
 
 -- what all driven waves pass the one in a place does
 driven_passes : (test : Wave → Bool) (processes : List Process) (waves : List Wave) (i : ℕ) (p : Process) (w : Wave) → i < length processes → i < length waves
-    → is_given (get_or processes i p).rule ≡ false → list_all test (driven_waves processes waves) ≡ true → test (get_or waves i w) ≡ true
+    → is_given (get_or processes i p).rule ≡ false → list_all test (driven_among processes waves) ≡ true → test (get_or waves i w) ≡ true
 driven_passes test [] waves i p w h k own all = absurd (omega arith)
 driven_passes test (q ∷ processes) [] i p w h k own all = absurd (omega arith)
-driven_passes test (q ∷ processes) (v ∷ waves) zero p w h k own all = let all' : list_all test (v ∷ driven_waves processes waves) ≡ true = rw own at all in (and_parts _ _ all').0
+driven_passes test (q ∷ processes) (v ∷ waves) zero p w h k own all = let all' : list_all test (v ∷ driven_among processes waves) ≡ true = rw own at all in (and_parts _ _ all').0
 driven_passes test (q ∷ processes) (v ∷ waves) (suc i) p w h k own all = driven_passes test processes waves i p w (omega arith) (omega arith) own (rest (is_given q.rule) all)
   where
-    rest : (b : Bool) → list_all test (cond b (driven_waves processes waves) (v ∷ driven_waves processes waves)) ≡ true → list_all test (driven_waves processes waves) ≡ true
+    rest : (b : Bool) → list_all test (cond b (driven_among processes waves) (v ∷ driven_among processes waves)) ≡ true → list_all test (driven_among processes waves) ≡ true
     rest true e = e
     rest false e = (and_parts _ _ e).1
 

@@ -12,26 +12,26 @@ use Rattle.cmb_bench.specs.Netlist.{driver_of}
 use Rattle.cmb_design.specs.Design.{Design}
 use Rattle.cmb_design.specs.Exact.{nets_of}
 use Rattle.cmb_core.specs.Clustering.{Clustering, cluster_of, has_input, some_below, net_reads}
-use Rattle.cmb_core.specs.Clusters.{Cluster, IsDrivenBy, wave_nets, driven_waves, given_waves}
+use Rattle.cmb_core.specs.Clusters.{Cluster, IsDrivenBy, wave_nets}
 use Rattle.cmb_core.specs.Opened.{IsProcessOf, AreProcessesOf, IsClusterOf, is_own, own_nets, read_nets, held_nets}
 use Rattle.cmb_core.specs.Rows.{Process, is_given}
 use Rattle.cmb_core.specs.Directory.{driven_among, given_among}
 
-pub driven_nets : (processes : List Process) (waves : List Wave) → map (λ wave. wave.net) (driven_waves processes waves) ≡ driven_among processes (wave_nets waves)
+pub driven_nets : (processes : List Process) (waves : List Wave) → map (λ wave. wave.net) (driven_among processes waves) ≡ driven_among processes (wave_nets waves)
 driven_nets [] waves = refl
 driven_nets (p ∷ processes) [] = refl
 driven_nets (p ∷ processes) (w ∷ waves) = go (is_given p.rule) (driven_nets processes waves)
   where
-    go : (b : Bool) → map (λ wave. wave.net) (driven_waves processes waves) ≡ driven_among processes (wave_nets waves) → map (λ wave. wave.net) (cond b (driven_waves processes waves) (w ∷ driven_waves processes waves)) ≡ cond b (driven_among processes (wave_nets waves)) (w.net ∷ driven_among processes (wave_nets waves))
+    go : (b : Bool) → map (λ wave. wave.net) (driven_among processes waves) ≡ driven_among processes (wave_nets waves) → map (λ wave. wave.net) (cond b (driven_among processes waves) (w ∷ driven_among processes waves)) ≡ cond b (driven_among processes (wave_nets waves)) (w.net ∷ driven_among processes (wave_nets waves))
     go true e = e
     go false e = ap (λ ns. w.net ∷ ns) e
 
-pub given_nets : (processes : List Process) (waves : List Wave) → map (λ wave. wave.net) (given_waves processes waves) ≡ given_among processes (wave_nets waves)
+pub given_nets : (processes : List Process) (waves : List Wave) → map (λ wave. wave.net) (given_among processes waves) ≡ given_among processes (wave_nets waves)
 given_nets [] waves = refl
 given_nets (p ∷ processes) [] = refl
 given_nets (p ∷ processes) (w ∷ waves) = go (is_given p.rule) (given_nets processes waves)
   where
-    go : (b : Bool) → map (λ wave. wave.net) (given_waves processes waves) ≡ given_among processes (wave_nets waves) → map (λ wave. wave.net) (cond b (w ∷ given_waves processes waves) (given_waves processes waves)) ≡ cond b (w.net ∷ given_among processes (wave_nets waves)) (given_among processes (wave_nets waves))
+    go : (b : Bool) → map (λ wave. wave.net) (given_among processes waves) ≡ given_among processes (wave_nets waves) → map (λ wave. wave.net) (cond b (w ∷ given_among processes waves) (given_among processes waves)) ≡ cond b (w.net ∷ given_among processes (wave_nets waves)) (given_among processes (wave_nets waves))
     go true e = ap (λ ns. w.net ∷ ns) e
     go false e = e
 
@@ -112,7 +112,7 @@ module _ (design : Design) (clustering : Clustering) (cluster : ℕ) where
 
 -- one wave after the other
 pub driven_rest : (processes : List Process) (waves : List Wave) (i : ℕ) (p : Process) (w : Wave) → i < length processes → i < length waves
-    → driven_waves (drop i processes) (drop i waves) ≡ cond (is_given (get_or processes i p).rule) (driven_waves (drop (i + 1) processes) (drop (i + 1) waves)) (get_or waves i w ∷ driven_waves (drop (i + 1) processes) (drop (i + 1) waves))
+    → driven_among (drop i processes) (drop i waves) ≡ cond (is_given (get_or processes i p).rule) (driven_among (drop (i + 1) processes) (drop (i + 1) waves)) (get_or waves i w ∷ driven_among (drop (i + 1) processes) (drop (i + 1) waves))
 driven_rest processes waves i p w h k = rw (drop_more processes i p h, drop_more waves i w k) refl
 
 known_at : (upto : ℕ) (g : Bool) (w : Wave) (rest : List Wave) → (not g && not (eqb w.clock upto)) ≡ false → list_all (λ wave. eqb wave.clock upto) (cond g rest (w ∷ rest)) ≡ list_all (λ wave. eqb wave.clock upto) rest
@@ -134,10 +134,10 @@ behind_at upto false w rest e = go (eqb w.clock upto) e
 -- one wave is known so far, or is not
 pub known_more : (upto : ℕ) (processes : List Process) (waves : List Wave) (i : ℕ) (p : Process) (w : Wave) → i < length processes → i < length waves
     → (not (is_given (get_or processes i p).rule) && not (eqb (get_or waves i w).clock upto)) ≡ false
-    → list_all (λ wave. eqb wave.clock upto) (driven_waves (drop (i + 1) processes) (drop (i + 1) waves)) ≡ list_all (λ wave. eqb wave.clock upto) (driven_waves (drop i processes) (drop i waves))
+    → list_all (λ wave. eqb wave.clock upto) (driven_among (drop (i + 1) processes) (drop (i + 1) waves)) ≡ list_all (λ wave. eqb wave.clock upto) (driven_among (drop i processes) (drop i waves))
 known_more upto processes waves i p w h k e = sym (ap (list_all (λ wave. eqb wave.clock upto)) (driven_rest processes waves i p w h k) ∙ known_at upto (is_given (get_or processes i p).rule) (get_or waves i w) _ e)
 
 pub known_less : (upto : ℕ) (processes : List Process) (waves : List Wave) (i : ℕ) (p : Process) (w : Wave) → i < length processes → i < length waves
     → (not (is_given (get_or processes i p).rule) && not (eqb (get_or waves i w).clock upto)) ≡ true
-    → list_all (λ wave. eqb wave.clock upto) (driven_waves (drop i processes) (drop i waves)) ≡ false
+    → list_all (λ wave. eqb wave.clock upto) (driven_among (drop i processes) (drop i waves)) ≡ false
 known_less upto processes waves i p w h k e = ap (list_all (λ wave. eqb wave.clock upto)) (driven_rest processes waves i p w h k) ∙ behind_at upto (is_given (get_or processes i p).rule) (get_or waves i w) _ e

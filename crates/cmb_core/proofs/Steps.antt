@@ -1,5 +1,5 @@
 -- A step looks only at what is known: below the reach, the levels that the waves tell give the net's own value.
-use Rattle.std.proofs.Common.{length, ◌≡◌, ℕ, zero, suc, ◌+◌, ◌-◌, ◌<◌, ◌≤◌, Bool, true, false, cond, eqb, List, [], ◌∷◌, ◌⊎◌, inl, inr, Some, None, refl, ap, sym, ◌∙◌, arith, ltb}
+use Rattle.std.proofs.Common.{length, ◌≡◌, ℕ, zero, suc, ◌+◌, ◌-◌, ◌<◌, ◌≤◌, Bool, true, false, cond, eqb, List, [], ◌∷◌, ◌⊎◌, inl, inr, Option, Some, None, refl, ap, sym, ◌∙◌, arith, ltb}
 use Rattle.std.specs.Prelude.{unwrap_or}
 use Rattle.std.specs.List.{AllByRecursion}
 use Rattle.std.proofs.lemmas.Bool.{lt-ltb, le-ltb, eqb-true, cond_both, cases_lt}
@@ -18,32 +18,24 @@ use Rattle.cmb_design.specs.Timing.{delay, clock_of, IsSample, last_sample, next
 use Rattle.cmb_design.specs.declared.rows.Clock.{Clock}
 use Rattle.cmb_design.specs.Value.{delayed, pin_levels, flop_level, driven_level, value}
 use Rattle.cmb_design.proofs.AskFacts.{clock_of-positive}
-use Rattle.cmb_design.proofs.SampleFacts.{last_sample-none, last_sample-is, next_sample-least}
-use Rattle.cmb_design.proofs.ValueFacts.{value-is}
+use Rattle.cmb_design.proofs.SampleFacts.{last_sample-found, next_sample-least}
+use Rattle.cmb_design.proofs.ValueFacts.{delayed-same, flop_level-same, value-is}
 use Rattle.cmb_core.specs.Reach.{pins_reach, driver_reach, flop_need, AreKept, IsKept}
 use Rattle.cmb_core.specs.Step.{told_level, told_upto, told_from, wave_at, continued, step_reach, step_piece}
 use Rattle.cmb_core.proofs.ReachFacts.{driver_reach-within}
 
 delayed-known : (f g : ℕ → Level) (base clock from ticks tick : ℕ) → ((t : ℕ) → base ≤ t → t < clock → f t ≡ g t) → base ≤ from - ticks → from ≤ tick → tick < clock + ticks → delayed f ticks tick ≡ delayed g ticks tick
-delayed-known f g base clock from ticks tick same kept after known = go (cases_lt tick ticks)
-  where
-    go : (tick < ticks) ⊎ (ticks ≤ tick) → delayed f ticks tick ≡ delayed g ticks tick
-    go (inl l) = let e : ltb tick ticks ≡ true = lt-ltb tick ticks l in rw e
-    go (inr l) = let e : ltb tick ticks ≡ false = le-ltb tick ticks l in rw e (same (tick - ticks) (omega arith) (omega arith))
+delayed-known f g base clock from ticks tick same kept after known = delayed-same f g ticks tick (λ l. same (tick - ticks) (omega arith) (omega arith))
 
 -- a sample tick at or after another tick's last one is at or after what that tick needs
 need-at_most : (clock : Clock) → 1 ≤ clock.period → (early late sample : ℕ) → early ≤ late → last_sample clock late ≡ Some sample → unwrap_or (last_sample clock early) 0 ≤ sample
-need-at_most clock positive early late sample before is = go (cases_lt early clock.first)
+need-at_most clock positive early late sample before is = go (last_sample clock early) refl
   where
-    go : (early < clock.first) ⊎ (clock.first ≤ early) → unwrap_or (last_sample clock early) 0 ≤ sample
-    go (inl none) = let e : last_sample clock early ≡ None = last_sample-none clock early none in rw e (omega arith)
-    go (inr some) =
-        let old : (s : ℕ) × (last_sample clock early ≡ Some s) × IsSample clock s × (s ≤ early) × ((other : ℕ) → IsSample clock other → other ≤ early → other ≤ s) = last_sample-is clock positive early some in
-        let new : (s : ℕ) × (last_sample clock late ≡ Some s) × IsSample clock s × (s ≤ late) × ((other : ℕ) → IsSample clock other → other ≤ late → other ≤ s) = last_sample-is clock positive late (omega arith) in
-        let e : last_sample clock early ≡ Some old.0 = old.1 in
-        let same : Some new.0 ≡ Some sample = sym new.1 ∙ is in
-        let here : new.0 ≡ sample = cc in
-        rw e (omega (arith, new.4 old.0 old.2 (omega arith)))
+    go : (last : Option ℕ) → last_sample clock early ≡ last → unwrap_or last 0 ≤ sample
+    go None none = omega arith
+    go (Some old) some =
+        let found = last_sample-found clock positive early old some in
+        (last_sample-found clock positive late sample is).2 old found.0 (omega (arith, found.1))
 
 module _ (design : Design) (f g : ℕ → ℕ → Level) (base clock : ℕ → ℕ) (same : (m t : ℕ) → base m ≤ t → t < clock m → f m t ≡ g m t) (net from tick : ℕ) (after : from ≤ tick) where
   pin_levels-known : (most pin : ℕ) (operands : List ℕ) → AreKept design base net from pin operands → tick < pins_reach design clock net most pin operands → pin_levels design f net tick pin operands ≡ pin_levels design g net tick pin operands
@@ -53,30 +45,21 @@ module _ (design : Design) (f g : ℕ → ℕ → Level) (base clock : ℕ → �
       rw (here, pin_levels-known most (suc pin) operands kept.1 (omega arith))
 
   flop_level-known : (source : ℕ) → base source ≤ flop_need design net from → tick < next_sample (clock_of design net) (clock source) + delay design net 1 → flop_level design (f source) net tick ≡ flop_level design (g source) net tick
-  flop_level-known source kept known = go (cases_lt tick (delay design net 1)) (cases_lt past ticks.first)
+  flop_level-known source kept known =
+      flop_level-same design (f source) (g source) net tick (λ sample late is.
+      let found = last_sample-found clock_here positive (tick - delay design net 1) sample is in
+      let needed : flop_need design net from ≤ sample = need-at_most clock_here positive (from - delay design net 1) (tick - delay design net 1) sample (omega arith) is in
+      same source sample (omega arith) (below sample late found.0 found.1 (cases_lt sample (clock source))))
     where
-      ticks : Clock
-      ticks = clock_of design net
+      clock_here : Clock
+      clock_here = clock_of design net
 
-      past : ℕ
-      past = tick - delay design net 1
+      positive : 1 ≤ clock_here.period
+      positive = clock_of-positive design net
 
-      go : (tick < delay design net 1) ⊎ (delay design net 1 ≤ tick) → (past < ticks.first) ⊎ (ticks.first ≤ past) → flop_level design (f source) net tick ≡ flop_level design (g source) net tick
-      go (inl l) _ = let e : ltb tick (delay design net 1) ≡ true = lt-ltb tick (delay design net 1) l in rw e
-      go (inr l) (inl k) =
-          let e : ltb tick (delay design net 1) ≡ false = le-ltb tick (delay design net 1) l in
-          let none : last_sample ticks past ≡ None = last_sample-none ticks past k in
-          rw (e, none)
-      go (inr l) (inr k) =
-          let e : ltb tick (delay design net 1) ≡ false = le-ltb tick (delay design net 1) l in
-          let some : (s : ℕ) × (last_sample ticks past ≡ Some s) × IsSample ticks s × (s ≤ past) × ((other : ℕ) → IsSample ticks other → other ≤ past → other ≤ s) = last_sample-is ticks (clock_of-positive design net) past k in
-          let is : last_sample ticks past ≡ Some some.0 = some.1 in
-          let needed : flop_need design net from ≤ some.0 = need-at_most ticks (clock_of-positive design net) (from - delay design net 1) past some.0 (omega arith) is in
-          rw (e, is) (same source some.0 (omega arith) (below some.0 some.2 some.3 (cases_lt some.0 (clock source))))
-        where
-          below : (s : ℕ) → IsSample (clock_of design net) s → s ≤ tick - delay design net 1 → (s < clock source) ⊎ (clock source ≤ s) → s < clock source
-          below s sample at_most (inl less) = less
-          below s sample at_most (inr more) = absurd (omega (arith, next_sample-least (clock_of design net) (clock_of-positive design net) (clock source) s sample more))
+      below : (sample : ℕ) → delay design net 1 ≤ tick → IsSample clock_here sample → sample ≤ tick - delay design net 1 → (sample < clock source) ⊎ (clock source ≤ sample) → sample < clock source
+      below sample late is at_most (inl less) = less
+      below sample late is at_most (inr more) = absurd (omega (arith, next_sample-least clock_here positive (clock source) sample is more))
 
   pub driven_level-known : (driver : Driver) → IsKept design base net from driver → tick < driver_reach design clock net driver → driven_level design f net tick driver ≡ driven_level design g net tick driver
   driven_level-known Input kept known = refl

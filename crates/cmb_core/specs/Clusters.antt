@@ -12,6 +12,7 @@ use Rattle.cmb_design.specs.Timing.{delay, clock_of, stimulus}
 use Rattle.cmb_core.specs.declared.process.Pin.{Pin}
 use Rattle.cmb_core.specs.declared.process.Rule.TheVariants.{Given, Input, Gate, Flop}
 use Rattle.cmb_core.specs.Rows.{Process, IsReadyFor, slot_of, process_level, process_reach, is_given}
+use Rattle.cmb_core.specs.Directory.{driven_among, given_among}
 use Rattle.cmb_core.specs.Spans.{changes_from}
 use Rattle.cmb_wave.specs.declared.level.Change.{Change}
 use Rattle.cmb_core.specs.Step.{wave_at, step_reach, step_piece, with_wave}
@@ -45,23 +46,11 @@ abbrev pub wave_nets : List Wave → List ℕ
 wave_nets waves = map (λ wave. wave.net) waves
 
 -- the waves of the nets that are driven here, and those that the cluster is given
-abbrev pub driven_waves : List Process → List Wave → List Wave
-driven_waves [] waves = []
-driven_waves (process ∷ processes) [] = []
-driven_waves (process ∷ processes) (wave ∷ waves) =
-    if is_given process.rule then driven_waves processes waves else wave ∷ driven_waves processes waves
-
-abbrev pub given_waves : List Process → List Wave → List Wave
-given_waves [] waves = []
-given_waves (process ∷ processes) [] = []
-given_waves (process ∷ processes) (wave ∷ waves) =
-    if is_given process.rule then wave ∷ given_waves processes waves else given_waves processes waves
-
 abbrev pub outputs_of : Cluster → List Wave
-outputs_of s = driven_waves s.processes s.waves
+outputs_of s = driven_among s.processes s.waves
 
 abbrev pub inputs_of : Cluster → List Wave
-inputs_of s = given_waves s.processes s.waves
+inputs_of s = given_among s.processes s.waves
 
 -- every net that is driven here is known up to the horizon
 abbrev pub is_complete : Cluster → Bool

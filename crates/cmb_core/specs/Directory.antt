@@ -12,18 +12,18 @@ abbrev pub place_in : List ℕ → ℕ → Option ℕ
 place_in [] net = None
 place_in (first ∷ nets) net = if nat_eq first net then Some 0 else option_map (λ place. suc place) (place_in nets net)
 
--- of nets with a process each, those that are driven, and those that are given
-abbrev pub driven_among : List Process → List ℕ → List ℕ
-driven_among [] nets = []
+-- of nets or waves with a process each, those that are driven, and those that are given
+abbrev pub driven_among : {A : Type 0} → List Process → List A → List A
+driven_among [] held = []
 driven_among (process ∷ processes) [] = []
-driven_among (process ∷ processes) (net ∷ nets) =
-    if is_given process.rule then driven_among processes nets else net ∷ driven_among processes nets
+driven_among (process ∷ processes) (first ∷ held) =
+    if is_given process.rule then driven_among processes held else first ∷ driven_among processes held
 
-abbrev pub given_among : List Process → List ℕ → List ℕ
-given_among [] nets = []
+abbrev pub given_among : {A : Type 0} → List Process → List A → List A
+given_among [] held = []
 given_among (process ∷ processes) [] = []
-given_among (process ∷ processes) (net ∷ nets) =
-    if is_given process.rule then net ∷ given_among processes nets else given_among processes nets
+given_among (process ∷ processes) (first ∷ held) =
+    if is_given process.rule then first ∷ given_among processes held else given_among processes held
 
 -- the pins that read the wave in a place, of the operands of the process in another
 abbrev pub pins_on : ℕ → ℕ → List Pin → List Reader

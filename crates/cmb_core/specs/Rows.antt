@@ -11,7 +11,7 @@ use Rattle.cmb_core.specs.declared.process.Rule.TheVariants.{Given, Input, Gate,
 use Rattle.cmb_bench.specs.declared.netlist.Kind.{Kind}
 use Rattle.cmb_design.specs.Gate.{gate}
 use Rattle.cmb_bench.specs.Netlist.{MayTake}
-use Rattle.cmb_core.specs.Arrivals.{next_sample, last_sample}
+use Rattle.cmb_design.specs.Timing.{sample_from, sample_upto}
 use Rattle.cmb_core.specs.Step.{wave_at}
 
 -- the place of the first wave of a net
@@ -32,7 +32,7 @@ delayed_levels waves (o ∷ os) t = delayed_wave (wave_at waves o.net) o.delay t
 abbrev pub sampled_wave : Wave → ℕ → ℕ → Level → ℕ → ℕ → Level
 sampled_wave w first period init delay t =
     if nat_lt t (first + delay) then init
-    else level_at w.kept w.changes (last_sample first period (t - delay))
+    else level_at w.kept w.changes (sample_upto first period (t - delay))
 
 -- an operand's wave is in its place
 abbrev pub IsThere : List Wave → Pin → Type 0
@@ -57,7 +57,7 @@ gate_reach horizon waves (o ∷ os) = min ((wave_at waves o.net).clock + o.delay
 
 -- up to here a flip-flop's data is known at its output
 abbrev pub flop_reach : ℕ → ℕ → ℕ → ℕ → ℕ → ℕ
-flop_reach horizon first period delay known = min (next_sample first period known + delay) horizon
+flop_reach horizon first period delay known = min (sample_from first period known + delay) horizon
 
 -- what contracts see of a process
 pub record Process : Type 0 where
@@ -68,7 +68,7 @@ pub record Process : Type 0 where
 
 -- from here on a flip-flop still needs its data, as its output stands at `clock`
 abbrev pub sample_need : ℕ → ℕ → ℕ → ℕ → ℕ
-sample_need first period delay clock = if nat_lt clock (first + delay) then 0 else last_sample first period (clock - delay)
+sample_need first period delay clock = if nat_lt clock (first + delay) then 0 else sample_upto first period (clock - delay)
 
 -- a process has the operands that it takes, and their waves keep what it still needs
 abbrev pub IsReadyFor : List Wave → ℕ → Rule → List Pin → List Change → Type 0

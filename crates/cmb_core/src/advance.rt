@@ -6,7 +6,7 @@ ghost use Rattle.cmb_wave.specs.declared.level.Level.{Level};
 ghost use Rattle.cmb_wave.specs.declared.level.Level.TheVariants.{X};
 ghost use Rattle.cmb_core.specs.Spans.{changes_from};
 ghost use Rattle.cmb_bench.specs.Netlist.{MayTake};
-ghost use Rattle.cmb_core.specs.Arrivals.{last_sample};
+ghost use Rattle.cmb_design.specs.Timing.{sample_upto};
 ghost use Rattle.cmb_core.specs.Rows.{gate_reach, gate_row, sampled_wave, AreReady, IsThere, flop_reach};
 ghost use Rattle.cmb_core.specs.Step.{wave_at};
 
@@ -104,7 +104,7 @@ pub(crate) fn gate_changes(
 // shows from there on is taken before.
 fn seen_upto(first: u32, period: u32, delay: u32, clock: u32) -> u32
     requires { 0 < period }
-    ensures { (t : ℕ) → clock ≤ t → first + delay ≤ t → result ≤ last_sample first period (t - delay) }
+    ensures { (t : ℕ) → clock ≤ t → first + delay ≤ t → result ≤ sample_upto first period (t - delay) }
 {
     let ticks = clock.saturating_sub(delay).saturating_sub(first);
     if ticks == 0 {

@@ -6,7 +6,8 @@ ghost use Rattle.cmb_wave.specs.Calls.{cut, promised};
 ghost use Rattle.cmb_design.specs.Design.{Design};
 ghost use Rattle.cmb_design.specs.Exact.{IsExactIn, IsExactWaveIn, IsRightIn};
 ghost use Rattle.cmb_core.specs.Clustering.{Clustering as Clusters};
-ghost use Rattle.cmb_core.specs.Clusters.{IsDrivenHere, IsSound, driven_waves, inputs_of, input_slot, is_complete};
+ghost use Rattle.cmb_core.specs.Clusters.{IsDrivenHere, IsSound, inputs_of, input_slot, is_complete};
+ghost use Rattle.cmb_core.specs.Directory.{driven_among};
 ghost use Rattle.cmb_core.specs.Clusters.{output_slot, outputs_of, told_at};
 ghost use Rattle.cmb_core.specs.Exactness.{IsExactCluster};
 ghost use Rattle.cmb_core.specs.Opened.{IsClusterOf, IsOwnNet, own_nets, read_nets};
@@ -28,7 +29,7 @@ fn is_behind(node: &Node, wave: &Wave, upto: u32) -> bool
 // Whether every wave that is not given is known up to a tick.
 fn all_known(nodes: &[Node], waves: &[Wave], upto: u32) -> bool
     requires { length waves.now ≡ length nodes.now }
-    ensures { result ≡ list_all (λ wave. wave.clock == upto) (driven_waves nodes.now waves.now) }
+    ensures { result ≡ list_all (λ wave. wave.clock == upto) (driven_among nodes.now waves.now) }
 {
     for slot in 0..waves.len() {
         if is_behind(&nodes[slot], &waves[slot], upto) {

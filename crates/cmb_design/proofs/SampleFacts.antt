@@ -1,12 +1,12 @@
 -- Laws of delays, of sample ticks and of stimuli.
-use Rattle.std.proofs.Common.{◌≡◌, ℕ, zero, suc, ◌+◌, ◌-◌, ◌*◌, ◌/◌, ◌<◌, ◌≤◌, true, false, ◌⊎◌, inl, inr, Option, Some, None, refl, ◌∙◌, arith, ltb}
+use Rattle.std.proofs.Common.{◌≡◌, ℕ, zero, suc, ◌+◌, ◌-◌, ◌*◌, ◌/◌, ◌<◌, ◌≤◌, true, false, ◌⊎◌, inl, inr, Option, Some, None, refl, ◌∙◌, arith, ltb, subst}
 use Rattle.std.proofs.lemmas.Bool.{lt-ltb, le-ltb, cases_lt}
 use Rattle.std.proofs.Math.Nat.{mul-le-mul_left}
 use Rattle.cmb_wave.specs.declared.level.Level.{Level}
 use Rattle.cmb_wave.specs.declared.level.Level.TheVariants.{X}
 use Rattle.cmb_design.specs.declared.rows.Clock.{Clock}
 use Rattle.cmb_design.specs.Design.{Design}
-use Rattle.cmb_design.specs.Timing.{delay, delay_by, IsSample, last_sample, next_sample, level_by}
+use Rattle.cmb_design.specs.Timing.{delay, delay_by, IsSample, last_sample, sample_upto, next_sample, level_by}
 
 pub delay-positive : (design : Design) (net pin : ℕ) → 1 ≤ delay design net pin
 unfolding delay_by
@@ -16,7 +16,7 @@ pub last_sample-none : (clock : Clock) (tick : ℕ) → tick < clock.first → l
 unfolding last_sample
 last_sample-none clock tick h = let e : ltb tick clock.first ≡ true = lt-ltb tick clock.first h in rw e
 
-pub last_sample-some : (clock : Clock) (tick : ℕ) → clock.first ≤ tick → last_sample clock tick ≡ Some (clock.first + (tick - clock.first) / clock.period * clock.period)
+pub last_sample-some : (clock : Clock) (tick : ℕ) → clock.first ≤ tick → last_sample clock tick ≡ Some (sample_upto clock.first clock.period tick)
 unfolding last_sample
 last_sample-some clock tick h = let e : ltb tick clock.first ≡ false = le-ltb tick clock.first h in rw e
 
@@ -33,6 +33,19 @@ module _ (clock : Clock) (positive : 1 ≤ clock.period) where
       greatest : (other k : ℕ) → other ≡ clock.first + k * clock.period → other ≤ tick → ((tick - clock.first) / clock.period < k) ⊎ (k ≤ (tick - clock.first) / clock.period) → other ≤ clock.first + (tick - clock.first) / clock.period * clock.period
       greatest other k is at_most (inl l) = absurd (omega (arith, mul-le-mul_left clock.period l))
       greatest other k is at_most (inr l) = omega (arith, mul-le-mul_left clock.period l)
+
+  pub last_sample-found : (tick sample : ℕ) → last_sample clock tick ≡ Some sample → IsSample clock sample × (sample ≤ tick) × ((other : ℕ) → IsSample clock other → other ≤ tick → other ≤ sample)
+  last_sample-found tick sample found = go (cases_lt tick clock.first)
+    where
+      P : ℕ → Type 0
+      P s = IsSample clock s × (s ≤ tick) × ((other : ℕ) → IsSample clock other → other ≤ tick → other ≤ s)
+
+      go : (tick < clock.first) ⊎ (clock.first ≤ tick) → P sample
+      go (inl before) = cc (last_sample-none clock tick before, found)
+      go (inr since) =
+          let last = last_sample-is tick since in
+          let same : last.0 ≡ sample = cc (last.1, found) in
+          subst P same (last.2, last.3, last.4)
 
   -- it is a sample tick, at least the tick, and no other such sample tick is less
   pub next_sample-at_least : (tick : ℕ) → tick ≤ next_sample clock tick

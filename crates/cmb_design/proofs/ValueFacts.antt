@@ -1,5 +1,5 @@
 -- The equations of `value`, and that each use in them is of an earlier tick.
-use Rattle.std.proofs.Common.{◌≡◌, ℕ, zero, suc, ◌+◌, ◌-◌, ◌*◌, ◌/◌, ◌<◌, ◌≤◌, true, false, List, [], ◌∷◌, ◌⊎◌, inl, inr, Some, None, refl, ap, ◌∙◌, arith, ltb}
+use Rattle.std.proofs.Common.{◌≡◌, ℕ, zero, suc, ◌-◌, ◌<◌, ◌≤◌, true, false, List, [], ◌∷◌, ◌⊎◌, inl, inr, Option, Some, None, refl, ap, ◌∙◌, arith, ltb}
 use Rattle.std.proofs.lemmas.Bool.{lt-ltb, le-ltb, cases_lt}
 use Rattle.cmb_wave.specs.declared.level.Level.{Level}
 use Rattle.cmb_bench.specs.declared.netlist.Kind.{Kind}
@@ -9,21 +9,36 @@ use Rattle.cmb_bench.specs.Netlist.{driver_of}
 use Rattle.cmb_design.specs.Design.{Design}
 use Rattle.cmb_design.specs.Gate.{gate}
 use Rattle.cmb_design.specs.Timing.{delay, stimulus, clock_of, last_sample}
-use Rattle.cmb_design.specs.declared.rows.Clock.{Clock}
 use Rattle.cmb_design.specs.Value.{delayed, pin_levels, flop_level, driven_level, level_within, value}
 use Rattle.cmb_design.proofs.AskFacts.{clock_of-positive}
-use Rattle.cmb_design.proofs.SampleFacts.{delay-positive, last_sample-none, last_sample-some}
+use Rattle.cmb_design.proofs.SampleFacts.{delay-positive, last_sample-found}
 
 -- two waveforms are the same at ticks before this one
 abbrev pub AgreeBefore : ℕ → (ℕ → Level) → (ℕ → Level) → Type 0
 AgreeBefore tick f g = (t : ℕ) → t < tick → f t ≡ g t
 
-pub delayed-agrees : (tick ticks : ℕ) (f g : ℕ → Level) → 1 ≤ ticks → AgreeBefore tick f g → delayed f ticks tick ≡ delayed g ticks tick
-delayed-agrees tick ticks f g positive agree = go (cases_lt tick ticks)
+-- what a delay shows is the level at one earlier tick
+pub delayed-same : (f g : ℕ → Level) (ticks tick : ℕ) → (ticks ≤ tick → f (tick - ticks) ≡ g (tick - ticks)) → delayed f ticks tick ≡ delayed g ticks tick
+delayed-same f g ticks tick same = go (cases_lt tick ticks)
   where
     go : (tick < ticks) ⊎ (ticks ≤ tick) → delayed f ticks tick ≡ delayed g ticks tick
     go (inl l) = let e : ltb tick ticks ≡ true = lt-ltb tick ticks l in rw e
-    go (inr l) = let e : ltb tick ticks ≡ false = le-ltb tick ticks l in rw e (agree (tick - ticks) (omega arith))
+    go (inr l) = let e : ltb tick ticks ≡ false = le-ltb tick ticks l in rw e (same l)
+
+pub delayed-agrees : (tick ticks : ℕ) (f g : ℕ → Level) → 1 ≤ ticks → AgreeBefore tick f g → delayed f ticks tick ≡ delayed g ticks tick
+delayed-agrees tick ticks f g positive agree = delayed-same f g ticks tick (λ l. agree (tick - ticks) (omega arith))
+
+-- what a flip-flop shows is the level at the last sample
+pub flop_level-same : (design : Design) (f g : ℕ → Level) (net tick : ℕ)
+    → ((sample : ℕ) → delay design net 1 ≤ tick → last_sample (clock_of design net) (tick - delay design net 1) ≡ Some sample → f sample ≡ g sample)
+    → flop_level design f net tick ≡ flop_level design g net tick
+flop_level-same design f g net tick same = go (cases_lt tick (delay design net 1)) (last_sample (clock_of design net) (tick - delay design net 1)) refl
+  where
+    go : (tick < delay design net 1) ⊎ (delay design net 1 ≤ tick) → (last : Option ℕ) → last_sample (clock_of design net) (tick - delay design net 1) ≡ last
+        → flop_level design f net tick ≡ flop_level design g net tick
+    go (inl l) last is = let e : ltb tick (delay design net 1) ≡ true = lt-ltb tick (delay design net 1) l in rw e
+    go (inr l) None is = let e : ltb tick (delay design net 1) ≡ false = le-ltb tick (delay design net 1) l in rw (e, is)
+    go (inr l) (Some sample) is = let e : ltb tick (delay design net 1) ≡ false = le-ltb tick (delay design net 1) l in rw (e, is) (same sample l is)
 
 module _ (design : Design) (f g : ℕ → ℕ → Level) (net tick : ℕ) (agree : (m : ℕ) → AgreeBefore tick (f m) (g m)) where
   pub pin_levels-agree : (pin : ℕ) (operands : List ℕ) → pin_levels design f net tick pin operands ≡ pin_levels design g net tick pin operands
@@ -33,24 +48,9 @@ module _ (design : Design) (f g : ℕ → ℕ → Level) (net tick : ℕ) (agree
       rw (here, pin_levels-agree (suc pin) operands)
 
   pub flop_level-agrees : (source : ℕ) → flop_level design (f source) net tick ≡ flop_level design (g source) net tick
-  flop_level-agrees source = go (cases_lt tick (delay design net 1)) (cases_lt (tick - delay design net 1) (clock_of design net).first)
-    where
-      clock : Clock
-      clock = clock_of design net
-
-      past : ℕ
-      past = tick - delay design net 1
-
-      go : (tick < delay design net 1) ⊎ (delay design net 1 ≤ tick) → (past < clock.first) ⊎ (clock.first ≤ past) → flop_level design (f source) net tick ≡ flop_level design (g source) net tick
-      go (inl l) _ = let e : ltb tick (delay design net 1) ≡ true = lt-ltb tick (delay design net 1) l in rw e
-      go (inr l) (inl k) =
-          let e : ltb tick (delay design net 1) ≡ false = le-ltb tick (delay design net 1) l in
-          let none : last_sample clock past ≡ None = last_sample-none clock past k in
-          rw (e, none)
-      go (inr l) (inr k) =
-          let e : ltb tick (delay design net 1) ≡ false = le-ltb tick (delay design net 1) l in
-          let some : last_sample clock past ≡ Some (clock.first + (past - clock.first) / clock.period * clock.period) = last_sample-some clock past k in
-          rw (e, some) (agree source (clock.first + (past - clock.first) / clock.period * clock.period) (let at_least : 1 ≤ delay design net 1 = delay-positive design net 1 in let positive : 1 ≤ clock.period = clock_of-positive design net in omega arith))
+  flop_level-agrees source =
+      flop_level-same design (f source) (g source) net tick
+      (λ sample late is. agree source sample (omega (arith, (last_sample-found (clock_of design net) (clock_of-positive design net) _ sample is).1, delay-positive design net 1)))
 
   pub driven_level-agrees : (driver : Driver) → driven_level design f net tick driver ≡ driven_level design g net tick driver
   driven_level-agrees Input = refl

@@ -3,7 +3,8 @@ use Rattle.cmb_wave.specs.declared.level.Level.{Level}
 use Rattle.cmb_wave.specs.Waveform.{level_at}
 use Rattle.cmb_core.specs.declared.merge.Lag.TheVariants.{Sampled}
 use Rattle.cmb_core.specs.Spans.{changes_from}
-use Rattle.cmb_core.specs.Arrivals.{arrived, last_sample}
+use Rattle.cmb_core.specs.Arrivals.{arrived}
+use Rattle.cmb_design.specs.Timing.{sample_upto}
 use Rattle.cmb_core.specs.Rows.{sampled_wave}
 use Rattle.cmb_core.specs.Step.{wave_at}
 use Rattle.cmb_core.proofs.AdvanceLemmas.{sampled_span}
@@ -16,7 +17,7 @@ returns c = λ init begun.
     let delay = c.args.operand.delay in
     let left = c.operand_left-level.result in
     let shown : ℕ → Level = arrived (Sampled c.args.first c.args.period delay) left.level left.changes.now in
-    let levels : (t : ℕ) → span.from ≤ t → c.args.first + delay ≤ t → shown t ≡ level_at (wave_at c.args.waves.now c.args.operand.net).kept (wave_at c.args.waves.now c.args.operand.net).changes (last_sample c.args.first c.args.period (t - delay)) =
+    let levels : (t : ℕ) → span.from ≤ t → c.args.first + delay ≤ t → shown t ≡ level_at (wave_at c.args.waves.now c.args.operand.net).kept (wave_at c.args.waves.now c.args.operand.net).changes (sample_upto c.args.first c.args.period (t - delay)) =
     λ t h k. arrived_sampled c.args.first c.args.period delay left.level left.changes.now t c.requires.positive k ∙ c.operand_left-level.ensures _ (c.seen_upto-seen.ensures t h k)
     in
     let same : changes_from shown span.before span.from (span.until - span.from)

@@ -1,15 +1,12 @@
-use Rattle.std.proofs.Common.{◌≡◌, ◌<◌, ◌≤◌, length, set, arith, sym, ◌∙◌, ap, subst}
-use Rattle.std.proofs.lemmas.List.{get_or_read}
+use Rattle.std.proofs.Common.{◌≡◌, ◌≤◌, set, arith, sym, ap, subst}
 use Rattle.cmb_wave.specs.Waveform.{IsTrace, last_level}
-use Rattle.cmb_wave.specs.Wave.{Wave, new_wave}
-use Rattle.cmb_core.specs.Clusters.{slot_wave, wave_nets}
-use Rattle.cmb_core.proofs.ClusterLemmas.{IsKept, kept_by_loan, step_trace}
+use Rattle.cmb_wave.specs.Wave.{Wave}
+use Rattle.cmb_core.specs.Clusters.{slot_wave}
+use Rattle.cmb_core.proofs.ClusterLemmas.{IsKept, kept_by_loan, kept_same, read_as, step_trace}
 use Rattle.cmb_core.proofs.cluster.Cluster.step_at.Goals as goal
 
 was : (c : goal.After-index_mut) → c.index_mut.result.now ≡ slot_wave c.args.self.now c.args.slot
-was c =
-    let there : c.args.slot < length c.self.inside.waves.items = omega (arith, ap (λ s. length s.waves) c.self.view_is, c.requires) in
-    get_or_read _ _ _ there c.index_mut.ensures.value (new_wave 0) ∙ ap (λ s. slot_wave s c.args.slot) c.self.view_is
+was c = read_as c.args.self.now _ _ _ c.args.slot c.index_mut.result.now c.self.view_is c.requires c.index_mut.ensures.value
 
 pub grow-requires-clause-later : goal.grow-requires-clause-later
 grow-requires-clause-later c = omega (arith, c.in-Some.ensures.span.later, c.in-Some.ensures.span.from, ap (λ (w : Wave). w.clock) (was c))
@@ -21,26 +18,15 @@ grow-requires-clause-trace c =
     let told : P (slot_wave c.args.self.now c.args.slot) = rw (c.in-Some.ensures.span.before, c.in-Some.ensures.span.from) at trace in
     subst P (sym (was c)) told
 
-pub invariant_of-self-2 : goal.invariant_of-self-2
-invariant_of-self-2 c =
-    let i = c.self.inside in
-    let there : c.args.slot < length i.waves.items = omega (arith, ap (λ s. length s.waves) c.self.view_is, c.requires) in
-    let lent : c.index_mut.result.now ≡ slot_wave c.args.self.now c.args.slot = get_or_read _ _ _ there c.index_mut.ensures.value (new_wave 0) ∙ ap (λ s. slot_wave s c.args.slot) c.self.view_is in
+kept : (c : goal.In_ok-piece) → IsKept c.self.inside.horizon c.self.inside.processes.items c.self.inside.directory c.self.inside.waves.items (set c.self.inside.waves.items c.args.slot c.grow.new.self)
+kept c =
+    let lent : c.index_mut.result.now ≡ slot_wave c.args.self.now c.args.slot = read_as c.args.self.now _ _ _ c.args.slot c.index_mut.result.now c.self.view_is c.requires c.index_mut.ensures.value in
     let went = c.in_ok-piece.ensures.ok in
     let later : c.index_mut.result.now.clock ≤ c.grow.new.self.clock = omega (arith, c.in-Some.ensures.span.later, c.in-Some.ensures.span.from, ap (λ (w : Wave). w.clock) lent, ap (λ (w : Wave). w.clock) went) in
-    let kept : IsKept i.horizon i.processes.items i.directory i.waves.items (set i.waves.items c.args.slot c.grow.new.self) =
-    kept_by_loan i.horizon i.processes.items i.directory i.waves.items c.args.slot c.index_mut.result.now c.grow.new.self there c.index_mut.ensures.value (ap (λ (w : Wave). w.net) went) (ap (λ (w : Wave). w.base) went) later c.self.invariant.sound c.self.invariant.directory
-    in
-    record { sound = kept.sound; directory = kept.listed }
+    kept_by_loan _ _ _ _ _ c.args.slot c.index_mut.result.now c.grow.new.self c.self.view_is c.requires c.index_mut.ensures.value (ap (λ (w : Wave). w.net) went) (ap (λ (w : Wave). w.base) went) later c.self.invariant.sound c.self.invariant.directory
+
+pub invariant_of-self-2 : goal.invariant_of-self-2
+invariant_of-self-2 c = let k = kept c in record { sound = k.sound; directory = k.listed }
 
 pub returns-clause-same : goal.returns-clause-same
-returns-clause-same c =
-    let i = c.self.inside in
-    let there : c.args.slot < length i.waves.items = omega (arith, ap (λ s. length s.waves) c.self.view_is, c.requires) in
-    let lent : c.index_mut.result.now ≡ slot_wave c.args.self.now c.args.slot = get_or_read _ _ _ there c.index_mut.ensures.value (new_wave 0) ∙ ap (λ s. slot_wave s c.args.slot) c.self.view_is in
-    let went = c.in_ok-piece.ensures.ok in
-    let later : c.index_mut.result.now.clock ≤ c.grow.new.self.clock = omega (arith, c.in-Some.ensures.span.later, c.in-Some.ensures.span.from, ap (λ (w : Wave). w.clock) lent, ap (λ (w : Wave). w.clock) went) in
-    let kept : IsKept i.horizon i.processes.items i.directory i.waves.items (set i.waves.items c.args.slot c.grow.new.self) =
-    kept_by_loan i.horizon i.processes.items i.directory i.waves.items c.args.slot c.index_mut.result.now c.grow.new.self there c.index_mut.ensures.value (ap (λ (w : Wave). w.net) went) (ap (λ (w : Wave). w.base) went) later c.self.invariant.sound c.self.invariant.directory
-    in
-    record { horizon = ap (λ s. s.horizon) c.self.view_is; processes = ap (λ s. s.processes) c.self.view_is; nets = kept.nets ∙ ap (λ s. wave_nets s.waves) c.self.view_is }
+returns-clause-same c = kept_same _ _ _ _ _ _ c.self.view_is (kept c)
