@@ -13,7 +13,6 @@ pub mod AskFacts
 pub mod FlatFacts
 pub mod SampleFacts
 pub mod ValueFacts
-pub mod ExampleFacts
 pub mod FieldFacts
 pub mod RecordFacts
 pub mod ReaderFacts

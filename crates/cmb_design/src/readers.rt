@@ -53,7 +53,7 @@ fn read_pin(alloc: Global, number: u32, text: &[u8]) -> Result<Delayed, DesignFa
     Ok(Delayed::Pin(read_name(alloc, name)?, pin))
 }
 
-#[tactic(auto, unfolding(crate::specs::Checks::first_fault, crate::specs::Readers::pin_checks, crate::specs::Readers::name_checks, crate::specs::Readers::delayed_of))]
+#[tactic(auto, unfolding(crate::specs::Checks::first_fault, crate::specs::Readers::name_checks))]
 fn read_delayed(alloc: Global, number: u32, by: &[u8], name: &[u8]) -> Result<Delayed, DesignFault>
     ensures { FollowsChecks (name_checks number by.now name.now) (delayed_of by.now name.now) result }
 {
@@ -71,7 +71,7 @@ fn read_delayed(alloc: Global, number: u32, by: &[u8], name: &[u8]) -> Result<De
     }
 }
 
-#[tactic(auto, unfolding(crate::specs::Checks::first_fault, crate::specs::Readers::delay_record_checks, crate::specs::Readers::delay_row_of))]
+#[tactic(auto, unfolding(crate::specs::Checks::first_fault, crate::specs::Readers::delay_record_checks))]
 fn read_delay(
     alloc: Global,
     number: u32,
@@ -142,7 +142,7 @@ fn level_named(word: &[u8]) -> Option<Level>
     }
 }
 
-#[tactic(auto, unfolding(crate::specs::Checks::first_fault, crate::specs::Readers::stimulus_record_checks, crate::specs::Readers::stimulus_row_of))]
+#[tactic(auto, unfolding(crate::specs::Checks::first_fault, crate::specs::Readers::stimulus_record_checks))]
 fn read_stimulus(
     alloc: Global,
     number: u32,
@@ -194,7 +194,7 @@ pub fn read_stimuli(alloc: Global, text: &[u8]) -> Result<StimulusRows, DesignFa
     Ok(StimulusRows::new(rows))
 }
 
-#[tactic(auto, unfolding(crate::specs::Checks::first_fault, crate::specs::Readers::clock_record_checks, crate::specs::Readers::clock_row_of))]
+#[tactic(auto, unfolding(crate::specs::Checks::first_fault, crate::specs::Readers::clock_record_checks))]
 fn read_clock(
     alloc: Global,
     number: u32,

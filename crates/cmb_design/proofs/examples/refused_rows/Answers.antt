@@ -1,5 +1,10 @@
-use Rattle.cmb_design.proofs.ExampleFacts.{refused_rows-pin_3, refused_rows-pin_0, refused_rows-pin_of_input, refused_rows-pin_of_none, refused_rows-lacks, refused_rows-clocked, refused_rows-clock_of_input, refused_rows-clock_of_none}
+use Rattle.std.proofs.Common.{refl}
+use Rattle.cmb_bench.specs.Netlist.{number_of}
+use Rattle.cmb_design.specs.Checks.{first_fault, checks_after}
+use Rattle.cmb_design.specs.Rows.{delayed_checks, delay_row_checks, stimulus_row_checks, clock_row_checks}
+use Rattle.cmb_design.specs.Settings.{any_below, setting_checks}
 use Rattle.cmb_design.proofs.examples.refused_rows.Goals as goal
 
 pub returns : goal.returns
-returns c = record { pin_3 = refused_rows-pin_3; pin_0 = refused_rows-pin_0; pin_of_input = refused_rows-pin_of_input; pin_of_none = refused_rows-pin_of_none; lacks = refused_rows-lacks; clocked = refused_rows-clocked; clock_of_input = refused_rows-clock_of_input; clock_of_none = refused_rows-clock_of_none }
+unfolding number_of first_fault checks_after delayed_checks delay_row_checks stimulus_row_checks clock_row_checks any_below setting_checks
+returns c = record { pin_3 = refl; pin_0 = refl; pin_of_input = refl; pin_of_none = refl; lacks = refl; clocked = refl; clock_of_input = refl; clock_of_none = refl }

@@ -1,5 +1,10 @@
-use Rattle.cmb_design.proofs.ExampleFacts.{refused_settings-no_clock, refused_settings-no_period, refused_settings-no_horizon, refused_settings-far_horizon, refused_settings-of_gate, refused_settings-of_none, refused_settings-of_input}
+use Rattle.std.proofs.Common.{refl}
+use Rattle.cmb_bench.specs.Netlist.{number_of}
+use Rattle.cmb_design.specs.Checks.{first_fault, checks_after}
+use Rattle.cmb_design.specs.Rows.{delayed_checks, delay_row_checks, stimulus_row_checks, clock_row_checks}
+use Rattle.cmb_design.specs.Settings.{any_below, setting_checks}
 use Rattle.cmb_design.proofs.examples.refused_settings.Goals as goal
 
 pub returns : goal.returns
-returns c = record { no_clock = refused_settings-no_clock; no_period = refused_settings-no_period; no_horizon = refused_settings-no_horizon; far_horizon = refused_settings-far_horizon; of_gate = refused_settings-of_gate; of_none = refused_settings-of_none; of_input = refused_settings-of_input }
+unfolding number_of first_fault checks_after delayed_checks delay_row_checks stimulus_row_checks clock_row_checks any_below setting_checks
+returns c = record { no_clock = refl; no_period = refl; no_horizon = refl; far_horizon = refl; of_gate = refl; of_none = refl; of_input = refl }

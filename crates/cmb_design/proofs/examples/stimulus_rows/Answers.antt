@@ -1,5 +1,10 @@
-use Rattle.cmb_design.proofs.ExampleFacts.{stimulus_rows-a}
+use Rattle.std.proofs.Common.{refl}
+use Rattle.cmb_wave.specs.Waveform.{change_at, changes_in, changes_between}
+use Rattle.cmb_bench.specs.Netlist.{number_of}
+use Rattle.cmb_design.specs.Timing.{delay_by, level_by, row_level, clock_of, last_sample}
+use Rattle.cmb_design.specs.Value.{level_within, value}
 use Rattle.cmb_design.proofs.examples.stimulus_rows.Goals as goal
 
 pub returns : goal.returns
-returns c = stimulus_rows-a
+unfolding change_at changes_in changes_between number_of delay_by level_by row_level clock_of last_sample level_within value
+returns c = refl
