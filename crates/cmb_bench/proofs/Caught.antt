@@ -97,23 +97,23 @@ short_caught f names place t ts h e =
     (short_err t f e)
 
 -- a mark that is wanted
-closed_caught : (f : BenchFault) (names : List (List ℕ)) (place : Place) (ts : List Lexeme) → Closed ts → ((w : Word) → is_close w ≡ false → go names place w ≡ None) → closed ts ≡ Err f → Caught f names place ts
-unfolding closed
-closed_caught f names place [] c other e = absurd c
-closed_caught f names place (t ∷ ts) c other e =
+wanted_caught : (is_wanted : Word → Bool) (f : BenchFault) (names : List (List ℕ)) (place : Place) (t : Lexeme) (ts : List Lexeme) → ((w : Word) → is_wanted w ≡ false → go names place w ≡ None)
+    → (if is_wanted t.word then Ok ts else Err (misplaced t)) ≡ Err f → Caught f names place (t ∷ ts)
+wanted_caught is_wanted f names place t ts other e =
     ⊎_elim
     (λ h. let no = h.1 in absurd (cc))
     (λ h. stray f names place t ts (other t.word h.0) (err_is h.1))
-    (chosen (is_close t.word) (Ok ts) (Err (misplaced t)) (Err f) e)
+    (chosen (is_wanted t.word) (Ok ts) (Err (misplaced t)) (Err f) e)
+
+closed_caught : (f : BenchFault) (names : List (List ℕ)) (place : Place) (ts : List Lexeme) → Closed ts → ((w : Word) → is_close w ≡ false → go names place w ≡ None) → closed ts ≡ Err f → Caught f names place ts
+unfolding closed
+closed_caught f names place [] c other e = absurd c
+closed_caught f names place (t ∷ ts) c other e = wanted_caught is_close f names place t ts other e
 
 opened_caught : (f : BenchFault) (names : List (List ℕ)) (place : Place) (ts : List Lexeme) → Closed ts → ((w : Word) → is_open w ≡ false → go names place w ≡ None) → opened ts ≡ Err f → Caught f names place ts
 unfolding opened
 opened_caught f names place [] c other e = absurd c
-opened_caught f names place (t ∷ ts) c other e =
-    ⊎_elim
-    (λ h. let no = h.1 in absurd (cc))
-    (λ h. stray f names place t ts (other t.word h.0) (err_is h.1))
-    (chosen (is_open t.word) (Ok ts) (Err (misplaced t)) (Err f) e)
+opened_caught f names place (t ∷ ts) c other e = wanted_caught is_open f names place t ts other e
 
 -- what marks the places take
 listing_marks : (names : List (List ℕ)) (n k : List ℕ) (only : Bool) (w : Word) → Naming names (listing n k only) w

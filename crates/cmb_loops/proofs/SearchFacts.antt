@@ -170,13 +170,15 @@ contains_cons x xs y (suc k, h, e) = inr (k, omega arith, e)
 pub contains_none : (k : ℕ) (xs : List ℕ) (y : ℕ) → length xs ≤ k → Contains (drop k xs) y → ⊥
 contains_none k xs y le there = let h : there.0 < length (drop k xs) = there.1 in omega (arith, length-drop k xs)
 
--- ---- the last frame goes on by a step that was followed
+-- ---- other frames over the same path
 
-pub advanced : (next : ℕ → List ℕ) (seen : List Seen) (marks : List Bool) (path starts : List ℕ) (frames : List Frame) (place k : ℕ)
-    → IsSearch next seen marks path starts (frames ++ record { place = place; next = k } ∷ [])
-    → k < length (next (get_or path place 0)) → IsFollowed seen starts place (get_or (next (get_or path place 0)) k 0)
-    → IsSearch next seen marks path starts (frames ++ record { place = place; next = k + 1 } ∷ [])
-advanced next seen marks path starts frames place k is within followed = record {
+with_frames : (next : ℕ → List ℕ) (seen : List Seen) (marks : List Bool) (path starts : List ℕ) (frames others : List Frame) → IsSearch next seen marks path starts frames
+    → ((place target : ℕ) → IsLeft frames place (next (get_or path place 0)) target ⊎ IsFollowed seen starts place target
+    → IsLeft others place (next (get_or path place 0)) target ⊎ IsFollowed seen starts place target)
+    → AllPairs (λ (one other : Frame). one.place < other.place) others → All (λ (frame : Frame). frame.place < length path) others
+    → ((start : ℕ) → Contains starts start → (frame : Frame) × Contains frames frame × (frame.place ≡ start) → (frame : Frame) × Contains others frame × (frame.place ≡ start))
+    → IsSearch next seen marks path starts others
+with_frames next seen marks path starts frames others is steps rise within left = record {
   long = is.long;
   listed = is.listed;
   placed = is.placed;
@@ -185,17 +187,29 @@ advanced next seen marks path starts frames place k is within followed = record 
   closed = is.closed;
   loops = is.loops;
   all = is.all;
-  steps = λ p target l step. by-steps p target (is.steps p target l step);
-  frames_rise = all_pairs_push (λ (one other : Frame). one.place < other.place) frames new
-      (pairs_front (λ (one other : Frame). one.place < other.place) frames (old ∷ []) is.frames_rise)
-      (pairs_last (λ (one other : Frame). one.place < other.place) frames old is.frames_rise);
-  frames_within = All-push (λ (f : Frame). f.place < length path) frames new
-      (all_front (λ (f : Frame). f.place < length path) frames (old ∷ []) is.frames_within)
-      (all_last (λ (f : Frame). f.place < length path) frames old is.frames_within);
+  steps = λ place target l step. steps place target (is.steps place target l step);
+  frames_rise = rise;
+  frames_within = within;
   starts_rise = is.starts_rise;
-  starts_left = λ start there. by-left start (is.starts_left start there);
+  starts_left = λ start there. left start there (is.starts_left start there);
   first = is.first;
 }
+
+-- ---- the last frame goes on by a step that was followed
+
+pub advanced : (next : ℕ → List ℕ) (seen : List Seen) (marks : List Bool) (path starts : List ℕ) (frames : List Frame) (place k : ℕ)
+    → IsSearch next seen marks path starts (frames ++ record { place = place; next = k } ∷ [])
+    → k < length (next (get_or path place 0)) → IsFollowed seen starts place (get_or (next (get_or path place 0)) k 0)
+    → IsSearch next seen marks path starts (frames ++ record { place = place; next = k + 1 } ∷ [])
+advanced next seen marks path starts frames place k is within followed =
+    with_frames next seen marks path starts (frames ++ old ∷ []) (frames ++ new ∷ []) is by-steps
+    (all_pairs_push (λ (one other : Frame). one.place < other.place) frames new
+    (pairs_front (λ (one other : Frame). one.place < other.place) frames (old ∷ []) is.frames_rise)
+    (pairs_last (λ (one other : Frame). one.place < other.place) frames old is.frames_rise))
+    (All-push (λ (f : Frame). f.place < length path) frames new
+    (all_front (λ (f : Frame). f.place < length path) frames (old ∷ []) is.frames_within)
+    (all_last (λ (f : Frame). f.place < length path) frames old is.frames_within))
+    (λ start there left. by-left start left)
   where
     old : Frame
     old = record { place = place; next = k }
@@ -337,22 +351,11 @@ pub dropped : (next : ℕ → List ℕ) (seen : List Seen) (marks : List Bool) (
     → IsSearch next seen marks path starts (frames ++ record { place = place; next = k } ∷ [])
     → length (next (get_or path place 0)) ≤ k → (Contains starts place → ⊥)
     → IsSearch next seen marks path starts frames
-dropped next seen marks path starts frames place k is end none = record {
-  long = is.long;
-  listed = is.listed;
-  placed = is.placed;
-  forth = is.forth;
-  back = is.back;
-  closed = is.closed;
-  loops = is.loops;
-  all = is.all;
-  steps = λ p target l step. by-steps p target (is.steps p target l step);
-  frames_rise = pairs_front (λ (one other : Frame). one.place < other.place) frames (frame ∷ []) is.frames_rise;
-  frames_within = all_front (λ (f : Frame). f.place < length path) frames (frame ∷ []) is.frames_within;
-  starts_rise = is.starts_rise;
-  starts_left = λ start there. by-left start there (is.starts_left start there);
-  first = is.first;
-}
+dropped next seen marks path starts frames place k is end none =
+    with_frames next seen marks path starts (frames ++ frame ∷ []) frames is by-steps
+    (pairs_front (λ (one other : Frame). one.place < other.place) frames (frame ∷ []) is.frames_rise)
+    (all_front (λ (f : Frame). f.place < length path) frames (frame ∷ []) is.frames_within)
+    by-left
   where
     frame : Frame
     frame = record { place = place; next = k }
