@@ -3,7 +3,6 @@ pub mod BeginFacts
 pub mod CollectorFacts
 pub mod ValueChangeFacts
 pub mod ExactFacts
-pub mod ExampleFacts
 pub mod ForgetFacts
 pub mod Known
 pub mod LineFacts

@@ -1,5 +1,11 @@
-use Rattle.cmb_vcd.proofs.ExampleFacts.{part_0, part_12, part_3, part_4, toggle_is}
+use Rattle.std.proofs.Common.{refl}
+use Rattle.cmb_vcd.specs.Vcd.{code_within, code, reference, var_line, var_lines, header, tick_line, level_line, level_lines, change_lines, tick_text, ticks_text, part_text, vcd}
+use Rattle.std.specs.Fmt.{digits}
+use Rattle.cmb_bench.specs.Netlist.{number_of}
+use Rattle.cmb_design.specs.Timing.{delay_by, level_by, row_level, clock_of, last_sample}
+use Rattle.cmb_design.specs.Value.{level_within, value}
 use Rattle.cmb_vcd.proofs.examples.toggle.Goals as goal
 
 pub returns : goal.returns
-returns c = record { text = toggle_is; below_0 = part_0; below_3 = part_3; below_4 = part_4; below_12 = part_12 }
+unfolding code_within code reference var_line var_lines header tick_line level_line level_lines change_lines tick_text ticks_text part_text digits number_of delay_by level_by row_level clock_of last_sample level_within value vcd
+returns c = record { text = refl; below_0 = refl; below_3 = refl; below_4 = refl; below_12 = refl }

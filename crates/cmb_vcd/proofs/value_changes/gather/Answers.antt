@@ -1,7 +1,6 @@
-use Rattle.std.proofs.Common.{◌∙◌, ◌++◌, ◌+◌, [], sym, ap, arith, refl, drop, get_or}
-use Rattle.cmb_vcd.specs.declared.value_changes.NetChanges.{NetChanges}
+use Rattle.std.proofs.Common.{◌∙◌, ◌++◌, ◌+◌, [], sym, ap, arith, refl, drop}
 use Rattle.cmb_vcd.specs.ValueChanges.{value_changes_of, value_changes_in}
-use Rattle.cmb_vcd.proofs.ValueChangeFacts.{value_changes_in-next}
+use Rattle.cmb_vcd.proofs.ValueChangeFacts.{part_at, value_changes_in-next}
 use Rattle.cmb_design.proofs.LevelFacts.{push-rest}
 use Rattle.cmb_vcd.proofs.LineFacts.{rest_none}
 use Rattle.cmb_vcd.proofs.value_changes.gather.Goals as goal
@@ -11,10 +10,9 @@ loop-part-preserved c =
     let parts = c.args.parts.now in
     let i = c.loop-part.part-index in
     let old = c.loop-part.events.items in
-    let d : NetChanges = record { net = 0; changes = record { ref_ptr = (0, 0); now = [] } } in
-    push-rest old c.add_value_changes.new.events.items (value_changes_of (get_or parts i d).net (get_or parts i d).changes.now) (value_changes_in (drop (i + 1) parts)) _
+    push-rest old c.add_value_changes.new.events.items (value_changes_of (part_at parts i).net (part_at parts i).changes.now) (value_changes_in (drop (i + 1) parts)) _
     c.in_ok-add_value_changes.ensures
-    (ap (λ t. old ++ t) (sym (value_changes_in-next parts i d (omega arith))) ∙ c.loop-part.invariant)
+    (ap (λ t. old ++ t) (sym (value_changes_in-next parts i (omega arith))) ∙ c.loop-part.invariant)
 
 pub returns : goal.returns
 unfolding value_changes_in
