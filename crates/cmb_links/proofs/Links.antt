@@ -81,53 +81,24 @@ module _ (held : List Piece) (ends : List End) (port : ℕ) (v : End) (kept : Is
   other : (u : End) (k m : ℕ) → u ≡ v → of_role u ≡ k → of_role v ≡ m → k ≢ m → ⊥
   other u k m e a b differ = differ (sym a ∙ ap of_role e ∙ b)
 
+  -- what an end is whose role isn't that of a fresh one
+  not_fresh : (P : Design → ℕ → List Piece → List Piece → Type 0) → (fresh ≡ v → ⊥) → ((d : Design) (n : ℕ) (sent received : List Piece) → Standing d n sent received → P d n sent received) → Between P held
+  not_fresh P differs is = ⊎_elim (λ h. absurd (differs h.3)) (λ (h : Between Standing held). (h.0, h.1, h.2, h.3, h.4, is h.0 h.1 h.2 h.3 h.5)) stands
+
   puts : v.role ≡ Puts → Between IsPutting held
-  puts role = let r : of_role v ≡ 1 = ap rank role in ⊎_elim
-      (λ h. absurd (other fresh 0 1 h.3 refl r (λ e. omega arith)))
-      (λ (h : Between Standing held). let d = h.0 in let n = h.1 in let s = h.2 in let t = h.3 in (
-        d,
-        n,
-        s,
-        t,
-        h.4,
-        ⊎_elim
-            (λ o. ⊎_elim (λ a. (o.0, a.0, a.1)) (λ b. absurd (other (taking d n t) 2 1 b.1 refl r (λ e. omega arith))) o.1)
-            (λ j. absurd (⊎_elim (λ a. other (closing d n s t) 3 1 a.1 refl r (λ e. omega arith)) (λ b. other spent 4 1 b.1 refl r (λ e. omega arith)) j.1))
-            h.5,
-      ))
-      stands
+  puts role = let r : of_role v ≡ 1 = ap rank role in not_fresh IsPutting (λ e. other fresh 0 1 e refl r (λ e. omega arith)) (λ d n s t. ⊎_elim
+      (λ o. ⊎_elim (λ a. (o.0, a.0, a.1)) (λ b. absurd (other (taking d n t) 2 1 b.1 refl r (λ e. omega arith))) o.1)
+      (λ j. absurd (⊎_elim (λ a. other (closing d n s t) 3 1 a.1 refl r (λ e. omega arith)) (λ b. other spent 4 1 b.1 refl r (λ e. omega arith)) j.1)))
 
   takes : v.role ≡ Takes → Between IsTaking held
-  takes role = let r : of_role v ≡ 2 = ap rank role in ⊎_elim
-      (λ h. absurd (other fresh 0 2 h.3 refl r (λ e. omega arith)))
-      (λ (h : Between Standing held). let d = h.0 in let n = h.1 in let s = h.2 in let t = h.3 in (
-        d,
-        n,
-        s,
-        t,
-        h.4,
-        ⊎_elim
-            (λ o. ⊎_elim (λ a. absurd (other (putting d n s) 1 2 a.1 refl r (λ e. omega arith))) (λ b. (o.0, b.0, b.1)) o.1)
-            (λ j. absurd (⊎_elim (λ a. other (closing d n s t) 3 2 a.1 refl r (λ e. omega arith)) (λ b. other spent 4 2 b.1 refl r (λ e. omega arith)) j.1))
-            h.5,
-      ))
-      stands
+  takes role = let r : of_role v ≡ 2 = ap rank role in not_fresh IsTaking (λ e. other fresh 0 2 e refl r (λ e. omega arith)) (λ d n s t. ⊎_elim
+      (λ o. ⊎_elim (λ a. absurd (other (putting d n s) 1 2 a.1 refl r (λ e. omega arith))) (λ b. (o.0, b.0, b.1)) o.1)
+      (λ j. absurd (⊎_elim (λ a. other (closing d n s t) 3 2 a.1 refl r (λ e. omega arith)) (λ b. other spent 4 2 b.1 refl r (λ e. omega arith)) j.1)))
 
   closes : v.role ≡ Closes → Between IsClosing held
-  closes role = let r : of_role v ≡ 3 = ap rank role in ⊎_elim
-      (λ h. absurd (other fresh 0 3 h.3 refl r (λ e. omega arith)))
-      (λ (h : Between Standing held). let d = h.0 in let n = h.1 in let s = h.2 in let t = h.3 in (
-        d,
-        n,
-        s,
-        t,
-        h.4,
-        ⊎_elim
-            (λ o. absurd (⊎_elim (λ a. other (putting d n s) 1 3 a.1 refl r (λ e. omega arith)) (λ b. other (taking d n t) 2 3 b.1 refl r (λ e. omega arith)) o.1))
-            (λ j. ⊎_elim (λ a. (j.0, a.0, a.1)) (λ b. absurd (other spent 4 3 b.1 refl r (λ e. omega arith))) j.1)
-            h.5,
-      ))
-      stands
+  closes role = let r : of_role v ≡ 3 = ap rank role in not_fresh IsClosing (λ e. other fresh 0 3 e refl r (λ e. omega arith)) (λ d n s t. ⊎_elim
+      (λ o. absurd (⊎_elim (λ a. other (putting d n s) 1 3 a.1 refl r (λ e. omega arith)) (λ b. other (taking d n t) 2 3 b.1 refl r (λ e. omega arith)) o.1))
+      (λ j. ⊎_elim (λ a. (j.0, a.0, a.1)) (λ b. absurd (other spent 4 3 b.1 refl r (λ e. omega arith))) j.1))
 
   begins_here : v.role ≡ Fresh → (held ≡ []) × (ends ≡ fresh ∷ []) × (port ≡ 0)
   begins_here role = let r : of_role v ≡ 0 = ap rank role in ⊎_elim
