@@ -135,6 +135,15 @@ stepped_in_is design w new c net part same answer waves = go (ltb (wave_at (clus
     go true answer waves = (ap (with_waves (shown w) c) (sym waves) ∙ sym (shown_with w new c same), ap (λ p. Ok (Stepped p)) (sym answer))
     go false answer waves = (sym (with_same w c) ∙ ap (with_waves (shown w) c) (sym waves) ∙ sym (shown_with w new c same), ap (λ p. Ok (Stepped p)) (sym answer))
 
+-- a step of a net is one in the cluster that drives it
+step_played : (design : Design) (clustering : Clustering) (w : World) (net c : ℕ) → net < nets_of design → c < length w.clusters → c ≡ cluster_of clustering net
+    → play_world design clustering (shown w) (Step net) ≡ stepped_in design (shown w) c net (cluster_at w c).waves
+unfolding stepped_in
+step_played design clustering w net c h there own =
+    let test : ltb net (nets_of design) ≡ true = lt-ltb net (nets_of design) h in
+    let played : play_world design clustering (shown w) (Step net) ≡ stepped_in design (shown w) (cluster_of clustering net) net (waves_of (shown w) (cluster_of clustering net)) = rw test refl in
+    played ∙ ap (λ k. stepped_in design (shown w) k net (waves_of (shown w) k)) (sym own) ∙ ap (stepped_in design (shown w) c net) (waves_are w c there)
+
 pub step_plays : (design : Design) (clustering : Clustering) (w new : World) (net c : ℕ) (part : Option Piece)
     → net < nets_of design → c < length w.clusters → c ≡ cluster_of clustering net → IsSameBut c w new
     → part ≡ step_answer design (cluster_at w c).waves (wave_at (cluster_at w c).waves net)
@@ -142,12 +151,7 @@ pub step_plays : (design : Design) (clustering : Clustering) (w new : World) (ne
     → Plays (play_world design clustering (shown w) (Step net)) (shown w) (shown new) (Ok (Stepped part))
 unfolding stepped_in
 step_plays design clustering w new net c part h there own same answer waves =
-    let test : ltb net (nets_of design) ≡ true = lt-ltb net (nets_of design) h in
-    let played : play_world design clustering (shown w) (Step net) ≡ stepped_in design (shown w) (cluster_of clustering net) net (waves_of (shown w) (cluster_of clustering net)) = rw test refl in
-    let is : play_world design clustering (shown w) (Step net) ≡ stepped_in design (shown w) c net (cluster_at w c).waves =
-    played ∙ ap (λ k. stepped_in design (shown w) k net (waves_of (shown w) k)) (sym own) ∙ ap (stepped_in design (shown w) c net) (waves_are w c there)
-    in
-    rw is (stepped_in_is design w new c net part same answer waves)
+    rw (step_played design clustering w net c h there own) (stepped_in_is design w new c net part same answer waves)
 
 -- where memory was wanted for a step, something was new
 pub step_wants : (design : Design) (clustering : Clustering) (w : World) (net c : ℕ)
@@ -156,12 +160,7 @@ pub step_wants : (design : Design) (clustering : Clustering) (w : World) (net c 
     → takes_memory (play_world design clustering (shown w) (Step net)).reply ≡ true
 unfolding stepped_in
 step_wants design clustering w net c h there own new =
-    let test : ltb net (nets_of design) ≡ true = lt-ltb net (nets_of design) h in
-    let played : play_world design clustering (shown w) (Step net) ≡ stepped_in design (shown w) (cluster_of clustering net) net (waves_of (shown w) (cluster_of clustering net)) = rw test refl in
-    let is : play_world design clustering (shown w) (Step net) ≡ stepped_in design (shown w) c net (cluster_at w c).waves =
-    played ∙ ap (λ k. stepped_in design (shown w) k net (waves_of (shown w) k)) (sym own) ∙ ap (stepped_in design (shown w) c net) (waves_are w c there)
-    in
-    ap (λ p. takes_memory p.reply) is ∙ go (ltb (wave_at (cluster_at w c).waves net).clock (step_reach design (cluster_at w c).waves (wave_at (cluster_at w c).waves net).net)) _ _ _ new
+    ap (λ p. takes_memory p.reply) (step_played design clustering w net c h there own) ∙ go (ltb (wave_at (cluster_at w c).waves net).clock (step_reach design (cluster_at w c).waves (wave_at (cluster_at w c).waves net).net)) _ _ _ new
   where
     go : (b : Bool) (more less : WorldWaves) (part : Piece) → (cond b (Some part) None ≡ None → ⊥) → takes_memory (cond b (answered more (Stepped (Some part))) (answered less (Stepped None))).reply ≡ true
     go true more less part new = refl
@@ -172,10 +171,24 @@ pub home_wave_at : (w : World) (net c : ℕ) → slice_get w.assign net ≡ Some
 home_wave_at w net c e = ap (λ k. wave_at (cluster_at w k).waves net) (sym (get_or_from_slice_get w.assign net c 0 e))
 
 -- the cluster that drives a net
-pub home_at : (design : Design) (clustering : Clustering) (w : World) → IsWorldOf design clustering w → (net c : ℕ) → slice_get w.assign net ≡ Some c → (net < nets_of design) × (c ≡ cluster_of clustering net)
+home_at : (design : Design) (clustering : Clustering) (w : World) → IsWorldOf design clustering w → (net c : ℕ) → slice_get w.assign net ≡ Some c → (net < nets_of design) × (c ≡ cluster_of clustering net)
 home_at design clustering w of net c e =
     let listed : net < length w.assign = slice_get_within w.assign net c e in
     (omega (arith, nets_are design clustering w of), sym (get_or_from_slice_get w.assign net c 0 e) ∙ home_is design clustering w of net)
+
+-- a net is of the design, and this cluster drives it
+pub record IsHome (design : Design) (clustering : Clustering) (w : World) (net c : ℕ) : Type 0 where
+  pub inside : net < nets_of design
+  pub is : c ≡ cluster_of clustering net
+  pub of : IsClusterOf design clustering (cluster_of clustering net) (cluster_at w c)
+  pub own : IsOwnNet design clustering (cluster_of clustering net) net
+
+pub home_here : (design : Design) (clustering : Clustering) (w : World) → IsWorldOf design clustering w → (net c : ℕ) → slice_get w.assign net ≡ Some c → IsHome design clustering w net c
+home_here design clustering w of net c e =
+    let at = home_at design clustering w of net c e in
+    let home = home_of design clustering w of net at.0 in
+    let C : ℕ → Type 0 = λ k. IsClusterOf design clustering (cluster_of clustering net) (cluster_at w k) in
+    record { inside = at.0; is = at.1; of = subst C (sym at.1) home.0; own = home.1 }
 
 pub no_home : (w : World) (net : ℕ) → slice_get w.assign net ≡ None → ltb net (length w.assign) ≡ false
 no_home w net e = go (cases_lt net (length w.assign))

@@ -57,10 +57,13 @@ module _ (design : Design) (clustering : Clustering) (world : WorldWaves) (has :
   waves-other at ne = get_or-set_other world.clusters cluster at (with_wave (waves_of world cluster) wave) [] ne
 
   -- the wave is where it was put, and all others are as they were
-  wave-cases : (at net : ℕ) → ((at ≡ cluster) × (net ≡ wave.net) × (in_wave after at net ≡ wave)) ⊎ ((at ≡ cluster → net ≡ wave.net → ⊥) × (in_wave after at net ≡ in_wave world at net))
+  abbrev Stands : ℕ → ℕ → Type 0
+  Stands at net = ((at ≡ cluster) × (net ≡ wave.net) × (in_wave after at net ≡ wave)) ⊎ ((at ≡ cluster → net ≡ wave.net → ⊥) × (in_wave after at net ≡ in_wave world at net))
+
+  wave-cases : (at net : ℕ) → Stands at net
   wave-cases at net = go (cases_eq at cluster) (cases_eq net wave.net)
     where
-      go : (at ≡ cluster) ⊎ (at ≡ cluster → ⊥) → (net ≡ wave.net) ⊎ (net ≡ wave.net → ⊥) → ((at ≡ cluster) × (net ≡ wave.net) × (in_wave after at net ≡ wave)) ⊎ ((at ≡ cluster → net ≡ wave.net → ⊥) × (in_wave after at net ≡ in_wave world at net))
+      go : (at ≡ cluster) ⊎ (at ≡ cluster → ⊥) → (net ≡ wave.net) ⊎ (net ≡ wave.net → ⊥) → Stands at net
       go (inl e) (inl f) = inl (e, f, ap (λ (c : ℕ). wave_at (waves_of after c) net) e ∙ ap (λ (ws : List Wave). wave_at ws net) waves-same ∙ ap (wave_at (with_wave (waves_of world cluster) wave)) f ∙ wave_at-with_same (waves_of world cluster) wave held)
       go (inl e) (inr ne) = inr (λ _ f. ne f, ap (λ (c : ℕ). wave_at (waves_of after c) net) e ∙ ap (λ (ws : List Wave). wave_at ws net) waves-same ∙ wave_at-with_other (waves_of world cluster) wave net ne ∙ ap (λ (c : ℕ). wave_at (waves_of world c) net) (sym e))
       go (inr ne) _ = inr (λ e _. ne e, ap (λ (ws : List Wave). wave_at ws net) (waves-other at ne))
@@ -90,23 +93,30 @@ module _ (design : Design) (clustering : Clustering) (world : WorldWaves) (has :
   whole-after : wave.base ≡ 0 → ((at net : ℕ) → (in_wave world at net).base ≡ 0) → (at net : ℕ) → (in_wave after at net).base ≡ 0
   whole-after none whole at net = go (wave-cases at net)
     where
-      go : ((at ≡ cluster) × (net ≡ wave.net) × (in_wave after at net ≡ wave)) ⊎ ((at ≡ cluster → net ≡ wave.net → ⊥) × (in_wave after at net ≡ in_wave world at net)) → (in_wave after at net).base ≡ 0
+      go : Stands at net → (in_wave after at net).base ≡ 0
       go (inl (e, f, g)) = ap (λ (w : Wave). w.base) g ∙ none
       go (inr (elsewhere, g)) = ap (λ (w : Wave). w.base) g ∙ whole at net
 
-  -- an output wave that goes on
-  out-after : (clocks : Clocks) → IsSound design clustering clocks → Shows design clustering world clocks → IsExactWaveIn design wave → wave.base ≡ 0 → cluster ≡ cluster_of clustering wave.net → wave.net < nets_of design → Shows design clustering after (with_out clocks wave.net wave.clock)
+  -- the world shows clocks that tell the wave's where it stands, and all others as before
+  shows-after : (clocks later : Clocks) → Shows design clustering world clocks → IsExactWaveIn design wave → wave.base ≡ 0
+      → ((net : ℕ) → net < nets_of design → Stands (cluster_of clustering net) net → (out_wave clustering after net).clock ≡ out_clock later net)
+      → ((at net : ℕ) → at < clustering.clusters → has_input design clustering at net ≡ true → Stands at net → (in_wave after at net).clock ≡ in_clock later at net)
+      → later.posts ≡ clocks.posts → later.promises ≡ clocks.promises → Shows design clustering after later
   unfolding after
-  out-after clocks sound shows exact none own inside = record {
+  shows-after clocks later shows exact none outs ins posts promises = record {
     exact = exact-after exact shows.exact;
     whole = whole-after none shows.whole;
     outs = λ net h. outs net h (wave-cases (cluster_of clustering net) net);
     ins = λ at net c reads. ins at net c reads (wave-cases at net);
-    posts = shows.posts;
-    promises = shows.promises;
+    posts = shows.posts ∙ ap (map (piece_of design)) (sym posts);
+    promises = shows.promises ∙ ap (map (promise_of design)) (sym promises);
   }
+
+  -- an output wave that goes on
+  out-after : (clocks : Clocks) → IsSound design clustering clocks → Shows design clustering world clocks → IsExactWaveIn design wave → wave.base ≡ 0 → cluster ≡ cluster_of clustering wave.net → wave.net < nets_of design → Shows design clustering after (with_out clocks wave.net wave.clock)
+  out-after clocks sound shows exact none own inside = shows-after clocks (with_out clocks wave.net wave.clock) shows exact none outs ins refl refl
     where
-      outs : (net : ℕ) → net < nets_of design → ((cluster_of clustering net ≡ cluster) × (net ≡ wave.net) × (in_wave after (cluster_of clustering net) net ≡ wave)) ⊎ ((cluster_of clustering net ≡ cluster → net ≡ wave.net → ⊥) × (in_wave after (cluster_of clustering net) net ≡ in_wave world (cluster_of clustering net) net)) → (out_wave clustering after net).clock ≡ out_clock (with_out clocks wave.net wave.clock) net
+      outs : (net : ℕ) → net < nets_of design → Stands (cluster_of clustering net) net → (out_wave clustering after net).clock ≡ out_clock (with_out clocks wave.net wave.clock) net
       outs net h (inl (e, f, g)) =
           let long : wave.net < length clocks.outs = omega (arith, sound.nets) in
           ap (λ (w : Wave). w.clock) g ∙ sym (get_or-set_same clocks.outs wave.net wave.clock 0 long) ∙ ap (out_clock (with_out clocks wave.net wave.clock)) (sym f)
@@ -114,27 +124,19 @@ module _ (design : Design) (clustering : Clustering) (world : WorldWaves) (has :
           let ne : net ≡ wave.net → ⊥ = λ f. elsewhere (ap (cluster_of clustering) f ∙ sym own) f in
           ap (λ (w : Wave). w.clock) g ∙ shows.outs net h ∙ sym (get_or-set_other clocks.outs wave.net net wave.clock 0 ne)
 
-      ins : (at net : ℕ) → at < clustering.clusters → has_input design clustering at net ≡ true → ((at ≡ cluster) × (net ≡ wave.net) × (in_wave after at net ≡ wave)) ⊎ ((at ≡ cluster → net ≡ wave.net → ⊥) × (in_wave after at net ≡ in_wave world at net)) → (in_wave after at net).clock ≡ in_clock clocks at net
+      ins : (at net : ℕ) → at < clustering.clusters → has_input design clustering at net ≡ true → Stands at net → (in_wave after at net).clock ≡ in_clock clocks at net
       ins at net c reads (inl (e, f, g)) = absurd (has_input-not_own design clustering at net reads (ap (cluster_of clustering) f ∙ sym own ∙ sym e))
       ins at net c reads (inr (elsewhere, g)) = ap (λ (w : Wave). w.clock) g ∙ shows.ins at net c reads
 
   -- an input wave that goes on
   in-after : (clocks : Clocks) → IsSound design clustering clocks → Shows design clustering world clocks → IsExactWaveIn design wave → wave.base ≡ 0 → has_input design clustering cluster wave.net ≡ true → wave.net < nets_of design → Shows design clustering after (with_in clocks cluster wave.net wave.clock)
-  unfolding after
-  in-after clocks sound shows exact none reads' inside = record {
-    exact = exact-after exact shows.exact;
-    whole = whole-after none shows.whole;
-    outs = λ net h. outs net h (wave-cases (cluster_of clustering net) net);
-    ins = λ at net c reads. ins at net c reads (wave-cases at net);
-    posts = shows.posts;
-    promises = shows.promises;
-  }
+  in-after clocks sound shows exact none reads' inside = shows-after clocks (with_in clocks cluster wave.net wave.clock) shows exact none outs ins refl refl
     where
-      outs : (net : ℕ) → net < nets_of design → ((cluster_of clustering net ≡ cluster) × (net ≡ wave.net) × (in_wave after (cluster_of clustering net) net ≡ wave)) ⊎ ((cluster_of clustering net ≡ cluster → net ≡ wave.net → ⊥) × (in_wave after (cluster_of clustering net) net ≡ in_wave world (cluster_of clustering net) net)) → (out_wave clustering after net).clock ≡ out_clock clocks net
+      outs : (net : ℕ) → net < nets_of design → Stands (cluster_of clustering net) net → (out_wave clustering after net).clock ≡ out_clock clocks net
       outs net h (inl (e, f, g)) = absurd (has_input-not_own design clustering cluster wave.net reads' (ap (cluster_of clustering) (sym f) ∙ e))
       outs net h (inr (elsewhere, g)) = ap (λ (w : Wave). w.clock) g ∙ shows.outs net h
 
-      ins : (at net : ℕ) → at < clustering.clusters → has_input design clustering at net ≡ true → ((at ≡ cluster) × (net ≡ wave.net) × (in_wave after at net ≡ wave)) ⊎ ((at ≡ cluster → net ≡ wave.net → ⊥) × (in_wave after at net ≡ in_wave world at net)) → (in_wave after at net).clock ≡ in_clock (with_in clocks cluster wave.net wave.clock) at net
+      ins : (at net : ℕ) → at < clustering.clusters → has_input design clustering at net ≡ true → Stands at net → (in_wave after at net).clock ≡ in_clock (with_in clocks cluster wave.net wave.clock) at net
       ins at net c reads (inl (e, f, g)) =
           ap (λ (w : Wave). w.clock) g ∙ sym (in-set design clustering clocks sound cluster wave.net wave.clock inside there) ∙ ap (λ (k : ℕ). in_clock (with_in clocks cluster wave.net wave.clock) k wave.net) (sym e) ∙ ap (in_clock (with_in clocks cluster wave.net wave.clock) at) (sym f)
       ins at net c reads (inr (elsewhere, g)) = ap (λ (w : Wave). w.clock) g ∙ shows.ins at net c reads ∙ sym (same (in-cases clocks cluster wave.net wave.clock at net))
