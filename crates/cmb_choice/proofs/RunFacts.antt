@@ -1,6 +1,8 @@
 -- The text of chosen nets as it is made, and the part of a design in which they have the text that they have in the whole.
-use Rattle.std.proofs.Common.{◌≡◌, ◌∙◌, ℕ, ◌<◌, ◌≤◌, List, [], ◌++◌, length, map, get_or, ap, append_assoc, arith, sym, subst}
-use Rattle.std.specs.Prelude.{All}
+use Rattle.std.proofs.Common.{◌≡◌, ◌∙◌, Result, Ok, Err, ℕ, ◌<◌, ◌≤◌, List, [], ◌++◌, length, map, get_or, ap, append_assoc, arith, sym, subst}
+use Rattle.std.specs.Prelude.{All, OnOk, is_ok}
+use Rattle.std.specs.Result.{result_and}
+use Rattle.std.proofs.lemmas.Bool.{false≢true}
 use Rattle.std.specs.List.Sorted.{IsStrictlyIncreasing}
 use Rattle.std.proofs.lemmas.List.{get_or-map, length-map}
 use Rattle.std.proofs.lemmas.List.Elements.{All-weaker}
@@ -15,6 +17,11 @@ use Rattle.cmb_words.specs.Changes.{Tells}
 use Rattle.cmb_words.specs.declared.changed.Changed.{Changed}
 use Rattle.cmb_vcd.proofs.ChosenFacts.{vcd_of-part}
 use Rattle.cmb_choice.specs.Runs.{shown_text}
+
+-- two calls went well
+pub both-ok : {T U E : Type 0} (r : Result T E) (s : Result U E) (y : U) (A : Type 0) → result_and r s ≡ Ok y → OnOk r A → A × (s ≡ Ok y)
+both-ok (Ok x) s y A is a = (a, is)
+both-ok (Err e) s y A is a = absurd (false≢true (ap is_ok is))
 
 -- at the horizon the text is whole
 pub shown-whole : (design own : Design) (nets shown : List ℕ) (upto : ℕ) (text : List ℕ) → own ≡ design → shown ≡ nets → upto ≡ design.horizon → text ≡ shown_text design nets upto → text ≡ vcd_of design nets

@@ -30,6 +30,24 @@ fn first_levels(alloc: Global, design: &Design, nets: &[u32]) -> Result<Vec<Leve
     Ok(levels)
 }
 
+// The text up to tick 1, and the excerpt that goes on from there.
+fn first_text<'a>(
+    alloc: Global,
+    design: &'a Design,
+    nets: &'a [u32],
+) -> Result<(Excerpt<'a>, Vec<u8>), AllocError>
+    requires { AreAmong (nets_of design.now) nets.now }
+    ensures design { IfOk result (λ first. first.0.design ≡ design.entry.now) }
+    ensures nets { IfOk result (λ first. first.0.nets ≡ nets.entry.now) }
+    ensures clock { IfOk result (λ first. first.0.clock ≡ 1) }
+    ensures text { IfOk result (λ first. first.1.items ≡ shown_text design.entry.now nets.entry.now 1) }
+{
+    let levels = first_levels(alloc, design, nets)?;
+    let excerpt = Excerpt::open(alloc, design, nets, &levels)?;
+    let text = excerpt.text().to_vec(alloc)?;
+    Ok((excerpt, text))
+}
+
 /// The text of chosen nets of a design, as far as it was made.
 #[derive(Drop)]
 pub(crate) struct Run<'a> {
@@ -68,10 +86,9 @@ impl<'a> Run<'a> {
         ensures text { IfOk result (λ run. run.text ≡ shown_text design.entry.now nets.entry.now run.clock) }
         ensures within { IfOk result (λ run. run.clock ≤ design.entry.now.horizon) }
     {
+        let (excerpt, text) = first_text(alloc, design, nets)?;
         let engine = Engine::open(alloc, design)?;
-        let levels = first_levels(alloc, design, nets)?;
-        let excerpt = Excerpt::open(alloc, design, nets, &levels)?;
-        let text = excerpt.text().to_vec(alloc)?;
+        // Its contract tells that a tick is within the horizon.
         let _begun = engine.clock();
         Ok(Run {
             design,
@@ -109,8 +126,8 @@ impl<'a> Run<'a> {
             mut text,
         } = self;
         let engine = engine.advance(&mut changed)?;
-        excerpt.window(&changed, engine.clock())?;
-        text.extend_from_slice(excerpt.text())?;
+        let told = excerpt.window(&changed, engine.clock());
+        told.and(text.extend_from_slice(excerpt.text()))?;
         Ok(Run {
             design,
             engine,
