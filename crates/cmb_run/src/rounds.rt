@@ -220,24 +220,6 @@ fn all_rounds<T: Terms + Send + Sync, R: Threads + Sync>(
     Ok(())
 }
 
-// The workers of the clusters, once all is known.
-fn worked<T: Terms + Send + Sync, R: Threads + Sync>(
-    rt: &R,
-    alloc: Global,
-    design: &Design,
-    clustering: &Clustering,
-) -> Result<Vec<Hand<T>>, AllocError>
-    requires design { design.now ≡ T.design }
-    requires clustering { clustering.now ≡ T.clustering }
-    requires nets { length clustering.now.assign ≡ nets_of design.now }
-    ensures kept { IfOk result (λ hands. AreHandsOf T.design T.clustering hands.items) }
-    ensures complete { IfOk result (λ hands. AreComplete T.design T.clustering hands.items) }
-{
-    let mut hands = deal::<T>(alloc, design, clustering)?;
-    all_rounds(rt, design, clustering, &mut hands)?;
-    Ok(hands)
-}
-
 // Gives the waves of all clusters to what is collected.
 fn hand_over_all<T: Terms>(mut hands: Vec<Hand<T>>, collected: &mut Collected<T>)
     requires hands { AreHandsOf T.design T.clustering hands.items }
@@ -247,23 +229,6 @@ fn hand_over_all<T: Terms>(mut hands: Vec<Hand<T>>, collected: &mut Collected<T>
     while let Some(hand) = hands.pop() {
         hand.hand_over(collected);
     }
-}
-
-// What the clusters know of all nets.
-fn collect<T: Terms>(
-    alloc: Global,
-    design: &Design,
-    hands: Vec<Hand<T>>,
-) -> Result<Collector, AllocError>
-    requires design { design.now ≡ T.design }
-    requires hands { AreHandsOf T.design T.clustering hands.items }
-    requires known { AreComplete T.design T.clustering hands.items }
-    ensures exact { IfOk result (λ collector. IsExactFor design.now collector) }
-    ensures complete { IfOk result (λ collector. IsComplete collector) }
-{
-    let mut collected = Collected::open(alloc, design)?;
-    hand_over_all(hands, &mut collected);
-    Ok(collected.into_collector())
 }
 
 // The run of the design by one worker for each cluster of the clustering that T names.
@@ -279,8 +244,11 @@ fn run_named<T: Terms + Send + Sync, R: Threads + Sync>(
     ensures exact { IfOk result (λ collector. IsExactFor design.now collector) }
     ensures complete { IfOk result (λ collector. IsComplete collector) }
 {
-    let hands = worked::<T, R>(rt, alloc, design, clustering)?;
-    collect(alloc, design, hands)
+    let mut hands = deal::<T>(alloc, design, clustering)?;
+    all_rounds(rt, design, clustering, &mut hands)?;
+    let mut collected = Collected::open(alloc, design)?;
+    hand_over_all(hands, &mut collected);
+    Ok(collected.into_collector())
 }
 
 /// Simulates a design in rounds and collects the waves of all its nets, up to the horizon. The nets

@@ -5,7 +5,6 @@ ghost use Rattle.std.specs.Prelude.{◌≡◌};
 use crate::free::backlog::Backlog;
 use crate::free::crew::Lookout;
 use crate::terms::Terms;
-use cmb_idle::Idle;
 use std::alloc::AllocError;
 use std::sync::Wait;
 
@@ -56,17 +55,13 @@ pub(crate) fn collect<T: Terms, R: Wait>(
 ) -> Result<(), AllocError>
     ensures { backlog.new.written ≡ backlog.old.written }
 {
-    let mut idle = Idle::new();
     for _ in rt.forever() {
         let over = lookout.finished() as usize >= started;
         let found = take_round(rt, lookout, backlog)?;
-        if found {
-            idle.end();
-        } else if over {
-            return Ok(());
-        } else {
-            idle.rest(rt);
+        if over && !found {
+            break;
         }
+        lookout.rest_unless(rt, found);
     }
-    unreachable!()
+    Ok(())
 }

@@ -12,16 +12,18 @@ use crate::free::worker::Worker;
 use crate::terms::Terms;
 use cmb_core::Clustering;
 use cmb_design::Design;
+use cmb_idle::Idle;
 use cmb_links::{Board, Seat, Workers};
 use std::alloc::{AllocError, Global};
 use std::sync::{Arc, Wait};
 
-/// The last seat, and the taking end of each worker's link to the collector.
+/// The last seat, the taking end of each worker's link to the collector, and how long nothing came.
 #[derive(Drop)]
 pub struct Lookout<T: Terms> {
     board: Arc<Board>,
     seat: Seat,
     ends: Vec<TakeEnd<T>>,
+    idle: Idle,
     ghost same: { seat.board ≡ arc_value board },
 }
 
@@ -30,7 +32,12 @@ impl<T: Terms> Lookout<T> {
     fn new(board: Arc<Board>, seat: Seat, ends: Vec<TakeEnd<T>>) -> Lookout<T>
         requires { seat.board ≡ arc_value board }
     {
-        Lookout { board, seat, ends }
+        Lookout {
+            board,
+            seat,
+            ends,
+            idle: Idle::new(),
+        }
     }
 
     /// Raises the stop word.
@@ -57,6 +64,15 @@ impl<T: Terms> Lookout<T> {
             None => None,
         }
     }
+
+    /// Rests where nothing was found.
+    pub(crate) fn rest_unless<R: Wait>(&mut self, rt: &R, found: bool) {
+        if found {
+            self.idle.end();
+        } else {
+            self.idle.rest(rt);
+        }
+    }
 }
 
 /// The workers of a free run, and what the collecting thread has of it.
@@ -64,23 +80,6 @@ impl<T: Terms> Lookout<T> {
 pub struct Crew<T: Terms> {
     pub workers: Vec<Worker<T>>,
     pub lookout: Lookout<T>,
-}
-
-// The worker at a desk, with the cluster of this number.
-fn open_worker<T: Terms>(
-    alloc: Global,
-    design: &Design,
-    clustering: &Clustering,
-    desk: Desk<T>,
-    number: u32,
-) -> Result<Worker<T>, AllocError>
-    requires design { design.now ≡ T.design }
-    requires clustering { clustering.now ≡ T.clustering }
-    requires nets { length clustering.now.assign ≡ nets_of design.now }
-    requires number { number < clustering.now.clusters }
-{
-    let cluster = ExactCluster::open(alloc, design, clustering, number)?;
-    Worker::open(alloc, desk, cluster)
 }
 
 // No nets for each of so many workers.
@@ -161,8 +160,8 @@ fn mark(marks: &mut [bool], nets: &[u32]) {
     }
 }
 
-// Tells each worker which of its nets others read.
-fn note_readers<T: Terms>(
+// Tells each worker which nets it is given, and which of its own others read.
+fn note_nets<T: Terms>(
     alloc: Global,
     clustering: &Clustering,
     workers: &mut [Worker<T>],
@@ -174,6 +173,7 @@ fn note_readers<T: Terms>(
         mark(&mut is_read, worker.inputs());
     }
     for worker in workers.iter_mut() {
+        worker.note_inputs()?;
         worker.note_read(clustering, &is_read)?;
     }
     Ok(())
@@ -199,9 +199,11 @@ fn add_workers<T: Terms>(
         ≡ drop workers (new_seats (arc_value board.now) (terms design.now clustering.now workers))) }
 {
     for number in 0..workers.count() {
+        let cluster = ExactCluster::open(alloc, design, clustering, number)?;
+        let shared = Arc::try_clone(board)?;
         let seat = seats.remove(0);
-        let desk = Desk::new(Arc::try_clone(board)?, seat, design, workers, number);
-        crew.push(open_worker(alloc, design, clustering, desk, number)?)?;
+        let desk = Desk::new(shared, seat, design, workers, number);
+        crew.push(Worker::new(alloc, desk, cluster))?;
     }
     Ok(())
 }
@@ -221,8 +223,8 @@ fn link_collector<T: Terms>(
     Ok(ends)
 }
 
-// Links workers to the collector and to one another, and tells each which of its nets others read. Gives the
-// collector's ends.
+// Links workers to one another and to the collector, and tells each which nets it is given and which of its own others
+// read. Gives the collector's ends.
 fn connect<T: Terms>(
     alloc: Global,
     design: &Design,
@@ -232,10 +234,9 @@ fn connect<T: Terms>(
     requires design { design.now ≡ T.design }
     requires clustering { clustering.now ≡ T.clustering }
 {
-    let ends = link_collector(alloc, design, workers)?;
     link_all(alloc, design, clustering, workers)?;
-    note_readers(alloc, clustering, workers)?;
-    Ok(ends)
+    note_nets(alloc, clustering, workers)?;
+    link_collector(alloc, design, workers)
 }
 
 // A new board that can be shared, and its seats.

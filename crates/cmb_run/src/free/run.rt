@@ -133,8 +133,8 @@ fn run_named<T: Terms + Send + Sync, G: Turnstile + Sync, R: Threads + Wait + Sy
     ensures complete { IfOk result (λ collector. IsComplete collector) }
     ensures fault { IfErr result (IsStopped design.now) }
 {
-    let crew = Crew::<T>::open(alloc, design, clustering, workers)?;
     let backlog = Backlog::open(alloc, design)?;
+    let crew = Crew::<T>::open(alloc, design, clustering, workers)?;
     let (backlog, refused) = run_crew(rt, alloc, crew, backlog, gate);
     settled(refused, backlog.into_collector())
 }

@@ -49,20 +49,14 @@ impl<'a, T: Terms> Teller<'a, T> {
         })
     }
 
-    /// How many bytes of the text were handed to the sink.
-    pub fn given(&self) -> u64
-        ensures { result ≡ length (told T.design self.now) }
-    {
-        self.given
-    }
-
-    /// Writes what is new of the text, now that so much is collected, and lets what is written be forgotten. After an
-    /// Err the teller isn't to be used again.
-    pub fn tell<S: Sink>(&mut self, backlog: &mut Backlog<T>, sink: &mut S) -> Result<(), RunFault>
+    /// Writes what is new of the text, now that so much is collected, and lets what is written be forgotten. Gives how
+    /// many bytes of the text the sink took so far. After an Err the teller isn't to be used again.
+    pub fn tell<S: Sink>(&mut self, backlog: &mut Backlog<T>, sink: &mut S) -> Result<u64, RunFault>
         requires room { S.failures sink.old < 2 ^ 64 - 1 }
         requires same { self.old ≡ backlog.old.written }
         ensures ok { (start : Option (List ℕ)) → Appends start (S.taken sink.old) (told T.design self.old)
             → OnOk result (Appends start (S.taken sink.new) (told T.design self.new)) }
+        ensures count { IfOk result (λ given. given ≡ length (told T.design self.new)) }
         ensures upto { OnOk result (IsToldTo T.design self.new (least backlog.new.collector)) }
         ensures same { OnOk result (self.new ≡ backlog.new.written) }
         ensures no_failure { OnOk result (S.failures sink.new ≡ S.failures sink.old) }
@@ -72,7 +66,7 @@ impl<'a, T: Terms> Teller<'a, T> {
         let given = self.given;
         let least = backlog.collector().least();
         match backlog.written() {
-            Some(written) if least <= written => return Ok(()),
+            Some(written) if least <= written => return Ok(given),
             _ => {}
         }
         let part = self.writer.extend(backlog.collector())?;
@@ -80,7 +74,7 @@ impl<'a, T: Terms> Teller<'a, T> {
         match write_whole(sink, &part) {
             Ok(()) => {
                 backlog.wrote(least);
-                Ok(())
+                Ok(self.given)
             }
             Err(count) => Err(RunFault::Write {
                 written: given + count as u64,

@@ -6,7 +6,7 @@ ghost use Rattle.cmb_design.specs.Exact.{nets_of};
 ghost use Rattle.cmb_vcd.specs.Collector.{IsComplete};
 ghost use Rattle.cmb_vcd.specs.Vcd.{vcd};
 ghost use Rattle.cmb_run.specs.FreeRuns.{IsCutAt};
-ghost use Rattle.cmb_run.specs.Tellers.{decision, IsDecided, IsGiven, IsUnfinished, IsWithin, told};
+ghost use Rattle.cmb_run.specs.Tellers.{decision, IsDecided, IsGiven, IsUnfinished};
 
 use crate::free::backlog::Backlog;
 use crate::free::collect::take_round;
@@ -19,7 +19,6 @@ use crate::run_fault::RunFault;
 use crate::terms::Terms;
 use cmb_core::Clustering;
 use cmb_design::Design;
-use cmb_idle::Idle;
 use cmb_links::Workers;
 use cmb_vcd::{Collector, Sink};
 use std::alloc::Global;
@@ -31,49 +30,8 @@ use std::thread::{Scope, Threads};
 // While pieces come in every round, the text is written once in so many rounds.
 const ROUNDS: u32 = 64;
 
-// Collects until all workers that were started have finished and the links are empty, and writes the text now and then.
-fn tell_meanwhile<T: Terms, S: Sink, R: Wait>(
-    rt: &R,
-    lookout: &mut Lookout<T>,
-    started: usize,
-    backlog: &mut Backlog<T>,
-    teller: &mut Teller<'_, T>,
-    sink: &mut S,
-) -> Result<(), RunFault>
-    requires room { S.failures sink.old < 2 ^ 64 - 1 }
-    requires begin { teller.old ≡ None }
-    requires unwritten { backlog.old.written ≡ None }
-    ensures within { OnOk result (IsWithin T.design teller.new) }
-    ensures same { OnOk result (teller.new ≡ backlog.new.written) }
-    ensures text { OnOk result (Appends (S.taken sink.old) (S.taken sink.new) (told T.design teller.new)) }
-    ensures no_failure { OnOk result (S.failures sink.new ≡ S.failures sink.old) }
-    ensures fault { IfErr result (IsCutAt T.design (S.taken sink.old) (S.taken sink.new) (S.failures sink.old)
-        (S.failures sink.new)) }
-{
-    let mut fresh = 0;
-    let mut idle = Idle::new();
-    for _ in rt.forever() {
-        let over = lookout.finished() as usize >= started;
-        let found = take_round(rt, lookout, backlog)?;
-        if !found && over {
-            return Ok(());
-        }
-        if found {
-            fresh += 1;
-            idle.end();
-        }
-        if fresh >= ROUNDS || (!found && fresh > 0) {
-            teller.tell(backlog, sink)?;
-            fresh = 0;
-        }
-        if !found {
-            idle.rest(rt);
-        }
-    }
-    unreachable!()
-}
-
-// Collects until the workers' end, and writes the text of all that was collected. Gives the number of bytes.
+// Collects until all workers that were started have finished and the links are empty, and writes the text of all that
+// was collected, part after part. Gives the number of bytes.
 fn tell_all<T: Terms, S: Sink, R: Wait>(
     rt: &R,
     lookout: &mut Lookout<T>,
@@ -91,9 +49,21 @@ fn tell_all<T: Terms, S: Sink, R: Wait>(
     ensures fault { IfErr result (IsCutAt T.design (S.taken sink.old) (S.taken sink.new) (S.failures sink.old)
         (S.failures sink.new)) }
 {
-    tell_meanwhile(rt, lookout, started, backlog, teller, sink)?;
-    teller.tell(backlog, sink)?;
-    Ok(teller.given())
+    let mut fresh = 0;
+    for _ in rt.forever() {
+        let over = lookout.finished() as usize >= started;
+        let found = take_round(rt, lookout, backlog)?;
+        if over && !found {
+            break;
+        }
+        fresh += u32::from(found);
+        if fresh >= ROUNDS || (!found && fresh > 0) {
+            teller.tell(backlog, sink)?;
+            fresh = 0;
+        }
+        lookout.rest_unless(rt, found);
+    }
+    teller.tell(backlog, sink)
 }
 
 // Why a text isn't whole: a failed write comes before all else, and want of memory before the rest.
@@ -114,29 +84,6 @@ fn take_back<T>(back: &mut T)
     ensures { back.new ≡ back.old }
 {}
 
-// Tells all of a newly begun text, as `tell_all` does.
-fn tell_new<T: Terms, S: Sink, R: Wait>(
-    rt: &R,
-    alloc: Global,
-    design: &Design,
-    lookout: &mut Lookout<T>,
-    started: usize,
-    backlog: &mut Backlog<T>,
-    sink: &mut S,
-) -> Result<u64, RunFault>
-    requires room { S.failures sink.old < 2 ^ 64 - 1 }
-    requires design { design.now ≡ T.design }
-    requires unwritten { backlog.old.written ≡ None }
-    ensures given { IfOk result (λ given.
-        IsGiven T.design (S.taken sink.old) (S.taken sink.new) (S.failures sink.old) (S.failures sink.new)
-        backlog.new given) }
-    ensures fault { IfErr result (IsCutAt T.design (S.taken sink.old) (S.taken sink.new) (S.failures sink.old)
-        (S.failures sink.new)) }
-{
-    let mut teller = Teller::<T>::open(alloc, design)?;
-    tell_all(rt, lookout, started, backlog, &mut teller, sink)
-}
-
 // Runs each worker in a thread of the scope, and tells in this one. Gives the number of bytes.
 fn tell_in<
     's,
@@ -149,14 +96,14 @@ fn tell_in<
     rt: &'s R,
     alloc: Global,
     scope: &Scope<'s, E>,
-    design: &Design,
     crew: Crew<T>,
     gate: &'s G,
     backlog: &mut Backlog<T>,
+    teller: &mut Teller<'_, T>,
     sink: &mut S,
 ) -> Result<u64, RunFault>
     requires room { S.failures sink.old < 2 ^ 64 - 1 }
-    requires design { design.now ≡ T.design }
+    requires begin { teller.old ≡ None }
     requires unwritten { backlog.old.written ≡ None }
     ensures given { IfOk result (λ given.
         IsGiven T.design (S.taken sink.old) (S.taken sink.new) (S.failures sink.old) (S.failures sink.new)
@@ -169,15 +116,7 @@ fn tell_in<
         mut lookout,
     } = crew;
     let started = start(rt, alloc, scope, workers, gate, &mut lookout);
-    let given = tell_new(
-        rt,
-        alloc,
-        design,
-        &mut lookout,
-        started.count(),
-        backlog,
-        sink,
-    );
+    let given = tell_all(rt, &mut lookout, started.count(), backlog, teller, sink);
     if given.is_err() {
         lookout.raise();
     }
@@ -189,14 +128,14 @@ fn tell_in<
 fn tell_crew<T: Terms + Send + Sync, G: Turnstile + Sync, S: Sink, R: Threads + Wait + Sync>(
     rt: &R,
     alloc: Global,
-    design: &Design,
     crew: Crew<T>,
     mut backlog: Backlog<T>,
+    mut teller: Teller<'_, T>,
     gate: &G,
     sink: &mut S,
 ) -> (Backlog<T>, Result<u64, RunFault>)
     requires room { S.failures sink.old < 2 ^ 64 - 1 }
-    requires design { design.now ≡ T.design }
+    requires begin { teller ≡ None }
     requires unwritten { backlog.written ≡ None }
     ensures given { IfOk result.1 (λ given.
         IsGiven T.design (S.taken sink.old) (S.taken sink.new) (S.failures sink.old) (S.failures sink.new)
@@ -209,7 +148,7 @@ fn tell_crew<T: Terms + Send + Sync, G: Turnstile + Sync, S: Sink, R: Threads + 
         rt,
         move |scope| -> (&mut S, Backlog<T>, Result<u64, RunFault>)
             requires room { S.failures sink.now < 2 ^ 64 - 1 }
-            requires design { design.now ≡ T.design }
+            requires begin { teller ≡ None }
             requires unwritten { backlog.written ≡ None }
             ensures name { result.0.ghost_name ≡ sink.entry.ghost_name }
             ensures given { IfOk result.2 (λ given.
@@ -218,7 +157,16 @@ fn tell_crew<T: Terms + Send + Sync, G: Turnstile + Sync, S: Sink, R: Threads + 
             ensures fault { IfErr result.2 (IsCutAt T.design (S.taken sink.entry.now) (S.taken result.0.now)
                 (S.failures sink.entry.now) (S.failures result.0.now)) }
         {
-            let given = tell_in(rt, alloc, scope, design, crew, gate, &mut backlog, sink);
+            let given = tell_in(
+                rt,
+                alloc,
+                scope,
+                crew,
+                gate,
+                &mut backlog,
+                &mut teller,
+                sink,
+            );
             (sink, backlog, given)
         },
     );
@@ -258,9 +206,10 @@ fn run_named<T: Terms + Send + Sync, G: Turnstile + Sync, S: Sink, R: Threads + 
     ensures fault { IfErr result (IsCutAt design.now (S.taken sink.old) (S.taken sink.new) (S.failures sink.old)
         (S.failures sink.new)) }
 {
-    let crew = Crew::<T>::open(alloc, design, clustering, workers)?;
     let backlog = Backlog::<T>::open(alloc, design)?;
-    let (backlog, given) = tell_crew(rt, alloc, design, crew, backlog, gate, sink);
+    let teller = Teller::<T>::open(alloc, design)?;
+    let crew = Crew::<T>::open(alloc, design, clustering, workers)?;
+    let (backlog, given) = tell_crew(rt, alloc, crew, backlog, teller, gate, sink);
     whole(given, backlog.into_collector())
 }
 

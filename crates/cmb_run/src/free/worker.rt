@@ -131,18 +131,6 @@ struct Inlet {
     known: u32,
 }
 
-// Inlets of these nets, of which nothing is known.
-fn inlets_of(alloc: Global, nets: &[u32]) -> Result<Vec<Inlet>, AllocError> {
-    let mut inlets = Vec::with_capacity(alloc, nets.len())?;
-    for net in nets {
-        inlets.push(Inlet {
-            net: *net,
-            known: 0,
-        })?;
-    }
-    Ok(inlets)
-}
-
 /// A worker before and between its turns.
 #[derive(Drop)]
 pub struct Worker<T: Terms> {
@@ -153,6 +141,7 @@ pub struct Worker<T: Terms> {
     outs: Vec<Out<T>>,
     /// The nets that others read.
     own: Vec<Own<T>>,
+    idle: Idle,
     /// Whether a step may bring a net on.
     is_new: bool,
     is_complete: bool,
@@ -160,22 +149,18 @@ pub struct Worker<T: Terms> {
 
 impl<T: Terms> Worker<T> {
     /// A worker with its cluster, which isn't linked to the collector and to others yet.
-    pub(crate) fn open(
-        alloc: Global,
-        desk: Desk<T>,
-        cluster: ExactCluster<T>,
-    ) -> Result<Worker<T>, AllocError> {
-        let inlets = inlets_of(alloc, cluster.inputs())?;
-        Ok(Worker {
+    pub(crate) fn new(alloc: Global, desk: Desk<T>, cluster: ExactCluster<T>) -> Worker<T> {
+        Worker {
             desk,
             cluster,
-            inlets,
+            inlets: Vec::new(alloc),
             ins: Vec::new(alloc),
             outs: Vec::new(alloc),
             own: Vec::new(alloc),
+            idle: Idle::new(),
             is_new: true,
             is_complete: false,
-        })
+        }
     }
 
     /// The nets that the worker is given.
@@ -229,6 +214,17 @@ impl<T: Terms> Worker<T> {
         Ok(())
     }
 
+    /// Notes which nets the worker is given. Nothing is known of them.
+    pub(crate) fn note_inputs(&mut self) -> Result<(), AllocError> {
+        for net in self.cluster.inputs() {
+            self.inlets.push(Inlet {
+                net: *net,
+                known: 0,
+            })?;
+        }
+        Ok(())
+    }
+
     /// Notes which of the worker's nets others read, by a table with a place for each net.
     pub(crate) fn note_read(
         &mut self,
@@ -248,7 +244,7 @@ impl<T: Terms> Worker<T> {
     }
 
     /// Works until all workers have finished or the stop word is raised. Says whether memory was refused to it.
-    pub(crate) fn run<G: Turnstile, R: Wait>(mut self, rt: &R, gate: &G) -> bool {
+    pub(crate) fn run<G: Turnstile, R: Wait>(&mut self, rt: &R, gate: &G) -> bool {
         let is_refused = self.turns(rt, gate).is_err();
         if is_refused {
             self.desk.raise();
@@ -260,25 +256,20 @@ impl<T: Terms> Worker<T> {
     // One turn after the other, up to the end of the run.
     fn turns<G: Turnstile, R: Wait>(&mut self, rt: &R, gate: &G) -> Result<(), AllocError> {
         let mut turn = 0u32;
-        let mut idle = Idle::new();
         for _ in rt.forever() {
             if !gate.pass(self.desk.number(), turn) {
                 self.desk.raise();
             }
-            if self.desk.raised() {
-                return Ok(());
-            }
-            self.turn(rt, &mut idle)?;
-            if self.desk.all_finished() {
-                return Ok(());
+            if self.desk.raised() || self.turn(rt)? {
+                break;
             }
             turn = turn.saturating_add(1);
         }
-        unreachable!()
+        Ok(())
     }
 
-    // What a worker does in a turn.
-    fn turn<R: Wait>(&mut self, rt: &R, idle: &mut Idle) -> Result<(), AllocError> {
+    // What a worker does in a turn. Says whether all workers have finished.
+    fn turn<R: Wait>(&mut self, rt: &R) -> Result<bool, AllocError> {
         self.take_all(rt)?;
         self.look_all();
         let stepped = self.is_new;
@@ -293,11 +284,11 @@ impl<T: Terms> Worker<T> {
             self.desk.finish();
         }
         if stepped {
-            idle.end();
+            self.idle.end();
         } else {
-            idle.rest(rt);
+            self.idle.rest(rt);
         }
-        Ok(())
+        Ok(self.desk.all_finished())
     }
 
     // Takes what the links hold, and gives it to the cluster.

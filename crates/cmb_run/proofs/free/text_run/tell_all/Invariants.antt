@@ -1,7 +1,7 @@
 use Rattle.std.proofs.Common.{◌≡◌, ◌<◌}
 use Rattle.std.specs.Io.KnownBytes.{Appends}
 use Rattle.cmb_run.specs.Tellers.{IsWithin, told}
-use Rattle.cmb_run.proofs.free.text_run.tell_meanwhile.Given as goal
+use Rattle.cmb_run.proofs.free.text_run.tell_all.Given as goal
 
 -- the sink took what the teller gave
 abbrev pub invariant-loop : goal.invariant-loop

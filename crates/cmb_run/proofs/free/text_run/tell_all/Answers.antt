@@ -1,6 +1,6 @@
 use Rattle.std.proofs.lemmas.Result.{err_from_is_err_and}
 use Rattle.cmb_run.proofs.TellerFacts.{HasBegun-told}
-use Rattle.cmb_run.proofs.free.text_run.tell_meanwhile.Goals as goal
+use Rattle.cmb_run.proofs.free.text_run.tell_all.Goals as goal
 
 pub returns-in_err-found-clause-fault : goal.returns-in_err-found-clause-fault
 returns-in_err-found-clause-fault g c =

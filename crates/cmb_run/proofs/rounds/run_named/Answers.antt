@@ -2,7 +2,7 @@ use Rattle.std.proofs.Common.{◌≤◌, ◌<◌, ℕ, sym, subst}
 use Rattle.cmb_design.specs.Exact.{nets_of}
 use Rattle.cmb_vcd.specs.Collector.{Collector, wave_of}
 use Rattle.cmb_run.proofs.RoundFacts.{complete_at}
-use Rattle.cmb_run.proofs.rounds.collect.Goals as goal
+use Rattle.cmb_run.proofs.rounds.run_named.Goals as goal
 
 pub returns-clause-complete : goal.returns-clause-complete
 returns-clause-complete g c =
