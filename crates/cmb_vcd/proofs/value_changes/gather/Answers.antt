@@ -1,4 +1,4 @@
-use Rattle.std.proofs.Common.{◌∙◌, ◌++◌, ◌+◌, [], sym, ap, arith, refl, drop}
+use Rattle.std.proofs.Common.{◌∙◌, ◌++◌, ◌+◌, sym, ap, arith, refl, drop}
 use Rattle.cmb_vcd.specs.ValueChanges.{value_changes_of, value_changes_in}
 use Rattle.cmb_vcd.proofs.ValueChangeFacts.{part_at, value_changes_in-next}
 use Rattle.cmb_design.proofs.LevelFacts.{push-rest}
