@@ -34,14 +34,15 @@ const ROUNDS: u32 = 64;
 // was collected, part after part. Gives the number of bytes.
 fn tell_all<T: Terms, S: Sink, R: Wait>(
     rt: &R,
+    alloc: Global,
+    design: &Design,
     lookout: &mut Lookout<T>,
     started: usize,
     backlog: &mut Backlog<T>,
-    teller: &mut Teller<'_, T>,
     sink: &mut S,
 ) -> Result<u64, RunFault>
     requires room { S.failures sink.old < 2 ^ 64 - 1 }
-    requires begin { teller.old ≡ None }
+    requires design { design.now ≡ T.design }
     requires unwritten { backlog.old.written ≡ None }
     ensures given { IfOk result (λ given.
         IsGiven T.design (S.taken sink.old) (S.taken sink.new) (S.failures sink.old) (S.failures sink.new)
@@ -49,6 +50,7 @@ fn tell_all<T: Terms, S: Sink, R: Wait>(
     ensures fault { IfErr result (IsCutAt T.design (S.taken sink.old) (S.taken sink.new) (S.failures sink.old)
         (S.failures sink.new)) }
 {
+    let mut teller = Teller::<T>::open(alloc, design)?;
     let mut fresh = 0;
     for _ in rt.forever() {
         let over = lookout.finished() as usize >= started;
@@ -96,14 +98,14 @@ fn tell_in<
     rt: &'s R,
     alloc: Global,
     scope: &Scope<'s, E>,
+    design: &Design,
     crew: Crew<T>,
     gate: &'s G,
     backlog: &mut Backlog<T>,
-    teller: &mut Teller<'_, T>,
     sink: &mut S,
 ) -> Result<u64, RunFault>
     requires room { S.failures sink.old < 2 ^ 64 - 1 }
-    requires begin { teller.old ≡ None }
+    requires design { design.now ≡ T.design }
     requires unwritten { backlog.old.written ≡ None }
     ensures given { IfOk result (λ given.
         IsGiven T.design (S.taken sink.old) (S.taken sink.new) (S.failures sink.old) (S.failures sink.new)
@@ -116,7 +118,15 @@ fn tell_in<
         mut lookout,
     } = crew;
     let started = start(rt, alloc, scope, workers, gate, &mut lookout);
-    let given = tell_all(rt, &mut lookout, started.count(), backlog, teller, sink);
+    let given = tell_all(
+        rt,
+        alloc,
+        design,
+        &mut lookout,
+        started.count(),
+        backlog,
+        sink,
+    );
     if given.is_err() {
         lookout.raise();
     }
@@ -128,14 +138,14 @@ fn tell_in<
 fn tell_crew<T: Terms + Send + Sync, G: Turnstile + Sync, S: Sink, R: Threads + Wait + Sync>(
     rt: &R,
     alloc: Global,
+    design: &Design,
     crew: Crew<T>,
     mut backlog: Backlog<T>,
-    mut teller: Teller<'_, T>,
     gate: &G,
     sink: &mut S,
 ) -> (Backlog<T>, Result<u64, RunFault>)
     requires room { S.failures sink.old < 2 ^ 64 - 1 }
-    requires begin { teller ≡ None }
+    requires design { design.now ≡ T.design }
     requires unwritten { backlog.written ≡ None }
     ensures given { IfOk result.1 (λ given.
         IsGiven T.design (S.taken sink.old) (S.taken sink.new) (S.failures sink.old) (S.failures sink.new)
@@ -148,7 +158,7 @@ fn tell_crew<T: Terms + Send + Sync, G: Turnstile + Sync, S: Sink, R: Threads + 
         rt,
         move |scope| -> (&mut S, Backlog<T>, Result<u64, RunFault>)
             requires room { S.failures sink.now < 2 ^ 64 - 1 }
-            requires begin { teller ≡ None }
+            requires design { design.now ≡ T.design }
             requires unwritten { backlog.written ≡ None }
             ensures name { result.0.ghost_name ≡ sink.entry.ghost_name }
             ensures given { IfOk result.2 (λ given.
@@ -157,16 +167,7 @@ fn tell_crew<T: Terms + Send + Sync, G: Turnstile + Sync, S: Sink, R: Threads + 
             ensures fault { IfErr result.2 (IsCutAt T.design (S.taken sink.entry.now) (S.taken result.0.now)
                 (S.failures sink.entry.now) (S.failures result.0.now)) }
         {
-            let given = tell_in(
-                rt,
-                alloc,
-                scope,
-                crew,
-                gate,
-                &mut backlog,
-                &mut teller,
-                sink,
-            );
+            let given = tell_in(rt, alloc, scope, design, crew, gate, &mut backlog, sink);
             (sink, backlog, given)
         },
     );
@@ -207,9 +208,8 @@ fn run_named<T: Terms + Send + Sync, G: Turnstile + Sync, S: Sink, R: Threads + 
         (S.failures sink.new)) }
 {
     let backlog = Backlog::<T>::open(alloc, design)?;
-    let teller = Teller::<T>::open(alloc, design)?;
     let crew = Crew::<T>::open(alloc, design, clustering, workers)?;
-    let (backlog, given) = tell_crew(rt, alloc, crew, backlog, teller, gate, sink);
+    let (backlog, given) = tell_crew(rt, alloc, design, crew, backlog, gate, sink);
     whole(given, backlog.into_collector())
 }
 

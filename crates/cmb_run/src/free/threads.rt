@@ -47,7 +47,7 @@ impl Started {
 fn spawned<'s, E, T: Terms + Send + Sync + 's, G: Turnstile + Sync, R: Threads + Wait + Sync>(
     rt: &'s R,
     scope: &Scope<'s, E>,
-    mut worker: Worker<T>,
+    worker: Worker<T>,
     gate: &'s G,
 ) -> Option<JoinHandle<bool>> {
     scope.spawn(move || worker.run(rt, gate)).ok()

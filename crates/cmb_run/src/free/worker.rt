@@ -244,7 +244,7 @@ impl<T: Terms> Worker<T> {
     }
 
     /// Works until all workers have finished or the stop word is raised. Says whether memory was refused to it.
-    pub(crate) fn run<G: Turnstile, R: Wait>(&mut self, rt: &R, gate: &G) -> bool {
+    pub(crate) fn run<G: Turnstile, R: Wait>(mut self, rt: &R, gate: &G) -> bool {
         let is_refused = self.turns(rt, gate).is_err();
         if is_refused {
             self.desk.raise();

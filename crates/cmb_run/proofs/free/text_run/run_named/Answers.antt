@@ -6,11 +6,6 @@ use Rattle.cmb_vcd.proofs.BeginFacts.{HasBegun-none}
 use Rattle.cmb_run.proofs.TextRuns.{IsCutAt-whole, no_failure-whole, text-whole}
 use Rattle.cmb_run.proofs.free.text_run.run_named.Goals as goal
 
-pub returns-in_err-teller-clause-fault : goal.returns-in_err-teller-clause-fault
-returns-in_err-teller-clause-fault g c =
-    let p = err_from_is_err_and c.from_residual-in_err-teller.result c.from_residual-in_err-teller.ensures.1 in
-    rw (p.1, p.2) (HasBegun-none c.args.design.now (g.S.Sink.taken c.args.sink.now), refl)
-
 pub returns-in_err-crew-clause-fault : goal.returns-in_err-crew-clause-fault
 returns-in_err-crew-clause-fault g c =
     let p = err_from_is_err_and c.from_residual-in_err-crew.result c.from_residual-in_err-crew.ensures.1 in
