@@ -13,13 +13,13 @@ use Rattle.cmb_restrict.specs.Restriction.{is_among}
 use Rattle.cmb_vcd.proofs.ChosenFacts.{vcd_of-all}
 use Rattle.cmb_vcd.specs.Chosen.{vcd_of}
 use Rattle.cmb_vcd.specs.Vcd.{vcd}
+use Rattle.cmb_line.specs.declared.choice.Choice.TheVariants.{Only}
+use Rattle.cmb_line.specs.declared.choice.Pick.{Pick}
+use Rattle.cmb_line.specs.declared.choice.Pick.TheVariants.{Listed, Outputs}
+use Rattle.cmb_line.specs.declared.mode.Mode.{Mode}
 use Rattle.cmb_sim.proofs.Outcomes.{SpellDesign-of}
 use Rattle.cmb_sim.specs.Choosing.{AreChosen, Choose, IsChosenOutcome}
 use Rattle.cmb_sim.specs.Simulation.{Input, Inputs, IsOutcome, Output, report_of}
-use Rattle.cmb_sim.specs.declared.choice.Choice.TheVariants.{Only}
-use Rattle.cmb_sim.specs.declared.choice.Pick.{Pick}
-use Rattle.cmb_sim.specs.declared.choice.Pick.TheVariants.{Listed, Outputs}
-use Rattle.cmb_sim.specs.declared.mode.Mode.{Mode}
 use Rattle.cmb_sim.specs.declared.simulation.Report.{Report}
 
 filter_all : (p : ℕ → Bool) (xs : List ℕ) → All (λ x. p x ≡ true) xs → filter p xs ≡ xs

@@ -1,5 +1,5 @@
 -- The answers of the stages of a simulation of chosen nets as those of the whole.
-use Rattle.std.proofs.Common.{◌≡◌, ℕ, Bool, true, false, nat_lt, inl, inr, List, Option, None, Some, Result, Ok, Err, IfOk, IfErr, OnOk, refl, subst, arith}
+use Rattle.std.proofs.Common.{◌≡◌, ℕ, true, false, nat_lt, inl, inr, List, Option, None, Some, Result, Ok, Err, IfOk, IfErr, OnOk, refl}
 use Rattle.std.specs.Io.KnownBytes.{Appends}
 use Rattle.std.proofs.KnownBytes.{Keeps-refl}
 use Rattle.cmb_design.specs.Checks.{first_fault}
@@ -8,17 +8,18 @@ use Rattle.cmb_design.specs.Plain.{cells_of}
 use Rattle.cmb_design.specs.declared.fault.DesignFault.TheVariants.{TableTooLarge}
 use Rattle.cmb_design.specs.declared.settings.Settings.{Settings}
 use Rattle.cmb_vcd.specs.Chosen.{vcd_of}
+use Rattle.cmb_line.specs.declared.choice.Choice.TheVariants.{Only}
+use Rattle.cmb_line.specs.declared.choice.Pick.{Pick}
+use Rattle.cmb_line.specs.declared.choice.Pick.TheVariants.{Listed}
+use Rattle.cmb_line.specs.declared.mode.Mode.{Mode}
+use Rattle.cmb_line.specs.declared.mode.Mode.TheVariants.{Plain}
 use Rattle.cmb_sim.proofs.Outcomes.{NoneFailedBut-any, NoneFailedBut-same}
-use Rattle.cmb_sim.specs.Choosing.{AreAllTexts, AreChosen, Choose, IsChosenAnswer, IsChosenOutcome, IsListText, chosen_report}
+use Rattle.cmb_sim.proofs.RoundRuns.{no_checks}
+use Rattle.cmb_sim.specs.Choosing.{AreAllTexts, AreChosen, Choose, IsChosenAnswer, IsChosenAnswerOf, IsChosenOutcome, IsListText, chosen_report}
 use Rattle.cmb_sim.specs.Simulation.{AreTexts, HasNotFailed, Input, Inputs, IsUntouched, NoneFailedBut, Output, Texts, failed_input, mode_checks, output}
 use Rattle.cmb_sim.specs.Stages.{CanRun, HaveTextFault, IsUnchosen, IsUnread, IsUnrun, IsUnshown, LacksTexts, SpellAny}
-use Rattle.cmb_sim.specs.declared.choice.Choice.TheVariants.{Only}
-use Rattle.cmb_sim.specs.declared.choice.Pick.{Pick}
-use Rattle.cmb_sim.specs.declared.choice.Pick.TheVariants.{Listed}
 use Rattle.cmb_sim.specs.declared.fault.Fault.{Fault}
 use Rattle.cmb_sim.specs.declared.fault.Fault.TheVariants as fault
-use Rattle.cmb_sim.specs.declared.mode.Mode.{Mode}
-use Rattle.cmb_sim.specs.declared.mode.Mode.TheVariants.{Plain}
 use Rattle.cmb_sim.specs.declared.simulation.Report.{Report}
 use Rattle.cmb_sim.specs.declared.texts.InputTexts.{InputTexts}
 
@@ -33,6 +34,9 @@ plain_fits design e = rw e refl
 pub plain_too_large : (design : Design) → nat_lt 16777216 (cells_of design) ≡ true → first_fault (mode_checks Plain design) ≡ Some TableTooLarge
 unfolding first_fault
 plain_too_large design e = rw e refl
+
+-- why a mode's checks refuse a design, or don't
+pub ruleset mode_facts = (plain_fits, plain_too_large, no_checks)
 
 -- one of the four inputs wasn't read
 unread : (settings : Settings) (mode : Mode) (pick : Pick) (i : Inputs) (list : Input) (old : Option (List ℕ)) (n : ℕ) (f : Fault)
@@ -99,11 +103,9 @@ unspelled settings mode pick i list old n texts names (fault.Unknown k) are h = 
 unspelled settings mode pick i list old n texts names fault.Clusters are h = absurd h
 unspelled settings mode pick i list old n texts names fault.Workers are h = absurd h
 
-pub IsChosenOutcome-unspelled : (settings : Settings) (mode : Mode) (pick : Pick) (i : Inputs) (list : Input) (old : Option (List ℕ)) (n : ℕ) (texts : Texts) (names : List ℕ) (f : Fault)
-    → NoneFailedBut 0 i → HasNotFailed list → AreTexts i texts → IsListText pick list names → HaveTextFault texts settings f
-    → IsChosenOutcome settings mode (Only pick) i list (output old old n n) (Err f)
-IsChosenOutcome-unspelled settings mode pick i list old n texts names f read quiet are listed h =
-    ((NoneFailedBut-any i (failed_input {A = Report} (Err f)) read, λ _. quiet), unspelled settings mode pick i list old n texts names f (record { four = are; fifth = listed }) h)
+pub IsChosenAnswerOf-unspelled : (settings : Settings) (mode : Mode) (pick : Pick) (texts : Texts) (names : List ℕ) (old : Option (List ℕ)) (n : ℕ) (f : Fault)
+    → HaveTextFault texts settings f → IsChosenAnswerOf settings mode pick texts names (output old old n n) (Err f)
+IsChosenAnswerOf-unspelled settings mode pick texts names old n f h = λ i list are. unspelled settings mode pick i list old n texts names f are h
 
 -- no nets are chosen
 unchosen : (settings : Settings) (mode : Mode) (pick : Pick) (i : Inputs) (list : Input) (old : Option (List ℕ)) (n : ℕ) (texts : Texts) (names : List ℕ) (design : Design) (f : Fault)
@@ -119,11 +121,9 @@ unchosen settings mode pick i list old n texts names design (fault.Incomplete k 
 unchosen settings mode pick i list old n texts names design fault.Clusters are spelled h = absurd h
 unchosen settings mode pick i list old n texts names design fault.Workers are spelled h = absurd h
 
-pub IsChosenOutcome-unchosen : (settings : Settings) (mode : Mode) (pick : Pick) (i : Inputs) (list : Input) (old : Option (List ℕ)) (n : ℕ) (texts : Texts) (names : List ℕ) (design : Design) (f : Fault)
-    → NoneFailedBut 0 i → HasNotFailed list → AreTexts i texts → IsListText pick list names → SpellAny texts settings design → IsUnchosen pick design.netlist names f
-    → IsChosenOutcome settings mode (Only pick) i list (output old old n n) (Err f)
-IsChosenOutcome-unchosen settings mode pick i list old n texts names design f read quiet are listed spelled h =
-    ((NoneFailedBut-any i (failed_input {A = Report} (Err f)) read, λ _. quiet), unchosen settings mode pick i list old n texts names design f (record { four = are; fifth = listed }) spelled h)
+pub IsChosenAnswerOf-unchosen : (settings : Settings) (mode : Mode) (pick : Pick) (texts : Texts) (names : List ℕ) (old : Option (List ℕ)) (n : ℕ) (design : Design) (f : Fault)
+    → SpellAny texts settings design → IsUnchosen pick design.netlist names f → IsChosenAnswerOf settings mode pick texts names (output old old n n) (Err f)
+IsChosenAnswerOf-unchosen settings mode pick texts names old n design f spelled h = λ i list are. unchosen settings mode pick i list old n texts names design f are spelled h
 
 -- the text of the chosen nets was written, or it wasn't
 pub IsUnshown-unrun : (mode : Mode) (design : Design) (nets : List ℕ) (old : Option (List ℕ)) (n : ℕ) (f : Fault) → IsUnrun mode design f → IsUnshown mode design nets (output old old n n) f
@@ -152,21 +152,27 @@ unshown settings mode pick i list o design nets (fault.TooLong k) choose h = abs
 unshown settings mode pick i list o design nets (fault.Read k) choose h = absurd h.0
 
 shown : (settings : Settings) (mode : Mode) (pick : Pick) (i : Inputs) (list : Input) (old new : Option (List ℕ)) (before after : ℕ) (design : Design) (nets : List ℕ) (result : Result Report Fault)
-    → NoneFailedBut 0 i → HasNotFailed list → Choose settings pick i list design nets
+    → Choose settings pick i list design nets
     → IfOk result (λ report. report ≡ chosen_report design nets) → OnOk result (Appends old new (vcd_of design nets)) → OnOk result (after ≡ before)
     → OnOk result (CanRun mode design) → IfErr result (IsUnshown mode design nets (output old new before after))
-    → IsChosenOutcome settings mode (Only pick) i list (output old new before after) result
-shown settings mode pick i list old new before after design nets (Ok report) read quiet choose told wrote same fits unwritten =
-    ((read, λ _. quiet), (design, nets, choose, fits, wrote, same, told))
-shown settings mode pick i list old new before after design nets (Err f) read quiet choose told wrote same fits unwritten =
-    ((NoneFailedBut-any i (failed_input {A = Report} (Err f)) read, λ _. quiet), unshown settings mode pick i list (output old new before after) design nets f choose unwritten)
+    → IsChosenAnswer settings mode pick i list (output old new before after) result
+shown settings mode pick i list old new before after design nets (Ok report) choose told wrote same fits unwritten = (design, nets, choose, fits, wrote, same, told)
+shown settings mode pick i list old new before after design nets (Err f) choose told wrote same fits unwritten =
+    unshown settings mode pick i list (output old new before after) design nets f choose unwritten
 
-pub IsChosenOutcome-shown : (settings : Settings) (mode : Mode) (pick : Pick) (i : Inputs) (list : Input) (old new : Option (List ℕ)) (before after : ℕ)
-    (texts : Texts) (names : List ℕ) (design : Design) (nets : List ℕ) (result : Result Report Fault)
-    → NoneFailedBut 0 i → HasNotFailed list → AreTexts i texts → IsListText pick list names → SpellAny texts settings design → AreChosen pick design names nets
+pub IsChosenAnswerOf-shown : (settings : Settings) (mode : Mode) (pick : Pick) (texts : Texts) (names : List ℕ) (old new : Option (List ℕ)) (before after : ℕ)
+    (design : Design) (nets : List ℕ) (result : Result Report Fault)
+    → SpellAny texts settings design → AreChosen pick design names nets
     → IfOk result (λ report. report ≡ chosen_report design nets) → OnOk result (Appends old new (vcd_of design nets)) → OnOk result (after ≡ before)
     → OnOk result (CanRun mode design) → IfErr result (IsUnshown mode design nets (output old new before after))
-    → IsChosenOutcome settings mode (Only pick) i list (output old new before after) result
-IsChosenOutcome-shown settings mode pick i list old new before after texts names design nets result read quiet are listed spelled chosen told wrote same fits unwritten =
-    shown settings mode pick i list old new before after design nets result read quiet
-    (record { texts = texts; names = names; are = record { four = are; fifth = listed }; spelled = spelled; chosen = chosen }) told wrote same fits unwritten
+    → IsChosenAnswerOf settings mode pick texts names (output old new before after) result
+IsChosenAnswerOf-shown settings mode pick texts names old new before after design nets result spelled chosen told wrote same fits unwritten =
+    λ i list are. shown settings mode pick i list old new before after design nets result
+    (record { texts = texts; names = names; are = are; spelled = spelled; chosen = chosen }) told wrote same fits unwritten
+
+-- a simulation that read its texts and its list ends as one of these does
+pub IsChosenOutcome-read : (settings : Settings) (mode : Mode) (pick : Pick) (i : Inputs) (list : Input) (o : Output) (texts : Texts) (names : List ℕ) (result : Result Report Fault)
+    → NoneFailedBut 0 i → HasNotFailed list → AreTexts i texts → IsListText pick list names → IsChosenAnswerOf settings mode pick texts names o result
+    → IsChosenOutcome settings mode (Only pick) i list o result
+IsChosenOutcome-read settings mode pick i list o texts names result read quiet are listed answer =
+    ((NoneFailedBut-any i (failed_input result) read, λ _. quiet), answer i list (record { four = are; fifth = listed }))

@@ -7,11 +7,11 @@ use Rattle.cmb_run.specs.declared.run_fault.RunFault.TheVariants.{Incomplete, Wr
 use Rattle.cmb_stream.specs.Streams.{IsBrokenOff}
 use Rattle.cmb_stream.specs.declared.fault.StreamFault.{StreamFault}
 use Rattle.cmb_stream.specs.declared.fault.StreamFault.TheVariants as stream_fault
+use Rattle.cmb_line.specs.declared.mode.Mode.{Mode}
+use Rattle.cmb_line.specs.declared.mode.Mode.TheVariants.{Free}
 use Rattle.cmb_sim.specs.Numbers.{run_as_fault, stream_as_fault}
 use Rattle.cmb_sim.specs.Simulation.{IsFree, output}
 use Rattle.cmb_sim.specs.Stages.{CanRun, IsUnwritten}
-use Rattle.cmb_sim.specs.declared.mode.Mode.{Mode}
-use Rattle.cmb_sim.specs.declared.mode.Mode.TheVariants.{Free}
 
 pub IsUnwritten-cut : (workers clusters : ℕ) (design : Design) (old new : Option (List ℕ)) (before after : ℕ) (f : RunFault)
     → CanRun (Free workers clusters) design → IsCutAt design old new before after f → IsUnwritten (Free workers clusters) design (output old new before after) (run_as_fault f)

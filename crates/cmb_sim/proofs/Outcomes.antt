@@ -1,6 +1,5 @@
 -- The answers of the stages as those of the whole simulation.
-use Rattle.std.proofs.Common.{◌≡◌, ℕ, ◌⊎◌, inl, inr, List, ◌++◌, Option, None, Some, Result, Ok, Err, IfOk, IfErr, OnOk, refl, sym, subst, ◌∙◌, arith}
-use Rattle.std.specs.Io.KnownBytes.{Appends}
+use Rattle.std.proofs.Common.{◌≡◌, ℕ, ◌⊎◌, inl, inr, List, ◌++◌, Option, None, Some, Result, Ok, Err, refl, sym, subst, ◌∙◌, arith}
 use Rattle.std.proofs.KnownBytes.{Keeps-refl}
 use Rattle.cmb_bench.specs.Netlist.{Netlist}
 use Rattle.cmb_bench.specs.Meaning.{Reads}
@@ -15,14 +14,14 @@ use Rattle.cmb_design.specs.declared.rows.DelayRow.{DelayRow}
 use Rattle.cmb_design.specs.declared.rows.StimulusRow.{StimulusRow}
 use Rattle.cmb_design.specs.declared.rows.ClockRow.{ClockRow}
 use Rattle.cmb_design.specs.declared.settings.Settings.{Settings}
-use Rattle.cmb_vcd.specs.Vcd.{vcd}
+use Rattle.cmb_line.specs.declared.mode.Mode.{Mode}
 use Rattle.cmb_sim.specs.Numbers.{design_as_fault}
 use Rattle.cmb_sim.specs.Simulation.{AreTexts, HaveDesign, Inputs, IsAnswer, IsOutcome, IsUntouched, NoneFailedBut, Output, SpellDesign, Texts, design_in, failed_input, mode_checks, output, report_of, text_checks}
-use Rattle.cmb_sim.specs.Stages.{CanRun, FoundDesign, HaveTextFault, IsUnrun, IsUnwritten, LacksDesign, LacksTexts}
+use Rattle.cmb_sim.specs.Stages.{CanBeInputs, CanRun, FoundDesign, HaveTextFault, IsAnswerOf, IsUnrun, IsUnwritten, IsWriting, LacksDesign, LacksTexts, SpellAny}
 use Rattle.cmb_sim.specs.declared.fault.Fault.{Fault}
 use Rattle.cmb_sim.specs.declared.fault.Fault.TheVariants as fault
-use Rattle.cmb_sim.specs.declared.mode.Mode.{Mode}
 use Rattle.cmb_sim.specs.declared.simulation.Report.{Report}
+use Rattle.cmb_sim.specs.declared.texts.InputTexts.{InputTexts}
 
 -- memory ran out, or this is the fault of the first check that stands
 abbrev pub Stops : List Check → DesignFault → Type 0
@@ -115,18 +114,45 @@ NoneFailedBut-any i n h = record {
 }
 
 pub IsOutcome-unread : (settings : Settings) (mode : Mode) (i : Inputs) (old : Option (List ℕ)) (n : ℕ) (f : Fault)
-    → NoneFailedBut (failed_input {A = Design} (Err f)) i → LacksDesign settings i f → IsOutcome settings mode i (output old old n n) (Err f)
+    → NoneFailedBut (failed_input {A = InputTexts} (Err f)) i → LacksTexts i f → IsOutcome settings mode i (output old old n n) (Err f)
 IsOutcome-unread settings mode i old n (fault.TooLong k) r h = (r, (h, untouched old n))
 IsOutcome-unread settings mode i old n (fault.Read k) r h = (r, (h, untouched old n))
-IsOutcome-unread settings mode i old n (fault.Bench f) r h = (r, (h, untouched old n))
-IsOutcome-unread settings mode i old n (fault.Design f) r h =
-    (r, ((h.0, h.1, (h.2.0, h.2.1, first_fault-some _ _ f h.2.2)), untouched old n))
+IsOutcome-unread settings mode i old n fault.Memory r h = (r, inl (untouched old n))
+IsOutcome-unread settings mode i old n (fault.Bench f) r h = absurd h
+IsOutcome-unread settings mode i old n (fault.Design f) r h = absurd h
 IsOutcome-unread settings mode i old n (fault.Write k) r h = absurd h
 IsOutcome-unread settings mode i old n (fault.Incomplete k t) r h = absurd h
 IsOutcome-unread settings mode i old n (fault.Unknown k) r h = absurd h
 IsOutcome-unread settings mode i old n fault.Clusters r h = absurd h
 IsOutcome-unread settings mode i old n fault.Workers r h = absurd h
-IsOutcome-unread settings mode i old n fault.Memory r h = (r, inl (untouched old n))
+
+-- texts that were read are no longer than inputs may be
+pub CanBeInputs-read : (i : Inputs) (texts : Texts) → AreTexts i texts → CanBeInputs texts
+CanBeInputs-read i texts are = record {
+  bench = are.bench.fits;
+  delays = are.delays.fits;
+  stimuli = are.stimuli.fits;
+  clocks = are.clocks.fits;
+}
+
+-- a simulation that read its texts ends as one of these texts does
+pub IsOutcome-read : (settings : Settings) (mode : Mode) (i : Inputs) (o : Output) (texts : Texts) (result : Result Report Fault)
+    → NoneFailedBut 0 i → AreTexts i texts → IsAnswerOf settings mode texts o result → IsOutcome settings mode i o result
+IsOutcome-read settings mode i o texts result read are answer = (NoneFailedBut-any i (failed_input result) read, answer i are)
+
+-- the texts spell no design
+pub IsAnswerOf-unspelled : (settings : Settings) (mode : Mode) (texts : Texts) (old : Option (List ℕ)) (n : ℕ) (f : Fault)
+    → HaveTextFault texts settings f → IsAnswerOf settings mode texts (output old old n n) (Err f)
+IsAnswerOf-unspelled settings mode texts old n (fault.Bench f) h = λ i are. ((texts, are, h), untouched old n)
+IsAnswerOf-unspelled settings mode texts old n (fault.Design f) h = λ i are. ((texts, are, (h.0, h.1, first_fault-some _ _ f h.2)), untouched old n)
+IsAnswerOf-unspelled settings mode texts old n fault.Memory h = λ i are. inl (untouched old n)
+IsAnswerOf-unspelled settings mode texts old n (fault.TooLong k) h = absurd h
+IsAnswerOf-unspelled settings mode texts old n (fault.Read k) h = absurd h
+IsAnswerOf-unspelled settings mode texts old n (fault.Write k) h = absurd h
+IsAnswerOf-unspelled settings mode texts old n (fault.Incomplete k t) h = absurd h
+IsAnswerOf-unspelled settings mode texts old n (fault.Unknown k) h = absurd h
+IsAnswerOf-unspelled settings mode texts old n fault.Clusters h = absurd h
+IsAnswerOf-unspelled settings mode texts old n fault.Workers h = absurd h
 
 -- the design's checks, then those of the mode, of which one stands
 mode_fault : (texts : Texts) (settings : Settings) (mode : Mode) (netlist : Netlist) (design : Design) (e : DesignFault)
@@ -160,12 +186,6 @@ SpellDesign-of settings mode i design found runs = (
   },
 )
 
-pub IsOutcome-written : (settings : Settings) (mode : Mode) (i : Inputs) (old new : Option (List ℕ)) (before after : ℕ) (design : Design) (report : Report)
-    → NoneFailedBut 0 i → FoundDesign settings i design → CanRun mode design → Appends old new (vcd design) → after ≡ before → report ≡ report_of design
-    → IsOutcome settings mode i (output old new before after) (Ok report)
-IsOutcome-written settings mode i old new before after design report read found fits wrote quiet told =
-    (read, (design, SpellDesign-of settings mode i design found fits, wrote, quiet, told))
-
 -- a fault of the mode comes before anything is written
 pub IsUnwritten-unrun : (mode : Mode) (old : Option (List ℕ)) (n : ℕ) (design : Design) (f : Fault) → IsUnrun mode design f → IsUnwritten mode design (output old old n n) f
 IsUnwritten-unrun mode old n design (fault.Design f) h = (h, untouched old n)
@@ -194,16 +214,10 @@ IsAnswer-unwritten settings mode i o design found (fault.Bench f) h = absurd h.0
 IsAnswer-unwritten settings mode i o design found (fault.TooLong k) h = absurd h.0
 IsAnswer-unwritten settings mode i o design found (fault.Read k) h = absurd h.0
 
-pub IsOutcome-unwritten : (settings : Settings) (mode : Mode) (i : Inputs) (o : Output) (design : Design)
-    → NoneFailedBut 0 i → FoundDesign settings i design → (f : Fault) → IsUnwritten mode design o f → IsOutcome settings mode i o (Err f)
-IsOutcome-unwritten settings mode i o design read found f h =
-    (NoneFailedBut-any i (failed_input {A = Report} (Err f)) read, IsAnswer-unwritten settings mode i o design found f h)
-
 -- a simulation that found its design ends as the writing of its text does
-pub IsOutcome-written_or_not : (settings : Settings) (mode : Mode) (i : Inputs) (old new : Option (List ℕ)) (before after : ℕ) (design : Design) (result : Result Report Fault)
-    → NoneFailedBut 0 i → FoundDesign settings i design → IfOk result (λ report. report ≡ report_of design) → OnOk result (Appends old new (vcd design)) → OnOk result (after ≡ before)
-    → OnOk result (CanRun mode design) → IfErr result (IsUnwritten mode design (output old new before after)) → IsOutcome settings mode i (output old new before after) result
-IsOutcome-written_or_not settings mode i old new before after design (Ok report) read found told wrote quiet fits unwritten =
-    IsOutcome-written settings mode i old new before after design report read found fits wrote quiet told
-IsOutcome-written_or_not settings mode i old new before after design (Err f) read found told wrote quiet fits unwritten =
-    IsOutcome-unwritten settings mode i (output old new before after) design read found f unwritten
+pub IsAnswerOf-written : (settings : Settings) (mode : Mode) (texts : Texts) (o : Output) (design : Design) (result : Result Report Fault)
+    → SpellAny texts settings design → IsWriting (report_of design) mode design o result → IsAnswerOf settings mode texts o result
+IsAnswerOf-written settings mode texts o design (Ok report) spelled h =
+    λ i are. (design, SpellDesign-of settings mode i design (texts, are, spelled) h.fits, h.text, h.no_failure, h.told_so)
+IsAnswerOf-written settings mode texts o design (Err f) spelled h =
+    λ i are. IsAnswer-unwritten settings mode i o design (texts, are, spelled) f h.fault

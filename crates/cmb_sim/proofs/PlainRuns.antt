@@ -11,10 +11,10 @@ use Rattle.cmb_design.specs.Checks.{first_fault}
 use Rattle.cmb_design.specs.declared.fault.DesignFault.{DesignFault}
 use Rattle.cmb_design.specs.declared.fault.DesignFault.TheVariants.{Memory, TableTooLarge}
 use Rattle.cmb_design.specs.Plain.{cells_of, whole_wave, whole_waves}
+use Rattle.cmb_line.specs.declared.mode.Mode.TheVariants.{Plain}
 use Rattle.cmb_sim.specs.Numbers.{design_as_fault}
 use Rattle.cmb_sim.specs.Simulation.{mode_checks}
 use Rattle.cmb_sim.specs.Stages.{IsUnrun}
-use Rattle.cmb_sim.specs.declared.mode.Mode.TheVariants.{Plain}
 use Rattle.cmb_vcd.specs.Collector.{AreCollected, Collector, IsComplete, IsExactFor, IsFor, least_clock, wave_of}
 
 -- a net's wave stands in its place

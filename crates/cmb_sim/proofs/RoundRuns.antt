@@ -10,11 +10,12 @@ use Rattle.cmb_core.specs.declared.clustering.ClusteringFault.{ClusteringFault}
 use Rattle.cmb_core.specs.declared.clustering.ClusteringFault.TheVariants.{Clusters}
 use Rattle.cmb_design.specs.Checks.{first_fault}
 use Rattle.cmb_design.specs.Design.{Design}
-use Rattle.cmb_sim.specs.Simulation.{IsLawfulCount, clusters_of, mode_checks, workers_of}
+use Rattle.cmb_line.specs.Modes.{IsLawfulCount, clusters_of, workers_of}
+use Rattle.cmb_line.specs.declared.mode.Mode.{Mode}
+use Rattle.cmb_sim.specs.Simulation.{mode_checks}
 use Rattle.cmb_sim.specs.Stages.{IsClustersFault, IsUnrun}
 use Rattle.cmb_sim.specs.declared.fault.Fault.{Fault}
 use Rattle.cmb_sim.specs.declared.fault.Fault.TheVariants as fault
-use Rattle.cmb_sim.specs.declared.mode.Mode.{Mode}
 
 pub spread-stands : (nets many : ℕ) (k : Clustering) → spread_clustering nets many ≡ Ok k → (length k.assign ≡ nets) × (1 ≤ many) × (many ≤ 64)
 spread-stands nets many k e = by (nat_lt many 1 || nat_lt 64 many) refl

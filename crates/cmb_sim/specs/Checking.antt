@@ -3,8 +3,12 @@ use Rattle.cmb_count.specs.Counting.{AreCounts}
 use Rattle.cmb_count.specs.declared.counts.Counts.{Counts}
 use Rattle.cmb_design.specs.Design.{Design}
 use Rattle.cmb_design.specs.declared.settings.Settings.{Settings}
-use Rattle.cmb_sim.specs.Simulation.{Inputs}
-use Rattle.cmb_sim.specs.Stages.{FoundDesign}
+use Rattle.cmb_sim.specs.Simulation.{Inputs, Texts}
+use Rattle.cmb_sim.specs.Stages.{FoundDesign, SpellAny}
+
+-- the counts are those of the design that the texts spell
+abbrev pub IsCountOf : Settings → Texts → Counts → Type 0
+IsCountOf settings texts counts = (design : Design) × SpellAny texts settings design × AreCounts design counts
 
 -- the counts are those of the design that the inputs spell
 abbrev pub IsChecked : Settings → Inputs → Counts → Type 0

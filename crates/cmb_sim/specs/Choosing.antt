@@ -1,5 +1,5 @@
 -- What a simulation answers where nets are chosen, and what it writes.
-use Rattle.std.specs.Prelude.{◌≡◌, ℕ, ◌+◌, ◌<◌, ◌⊎◌, List, [], length, take, Result, Ok, Err, ⊤}
+use Rattle.std.specs.Prelude.{◌≡◌, ℕ, ◌+◌, ◌<◌, ◌⊎◌, List, [], length, take, Result, Ok, Err}
 use Rattle.std.specs.Io.KnownBytes.{Appends}
 use Rattle.cmb_bench.specs.Listed.{HasUnknown, Lists}
 use Rattle.cmb_design.specs.Design.{Design}
@@ -7,16 +7,16 @@ use Rattle.cmb_design.specs.Exact.{nets_of}
 use Rattle.cmb_design.specs.declared.settings.Settings.{Settings}
 use Rattle.cmb_restrict.specs.Chosen.{each_once}
 use Rattle.cmb_vcd.specs.Chosen.{vcd_of}
+use Rattle.cmb_line.specs.declared.choice.Choice.{Choice}
+use Rattle.cmb_line.specs.declared.choice.Choice.TheVariants.{All, Only}
+use Rattle.cmb_line.specs.declared.choice.Pick.{Pick}
+use Rattle.cmb_line.specs.declared.choice.Pick.TheVariants.{Listed, Outputs}
+use Rattle.cmb_line.specs.declared.mode.Mode.{Mode}
 use Rattle.cmb_sim.specs.Simulation.{AreTexts, HasFailed, HasNotFailed, HasTooMany, Input, Inputs, IsOutcome, IsUntouched, NoneFailedBut, Output, StopsAt, Texts, failed_input}
 use Rattle.cmb_sim.specs.Sources.{IsWhole}
 use Rattle.cmb_sim.specs.Stages.{CanRun, HaveTextFault, IsUnrun, SpellAny}
-use Rattle.cmb_sim.specs.declared.choice.Choice.{Choice}
-use Rattle.cmb_sim.specs.declared.choice.Choice.TheVariants.{All, Only}
-use Rattle.cmb_sim.specs.declared.choice.Pick.{Pick}
-use Rattle.cmb_sim.specs.declared.choice.Pick.TheVariants.{Listed, Outputs}
 use Rattle.cmb_sim.specs.declared.fault.Fault.{Fault}
 use Rattle.cmb_sim.specs.declared.fault.Fault.TheVariants as fault
-use Rattle.cmb_sim.specs.declared.mode.Mode.{Mode}
 use Rattle.cmb_sim.specs.declared.simulation.Report.{Report}
 
 -- the nets that are chosen of a design, each once and by rising number: those that a list names, or the outputs
@@ -81,6 +81,11 @@ IsChosenAnswer settings mode pick i list o (Err fault.Clusters) = HaveFaultOfMod
 IsChosenAnswer settings mode pick i list o (Err fault.Workers) = HaveFaultOfMode settings mode pick i list fault.Workers × IsUntouched o
 IsChosenAnswer settings mode pick i list o (Err fault.Memory) = IsUntouched o
 IsChosenAnswer settings mode pick i list o (Err (fault.Incomplete net upto)) = ⊥
+
+-- what a simulation of texts answers, whichever inputs have them
+abbrev pub IsChosenAnswerOf : Settings → Mode → Pick → Texts → List ℕ → Output → Result Report Fault → Type 0
+IsChosenAnswerOf settings mode pick texts names o answer =
+    (i : Inputs) (list : Input) → AreAllTexts pick i list texts names → IsChosenAnswer settings mode pick i list o answer
 
 -- no read failed, but of the input with this number, the list being input 5
 abbrev pub NoneOfFiveFailedBut : ℕ → Inputs → Input → Type 0

@@ -1,5 +1,5 @@
 -- What a whole simulation answers, and what it writes.
-use Rattle.std.specs.Prelude.{◌≡◌, ℕ, ◌+◌, ◌<◌, ◌≤◌, ◌⊎◌, List, [], ◌∷◌, ◌++◌, length, take, nat_lt, Option, None, Some, Result, Ok, Err, ⊤}
+use Rattle.std.specs.Prelude.{◌≡◌, ℕ, ◌+◌, ◌<◌, ◌⊎◌, List, [], ◌∷◌, ◌++◌, length, take, nat_lt, Option, None, Some, Result, Ok, Err, ⊤}
 use Rattle.std.specs.Io.KnownBytes.{Appends, Keeps}
 use Rattle.cmb_bench.specs.Netlist.{Netlist}
 use Rattle.cmb_bench.specs.Meaning.{Reads}
@@ -15,12 +15,15 @@ use Rattle.cmb_design.specs.declared.fault.DesignFault.TheVariants.{TableTooLarg
 use Rattle.cmb_design.specs.declared.settings.Settings.{Settings}
 use Rattle.cmb_vcd.specs.Beginnings.{HasBegun}
 use Rattle.cmb_vcd.specs.Vcd.{vcd}
+use Rattle.cmb_vcd.specs.declared.sink.Sink as sink
+use Rattle.cmb_line.specs.Modes.{IsLawfulCount, clusters_of, workers_of}
+use Rattle.cmb_line.specs.declared.mode.Mode.{Mode}
+use Rattle.cmb_line.specs.declared.mode.Mode.TheVariants.{Plain, Rounds, Free, Shared, SharedFree}
 use Rattle.cmb_sim.specs.Sources.{IsTooLong, IsWhole}
 use Rattle.cmb_sim.specs.declared.fault.Fault.{Fault}
 use Rattle.cmb_sim.specs.declared.fault.Fault.TheVariants as fault
-use Rattle.cmb_sim.specs.declared.mode.Mode.{Mode}
-use Rattle.cmb_sim.specs.declared.mode.Mode.TheVariants.{Plain, Rounds, Free, Shared, SharedFree}
 use Rattle.cmb_sim.specs.declared.simulation.Report.{Report}
+use Rattle.cmb_sim.specs.declared.source.Source as source
 
 -- ---- the texts
 
@@ -46,30 +49,11 @@ mode_checks (Free workers clusters) design = []
 mode_checks (Shared threads) design = []
 mode_checks (SharedFree threads) design = []
 
--- how many clusters and workers a mode asks for: threads that share the work are workers
-abbrev pub clusters_of : Mode → ℕ
-clusters_of Plain = 1
-clusters_of (Rounds workers clusters) = clusters
-clusters_of (Free workers clusters) = clusters
-clusters_of (Shared threads) = 1
-clusters_of (SharedFree threads) = 1
-
-abbrev pub workers_of : Mode → ℕ
-workers_of Plain = 1
-workers_of (Rounds workers clusters) = workers
-workers_of (Free workers clusters) = workers
-workers_of (Shared threads) = threads
-workers_of (SharedFree threads) = threads
-
 -- the text is written while the run goes on
 abbrev pub IsFree : Mode → Type 0
 IsFree (Free workers clusters) = ⊤
 IsFree (SharedFree threads) = ⊤
 IsFree _ = ⊥
-
--- there can be so many clusters, or workers
-abbrev pub IsLawfulCount : ℕ → Type 0
-IsLawfulCount n = (1 ≤ n) × (n ≤ 64)
 
 -- all checks of texts with a netlist, in their order: each table, then the design
 abbrev pub text_checks : Texts → Settings → Netlist → List Check
@@ -105,10 +89,6 @@ HaveFault texts settings mode fault.Clusters = HaveDesign texts settings mode ×
 HaveFault texts settings mode fault.Workers = HaveDesign texts settings mode × IsLawfulCount (clusters_of mode) × (IsLawfulCount (workers_of mode) → ⊥)
 HaveFault texts settings mode _ = ⊥
 
--- a mode that is never refused for its numbers
-abbrev pub IsLawful : Mode → Type 0
-IsLawful mode = IsLawfulCount (clusters_of mode) × IsLawfulCount (workers_of mode)
-
 -- ---- the sources
 
 -- one source: its bytes where it tells them, and how many of its reads had failed before the call and after it
@@ -119,6 +99,10 @@ pub record Input : Type 0 where
 
 abbrev pub input : Option (List ℕ) → ℕ → ℕ → Input
 input bytes before after = record { bytes = bytes; before = before; after = after }
+
+-- a source as a call found it and left it
+abbrev pub read_from : {S : Type 0} → source.Ghosts S → S → S → Input
+read_from s old new = input (s.remaining old) (s.failures old) (s.failures new)
 
 -- the inputs 1 to 4
 pub record Inputs : Type 0 where
@@ -182,6 +166,10 @@ pub record Output : Type 0 where
 
 abbrev pub output : Option (List ℕ) → Option (List ℕ) → ℕ → ℕ → Output
 output old new before after = record { old = old; new = new; before = before; after = after }
+
+-- a sink as a call found it and left it
+abbrev pub written_to : {O : Type 0} → sink.Ghosts O → O → O → Output
+written_to o old new = output (o.taken old) (o.taken new) (o.failures old) (o.failures new)
 
 abbrev pub report_of : Design → Report
 report_of design = record { nets = nets_of design; horizon = design.horizon; written = length (vcd design) }

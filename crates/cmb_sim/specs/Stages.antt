@@ -1,5 +1,6 @@
 -- What the stages of a simulation answer, each as a part of the whole's outcome. Of public contracts only those of reading and of `check` cite these.
-use Rattle.std.specs.Prelude.{◌≡◌, ℕ, ◌+◌, ◌<◌, ◌⊎◌, List, length, take, Some, None, ⊤}
+use Rattle.std.specs.Prelude.{◌≡◌, ℕ, ◌+◌, ◌<◌, ◌≤◌, ◌⊎◌, List, length, take, Some, None, Result, IfOk, IfErr, OnOk, Vec, ⊤}
+use Rattle.std.specs.Global.{Global}
 use Rattle.std.specs.Io.KnownBytes.{Appends}
 use Rattle.cmb_bench.specs.Listed.{HasUnknown}
 use Rattle.cmb_bench.specs.Netlist.{Netlist}
@@ -12,12 +13,16 @@ use Rattle.cmb_design.specs.declared.settings.Settings.{Settings}
 use Rattle.cmb_vcd.specs.Beginnings.{HasBegun}
 use Rattle.cmb_vcd.specs.Chosen.{vcd_of}
 use Rattle.cmb_vcd.specs.Vcd.{vcd}
-use Rattle.cmb_sim.specs.Simulation.{AreTexts, HasFailed, HasTooMany, Input, Inputs, IsFree, IsUntouched, Output, StopsAt, Texts, IsLawfulCount, clusters_of, design_in, mode_checks, text_checks, workers_of}
-use Rattle.cmb_sim.specs.declared.choice.Pick.{Pick}
-use Rattle.cmb_sim.specs.declared.choice.Pick.TheVariants.{Listed}
+use Rattle.cmb_line.specs.Modes.{IsLawfulCount, clusters_of, workers_of}
+use Rattle.cmb_line.specs.declared.choice.Pick.{Pick}
+use Rattle.cmb_line.specs.declared.choice.Pick.TheVariants.{Listed}
+use Rattle.cmb_line.specs.declared.mode.Mode.{Mode}
+use Rattle.cmb_sim.specs.Simulation.{AreTexts, HasFailed, HasTooMany, Input, Inputs, IsAnswer, IsFree, IsUntouched, NoneFailedBut, Output, StopsAt, Texts, design_in, failed_input, mode_checks, text_checks}
+use Rattle.cmb_sim.specs.Sources.{input_limit}
 use Rattle.cmb_sim.specs.declared.fault.Fault.{Fault}
 use Rattle.cmb_sim.specs.declared.fault.Fault.TheVariants as fault
-use Rattle.cmb_sim.specs.declared.mode.Mode.{Mode}
+use Rattle.cmb_sim.specs.declared.simulation.Report.{Report}
+use Rattle.cmb_sim.specs.declared.texts.InputTexts.{InputTexts}
 
 -- an input with this number wasn't read whole
 abbrev pub IsUnread : ℕ → Input → Fault → Type 0
@@ -35,6 +40,26 @@ LacksTexts i _ = ⊥
 
 abbrev pub texts_of : List ℕ → List ℕ → List ℕ → List ℕ → Texts
 texts_of bench delays stimuli clocks = record { bench = bench; delays = delays; stimuli = stimuli; clocks = clocks }
+
+-- what the inputs had
+abbrev pub texts_in : InputTexts → Texts
+texts_in texts = texts_of texts.bench.items texts.delays.items texts.stimuli.items texts.clocks.items
+
+abbrev pub HaveTexts : Inputs → InputTexts → Type 0
+HaveTexts i texts = AreTexts i (texts_in texts)
+
+-- no text is longer than an input may be
+pub record CanBeInputs (texts : Texts) : Type 0 where
+  pub bench : length texts.bench ≤ input_limit
+  pub delays : length texts.delays ≤ input_limit
+  pub stimuli : length texts.stimuli ≤ input_limit
+  pub clocks : length texts.clocks ≤ input_limit
+
+-- what comes of reading the inputs: this value or that fault; and a read fails only where that is the answer
+pub record IsReading {A : Type 0} (Good : Inputs → A → Type 0) (Bad : Inputs → Fault → Type 0) (i : Inputs) (answer : Result A Fault) : Type 0 where
+  pub ok : IfOk answer (Good i)
+  pub fault : IfErr answer (Bad i)
+  pub failures : NoneFailedBut (failed_input answer) i
 
 -- the texts spell this design, whether a mode can run it or not
 pub record SpellAny (texts : Texts) (settings : Settings) (design : Design) : Type 0 where
@@ -86,6 +111,28 @@ IsUnwritten mode design o (fault.Write n) = CanRun mode design × (n < length (v
 IsUnwritten mode design o (fault.Incomplete net upto) = CanRun mode design × IsFree mode × (net < nets_of design) × (upto < design.horizon) × HasBegun design o.old o.new × (o.after ≡ o.before)
 IsUnwritten mode design o fault.Memory = IsUntouched o ⊎ (CanRun mode design × IsFree mode × HasBegun design o.old o.new × (o.after ≡ o.before))
 IsUnwritten mode design o f = IsUnrun mode design f × IsUntouched o
+
+-- what comes of making the text of a design
+pub record IsRunText (mode : Mode) (design : Design) (answer : Result (Vec ℕ Global) Fault) : Type 0 where
+  pub text : IfOk answer (λ made. made.items ≡ vcd design)
+  pub fits : OnOk answer (CanRun mode design)
+  pub fault : IfErr answer (IsUnrun mode design)
+
+-- what comes of writing the text of a design: where all of it was written, this is told of it
+pub record IsWriting {A : Type 0} (told : A) (mode : Mode) (design : Design) (o : Output) (answer : Result A Fault) : Type 0 where
+  pub told_so : IfOk answer (λ it. it ≡ told)
+  pub text : OnOk answer (Appends o.old o.new (vcd design))
+  pub no_failure : OnOk answer (o.after ≡ o.before)
+  pub fits : OnOk answer (CanRun mode design)
+  pub fault : IfErr answer (IsUnwritten mode design o)
+
+-- the text's length is told
+abbrev pub IsWritten : Mode → Design → Output → Result ℕ Fault → Type 0
+IsWritten mode design o answer = IsWriting (length (vcd design)) mode design o answer
+
+-- what a simulation of texts answers, whichever inputs have them
+abbrev pub IsAnswerOf : Settings → Mode → Texts → Output → Result Report Fault → Type 0
+IsAnswerOf settings mode texts o answer = (i : Inputs) → AreTexts i texts → IsAnswer settings mode i o answer
 
 -- why the text of chosen nets wasn't written whole
 abbrev pub IsUnshown : Mode → Design → List ℕ → Output → Fault → Type 0

@@ -4,6 +4,9 @@ use Rattle.std.specs.Io.KnownBytes.{Appends}
 use Rattle.cmb_count.specs.Texts.{counts_rows}
 use Rattle.cmb_count.specs.declared.counts.Counts.{Counts}
 use Rattle.cmb_design.specs.declared.settings.Settings.{Settings}
+use Rattle.cmb_line.specs.declared.line.Line.{Line}
+use Rattle.cmb_line.specs.declared.line.Task.{Task}
+use Rattle.cmb_line.specs.declared.line.Task.TheVariants.{Run, Check}
 use Rattle.cmb_sim.specs.Checking.{IsChecked}
 use Rattle.cmb_sim.specs.Choosing.{IsChosenOutcome}
 use Rattle.cmb_sim.specs.Simulation.{HasNotFailed, Input, Inputs, IsUntouched, NoneFailedBut, Output, failed_input}
@@ -12,9 +15,6 @@ use Rattle.cmb_sim.specs.declared.carrying.Done.{Done}
 use Rattle.cmb_sim.specs.declared.carrying.Done.TheVariants.{Ran, Checked}
 use Rattle.cmb_sim.specs.declared.fault.Fault.{Fault}
 use Rattle.cmb_sim.specs.declared.fault.Fault.TheVariants as fault
-use Rattle.cmb_sim.specs.declared.line.Line.{Line}
-use Rattle.cmb_sim.specs.declared.line.Task.{Task}
-use Rattle.cmb_sim.specs.declared.line.Task.TheVariants.{Run, Check}
 
 -- a run answers as a simulation of the line's choice of nets does
 abbrev pub IsRun : Line → Inputs → Input → Output → Result Done Fault → Type 0
@@ -30,6 +30,12 @@ IsShown settings i o (Err (fault.Write n)) =
     (counts : Counts) × IsChecked settings i counts
     × (n < length (counts_rows counts)) × Appends o.old o.new (take n (counts_rows counts)) × (o.after ≡ o.before + 1)
 IsShown settings i o (Err f) = LacksDesign settings i f × IsUntouched o
+
+-- why the counts weren't written whole
+abbrev pub AreUnwritten : Counts → Output → Fault → Type 0
+AreUnwritten counts o (fault.Write n) = (n < length (counts_rows counts)) × Appends o.old o.new (take n (counts_rows counts)) × (o.after ≡ o.before + 1)
+AreUnwritten counts o fault.Memory = IsUntouched o
+AreUnwritten counts o _ = ⊥
 
 -- a read fails only where that is the answer
 abbrev pub IsCheck : Settings → Inputs → Output → Result Counts Fault → Type 0

@@ -1,17 +1,18 @@
 //! What a line asks for, done with sources and a sink.
 
-ghost use Rattle.std.specs.Prelude.{◌≡◌, ◌-◌, ◌^◌, ◌<◌};
-ghost use Rattle.cmb_sim.specs.Simulation.{input, inputs_of, output};
-ghost use Rattle.cmb_sim.specs.Tasks.{IsCheck, IsDone};
+ghost use Rattle.std.specs.Prelude.{◌≡◌, ◌-◌, ◌^◌, ◌<◌, IfErr, OnOk};
+ghost use Rattle.std.specs.Io.KnownBytes.{Appends};
+ghost use Rattle.cmb_count.specs.Texts.{counts_rows};
+ghost use Rattle.cmb_sim.specs.Simulation.{inputs_of, read_from, written_to};
+ghost use Rattle.cmb_sim.specs.Tasks.{AreUnwritten, IsDone};
 
 use crate::check::check_design;
 use crate::choosing::simulate_chosen;
 use crate::fault::Fault;
-use crate::line::{Line, Task};
 use crate::simulation::Report;
 use crate::source::Source;
 use cmb_count::{Counts, counts_text};
-use cmb_design::Settings;
+use cmb_line::{Line, Task};
 use cmb_run::{Sink, write_whole};
 use std::alloc::Global;
 use std::sync::Wait;
@@ -26,34 +27,16 @@ pub enum Done {
     Checked(Counts),
 }
 
-// Writes the counts of what the inputs spell, a line for each.
-fn write_counts<B: Source, D: Source, S: Source, C: Source, O: Sink>(
-    alloc: Global,
-    settings: Settings,
-    bench: &mut B,
-    delays: &mut D,
-    stimuli: &mut S,
-    clocks: &mut C,
-    out: &mut O,
-) -> Result<Counts, Fault>
-    requires bench { B.failures bench.old < 2 ^ 64 - 1 }
-    requires delays { D.failures delays.old < 2 ^ 64 - 1 }
-    requires stimuli { S.failures stimuli.old < 2 ^ 64 - 1 }
-    requires clocks { C.failures clocks.old < 2 ^ 64 - 1 }
-    requires out { O.failures out.old < 2 ^ 64 - 1 }
-    ensures { IsCheck settings
-        (inputs_of
-        (input (B.remaining bench.old) (B.failures bench.old) (B.failures bench.new))
-        (input (D.remaining delays.old) (D.failures delays.old) (D.failures delays.new))
-        (input (S.remaining stimuli.old) (S.failures stimuli.old) (S.failures stimuli.new))
-        (input (C.remaining clocks.old) (C.failures clocks.old) (C.failures clocks.new)))
-        (output (O.taken out.old) (O.taken out.new) (O.failures out.old) (O.failures out.new))
-        result }
+// Writes the counts, a line for each.
+fn write_counts<O: Sink>(alloc: Global, counts: &Counts, out: &mut O) -> Result<(), Fault>
+    requires { O.failures out.old < 2 ^ 64 - 1 }
+    ensures text { OnOk result (Appends (O.taken out.old) (O.taken out.new) (counts_rows counts.now)) }
+    ensures no_failure { OnOk result (O.failures out.new ≡ O.failures out.old) }
+    ensures fault { IfErr result (AreUnwritten counts.now (written_to O.Sink out.old out.new)) }
 {
-    let counts = check_design(alloc, bench, delays, stimuli, clocks, settings)?;
-    let text = counts_text(alloc, &counts)?;
+    let text = counts_text(alloc, counts)?;
     match write_whole(out, text.as_bytes()) {
-        Ok(()) => Ok(counts),
+        Ok(()) => Ok(()),
         Err(written) => Err(Fault::Write {
             written: written as u64,
         }),
@@ -88,14 +71,9 @@ pub fn carry_out<
     requires list { L.failures list.old < 2 ^ 64 - 1 }
     requires out { O.failures out.old < 2 ^ 64 - 1 }
     ensures { IsDone line.now
-        (inputs_of
-        (input (B.remaining bench.old) (B.failures bench.old) (B.failures bench.new))
-        (input (D.remaining delays.old) (D.failures delays.old) (D.failures delays.new))
-        (input (S.remaining stimuli.old) (S.failures stimuli.old) (S.failures stimuli.new))
-        (input (C.remaining clocks.old) (C.failures clocks.old) (C.failures clocks.new)))
-        (input (L.remaining list.old) (L.failures list.old) (L.failures list.new))
-        (output (O.taken out.old) (O.taken out.new) (O.failures out.old) (O.failures out.new))
-        result }
+        (inputs_of (read_from B.Source bench.old bench.new) (read_from D.Source delays.old delays.new)
+        (read_from S.Source stimuli.old stimuli.new) (read_from C.Source clocks.old clocks.new))
+        (read_from L.Source list.old list.new) (written_to O.Sink out.old out.new) result }
 {
     let settings = line.settings;
     match line.task {
@@ -107,7 +85,9 @@ pub fn carry_out<
             Ok(Done::Ran(report))
         }
         Task::Check => {
-            let counts = write_counts(rt.alloc(), settings, bench, delays, stimuli, clocks, out)?;
+            let alloc = rt.alloc();
+            let counts = check_design(alloc, bench, delays, stimuli, clocks, settings)?;
+            write_counts(alloc, &counts, out)?;
             Ok(Done::Checked(counts))
         }
     }

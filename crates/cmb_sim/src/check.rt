@@ -1,16 +1,28 @@
 //! What a simulation is given, counted and not simulated.
 
 ghost use Rattle.std.specs.Prelude.{◌-◌, ◌^◌, ◌<◌, IfOk, IfErr};
-ghost use Rattle.cmb_sim.specs.Simulation.{NoneFailedBut, failed_input, input, inputs_of};
-ghost use Rattle.cmb_sim.specs.Checking.{IsChecked};
-ghost use Rattle.cmb_sim.specs.Stages.{LacksDesign};
+ghost use Rattle.cmb_sim.specs.Checking.{IsChecked, IsCountOf};
+ghost use Rattle.cmb_sim.specs.Simulation.{inputs_of, read_from};
+ghost use Rattle.cmb_sim.specs.Stages.{CanBeInputs, HaveTextFault, IsReading, LacksDesign, texts_in};
 
 use crate::fault::Fault;
-use crate::simulation::read_design;
+use crate::simulation::spelled_design;
 use crate::source::Source;
+use crate::texts::{InputTexts, read_texts};
 use cmb_count::{Counts, count_design};
 use cmb_design::Settings;
 use std::alloc::Global;
+
+// What there is in the design that texts spell.
+fn count_texts(alloc: Global, texts: &InputTexts, settings: Settings) -> Result<Counts, Fault>
+    requires { CanBeInputs (texts_in texts.now) }
+    ensures ok { IfOk result (IsCountOf settings (texts_in texts.now)) }
+    ensures fault { IfErr result (HaveTextFault (texts_in texts.now) settings) }
+{
+    let design = spelled_design(alloc, texts, settings)?;
+    let counts = count_design(alloc, &design)?;
+    Ok(counts)
+}
 
 /// Reads a netlist and the tables of delays, stimuli and clocks as `simulate` does, with the same faults, and counts
 /// what there is in the place of simulating it.
@@ -26,23 +38,11 @@ pub fn check_design<B: Source, D: Source, S: Source, C: Source>(
     requires delays { D.failures delays.old < 2 ^ 64 - 1 }
     requires stimuli { S.failures stimuli.old < 2 ^ 64 - 1 }
     requires clocks { C.failures clocks.old < 2 ^ 64 - 1 }
-    ensures ok { IfOk result (IsChecked settings (inputs_of
-        (input (B.remaining bench.old) (B.failures bench.old) (B.failures bench.new))
-        (input (D.remaining delays.old) (D.failures delays.old) (D.failures delays.new))
-        (input (S.remaining stimuli.old) (S.failures stimuli.old) (S.failures stimuli.new))
-        (input (C.remaining clocks.old) (C.failures clocks.old) (C.failures clocks.new)))) }
-    ensures fault { IfErr result (LacksDesign settings (inputs_of
-        (input (B.remaining bench.old) (B.failures bench.old) (B.failures bench.new))
-        (input (D.remaining delays.old) (D.failures delays.old) (D.failures delays.new))
-        (input (S.remaining stimuli.old) (S.failures stimuli.old) (S.failures stimuli.new))
-        (input (C.remaining clocks.old) (C.failures clocks.old) (C.failures clocks.new)))) }
-    ensures failures { NoneFailedBut (failed_input result) (inputs_of
-        (input (B.remaining bench.old) (B.failures bench.old) (B.failures bench.new))
-        (input (D.remaining delays.old) (D.failures delays.old) (D.failures delays.new))
-        (input (S.remaining stimuli.old) (S.failures stimuli.old) (S.failures stimuli.new))
-        (input (C.remaining clocks.old) (C.failures clocks.old) (C.failures clocks.new))) }
+    ensures { IsReading (IsChecked settings) (LacksDesign settings)
+        (inputs_of (read_from B.Source bench.old bench.new) (read_from D.Source delays.old delays.new)
+        (read_from S.Source stimuli.old stimuli.new) (read_from C.Source clocks.old clocks.new))
+        result }
 {
-    let design = read_design(alloc, bench, delays, stimuli, clocks, settings)?;
-    let counts = count_design(alloc, &design)?;
-    Ok(counts)
+    let texts = read_texts(alloc, bench, delays, stimuli, clocks)?;
+    count_texts(alloc, &texts, settings)
 }

@@ -9,23 +9,21 @@ ghost use Rattle.cmb_design.specs.Plain.{cells_of};
 ghost use Rattle.cmb_design.specs.declared.fault.DesignFault.TheVariants.{TableTooLarge};
 ghost use Rattle.cmb_dump.specs.Excerpts.{AreAmong};
 ghost use Rattle.cmb_vcd.specs.Chosen.{vcd_of};
-ghost use Rattle.cmb_sim.specs.Choosing.{AreChosen, IsChosenOutcome, IsListText, chosen_report};
-ghost use Rattle.cmb_sim.specs.Simulation.{IsLawfulCount, clusters_of, failed_input, input, inputs_of};
-ghost use Rattle.cmb_sim.specs.Simulation.{mode_checks, output, workers_of};
+ghost use Rattle.cmb_line.specs.Modes.{IsLawfulCount, clusters_of, workers_of};
+ghost use Rattle.cmb_sim.specs.Choosing.{AreChosen, IsChosenAnswerOf, IsChosenOutcome, IsListText, chosen_report};
+ghost use Rattle.cmb_sim.specs.Simulation.{failed_input, inputs_of, mode_checks, read_from, written_to};
 ghost use Rattle.cmb_sim.specs.Sources.{input_limit};
-ghost use Rattle.cmb_sim.specs.Stages.{CanRun, IsUnchosen, IsUnread, IsUnrun, IsUnshown};
-ghost use Rattle.cmb_sim.specs.declared.choice.Choice.TheVariants.{Only};
+ghost use Rattle.cmb_sim.specs.Stages.{CanBeInputs, CanRun, IsUnchosen, IsUnread, IsUnrun, IsUnshown, texts_in};
 
-use crate::choice::{Choice, Pick};
 use crate::fault::Fault;
-use crate::mode::Mode;
 use crate::simulation::{Report, simulate, spelled_design};
 use crate::source::Source;
-use crate::texts::{read_input, read_texts};
+use crate::texts::{InputTexts, read_input, read_texts};
 use cmb_bench::read_list;
 use cmb_choice::chosen_text;
 use cmb_design::plain::MOST_CELLS;
 use cmb_design::{Design, DesignFault, Settings};
+use cmb_line::{Choice, Mode, Pick};
 use cmb_restrict::rising;
 use cmb_run::{Sink, write_whole};
 use std::alloc::Global;
@@ -68,7 +66,7 @@ fn is_too_large(design: &Design) -> bool
 }
 
 // Whether no check of the mode stands against the design.
-#[tactic(auto, using(crate::proofs::Chosen::plain_fits, crate::proofs::Chosen::plain_too_large, crate::proofs::RoundRuns::no_checks))]
+#[tactic(auto, using(crate::proofs::Chosen::mode_facts))]
 fn fits(mode: Mode, design: &Design) -> bool
     ensures fits { result ≡ true → first_fault (mode_checks mode design.now) ≡ None }
     ensures too_large { result ≡ false → first_fault (mode_checks mode design.now) ≡ Some TableTooLarge }
@@ -102,11 +100,9 @@ fn check_mode(mode: Mode, design: &Design) -> Result<(), Fault>
 // The text of the list that names nets; empty where there is none, and then nothing is read.
 fn read_names<L: Source>(alloc: Global, pick: Pick, list: &mut L) -> Result<Vec<u8>, Fault>
     requires { L.failures list.old < 2 ^ 64 - 1 }
-    ensures names { IfOk result (λ names. IsListText pick
-        (input (L.remaining list.old) (L.failures list.old) (L.failures list.new)) names.items) }
+    ensures names { IfOk result (λ names. IsListText pick (read_from L.Source list.old list.new) names.items) }
     ensures short { IfOk result (λ names. length names.items ≤ input_limit) }
-    ensures fault { IfErr result (IsUnread 5
-        (input (L.remaining list.old) (L.failures list.old) (L.failures list.new))) }
+    ensures fault { IfErr result (IsUnread 5 (read_from L.Source list.old list.new)) }
     ensures listed { IfErr result (λ _. pick ≡ Pick.Listed) }
     ensures failures { (failed_input result ≡ 5 → ⊥) → L.failures list.new ≡ L.failures list.old }
 {
@@ -148,8 +144,7 @@ fn show_nets<O: Sink>(
     ensures text { OnOk result (Appends (O.taken out.old) (O.taken out.new) (vcd_of design.now nets.now)) }
     ensures no_failure { OnOk result (O.failures out.new ≡ O.failures out.old) }
     ensures fits { OnOk result (CanRun mode design.now) }
-    ensures fault { IfErr result (IsUnshown mode design.now nets.now
-        (output (O.taken out.old) (O.taken out.new) (O.failures out.old) (O.failures out.new))) }
+    ensures fault { IfErr result (IsUnshown mode design.now nets.now (written_to O.Sink out.old out.new)) }
 {
     check_mode(mode, design)?;
     let text = chosen_text(alloc, design, nets)?;
@@ -165,46 +160,24 @@ fn show_nets<O: Sink>(
     }
 }
 
-// A simulation of which some nets are written.
-fn simulate_some<B: Source, D: Source, S: Source, C: Source, L: Source, O: Sink>(
+// A simulation of texts that were read, of which some nets are written.
+fn show_texts<O: Sink>(
     alloc: Global,
-    bench: &mut B,
-    delays: &mut D,
-    stimuli: &mut S,
-    clocks: &mut C,
-    list: &mut L,
+    texts: &InputTexts,
+    names: &[u8],
     settings: Settings,
     mode: Mode,
     pick: Pick,
     out: &mut O,
 ) -> Result<Report, Fault>
-    requires bench { B.failures bench.old < 2 ^ 64 - 1 }
-    requires delays { D.failures delays.old < 2 ^ 64 - 1 }
-    requires stimuli { S.failures stimuli.old < 2 ^ 64 - 1 }
-    requires clocks { C.failures clocks.old < 2 ^ 64 - 1 }
-    requires list { L.failures list.old < 2 ^ 64 - 1 }
+    requires texts { CanBeInputs (texts_in texts.now) }
+    requires names { length names.now ≤ input_limit }
     requires out { O.failures out.old < 2 ^ 64 - 1 }
-    ensures { IsChosenOutcome settings mode (Only pick)
-        (inputs_of
-        (input (B.remaining bench.old) (B.failures bench.old) (B.failures bench.new))
-        (input (D.remaining delays.old) (D.failures delays.old) (D.failures delays.new))
-        (input (S.remaining stimuli.old) (S.failures stimuli.old) (S.failures stimuli.new))
-        (input (C.remaining clocks.old) (C.failures clocks.old) (C.failures clocks.new)))
-        (input (L.remaining list.old) (L.failures list.old) (L.failures list.new))
-        (output (O.taken out.old) (O.taken out.new) (O.failures out.old) (O.failures out.new))
-        result }
+    ensures { IsChosenAnswerOf settings mode pick (texts_in texts.now) names.now
+        (written_to O.Sink out.old out.new) result }
 {
-    let texts = read_texts(alloc, bench, delays, stimuli, clocks)?;
-    let names = read_names(alloc, pick, list)?;
-    let design = spelled_design(
-        alloc,
-        texts.bench.as_slice(),
-        texts.delays.as_slice(),
-        texts.stimuli.as_slice(),
-        texts.clocks.as_slice(),
-        settings,
-    )?;
-    let nets = chosen_nets(alloc, pick, &design, names.as_slice())?;
+    let design = spelled_design(alloc, texts, settings)?;
+    let nets = chosen_nets(alloc, pick, &design, names)?;
     show_nets(alloc, mode, &design, nets.as_slice(), out)
 }
 
@@ -244,28 +217,16 @@ pub fn simulate_chosen<
     requires list { L.failures list.old < 2 ^ 64 - 1 }
     requires out { O.failures out.old < 2 ^ 64 - 1 }
     ensures { IsChosenOutcome settings mode choice
-        (inputs_of
-        (input (B.remaining bench.old) (B.failures bench.old) (B.failures bench.new))
-        (input (D.remaining delays.old) (D.failures delays.old) (D.failures delays.new))
-        (input (S.remaining stimuli.old) (S.failures stimuli.old) (S.failures stimuli.new))
-        (input (C.remaining clocks.old) (C.failures clocks.old) (C.failures clocks.new)))
-        (input (L.remaining list.old) (L.failures list.old) (L.failures list.new))
-        (output (O.taken out.old) (O.taken out.new) (O.failures out.old) (O.failures out.new))
-        result }
+        (inputs_of (read_from B.Source bench.old bench.new) (read_from D.Source delays.old delays.new)
+        (read_from S.Source stimuli.old stimuli.new) (read_from C.Source clocks.old clocks.new))
+        (read_from L.Source list.old list.new) (written_to O.Sink out.old out.new) result }
 {
-    match choice {
-        Choice::All => simulate(rt, bench, delays, stimuli, clocks, settings, mode, out),
-        Choice::Only(pick) => simulate_some(
-            rt.alloc(),
-            bench,
-            delays,
-            stimuli,
-            clocks,
-            list,
-            settings,
-            mode,
-            pick,
-            out,
-        ),
-    }
+    let pick = match choice {
+        Choice::All => return simulate(rt, bench, delays, stimuli, clocks, settings, mode, out),
+        Choice::Only(pick) => pick,
+    };
+    let alloc = rt.alloc();
+    let texts = read_texts(alloc, bench, delays, stimuli, clocks)?;
+    let names = read_names(alloc, pick, list)?;
+    show_texts(alloc, &texts, names.as_slice(), settings, mode, pick, out)
 }

@@ -6,13 +6,13 @@ ghost use Rattle.cmb_design.specs.Design.{Design};
 ghost use Rattle.cmb_design.specs.Exact.{nets_of};
 ghost use Rattle.cmb_design.specs.declared.settings.Settings.{Settings};
 ghost use Rattle.cmb_explain.specs.Known.{IsFaultNumber};
+ghost use Rattle.cmb_line.specs.declared.choice.Choice.TheVariants.{All, Only};
+ghost use Rattle.cmb_line.specs.declared.choice.Pick.{Pick};
+ghost use Rattle.cmb_line.specs.declared.mode.Mode.{Mode};
 ghost use Rattle.cmb_sim.specs.Choosing.{Choose, IsChosenOutcome};
 ghost use Rattle.cmb_sim.specs.Numbers.{number_of};
 ghost use Rattle.cmb_sim.specs.Simulation.{Input, Inputs, IsOutcome, Output};
-ghost use Rattle.cmb_sim.specs.declared.choice.Choice.TheVariants.{All, Only};
-ghost use Rattle.cmb_sim.specs.declared.choice.Pick.{Pick};
 ghost use Rattle.cmb_sim.specs.declared.fault.Fault.{Fault};
-ghost use Rattle.cmb_sim.specs.declared.mode.Mode.{Mode};
 ghost use Rattle.cmb_sim.specs.declared.simulation.Report.{Report};
 
 /// Each fault has a number that is explained, and each number that is explained is that of a fault.

@@ -1,16 +1,15 @@
 //! The text of a design, as a mode runs it.
 
 ghost use Rattle.std.specs.Prelude.{◌≡◌, ◌-◌, ◌^◌, ◌<◌, true, length, IfOk, IfErr, OnOk};
-ghost use Rattle.std.specs.Io.KnownBytes.{Appends};
 ghost use Rattle.cmb_design.specs.Exact.{nets_of};
-ghost use Rattle.cmb_vcd.specs.Vcd.{vcd};
-ghost use Rattle.cmb_sim.specs.Simulation.{IsLawfulCount, output};
-ghost use Rattle.cmb_sim.specs.Stages.{CanRun, IsClustersFault, IsUnrun, IsUnwritten};
+ghost use Rattle.cmb_line.specs.Modes.{IsLawfulCount};
+ghost use Rattle.cmb_sim.specs.Simulation.{written_to};
+ghost use Rattle.cmb_sim.specs.Stages.{IsClustersFault, IsRunText, IsWritten};
 
 use crate::fault::Fault;
-use crate::mode::Mode;
 use cmb_core::{Clustering, ClusteringFault};
 use cmb_design::{Design, plain_waves};
+use cmb_line::Mode;
 use cmb_links::Workers;
 use cmb_run::{Collector, OpenGate, Sink, run_free_text, run_rounds, vcd_text, write_whole};
 use cmb_share::{text_by_threads, write_by_threads};
@@ -23,9 +22,7 @@ const MOST_PARTS: u32 = 64;
 
 // The text of a design, by a table with a place for each net and tick.
 fn plain_text(alloc: Global, design: &Design) -> Result<Vec<u8>, Fault>
-    ensures text { IfOk result (λ text. text.items ≡ vcd design.now) }
-    ensures fits { OnOk result (CanRun Mode.Plain design.now) }
-    ensures fault { IfErr result (IsUnrun Mode.Plain design.now) }
+    ensures { IsRunText Mode.Plain design.now result }
 {
     let waves = plain_waves(alloc, design)?;
     let collector = Collector::of_waves(waves, design.horizon());
@@ -64,9 +61,7 @@ fn workers_text<R: AllocGlobal + Threads + Sync>(
     clusters: u32,
     design: &Design,
 ) -> Result<Vec<u8>, Fault>
-    ensures text { IfOk result (λ text. text.items ≡ vcd design.now) }
-    ensures fits { OnOk result (CanRun (Mode.Rounds workers clusters) design.now) }
-    ensures fault { IfErr result (IsUnrun (Mode.Rounds workers clusters) design.now) }
+    ensures { IsRunText (Mode.Rounds workers clusters) design.now result }
 {
     let clustering = spread(rt.alloc(), design, clusters)?;
     let workers = workers_of(workers)?;
@@ -101,9 +96,7 @@ fn rounds_text<R: AllocGlobal + Threads + Wait + Sync>(
     clusters: u32,
     design: &Design,
 ) -> Result<Vec<u8>, Fault>
-    ensures text { IfOk result (λ text. text.items ≡ vcd design.now) }
-    ensures fits { OnOk result (CanRun (Mode.Rounds workers clusters) design.now) }
-    ensures fault { IfErr result (IsUnrun (Mode.Rounds workers clusters) design.now) }
+    ensures { IsRunText (Mode.Rounds workers clusters) design.now result }
 {
     if suits_engine(workers, clusters, design) {
         let text = text_by_threads(rt, rt.alloc(), design, workers.min(clusters))?;
@@ -120,13 +113,8 @@ fn write_by_workers<R: AllocGlobal + Threads + Wait + Sync, O: Sink>(
     design: &Design,
     out: &mut O,
 ) -> Result<u64, Fault>
-    requires room { O.failures out.old < 2 ^ 64 - 1 }
-    ensures length { IfOk result (λ written. written ≡ length (vcd design.now)) }
-    ensures text { OnOk result (Appends (O.taken out.old) (O.taken out.new) (vcd design.now)) }
-    ensures no_failure { OnOk result (O.failures out.new ≡ O.failures out.old) }
-    ensures fits { OnOk result (CanRun (Mode.Free workers clusters) design.now) }
-    ensures fault { IfErr result (IsUnwritten (Mode.Free workers clusters) design.now
-        (output (O.taken out.old) (O.taken out.new) (O.failures out.old) (O.failures out.new))) }
+    requires { O.failures out.old < 2 ^ 64 - 1 }
+    ensures { IsWritten (Mode.Free workers clusters) design.now (written_to O.Sink out.old out.new) result }
 {
     let alloc = rt.alloc();
     let clustering = spread(alloc, design, clusters)?;
@@ -146,13 +134,8 @@ fn write_free<R: AllocGlobal + Threads + Wait + Sync, O: Sink>(
     design: &Design,
     out: &mut O,
 ) -> Result<u64, Fault>
-    requires room { O.failures out.old < 2 ^ 64 - 1 }
-    ensures length { IfOk result (λ written. written ≡ length (vcd design.now)) }
-    ensures text { OnOk result (Appends (O.taken out.old) (O.taken out.new) (vcd design.now)) }
-    ensures no_failure { OnOk result (O.failures out.new ≡ O.failures out.old) }
-    ensures fits { OnOk result (CanRun (Mode.Free workers clusters) design.now) }
-    ensures fault { IfErr result (IsUnwritten (Mode.Free workers clusters) design.now
-        (output (O.taken out.old) (O.taken out.new) (O.failures out.old) (O.failures out.new))) }
+    requires { O.failures out.old < 2 ^ 64 - 1 }
+    ensures { IsWritten (Mode.Free workers clusters) design.now (written_to O.Sink out.old out.new) result }
 {
     if suits_engine(workers, clusters, design) {
         let written = write_by_threads(rt, rt.alloc(), design, workers.min(clusters), out)?;
@@ -167,9 +150,7 @@ fn shared_text<R: AllocGlobal + Threads + Wait + Sync>(
     threads: u32,
     design: &Design,
 ) -> Result<Vec<u8>, Fault>
-    ensures text { IfOk result (λ text. text.items ≡ vcd design.now) }
-    ensures fits { OnOk result (CanRun (Mode.Shared threads) design.now) }
-    ensures fault { IfErr result (IsUnrun (Mode.Shared threads) design.now) }
+    ensures { IsRunText (Mode.Shared threads) design.now result }
 {
     let _lawful = workers_of(threads)?;
     let text = text_by_threads(rt, rt.alloc(), design, threads)?;
@@ -183,13 +164,8 @@ fn write_shared<R: AllocGlobal + Threads + Wait + Sync, O: Sink>(
     design: &Design,
     out: &mut O,
 ) -> Result<u64, Fault>
-    requires room { O.failures out.old < 2 ^ 64 - 1 }
-    ensures length { IfOk result (λ written. written ≡ length (vcd design.now)) }
-    ensures text { OnOk result (Appends (O.taken out.old) (O.taken out.new) (vcd design.now)) }
-    ensures no_failure { OnOk result (O.failures out.new ≡ O.failures out.old) }
-    ensures fits { OnOk result (CanRun (Mode.SharedFree threads) design.now) }
-    ensures fault { IfErr result (IsUnwritten (Mode.SharedFree threads) design.now
-        (output (O.taken out.old) (O.taken out.new) (O.failures out.old) (O.failures out.new))) }
+    requires { O.failures out.old < 2 ^ 64 - 1 }
+    ensures { IsWritten (Mode.SharedFree threads) design.now (written_to O.Sink out.old out.new) result }
 {
     let _lawful = workers_of(threads)?;
     let written = write_by_threads(rt, rt.alloc(), design, threads, out)?;
@@ -203,13 +179,8 @@ pub(crate) fn write_by<R: AllocGlobal + Threads + Wait + Sync, O: Sink>(
     design: &Design,
     out: &mut O,
 ) -> Result<u64, Fault>
-    requires room { O.failures out.old < 2 ^ 64 - 1 }
-    ensures length { IfOk result (λ written. written ≡ length (vcd design.now)) }
-    ensures text { OnOk result (Appends (O.taken out.old) (O.taken out.new) (vcd design.now)) }
-    ensures no_failure { OnOk result (O.failures out.new ≡ O.failures out.old) }
-    ensures fits { OnOk result (CanRun mode design.now) }
-    ensures fault { IfErr result (IsUnwritten mode design.now
-        (output (O.taken out.old) (O.taken out.new) (O.failures out.old) (O.failures out.new))) }
+    requires { O.failures out.old < 2 ^ 64 - 1 }
+    ensures { IsWritten mode design.now (written_to O.Sink out.old out.new) result }
 {
     let text = match mode {
         Mode::Plain => plain_text(rt.alloc(), design)?,

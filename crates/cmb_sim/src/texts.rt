@@ -1,9 +1,9 @@
 //! The four texts of a simulation, read whole.
 
 ghost use Rattle.std.specs.Prelude.{◌≡◌, ◌-◌, ◌^◌, ◌<◌, IfOk, IfErr};
-ghost use Rattle.cmb_sim.specs.Simulation.{AreTexts, NoneFailedBut, failed_input, input, inputs_of};
+ghost use Rattle.cmb_sim.specs.Simulation.{failed_input, inputs_of, read_from};
 ghost use Rattle.cmb_sim.specs.Sources.{IsWhole};
-ghost use Rattle.cmb_sim.specs.Stages.{IsUnread, LacksTexts, texts_of};
+ghost use Rattle.cmb_sim.specs.Stages.{HaveTexts, IsReading, IsUnread, LacksTexts};
 
 use crate::fault::Fault;
 use crate::reading::{ReadFault, read_whole};
@@ -27,8 +27,7 @@ pub(crate) fn read_input<S: Source>(
 ) -> Result<Vec<u8>, Fault>
     requires { S.failures source.old < 2 ^ 64 - 1 }
     ensures whole { IfOk result (λ text. IsWhole (S.remaining source.old) text.items) }
-    ensures fault { IfErr result (IsUnread number
-        (input (S.remaining source.old) (S.failures source.old) (S.failures source.new))) }
+    ensures fault { IfErr result (IsUnread number (read_from S.Source source.old source.new)) }
     ensures failures { (failed_input result ≡ number → ⊥) → S.failures source.new ≡ S.failures source.old }
 {
     match read_whole(alloc, source) {
@@ -62,22 +61,10 @@ pub fn read_texts<B: Source, D: Source, S: Source, C: Source>(
     requires delays { D.failures delays.old < 2 ^ 64 - 1 }
     requires stimuli { S.failures stimuli.old < 2 ^ 64 - 1 }
     requires clocks { C.failures clocks.old < 2 ^ 64 - 1 }
-    ensures ok { IfOk result (λ texts. AreTexts (inputs_of
-        (input (B.remaining bench.old) (B.failures bench.old) (B.failures bench.new))
-        (input (D.remaining delays.old) (D.failures delays.old) (D.failures delays.new))
-        (input (S.remaining stimuli.old) (S.failures stimuli.old) (S.failures stimuli.new))
-        (input (C.remaining clocks.old) (C.failures clocks.old) (C.failures clocks.new)))
-        (texts_of texts.bench.items texts.delays.items texts.stimuli.items texts.clocks.items)) }
-    ensures fault { IfErr result (LacksTexts (inputs_of
-        (input (B.remaining bench.old) (B.failures bench.old) (B.failures bench.new))
-        (input (D.remaining delays.old) (D.failures delays.old) (D.failures delays.new))
-        (input (S.remaining stimuli.old) (S.failures stimuli.old) (S.failures stimuli.new))
-        (input (C.remaining clocks.old) (C.failures clocks.old) (C.failures clocks.new)))) }
-    ensures failures { NoneFailedBut (failed_input result) (inputs_of
-        (input (B.remaining bench.old) (B.failures bench.old) (B.failures bench.new))
-        (input (D.remaining delays.old) (D.failures delays.old) (D.failures delays.new))
-        (input (S.remaining stimuli.old) (S.failures stimuli.old) (S.failures stimuli.new))
-        (input (C.remaining clocks.old) (C.failures clocks.old) (C.failures clocks.new))) }
+    ensures { IsReading HaveTexts LacksTexts
+        (inputs_of (read_from B.Source bench.old bench.new) (read_from D.Source delays.old delays.new)
+        (read_from S.Source stimuli.old stimuli.new) (read_from C.Source clocks.old clocks.new))
+        result }
 {
     take_and_give_back(alloc);
     Ok(InputTexts {

@@ -1,13 +1,14 @@
 use Rattle.std.proofs.lemmas.Result.{err_from_is_err_and}
-use Rattle.cmb_sim.proofs.Outcomes.{IsOutcome-unread, IsOutcome-written_or_not}
+use Rattle.cmb_sim.proofs.Outcomes.{CanBeInputs-read, IsOutcome-read, IsOutcome-unread}
 use Rattle.cmb_sim.proofs.simulation.simulate.Goals as goal
 
-pub returns-in_err-design : goal.returns-in_err-design
-returns-in_err-design g c =
+pub returns-in_err-texts : goal.returns-in_err-texts
+returns-in_err-texts g c =
     let p = err_from_is_err_and c.from_residual.result c.from_residual.ensures.1 in
-    rw (p.1, p.2) (IsOutcome-unread _ _ _ _ _ _ c.in_err-design.ensures.failures c.in_err-design.ensures.fault)
+    rw (p.1, p.2) (IsOutcome-unread _ _ _ _ _ _ c.in_err-texts.ensures.failures c.in_err-texts.ensures.fault)
+
+pub simulate_texts-requires-clause-texts : goal.simulate_texts-requires-clause-texts
+simulate_texts-requires-clause-texts g c = λ _ _. CanBeInputs-read _ _ c.in_ok-texts.ensures.ok
 
 pub returns : goal.returns
-returns g c =
-    IsOutcome-written_or_not c.args.settings c.args.mode _ _ _ _ _ c.in_ok-design.design _ c.in_ok-design.ensures.failures c.in_ok-design.ensures.ok
-    c.write_report.ensures.report c.write_report.ensures.text c.write_report.ensures.no_failure c.write_report.ensures.fits c.write_report.ensures.fault
+returns g c = IsOutcome-read c.args.settings c.args.mode _ _ _ _ c.in_ok-texts.ensures.failures c.in_ok-texts.ensures.ok c.simulate_texts.ensures

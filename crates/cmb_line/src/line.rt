@@ -1,7 +1,7 @@
 //! The program's command line.
 
 ghost use Rattle.std.specs.Prelude.{◌≡◌, ◌≤◌, IfOk};
-ghost use Rattle.cmb_sim.specs.Simulation.{IsLawful};
+ghost use Rattle.cmb_line.specs.Modes.{IsLawful};
 
 use crate::choice::{Choice, Pick};
 use crate::clock::clock_of;
@@ -65,7 +65,7 @@ pub enum LineFault {
 }
 
 impl From<AllocError> for LineFault {
-    ghost use Rattle.cmb_sim.specs.declared.line.LineFault.TheVariants.{Memory};
+    ghost use Rattle.cmb_line.specs.declared.line.LineFault.TheVariants.{Memory};
 
     ghost from_gives = { λ _ e. e ≡ Memory };
 
