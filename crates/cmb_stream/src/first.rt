@@ -71,3 +71,28 @@ pub fn tell_window(dump: &mut Dump<'_>, changed: &[Changed], upto: u32) -> Resul
         dump.window(changed, upto)
     }
 }
+
+/// Makes the text of a window, by the nets that changed in it, and keeps it.
+pub fn keep_window(
+    dump: &mut Dump<'_>,
+    changed: &[Changed],
+    upto: u32,
+    kept: &mut Kept<'_>,
+) -> Result<(), AllocError>
+    requires late { 1 ≤ dump.old.clock }
+    requires order { dump.old.clock < upto }
+    requires short { upto ≤ dump.old.clock + 63 }
+    requires within { upto ≤ dump.old.design.horizon }
+    requires nets { RisesWithin 0 (nets_of dump.old.design) changed.now }
+    requires tells { Tells (value dump.old.design) (nets_of dump.old.design) dump.old.clock upto changed.now }
+    requires same { kept.old.design ≡ dump.old.design }
+    requires here { kept.old.clock ≡ dump.old.clock }
+    ensures dumped { dump.new.design ≡ dump.old.design }
+    ensures timed { OnOk result (dump.new.clock ≡ upto) }
+    ensures design { OnOk result (kept.new.design ≡ kept.old.design) }
+    ensures given { OnOk result (kept.new.given ≡ kept.old.given) }
+    ensures clock { OnOk result (kept.new.clock ≡ upto) }
+{
+    tell_window(dump, changed, upto)?;
+    kept.grow(dump.text(), upto)
+}

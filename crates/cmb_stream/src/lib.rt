@@ -9,7 +9,7 @@ pub mod text;
 pub mod text_maker;
 
 pub use fault::StreamFault;
-pub use first::{first_text, tell_window};
+pub use first::{first_text, keep_window, tell_window};
 pub use kept::Kept;
 pub use stream::Stream;
 pub use text::{stream_text, text_rest, write_rest, write_stream};

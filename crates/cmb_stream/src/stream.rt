@@ -7,7 +7,7 @@ ghost use Rattle.cmb_dump.specs.Dumps.{text_upto};
 ghost use Rattle.cmb_stream.specs.Parts.{IsAtEndOf, IsStream, made_text};
 ghost use Rattle.cmb_words.specs.Changes.{RisesWithin, Tells};
 
-use crate::first::{first_text, tell_window};
+use crate::first::{first_text, keep_window};
 use crate::kept::Kept;
 use crate::text_maker::TextMaker;
 use cmb_design::Design;
@@ -43,8 +43,8 @@ impl<'a> Stream<'a> {
         ensures given { IfOk result (λ begun. begun.1.given ≡ 0) }
     {
         let changed = Vec::with_capacity(alloc, design.netlist().len())?;
-        let engine = Engine::open(alloc, design)?;
         let (dump, kept) = first_text(alloc, design)?;
+        let engine = Engine::open(alloc, design)?;
         Ok((
             Stream {
                 engine,
@@ -79,8 +79,8 @@ impl<'a> TextMaker for Stream<'a> {
             mut changed,
         } = self;
         let engine = engine.advance(&mut changed)?;
-        tell_window(&mut dump, &changed, engine.clock())?;
-        kept.grow(dump.text(), engine.clock())?;
+        let told = keep_window(&mut dump, &changed, engine.clock(), kept);
+        let engine = told.and(Ok(engine))?;
         Ok(Stream {
             engine,
             dump,
