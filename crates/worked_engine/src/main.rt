@@ -6,7 +6,7 @@
 //! stored text is that of the example `inverter`.
 #![tactic(auto)]
 
-ghost use Rattle.std.specs.Prelude.{◌≡◌, IfSome};
+ghost use Rattle.std.specs.Prelude.{◌≡◌, IfOk, IfSome};
 ghost use Rattle.cmb_design.specs.Exact.{nets_of};
 
 use cmb_bench::read_bench;
@@ -68,10 +68,25 @@ fn begins(design: &Design) -> bool
     start_level(design, A as usize) == Zero && start_level(design, Y as usize) == X
 }
 
-/// Whether these nets, and no others, changed in a window, and have these levels at its last tick.
-fn ends_with(changed: &[Changed], nets: &[(u16, Level)]) -> bool {
-    changed.len() == nets.len()
-        && changed.iter().zip(nets).all(|(one, (net, level))| one.net == *net && one.word.level(63) == *level)
+/// Whether a net changed in a window, and has a level at its last tick.
+fn ends_with(changed: &Changed, net: u16, level: Level) -> bool {
+    changed.net == net && changed.word.level(63) == level
+}
+
+/// Whether a window tells that `y` alone changed, and is 1 at its end.
+fn is_first(changed: &[Changed]) -> bool {
+    let [y] = changed else {
+        return false;
+    };
+    ends_with(y, Y, One)
+}
+
+/// Whether a window tells that both nets changed, and at its end `a` is 1 and `y` 0.
+fn is_second(changed: &[Changed]) -> bool {
+    let [a, y] = changed else {
+        return false;
+    };
+    ends_with(a, A, One) && ends_with(y, Y, Zero)
 }
 
 /// Whether a window tells that `a` changed at tick 5 and `y` at ticks 1 and 6.
@@ -98,27 +113,52 @@ fn goes_on(alloc: Global, design: &Design) -> Result<bool, AllocError>
     Ok(opens && last.clock() == HORIZON && are_told(&changed))
 }
 
-/// Whether the windows of an engine with a width of four ticks end at ticks 4, 8 and 10, and tell what changed in them.
-fn goes_on_narrowly(alloc: Global, design: &Design) -> Result<bool, AllocError>
-    requires nets { nets_of design.now ≡ 2 }
-    requires horizon { design.now.horizon ≡ HORIZON }
+/// The engine made narrow, with a width of four ticks, where its own is 62.
+fn narrow(alloc: Global, design: &Design) -> Result<Option<Engine<'_>>, AllocError>
+    ensures { IfOk result (λ found. IfSome found (λ engine. engine.design ≡ design.entry.now)) }
 {
     let engine = Engine::open(alloc, design)?;
-    if engine.width() != 62 {
-        return Ok(false);
+    if engine.width() == 62 {
+        Ok(Some(engine.narrowed(alloc, 4)?))
+    } else {
+        Ok(None)
     }
+}
+
+/// The engine a window further, where it isn't at the horizon.
+fn further<'d>(
+    engine: Engine<'d>,
+    changed: &mut Vec<Changed>,
+) -> Result<Option<Engine<'d>>, AllocError>
+    requires { engine.design.horizon ≡ HORIZON }
+    ensures { IfOk result (λ found. IfSome found (λ next. next.design.horizon ≡ HORIZON)) }
+{
+    if engine.clock() < HORIZON {
+        Ok(Some(engine.advance(changed)?))
+    } else {
+        Ok(None)
+    }
+}
+
+/// Whether the windows of an engine with a width of four ticks end at ticks 4, 8 and 10, and tell what changed in them.
+fn goes_on_narrowly(alloc: Global, design: &Design) -> Result<bool, AllocError>
+    requires { design.now.horizon ≡ HORIZON }
+{
     let mut changed = Vec::new(alloc);
-    let first = engine.narrowed(alloc, 4)?.advance(&mut changed)?;
-    let begins = first.clock() == 4 && ends_with(&changed, &[(Y, One)]);
-    if first.clock() >= HORIZON {
+    let Some(engine) = narrow(alloc, design)? else {
         return Ok(false);
-    }
-    let second = first.advance(&mut changed)?;
-    let goes = second.clock() == 8 && ends_with(&changed, &[(A, One), (Y, Zero)]);
-    if second.clock() >= HORIZON {
+    };
+    let Some(first) = further(engine, &mut changed)? else {
         return Ok(false);
-    }
-    let last = second.advance(&mut changed)?;
+    };
+    let begins = first.clock() == 4 && is_first(&changed);
+    let Some(second) = further(first, &mut changed)? else {
+        return Ok(false);
+    };
+    let goes = second.clock() == 8 && is_second(&changed);
+    let Some(last) = further(second, &mut changed)? else {
+        return Ok(false);
+    };
     let ends = last.clock() == HORIZON && changed.is_empty();
     Ok(begins && goes && ends && last.width() == 4)
 }
