@@ -1,4 +1,4 @@
--- A batch and its shares grow at their end.
+-- A batch and its stretches grow at their end.
 use Rattle.std.proofs.Common.{◌≡◌, ◌∙◌, ℕ, zero, suc, ◌-◌, ◌<◌, ◌≤◌, List, [], ◌∷◌, ◌++◌, ◌⊎◌, inl, inr, length, get_or, append_assoc, ap, sym, subst, arith}
 use Rattle.std.proofs.lemmas.Bool.{cases_eq}
 use Rattle.std.proofs.lemmas.List.{get_or_append_left, get_or_push, length_push}
@@ -40,7 +40,7 @@ AreOf-push design clocks windows window upto are same from to within = record {
       k;
 }
 
--- the first share begins at the first window
+-- the first stretch begins at the first window
 pub AreCuts-first : (batch : Batch) (cuts : List ℕ) → 1 ≤ length batch.clocks → cuts ≡ 0 ∷ [] → AreCuts batch cuts
 AreCuts-first batch cuts some e = rw e (record {
   order = λ k h. absurd (omega (arith, h));
@@ -51,7 +51,7 @@ AreCuts-first batch cuts some e = rw e (record {
     by zero h = omega (arith, some)
     by (suc k) h = absurd (omega (arith, h))
 
--- one share more
+-- one stretch more
 pub AreCuts-push : (batch : Batch) (cuts : List ℕ) (place : ℕ) → AreCuts batch cuts → ((k : ℕ) → k < length cuts → get_or cuts k 0 ≤ place)
     → place < length batch.clocks → AreCuts batch (cuts ++ place ∷ [])
 AreCuts-push batch cuts place are before within = record {
@@ -77,11 +77,11 @@ before-push cuts last place before later =
 pub told-more : (first text now more next all : List ℕ) → now ≡ first ++ text → next ≡ now ++ more → all ≡ text ++ more → next ≡ first ++ all
 told-more first text now more next all a b e = b ∙ ap (λ t. t ++ more) a ∙ append_assoc first text more ∙ ap (λ t. first ++ t) (sym e)
 
--- the last share ends where the last window does
-pub cuts-end : (batch made : Batch) (cuts own : List ℕ) (n shares clock : ℕ) → batch ≡ made → cuts ≡ own → n ≡ shares
-    → suc (get_or own shares 0) ≡ length batch.clocks → clock ≡ clock_at batch (get_or cuts n 0) → clock ≡ last_clock made
-cuts-end batch made cuts own n shares clock same a b last at =
-    let place : get_or cuts n 0 ≡ get_or own shares 0 = ap (λ (l : List ℕ). get_or l n 0) a ∙ ap (λ k. get_or own k 0) b in
+-- the last stretch ends where the last window does
+pub cuts-end : (batch made : Batch) (cuts own : List ℕ) (n stretches clock : ℕ) → batch ≡ made → cuts ≡ own → n ≡ stretches
+    → suc (get_or own stretches 0) ≡ length batch.clocks → clock ≡ clock_at batch (get_or cuts n 0) → clock ≡ last_clock made
+cuts-end batch made cuts own n stretches clock same a b last at =
+    let place : get_or cuts n 0 ≡ get_or own stretches 0 = ap (λ (l : List ℕ). get_or l n 0) a ∙ ap (λ k. get_or own k 0) b in
     at ∙ ap (λ k. get_or batch.clocks k 0) (omega (arith, place, last)) ∙ ap last_clock same
 
 pub AreTellersOf-one : (design : Design) (teller : Teller) (all : List Teller) → all ≡ teller ∷ [] → teller.dump.design ≡ design → AreTellersOf design all

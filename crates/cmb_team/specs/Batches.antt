@@ -53,7 +53,7 @@ pub record IsMade (design : Design) (engine : Engine) (batch : Batch) : Type 0 w
   pub clock : last_clock batch ≡ engine.clock
   pub some : 1 ≤ length batch.clocks
 
--- shares of a batch: each goes from a place on below the next
+-- stretches of a batch: each goes from a place on below the next
 pub record AreCuts (batch : Batch) (cuts : List ℕ) : Type 0 where
   pub order : (k : ℕ) → suc k < length cuts → slice_index_or cuts k 0 ≤ slice_index_or cuts (suc k) 0
   pub within : (k : ℕ) → k < length cuts → slice_index_or cuts k 0 < length batch.clocks

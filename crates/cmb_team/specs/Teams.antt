@@ -5,13 +5,13 @@ use Rattle.cmb_stream.specs.Parts.{Made, made_text}
 use Rattle.cmb_team.specs.Batches.{Batch, clock_at, last_clock}
 use Rattle.cmb_team.specs.declared.teller.Teller.{Teller}
 
--- a teller made the text of a share of a batch, unless memory was refused
+-- a teller made the text of a stretch of a batch, unless memory was refused
 pub record HasTold (batch : Batch) (first last : ℕ) (teller : Teller) : Type 0 where
   pub design : teller.dump.design ≡ batch.design
   pub order : teller.refused ≡ false → clock_at batch first ≤ clock_at batch last
   pub text : teller.refused ≡ false → made_text batch.design (clock_at batch last) ≡ made_text batch.design (clock_at batch first) ++ teller.text.items
 
--- each teller made the text of its share
+-- each teller made the text of its stretch
 abbrev pub HaveTold : Batch → List ℕ → List Teller → Type 0
 HaveTold batch cuts tellers = (k : ℕ) (d : Teller) → k < length tellers → HasTold batch (slice_index_or cuts k 0) (slice_index_or cuts (suc k) 0) (slice_index_or tellers k d)
 

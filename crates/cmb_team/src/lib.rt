@@ -5,7 +5,7 @@
 mod batch;
 mod maker;
 mod round;
-mod shares;
+mod stretches;
 mod team;
 mod teller;
 pub mod text;

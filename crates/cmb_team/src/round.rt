@@ -20,7 +20,7 @@ pub(crate) fn pays(batch: &Batch<'_>) -> bool {
     batch.weight() >= LEAST
 }
 
-// The texts of the shares of a batch, each by a teller of its own, and in a thread of its own where that pays.
+// The texts of the stretches of a batch, each by a teller of its own, and in a thread of its own where that pays.
 fn told<'a, R: Threads + Sync>(
     rt: &R,
     tellers: Vec<Teller<'a>>,
@@ -45,7 +45,7 @@ fn told<'a, R: Threads + Sync>(
     tellers
 }
 
-/// Tells a batch, by the tellers' shares, while the next one is made, so many ticks long: side by side where the batch
+/// Tells a batch, by the tellers' stretches, while the next one is made, so many ticks long: side by side where the batch
 /// is large enough.
 pub(crate) fn round<'a, R: Threads + Sync>(
     rt: &R,

@@ -8,7 +8,7 @@ ghost use Rattle.cmb_team.specs.Teams.{AreTellersOf, HaveTold};
 use crate::batch::Batch;
 use crate::maker::Maker;
 use crate::round::{pays, round};
-use crate::shares::cuts_of;
+use crate::stretches::cuts_of;
 use crate::teller::Teller;
 use cmb_design::Design;
 use cmb_stream::{Kept, Stream, TextMaker};

@@ -1,4 +1,4 @@
-//! Who makes the text of a share of a batch.
+//! Who makes the text of a stretch of a batch.
 
 ghost use Rattle.std.specs.Prelude.{◌≡◌, ◌+◌, ◌<◌, ◌≤◌, ◌++◌, length, IfOk, OnOk};
 ghost use Rattle.cmb_stream.specs.Parts.{made_text};
@@ -10,13 +10,13 @@ use cmb_design::Design;
 use cmb_dump::Dump;
 use std::alloc::{AllocError, Global};
 
-/// Makes the text of a share of a batch.
+/// Makes the text of a stretch of a batch.
 #[derive(Drop)]
 pub(crate) struct Teller<'a> {
     pub dump: Dump<'a>,
-    /// The text of the last share.
+    /// The text of the last stretch.
     pub text: Vec<u8>,
-    /// Whether memory was refused for the last share.
+    /// Whether memory was refused for the last stretch.
     pub refused: bool,
 }
 
@@ -58,7 +58,7 @@ impl<'a> Teller<'a> {
         Ok(())
     }
 
-    /// Makes the text of a share: of the windows at the places of `first..last`. Where memory is refused it notes so.
+    /// Makes the text of a stretch: of the windows at the places of `first..last`. Where memory is refused it notes so.
     pub(crate) fn tell(&mut self, batch: &Batch<'_>, first: usize, last: usize)
         requires design { self.old.dump.design ≡ batch.now.design }
         requires order { first ≤ last }
