@@ -2,8 +2,8 @@
 """prove.py NAME: proves and builds the libraries that a crate of the repository stands on, as far as they aren't built
 yet. Each begins once those below it are built, as many side by side as there are processors, each in a copy of the
 repository; first those on which the longest chain of others stands. A check gets one job, and two where a processor
-would stand idle: a second job shortens a check by a fifth and takes a third more of the processors, four take twice as
-much. What the toolchain says goes to standard error."""
+would stand idle: of two crates that were measured, four jobs took about twice the processor time of one, and a second a third
+more. What the toolchain says goes to standard error."""
 import concurrent.futures
 import os
 import shutil
