@@ -45,8 +45,8 @@ fn told<'a, R: Threads + Sync>(
     tellers
 }
 
-/// Tells a batch, by the tellers' stretches, while the next one is made, so many ticks long: side by side where the batch
-/// is large enough.
+/// Tells a batch, by the tellers' stretches, while the next one is made, so many ticks long: side by side where the
+/// batch is large enough.
 pub(crate) fn round<'a, R: Threads + Sync>(
     rt: &R,
     maker: Maker<'a>,
