@@ -1,9 +1,8 @@
 #!/usr/bin/env python3
 """prove.py NAME: proves and builds the libraries that a crate of the repository stands on, as far as they aren't built
-yet. Each begins once those below it are built, as many side by side as there are processors, each in a copy of the
-repository; first those on which the longest chain of others stands. A check gets one job, and two where a processor
-would stand idle: of two crates that were measured, four jobs took about twice the processor time of one, and a second a third
-more. What the toolchain says goes to standard error."""
+yet. Each begins once those below it are built, in a copy of the repository; first those on which the longest chain of
+others stands. All checks together have as many jobs as there are processors (`jobs_for`). What the toolchain says goes
+to standard error."""
 import concurrent.futures
 import os
 import shutil
@@ -13,6 +12,11 @@ import tempfile
 import time
 
 import crates
+
+# On so much of the longest chain a library counts as one of those that the time goes by, and the most jobs of a check.
+NEARLY = 0.85
+MOST_JOBS = 4
+
 
 def build(room, name, below, jobs):
     """Proves and builds a library in a copy, over what was kept of it; what is kept then goes back. Gives the status."""
@@ -25,7 +29,8 @@ def build(room, name, below, jobs):
         began = time.monotonic()
         words = ["rt", "lib", "--jobs", str(jobs)]
         status = subprocess.run(words, cwd=f"{room}/crates/{name}", stdin=subprocess.DEVNULL, stdout=sys.stderr).returncode
-        print(f"{name}: {'NOT PROVED' if status else 'proved'} after {time.monotonic() - began:.0f} s", file=sys.stderr, flush=True)
+        took = f"after {time.monotonic() - began:.0f} s with {jobs} {'job' if jobs == 1 else 'jobs'}"
+        print(f"{name}: {'NOT PROVED' if status else 'proved'} {took}", file=sys.stderr, flush=True)
         return status
     finally:
         if os.path.isdir(copied):
@@ -54,6 +59,26 @@ def chains(wanted, below):
     return behind
 
 
+def jobs_for(ready, idle, lanes, behind, longest):
+    """How many jobs each of these libraries gets of those that are idle, by their order, as far as they go.
+
+    A second job takes about a third more of the processors, and four take twice as much as one. So most get one. With
+    more than two processors the time goes by the longest chain, and not by the work: so a library gets two on which
+    nearly as long a chain stands as on any that isn't built yet, and what is idle then goes to the first, up to four."""
+    jobs = {}
+    for name in ready:
+        if idle > 0:
+            wanted = 2 if lanes > 2 and behind[name] >= NEARLY * longest else 1
+            jobs[name] = min(wanted, idle)
+            idle -= jobs[name]
+    for _ in range(MOST_JOBS):
+        for name in jobs:
+            if idle > 0 and jobs[name] < MOST_JOBS:
+                jobs[name] += 1
+                idle -= 1
+    return jobs
+
+
 def prove(wanted, below):
     """Proves and builds these libraries, lowest first; 1 where one isn't proved, and those above it aren't tried."""
     os.makedirs(f"{crates.TOP}/out", exist_ok=True)
@@ -62,15 +87,16 @@ def prove(wanted, below):
     with tempfile.TemporaryDirectory(prefix="beside-", dir=f"{crates.TOP}/out") as rooms:
         with concurrent.futures.ThreadPoolExecutor(lanes) as pool:
             while left or running:
-                ready = [it for it in left if built.issuperset(below[it])][: lanes - len(running)]
-                jobs = 2 if len(running) + len(ready) < lanes else 1
-                for name in ready:
+                ready = [it for it in left if built.issuperset(below[it])]
+                idle = lanes - sum(jobs for _, jobs in running.values())
+                longest = max(behind[it] for it in [*left, *(name for name, _ in running.values())])
+                for name, jobs in jobs_for(ready, idle, lanes, behind, longest).items():
                     left.remove(name)
-                    running[pool.submit(build, f"{rooms}/{name}", name, below, jobs)] = name
+                    running[pool.submit(build, f"{rooms}/{name}", name, below, jobs)] = name, jobs
                 if not running:
                     return 1
                 for run in concurrent.futures.wait(running, return_when=concurrent.futures.FIRST_COMPLETED).done:
-                    name = running.pop(run)
+                    name, _ = running.pop(run)
                     if run.result() == 0:
                         built.add(name)
     return 0 if built == set(wanted) else 1
