@@ -1,6 +1,2 @@
-pub mod RunFacts
+pub mod ClusterFacts
 pub mod RunClocks
-pub mod HandFacts
-pub mod RoundFacts
-pub mod TellerFacts
-pub mod TextRuns

@@ -1,5 +1,3 @@
-pub mod FreeRuns
+pub mod Passed
 pub mod RunFaults
-pub mod Rounds
 pub mod Runs
-pub mod Tellers

@@ -12,7 +12,7 @@ ghost use Rattle.cmb_core.specs.Opened.{IsClusterOf, IsOwnNet, held_nets, own_ne
 ghost use Rattle.cmb_core.specs.Sweep.{some_rises, stepped_waves};
 ghost use Rattle.cmb_core.specs.Step.{wave_at, with_wave};
 ghost use Rattle.cmb_core.specs.declared.delivery.DeliverFault.{DeliverFault as Refusal};
-ghost use Rattle.cmb_run.specs.Rounds.{IsPassed};
+ghost use Rattle.cmb_run.specs.Passed.{IsPassed};
 
 use crate::terms::Terms;
 use cmb_core::{Cluster, Clustering, DeliverFault};
@@ -77,6 +77,7 @@ pub struct ExactCluster<T: Terms> {
     // So many pieces were given since the cluster last forgot what nobody needs.
     given: usize,
     of: PhantomData<T>,
+    ghost end: { horizon ≡ T.design.horizon },
 }
 
 impl<T: Terms> Model for ExactCluster<T> {
@@ -117,7 +118,9 @@ impl<T: Terms> ExactCluster<T> {
     }
 
     /// The tick at which a net is known to its end.
-    pub(crate) fn horizon(&self) -> u32 {
+    pub fn horizon(&self) -> u32
+        ensures { result ≡ T.design.horizon }
+    {
         self.horizon
     }
 

@@ -1,7 +1,7 @@
 -- The faults of a free run, and of a text that is made without one, as those of a simulation.
 use Rattle.std.proofs.Common.{ℕ, inr, List, Option, arith}
 use Rattle.cmb_design.specs.Design.{Design}
-use Rattle.cmb_run.specs.FreeRuns.{IsCutAt}
+use Rattle.cmb_free.specs.FreeRuns.{IsCutAt}
 use Rattle.cmb_run.specs.declared.run_fault.RunFault.{RunFault}
 use Rattle.cmb_run.specs.declared.run_fault.RunFault.TheVariants.{Incomplete, Write, Memory}
 use Rattle.cmb_stream.specs.Streams.{IsBrokenOff}

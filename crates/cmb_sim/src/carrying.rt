@@ -13,7 +13,7 @@ use crate::simulation::Report;
 use crate::source::Source;
 use cmb_count::{Counts, counts_text};
 use cmb_line::{Line, Task};
-use cmb_run::{Sink, write_whole};
+use cmb_vcd::{Sink, write_whole};
 use std::alloc::Global;
 use std::sync::Wait;
 use std::thread::Threads;

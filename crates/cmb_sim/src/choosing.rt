@@ -25,7 +25,7 @@ use cmb_design::plain::MOST_CELLS;
 use cmb_design::{Design, DesignFault, Settings};
 use cmb_line::{Choice, Mode, Pick};
 use cmb_restrict::rising;
-use cmb_run::{Sink, write_whole};
+use cmb_vcd::{Sink, write_whole};
 use std::alloc::Global;
 use std::sync::Wait;
 use std::thread::Threads;

@@ -19,7 +19,7 @@ pub use cmb_bench::{BenchFault, FaultKind};
 pub use cmb_count::{Counts, counts_text};
 pub use cmb_design::{DesignFault, Settings};
 pub use cmb_line::{Choice, Line, LineFault, Mode, Pick, Task, line_message, read_line};
-pub use cmb_run::{Failed, Limited, Room, Sink, ToWriter, write_whole};
+pub use cmb_vcd::{Failed, Limited, Room, Sink, ToWriter, write_whole};
 pub use cmb_wave::Level;
 pub use fault::{Fault, fault_line};
 pub use reading::{ReadFault, read_whole};

@@ -11,7 +11,7 @@ use crate::texts::{InputTexts, read_texts};
 use cmb_bench::read_bench;
 use cmb_design::{Design, Settings, read_clocks, read_delays, read_stimuli};
 use cmb_line::Mode;
-use cmb_run::Sink;
+use cmb_vcd::Sink;
 use std::alloc::Global;
 use std::sync::Wait;
 use std::thread::Threads;

@@ -4,7 +4,7 @@ ghost use Rattle.std.specs.Prelude.{◌≡◌, ℕ, ◌+◌, ◌-◌, ◌^◌, �
 ghost use Rattle.std.specs.Prelude.{MatchResult};
 ghost use Rattle.std.specs.Io.KnownBytes.{ReadConsumes};
 
-use cmb_run::Failed;
+use cmb_vcd::Failed;
 use std::io::Read;
 
 /// Where bytes come from.

@@ -7,10 +7,10 @@ ghost use Rattle.cmb_design.specs.Exact.{nets_of};
 use crate::rounds::{TOGGLE, design_of, design_of_tables};
 use cmb_core::Clustering;
 use cmb_design::{Design, Settings};
+use cmb_free::{OpenGate, Turnstile, run_free, run_free_text};
 use cmb_links::Workers;
-use cmb_run::{
-    Collector, Failed, Limited, OpenGate, Room, RunFault, Sink, Turnstile, run_free, run_free_text,
-};
+use cmb_run::RunFault;
+use cmb_vcd::{Collector, Failed, Limited, Room, Sink};
 use cmb_wave::Level;
 use std::alloc::{AllocError, Global};
 use std::process::Abort;

@@ -2,7 +2,7 @@ use Rattle.std.proofs.Common.{rules, subst}
 use Rattle.std.specs.List.{AllByRecursion}
 use Rattle.cmb_design.specs.Exact.{IsExactIn, IsExactWaveIn}
 use Rattle.cmb_core.specs.Clusters.{Cluster}
-use Rattle.cmb_run.proofs.HandFacts.{on_ok, delivers_exact, passes}
+use Rattle.cmb_run.proofs.ClusterFacts.{on_ok, delivers_exact, passes}
 use Rattle.cmb_run.proofs.exact_cluster.ExactCluster.deliver.Goals as goal
 
 pub returns-clause-taken : goal.returns-clause-taken

@@ -1,0 +1,3 @@
+pub mod RunFacts
+pub mod TellerFacts
+pub mod TextRuns

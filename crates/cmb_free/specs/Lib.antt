@@ -1,0 +1,2 @@
+pub mod FreeRuns
+pub mod Tellers

@@ -1,0 +1,283 @@
+//! The workers of a free run, and what the collecting thread has of it.
+
+ghost use Rattle.std.specs.Prelude.{◌≡◌, ◌+◌, ◌<◌, All, drop, length, vec_len, IfOk, OnOk};
+ghost use Rattle.std.specs.Arc.{arc_value};
+ghost use Rattle.cmb_design.specs.Exact.{nets_of};
+ghost use Rattle.cmb_links.specs.Seats.{IsSeatOf, new_seats, terms};
+
+use crate::desk::Desk;
+use crate::ends::TakeEnd;
+use crate::worker::Worker;
+use cmb_core::Clustering;
+use cmb_design::Design;
+use cmb_idle::Idle;
+use cmb_links::{Board, Seat, Workers};
+use cmb_run::{ExactCluster, Posted, Terms};
+use std::alloc::{AllocError, Global};
+use std::sync::{Arc, Wait};
+
+/// The last seat, the taking end of each worker's link to the collector, and how long nothing came.
+#[derive(Drop)]
+pub struct Lookout<T: Terms> {
+    board: Arc<Board>,
+    seat: Seat,
+    ends: Vec<TakeEnd<T>>,
+    idle: Idle,
+    ghost same: { seat.board ≡ arc_value board },
+}
+
+impl<T: Terms> Lookout<T> {
+    // The lookout of a board.
+    fn new(board: Arc<Board>, seat: Seat, ends: Vec<TakeEnd<T>>) -> Lookout<T>
+        requires { seat.board ≡ arc_value board }
+    {
+        Lookout {
+            board,
+            seat,
+            ends,
+            idle: Idle::new(),
+        }
+    }
+
+    /// Raises the stop word.
+    pub(crate) fn raise(&mut self) {
+        self.board.raise(&mut self.seat);
+    }
+
+    /// How many workers have finished.
+    pub(crate) fn finished(&mut self) -> u32 {
+        self.board.finished(&mut self.seat)
+    }
+
+    /// How many links there are to take from, one for each worker.
+    pub(crate) fn links(&self) -> usize
+        ensures { result ≡ vec_len self.now.ends }
+    {
+        self.ends.len()
+    }
+
+    /// Takes the next piece from a link, none where it was empty.
+    pub(crate) fn take<R: Wait>(&mut self, rt: &R, link: usize) -> Option<Posted<T>> {
+        match self.ends.get_mut(link) {
+            Some(end) => end.take(rt),
+            None => None,
+        }
+    }
+
+    /// Rests where nothing was found.
+    pub(crate) fn rest_unless<R: Wait>(&mut self, rt: &R, found: bool) {
+        if found {
+            self.idle.end();
+        } else {
+            self.idle.rest(rt);
+        }
+    }
+}
+
+/// The workers of a free run, and what the collecting thread has of it.
+#[derive(Drop)]
+pub struct Crew<T: Terms> {
+    pub workers: Vec<Worker<T>>,
+    pub lookout: Lookout<T>,
+}
+
+// No nets for each of so many workers.
+fn no_nets(alloc: Global, workers: usize) -> Result<Vec<Vec<u32>>, AllocError> {
+    let mut nets = Vec::with_capacity(alloc, workers)?;
+    for _ in 0..workers {
+        nets.push(Vec::new(alloc))?;
+    }
+    Ok(nets)
+}
+
+// The nets of a list that each worker drives.
+fn by_worker(
+    alloc: Global,
+    clustering: &Clustering,
+    workers: usize,
+    nets: &[u32],
+) -> Result<Vec<Vec<u32>>, AllocError> {
+    let mut theirs = no_nets(alloc, workers)?;
+    for net in nets {
+        if *net as usize >= clustering.nets() {
+            continue;
+        }
+        if let Some(list) = theirs.get_mut(clustering.of(*net) as usize) {
+            list.push(*net)?;
+        }
+    }
+    Ok(theirs)
+}
+
+// Links a worker to another one, which reads these nets.
+fn link_two<T: Terms>(
+    alloc: Global,
+    design: &Design,
+    workers: &mut [Worker<T>],
+    from: usize,
+    to: usize,
+    nets: &[u32],
+) -> Result<(), AllocError>
+    requires { design.now ≡ T.design }
+{
+    let Some(worker) = workers.get_mut(from) else {
+        return Ok(());
+    };
+    let end = worker.add_out(alloc, design, nets)?;
+    match workers.get_mut(to) {
+        Some(worker) => worker.add_in(end),
+        None => Ok(()),
+    }
+}
+
+// Links each worker that drives a net of another one to that.
+fn link_all<T: Terms>(
+    alloc: Global,
+    design: &Design,
+    clustering: &Clustering,
+    workers: &mut [Worker<T>],
+) -> Result<(), AllocError>
+    requires { design.now ≡ T.design }
+{
+    for to in 0..workers.len() {
+        let theirs = by_worker(alloc, clustering, workers.len(), workers[to].inputs())?;
+        for (from, nets) in theirs.iter().enumerate() {
+            if !nets.is_empty() {
+                link_two(alloc, design, workers, from, to, nets)?;
+            }
+        }
+    }
+    Ok(())
+}
+
+// Marks the nets of a list.
+fn mark(marks: &mut [bool], nets: &[u32]) {
+    for net in nets {
+        if let Some(mark) = marks.get_mut(*net as usize) {
+            *mark = true;
+        }
+    }
+}
+
+// Tells each worker which nets it is given, and which of its own others read.
+fn note_nets<T: Terms>(
+    alloc: Global,
+    clustering: &Clustering,
+    workers: &mut [Worker<T>],
+) -> Result<(), AllocError>
+    requires { clustering.now ≡ T.clustering }
+{
+    let mut is_read = Vec::from_elem(alloc, false, clustering.nets())?;
+    for worker in workers.iter() {
+        mark(&mut is_read, worker.inputs());
+    }
+    for worker in workers.iter_mut() {
+        worker.note_inputs()?;
+        worker.note_read(clustering, &is_read)?;
+    }
+    Ok(())
+}
+
+// Adds a worker for each cluster, who takes the next seat of the board.
+fn add_workers<T: Terms>(
+    alloc: Global,
+    design: &Design,
+    clustering: &Clustering,
+    workers: Workers,
+    board: &Arc<Board>,
+    seats: &mut Vec<Seat>,
+    crew: &mut Vec<Worker<T>>,
+) -> Result<(), AllocError>
+    requires design { design.now ≡ T.design }
+    requires clustering { clustering.now ≡ T.clustering }
+    requires nets { length clustering.now.assign ≡ nets_of design.now }
+    requires each { clustering.now.clusters ≡ workers }
+    requires seats { seats.old.items ≡ new_seats (arc_value board.now) (terms design.now clustering.now workers) }
+    requires count { vec_len seats.old ≡ workers + 1 }
+    ensures { OnOk result (seats.new.items
+        ≡ drop workers (new_seats (arc_value board.now) (terms design.now clustering.now workers))) }
+{
+    for number in 0..workers.count() {
+        let cluster = ExactCluster::open(alloc, design, clustering, number)?;
+        let shared = Arc::try_clone(board)?;
+        let seat = seats.remove(0);
+        let desk = Desk::new(shared, seat, design, workers, number);
+        crew.push(Worker::new(alloc, desk, cluster))?;
+    }
+    Ok(())
+}
+
+// Links each worker to the collector, and gives the collector's ends of these links.
+fn link_collector<T: Terms>(
+    alloc: Global,
+    design: &Design,
+    workers: &mut [Worker<T>],
+) -> Result<Vec<TakeEnd<T>>, AllocError>
+    requires { design.now ≡ T.design }
+{
+    let mut ends = Vec::with_capacity(alloc, workers.len())?;
+    for worker in workers {
+        ends.push(worker.add_collector(alloc, design)?)?;
+    }
+    Ok(ends)
+}
+
+// Links workers to one another and to the collector, and tells each which nets it is given and which of its own others
+// read. Gives the collector's ends.
+fn connect<T: Terms>(
+    alloc: Global,
+    design: &Design,
+    clustering: &Clustering,
+    workers: &mut [Worker<T>],
+) -> Result<Vec<TakeEnd<T>>, AllocError>
+    requires design { design.now ≡ T.design }
+    requires clustering { clustering.now ≡ T.clustering }
+{
+    link_all(alloc, design, clustering, workers)?;
+    note_nets(alloc, clustering, workers)?;
+    link_collector(alloc, design, workers)
+}
+
+// A new board that can be shared, and its seats.
+fn open_board(
+    alloc: Global,
+    design: &Design,
+    clustering: &Clustering,
+    workers: Workers,
+) -> Result<(Arc<Board>, Vec<Seat>), AllocError>
+    ensures seats { IfOk result (λ opened.
+        opened.1.items ≡ new_seats (arc_value opened.0) (terms design.now clustering.now workers)) }
+    ensures count { IfOk result (λ opened. vec_len opened.1 ≡ workers + 1) }
+    ensures board { IfOk result (λ opened.
+        All (IsSeatOf (arc_value opened.0) (terms design.now clustering.now workers)) opened.1.items) }
+{
+    let (board, seats) = Board::open(alloc, design, clustering, workers)?;
+    Ok((Arc::new(alloc, board)?, seats))
+}
+
+impl<T: Terms> Crew<T> {
+    /// One cluster of T's clustering for each worker, newly opened, with its seat and its ends of links.
+    pub(crate) fn open(
+        alloc: Global,
+        design: &Design,
+        clustering: &Clustering,
+        workers: Workers,
+    ) -> Result<Crew<T>, AllocError>
+        requires design { design.now ≡ T.design }
+        requires clustering { clustering.now ≡ T.clustering }
+        requires nets { length clustering.now.assign ≡ nets_of design.now }
+        requires each { clustering.now.clusters ≡ workers }
+    {
+        let (board, mut seats) = open_board(alloc, design, clustering, workers)?;
+        let mut crew = Vec::new(alloc);
+        add_workers(
+            alloc, design, clustering, workers, &board, &mut seats, &mut crew,
+        )?;
+        let ends = connect(alloc, design, clustering, &mut crew)?;
+        let lookout = Lookout::new(board, seats.remove(0), ends);
+        Ok(Crew {
+            workers: crew,
+            lookout,
+        })
+    }
+}

@@ -1,0 +1,2 @@
+pub mod HandFacts
+pub mod RoundFacts

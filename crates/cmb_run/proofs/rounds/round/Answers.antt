@@ -1,8 +1,0 @@
-use Rattle.cmb_run.proofs.RoundFacts.{on_both, round_brings_on}
-use Rattle.cmb_run.proofs.rounds.round.Goals as goal
-
-pub returns-clause-further : goal.returns-clause-further
-returns-clause-further g c = λ tick at within.
-    on_both c.pass_on.result _ _ _
-    (λ exchanged homes. round_brings_on g.T.Terms.design g.T.Terms.clustering c.args.hands.now c.step.new.hands c.pass_on.new.hands c.requires.hands c.in_ok-step.ensures.on homes exchanged tick at within)
-    c.pass_on.ensures.exchanged c.pass_on.ensures.homes
