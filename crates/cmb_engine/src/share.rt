@@ -1,6 +1,6 @@
 //! The engine of a share of a design's nets.
 
-ghost use Rattle.std.specs.Prelude.{◌≡◌, ℕ, ◌+◌, ◌<◌, ◌≤◌, true, IfOk, length};
+ghost use Rattle.std.specs.Prelude.{◌≡◌, ◌+◌, ◌<◌, ◌≤◌, IfOk, length};
 ghost use Rattle.cmb_design.specs.Exact.{nets_of};
 ghost use Rattle.cmb_design.specs.Value.{value};
 ghost use Rattle.cmb_engine.specs.Shares.{share_clock, IsDriven, IsGiven, TellsThose};
@@ -9,7 +9,7 @@ ghost use Rattle.cmb_words.specs.Changes.{RisesWithin};
 use crate::circuit::Circuit;
 use crate::engine::LONGEST_WINDOW;
 use crate::open::{open_circuit, open_state};
-use crate::sharing::{is_fed, roles_of};
+use crate::sharing::roles_of;
 use crate::state::State;
 use cmb_design::Design;
 use cmb_words::Changed;
@@ -108,16 +108,6 @@ impl<'d> ShareEngine<'d> {
         ensures within { result ≤ self.now.design.horizon }
     {
         self.state.clock
-    }
-
-    /// Whether all that the engine is given are nets that `driven` marks, which others drive.
-    pub fn is_fed_by(&self, driven: &[bool]) -> bool
-        ensures all { result ≡ true
-            → (net : ℕ) → IsGiven self.now.design self.now.driven net → IsDriven driven.now net }
-        ensures only { ((net : ℕ) → IsGiven self.now.design self.now.driven net → IsDriven driven.now net)
-            → result ≡ true }
-    {
-        is_fed(self.circuit.wiring.roles.as_slice(), driven)
     }
 
     /// Goes on by a window of at least one tick and at most `LONGEST_WINDOW`, never beyond the horizon. `given` has the

@@ -1,12 +1,11 @@
 //! What an engine does with each net, where it drives a share of them.
 
-ghost use Rattle.std.specs.Prelude.{◌≡◌, ℕ, ◌<◌, ◌∷◌, [], false, true, All, IfOk, length, slice_index_or};
+ghost use Rattle.std.specs.Prelude.{◌≡◌, ℕ, ◌<◌, ◌∷◌, [], false, All, IfOk, length};
 ghost use Rattle.cmb_bench.specs.Netlist.{driver_of, pins_of, IsNetlist};
 ghost use Rattle.cmb_design.specs.Exact.{nets_of};
 ghost use Rattle.cmb_engine.specs.Roles.{driven_of, gives, is_driven, is_given, AreOf, Gives};
-ghost use Rattle.cmb_engine.specs.Shares.{IsDriven};
 
-use crate::role::{Role, is_given};
+use crate::role::Role;
 use cmb_bench::Driver;
 use cmb_design::Design;
 use std::alloc::{AllocError, Global};
@@ -81,27 +80,4 @@ pub(crate) fn roles_of(
         }
     }
     Ok(roles)
-}
-
-// Whether a net is marked.
-fn is_marked(driven: &[bool], net: usize) -> bool
-    ensures { result ≡ slice_index_or driven.now net false }
-{
-    match driven.get(net) {
-        Some(driven) => *driven,
-        None => false,
-    }
-}
-
-/// Whether all given nets are among those that `driven` marks.
-pub(crate) fn is_fed(roles: &[Role], driven: &[bool]) -> bool
-    ensures all { result ≡ true → (net : ℕ) → gives roles.now net ≡ true → IsDriven driven.now net }
-    ensures only { ((net : ℕ) → gives roles.now net ≡ true → IsDriven driven.now net) → result ≡ true }
-{
-    for net in 0..roles.len() {
-        if is_given(roles, net) && !is_marked(driven, net) {
-            return false;
-        }
-    }
-    true
 }
