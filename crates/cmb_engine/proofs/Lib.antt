@@ -18,6 +18,7 @@ pub mod ReaderFacts
 pub mod RoleFacts
 pub mod RowFacts
 pub mod SampleFacts
+pub mod ShareFacts
 pub mod ShowFacts
 pub mod SlotFacts
 pub mod StartFacts

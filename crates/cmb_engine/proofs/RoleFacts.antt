@@ -4,13 +4,11 @@ use Rattle.std.specs.Prelude.{Contains}
 use Rattle.std.proofs.lemmas.Bool.{cases_Bool, cases_eq, cases_lt, false≢true}
 use Rattle.std.proofs.lemmas.List.{get_or_past, length-map, take_more}
 use Rattle.std.proofs.lemmas.List.Elements.{All-contains, Contains-get_or}
-use Rattle.cmb_wave.specs.declared.level.Level.{Level}
 use Rattle.cmb_bench.specs.Netlist.{driver_of, pins_of, IsNetlist}
 use Rattle.cmb_design.specs.Design.{Design}
 use Rattle.cmb_design.specs.Exact.{nets_of}
 use Rattle.cmb_design.specs.Value.{value}
-use Rattle.cmb_engine.specs.Gifts.{AreGiven}
-use Rattle.cmb_engine.specs.Roles.{AreOf, AreRoles, Gives, is_driven, is_given, is_absent, driven_of, role_of, drives, gives, lacks, level_in}
+use Rattle.cmb_engine.specs.Roles.{AreOf, Gives, is_driven, is_given, is_absent, driven_of, role_of, drives, gives, lacks, level_in}
 use Rattle.cmb_words.specs.declared.changed.Changed.{Changed}
 use Rattle.cmb_words.specs.Changes.{Tells, TellsNet}
 use Rattle.cmb_engine.specs.Shares.{IsDriven, IsGiven, TellsThose}
@@ -70,31 +68,6 @@ level-start design roles net = go (cases_Bool (lacks roles net))
     go : (lacks roles net ≡ true) ⊎ (lacks roles net ≡ false) → level_in design roles net 0 ≡ value design net 0
     go (inl h) = level-absent design roles net 0 h
     go (inr h) = level-present design roles net 0 h
-
--- ---- where all nets are driven
-
-pub whole-roles : (design : Design) → AreRoles design []
-whole-roles design = record { few = omega arith; known = λ net operand small driven read. refl }
-
-pub whole-level : (design : Design) (roles : List Role) (net tick : ℕ) → roles ≡ [] → level_in design roles net tick ≡ value design net tick
-whole-level design roles net tick whole = level-present design roles net tick (ap (λ (rs : List Role). lacks rs net) whole)
-
-pub whole-given : (level : ℕ → ℕ → Level) (roles : List Role) (from to : ℕ) (given : List Changed) → roles ≡ [] → AreGiven level roles from to given
-whole-given level roles from to given whole = record {
-  words = λ one among gift. absurd (none one.net gift);
-  others = λ net gift. absurd (none net gift);
-}
-  where
-    none : (net : ℕ) → gives roles net ≡ true → ⊥
-    none net gift = false≢true (sym (ap (λ (rs : List Role). gives rs net) whole) ∙ gift)
-
-pub whole-tells : (design : Design) (roles : List Role) (nets from to : ℕ) (changed : List Changed) → roles ≡ [] → Tells (level_in design roles) nets from to changed
-    → Tells (value design) nets from to changed
-whole-tells design roles nets from to changed whole tells = record {
-  words = λ k d small tick late below. tells.words k d small tick late below ∙ whole-level design roles (get_or changed k d).net tick whole;
-  others = λ net small none tick late below.
-      sym (whole-level design roles net tick whole) ∙ tells.others net small none tick late below ∙ whole-level design roles net (suc tick) whole;
-}
 
 -- ---- which nets are driven
 

@@ -1,5 +1,5 @@
 -- What an engine keeps, and what it is at a clock. Only contracts inside this crate cite these.
-use Rattle.std.specs.Prelude.{◌≡◌, ◌*◌, ◌^◌, ◌<◌, ◌≤◌, length}
+use Rattle.std.specs.Prelude.{◌≡◌, ℕ, ◌*◌, ◌^◌, ◌<◌, ◌≤◌, length}
 use Rattle.cmb_design.specs.Design.{Design}
 use Rattle.cmb_design.specs.Exact.{nets_of}
 use Rattle.cmb_engine.specs.Ahead.{TellsAhead}
@@ -7,6 +7,7 @@ use Rattle.cmb_engine.specs.Bits.{has}
 use Rattle.cmb_engine.specs.Circuits.{AreQuiet, IsWiring, Shows}
 use Rattle.cmb_engine.specs.Lines.{AreFollowers}
 use Rattle.cmb_engine.specs.Roles.{AreRoles}
+use Rattle.cmb_engine.specs.Shares.{ShareEngine, IsDriven, IsGiven}
 use Rattle.cmb_engine.specs.Traces.{IsPlan, trace_of}
 use Rattle.cmb_engine.specs.Words.{levels_of}
 use Rattle.cmb_engine.specs.declared.circuit.Circuit.{Circuit}
@@ -30,3 +31,8 @@ pub record IsState (design : Design) (circuit : Circuit) (state : State) : Type 
   pub ahead : TellsAhead design circuit.wiring.roles.items circuit.lines.items circuit.width circuit.wiring.cells state.clock state.calendar
   pub begun : 1 ≤ state.clock
   pub within : state.clock ≤ design.horizon
+
+-- the engine of a share that is all nets, to which nothing is given
+pub record DrivesAll (share : ShareEngine) : Type 0 where
+  pub all : (net : ℕ) → net < nets_of share.design → IsDriven share.driven net
+  pub alone : (net : ℕ) → IsGiven share.design share.driven net → ⊥

@@ -6,9 +6,7 @@ ghost use Rattle.cmb_design.specs.Value.{value};
 ghost use Rattle.cmb_engine.specs.Engines.{next_clock};
 ghost use Rattle.cmb_words.specs.Changes.{RisesWithin, Tells};
 
-use crate::circuit::Circuit;
-use crate::open::{open_circuit, open_state};
-use crate::state::State;
+use crate::share::ShareEngine;
 use cmb_design::Design;
 use cmb_words::Changed;
 use std::alloc::{AllocError, Global};
@@ -17,33 +15,27 @@ use std::marker::Model;
 /// The most ticks of a window: a word has the tick before it too.
 pub const LONGEST_WINDOW: u32 = 63;
 
-/// Simulates a design, window by window of ticks.
+/// Simulates a design, window by window of ticks: the engine of a share that is all nets, so that nothing is given to it.
 ///
 /// What it needs of memory depends on the nets, their delays and the changes under way, and not on the horizon.
 #[derive(Drop)]
 pub struct Engine<'d> {
-    design: &'d Design,
-    circuit: Circuit,
-    state: State,
+    share: ShareEngine<'d>,
 }
 
 impl<'d> Model for Engine<'d> {
-    ghost use Rattle.std.specs.Prelude.{◌≡◌, []};
     ghost use Rattle.cmb_engine.specs.Engines.{Engine};
+    ghost use Rattle.cmb_engine.specs.States.{DrivesAll};
 
     ghost Value = { Engine };
 
-    ghost use Rattle.cmb_engine.specs.States.{IsCircuit, IsState};
-
     ghost view = { λ engine. record {
-      design = engine.design.now;
-      width = engine.circuit.width;
-      clock = engine.state.clock;
+      design = engine.share.design;
+      width = engine.share.width;
+      clock = engine.share.clock;
     } };
 
-    ghost invariant = { λ engine. IsCircuit engine.design.now engine.circuit
-        × IsState engine.design.now engine.circuit engine.state
-        × (engine.circuit.wiring.roles.items ≡ []) };
+    ghost invariant = { λ engine. DrivesAll engine.share };
 }
 
 impl<'d> Engine<'d> {
@@ -52,13 +44,9 @@ impl<'d> Engine<'d> {
         ensures design { IfOk result (λ engine. engine.design ≡ design.entry.now) }
         ensures clock { IfOk result (λ engine. engine.clock ≡ 1) }
     {
-        let circuit = open_circuit(alloc, design, Vec::new(alloc))?;
-        let state = open_state(alloc, design, &circuit)?;
-        Ok(Engine {
-            design,
-            circuit,
-            state,
-        })
+        let driven = vec![in alloc; true; design.netlist().len()]?;
+        let share = ShareEngine::open(alloc, design, driven.as_slice())?;
+        Ok(Engine { share })
     }
 
     /// The engine begun anew, of which tick 0 is known, with windows of at most so many ticks.
@@ -69,18 +57,9 @@ impl<'d> Engine<'d> {
         ensures width { IfOk result (λ engine. engine.width ≡ width) }
         ensures clock { IfOk result (λ engine. engine.clock ≡ 1) }
     {
-        let Engine {
-            design,
-            circuit,
-            state: _,
-        } = self;
-        let circuit = circuit.narrowed(design, width);
-        let state = open_state(alloc, design, &circuit)?;
-        Ok(Engine {
-            design,
-            circuit,
-            state,
-        })
+        let Engine { share } = self;
+        let share = share.narrowed(alloc, width)?;
+        Ok(Engine { share })
     }
 
     /// The most ticks of a window. Windows end at the multiples of it, and the last one at the horizon.
@@ -89,7 +68,7 @@ impl<'d> Engine<'d> {
         ensures some { 2 ≤ result }
         ensures most { result < LONGEST_WINDOW }
     {
-        self.circuit.width
+        self.share.width()
     }
 
     /// The tick below which all nets are known, in ticks.
@@ -98,7 +77,7 @@ impl<'d> Engine<'d> {
         ensures begun { 1 ≤ result }
         ensures within { result ≤ self.now.design.horizon }
     {
-        self.state.clock
+        self.share.clock()
     }
 
     /// Goes on by a window of at least one tick and at most `LONGEST_WINDOW`, never beyond the horizon. `changed` gets
@@ -116,16 +95,8 @@ impl<'d> Engine<'d> {
         ensures tells { IfOk result (λ engine. Tells (value self.entry.design) (nets_of self.entry.design)
             self.entry.clock engine.clock changed.new.items) }
     {
-        let Engine {
-            design,
-            circuit,
-            state,
-        } = self;
-        let state = state.advance(design, &circuit, &[], changed)?;
-        Ok(Engine {
-            design,
-            circuit,
-            state,
-        })
+        let Engine { share } = self;
+        let share = share.advance(&[], changed)?;
+        Ok(Engine { share })
     }
 }

@@ -29,7 +29,6 @@ use cmb_words::{Changed, Word};
 /// of flip-flops, and how many ticks back a pin looks at most.
 #[derive(Drop)]
 pub(crate) struct Wiring {
-    /// Empty where all nets are driven.
     pub roles: Vec<Role>,
     pub cells: Cells,
     pub readers: Readers,

@@ -1,0 +1,57 @@
+-- The engine of a share that is all nets.
+use Rattle.std.proofs.Common.{◌≡◌, ℕ, ◌<◌, true, false, Bool, List, [], length, get_or, sym, ap, subst, ◌∙◌, arith}
+use Rattle.std.specs.Prelude.{Contains, replicate}
+use Rattle.std.proofs.lemmas.Bool.{false≢true}
+use Rattle.std.proofs.lemmas.List.{get_or-replicate, length-replicate}
+use Rattle.std.proofs.lemmas.List.Elements.{All-contains, Contains-get_or}
+use Rattle.cmb_wave.specs.declared.level.Level.{Level}
+use Rattle.cmb_bench.specs.Netlist.{IsNetlist, IsWired, driver_of, pins_of}
+use Rattle.cmb_bench.specs.declared.netlist.Driver.{Driver}
+use Rattle.cmb_bench.specs.declared.netlist.Driver.TheVariants.{Input, Gate, Flop}
+use Rattle.cmb_design.specs.Exact.{nets_of}
+use Rattle.cmb_design.specs.Value.{value}
+use Rattle.cmb_words.specs.declared.changed.Changed.{Changed}
+use Rattle.cmb_words.specs.Changes.{RisesWithin, Tells}
+use Rattle.cmb_words.proofs.Rising.{rises_at}
+use Rattle.cmb_engine.specs.Shares.{IsDriven, IsGiven, ShareEngine, TellsThose}
+use Rattle.cmb_engine.specs.States.{DrivesAll}
+use Rattle.cmb_engine.proofs.PlanFacts.{driver-wired}
+use Rattle.cmb_engine.proofs.RoleFacts.{driven-inside, only-among}
+
+-- what a net reads is a net
+pin-inside : (nets : ℕ) (driver : Driver) (net : ℕ) → IsWired nets driver → Contains (pins_of driver) net → net < nets
+pin-inside nets Input net wired among = absurd (omega (arith, among.1))
+pin-inside nets (Gate kind operands) net wired among = All-contains (λ operand. operand < nets) operands net wired.1 among
+pin-inside nets (Flop source) net wired among = subst (λ (n : ℕ). n < nets) (only-among source net among) wired
+
+pub drives-all : (share : ShareEngine) → IsNetlist share.design.netlist → share.driven ≡ replicate (nets_of share.design) true → DrivesAll share
+drives-all share netlist whole = record {
+  all = all;
+  alone = λ net given. false≢true (sym given.undriven ∙ all net (pin-inside (nets_of share.design) (driver_of share.design.netlist given.reader) net (driver-wired share.design.netlist given.reader netlist (reader given.reader given.reader_driven)) given.read));
+}
+  where
+    all : (net : ℕ) → net < nets_of share.design → IsDriven share.driven net
+    all net small = ap (λ (ds : List Bool). get_or ds net false) whole ∙ get_or-replicate (nets_of share.design) net true false small
+
+    reader : (net : ℕ) → IsDriven share.driven net → net < nets_of share.design
+    reader net driven = omega (arith, driven-inside share.driven net driven, ap length whole, length-replicate (nets_of share.design) true)
+
+-- it stays so
+pub drives-on : (old new : ShareEngine) → new.design ≡ old.design → new.driven ≡ old.driven → DrivesAll old → DrivesAll new
+drives-on old new same_design same_driven drives = rw (same_design, same_driven) record { all = drives.all; alone = drives.alone }
+
+-- nothing has to be given to it
+pub none-given : (share : ShareEngine) (level : ℕ → ℕ → Level) (from upto : ℕ) → DrivesAll share → TellsThose (IsGiven share.design share.driven) level from upto []
+none-given share level from upto drives = record {
+  words = λ one among given. absurd (drives.alone one.net given);
+  others = λ net given. absurd (drives.alone net given);
+}
+
+-- and what it tells of driven nets is of all
+pub all-told : (share : ShareEngine) (from upto : ℕ) (changed : List Changed) → DrivesAll share → RisesWithin 0 (nets_of share.design) changed
+    → TellsThose (IsDriven share.driven) (value share.design) from upto changed → Tells (value share.design) (nets_of share.design) from upto changed
+all-told share from upto changed drives rises tells = record {
+  words = λ k d small.
+      tells.words (get_or changed k d) (Contains-get_or changed k d small) (drives.all (get_or changed k d).net (rises_at 0 (nets_of share.design) changed k d rises small));
+  others = λ net small. tells.others net (drives.all net small);
+}
