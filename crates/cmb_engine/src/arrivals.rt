@@ -4,6 +4,7 @@ ghost use Rattle.std.specs.Prelude.{◌≡◌, ℕ, ◌+◌, ◌-◌, ◌%◌, �
 ghost use Rattle.cmb_engine.specs.Arrivals.{IsArrival};
 ghost use Rattle.cmb_engine.specs.Cells.{IsPace};
 ghost use Rattle.cmb_engine.specs.Rows.{arrives_by};
+ghost use Rattle.cmb_engine.specs.Windows.{HasWindow};
 
 use cmb_design::Clock;
 
@@ -21,9 +22,7 @@ pub(crate) struct Arrival {
 pub(crate) fn first_arrival(clock: Clock, delay: u32, to: u32, first: u32) -> u32
     requires clock { IsPace clock }
     requires delay { delay ≤ 1000000 }
-    requires to { to ≤ 1000000 }
-    requires first { first < 64 }
-    requires inside { 64 ≤ to + first }
+    requires window { HasWindow to first }
     ensures reach { first ≤ result }
     ensures arrives { (place : ℕ) → first ≤ place → place < 64
         → arrives_by clock delay (to + place - 64) ≡ (nat_le result place && ((place - result) % clock.period == 0)) }
@@ -47,9 +46,7 @@ pub(crate) fn arrival_of(last: Arrival, clock: Clock, delay: u32, to: u32, first
     requires last { IsArrival last to first }
     requires clock { IsPace clock }
     requires delay { delay ≤ 1000000 }
-    requires to { to ≤ 1000000 }
-    requires first { first < 64 }
-    requires inside { 64 ≤ to + first }
+    requires window { HasWindow to first }
     ensures arrival { IsArrival result to first }
     ensures clock { result.clock ≡ clock }
     ensures delay { result.delay ≡ delay }
@@ -67,9 +64,7 @@ pub(crate) fn arrival_of(last: Arrival, clock: Clock, delay: u32, to: u32, first
 
 /// An arrival to begin a window with: that of a clock that samples at each tick.
 pub(crate) fn any_arrival(to: u32, first: u32) -> Arrival
-    requires to { to ≤ 1000000 }
-    requires first { first < 64 }
-    requires inside { 64 ≤ to + first }
+    requires window { HasWindow to first }
     ensures { IsArrival result to first }
 {
     let clock = Clock {

@@ -7,6 +7,7 @@ ghost use Rattle.cmb_engine.specs.Arrivals.{IsArrival};
 ghost use Rattle.cmb_engine.specs.Cells.{Told, Gate, Flop, cell_at, is_made, pins_of as pins_of_cell, reads, AreBelow};
 ghost use Rattle.cmb_engine.specs.Cells.{IsListed, IsMade, IsLawful};
 ghost use Rattle.cmb_engine.specs.Circuits.{is_flop};
+ghost use Rattle.cmb_engine.specs.Windows.{HasWindow};
 ghost use Rattle.cmb_engine.specs.Words.{levels_of};
 
 use crate::arrivals::Arrival;
@@ -212,10 +213,7 @@ impl Cells {
         requires last { IsArrival last.old to first }
         requires cell { IsLawful (length words.now) first (slice_index_or self.now net Told) }
         requires nets { length self.now ≡ length words.now }
-        requires to { to ≤ 1000000 }
-        requires begun { 1 ≤ first }
-        requires first { first < 64 }
-        requires inside { 64 ≤ to + first }
+        requires window { HasWindow to first }
         ensures last { IsArrival last.new to first }
         ensures below { (place : ℕ) → place < first → level_at_place result place ≡ levels_of words.now net place }
         ensures made { IsMade (levels_of words.now) (level_at_place result) to first

@@ -7,6 +7,7 @@ ghost use Rattle.cmb_engine.specs.Bits.{has};
 ghost use Rattle.cmb_engine.specs.Cells.{Cell, IsLawful, IsPace, IsSteady, cell_at};
 ghost use Rattle.cmb_engine.specs.Circuits.{AreFlops, AreMembers, IsFlopOf, IsGroup, IsInGroup, IsMarkedOrRests};
 ghost use Rattle.cmb_engine.specs.Rows.{arrives_by};
+ghost use Rattle.cmb_engine.specs.Windows.{HasWindow};
 ghost use Rattle.cmb_engine.specs.Words.{levels_of};
 
 use crate::arrivals::first_arrival;
@@ -150,10 +151,7 @@ fn mark_group(group: &Group, cells: &Cells, words: &[Word], marks: &mut Marks, t
     requires lawful { (slot : ℕ) → slot < length words.now
         → IsLawful (length words.now) first (cell_at cells.now slot) }
     requires room { length words.now ≤ 64 * length marks.old }
-    requires to { to ≤ 1000000 }
-    requires begun { 1 ≤ first }
-    requires first { first < 64 }
-    requires inside { 64 ≤ to + first }
+    requires window { HasWindow to first }
     ensures room { length marks.new ≡ length marks.old }
     ensures kept { (m : ℕ) → has marks.old m ≡ true → has marks.new m ≡ true }
     ensures arrivals { (slot place : ℕ) → Contains group.now.flops.items slot → first ≤ place → place < 64
@@ -183,10 +181,7 @@ pub(crate) fn mark_arrivals(
     requires lawful { (slot : ℕ) → slot < length words.now
         → IsLawful (length words.now) first (cell_at cells.now slot) }
     requires room { length words.now ≤ 64 * length marks.old }
-    requires to { to ≤ 1000000 }
-    requires begun { 1 ≤ first }
-    requires first { first < 64 }
-    requires inside { 64 ≤ to + first }
+    requires window { HasWindow to first }
     ensures room { length marks.new ≡ length marks.old }
     ensures kept { (m : ℕ) → has marks.old m ≡ true → has marks.new m ≡ true }
     ensures arrivals { (clock : Clock) (delay slot place : ℕ)

@@ -5,6 +5,7 @@ ghost use Rattle.std.specs.Prelude.{◌≡◌, ℕ, ◌+◌, ◌^◌, ◌<◌, �
 ghost use Rattle.cmb_calendar.specs.Calendars.{day_begin};
 ghost use Rattle.cmb_words.specs.Changes.{RisesWithin};
 ghost use Rattle.cmb_engine.specs.Lines.{AreFollowers, IsAhead, IsOfChange, IsOfFollower, IsOfLine, NotesEach};
+ghost use Rattle.cmb_engine.specs.Windows.{HasWindow};
 
 use crate::cell::Pin;
 use crate::readers::{Readers, empty_lists, push_reader};
@@ -39,10 +40,7 @@ fn note_changes(
 ) -> Result<(), AllocError>
     requires delay { delay ≤ 1000000 }
     requires ahead { day_begin calendar.old + 64 ≤ to + first + delay }
-    requires to { to ≤ 1000000 }
-    requires begun { 1 ≤ first }
-    requires first { first < 64 }
-    requires inside { 64 ≤ to + first }
+    requires window { HasWindow to first }
     ensures notes { OnOk result (NotesEach (IsOfChange word slot delay to first) calendar.old calendar.new) }
     ensures width { calendar.new.width ≡ calendar.old.width }
     ensures horizon { calendar.new.horizon ≡ calendar.old.horizon }
@@ -72,10 +70,7 @@ fn note_followers(
     requires within { All (λ number. number < length lines.now) followers.now }
     requires few { nets + length lines.now < 2 ^ 32 }
     requires ahead { All (IsAhead calendar.old to first) lines.now }
-    requires to { to ≤ 1000000 }
-    requires begun { 1 ≤ first }
-    requires first { first < 64 }
-    requires inside { 64 ≤ to + first }
+    requires window { HasWindow to first }
     ensures notes { OnOk result (NotesEach
         (IsOfFollower word followers.now lines.now nets to first)
         calendar.old calendar.new) }
@@ -104,10 +99,7 @@ pub(crate) fn note_lines(
     requires followers { AreFollowers lines.now (length followers.now) followers.now }
     requires few { length followers.now + length lines.now < 2 ^ 32 }
     requires ahead { All (IsAhead calendar.old to first) lines.now }
-    requires to { to ≤ 1000000 }
-    requires begun { 1 ≤ first }
-    requires first { first < 64 }
-    requires inside { 64 ≤ to + first }
+    requires window { HasWindow to first }
     ensures notes { OnOk result (NotesEach
         (IsOfLine changed.now lines.now (length followers.now) to first)
         calendar.old calendar.new) }

@@ -7,6 +7,7 @@ ghost use Rattle.cmb_engine.specs.Arrivals.{IsArrival};
 ghost use Rattle.cmb_engine.specs.Bits.{has};
 ghost use Rattle.cmb_engine.specs.Cells.{Told, IsMade, IsLawful, IsReady, IsTrueBelow, IsWired, AreReaders, AreSettled};
 ghost use Rattle.cmb_engine.specs.Cells.{KeepsTold, cell_at, is_made, reads};
+ghost use Rattle.cmb_engine.specs.Windows.{HasWindow};
 ghost use Rattle.cmb_engine.specs.Words.{levels_of};
 
 use crate::arrivals::{Arrival, any_arrival};
@@ -50,10 +51,7 @@ pub(crate) fn visit(
     requires room { length words.old ≤ 64 * length marks.old }
     requires readers { AreReaders cells.now net (slice_index_or readers.now net []) }
     requires within { All (λ reader. reader < 64 * length marks.old) (slice_index_or readers.now net []) }
-    requires to { to ≤ 1000000 }
-    requires begun { 1 ≤ first }
-    requires first { first < 64 }
-    requires inside { 64 ≤ to + first }
+    requires window { HasWindow to first }
     ensures last { IsArrival last.new to first }
     ensures room { length marks.new ≡ length marks.old }
     ensures others { (m place : ℕ) → m ≢ net → levels_of words.new m place ≡ levels_of words.old m place }
@@ -99,10 +97,7 @@ pub(crate) fn sweep(
     requires wired { IsWired cells.now readers.now (length words.old) first }
     requires room { length words.old ≤ 64 * length marks.old }
     requires live { length words.old ≤ 64 * length live.old }
-    requires to { to ≤ 1000000 }
-    requires begun { 1 ≤ first }
-    requires first { first < 64 }
-    requires inside { 64 ≤ to + first }
+    requires window { HasWindow to first }
     ensures room { length marks.new ≡ length marks.old }
     ensures live { length live.new ≡ length live.old }
     ensures told { KeepsTold (levels_of words.old) (levels_of words.new) (cell_at cells.now) }
@@ -145,10 +140,7 @@ pub(crate) fn settle(
     requires wired { IsWired cells.now readers.now (length words.old) first }
     requires room { length words.old ≤ 64 * length marks.old }
     requires live { length words.old ≤ 64 * length live.old }
-    requires to { to ≤ 1000000 }
-    requires begun { 1 ≤ first }
-    requires first { first < 64 }
-    requires inside { 64 ≤ to + first }
+    requires window { HasWindow to first }
     ensures room { length marks.new ≡ length marks.old }
     ensures live { length live.new ≡ length live.old }
     ensures told { KeepsTold (levels_of words.old) (levels_of words.new) (cell_at cells.now) }

@@ -6,6 +6,7 @@ ghost use Rattle.cmb_words.specs.Word.{level_at_place};
 ghost use Rattle.cmb_engine.specs.Arrivals.{IsArrival};
 ghost use Rattle.cmb_engine.specs.Cells.{seen, IsPace};
 ghost use Rattle.cmb_engine.specs.Rows.{arrives_by};
+ghost use Rattle.cmb_engine.specs.Windows.{HasWindow};
 ghost use Rattle.cmb_engine.specs.Words.{levels_of};
 
 use crate::arrivals::{Arrival, arrival_of};
@@ -79,10 +80,7 @@ pub(crate) fn flop_word(
     requires clock { IsPace clock }
     requires net { pin.net < length words.now }
     requires delay { pin.delay ≤ first }
-    requires to { to ≤ 1000000 }
-    requires begun { 1 ≤ first }
-    requires first { first < 64 }
-    requires inside { 64 ≤ to + first }
+    requires window { HasWindow to first }
     ensures last { IsArrival last.new to first }
     ensures below { (place : ℕ) → place < first → level_at_place result place ≡ level_at_place own place }
     ensures from { (place : ℕ) → first ≤ place → place < 64

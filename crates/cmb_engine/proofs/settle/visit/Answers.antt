@@ -11,7 +11,7 @@ use Rattle.cmb_engine.proofs.settle.visit.Goals as goal
 kept-made : (c : goal.Then-not-differs_from) → IsMade (levels_of c.args.words.now) (levels_of c.args.words.now c.args.net) c.args.to c.args.first (slice_index_or c.args.cells.now c.args.net Told)
 kept-made c =
     made-same (levels_of c.args.words.now) (level_at_place c.word-made.result) (levels_of c.args.words.now c.args.net) c.args.to c.args.first
-    (slice_index_or c.args.cells.now c.args.net Told) c.requires.begun
+    (slice_index_or c.args.cells.now c.args.net Told) c.requires.window.0
     (same-both (level_at_place c.word-made.result) (levels_of c.args.words.now c.args.net) c.args.first c.word-made.ensures.below
     (λ place from small.
     c.differs_from.ensures.same c.if-not-differs_from.true place from small
@@ -24,7 +24,7 @@ returns-then-not-differs_from-clause-made c = kept-made c
 pub returns-then-not-differs_from-clause-settled : goal.returns-then-not-differs_from-clause-settled
 returns-then-not-differs_from-clause-settled c =
     visit-keeps (levels_of c.args.words.now) (levels_of c.args.words.now) c.args.net (λ m place other. refl) c.args.cells.now c.args.marks.now c.remove.new.self
-    c.args.to c.args.first c.requires.begun (kept-made c)
+    c.args.to c.args.first c.requires.window.0 (kept-made c)
     (λ m none other. removed-false c.args.marks.now c.remove.new.self c.args.net m (c.remove.ensures.has m) none other)
     (λ m place none read small. refl)
 
@@ -38,7 +38,7 @@ returns-clause-past c = λ place below.
 written-made : (c : goal.After-mark_all) → IsMade (levels_of c.args.words.now) (levels_of (set c.args.words.now c.args.net c.word-made.result) c.args.net) c.args.to c.args.first (slice_index_or c.args.cells.now c.args.net Told)
 written-made c =
     made-same (levels_of c.args.words.now) (level_at_place c.word-made.result) (levels_of (set c.args.words.now c.args.net c.word-made.result) c.args.net) c.args.to c.args.first
-    (slice_index_or c.args.cells.now c.args.net Told) c.requires.begun
+    (slice_index_or c.args.cells.now c.args.net Told) c.requires.window.0
     (λ place small. sym (levels_of-set_same c.args.words.now c.args.net c.word-made.result place c.requires.net))
     c.word-made.ensures.made
 
@@ -49,7 +49,7 @@ pub returns-clause-settled : goal.returns-clause-settled
 returns-clause-settled c =
     visit-keeps (levels_of c.args.words.now) (levels_of (set c.args.words.now c.args.net c.word-made.result)) c.args.net
     (λ m place other. levels_of-set_other c.args.words.now c.args.net m c.word-made.result place other)
-    c.args.cells.now c.args.marks.now c.mark_all.new.marks c.args.to c.args.first c.requires.begun (written-made c)
+    c.args.cells.now c.args.marks.now c.mark_all.new.marks c.args.to c.args.first c.requires.window.0 (written-made c)
     (λ m none other. removed-false c.args.marks.now c.remove.new.self c.args.net m (c.remove.ensures.has m)
     (kept-false c.remove.new.self c.mark_all.new.marks m (c.mark_all.ensures.kept m) none) other)
     (λ m place none read small. absurd (reader-marked c.args.cells.now c.args.net (slice_index_or c.args.readers.now c.args.net []) c.mark_all.new.marks c.requires.readers
