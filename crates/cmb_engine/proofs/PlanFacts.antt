@@ -3,7 +3,7 @@ use Rattle.std.proofs.Common.{◌≡◌, ℕ, zero, suc, ◌+◌, ◌-◌, ◌%�
 use Rattle.std.specs.Prelude.{All, Contains, nat_le, replicate, slice_get}
 use Rattle.std.specs.List.{AllByRecursion, AllZip}
 use Rattle.std.proofs.lemmas.Bool.{cases_lt, cases_Bool, false≢true, lt-ltb, le-ltb}
-use Rattle.std.proofs.lemmas.List.{length-append, length-replicate, get_or_append_left, get_or-append_right}
+use Rattle.std.proofs.lemmas.List.{get_or_past, length-append, length-replicate, get_or_append_left, get_or-append_right}
 use Rattle.std.proofs.lemmas.Option.{slice_get_within}
 use Rattle.std.proofs.lemmas.List.Elements.{All-from_recursion, Contains-get_or, recursion_from_All, AllZip-push, length_all_zip}
 use Rattle.cmb_wave.specs.declared.level.Level.{Level}
@@ -85,8 +85,12 @@ pins-more design net operands i d ticks nets after old new least most pins next 
 
 -- ---- the drivers of a lawful netlist
 
-pub driver-wired : (netlist : Netlist) (net : ℕ) → IsNetlist netlist → net < length netlist.names → IsWired (length netlist.names) (driver_of netlist net)
-driver-wired netlist net lawful inside = lawful.wired net driver.Input (omega (arith, lawful.paired))
+pub driver-wired : (netlist : Netlist) → IsNetlist netlist → (net : ℕ) → IsWired (length netlist.names) (driver_of netlist net)
+driver-wired netlist lawful net = go (cases_lt net (length netlist.drivers))
+  where
+    go : (net < length netlist.drivers) ⊎ (length netlist.drivers ≤ net) → IsWired (length netlist.names) (driver_of netlist net)
+    go (inl here) = lawful.wired net driver.Input here
+    go (inr past) = rw (get_or_past netlist.drivers net driver.Input past) tt
 
 takes-some : (kind : Kind) (count : ℕ) → MayTake kind count → 1 ≤ count
 takes-some And count h = h
@@ -102,14 +106,14 @@ pub length-pins_from : (design : Design) (net pin : ℕ) (operands : List ℕ) �
 length-pins_from design net pin [] = refl
 length-pins_from design net pin (operand ∷ operands) = ap suc (length-pins_from design net (suc pin) operands)
 
-pub wired-gate : (netlist : Netlist) (net : ℕ) (kind : Kind) (operands : List ℕ) → IsNetlist netlist → net < length netlist.names → driver_of netlist net ≡ driver.Gate kind operands
+pub wired-gate : (netlist : Netlist) (net : ℕ) (kind : Kind) (operands : List ℕ) → IsNetlist netlist → driver_of netlist net ≡ driver.Gate kind operands
     → (1 ≤ length operands) × All (λ operand. operand < length netlist.names) operands
-wired-gate netlist net kind operands lawful inside is =
-    let wired = subst (IsWired (length netlist.names)) is (driver-wired netlist net lawful inside) in
+wired-gate netlist net kind operands lawful is =
+    let wired = subst (IsWired (length netlist.names)) is (driver-wired netlist lawful net) in
     (takes-some kind (length operands) wired.0, wired.1)
 
-pub wired-flop : (netlist : Netlist) (net source : ℕ) → IsNetlist netlist → net < length netlist.names → driver_of netlist net ≡ driver.Flop source → source < length netlist.names
-wired-flop netlist net source lawful inside is = subst (IsWired (length netlist.names)) is (driver-wired netlist net lawful inside)
+pub wired-flop : (netlist : Netlist) (net source : ℕ) → IsNetlist netlist → driver_of netlist net ≡ driver.Flop source → source < length netlist.names
+wired-flop netlist net source lawful is = subst (IsWired (length netlist.names)) is (driver-wired netlist lawful net)
 
 pub gate-stands : (design : Design) (net : ℕ) (kind : Kind) (operands : List ℕ) (nets : ℕ) (lines : List Pin) (most : ℕ) (pins : List Pin)
     → driver_of design.netlist net ≡ driver.Gate kind operands → 1 ≤ length operands → AllZip (StandsFor nets lines most) (pins_from design net 1 operands) pins

@@ -1,8 +1,8 @@
 -- The engine of a share that is all nets.
-use Rattle.std.proofs.Common.{◌≡◌, ℕ, ◌<◌, true, false, Bool, List, [], length, get_or, sym, ap, subst, ◌∙◌, arith}
+use Rattle.std.proofs.Common.{◌≡◌, ℕ, ◌<◌, true, false, Bool, List, [], get_or, sym, ap, subst, ◌∙◌, arith}
 use Rattle.std.specs.Prelude.{Contains, replicate}
 use Rattle.std.proofs.lemmas.Bool.{false≢true}
-use Rattle.std.proofs.lemmas.List.{get_or-replicate, length-replicate}
+use Rattle.std.proofs.lemmas.List.{get_or-replicate}
 use Rattle.std.proofs.lemmas.List.Elements.{All-contains, Contains-get_or}
 use Rattle.cmb_wave.specs.declared.level.Level.{Level}
 use Rattle.cmb_bench.specs.Netlist.{IsNetlist, IsWired, driver_of, pins_of}
@@ -16,7 +16,7 @@ use Rattle.cmb_words.proofs.Rising.{rises_at}
 use Rattle.cmb_engine.specs.Shares.{IsDriven, IsGiven, ShareEngine, TellsThose}
 use Rattle.cmb_engine.specs.States.{DrivesAll}
 use Rattle.cmb_engine.proofs.PlanFacts.{driver-wired}
-use Rattle.cmb_engine.proofs.RoleFacts.{driven-inside, only-among}
+use Rattle.cmb_engine.proofs.RoleFacts.{only-among}
 
 -- what a net reads is a net
 pin-inside : (nets : ℕ) (driver : Driver) (net : ℕ) → IsWired nets driver → Contains (pins_of driver) net → net < nets
@@ -27,14 +27,13 @@ pin-inside nets (Flop source) net wired among = subst (λ (n : ℕ). n < nets) (
 pub drives-all : (share : ShareEngine) → IsNetlist share.design.netlist → share.driven ≡ replicate (nets_of share.design) true → DrivesAll share
 drives-all share netlist whole = record {
   all = all;
-  alone = λ net given. false≢true (sym given.undriven ∙ all net (pin-inside (nets_of share.design) (driver_of share.design.netlist given.reader) net (driver-wired share.design.netlist given.reader netlist (reader given.reader given.reader_driven)) given.read));
+  alone = λ net given.
+      let inside = pin-inside (nets_of share.design) (driver_of share.design.netlist given.reader) net (driver-wired share.design.netlist netlist given.reader) given.read in
+      false≢true (sym given.undriven ∙ all net inside);
 }
   where
     all : (net : ℕ) → net < nets_of share.design → IsDriven share.driven net
     all net small = ap (λ (ds : List Bool). get_or ds net false) whole ∙ get_or-replicate (nets_of share.design) net true false small
-
-    reader : (net : ℕ) → IsDriven share.driven net → net < nets_of share.design
-    reader net driven = omega (arith, driven-inside share.driven net driven, ap length whole, length-replicate (nets_of share.design) true)
 
 -- it stays so
 pub drives-on : (old new : ShareEngine) → new.design ≡ old.design → new.driven ≡ old.driven → DrivesAll old → DrivesAll new

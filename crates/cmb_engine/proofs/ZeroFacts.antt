@@ -1,18 +1,16 @@
 -- What nets and lines show at tick 0.
-use Rattle.std.proofs.Common.{◌≡◌, ℕ, zero, suc, ◌+◌, ◌-◌, ◌<◌, ◌≤◌, ◌⊎◌, inl, inr, true, false, List, [], ◌∷◌, ◌++◌, Some, length, get_or, refl, subst, sym, ap, ◌∙◌, arith, ltb}
+use Rattle.std.proofs.Common.{◌≡◌, ℕ, zero, suc, ◌+◌, ◌-◌, ◌<◌, ◌≤◌, ◌⊎◌, inl, inr, true, false, List, [], ◌∷◌, ◌++◌, Some, length, get_or, refl, sym, ap, ◌∙◌, arith, ltb}
 use Rattle.std.proofs.lemmas.Bool.{lt-ltb, cases_lt}
-use Rattle.std.proofs.lemmas.List.{get_or_past}
 use Rattle.std.proofs.lemmas.Option.{slice_get-get_or}
 use Rattle.std.specs.Prelude.{slice_get, All}
 use Rattle.std.specs.List.{list_any}
 use Rattle.cmb_wave.specs.declared.level.Level.{Level}
 use Rattle.cmb_wave.specs.declared.level.Level.TheVariants.{Zero, One, X}
 use Rattle.cmb_wave.specs.Waveform.{same_level}
-use Rattle.cmb_bench.specs.declared.netlist.Driver.{Driver}
-use Rattle.cmb_bench.specs.declared.netlist.Driver.TheVariants.{Input, Gate, Flop}
+use Rattle.cmb_bench.specs.declared.netlist.Driver.TheVariants.{Gate, Flop}
 use Rattle.cmb_bench.specs.declared.netlist.Kind.{Kind}
 use Rattle.cmb_bench.specs.declared.netlist.Kind.TheVariants.{And, Nand, Or, Nor, Xor, Xnor, Not, Buff}
-use Rattle.cmb_bench.specs.Netlist.{Netlist, driver_of, IsNetlist, IsWired, MayTake}
+use Rattle.cmb_bench.specs.Netlist.{driver_of, IsNetlist}
 use Rattle.cmb_design.specs.Design.{Design}
 use Rattle.cmb_design.specs.Gate.{gate}
 use Rattle.cmb_design.specs.Timing.{delay}
@@ -30,6 +28,7 @@ use Rattle.cmb_engine.specs.Words.{levels_of}
 use Rattle.cmb_engine.specs.declared.cell.Pin.{Pin}
 use Rattle.cmb_engine.specs.declared.role.Role.{Role}
 use Rattle.cmb_engine.proofs.ArrivalFacts.{flop_level-start}
+use Rattle.cmb_engine.proofs.PlanFacts.{wired-gate}
 use Rattle.cmb_engine.proofs.SlotFacts.{trace-behind}
 
 -- ---- gates of which all pins are x
@@ -61,33 +60,14 @@ pins-x design level net pin (operand ∷ operands) =
     let early : ltb 0 (delay design net pin) ≡ true = lt-ltb _ _ (delay-positive design net pin) in
     rw (early, pins-x design level net (suc pin) operands) refl
 
-takes-some : (kind : Kind) → MayTake kind 0 → ⊥
-takes-some And takes = omega arith
-takes-some Nand takes = omega arith
-takes-some Or takes = omega arith
-takes-some Nor takes = omega arith
-takes-some Xor takes = omega arith
-takes-some Xnor takes = omega arith
-takes-some Not takes = omega arith
-takes-some Buff takes = omega arith
-
-wired-at : (netlist : Netlist) → IsNetlist netlist → (net : ℕ) → IsWired (length netlist.names) (driver_of netlist net)
-wired-at netlist is net = go (cases_lt net (length netlist.drivers))
-  where
-    go : (net < length netlist.drivers) ⊎ (length netlist.drivers ≤ net) → IsWired (length netlist.names) (driver_of netlist net)
-    go (inl here) = is.wired net Input here
-    go (inr past) = rw (get_or_past netlist.drivers net Input past) tt
-
 -- a gate is x at tick 0
 pub gate-starts : (design : Design) (net : ℕ) (kind : Kind) (operands : List ℕ) → IsNetlist design.netlist → driver_of design.netlist net ≡ Gate kind operands → value design net 0 ≡ X
-gate-starts design net kind operands is e = value-at_gate design net 0 kind operands e ∙ ap (gate kind) (pins-x design (value design) net 1 operands) ∙ some operands (takes (driver_of design.netlist net) e (wired-at design.netlist is net))
+gate-starts design net kind operands is e =
+    value-at_gate design net 0 kind operands e ∙ ap (gate kind) (pins-x design (value design) net 1 operands) ∙ some operands (wired-gate design.netlist net kind operands is e).0
   where
-    takes : (driver : Driver) → driver ≡ Gate kind operands → IsWired (length design.netlist.names) driver → MayTake kind (length operands)
-    takes driver same wired = (subst (λ (d : Driver). IsWired (length design.netlist.names) d) same wired).0
-
-    some : (operands : List ℕ) → MayTake kind (length operands) → gate kind (all_x operands) ≡ X
-    some [] takes = absurd (takes-some kind takes)
-    some (operand ∷ operands) takes = gate-x kind operand operands
+    some : (operands : List ℕ) → 1 ≤ length operands → gate kind (all_x operands) ≡ X
+    some [] none = absurd (omega (arith, none))
+    some (operand ∷ operands) more = gate-x kind operand operands
 
 pub flop-starts : (design : Design) (net source : ℕ) → driver_of design.netlist net ≡ Flop source → value design net 0 ≡ design.init
 flop-starts design net source e = value-at_flop design net 0 source e ∙ flop_level-start design (value design source) net

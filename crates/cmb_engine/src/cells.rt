@@ -117,7 +117,7 @@ impl Cells {
     }
 
     // Adds a gate whose pins stand in the list.
-    #[tactic(auto, using(crate::proofs::TableFacts::inside_push, crate::proofs::TableFacts::all_inside_more, crate::proofs::TableFacts::gate_cells))]
+    #[tactic(auto, using(crate::proofs::TableFacts::gate_inside, crate::proofs::TableFacts::gate_cells))]
     fn push_listed(&mut self, kind: Kind, pins: &[Pin]) -> Result<(), AllocError>
         ensures { OnOk result (self.new ≡ self.old ++ Gate kind pins.now ∷ []) }
     {

@@ -14,7 +14,7 @@ pub collect_pins-requires-clause-within : goal.collect_pins-requires-clause-with
 collect_pins-requires-clause-within c =
     let is : driver_of c.args.design.now.netlist c.args.net ≡ driver.Gate c.in-Gate.kind c.in-Gate.operands =
     ap (λ (netlist : Netlist). driver_of netlist c.args.net) (sym c.netlist.ensures) ∙ sym c.driver.ensures ∙ c.in-Gate.is in
-    let wired = wired-gate c.args.design.now.netlist c.args.net c.in-Gate.kind c.in-Gate.operands c.requires.netlist c.requires.net is in
+    let wired = wired-gate c.args.design.now.netlist c.args.net c.in-Gate.kind c.in-Gate.operands c.requires.netlist is in
     subst (λ (operands : List ℕ). All (λ operand. operand < c.args.lines.now.nets) operands) (sym c.as_slice.ensures)
     (subst (λ (nets : ℕ). All (λ operand. operand < nets) c.in-Gate.operands) (sym c.requires.nets) wired.1)
 
@@ -23,7 +23,7 @@ push_flop-requires-clause-within c =
     let is : driver_of c.args.design.now.netlist c.args.net ≡ driver.Flop c.in-Flop.source =
     ap (λ (netlist : Netlist). driver_of netlist c.args.net) (sym c.netlist.ensures) ∙ sym c.driver.ensures ∙ c.in-Flop.is in
     subst (λ (nets : ℕ). c.in-Flop.source < nets) (sym c.requires.nets)
-    (wired-flop c.args.design.now.netlist c.args.net c.in-Flop.source c.requires.netlist c.requires.net is)
+    (wired-flop c.args.design.now.netlist c.args.net c.in-Flop.source c.requires.netlist is)
 
 pub returns-in_ok-collect_pins-in-Gate-clause-cell : goal.returns-in_ok-collect_pins-in-Gate-clause-cell
 returns-in_ok-collect_pins-in-Gate-clause-cell c =
@@ -32,7 +32,7 @@ returns-in_ok-collect_pins-in-Gate-clause-cell c =
     let pins : List Pin = c.as_slice-in-Gate.result.now in
     let is : driver_of design.netlist c.args.net ≡ driver.Gate c.in-Gate.kind c.in-Gate.operands =
     ap (λ (netlist : Netlist). driver_of netlist c.args.net) (sym c.netlist.ensures) ∙ sym c.driver.ensures ∙ c.in-Gate.is in
-    let wired = wired-gate design.netlist c.args.net c.in-Gate.kind c.in-Gate.operands c.requires.netlist c.requires.net is in
+    let wired = wired-gate design.netlist c.args.net c.in-Gate.kind c.in-Gate.operands c.requires.netlist is in
     let stand : AllZip (StandsFor lines.nets lines.list.items lines.most) (pins_from design c.args.net 1 c.in-Gate.operands) pins =
     subst (λ (operands : List ℕ). AllZip (StandsFor lines.nets lines.list.items lines.most) (pins_from design c.args.net 1 operands) pins) c.as_slice.ensures
     (subst (λ (pins : List Pin). AllZip (StandsFor lines.nets lines.list.items lines.most) (pins_from design c.args.net 1 c.as_slice.result.now) pins)

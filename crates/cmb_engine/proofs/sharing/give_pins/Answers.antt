@@ -10,7 +10,7 @@ give_all-requires c =
     let netlist : Netlist = c.args.design.now.netlist in
     let is : driver_of netlist c.args.net ≡ driver.Gate c.in-Gate.field-0 c.in-Gate.operands =
     ap (λ (netlist : Netlist). driver_of netlist c.args.net) (sym c.netlist.ensures) ∙ sym c.driver.ensures ∙ c.in-Gate.is in
-    let wired = wired-gate netlist c.args.net c.in-Gate.field-0 c.in-Gate.operands c.requires.netlist c.requires.net is in
+    let wired = wired-gate netlist c.args.net c.in-Gate.field-0 c.in-Gate.operands c.requires.netlist is in
     subst (λ (operands : List ℕ). All (λ operand. operand < length c.args.roles.now) operands) (sym c.as_slice.ensures)
     (subst (λ (nets : ℕ). All (λ operand. operand < nets) c.in-Gate.operands) (sym c.requires.count) wired.1)
 
@@ -19,4 +19,4 @@ give-requires c =
     let netlist : Netlist = c.args.design.now.netlist in
     let is : driver_of netlist c.args.net ≡ driver.Flop c.in-Flop.source =
     ap (λ (netlist : Netlist). driver_of netlist c.args.net) (sym c.netlist.ensures) ∙ sym c.driver.ensures ∙ c.in-Flop.is in
-    subst (λ (nets : ℕ). c.in-Flop.source < nets) (sym c.requires.count) (wired-flop netlist c.args.net c.in-Flop.source c.requires.netlist c.requires.net is)
+    subst (λ (nets : ℕ). c.in-Flop.source < nets) (sym c.requires.count) (wired-flop netlist c.args.net c.in-Flop.source c.requires.netlist is)
