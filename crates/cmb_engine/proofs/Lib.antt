@@ -33,4 +33,5 @@ pub mod VisitFacts
 pub mod WalkFacts
 pub mod WindowFacts
 pub mod WordFacts
+pub mod WriteFacts
 pub mod ZeroFacts

@@ -1,6 +1,6 @@
 //! The cells of a design's nets: a rule of each, and a list of the pins of gates that have more than two.
 
-ghost use Rattle.std.specs.Prelude.{◌≡◌, ℕ, ◌+◌, ◌^◌, ◌<◌, ◌≤◌, ◌++◌, ◌∷◌, [], true, false, All, IfOk, OnOk};
+ghost use Rattle.std.specs.Prelude.{◌≡◌, ℕ, ◌+◌, ◌^◌, ◌<◌, ◌++◌, ◌∷◌, [], true, false, All, IfOk, OnOk};
 ghost use Rattle.std.specs.Prelude.{MatchOption, length, map, replicate, slice_index_or};
 ghost use Rattle.cmb_words.specs.Word.{level_at_place};
 ghost use Rattle.cmb_engine.specs.Arrivals.{IsArrival};

@@ -15,7 +15,8 @@ use std::marker::Model;
 /// The most ticks of a window: a word has the tick before it too.
 pub const LONGEST_WINDOW: u32 = 63;
 
-/// Simulates a design, window by window of ticks: the engine of a share that is all nets, so that nothing is given to it.
+/// Simulates a design, window by window of ticks. It is the engine of the share that is all nets, to which nothing is
+/// given.
 ///
 /// What it needs of memory depends on the nets, their delays and the changes under way, and not on the horizon.
 #[derive(Drop)]

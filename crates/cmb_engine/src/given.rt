@@ -8,7 +8,7 @@ ghost use Rattle.cmb_engine.specs.Bits.{has};
 ghost use Rattle.cmb_engine.specs.Cells.{AreBelow, AreMarked};
 ghost use Rattle.cmb_engine.specs.Gifts.{is_written};
 ghost use Rattle.cmb_engine.specs.Roles.{gives};
-ghost use Rattle.cmb_engine.specs.Words.{levels_of};
+ghost use Rattle.cmb_engine.specs.Words.{levels_of, Writes};
 
 use crate::marks::Marks;
 use crate::readers::Readers;
@@ -29,18 +29,12 @@ fn write_word(
     requires first { first < 64 }
     requires within { All (λ reader. reader < 64 * length marks.old) readers.now }
     requires live { length words.old ≤ 64 * length live.old }
-    ensures len { length words.new ≡ length words.old }
-    ensures room { length marks.new ≡ length marks.old }
-    ensures live_room { length live.new ≡ length live.old }
+    ensures writes { Writes words.old words.new live.old live.new marks.old marks.new }
     ensures past { (slot place : ℕ) → place < first → levels_of words.new slot place ≡ levels_of words.old slot place }
     ensures others { (slot place : ℕ) → (one.net ≡ slot → ⊥)
         → levels_of words.new slot place ≡ levels_of words.old slot place }
     ensures written { (place : ℕ) → first ≤ place → place < 64
         → levels_of words.new one.net place ≡ level_at_place one.word place }
-    ensures kept { (m : ℕ) → has live.old m ≡ true → has live.new m ≡ true }
-    ensures same { (m place : ℕ) → has live.new m ≡ false
-        → (has live.old m ≡ false) × (levels_of words.new m place ≡ levels_of words.old m place) }
-    ensures marks { (m : ℕ) → has marks.old m ≡ true → has marks.new m ≡ true }
     ensures news { AreMarked (has marks.new) readers.now }
 {
     let slot = one.net as usize;
@@ -65,9 +59,7 @@ fn give_word(
     requires within { AreBelow (length words.old) readers.now }
     requires room { length words.old ≤ 64 * length marks.old }
     requires live { length words.old ≤ 64 * length live.old }
-    ensures len { length words.new ≡ length words.old }
-    ensures room { length marks.new ≡ length marks.old }
-    ensures live_room { length live.new ≡ length live.old }
+    ensures writes { Writes words.old words.new live.old live.new marks.old marks.new }
     ensures past { (slot place : ℕ) → place < first → levels_of words.new slot place ≡ levels_of words.old slot place }
     ensures others { (slot place : ℕ) → is_written roles.now (one ∷ []) slot ≡ false
         → levels_of words.new slot place ≡ levels_of words.old slot place }
@@ -76,9 +68,6 @@ fn give_word(
         → (place : ℕ) → first ≤ place → place < 64 → level_at_place one.word place ≡ level one.net place)
         → (slot place : ℕ) → is_written roles.now (one ∷ []) slot ≡ true → first ≤ place → place < 64
         → levels_of words.new slot place ≡ level slot place }
-    ensures kept { (m : ℕ) → has live.old m ≡ true → has live.new m ≡ true }
-    ensures same { (m place : ℕ) → has live.new m ≡ false → levels_of words.new m place ≡ levels_of words.old m place }
-    ensures marks { (m : ℕ) → has marks.old m ≡ true → has marks.new m ≡ true }
     ensures news { (slot : ℕ) → is_written roles.now (one ∷ []) slot ≡ true
         → AreMarked (has marks.new) (slice_index_or readers.now slot []) }
 {
@@ -106,9 +95,7 @@ pub(crate) fn write_given(
     requires within { AreBelow (length words.old) readers.now }
     requires room { length words.old ≤ 64 * length marks.old }
     requires live { length words.old ≤ 64 * length live.old }
-    ensures len { length words.new ≡ length words.old }
-    ensures room { length marks.new ≡ length marks.old }
-    ensures live_room { length live.new ≡ length live.old }
+    ensures writes { Writes words.old words.new live.old live.new marks.old marks.new }
     ensures past { (slot place : ℕ) → place < first → levels_of words.new slot place ≡ levels_of words.old slot place }
     ensures others { (slot place : ℕ) → is_written roles.now given.now slot ≡ false
         → levels_of words.new slot place ≡ levels_of words.old slot place }
@@ -117,9 +104,6 @@ pub(crate) fn write_given(
         → (place : ℕ) → first ≤ place → place < 64 → level_at_place one.word place ≡ level one.net place)
         → (slot place : ℕ) → is_written roles.now given.now slot ≡ true → first ≤ place → place < 64
         → levels_of words.new slot place ≡ level slot place }
-    ensures kept { (m : ℕ) → has live.old m ≡ true → has live.new m ≡ true }
-    ensures same { (m place : ℕ) → has live.new m ≡ false → levels_of words.new m place ≡ levels_of words.old m place }
-    ensures marks { (m : ℕ) → has marks.old m ≡ true → has marks.new m ≡ true }
     ensures news { (slot : ℕ) → is_written roles.now given.now slot ≡ true
         → AreMarked (has marks.new) (slice_index_or readers.now slot []) }
 {

@@ -1,7 +1,7 @@
 //! Lines: slots that show another net's waveform some ticks later. What a net's words say of it is told of the lines
 //! ahead.
 
-ghost use Rattle.std.specs.Prelude.{◌≡◌, ℕ, ◌+◌, ◌^◌, ◌<◌, ◌≤◌, [], All, IfOk, OnOk, length, map};
+ghost use Rattle.std.specs.Prelude.{◌≡◌, ◌+◌, ◌^◌, ◌<◌, ◌≤◌, All, IfOk, OnOk, length};
 ghost use Rattle.cmb_calendar.specs.Calendars.{day_begin};
 ghost use Rattle.cmb_words.specs.Changes.{RisesWithin};
 ghost use Rattle.cmb_engine.specs.Lines.{AreFollowers, IsAhead, IsOfChange, IsOfFollower, IsOfLine, NotesEach};

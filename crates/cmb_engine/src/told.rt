@@ -1,12 +1,12 @@
 //! What is told of slots in a window.
 
-ghost use Rattle.std.specs.Prelude.{◌≡◌, ℕ, ◌+◌, ◌-◌, ◌*◌, ◌<◌, ◌≤◌, true, false, [], ◌∷◌, All, Contains, length};
+ghost use Rattle.std.specs.Prelude.{◌≡◌, ℕ, ◌+◌, ◌-◌, ◌*◌, ◌<◌, ◌≤◌, [], ◌∷◌, All, Contains, length};
 ghost use Rattle.std.specs.Prelude.{slice_index_or};
 ghost use Rattle.cmb_calendar.specs.declared.tell.Tell.{Tell};
 ghost use Rattle.cmb_engine.specs.Bits.{has};
 ghost use Rattle.cmb_engine.specs.Cells.{AreBelow, AreMarked};
 ghost use Rattle.cmb_engine.specs.Tells.{told_level};
-ghost use Rattle.cmb_engine.specs.Words.{levels_of};
+ghost use Rattle.cmb_engine.specs.Words.{levels_of, Writes};
 
 use crate::marks::Marks;
 use crate::readers::Readers;
@@ -30,15 +30,9 @@ fn write_tell(
     requires to { to ≤ 1000000 }
     requires within { All (λ reader. reader < 64 * length marks.old) readers.now }
     requires live { length words.old ≤ 64 * length live.old }
-    ensures len { length words.new ≡ length words.old }
-    ensures room { length marks.new ≡ length marks.old }
-    ensures live_room { length live.new ≡ length live.old }
+    ensures writes { Writes words.old words.new live.old live.new marks.old marks.new }
     ensures words { (slot place : ℕ) → place < 64 → levels_of words.new slot place
         ≡ told_level (tell ∷ []) slot (levels_of words.old slot place) (to + place - 64) }
-    ensures kept { (m : ℕ) → has live.old m ≡ true → has live.new m ≡ true }
-    ensures same { (m place : ℕ) → has live.new m ≡ false
-        → (has live.old m ≡ false) × (levels_of words.new m place ≡ levels_of words.old m place) }
-    ensures marks { (m : ℕ) → has marks.old m ≡ true → has marks.new m ≡ true }
     ensures news { AreMarked (has marks.new) readers.now }
 {
     let slot = tell.slot as usize;
@@ -64,14 +58,9 @@ pub(crate) fn write_told(
     requires room { length words.old ≤ 64 * length marks.old }
     requires live { length words.old ≤ 64 * length live.old }
     requires to { to ≤ 1000000 }
-    ensures len { length words.new ≡ length words.old }
-    ensures room { length marks.new ≡ length marks.old }
-    ensures live_room { length live.new ≡ length live.old }
+    ensures writes { Writes words.old words.new live.old live.new marks.old marks.new }
     ensures words { (slot place : ℕ) → slot < length words.old → place < 64 → levels_of words.new slot place
         ≡ told_level tells.now slot (levels_of words.old slot place) (to + place - 64) }
-    ensures kept { (m : ℕ) → has live.old m ≡ true → has live.new m ≡ true }
-    ensures same { (m place : ℕ) → has live.new m ≡ false → levels_of words.new m place ≡ levels_of words.old m place }
-    ensures marks { (m : ℕ) → has marks.old m ≡ true → has marks.new m ≡ true }
     ensures news { (tell : Tell) → Contains tells.now tell
         → AreMarked (has marks.new) (slice_index_or readers.now tell.slot []) }
 {

@@ -1,5 +1,6 @@
 use Rattle.std.proofs.Common.{◌≡◌, ◌<◌, ℕ, true, List, length, get_or, sym, subst, ◌∙◌, arith}
 use Rattle.cmb_engine.specs.Roles.{gives}
+use Rattle.cmb_engine.proofs.WriteFacts.{writes-none}
 use Rattle.cmb_engine.proofs.given.give_word.Goals as goal
 
 pub of-requires : goal.of-requires
@@ -18,3 +19,6 @@ write_word-requires-clause-within c = λ k d small.
     subst (λ (readers : List ℕ). get_or readers k d < length c.args.words.now) (sym c.of.ensures)
     (c.requires.within c.args.one.net k d (subst (λ (readers : List ℕ). k < length readers) c.of.ensures small)) in
     omega (arith, below, c.requires.room)
+
+pub returns-then-not-is_given-clause-writes : goal.returns-then-not-is_given-clause-writes
+returns-then-not-is_given-clause-writes c = writes-none c.args.words.now c.args.live.now c.args.marks.now

@@ -8,7 +8,7 @@ use Rattle.cmb_engine.specs.Gifts.{is_written}
 use Rattle.cmb_engine.specs.Words.{levels_of}
 use Rattle.cmb_engine.specs.declared.role.Role.{Role}
 use Rattle.cmb_engine.proofs.GivenFacts.{written-before, written-more}
-use Rattle.cmb_engine.proofs.VisitFacts.{kept-false}
+use Rattle.cmb_engine.proofs.WriteFacts.{writes-on}
 use Rattle.cmb_engine.proofs.given.write_given.Goals as goal
 
 pub loop-one-preserved : goal.loop-one-preserved
@@ -22,9 +22,8 @@ loop-one-preserved c =
     let more : (slot : ℕ) → is_written roles (take (k + 1) given) slot ≡ (is_written roles (take k given) slot || is_written roles (one ∷ []) slot) =
     λ slot. written-more roles given k one slot inside c.one-item.is in
     record {
-      len = c.give_word.ensures.len ∙ c.loop-one.invariant.len;
-      room = c.give_word.ensures.room ∙ c.loop-one.invariant.room;
-      live_room = c.give_word.ensures.live_room ∙ c.loop-one.invariant.live_room;
+      writes = writes-on c.args.words.now c.loop-one.words c.give_word.new.words c.args.live.now c.loop-one.live c.give_word.new.live c.args.marks.now c.loop-one.marks c.give_word.new.marks
+          c.loop-one.invariant.writes c.give_word.ensures.writes;
       past = λ slot place below. c.give_word.ensures.past slot place below ∙ c.loop-one.invariant.past slot place below;
       others = λ slot place idle.
           let parts = or_parts (is_written roles (take k given) slot) (is_written roles (one ∷ []) slot) (sym (more slot) ∙ idle) in
@@ -38,14 +37,10 @@ loop-one-preserved c =
                 c.give_word.ensures.others slot place other
                 ∙ c.loop-one.invariant.written level says slot place (written-before roles given k one slot inside c.one-item.is is other) late small
           ];
-      kept = λ m h. c.give_word.ensures.kept m (c.loop-one.invariant.kept m h);
-      same = λ m place idle.
-          c.give_word.ensures.same m place idle ∙ c.loop-one.invariant.same m place (kept-false c.loop-one.live c.give_word.new.live m (c.give_word.ensures.kept m) idle);
-      marks = λ m h. c.give_word.ensures.marks m (c.loop-one.invariant.marks m h);
       news = λ slot is.
           elim (cases_Bool (is_written roles (one ∷ []) slot)) [
             | inl h ↦ c.give_word.ensures.news slot h
-            | inr other ↦ λ j small. c.give_word.ensures.marks _ (c.loop-one.invariant.news slot (written-before roles given k one slot inside c.one-item.is is other) j small)
+            | inr other ↦ λ j small. c.give_word.ensures.writes.marks _ (c.loop-one.invariant.news slot (written-before roles given k one slot inside c.one-item.is is other) j small)
           ];
     }
 

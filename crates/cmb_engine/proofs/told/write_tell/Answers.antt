@@ -1,7 +1,7 @@
 use Rattle.std.proofs.Common.{sym, ◌∙◌}
-use Rattle.cmb_engine.proofs.SweepFacts.{inserted-none, inserted-other}
 use Rattle.cmb_engine.proofs.TellFacts.{told-written}
-use Rattle.cmb_engine.proofs.WordFacts.{levels_of-read, levels_of-set_other}
+use Rattle.cmb_engine.proofs.WordFacts.{levels_of-read}
+use Rattle.cmb_engine.proofs.WriteFacts.{writes-one}
 use Rattle.cmb_engine.proofs.told.write_tell.Goals as goal
 
 pub returns-clause-words : goal.returns-clause-words
@@ -10,9 +10,7 @@ returns-clause-words c = λ slot place small.
     (λ i l. c.with_from.ensures.below i l ∙ sym (levels_of-read c.args.words.now c.args.tell.slot c.index-words-slot.result i c.requires.slot c.index-words-slot.is))
     c.with_from.ensures.from small
 
-pub returns-clause-same : goal.returns-clause-same
-returns-clause-same c = λ m place none. (
-  inserted-none c.args.live.now c.insert.new.self c.args.tell.slot m (c.insert.ensures.has m) none,
-  levels_of-set_other c.args.words.now c.args.tell.slot m c.with_from.result place
-      (inserted-other c.args.live.now c.insert.new.self c.args.tell.slot m (c.insert.ensures.has m) none),
-)
+pub returns-clause-writes : goal.returns-clause-writes
+returns-clause-writes c =
+    writes-one c.args.words.now c.args.tell.slot c.with_from.result c.args.live.now c.insert.new.self c.args.marks.now c.mark_all.new.marks c.insert.ensures.len c.insert.ensures.has
+    c.mark_all.ensures.len c.mark_all.ensures.kept

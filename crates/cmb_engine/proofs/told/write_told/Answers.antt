@@ -10,6 +10,7 @@ use Rattle.cmb_engine.specs.Cells.{AreMarked}
 use Rattle.cmb_engine.specs.Tells.{told_level}
 use Rattle.cmb_engine.specs.Words.{levels_of}
 use Rattle.cmb_engine.proofs.TellFacts.{told-more}
+use Rattle.cmb_engine.proofs.WriteFacts.{writes-on}
 use Rattle.cmb_engine.proofs.told.write_told.Goals as goal
 
 abbrev none : Tell
@@ -25,7 +26,7 @@ write_tell-requires c =
     let facts = c.requires.slots (get_or c.args.tells.now c.loop-tell.tell-index none) (Contains-get_or c.args.tells.now c.loop-tell.tell-index none c.loop-tell-test.true) in
     let place : ℕ = (get_or c.args.tells.now c.loop-tell.tell-index none).slot in
     record {
-      slot = omega (arith, facts.0, c.loop-tell.invariant.len);
+      slot = omega (arith, facts.0, c.loop-tell.invariant.writes.len);
       begun = facts.1;
       from = facts.2;
       upto = facts.3;
@@ -34,8 +35,8 @@ write_tell-requires c =
           let below : get_or c.of.result.now k d < length c.args.words.now =
           subst (λ (readers : List ℕ). get_or readers k d < length c.args.words.now) (sym c.of.ensures)
           (c.requires.within place k d (subst (λ (readers : List ℕ). k < length readers) c.of.ensures small)) in
-          omega (arith, below, c.requires.room, c.loop-tell.invariant.room);
-      live = omega (arith, c.requires.live, c.loop-tell.invariant.len, c.loop-tell.invariant.live_room);
+          omega (arith, below, c.requires.room, c.loop-tell.invariant.writes.room);
+      live = omega (arith, c.requires.live, c.loop-tell.invariant.writes.len, c.loop-tell.invariant.writes.live_room);
     }
 
 pub loop-tell-preserved : goal.loop-tell-preserved
@@ -44,19 +45,15 @@ loop-tell-preserved c =
     let lists : List (List ℕ) = c.args.readers.now in
     let facts = c.requires.slots tell (Contains-get_or c.args.tells.now c.loop-tell.tell-index none c.loop-tell-test.true) in
     record {
-      len = c.write_tell.ensures.len ∙ c.loop-tell.invariant.len;
-      room = c.write_tell.ensures.room ∙ c.loop-tell.invariant.room;
-      live_room = c.write_tell.ensures.live_room ∙ c.loop-tell.invariant.live_room;
+      writes = writes-on c.args.words.now c.loop-tell.words c.write_tell.new.words c.args.live.now c.loop-tell.live c.write_tell.new.live c.args.marks.now c.loop-tell.marks c.write_tell.new.marks
+          c.loop-tell.invariant.writes c.write_tell.ensures.writes;
       words = λ slot place small.
           c.write_tell.ensures.words slot place small
           ∙ ap (λ (held : Level). told_level (tell ∷ []) slot held (c.args.to + place - 64)) (c.loop-tell.invariant.words slot place small)
           ∙ sym (told-more c.args.tells.now c.loop-tell.tell-index none slot (levels_of c.args.words.now slot place) (c.args.to + place - 64) c.loop-tell-test.true);
-      kept = λ m h. c.write_tell.ensures.kept m (c.loop-tell.invariant.kept m h);
-      same = λ m place idle. let parts = c.write_tell.ensures.same m place idle in parts.1 ∙ c.loop-tell.invariant.same m place parts.0;
-      marks = λ m h. c.write_tell.ensures.marks m (c.loop-tell.invariant.marks m h);
       news = λ k d l.
           elim (cases_lt k c.loop-tell.tell-index) [
-            | inl before ↦ λ j small. c.write_tell.ensures.marks _ (c.loop-tell.invariant.news k d before j small)
+            | inl before ↦ λ j small. c.write_tell.ensures.writes.marks _ (c.loop-tell.invariant.news k d before j small)
             | inr now ↦
                 let e : c.loop-tell.tell-index ≡ k = omega (arith, l, now) in
                 let here : tell ≡ get_or c.args.tells.now k d =

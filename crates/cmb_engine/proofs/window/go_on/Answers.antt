@@ -24,7 +24,7 @@ pub settle-requires-clause-wired : goal.settle-requires-clause-wired
 settle-requires-clause-wired c =
     window-wired c.args.wiring.now.cells c.args.wiring.now.readers c.args.wiring.now.flops.items c.args.wiring.now.most
     c.requires.wiring
-    (length c.write_given.new.words) (64 - c.args.ticks) (omega (arith, c.requires.nets, c.move_on.ensures.len, c.write_told.ensures.len, c.write_given.ensures.len)) (omega (arith, c.requires.fits))
+    (length c.write_given.new.words) (64 - c.args.ticks) (omega (arith, c.requires.nets, c.move_on.ensures.len, c.write_told.ensures.writes.len, c.write_given.ensures.writes.len)) (omega (arith, c.requires.fits))
 
 pub mark_arrivals-requires-clause-paces : goal.mark_arrivals-requires-clause-paces
 mark_arrivals-requires-clause-paces c =
@@ -42,13 +42,13 @@ pub mark_arrivals-requires-clause-lawful : goal.mark_arrivals-requires-clause-la
 mark_arrivals-requires-clause-lawful c =
     (window-wired c.args.wiring.now.cells c.args.wiring.now.readers c.args.wiring.now.flops.items c.args.wiring.now.most
     c.requires.wiring
-    (length c.write_given.new.words) (64 - c.args.ticks) (omega (arith, c.requires.nets, c.move_on.ensures.len, c.write_told.ensures.len, c.write_given.ensures.len)) (omega (arith, c.requires.fits))).lawful
+    (length c.write_given.new.words) (64 - c.args.ticks) (omega (arith, c.requires.nets, c.move_on.ensures.len, c.write_told.ensures.writes.len, c.write_given.ensures.writes.len)) (omega (arith, c.requires.fits))).lawful
 
 pub write_given-requires-clause-slots : goal.write_given-requires-clause-slots
 write_given-requires-clause-slots c = λ slot gift.
     let gifts : AreToldNets c.args.wiring.now.cells c.deref.result.now =
     subst (λ (roles : List Role). AreToldNets c.args.wiring.now.cells roles) (sym c.deref.ensures.value) c.requires.gives in
-    omega (arith, (gifts slot gift).0, c.requires.nets, c.move_on.ensures.len, c.write_told.ensures.len)
+    omega (arith, (gifts slot gift).0, c.requires.nets, c.move_on.ensures.len, c.write_told.ensures.writes.len)
 
 pub returns-clause-shows : goal.returns-clause-shows
 returns-clause-shows c = λ trace meets shows right given slot place inside small.
@@ -74,13 +74,13 @@ returns-clause-shows c = λ trace meets shows right given slot place inside smal
       quiet = λ s p l. c.move_on.ensures.quiet s p (omega (arith, l, c.requires.nets));
       news = λ s l is.
           marked-kept (IsSteadyFrom (levels_of c.move_on.new.words s) (64 - c.args.ticks - c.args.wiring.now.most)) c.mark_news.new.marks c.mark_arrivals.new.marks (get_or lists s [])
-          (λ m h. c.mark_arrivals.ensures.kept m (c.write_given.ensures.marks m (c.write_told.ensures.marks m h)))
+          (λ m h. c.mark_arrivals.ensures.kept m (c.write_given.ensures.writes.marks m (c.write_told.ensures.writes.marks m h)))
           (c.mark_news.ensures.news s (omega (arith, l, c.requires.nets, c.move_on.ensures.len)) is);
       kept =
           unmarked-kept trace cells roles (c.args.to - c.args.ticks) c.args.ticks c.args.to (64 - c.args.ticks) c.args.wiring.now.most window
           (levels_of c.args.words.now) (levels_of c.move_on.new.words) (levels_of c.write_told.new.words) (levels_of c.write_given.new.words)
           shown_before c.move_on.ensures.moved c.args.tells.now tells c.args.given.now given c.requires.gives told_words writes lists c.mark_arrivals.new.marks
-          (λ tell among k l. c.mark_arrivals.ensures.kept _ (c.write_given.ensures.marks _ (c.write_told.ensures.news tell among k l)))
+          (λ tell among k l. c.mark_arrivals.ensures.kept _ (c.write_given.ensures.writes.marks _ (c.write_told.ensures.news tell among k l)))
           (λ s h k l. c.mark_arrivals.ensures.kept _ (given_news s h k l));
       made = λ s p m l.
           made-kept trace cells roles (c.args.to - c.args.ticks) c.args.ticks c.args.to (64 - c.args.ticks) c.args.wiring.now.most window
