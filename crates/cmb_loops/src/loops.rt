@@ -25,6 +25,16 @@ fn begin(alloc: Global, count: usize) -> Result<Search, AllocError>
     })
 }
 
+/// A search that found each net.
+fn searched(alloc: Global, netlist: &Netlist, steps: Steps) -> Result<Search, AllocError>
+    ensures loops { IfOk result (λ search. AreLoops netlist.now steps search.marks.items) }
+    ensures parts { IfOk result (λ search. AreStrongComponents netlist.now steps search.numbers.items) }
+{
+    let mut search = begin(alloc, netlist.len())?;
+    search_all(&mut search, netlist, steps)?;
+    Ok(search)
+}
+
 /// For each net whether it is in a feedback loop: whether steps lead from it back to it. A flip-flop's data is read by
 /// a step too, so a ring through a flip-flop is a loop; `Steps::Gates` leaves these steps out, and finds the loops of
 /// gates alone, which are called combinational. A net that a loop only reads, or that only reads a loop, isn't in it.
@@ -39,18 +49,8 @@ pub fn nets_in_loops(
 ) -> Result<Vec<bool>, AllocError>
     ensures { IfOk result (λ marks. AreLoops netlist.now steps marks.items) }
 {
-    let mut search = begin(alloc, netlist.len())?;
-    search_all(&mut search, netlist, steps)?;
-    let Search {
-        seen: _,
-        marks,
-        numbers: _,
-        done: _,
-        path: _,
-        starts: _,
-        frames: _,
-    } = search;
-    Ok(marks)
+    let search = searched(alloc, netlist, steps)?;
+    Ok(search.marks)
 }
 
 /// The strongly connected components of a netlist: for each net a number, the same for two nets just where steps lead
@@ -65,16 +65,6 @@ pub fn strong_components(
 ) -> Result<Vec<usize>, AllocError>
     ensures { IfOk result (λ numbers. AreStrongComponents netlist.now steps numbers.items) }
 {
-    let mut search = begin(alloc, netlist.len())?;
-    search_all(&mut search, netlist, steps)?;
-    let Search {
-        seen: _,
-        marks: _,
-        numbers,
-        done: _,
-        path: _,
-        starts: _,
-        frames: _,
-    } = search;
-    Ok(numbers)
+    let search = searched(alloc, netlist, steps)?;
+    Ok(search.numbers)
 }
