@@ -1,9 +1,9 @@
 -- Rows of any kind, checked in turn: one more row passes, or the first fault is its own.
 use Rattle.std.specs.Prelude.{cond, slice_get}
-use Rattle.std.proofs.Common.{zero, Bool, true, false, ◌≡◌, ◌<◌, ◌+◌, ℕ, suc, List, [], ◌∷◌, ◌++◌, Some, None, length, take, drop, get_or, refl, sym, ap, arith, ◌∙◌, add-one, append_assoc, drop-cons}
+use Rattle.std.proofs.Common.{inl, inr, zero, Bool, true, false, ◌≡◌, ◌<◌, ◌+◌, ℕ, suc, List, [], ◌∷◌, ◌++◌, Some, None, length, take, drop, get_or, refl, sym, ap, arith, ◌∙◌, add-one, append_assoc, drop-cons}
 use Rattle.std.proofs.lemmas.List.{append-nil, length-take, take-append-drop}
 use Rattle.std.proofs.Math.Seq.{take-suc}
-use Rattle.cmb_design.specs.Checks.{Check, checks_after, checks_at, first_fault, rows_checks}
+use Rattle.cmb_design.specs.Checks.{Check, IsFaultOf, checks_after, checks_at, first_fault, rows_checks}
 use Rattle.cmb_design.specs.declared.fault.DesignFault.{DesignFault}
 
 pub first_fault-none : (xs ys : List Check) → first_fault xs ≡ None → first_fault (xs ++ ys) ≡ first_fault ys
@@ -113,3 +113,9 @@ pub refuse_at : {X : Type 0} (checks : Checks X) (rows : List X) (i : ℕ) (f : 
 refuse_at checks rows i f h p q =
     let x = element_at rows i h in
     rows_refuse checks rows i x.0 f h x.1 p (sym (ap first_fault (checks_at-is checks rows i x.0 h x.1)) ∙ q)
+
+pub stops_at : {X : Type 0} (checks : Checks X) (rows : List X) (i : ℕ) (e : DesignFault) → i < length rows
+    → first_fault (rows_checks checks (take i rows)) ≡ None → IsFaultOf (checks_at checks rows i) e
+    → IsFaultOf (rows_checks checks rows) e
+stops_at checks rows i e h p (inl memory) = inl memory
+stops_at checks rows i e h p (inr first) = inr (refuse_at checks rows i e h p first)

@@ -1,7 +1,7 @@
 //! The delays that delay rows give to kinds, nets and pins.
 
 ghost use Rattle.std.specs.Prelude.{◌≡◌, ◌+◌, ◌++◌, ◌<◌, ◌≤◌, ◌^◌, ◌⊎◌, length, take, true, false, IfOk, IfErr, OnOk};
-ghost use Rattle.cmb_design.specs.Checks.{checks_at, first_fault, rows_checks};
+ghost use Rattle.cmb_design.specs.Checks.{IsFaultOf, checks_at, first_fault, rows_checks};
 ghost use Rattle.cmb_design.specs.declared.fault.DesignFault.TheVariants as fault;
 ghost use Rattle.cmb_design.specs.Nets.{driver_cell, pins_at};
 ghost use Rattle.cmb_design.specs.Timing.{delay_by, delay_in, flat_delays, is_of_kind, net_delays};
@@ -101,8 +101,7 @@ fn take_delay(
     ensures ok { OnOk result ((first_fault (checks_at (delay_row_checks netlist.now) rows.now i) ≡ None)
         × (table.new.items ≡ delay_places netlist.now (take (i + 1) rows.now))
         × (all_placed netlist.now (take (i + 1) rows.now) ≡ true)) }
-    ensures err { IfErr result (λ e. (e ≡ fault.Memory)
-        ⊎ (first_fault (checks_at (delay_row_checks netlist.now) rows.now i) ≡ Some e)) }
+    ensures err { IfErr result (IsFaultOf (checks_at (delay_row_checks netlist.now) rows.now i)) }
 {
     let row = &rows[i];
     let number = i as u32 + 2;
@@ -133,8 +132,7 @@ fn take_delays(
     requires size { size ≡ table_size netlist.now }
     ensures ok { IfOk result (λ v. (first_fault (rows_checks (delay_row_checks netlist.now) rows.now) ≡ None)
         × (v.items ≡ delay_places netlist.now rows.now)) }
-    ensures err { IfErr result (λ e. (e ≡ fault.Memory)
-        ⊎ (first_fault (rows_checks (delay_row_checks netlist.now) rows.now) ≡ Some e)) }
+    ensures err { IfErr result (IsFaultOf (rows_checks (delay_row_checks netlist.now) rows.now)) }
 {
     let Ok(mut table) = vec![in alloc; None; size] else {
         return Err(DesignFault::Memory);
@@ -283,8 +281,7 @@ pub(crate) fn pin_delays(
     requires room { table_size netlist.now < 2 ^ 64 }
     ensures ok { IfOk result (λ v. (first_fault (rows_checks (delay_row_checks netlist.now) rows.now) ≡ None)
         × (v.items ≡ flat_delays netlist.now rows.now (length netlist.now.names))) }
-    ensures err { IfErr result (λ e. (e ≡ fault.Memory)
-        ⊎ (first_fault (rows_checks (delay_row_checks netlist.now) rows.now) ≡ Some e)) }
+    ensures err { IfErr result (IsFaultOf (rows_checks (delay_row_checks netlist.now) rows.now)) }
 {
     let places = take_delays(alloc, netlist, &layout.starts, layout.size, rows)?;
     let Ok(flat) = all_delays(alloc, netlist, &layout.starts, &places, rows) else {

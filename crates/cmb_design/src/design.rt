@@ -1,7 +1,7 @@
 //! The design as one value.
 
 ghost use Rattle.std.specs.Prelude.{◌≡◌, ◌⊎◌, ◌<◌, ◌≤◌, length, option_map, IfOk, IfErr, IfSome, Some, Err};
-ghost use Rattle.cmb_design.specs.Checks.{FollowsChecks, first_fault};
+ghost use Rattle.cmb_design.specs.Checks.{IsFaultOf, FollowsChecks, first_fault};
 ghost use Rattle.cmb_design.specs.declared.fault.DesignFault.{DesignFault};
 ghost use Rattle.cmb_design.specs.declared.fault.DesignFault.TheVariants as fault;
 ghost use Rattle.cmb_design.specs.Inside.{AreTables};
@@ -48,7 +48,7 @@ fn make_tables(
     ensures ok { let design = design_of netlist.now settings delays.now stimuli.now clocks.now in
         IfOk result (λ tables. (first_fault (design_checks design) ≡ None) × AreTables design tables) }
     ensures err { let design = design_of netlist.now settings delays.now stimuli.now clocks.now in
-        IfErr result (λ e. (e ≡ fault.Memory) ⊎ (first_fault (design_checks design) ≡ Some e)) }
+        IfErr result (IsFaultOf (design_checks design)) }
     ensures ranges { let design = design_of netlist.now settings delays.now stimuli.now clocks.now in
         (e : DesignFault) → first_fault (range_checks design.horizon design.clock) ≡ Some e → result ≡ Err e }
 {

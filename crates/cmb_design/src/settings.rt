@@ -3,7 +3,7 @@
 ghost use Rattle.std.specs.Prelude.{◌≡◌, ◌⊎◌, ◌||◌, ◌&&◌, ◌<◌, not, length, IfOk, IfErr, OnOk, slice_index_or, false};
 ghost use Rattle.std.specs.Prelude.{Some, Err};
 ghost use Rattle.cmb_bench.specs.Netlist.{driver_of};
-ghost use Rattle.cmb_design.specs.Checks.{first_fault};
+ghost use Rattle.cmb_design.specs.Checks.{IsFaultOf, first_fault};
 ghost use Rattle.cmb_design.specs.declared.fault.DesignFault.{DesignFault};
 ghost use Rattle.cmb_design.specs.declared.fault.DesignFault.TheVariants as fault;
 ghost use Rattle.cmb_design.specs.Nets.{is_flop};
@@ -111,8 +111,7 @@ pub(crate) fn check_settings(
     rows: &[ClockRow],
 ) -> Result<(), DesignFault>
     ensures ok { OnOk result (first_fault (setting_checks netlist.now horizon clock rows.now) ≡ None) }
-    ensures err { IfErr result (λ e. (e ≡ fault.Memory)
-        ⊎ (first_fault (setting_checks netlist.now horizon clock rows.now) ≡ Some e)) }
+    ensures err { IfErr result (IsFaultOf (setting_checks netlist.now horizon clock rows.now)) }
     ensures ranges { (e : DesignFault) → first_fault (range_checks horizon clock) ≡ Some e → result ≡ Err e }
 {
     if horizon < 1 || horizon > 1_000_000 {

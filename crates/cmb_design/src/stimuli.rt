@@ -3,7 +3,7 @@
 ghost use Rattle.std.specs.Prelude.{◌≡◌, ◌+◌, ◌<◌, ◌≤◌, ◌⊎◌, length, take, map, Some, IfOk, IfErr, MatchOption, OnOk};
 ghost use Rattle.cmb_bench.specs.Netlist.{number_of};
 ghost use Rattle.cmb_wave.specs.Waveform.{changes_between};
-ghost use Rattle.cmb_design.specs.Checks.{checks_at, first_fault, rows_checks};
+ghost use Rattle.cmb_design.specs.Checks.{IsFaultOf, checks_at, first_fault, rows_checks};
 ghost use Rattle.cmb_design.specs.declared.fault.DesignFault.TheVariants as fault;
 ghost use Rattle.cmb_design.specs.Rows.{stimulus_row_checks};
 ghost use Rattle.cmb_design.specs.Timing.{level_by};
@@ -42,8 +42,7 @@ fn take_stimulus(
     requires so_far { AreStimuli netlist.now (take i rows.now) table.old.items }
     ensures ok { OnOk result ((first_fault (checks_at (stimulus_row_checks netlist.now) rows.now i) ≡ None)
         × AreStimuli netlist.now (take (i + 1) rows.now) table.new.items) }
-    ensures err { IfErr result (λ e. (e ≡ fault.Memory)
-        ⊎ (first_fault (checks_at (stimulus_row_checks netlist.now) rows.now i) ≡ Some e)) }
+    ensures err { IfErr result (IsFaultOf (checks_at (stimulus_row_checks netlist.now) rows.now i)) }
 {
     let row = &rows[i];
     let number = i as u32 + 2;
@@ -80,8 +79,7 @@ fn take_stimuli(
     requires { length rows.now ≤ MAX_TEXT }
     ensures ok { IfOk result (λ v. (first_fault (rows_checks (stimulus_row_checks netlist.now) rows.now) ≡ None)
         × AreStimuli netlist.now rows.now v.items) }
-    ensures err { IfErr result (λ e. (e ≡ fault.Memory)
-        ⊎ (first_fault (rows_checks (stimulus_row_checks netlist.now) rows.now) ≡ Some e)) }
+    ensures err { IfErr result (IsFaultOf (rows_checks (stimulus_row_checks netlist.now) rows.now)) }
 {
     let Ok(mut table) = no_levels(alloc, netlist.len()) else {
         return Err(DesignFault::Memory);
@@ -114,8 +112,7 @@ pub(crate) fn stimuli_changes(
     requires { length rows.now ≤ MAX_TEXT }
     ensures ok { IfOk result (λ v. (first_fault (rows_checks (stimulus_row_checks netlist.now) rows.now) ≡ None)
         × (map changes_in v.items ≡ stimulus_changes netlist.now rows.now ALL_TICKS)) }
-    ensures err { IfErr result (λ e. (e ≡ fault.Memory)
-        ⊎ (first_fault (rows_checks (stimulus_row_checks netlist.now) rows.now) ≡ Some e)) }
+    ensures err { IfErr result (IsFaultOf (rows_checks (stimulus_row_checks netlist.now) rows.now)) }
 {
     let mut table = take_stimuli(alloc, netlist, rows)?;
     let Ok(()) = settle_all(alloc, &mut table) else {

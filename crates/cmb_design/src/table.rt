@@ -5,7 +5,7 @@ ghost use Rattle.std.specs.Prelude.{OnOk};
 ghost use Rattle.std.specs.Cmp.Lexicographic.{pointwise};
 ghost use Rattle.std.specs.Str.{bytes_eq};
 ghost use Rattle.csv.specs.Records.{fields_of};
-ghost use Rattle.cmb_design.specs.Checks.{Check, FollowsChecks, first_fault};
+ghost use Rattle.cmb_design.specs.Checks.{IsFaultOf, Check, FollowsChecks, first_fault};
 ghost use Rattle.cmb_design.specs.Fields.{fields_in};
 ghost use Rattle.cmb_design.specs.Readers.{record_checks, table_checks, table_rows};
 ghost use Rattle.cmb_design.specs.Records.{table_records};
@@ -46,8 +46,7 @@ fn take_record<T: TableRow>(
         ≡ None)
         × (rows.new.items ≡ (if number == 1 then rows.old.items else rows.old.items
         ++ T.row_of (fields_in (fields_of row.now)) ∷ []))) }
-    ensures err { IfErr result (λ e. (e ≡ fault.Memory)
-        ⊎ (first_fault (record_checks T.header T.checks number (fields_in (fields_of row.now))) ≡ Some e)) }
+    ensures err { IfErr result (IsFaultOf (record_checks T.header T.checks number (fields_in (fields_of row.now)))) }
 {
     if number == 1 {
         if T::is_header(row) {
@@ -74,8 +73,7 @@ pub(crate) fn read_table<T: TableRow>(alloc: Global, text: &[u8]) -> Result<Vec<
     requires { length text.now ≤ MAX_TEXT }
     ensures ok { IfOk result (λ v. (first_fault (table_checks T.header T.checks (table_records text.now)) ≡ None)
         × (v.items ≡ table_rows T.row_of (table_records text.now))) }
-    ensures err { IfErr result (λ e. (e ≡ fault.Memory)
-        ⊎ (first_fault (table_checks T.header T.checks (table_records text.now)) ≡ Some e)) }
+    ensures err { IfErr result (IsFaultOf (table_checks T.header T.checks (table_records text.now))) }
 {
     let mut reader = open_records(alloc, text);
     let mut row = ByteRecord::new(alloc);
