@@ -9,7 +9,7 @@ use Rattle.cmb_loops.specs.Search.{IsClosedPart, IsFollowed, IsLeft, IsLooped, I
 use Rattle.cmb_loops.specs.declared.search.Frame.{Frame}
 use Rattle.cmb_loops.specs.declared.search.Seen.{Seen}
 use Rattle.cmb_loops.specs.declared.search.Seen.TheVariants.{On, Done}
-use Rattle.cmb_loops.proofs.SearchFacts.{all_last, contains_none, pairs_front, pairs_last}
+use Rattle.cmb_loops.proofs.SearchFacts.{all_last, contains_none, frame_before, pairs_front, pairs_last}
 use Rattle.cmb_loops.proofs.WalkFacts.{reach_to, walk_stays}
 
 -- where a net of the part stands on the path
@@ -71,16 +71,11 @@ closed next seen seen' marks marks' path starts frames place k is end shut loope
     by-part low high l part start under (inl there) = part start there under
     by-part low high l part start under (inr e) = absurd (omega arith)
 
-    by-left : (start : ℕ) → Contains starts start → (f : Frame) × Contains (frames ++ record { place = place; next = k } ∷ []) f × (f.place ≡ start)
+    by-left : (start : ℕ) → Contains starts start → (f : Frame) × Contains (frames ++ frame ∷ []) f × (f.place ≡ start)
         → (f : Frame) × Contains frames f × (f.place ≡ start)
-    by-left start here left = by (Contains-push_cases frames frame left.0 left.1)
-      where
-        by : Contains frames left.0 ⊎ (frame ≡ left.0) → (f : Frame) × Contains frames f × (f.place ≡ start)
-        by (inl there) = (left.0, there, left.2)
-        by (inr e) =
-            let same : place ≡ start = ap (λ (f : Frame). f.place) e ∙ left.2 in
-            let l : start < place = All-contains (λ start. start < place) starts start starts-below here in
-            absurd (omega arith)
+    by-left start here =
+        let l : start < place = All-contains (λ start. start < place) starts start starts-below here in
+        frame_before frames frame start (λ same. omega (arith, same, l))
 
     -- the nets of the part are those from the place on
     into : (p : ℕ) → place ≤ p → p < length path → Contains (drop place path) (get_or path p 0)

@@ -347,6 +347,15 @@ merged next seen marks path kept gone frames at is above reaches = record {
 
 -- ---- the last frame goes, where no part begins at its place
 
+-- a frame of a place that isn't the last one's is among the others
+pub frame_before : (frames : List Frame) (last : Frame) (place : ℕ) → (last.place ≡ place → ⊥)
+    → (f : Frame) × Contains (frames ++ last ∷ []) f × (f.place ≡ place) → (f : Frame) × Contains frames f × (f.place ≡ place)
+frame_before frames last place other found = by (Contains-push_cases frames last found.0 found.1)
+  where
+    by : Contains frames found.0 ⊎ (last ≡ found.0) → (f : Frame) × Contains frames f × (f.place ≡ place)
+    by (inl there) = (found.0, there, found.2)
+    by (inr e) = absurd (other (ap (λ (f : Frame). f.place) e ∙ found.2))
+
 pub dropped : (next : ℕ → List ℕ) (seen : List Seen) (marks : List Bool) (path starts : List ℕ) (frames : List Frame) (place k : ℕ)
     → IsSearch next seen marks path starts (frames ++ record { place = place; next = k } ∷ [])
     → length (next (get_or path place 0)) ≤ k → (Contains starts place → ⊥)
@@ -360,13 +369,9 @@ dropped next seen marks path starts frames place k is end none =
     frame : Frame
     frame = record { place = place; next = k }
 
-    by-left : (start : ℕ) → Contains starts start → (f : Frame) × Contains (frames ++ record { place = place; next = k } ∷ []) f × (f.place ≡ start)
+    by-left : (start : ℕ) → Contains starts start → (f : Frame) × Contains (frames ++ frame ∷ []) f × (f.place ≡ start)
         → (f : Frame) × Contains frames f × (f.place ≡ start)
-    by-left start here left = by (Contains-push_cases frames frame left.0 left.1)
-      where
-        by : Contains frames left.0 ⊎ (frame ≡ left.0) → (f : Frame) × Contains frames f × (f.place ≡ start)
-        by (inl there) = (left.0, there, left.2)
-        by (inr e) = let same : start ≡ place = sym (ap (λ (f : Frame). f.place) e ∙ left.2) in let P : ℕ → Type 0 = λ x. Contains starts x in absurd (none (subst P same here))
+    by-left start here = let P : ℕ → Type 0 = λ x. Contains starts x in frame_before frames frame start (λ same. none (subst P (sym same) here))
 
     by-steps : (p target : ℕ) → IsLeft (frames ++ record { place = place; next = k } ∷ []) p (next (get_or path p 0)) target ⊎ IsFollowed seen starts p target
         → IsLeft frames p (next (get_or path p 0)) target ⊎ IsFollowed seen starts p target
