@@ -1,13 +1,14 @@
 -- What a reading that went well says of its steps.
 use Rattle.std.proofs.Common.{◌≡◌, ℕ, ◌<◌, ◌≤◌, List, [], ◌∷◌, length, Bool, true, false, refl, ap, ◌∙◌, subst, Result, Ok, Err, nat_lt, arith}
 use Rattle.std.specs.Prelude.{if◌then◌else◌, Option, Some, None, nat_le}
-use Rattle.cmb_bench.specs.declared.text.Class.TheVariants.{White, Comment, Open, Close, Comma, Equals, Name, Bad, End}
+use Rattle.cmb_bench.specs.declared.text.Class.{Class}
+use Rattle.cmb_bench.specs.declared.text.Class.TheVariants.{Open, Close, Comma, Equals}
 use Rattle.cmb_bench.specs.declared.fault.BenchFault.{BenchFault}
 use Rattle.cmb_bench.specs.Text.{Lexeme, Word, name, mark}
 use Rattle.cmb_bench.specs.Inner.Word.{is_open, is_close, is_comma, is_equals, name_in}
 use Rattle.cmb_bench.specs.Grammar.{at, IsNew, IsShort}
 use Rattle.cmb_bench.specs.Statement.{is_member}
-use Rattle.cmb_bench.specs.Inner.Reading.{◌>>=◌, next_in, named, short_name, short, opened, closed, with_net}
+use Rattle.cmb_bench.specs.Inner.Reading.{◌>>=◌, misplaced, next_in, named, short_name, short, opened, closed, with_net}
 
 pub bind_ok : {A B : Type 0} (r : Result A BenchFault) (f : A → Result B BenchFault) (y : B) → (r >>= f) ≡ Ok y → (x : A) × (r ≡ Ok x) × (f x ≡ Ok y)
 bind_ok (Ok x) f y e = (x, refl, e)
@@ -26,15 +27,7 @@ ok_is e = cc
 
 pub open_is : (w : Word) → is_open w ≡ true → w ≡ mark Open
 open_is (mark Open) e = refl
-open_is (mark White) e = absurd (cc)
-open_is (mark Comment) e = absurd (cc)
-open_is (mark Close) e = absurd (cc)
-open_is (mark Comma) e = absurd (cc)
-open_is (mark Equals) e = absurd (cc)
-open_is (mark Name) e = absurd (cc)
-open_is (mark Bad) e = absurd (cc)
-open_is (mark End) e = absurd (cc)
-open_is (name n) e = absurd (cc)
+open_is _ e = absurd (cc)
 
 pub close_is : (w : Word) → is_close w ≡ true → w ≡ mark Close
 close_is (mark Close) e = refl
@@ -74,19 +67,23 @@ short_is t n e =
     let same : s.0 ≡ n = ok_is u.1 in
     (token_is t (name n) (name_is t.word n (named_is _ t s.0 s.1 ∙ ap Some same)), subst IsShort same (at_most _ _ u.0))
 
+-- the first token is the mark that a test wants
+wanted_is : (test : Word → Bool) (c : Class) (ts rest : List Lexeme) → ((w : Word) → test w ≡ true → w ≡ mark c)
+    → (do t ← next_in ts
+          if test t.0.word then Ok t.1 else Err (misplaced t.0)) ≡ Ok rest
+    → (l : ℕ) × (ts ≡ at (mark c) l ∷ rest)
+wanted_is test c ts rest only e =
+    let s = bind_ok (next_in ts) _ rest e in
+    let u = provided (test s.0.0.word) _ (Ok s.0.1) rest s.2 in
+    (s.0.0.line, next_is ts s.0 s.1 ∙ ap (λ t. t ∷ s.0.1) (token_is s.0.0 _ (only _ u.0)) ∙ ap (λ l. at (mark c) s.0.0.line ∷ l) (ok_is u.1))
+
 pub opened_is : (ts rest : List Lexeme) → opened ts ≡ Ok rest → (l : ℕ) × (ts ≡ at (mark Open) l ∷ rest)
 unfolding opened
-opened_is ts rest e =
-    let s = bind_ok (next_in ts) _ rest e in
-    let u = provided (is_open s.0.0.word) _ (Ok s.0.1) rest s.2 in
-    (s.0.0.line, next_is ts s.0 s.1 ∙ ap (λ t. t ∷ s.0.1) (token_is s.0.0 _ (open_is _ u.0)) ∙ ap (λ l. at (mark Open) s.0.0.line ∷ l) (ok_is u.1))
+opened_is ts rest e = wanted_is is_open Open ts rest open_is e
 
 pub closed_is : (ts rest : List Lexeme) → closed ts ≡ Ok rest → (l : ℕ) × (ts ≡ at (mark Close) l ∷ rest)
 unfolding closed
-closed_is ts rest e =
-    let s = bind_ok (next_in ts) _ rest e in
-    let u = provided (is_close s.0.0.word) _ (Ok s.0.1) rest s.2 in
-    (s.0.0.line, next_is ts s.0 s.1 ∙ ap (λ t. t ∷ s.0.1) (token_is s.0.0 _ (close_is _ u.0)) ∙ ap (λ l. at (mark Close) s.0.0.line ∷ l) (ok_is u.1))
+closed_is ts rest e = wanted_is is_close Close ts rest close_is e
 
 less : (n m : ℕ) → nat_le m n ≡ false → n < m
 less n m e = grind arith
