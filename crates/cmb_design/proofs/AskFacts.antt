@@ -23,13 +23,10 @@ use Rattle.cmb_design.specs.declared.rows.StimulusRow.{StimulusRow}
 use Rattle.cmb_design.proofs.CheckFacts.{get_some}
 use Rattle.cmb_design.proofs.StimulusFacts.{map_at}
 
-pub clock_some : (design : Design) (net : ℕ) (clock : Clock) → place_at (clock_place design.netlist) clock_of_row design.clocks net ≡ Some clock → clock_of design net ≡ clock
+pub clock_read : (design : Design) (net : ℕ) (own : Option Clock) (common : Clock) → own ≡ place_at (clock_place design.netlist) clock_of_row design.clocks net
+    → common ≡ common_clock design.clock → unwrap_or own common ≡ clock_of design net
 unfolding clock_of place_at
-clock_some design net clock h = ap (λ o. unwrap_or o (common_clock design.clock)) h
-
-pub clock_none : (design : Design) (net : ℕ) → place_at (clock_place design.netlist) clock_of_row design.clocks net ≡ None → clock_of design net ≡ common_clock design.clock
-unfolding clock_of place_at
-clock_none design net h = ap (λ o. unwrap_or o (common_clock design.clock)) h
+clock_read design net own common e f = rw (e, f) refl
 
 positive : (o : Option ClockRow) (common : Option Clock) → 1 ≤ (unwrap_or (option_map clock_of_row o) (common_clock common)).period
 positive (Some row) common = omega arith

@@ -263,10 +263,7 @@ impl Design {
         ensures value { result ≡ clock_of self.now net }
         ensures lawful { IsDesign self.now }
     {
-        match self.tables.own_clocks[net] {
-            Some(clock) => clock,
-            None => clock_for_all(self.clock),
-        }
+        self.tables.own_clocks[net].unwrap_or(clock_for_all(self.clock))
     }
 
     /// The greatest sample tick of a flip-flop's net that is at most this tick; none below its first sample tick.
