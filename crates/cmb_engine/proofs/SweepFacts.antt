@@ -5,6 +5,7 @@ use Rattle.std.proofs.lemmas.List.{get_or_past}
 use Rattle.cmb_wave.specs.declared.level.Level.{Level}
 use Rattle.cmb_engine.specs.Bits.{has, HasNone}
 use Rattle.cmb_engine.specs.Cells.{Cell, Told, is_made, IsMade, IsReadable, IsReady, IsTrueBelow, AreSettled, KeepsTold, cell_at}
+use Rattle.cmb_engine.specs.Sweeps.{Sweeps}
 use Rattle.cmb_engine.proofs.CellFacts.{each-weaker, made-true, settled-true}
 use Rattle.cmb_engine.proofs.VisitFacts.{kept-false}
 
@@ -102,6 +103,17 @@ inserted-other old new n m is none e = false≢true (sym none ∙ is ∙ or_left
 
 pub inserted-none : (old new : List ℕ) (n m : ℕ) → has new m ≡ (m == n || has old m) → has new m ≡ false → has old m ≡ false
 inserted-none old new n m is none = kept-false old new m (inserted-keeps old new n m is) none
+
+pub sweeps-on : (cells : ℕ → Cell) (to first : ℕ) (f g h : ℕ → ℕ → Level) (marks marked left live more most : List ℕ) → Sweeps cells to first f g marks marked live more
+    → Sweeps cells to first g h marked left more most → Sweeps cells to first f h marks left live most
+sweeps-on cells to first f g h marks marked left live more most one two = record {
+  room = two.room ∙ one.room;
+  live_room = two.live_room ∙ one.live_room;
+  told = λ net place is. two.told net place is ∙ one.told net place is;
+  kept = λ m is. two.kept m (one.kept m is);
+  same = λ m place none. two.same m place none ∙ one.same m place (kept-false more most m (two.kept m) none);
+  settled = λ settled. two.settled (one.settled settled);
+}
 
 -- where nothing is marked and all is settled, made words that are true below the window are true
 pub none-marked : (words truth : ℕ → ℕ → Level) (cells : List Cell) (marks : List ℕ) (to first : ℕ) → length cells ≤ 64 * length marks → HasNone marks 0 (64 * length marks)

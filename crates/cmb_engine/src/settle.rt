@@ -6,7 +6,8 @@ ghost use Rattle.cmb_wave.specs.declared.level.Level.{Level};
 ghost use Rattle.cmb_engine.specs.Arrivals.{IsArrival};
 ghost use Rattle.cmb_engine.specs.Bits.{has};
 ghost use Rattle.cmb_engine.specs.Cells.{Told, IsMade, IsLawful, IsReady, IsTrueBelow, IsWired, AreReaders, AreSettled};
-ghost use Rattle.cmb_engine.specs.Cells.{KeepsTold, cell_at, is_made, reads};
+ghost use Rattle.cmb_engine.specs.Cells.{cell_at, is_made, reads};
+ghost use Rattle.cmb_engine.specs.Sweeps.{Sweeps};
 ghost use Rattle.cmb_engine.specs.Windows.{HasWindow};
 ghost use Rattle.cmb_engine.specs.Words.{levels_of};
 
@@ -98,13 +99,8 @@ pub(crate) fn sweep(
     requires room { length words.old ≤ 64 * length marks.old }
     requires live { length words.old ≤ 64 * length live.old }
     requires window { HasWindow to first }
-    ensures room { length marks.new ≡ length marks.old }
-    ensures live { length live.new ≡ length live.old }
-    ensures told { KeepsTold (levels_of words.old) (levels_of words.new) (cell_at cells.now) }
-    ensures kept { (m : ℕ) → has live.old m ≡ true → has live.new m ≡ true }
-    ensures same { (m place : ℕ) → has live.new m ≡ false → levels_of words.new m place ≡ levels_of words.old m place }
-    ensures settled { AreSettled (levels_of words.old) (has marks.old) (cell_at cells.now) to first
-        → AreSettled (levels_of words.new) (has marks.new) (cell_at cells.now) to first }
+    ensures sweeps { Sweeps (cell_at cells.now) to first (levels_of words.old) (levels_of words.new)
+        marks.old marks.new live.old live.new }
 
     // What the sweep passes becomes true one place further.
     ensures truer { (truth : ℕ → ℕ → Level) (upto : ℕ) → first ≤ upto → upto < 64
@@ -141,11 +137,8 @@ pub(crate) fn settle(
     requires room { length words.old ≤ 64 * length marks.old }
     requires live { length words.old ≤ 64 * length live.old }
     requires window { HasWindow to first }
-    ensures room { length marks.new ≡ length marks.old }
-    ensures live { length live.new ≡ length live.old }
-    ensures told { KeepsTold (levels_of words.old) (levels_of words.new) (cell_at cells.now) }
-    ensures kept { (m : ℕ) → has live.old m ≡ true → has live.new m ≡ true }
-    ensures same { (m place : ℕ) → has live.new m ≡ false → levels_of words.new m place ≡ levels_of words.old m place }
+    ensures sweeps { Sweeps (cell_at cells.now) to first (levels_of words.old) (levels_of words.new)
+        marks.old marks.new live.old live.new }
     ensures exact { (truth : ℕ → ℕ → Level)
         → IsReady (levels_of words.old) truth (cell_at cells.now) to first
         → AreSettled (levels_of words.old) (has marks.old) (cell_at cells.now) to first

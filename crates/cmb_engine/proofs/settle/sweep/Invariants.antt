@@ -1,8 +1,9 @@
-use Rattle.std.proofs.Common.{◌≡◌, ◌-◌, ℕ, true, false, length}
+use Rattle.std.proofs.Common.{◌-◌, ℕ, length}
 use Rattle.cmb_wave.specs.declared.level.Level.{Level}
 use Rattle.cmb_engine.specs.Arrivals.{IsArrival}
 use Rattle.cmb_engine.specs.Bits.{has}
-use Rattle.cmb_engine.specs.Cells.{AreSettled, KeepsTold, cell_at}
+use Rattle.cmb_engine.specs.Cells.{cell_at}
+use Rattle.cmb_engine.specs.Sweeps.{Sweeps}
 use Rattle.cmb_engine.specs.Walks.{walked}
 use Rattle.cmb_engine.specs.Words.{levels_of}
 use Rattle.cmb_engine.proofs.SweepFacts.{IsFurther, IsBegun}
@@ -11,13 +12,7 @@ use Rattle.cmb_engine.proofs.settle.sweep.Given as goal
 abbrev pub invariant-nets : goal.invariant-nets
 invariant-nets l = record {
   last : IsArrival l.last l.to l.first;
-  room : length l.marks ≡ length l.initial.marks;
-  live : length l.live ≡ length l.initial.live;
-  told : KeepsTold (levels_of l.initial.words) (levels_of l.words) (cell_at l.cells);
-  kept : (m : ℕ) → has l.initial.live m ≡ true → has l.live m ≡ true;
-  same : (m place : ℕ) → has l.live m ≡ false → levels_of l.words m place ≡ levels_of l.initial.words m place;
-  settled : AreSettled (levels_of l.initial.words) (has l.initial.marks) (cell_at l.cells) l.to l.first
-      → AreSettled (levels_of l.words) (has l.marks) (cell_at l.cells) l.to l.first;
+  sweeps : Sweeps (cell_at l.cells) l.to l.first (levels_of l.initial.words) (levels_of l.words) l.initial.marks l.marks l.initial.live l.live;
   truer : (truth : ℕ → ℕ → Level) (upto : ℕ) → IsBegun (levels_of l.initial.words) truth (has l.initial.marks) (cell_at l.cells) l.to l.first upto
       → IsFurther (levels_of l.words) truth (cell_at l.cells) upto (walked l.walk);
 }

@@ -102,5 +102,5 @@ returns-clause-shows c = λ trace meets shows right given slot place inside smal
     meets (c.args.to - c.args.ticks) c.args.ticks c.args.to (64 - c.args.ticks) window
     (levels_of c.args.words.now) (levels_of c.move_on.new.words) (levels_of c.write_given.new.words)
     shown_before c.move_on.ensures.moved
-    c.move_on.new.live c.mark_arrivals.new.marks begun (levels_of c.settle.new.words) c.settle.ensures.told c.settle.ensures.exact
+    c.move_on.new.live c.mark_arrivals.new.marks begun (levels_of c.settle.new.words) c.settle.ensures.sweeps.told c.settle.ensures.exact
     slot place (omega (arith, inside, c.requires.nets)) small
