@@ -19,32 +19,14 @@ pub enum DriverKind {
     Flops,
 }
 
-// The number of a kind, in the order of its declaration.
-fn number_of(kind: Kind) -> u32
-    ensures { result ≡ kind_number kind }
-{
-    match kind {
-        Kind::And => 0,
-        Kind::Nand => 1,
-        Kind::Or => 2,
-        Kind::Nor => 3,
-        Kind::Xor => 4,
-        Kind::Xnor => 5,
-        Kind::Not => 6,
-        Kind::Buff => 7,
-    }
-}
-
+// Kinds are compared by their numbers, in the order of their declaration; 8 is that of flip-flops.
 fn is_gate(kind: Kind, driver: &Driver) -> bool
     ensures { result ≡ is_at (driver_cell driver.now) (kind_number kind) }
 {
     match driver {
         Driver::Input => false,
-        Driver::Gate(other, _) => number_of(*other) == number_of(kind),
-        Driver::Flop(_) => {
-            let number = number_of(kind);
-            8 == number
-        }
+        Driver::Gate(other, _) => *other as u32 == kind as u32,
+        Driver::Flop(_) => 8 == kind as u32,
     }
 }
 
