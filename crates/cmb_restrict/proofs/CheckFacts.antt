@@ -130,6 +130,18 @@ module _ (whole part : Netlist) (nets : List ℕ) (closed : IsClosed whole nets)
   known : (name : List ℕ) → has_net part name ≡ true → is_none (number_of part name) ≡ false
   known name has = ap not has
 
+  -- the checks of a row about a net: it is known, has no such row yet, and its driver isn't a wrong one
+  named-pass : (u r w u' r' w' : DesignFault) (name : List ℕ) (repeated wrong again still : Bool) → has_net part name ≡ true → (repeated ≡ false → again ≡ false) → still ≡ wrong
+      → first_fault (check u (is_none (number_of whole name)) ∷ check r repeated ∷ check w wrong ∷ []) ≡ None
+      → first_fault (check u' (is_none (number_of part name)) ∷ check r' again ∷ check w' still ∷ []) ≡ None
+  named-pass u r w u' r' w' name repeated wrong again still has once same h =
+      let a = none_head _ (is_none (number_of whole name)) _ h in
+      let b = none_head _ repeated _ a.1 in
+      let c = none_head _ wrong _ b.1 in
+      none_cons _ (is_none (number_of part name)) _ (known name has)
+      (none_cons _ again _ (once b.0)
+      (none_cons _ still _ (same ∙ c.0) none_nil))
+
   delayed-pass : (n m : ℕ) (repeated again : Bool) (what : Delayed) → has_delayed part what ≡ true → (repeated ≡ false → again ≡ false)
       → first_fault (delayed_checks whole n repeated what) ≡ None → first_fault (delayed_checks part m again what) ≡ None
   unfolding delayed_checks
@@ -137,12 +149,7 @@ module _ (whole part : Netlist) (nets : List ℕ) (closed : IsClosed whole nets)
       let a = none_head _ repeated _ h in
       none_cons _ again _ (once a.0) none_nil
   delayed-pass n m repeated again (Net name) has once h =
-      let a = none_head _ (is_none (number_of whole name)) _ h in
-      let b = none_head _ repeated _ a.1 in
-      let c = none_head _ (driver_named whole is_input name) _ b.1 in
-      none_cons _ (is_none (number_of part name)) _ (known name has)
-      (none_cons _ again _ (once b.0)
-      (none_cons _ (driver_named part is_input name) _ (named is_input input_kept name has ∙ c.0) none_nil))
+      named-pass _ _ _ _ _ _ name repeated (driver_named whole is_input name) again (driver_named part is_input name) has once (named is_input input_kept name has) h
   delayed-pass n m repeated again (Pin name pin) has once h =
       let a = none_head _ (is_none (number_of whole name)) _ h in
       let b = none_head _ repeated _ a.1 in
@@ -165,12 +172,9 @@ module _ (whole part : Netlist) (nets : List ℕ) (closed : IsClosed whole nets)
   stimuli-pass rows h = rows_kept (stimulus_row_checks whole) (stimulus_row_checks part) (λ row. has_net part row.net)
       (λ n m earlier row has pass.
       let again : StimulusRow → Bool = λ other. bytes_eq other.net row.net && other.tick == row.tick in
-      let a = none_head _ (is_none (number_of whole row.net)) _ pass in
-      let b = none_head _ (list_any again earlier) _ a.1 in
-      let c = none_head _ (not (driver_named whole is_input row.net)) _ b.1 in
-      none_cons _ (is_none (number_of part row.net)) _ (known row.net has)
-      (none_cons _ (list_any again (filter (λ row. has_net part row.net) earlier)) _ (none_kept again (λ (row : StimulusRow). has_net part row.net) earlier b.0)
-      (none_cons _ (not (driver_named part is_input row.net)) _ (ap not (named is_input input_kept row.net has) ∙ c.0) none_nil)))
+      named-pass _ _ _ _ _ _ row.net (list_any again earlier) (not (driver_named whole is_input row.net))
+      (list_any again (filter (λ row. has_net part row.net) earlier)) (not (driver_named part is_input row.net))
+      has (none_kept again (λ (row : StimulusRow). has_net part row.net) earlier) (ap not (named is_input input_kept row.net has)) pass)
       2 2 [] rows h
 
   clocks-pass : (rows : List ClockRow) → first_fault (rows_checks (clock_row_checks whole) rows) ≡ None → first_fault (rows_checks (clock_row_checks part) (filter (λ row. has_net part row.net) rows)) ≡ None
@@ -178,12 +182,9 @@ module _ (whole part : Netlist) (nets : List ℕ) (closed : IsClosed whole nets)
   clocks-pass rows h = rows_kept (clock_row_checks whole) (clock_row_checks part) (λ row. has_net part row.net)
       (λ n m earlier row has pass.
       let again : ClockRow → Bool = λ other. bytes_eq other.net row.net in
-      let a = none_head _ (is_none (number_of whole row.net)) _ pass in
-      let b = none_head _ (list_any again earlier) _ a.1 in
-      let c = none_head _ (not (driver_named whole is_flop row.net)) _ b.1 in
-      none_cons _ (is_none (number_of part row.net)) _ (known row.net has)
-      (none_cons _ (list_any again (filter (λ row. has_net part row.net) earlier)) _ (none_kept again (λ (row : ClockRow). has_net part row.net) earlier b.0)
-      (none_cons _ (not (driver_named part is_flop row.net)) _ (ap not (named is_flop flop_kept row.net has) ∙ c.0) none_nil)))
+      named-pass _ _ _ _ _ _ row.net (list_any again earlier) (not (driver_named whole is_flop row.net))
+      (list_any again (filter (λ row. has_net part row.net) earlier)) (not (driver_named part is_flop row.net))
+      has (none_kept again (λ (row : ClockRow). has_net part row.net) earlier) (ap not (named is_flop flop_kept row.net has)) pass)
       2 2 [] rows h
 
   unclocked-same : (rows : List ClockRow) (i : ℕ) → i < length nets → is_unclocked part (filter (λ row. has_net part row.net) rows) i ≡ is_unclocked whole rows (get_or nets i 0)
