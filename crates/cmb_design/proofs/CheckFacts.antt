@@ -107,13 +107,14 @@ pass_at checks rows i h p q =
     let x = element_at rows i h in
     rows_pass checks rows i x.0 h x.1 p (sym (ap first_fault (checks_at-is checks rows i x.0 h x.1)) ∙ q)
 
-pub refuse_at : {X : Type 0} (checks : Checks X) (rows : List X) (i : ℕ) (f : DesignFault) → i < length rows
+refuse_at : {X : Type 0} (checks : Checks X) (rows : List X) (i : ℕ) (f : DesignFault) → i < length rows
     → first_fault (rows_checks checks (take i rows)) ≡ None → first_fault (checks_at checks rows i) ≡ Some f
     → first_fault (rows_checks checks rows) ≡ Some f
 refuse_at checks rows i f h p q =
     let x = element_at rows i h in
     rows_refuse checks rows i x.0 f h x.1 p (sym (ap first_fault (checks_at-is checks rows i x.0 h x.1)) ∙ q)
 
+-- what refuses the next row refuses all
 pub stops_at : {X : Type 0} (checks : Checks X) (rows : List X) (i : ℕ) (e : DesignFault) → i < length rows
     → first_fault (rows_checks checks (take i rows)) ≡ None → IsFaultOf (checks_at checks rows i) e
     → IsFaultOf (rows_checks checks rows) e
