@@ -1,9 +1,8 @@
 //! The design as one value.
 
-ghost use Rattle.std.specs.Prelude.{◌≡◌, ◌⊎◌, ◌<◌, ◌≤◌, length, option_map, IfOk, IfErr, IfSome, Some, Err};
+ghost use Rattle.std.specs.Prelude.{◌≡◌, ◌<◌, ◌≤◌, length, option_map, IfOk, IfErr, IfSome, Some, Err};
 ghost use Rattle.cmb_design.specs.Checks.{IsFaultOf, FollowsChecks, first_fault};
 ghost use Rattle.cmb_design.specs.declared.fault.DesignFault.{DesignFault};
-ghost use Rattle.cmb_design.specs.declared.fault.DesignFault.TheVariants as fault;
 ghost use Rattle.cmb_design.specs.Inside.{AreTables};
 ghost use Rattle.cmb_design.specs.Nets.{pins_at};
 ghost use Rattle.cmb_design.specs.Timing.{clock_of, delay as design_delay, last_sample, next_sample, stimulus};

@@ -1,11 +1,10 @@
 //! The settings of a design, and their checks.
 
-ghost use Rattle.std.specs.Prelude.{◌≡◌, ◌⊎◌, ◌||◌, ◌&&◌, ◌<◌, not, length, IfOk, IfErr, OnOk, slice_index_or, false};
+ghost use Rattle.std.specs.Prelude.{◌≡◌, ◌||◌, ◌&&◌, ◌<◌, not, length, IfOk, IfErr, OnOk, slice_index_or, false};
 ghost use Rattle.std.specs.Prelude.{Some, Err};
 ghost use Rattle.cmb_bench.specs.Netlist.{driver_of};
 ghost use Rattle.cmb_design.specs.Checks.{IsFaultOf, first_fault};
 ghost use Rattle.cmb_design.specs.declared.fault.DesignFault.{DesignFault};
-ghost use Rattle.cmb_design.specs.declared.fault.DesignFault.TheVariants as fault;
 ghost use Rattle.cmb_design.specs.Nets.{is_flop};
 ghost use Rattle.cmb_design.specs.Settings.{any_below, is_bad_clock, is_unclocked, lacks_clock, named_nets};
 ghost use Rattle.cmb_design.specs.Settings.{range_checks, setting_checks};

@@ -1,10 +1,9 @@
 //! The changes of input nets, from the rows of their stimuli.
 
-ghost use Rattle.std.specs.Prelude.{◌≡◌, ◌+◌, ◌<◌, ◌≤◌, ◌⊎◌, length, take, map, Some, IfOk, IfErr, MatchOption, OnOk};
+ghost use Rattle.std.specs.Prelude.{◌≡◌, ◌+◌, ◌<◌, ◌≤◌, length, take, map, Some, IfOk, IfErr, MatchOption, OnOk};
 ghost use Rattle.cmb_bench.specs.Netlist.{number_of};
 ghost use Rattle.cmb_wave.specs.Waveform.{changes_between};
 ghost use Rattle.cmb_design.specs.Checks.{IsFaultOf, checks_at, first_fault, rows_checks};
-ghost use Rattle.cmb_design.specs.declared.fault.DesignFault.TheVariants as fault;
 ghost use Rattle.cmb_design.specs.Rows.{stimulus_row_checks};
 ghost use Rattle.cmb_design.specs.Timing.{level_by};
 ghost use Rattle.cmb_design.specs.Stimuli.{AllEmpty, AllTold, AreStimuli, stimulus_changes};

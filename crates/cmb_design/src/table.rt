@@ -1,6 +1,6 @@
 //! A table: a header, and then rows.
 
-ghost use Rattle.std.specs.Prelude.{◌∷◌, ◌≤◌, [], List, ℕ, length, ◌≡◌, ◌⊎◌, ◌==◌, ◌++◌, if◌then◌else◌, IfErr, IfOk};
+ghost use Rattle.std.specs.Prelude.{◌∷◌, ◌≤◌, [], List, ℕ, length, ◌≡◌, ◌==◌, ◌++◌, if◌then◌else◌, IfErr, IfOk};
 ghost use Rattle.std.specs.Prelude.{OnOk};
 ghost use Rattle.std.specs.Cmp.Lexicographic.{pointwise};
 ghost use Rattle.std.specs.Str.{bytes_eq};
@@ -9,7 +9,6 @@ ghost use Rattle.cmb_design.specs.Checks.{IsFaultOf, Check, FollowsChecks, first
 ghost use Rattle.cmb_design.specs.Fields.{fields_in};
 ghost use Rattle.cmb_design.specs.Readers.{record_checks, table_checks, table_rows};
 ghost use Rattle.cmb_design.specs.Records.{table_records};
-ghost use Rattle.cmb_design.specs.declared.fault.DesignFault.TheVariants as fault;
 
 use crate::fault::DesignFault;
 use crate::records::{next_record, open_records};
