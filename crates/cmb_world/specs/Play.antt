@@ -1,5 +1,5 @@
 -- The world as contracts see it: its clusters with their processes, and what a call on it comes to.
-use Rattle.std.specs.Prelude.{◌≡◌, ℕ, ◌<◌, ◌&&◌, Bool, true, false, nat_lt, List, [], length, map, slice_index, slice_index_or, slice_set, Option, Some, None, is_some, Result, Ok, Err, if◌then◌else◌}
+use Rattle.std.specs.Prelude.{◌≡◌, ℕ, ◌<◌, ◌&&◌, Bool, true, false, nat_lt, List, [], length, map, slice_index, slice_index_or, slice_set, Option, Some, None, is_some, Result, Ok, Err, OnErr, if◌then◌else◌}
 use Rattle.cmb_wave.specs.declared.level.Promise.{Promise}
 use Rattle.cmb_wave.specs.Wave.{Piece, Wave}
 use Rattle.cmb_bench.specs.Netlist.{IsNetlist}
@@ -14,7 +14,7 @@ use Rattle.cmb_core.specs.Clustering.{Clustering, IsClustering, has_input}
 use Rattle.cmb_core.specs.Clusters.{Cluster, IsSameButWaves}
 use Rattle.cmb_core.specs.Opened.{IsClusterOf}
 use Rattle.cmb_core.specs.Step.{wave_at}
-use Rattle.cmb_world.specs.World.{WorldWaves, Played, out_wave, in_wave, new_world, world_after}
+use Rattle.cmb_world.specs.World.{WorldWaves, Played, out_wave, in_wave, new_world, play_world, world_after}
 
 -- what contracts see of a world
 pub record World : Type 0 where
@@ -76,6 +76,13 @@ takes_memory (Err fault) = false
 abbrev pub Plays : Played → WorldWaves → WorldWaves → Result Reply PlayFault → Type 0
 Plays played before after (Err Memory) = (after ≡ before) × (takes_memory played.reply ≡ true)
 Plays played before after reply = (played.world ≡ after) × (played.reply ≡ reply)
+
+-- an event on a world went as it is defined, whatever design the world is one of: it stays one of that design, and a refusal changes nothing
+pub record IsAnswer (event : Event) (old new : World) (reply : Result Reply PlayFault) : Type 0 where
+  pub played : (design : Design) (clustering : Clustering) → IsWorldOf design clustering old → Plays (play_world design clustering (shown old) event) (shown old) (shown new) reply
+  pub kept : (design : Design) (clustering : Clustering) → IsWorldOf design clustering old → IsWorldOf design clustering new
+  pub unchanged : OnErr reply (new ≡ old)
+  pub size : IsSameSize old new
 
 -- the world came about from newly opened clusters by these events
 abbrev pub IsReached : Design → Clustering → WorldWaves → List Event → Type 0

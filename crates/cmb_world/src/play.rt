@@ -33,8 +33,8 @@ impl World {
     ghost use Rattle.cmb_core.specs.Clusters.{step_answer, step_waves, delivered, RefusesDelivery, heard_at};
     ghost use Rattle.cmb_core.specs.Clusters.{input_slot};
     ghost use Rattle.cmb_core.specs.Opened.{IsClusterOf, IsOwnNet};
-    ghost use Rattle.cmb_world.specs.Play.{IsReached, IsWorldOf, IsSameBut, IsSameSize, Plays, cluster_at, home_wave};
-    ghost use Rattle.cmb_world.specs.Play.{post_at, shown};
+    ghost use Rattle.cmb_world.specs.Play.{IsAnswer, IsReached, IsWorldOf, IsSameBut, IsSameSize, Plays, cluster_at};
+    ghost use Rattle.cmb_world.specs.Play.{home_wave, post_at, shown};
     ghost use Rattle.cmb_world.specs.Clocks.{start, play as play_clocks};
     ghost use Rattle.cmb_world.specs.Run.{clocks_after, replies_to};
     ghost use Rattle.cmb_core.specs.Step.{wave_at, with_wave};
@@ -42,12 +42,7 @@ impl World {
 
     // Makes an event happen.
     fn answer(&mut self, event: Event) -> Result<Reply, PlayFault>
-        ensures played { (design : Design) (clustering : Clustering) → IsWorldOf design clustering self.old
-            → Plays (play_world design clustering (shown self.old) event) (shown self.old) (shown self.new) result }
-        ensures kept { (design : Design) (clustering : Clustering) → IsWorldOf design clustering self.old
-            → IsWorldOf design clustering self.new }
-        ensures unchanged { OnErr result (self.new ≡ self.old) }
-        ensures size { IsSameSize self.old self.new }
+        ensures { IsAnswer event self.old self.new result }
     {
         match event {
             Event::Step(net) => self.step(net),
@@ -138,13 +133,7 @@ impl World {
     }
 
     fn step(&mut self, net: u32) -> Result<Reply, PlayFault>
-        ensures played { (design : Design) (clustering : Clustering) → IsWorldOf design clustering self.old
-            → Plays (play_world design clustering (shown self.old) (Step net)) (shown self.old) (shown self.new)
-            result }
-        ensures kept { (design : Design) (clustering : Clustering) → IsWorldOf design clustering self.old
-            → IsWorldOf design clustering self.new }
-        ensures unchanged { OnErr result (self.new ≡ self.old) }
-        ensures size { IsSameSize self.old self.new }
+        ensures { IsAnswer (Step net) self.old self.new result }
     {
         let Some(cluster) = self.home(net) else {
             return Err(PlayFault::NoSuch);
@@ -180,13 +169,7 @@ impl World {
     }
 
     fn post(&mut self, net: u32, from: u32) -> Result<Reply, PlayFault>
-        ensures played { (design : Design) (clustering : Clustering) → IsWorldOf design clustering self.old
-            → Plays (play_world design clustering (shown self.old) (Post net from)) (shown self.old) (shown self.new)
-            result }
-        ensures kept { (design : Design) (clustering : Clustering) → IsWorldOf design clustering self.old
-            → IsWorldOf design clustering self.new }
-        ensures unchanged { OnErr result (self.new ≡ self.old) }
-        ensures size { IsSameSize self.old self.new }
+        ensures { IsAnswer (Post net from) self.old self.new result }
     {
         let Some(clock) = self.out_clock(net) else {
             return Err(PlayFault::NoSuch);
@@ -224,13 +207,7 @@ impl World {
     }
 
     fn deliver(&mut self, cluster: u32, number: usize) -> Result<Reply, PlayFault>
-        ensures played { (design : Design) (clustering : Clustering) → IsWorldOf design clustering self.old
-            → Plays (play_world design clustering (shown self.old) (Deliver cluster number)) (shown self.old)
-            (shown self.new) result }
-        ensures kept { (design : Design) (clustering : Clustering) → IsWorldOf design clustering self.old
-            → IsWorldOf design clustering self.new }
-        ensures unchanged { OnErr result (self.new ≡ self.old) }
-        ensures size { IsSameSize self.old self.new }
+        ensures { IsAnswer (Deliver cluster number) self.old self.new result }
     {
         let place = cluster as usize;
         if place >= self.clusters.len() || number >= self.posts.len() {
@@ -265,13 +242,7 @@ impl World {
     }
 
     fn promise(&mut self, net: u32) -> Result<Reply, PlayFault>
-        ensures played { (design : Design) (clustering : Clustering) → IsWorldOf design clustering self.old
-            → Plays (play_world design clustering (shown self.old) (Promises net)) (shown self.old) (shown self.new)
-            result }
-        ensures kept { (design : Design) (clustering : Clustering) → IsWorldOf design clustering self.old
-            → IsWorldOf design clustering self.new }
-        ensures unchanged { OnErr result (self.new ≡ self.old) }
-        ensures size { IsSameSize self.old self.new }
+        ensures { IsAnswer (Promises net) self.old self.new result }
     {
         let Some(promise) = self.promise_of(net) else {
             return Err(PlayFault::NoSuch);
@@ -297,13 +268,7 @@ impl World {
     }
 
     fn look(&mut self, cluster: u32, number: usize) -> Result<Reply, PlayFault>
-        ensures played { (design : Design) (clustering : Clustering) → IsWorldOf design clustering self.old
-            → Plays (play_world design clustering (shown self.old) (Look cluster number)) (shown self.old)
-            (shown self.new) result }
-        ensures kept { (design : Design) (clustering : Clustering) → IsWorldOf design clustering self.old
-            → IsWorldOf design clustering self.new }
-        ensures unchanged { OnErr result (self.new ≡ self.old) }
-        ensures size { IsSameSize self.old self.new }
+        ensures { IsAnswer (Look cluster number) self.old self.new result }
     {
         let place = cluster as usize;
         if place >= self.clusters.len() {
