@@ -167,24 +167,30 @@ module _ (design : Design) (clustering : Clustering) (clocks : Clocks) (sound : 
       (λ yes. with_out-goes net tick (omega (arith, ltb-true (out_clock clocks net) tick yes)) within)
       (λ no. stays)
 
+  -- more was posted or promised, and no clock moved
+  noted-goes : (posts : List Span) (promises : List Bound) → AllByRecursion (IsPosted design clocks) posts → AllByRecursion (IsPromised design clocks) promises
+      → Goes design clustering clocks (record clocks { posts = posts; promises = promises })
+  noted-goes posts promises posted promised = (
+    record {
+      nets = sound.nets;
+      clusters = sound.clusters;
+      rows = sound.rows;
+      outs_within = sound.outs_within;
+      ins_within = sound.ins_within;
+      posts = posted;
+      promises = promised;
+    },
+    record { outs = λ other. omega arith; ins = λ cluster other. omega arith },
+  )
+
   posted-goes : (net from : ℕ) → net < nets_of design → Goes design clustering clocks (posted clocks net from).clocks
   posted-goes net from there =
       cond_both (ltb (out_clock clocks net) from) _ _ moves
       (λ above. stays)
       (λ low. cond_both (eqb from (out_clock clocks net)) _ _ moves
       (λ same. stays)
-      (λ differ. (
-        record {
-          nets = sound.nets;
-          clusters = sound.clusters;
-          rows = sound.rows;
-          outs_within = sound.outs_within;
-          ins_within = sound.ins_within;
-          posts = all_push (IsPosted design clocks) clocks.posts _ sound.posts (there, (let ne : from ≢ out_clock clocks net = eqb-false from (out_clock clocks net) differ in omega (arith, ltb-false (out_clock clocks net) from low)), omega arith);
-          promises = sound.promises;
-        },
-        record { outs = λ other. omega arith; ins = λ cluster other. omega arith },
-      )))
+      (λ differ. noted-goes _ clocks.promises
+      (all_push (IsPosted design clocks) clocks.posts _ sound.posts (there, (let ne : from ≢ out_clock clocks net = eqb-false from (out_clock clocks net) differ in omega (arith, ltb-false (out_clock clocks net) from low)), omega arith)) sound.promises))
 
   delivered-goes : (cluster : ℕ) (post : Option Span) → ((span : Span) → post ≡ Some span → IsPosted design clocks span) → Goes design clustering clocks (machine_delivered design clustering clocks cluster post).clocks
   delivered-goes cluster None was = stays
@@ -198,18 +204,7 @@ module _ (design : Design) (clustering : Clustering) (clocks : Clocks) (sound : 
       (λ stranger. stays)
 
   promised-goes : (net : ℕ) → net < nets_of design → Goes design clustering clocks (machine_promised design clocks net).clocks
-  promised-goes net there = (
-    record {
-      nets = sound.nets;
-      clusters = sound.clusters;
-      rows = sound.rows;
-      outs_within = sound.outs_within;
-      ins_within = sound.ins_within;
-      posts = sound.posts;
-      promises = all_push (IsPromised design clocks) clocks.promises _ sound.promises (there, omega arith);
-    },
-    record { outs = λ other. omega arith; ins = λ cluster other. omega arith },
-  )
+  promised-goes net there = noted-goes clocks.posts _ sound.posts (all_push (IsPromised design clocks) clocks.promises _ sound.promises (there, omega arith))
 
   looked-goes : (cluster : ℕ) (promise : Option Bound) → ((bound : Bound) → promise ≡ Some bound → IsPromised design clocks bound) → Goes design clustering clocks (looked design clustering clocks cluster promise).clocks
   looked-goes cluster None was = stays

@@ -228,6 +228,16 @@ module _ (design : Design) (netlist : IsNetlist design.netlist) (clustering : Cl
             reply = ap (λ (p : Piece). Ok (Stepped (Some p))) (exact_piece-is design (step_piece design waves wave) exact ∙ (λ i. piece_of design (record { net = net-is i; from = clock-is i; to = to-is i })));
           }
 
+  -- more was posted or promised, and no wave changed
+  noted-follows : (posts : List Piece) (promises : List Promise) (spans : List Span) (bounds : List Bound) (answer reply : Reply)
+      → posts ≡ map (piece_of design) spans → promises ≡ map (promise_of design) bounds → ◌≡◌ {A = Result Reply PlayFault} (Ok answer) (Ok reply)
+      → Follows design clustering (answered (record world { posts = posts; promises = promises }) answer) (replied (record clocks { posts = spans; promises = bounds }) reply)
+  noted-follows posts promises spans bounds answer reply posted promised same = record {
+    has = record { clusters = has.clusters; outs = has.outs; ins = has.ins };
+    shows = record { exact = shows.exact; whole = shows.whole; outs = shows.outs; ins = shows.ins; posts = posted; promises = promised };
+    reply = same;
+  }
+
   post-follows : (net from : ℕ) → net < nets_of design → Follows design clustering (post_in world (out_wave clustering world net) from) (posted clocks net from)
   post-follows net from there =
       follows-if design clustering _ _ _ _ _ _ (ap (λ (t : ℕ). ltb t from) clock-is)
@@ -255,32 +265,17 @@ module _ (design : Design) (netlist : IsNetlist design.netlist) (clustering : Cl
           (λ i. record { net = wave.net; from = from; to = wave.clock; changes = part i }) ∙ (λ i. piece_of design (record { net = net-is i; from = from; to = clock-is i }))
 
       sends : from ≤ out_clock clocks net → (from ≡ out_clock clocks net → ⊥) → Follows design clustering (answered (record world { posts = world.posts ++ cut_of wave from ∷ [] }) (Posted (Some (length world.posts)))) (replied (record clocks { posts = clocks.posts ++ span ∷ [] }) (Posted (Some (length clocks.posts))))
-      sends low ne = record {
-        has = record { clusters = has.clusters; outs = has.outs; ins = has.ins };
-        shows = record {
-          exact = shows.exact;
-          whole = shows.whole;
-          outs = shows.outs;
-          ins = shows.ins;
-          promises = shows.promises;
-          posts = ap (λ (ps : List Piece). ps ++ cut_of wave from ∷ []) shows.posts ∙ ap (λ (p : Piece). map (piece_of design) clocks.posts ++ p ∷ []) (cut-is low) ∙ sym (map_push (piece_of design) clocks.posts span);
-        };
-        reply = ap (λ (n : ℕ). Ok (Posted (Some n))) (ap length shows.posts ∙ length-map clocks.posts (piece_of design));
-      }
+      sends low ne =
+          noted-follows _ world.promises _ clocks.promises _ _
+          (ap (λ (ps : List Piece). ps ++ cut_of wave from ∷ []) shows.posts ∙ ap (λ (p : Piece). map (piece_of design) clocks.posts ++ p ∷ []) (cut-is low) ∙ sym (map_push (piece_of design) clocks.posts span))
+          shows.promises
+          (ap (λ (n : ℕ). Ok (Posted (Some n))) (ap length shows.posts ∙ length-map clocks.posts (piece_of design)))
 
   promise-follows : (net : ℕ) → net < nets_of design → Follows design clustering (promise_in world (out_wave clustering world net)) (machine_promised design clocks net)
-  promise-follows net there = record {
-    has = record { clusters = has.clusters; outs = has.outs; ins = has.ins };
-    shows = record {
-      exact = shows.exact;
-      whole = shows.whole;
-      outs = shows.outs;
-      ins = shows.ins;
-      posts = shows.posts;
-      promises = ap (λ (ps : List Promise). ps ++ promise ∷ []) shows.promises ∙ ap (λ (p : Promise). map (promise_of design) clocks.promises ++ p ∷ []) promise-is ∙ sym (map_push (promise_of design) clocks.promises bound);
-    };
-    reply = ap (λ (n : ℕ). Ok (Promised n promise)) (ap length shows.promises ∙ length-map clocks.promises (promise_of design)) ∙ ap (λ (p : Promise). Ok (Promised (length clocks.promises) p)) promise-is;
-  }
+  promise-follows net there =
+      noted-follows world.posts _ clocks.posts _ _ _ shows.posts
+      (ap (λ (ps : List Promise). ps ++ promise ∷ []) shows.promises ∙ ap (λ (p : Promise). map (promise_of design) clocks.promises ++ p ∷ []) promise-is ∙ sym (map_push (promise_of design) clocks.promises bound))
+      (ap (λ (n : ℕ). Ok (Promised n promise)) (ap length shows.promises ∙ length-map clocks.promises (promise_of design)) ∙ ap (λ (p : Promise). Ok (Promised (length clocks.promises) p)) promise-is)
     where
       wave : Wave
       wave = out_wave clustering world net

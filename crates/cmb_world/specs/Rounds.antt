@@ -1,11 +1,12 @@
 -- When a world is complete or quiet, whatever its waves hold, and the events of a round.
-use Rattle.std.specs.Prelude.{◌≡◌, ℕ, zero, suc, ◌<◌, ◌≤◌, true, ◌&&◌, nat_lt, List, [], ◌∷◌, ◌++◌, length, if◌then◌else◌}
+use Rattle.std.specs.Prelude.{◌≡◌, ℕ, zero, suc, ◌<◌, ◌≤◌, true, ◌&&◌, nat_lt, List, [], ◌∷◌, ◌++◌, length, Result, OnOk, OnErr, if◌then◌else◌}
 use Rattle.cmb_design.specs.Design.{Design}
 use Rattle.cmb_design.specs.Exact.{nets_of}
 use Rattle.cmb_world.specs.declared.event.Event.{Event}
 use Rattle.cmb_world.specs.declared.event.Event.TheVariants.{Step, Post, Deliver}
 use Rattle.cmb_core.specs.Clustering.{Clustering, cluster_of, has_input}
 use Rattle.cmb_core.specs.Step.{step_reach}
+use Rattle.cmb_world.specs.Play.{World, IsWorldOf, shown}
 use Rattle.cmb_world.specs.World.{WorldWaves, waves_of, out_wave, in_wave, world_after}
 
 -- every net is known up to the horizon in the cluster that drives it
@@ -67,3 +68,12 @@ pub record IsBegun (design : Design) (clustering : Clustering) (start : WorldWav
   pub rest : List Event
   pub all : done ++ rest ≡ events
   pub here : now ≡ world_after design clustering start done
+
+-- The events that a world gives were played on it, whatever design the world is one of, and it stays one of that design. Where
+-- memory was wanted, some of them were, from the first on.
+pub record ArePlayed {A E : Type 0} (events : Design → Clustering → WorldWaves → List Event) (old new : World) (result : Result A E) : Type 0 where
+  pub kept : (design : Design) (clustering : Clustering) → IsWorldOf design clustering old → IsWorldOf design clustering new
+  pub played : (design : Design) (clustering : Clustering) → IsWorldOf design clustering old
+      → OnOk result (shown new ≡ world_after design clustering (shown old) (events design clustering (shown old)))
+  pub memory : (design : Design) (clustering : Clustering) → IsWorldOf design clustering old
+      → OnErr result (IsBegun design clustering (shown old) (events design clustering (shown old)) (shown new))

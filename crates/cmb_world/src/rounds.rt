@@ -14,8 +14,8 @@ impl World {
     ghost use Rattle.cmb_world.specs.Clocks.{start};
     ghost use Rattle.cmb_world.specs.Run.{clocks_after, round};
     ghost use Rattle.cmb_world.specs.Play.{IsReached, IsSameSize, IsWorldOf, shown};
-    ghost use Rattle.cmb_world.specs.Rounds.{IsBegun, IsCompleteWorld, IsQuietWorld, net_events, pass_on_events};
-    ghost use Rattle.cmb_world.specs.Rounds.{passing_events, round_events, step_events};
+    ghost use Rattle.cmb_world.specs.Rounds.{ArePlayed, IsBegun, IsCompleteWorld, IsQuietWorld, net_events};
+    ghost use Rattle.cmb_world.specs.Rounds.{pass_on_events, passing_events, round_events, step_events};
     ghost use Rattle.cmb_core.specs.Step.{step_reach};
     ghost use Rattle.cmb_world.specs.World.{Shows, in_wave, out_wave, play_world, waves_of, world_after};
 
@@ -134,14 +134,7 @@ impl World {
 
     // Steps each net once, in order.
     fn step_each(&mut self) -> Result<(), AllocError>
-        ensures kept { (design : Design) (clustering : Clustering) → IsWorldOf design clustering self.old
-            → IsWorldOf design clustering self.new }
-        ensures played { (design : Design) (clustering : Clustering) → IsWorldOf design clustering self.old
-            → OnOk result (shown self.new ≡ world_after design clustering (shown self.old)
-            (step_events design clustering (shown self.old))) }
-        ensures memory { (design : Design) (clustering : Clustering) → IsWorldOf design clustering self.old
-            → OnErr result (IsBegun design clustering (shown self.old) (step_events design clustering (shown self.old))
-            (shown self.new)) }
+        ensures { ArePlayed step_events self.old self.new result }
     {
         for net in 0..self.nets() {
             self.make(Event::Step(net))?;
@@ -168,14 +161,8 @@ impl World {
     fn pass_on_to(&mut self, net: u32, cluster: u32) -> Result<(), AllocError>
         requires cluster { cluster < length self.old.clusters }
         requires net { net < length self.old.assign }
-        ensures kept { (design : Design) (clustering : Clustering) → IsWorldOf design clustering self.old
-            → IsWorldOf design clustering self.new }
-        ensures played { (design : Design) (clustering : Clustering) → IsWorldOf design clustering self.old
-            → OnOk result (shown self.new ≡ world_after design clustering (shown self.old)
-            (pass_on_events design clustering net cluster (shown self.old))) }
-        ensures memory { (design : Design) (clustering : Clustering) → IsWorldOf design clustering self.old
-            → OnErr result (IsBegun design clustering (shown self.old)
-            (pass_on_events design clustering net cluster (shown self.old)) (shown self.new)) }
+        ensures events { ArePlayed (λ design clustering. pass_on_events design clustering net cluster) self.old
+            self.new result }
         ensures same { IsSameSize self.old self.new }
     {
         let Some(from) = self.behind(cluster, net) else {
@@ -189,14 +176,7 @@ impl World {
     // Passes a net's new piece on to each cluster that reads it, in order.
     fn pass_on(&mut self, net: u32) -> Result<(), AllocError>
         requires { net < length self.old.assign }
-        ensures kept { (design : Design) (clustering : Clustering) → IsWorldOf design clustering self.old
-            → IsWorldOf design clustering self.new }
-        ensures played { (design : Design) (clustering : Clustering) → IsWorldOf design clustering self.old
-            → OnOk result (shown self.new ≡ world_after design clustering (shown self.old)
-            (net_events design clustering net (shown self.old))) }
-        ensures memory { (design : Design) (clustering : Clustering) → IsWorldOf design clustering self.old
-            → OnErr result (IsBegun design clustering (shown self.old)
-            (net_events design clustering net (shown self.old)) (shown self.new)) }
+        ensures events { ArePlayed (λ design clustering. net_events design clustering net) self.old self.new result }
         ensures same { IsSameSize self.old self.new }
     {
         for cluster in 0..self.count() {
@@ -207,14 +187,7 @@ impl World {
 
     // Passes on what is new of each net, in order.
     fn pass_on_each(&mut self) -> Result<(), AllocError>
-        ensures kept { (design : Design) (clustering : Clustering) → IsWorldOf design clustering self.old
-            → IsWorldOf design clustering self.new }
-        ensures played { (design : Design) (clustering : Clustering) → IsWorldOf design clustering self.old
-            → OnOk result (shown self.new ≡ world_after design clustering (shown self.old)
-            (passing_events design clustering (shown self.old))) }
-        ensures memory { (design : Design) (clustering : Clustering) → IsWorldOf design clustering self.old
-            → OnErr result (IsBegun design clustering (shown self.old)
-            (passing_events design clustering (shown self.old)) (shown self.new)) }
+        ensures { ArePlayed passing_events self.old self.new result }
     {
         for net in 0..self.nets() {
             self.pass_on(net)?;
