@@ -1,12 +1,11 @@
 //! The whole text of a design, by threads of which each simulates a share of the nets.
 
-ghost use Rattle.std.specs.Prelude.{◌≡◌, ℕ, ◌-◌, ◌^◌, ◌<◌, length, All, IfErr, IfOk, OnOk};
-ghost use Rattle.std.specs.Io.KnownBytes.{Appends};
+ghost use Rattle.std.specs.Prelude.{◌≡◌, ℕ, ◌-◌, ◌^◌, ◌<◌, IfOk};
 ghost use Rattle.cmb_cut.specs.Sharings.{IsSharing};
 ghost use Rattle.cmb_design.specs.Exact.{nets_of};
 ghost use Rattle.cmb_pipeline.specs.Opened.{IsOf};
 ghost use Rattle.cmb_stream.specs.Parts.{IsAtEndOf};
-ghost use Rattle.cmb_stream.specs.Streams.{IsBrokenOff};
+ghost use Rattle.cmb_stream.specs.Streams.{IsWrittenTo};
 ghost use Rattle.cmb_vcd.specs.Vcd.{vcd};
 
 use crate::flow::Flow;
@@ -94,11 +93,7 @@ fn write_named<'a, T: Terms + Send + Sync, R: Threads + Wait + Sync, S: Sink>(
     requires room { S.failures sink.old < 2 ^ 64 - 1 }
     requires of { IsOf design.now sharing.now.owners.items sharing.now.crossing.items makers
         T.design T.owners T.crossing T.width }
-    ensures length { IfOk result (λ written. written ≡ length (vcd design.now)) }
-    ensures text { OnOk result (Appends (S.taken sink.old) (S.taken sink.new) (vcd design.now)) }
-    ensures no_failure { OnOk result (S.failures sink.new ≡ S.failures sink.old) }
-    ensures fault { IfErr result (IsBrokenOff design.now (S.taken sink.old) (S.taken sink.new) (S.failures sink.old)
-        (S.failures sink.new)) }
+    ensures { IsWrittenTo S.Sink design.now sink.old sink.new result }
 {
     let Run { flow, kept, stages } = open_run::<T, R>(
         rt,
@@ -116,12 +111,7 @@ fn write_named<'a, T: Terms + Send + Sync, R: Threads + Wait + Sync, S: Sink>(
             requires here { IsAtEndOf kept flow }
             requires all { kept.given ≡ 0 }
             ensures name { result.0.ghost_name ≡ sink.entry.ghost_name }
-            ensures length { IfOk result.1 (λ written. written ≡ length (vcd kept.entry.design)) }
-            ensures text { OnOk result.1 (Appends (S.taken sink.entry.now) (S.taken result.0.now)
-                (vcd kept.entry.design)) }
-            ensures no_failure { OnOk result.1 (S.failures result.0.now ≡ S.failures sink.entry.now) }
-            ensures fault { IfErr result.1 (IsBrokenOff kept.entry.design (S.taken sink.entry.now)
-                (S.taken result.0.now) (S.failures sink.entry.now) (S.failures result.0.now)) }
+            ensures written { IsWrittenTo S.Sink kept.entry.design sink.entry.now result.0.now result.1 }
         {
             let threads = start(rt, alloc, scope, stages);
             let written = write_rest(flow, kept, sink);
@@ -146,11 +136,7 @@ pub fn write_pipeline<R: Threads + Wait + Sync, S: Sink>(
 ) -> Result<u64, StreamFault>
     requires room { S.failures sink.old < 2 ^ 64 - 1 }
     requires sharing { IsSharing design.now.netlist sharing.now }
-    ensures length { IfOk result (λ written. written ≡ length (vcd design.now)) }
-    ensures text { OnOk result (Appends (S.taken sink.old) (S.taken sink.new) (vcd design.now)) }
-    ensures no_failure { OnOk result (S.failures sink.new ≡ S.failures sink.old) }
-    ensures fault { IfErr result (IsBrokenOff design.now (S.taken sink.old) (S.taken sink.new) (S.failures sink.old)
-        (S.failures sink.new)) }
+    ensures { IsWrittenTo S.Sink design.now sink.old sink.new result }
 {
     let shares = shares_of(alloc, design, sharing)?;
     let makers = open_makers(rt, alloc, &shares)?;

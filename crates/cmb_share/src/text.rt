@@ -1,8 +1,7 @@
 //! The whole text of a design by so many threads at most.
 
-ghost use Rattle.std.specs.Prelude.{◌≡◌, ◌-◌, ◌^◌, ◌<◌, length, IfErr, IfOk, OnOk};
-ghost use Rattle.std.specs.Io.KnownBytes.{Appends};
-ghost use Rattle.cmb_stream.specs.Streams.{IsBrokenOff};
+ghost use Rattle.std.specs.Prelude.{◌≡◌, ◌-◌, ◌^◌, ◌<◌, IfOk};
+ghost use Rattle.cmb_stream.specs.Streams.{IsWrittenTo};
 ghost use Rattle.cmb_vcd.specs.Vcd.{vcd};
 
 use crate::sharing::sharing_that_pays;
@@ -46,11 +45,7 @@ pub fn write_by_threads<R: Threads + Wait + Sync, S: Sink>(
     sink: &mut S,
 ) -> Result<u64, StreamFault>
     requires { S.failures sink.old < 2 ^ 64 - 1 }
-    ensures length { IfOk result (λ written. written ≡ length (vcd design.now)) }
-    ensures text { OnOk result (Appends (S.taken sink.old) (S.taken sink.new) (vcd design.now)) }
-    ensures no_failure { OnOk result (S.failures sink.new ≡ S.failures sink.old) }
-    ensures fault { IfErr result (IsBrokenOff design.now (S.taken sink.old) (S.taken sink.new) (S.failures sink.old)
-        (S.failures sink.new)) }
+    ensures { IsWrittenTo S.Sink design.now sink.old sink.new result }
 {
     if threads >= 2 {
         if let Some(sharing) = sharing_that_pays(alloc, design, threads)? {

@@ -1,5 +1,5 @@
 -- What a stream handed on and what it keeps are the front of the design's text.
-use Rattle.std.proofs.Common.{◌≡◌, ◌∙◌, ℕ, ◌+◌, ◌^◌, ◌<◌, List, [], ◌++◌, Option, length, take, ap, sym, subst, append_assoc, length-append, arith}
+use Rattle.std.proofs.Common.{◌≡◌, ◌∙◌, ℕ, ◌+◌, ◌^◌, ◌<◌, List, [], ◌++◌, Err, Option, length, take, ap, sym, subst, append_assoc, length-append, arith}
 use Rattle.std.specs.Io.KnownBytes.{Appends}
 use Rattle.std.proofs.KnownBytes.{Appends-trans}
 use Rattle.std.proofs.lemmas.List.{append-nil, length-take-le, take_at}
@@ -7,8 +7,11 @@ use Rattle.std.proofs.Math.Seq.{take-length}
 use Rattle.cmb_design.specs.Design.{Design}
 use Rattle.cmb_design.specs.Value.{value}
 use Rattle.cmb_stream.specs.Parts.{IsKept, made_text}
+use Rattle.cmb_stream.specs.Streams.{IsBrokenOff, IsWrittenTo}
+use Rattle.cmb_stream.specs.declared.fault.StreamFault.{StreamFault}
 use Rattle.cmb_vcd.specs.Beginnings.{IsCutOff}
 use Rattle.cmb_vcd.specs.Vcd.{vcd}
+use Rattle.cmb_vcd.specs.declared.sink.Sink as sink
 use Rattle.cmb_vcd.proofs.BeginFacts.{IsCutOff-front, part_text-begins, part_text-whole}
 use Rattle.cmb_vcd.proofs.TextSizes.{part_text-fits}
 
@@ -74,3 +77,18 @@ Appends-whole design own upto given old new same done all taken =
     let long : given ≡ length (vcd design) = all ∙ ap length (made-whole design own upto same done) in
     let text : take given (vcd own) ≡ vcd design = ap (λ (d : Design). take given (vcd d)) same ∙ ap (λ k. take k (vcd design)) long ∙ take-length (vcd design) in
     subst (Appends old new) text taken
+
+-- a text that isn't whole
+pub IsWrittenTo-not : {S : Type 0} (s : sink.Ghosts S) (design : Design) (old new : S) (f : StreamFault)
+    → IsBrokenOff design (s.taken old) (s.taken new) (s.failures old) (s.failures new) f → IsWrittenTo s design old new (Err f)
+IsWrittenTo-not s design old new f why = record { told = tt; text = tt; no_failure = tt; fault = why }
+
+-- a text of which the sink took what was handed on, and then failed in the next part
+pub IsWrittenTo-part : {S : Type 0} (s : sink.Ghosts S) (design own : Design) (given : ℕ) (first old new : S) (f : StreamFault) → own ≡ design
+    → Appends (s.taken first) (s.taken old) (take given (vcd design)) → s.failures old ≡ s.failures first
+    → ((start : Option (List ℕ)) → Appends start (s.taken old) (take given (vcd own)) → IsBrokenOff own start (s.taken new) (s.failures old) (s.failures new) f)
+    → IsWrittenTo s design first new (Err f)
+IsWrittenTo-part s design own given first old new f same taken none why =
+    let Begins : Design → Type 0 = λ d. Appends (s.taken first) (s.taken old) (take given (vcd d)) in
+    let Breaks : Design → ℕ → Type 0 = λ d before. IsBrokenOff d (s.taken first) (s.taken new) before (s.failures new) f in
+    IsWrittenTo-not s design first new f (subst (Breaks design) none (subst (λ d. Breaks d (s.failures old)) same (why (s.taken first) (subst Begins (sym same) taken))))

@@ -1,9 +1,8 @@
 //! The whole text of a design.
 
-ghost use Rattle.std.specs.Prelude.{◌≡◌, ◌-◌, ◌^◌, ◌<◌, length, IfErr, IfOk, OnOk};
-ghost use Rattle.std.specs.Io.KnownBytes.{Appends};
+ghost use Rattle.std.specs.Prelude.{◌≡◌, ◌-◌, ◌^◌, ◌<◌, IfOk};
 ghost use Rattle.cmb_stream.specs.Parts.{IsAtEndOf};
-ghost use Rattle.cmb_stream.specs.Streams.{IsBrokenOff};
+ghost use Rattle.cmb_stream.specs.Streams.{IsWrittenTo};
 ghost use Rattle.cmb_vcd.specs.Vcd.{vcd};
 
 use crate::fault::StreamFault;
@@ -52,11 +51,7 @@ pub fn write_rest<M: TextMaker, S: Sink>(
     requires ready { M.ready }
     requires here { IsAtEndOf kept (M.made maker) }
     requires all { kept.given ≡ 0 }
-    ensures length { IfOk result (λ written. written ≡ length (vcd kept.entry.design)) }
-    ensures text { OnOk result (Appends (S.taken sink.old) (S.taken sink.new) (vcd kept.entry.design)) }
-    ensures no_failure { OnOk result (S.failures sink.new ≡ S.failures sink.old) }
-    ensures fault { IfErr result (IsBrokenOff kept.entry.design (S.taken sink.old) (S.taken sink.new)
-        (S.failures sink.old) (S.failures sink.new)) }
+    ensures { IsWrittenTo S.Sink kept.entry.design sink.old sink.new result }
 {
     let mut maker = maker;
     let mut kept = kept;
@@ -79,11 +74,7 @@ pub fn write_stream<S: Sink>(
     sink: &mut S,
 ) -> Result<u64, StreamFault>
     requires { S.failures sink.old < 2 ^ 64 - 1 }
-    ensures length { IfOk result (λ written. written ≡ length (vcd design.now)) }
-    ensures text { OnOk result (Appends (S.taken sink.old) (S.taken sink.new) (vcd design.now)) }
-    ensures no_failure { OnOk result (S.failures sink.new ≡ S.failures sink.old) }
-    ensures fault { IfErr result (IsBrokenOff design.now (S.taken sink.old) (S.taken sink.new) (S.failures sink.old)
-        (S.failures sink.new)) }
+    ensures { IsWrittenTo S.Sink design.now sink.old sink.new result }
 {
     let (stream, kept) = Stream::open(alloc, design)?;
     write_rest(stream, kept, sink)

@@ -1,9 +1,8 @@
 //! The whole text of a design, by several threads.
 
-ghost use Rattle.std.specs.Prelude.{◌≡◌, ◌-◌, ◌^◌, ◌<◌, ◌≤◌, length, IfErr, IfOk, OnOk};
-ghost use Rattle.std.specs.Io.KnownBytes.{Appends};
+ghost use Rattle.std.specs.Prelude.{◌≡◌, ◌-◌, ◌^◌, ◌<◌, ◌≤◌, IfOk};
 ghost use Rattle.cmb_stream.specs.Parts.{IsAtEndOf};
-ghost use Rattle.cmb_stream.specs.Streams.{IsBrokenOff};
+ghost use Rattle.cmb_stream.specs.Streams.{IsWrittenTo};
 ghost use Rattle.cmb_vcd.specs.Vcd.{vcd};
 
 use crate::team::{Team, ticks_of};
@@ -112,11 +111,7 @@ fn write_on<'a, R: Threads + Sync, S: Sink>(
     requires here { IsAtEndOf begun.kept begun.stream }
     requires design { begun.kept.design ≡ design.now }
     requires all { begun.kept.given ≡ 0 }
-    ensures length { IfOk result (λ written. written ≡ length (vcd design.now)) }
-    ensures text { OnOk result (Appends (S.taken sink.old) (S.taken sink.new) (vcd design.now)) }
-    ensures no_failure { OnOk result (S.failures sink.new ≡ S.failures sink.old) }
-    ensures fault { IfErr result (IsBrokenOff design.now (S.taken sink.old) (S.taken sink.new) (S.failures sink.old)
-        (S.failures sink.new)) }
+    ensures { IsWrittenTo S.Sink design.now sink.old sink.new result }
 {
     let pays = pays(&begun, design);
     let Begun { stream, kept, .. } = begun;
@@ -138,11 +133,7 @@ pub fn write_team<R: Threads + Sync, S: Sink>(
     sink: &mut S,
 ) -> Result<u64, StreamFault>
     requires { S.failures sink.old < 2 ^ 64 - 1 }
-    ensures length { IfOk result (λ written. written ≡ length (vcd design.now)) }
-    ensures text { OnOk result (Appends (S.taken sink.old) (S.taken sink.new) (vcd design.now)) }
-    ensures no_failure { OnOk result (S.failures sink.new ≡ S.failures sink.old) }
-    ensures fault { IfErr result (IsBrokenOff design.now (S.taken sink.old) (S.taken sink.new) (S.failures sink.old)
-        (S.failures sink.new)) }
+    ensures { IsWrittenTo S.Sink design.now sink.old sink.new result }
 {
     if threads < 2 {
         return write_stream(alloc, design, sink);

@@ -15,4 +15,4 @@ pub returns-then-suits_engine : goal.returns-then-suits_engine
 returns-then-suits_engine g c =
     let lawful = c.suits_engine.ensures c.if-suits_engine.true in
     let e = c.in_ok-written.ensures in
-    record { told_so = e.length; text = e.text; no_failure = e.no_failure; fits = record { fits = no_checks; clusters = lawful.0; workers = lawful.1 }; fault = tt }
+    record { told_so = e.told; text = e.text; no_failure = e.no_failure; fits = record { fits = no_checks; clusters = lawful.0; workers = lawful.1 }; fault = tt }

@@ -21,7 +21,7 @@ pub returns : goal.returns
 returns g c =
     let e = c.in_ok-written.ensures in
     record {
-      told_so = e.length;
+      told_so = e.told;
       text = e.text;
       no_failure = e.no_failure;
       fits = record { fits = no_checks; clusters = (omega arith, omega arith); workers = c.in_ok-_lawful.ensures.many };
