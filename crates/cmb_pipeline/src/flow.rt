@@ -5,12 +5,14 @@ ghost use Rattle.cmb_pipeline.specs.Windows.{clock_at, last_of};
 ghost use Rattle.cmb_stream.specs.Parts.{IsAtEndOf};
 
 use crate::batch::Batch;
+use crate::opening::Ends;
 use crate::parcel::{Inlet, Parcel, taken};
 use crate::source::Source;
 use crate::terms::Terms;
+use cmb_design::Design;
 use cmb_dump::Dump;
-use cmb_stream::{Kept, TextMaker, tell_window};
-use std::alloc::AllocError;
+use cmb_stream::{Kept, TextMaker, first_text, tell_window};
+use std::alloc::{AllocError, Global};
 use std::marker::Model;
 use std::sync::Wait;
 
@@ -80,6 +82,54 @@ fn tell(dump: &mut Dump<'_>, batch: &Batch<'_>, kept: &mut Kept<'_>) -> Result<(
     Ok(())
 }
 
+impl<'a, T: Terms, R: Wait> Flow<'a, T, R> {
+    /// Hands out the first batches, and makes the text up to tick 1 while shares are at work on them. Errors: memory was
+    /// refused.
+    pub(crate) fn begin(
+        rt: &'a R,
+        alloc: Global,
+        design: &'a Design,
+        ends: Ends<'a, T>,
+    ) -> Result<(Flow<'a, T, R>, Kept<'a>), AllocError>
+        requires { design.now ≡ T.design }
+        ensures here { IfOk result (λ begun. IsAtEndOf begun.1 begun.0) }
+        ensures design { IfOk result (λ begun. begun.1.design ≡ design.entry.now) }
+        ensures all { IfOk result (λ begun. begun.1.given ≡ 0) }
+    {
+        let Ends {
+            shares,
+            mut source,
+            inlet,
+        } = ends;
+        source.feed()?;
+        let (dump, kept) = first_text(alloc, design)?;
+        let flow = Flow {
+            rt,
+            shares,
+            source,
+            inlet,
+            dump,
+        };
+        Ok((flow, kept))
+    }
+
+    // Makes the text of the next batch, which comes behind what is kept, and uses its room again.
+    fn go_on(&mut self, kept: &mut Kept<'_>) -> Result<(), AllocError>
+        requires { IsAtEndOf kept.old self.old }
+        ensures design { self.new.design ≡ self.old.design }
+        ensures here { OnOk result (IsAtEndOf kept.new self.new) }
+        ensures given { OnOk result (kept.new.given ≡ kept.old.given) }
+        ensures later { OnOk result (kept.old.clock < kept.new.clock) }
+    {
+        self.source.feed()?;
+        let before = kept.len();
+        let Parcel { batch, .. } = whole(self.rt, &mut self.inlet, self.shares, kept.clock())?;
+        tell(&mut self.dump, &batch, kept)?;
+        self.source
+            .take_back(Parcel::new(batch), kept.len().saturating_sub(before))
+    }
+}
+
 impl<'a, T: Terms, R: Wait> TextMaker for Flow<'a, T, R> {
     ghost made = { λ f. f };
 
@@ -87,24 +137,8 @@ impl<'a, T: Terms, R: Wait> TextMaker for Flow<'a, T, R> {
 
     // Goes on by a batch.
     fn step(self, kept: &mut Kept<'_>) -> Result<Self, AllocError> {
-        let Flow {
-            rt,
-            shares,
-            mut source,
-            mut inlet,
-            mut dump,
-        } = self;
-        source.feed()?;
-        let before = kept.len();
-        let Parcel { batch, .. } = whole(rt, &mut inlet, shares, kept.clock())?;
-        tell(&mut dump, &batch, kept)?;
-        source.take_back(Parcel::new(batch), kept.len().saturating_sub(before))?;
-        Ok(Flow {
-            rt,
-            shares,
-            source,
-            inlet,
-            dump,
-        })
+        let mut flow = self;
+        flow.go_on(kept)?;
+        Ok(flow)
     }
 }

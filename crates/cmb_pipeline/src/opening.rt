@@ -1,10 +1,8 @@
-//! How a run begins: rings, a stage for each share, and where batches begin and end.
+//! How a run begins: rings, a stage for each share, and the calling thread's ends of the rings.
 
-ghost use Rattle.std.specs.Prelude.{◌≡◌, ℕ, All, IfOk};
+ghost use Rattle.std.specs.Prelude.{◌≡◌, ◌<◌, ℕ, List, All, IfOk};
 ghost use Rattle.cmb_pipeline.specs.Opened.{IsMakerOf, IsOf};
-ghost use Rattle.cmb_stream.specs.Parts.{IsAtEndOf};
 
-use crate::flow::Flow;
 use crate::maker::ShareMaker;
 use crate::makers::Makers;
 use crate::parcel::Inlet;
@@ -12,18 +10,26 @@ use crate::source::Source;
 use crate::stage::Stage;
 use crate::terms::Terms;
 use cmb_design::Design;
-use cmb_stream::{Kept, first_text};
 use rtrb::RingBuffer;
 use std::alloc::{AllocError, Global};
 
 // How many batches a ring holds: a share that is late for a while isn't waited for. An estimate.
 const ROOM: usize = 2;
 
-/// What a run begins with: who makes the text, the text up to tick 1, and a stage for each share.
+/// The calling thread's ends of the rings: where batches begin, and where those come that all shares made.
 #[derive(Drop)]
-pub(crate) struct Run<'a, T: Terms, R> {
-    pub flow: Flow<'a, T, R>,
-    pub kept: Kept<'a>,
+pub(crate) struct Ends<'a, T: Terms> {
+    /// How many shares there are.
+    pub shares: u32,
+    pub source: Source<'a, T>,
+    pub inlet: Inlet<'a, T>,
+    ghost owned: { All (λ owner. owner < shares) T.owners },
+}
+
+/// What a run begins with: the calling thread's ends, and a stage for each share.
+#[derive(Drop)]
+pub(crate) struct Run<'a, T: Terms> {
+    pub ends: Ends<'a, T>,
     pub stages: Vec<Stage<'a, T>>,
 }
 
@@ -45,36 +51,29 @@ fn stages_of<'a, T: Terms>(
     Ok((stages, inlet))
 }
 
-/// What the run of the design begins with that `T` names. Errors: memory was refused.
-pub(crate) fn open_run<'a, T: Terms, R>(
-    rt: &'a R,
+/// What the run of the design begins with that `T` names. The first ring holds all batches that may be on their way, so
+/// the first share never waits for the calling thread, which may be waiting itself. Errors: memory was refused.
+pub(crate) fn open_run<'a, T: Terms>(
     alloc: Global,
     design: &'a Design,
     owners: &'a [u32],
     crossing: &'a [bool],
     makers: Makers<'a>,
-) -> Result<Run<'a, T, R>, AllocError>
+) -> Result<Run<'a, T>, AllocError>
     requires { IsOf design.now owners.now crossing.now makers T.design T.owners T.crossing T.width }
-    ensures here { IfOk result (λ run. IsAtEndOf run.kept run.flow) }
-    ensures design { IfOk result (λ run. run.kept.design ≡ design.entry.now) }
-    ensures all { IfOk result (λ run. run.kept.given ≡ 0) }
 {
-    let (dump, kept) = first_text(alloc, design)?;
     let Makers { width, list } = makers;
     let shares = list.len();
     let most = shares.saturating_add(1).saturating_mul(ROOM);
-    let (outlet, inlet) = RingBuffer::new(alloc, ROOM)?;
+    let (outlet, inlet) = RingBuffer::new(alloc, most)?;
     let source = Source::new(alloc, design, owners, crossing, width, outlet, most);
     let (stages, inlet) = stages_of(alloc, list, inlet)?;
     Ok(Run {
-        flow: Flow {
-            rt,
+        ends: Ends {
             shares: shares as u32,
             source,
             inlet,
-            dump,
         },
-        kept,
         stages,
     })
 }

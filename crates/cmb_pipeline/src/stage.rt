@@ -48,11 +48,16 @@ impl<'a, T: Terms> Stage<'a, T> {
             mut inlet,
             mut outlet,
         } = self;
-        let Parcel { batch, .. } = taken(rt, &mut inlet)?;
+        let Some(Parcel { batch, .. }) = taken(rt, &mut inlet) else {
+            drop((maker, inlet, outlet));
+            return None;
+        };
         if batch.made() != u64::from(maker.number()) || batch.clock(0) != maker.clock() {
+            drop((batch, maker, inlet, outlet));
             return None;
         }
         let Ok((batch, maker)) = batch.passed(maker) else {
+            drop((inlet, outlet));
             return None;
         };
         if handed(rt, &mut outlet, Parcel::new(batch)) {
@@ -62,6 +67,7 @@ impl<'a, T: Terms> Stage<'a, T> {
                 outlet,
             })
         } else {
+            drop((maker, inlet, outlet));
             None
         }
     }

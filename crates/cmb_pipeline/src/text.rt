@@ -4,13 +4,12 @@ ghost use Rattle.std.specs.Prelude.{◌≡◌, ℕ, ◌-◌, ◌^◌, ◌<◌, I
 ghost use Rattle.cmb_cut.specs.Sharings.{IsSharing};
 ghost use Rattle.cmb_design.specs.Exact.{nets_of};
 ghost use Rattle.cmb_pipeline.specs.Opened.{IsOf};
-ghost use Rattle.cmb_stream.specs.Parts.{IsAtEndOf};
 ghost use Rattle.cmb_stream.specs.Streams.{IsWrittenTo};
 ghost use Rattle.cmb_vcd.specs.Vcd.{vcd};
 
 use crate::flow::Flow;
 use crate::makers::{Makers, open_makers};
-use crate::opening::{Run, open_run};
+use crate::opening::{Ends, Run, open_run};
 use crate::sharing::shares_of;
 use crate::terms::Terms;
 use crate::threads::{join_all, start};
@@ -24,6 +23,36 @@ use std::sync::Wait;
 use std::thread;
 use std::thread::Threads;
 
+// The text, by the calling thread between the ends of a run whose stages are at work.
+fn text_between<'a, T: Terms, R: Wait>(
+    rt: &'a R,
+    alloc: Global,
+    design: &'a Design,
+    ends: Ends<'a, T>,
+) -> Result<Vec<u8>, AllocError>
+    requires { design.now ≡ T.design }
+    ensures { IfOk result (λ text. text.items ≡ vcd design.entry.now) }
+{
+    let (flow, kept) = Flow::begin(rt, alloc, design, ends)?;
+    text_rest(flow, kept)
+}
+
+// Writes the text, in the same way.
+fn write_between<'a, T: Terms, R: Wait, S: Sink>(
+    rt: &'a R,
+    alloc: Global,
+    design: &'a Design,
+    ends: Ends<'a, T>,
+    sink: &mut S,
+) -> Result<u64, StreamFault>
+    requires room { S.failures sink.old < 2 ^ 64 - 1 }
+    requires design { design.now ≡ T.design }
+    ensures { IsWrittenTo S.Sink design.entry.now sink.old sink.new result }
+{
+    let (flow, kept) = Flow::begin(rt, alloc, design, ends)?;
+    write_rest(flow, kept, sink)
+}
+
 // The text of the design that T names.
 fn text_named<'a, T: Terms + Send + Sync, R: Threads + Wait + Sync>(
     rt: &'a R,
@@ -36,8 +65,7 @@ fn text_named<'a, T: Terms + Send + Sync, R: Threads + Wait + Sync>(
         T.design T.owners T.crossing T.width }
     ensures { IfOk result (λ text. text.items ≡ vcd design.now) }
 {
-    let Run { flow, kept, stages } = open_run::<T, R>(
-        rt,
+    let Run { ends, stages } = open_run::<T>(
         alloc,
         design,
         &sharing.owners,
@@ -48,12 +76,11 @@ fn text_named<'a, T: Terms + Send + Sync, R: Threads + Wait + Sync>(
         thread::scope_env(),
         rt,
         move |scope| -> Result<Vec<u8>, AllocError>
-            requires here { IsAtEndOf kept flow }
-            requires all { kept.given ≡ 0 }
-            ensures { IfOk result (λ text. text.items ≡ vcd kept.entry.design) }
+            requires { design.now ≡ T.design }
+            ensures { IfOk result (λ text. text.items ≡ vcd design.entry.now) }
         {
             let threads = start(rt, alloc, scope, stages);
-            let text = text_rest(flow, kept);
+            let text = text_between(rt, alloc, design, ends);
             join_all(rt, threads);
             text
         },
@@ -95,8 +122,7 @@ fn write_named<'a, T: Terms + Send + Sync, R: Threads + Wait + Sync, S: Sink>(
         T.design T.owners T.crossing T.width }
     ensures { IsWrittenTo S.Sink design.now sink.old sink.new result }
 {
-    let Run { flow, kept, stages } = open_run::<T, R>(
-        rt,
+    let Run { ends, stages } = open_run::<T>(
         alloc,
         design,
         &sharing.owners,
@@ -108,13 +134,12 @@ fn write_named<'a, T: Terms + Send + Sync, R: Threads + Wait + Sync, S: Sink>(
         rt,
         move |scope| -> (&mut S, Result<u64, StreamFault>)
             requires room { S.failures sink.now < 2 ^ 64 - 1 }
-            requires here { IsAtEndOf kept flow }
-            requires all { kept.given ≡ 0 }
+            requires design { design.now ≡ T.design }
             ensures name { result.0.ghost_name ≡ sink.entry.ghost_name }
-            ensures written { IsWrittenTo S.Sink kept.entry.design sink.entry.now result.0.now result.1 }
+            ensures written { IsWrittenTo S.Sink design.entry.now sink.entry.now result.0.now result.1 }
         {
             let threads = start(rt, alloc, scope, stages);
-            let written = write_rest(flow, kept, sink);
+            let written = write_between(rt, alloc, design, ends, sink);
             join_all(rt, threads);
             (sink, written)
         },
