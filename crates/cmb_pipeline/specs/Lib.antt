@@ -1,3 +1,4 @@
+pub mod Ahead
 pub mod Batches
 pub mod Flows
 pub mod Makers

@@ -48,6 +48,10 @@ impl<'a, T: Terms> Stage<'a, T> {
             mut inlet,
             mut outlet,
         } = self;
+        let Ok(maker) = maker.looked_ahead() else {
+            drop((inlet, outlet));
+            return None;
+        };
         let Some(Parcel { batch, .. }) = taken(rt, &mut inlet) else {
             drop((maker, inlet, outlet));
             return None;
