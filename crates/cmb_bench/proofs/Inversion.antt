@@ -69,8 +69,9 @@ short_is t n e =
 
 -- the first token is the mark that a test wants
 wanted_is : (test : Word → Bool) (c : Class) (ts rest : List Lexeme) → ((w : Word) → test w ≡ true → w ≡ mark c)
-    → (do t ← next_in ts
-          if test t.0.word then Ok t.1 else Err (misplaced t.0)) ≡ Ok rest
+    → (do
+      t ← next_in ts
+      if test t.0.word then Ok t.1 else Err (misplaced t.0)) ≡ Ok rest
     → (l : ℕ) × (ts ≡ at (mark c) l ∷ rest)
 wanted_is test c ts rest only e =
     let s = bind_ok (next_in ts) _ rest e in
