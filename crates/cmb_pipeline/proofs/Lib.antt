@@ -1,9 +1,1 @@
-pub mod BatchFacts
-pub mod DayFacts
-pub mod MadeFacts
-pub mod MakerFacts
-pub mod MakersFacts
-pub mod MergeFacts
 pub mod OpeningFacts
-pub mod OwnFacts
-pub mod SharingFacts

@@ -6,11 +6,11 @@ use Rattle.std.proofs.lemmas.Option.{slice_get_within}
 use Rattle.cmb_cut.specs.Sharings.{IsSharing}
 use Rattle.cmb_cut.specs.declared.sharing.Sharing.{Sharing}
 use Rattle.cmb_design.specs.Design.{Design}
-use Rattle.cmb_pipeline.specs.Makers.{Maker}
+use Rattle.cmb_batch.specs.Makers.{Maker}
 use Rattle.cmb_pipeline.specs.Opened.{IsOf}
-use Rattle.cmb_pipeline.specs.Shares.{DesignShare}
-use Rattle.cmb_pipeline.specs.Sharings.{AreSharesOf}
-use Rattle.cmb_pipeline.specs.declared.makers.Makers.{Makers}
+use Rattle.cmb_batch.specs.Shares.{DesignShare}
+use Rattle.cmb_batch.specs.Sharings.{AreSharesOf}
+use Rattle.cmb_batch.specs.declared.makers.Makers.{Makers}
 
 module _ (design : Design) (sharing : Sharing) (shares : List DesignShare) (makers : Makers) (is : IsSharing design.netlist sharing) (of : AreSharesOf design sharing shares)
     (same : map (λ (m : Maker). m.share) makers.list.items ≡ shares) where

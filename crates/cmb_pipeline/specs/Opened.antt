@@ -2,8 +2,8 @@
 use Rattle.std.specs.Prelude.{◌≡◌, ℕ, ◌^◌, ◌<◌, ◌≤◌, Bool, List, All, length}
 use Rattle.cmb_design.specs.Design.{Design}
 use Rattle.cmb_design.specs.Exact.{nets_of}
-use Rattle.cmb_pipeline.specs.Makers.{Maker}
-use Rattle.cmb_pipeline.specs.declared.makers.Makers.{Makers}
+use Rattle.cmb_batch.specs.Makers.{Maker}
+use Rattle.cmb_batch.specs.declared.makers.Makers.{Makers}
 
 -- a maker of a share of a run
 pub record IsMakerOf (design : Design) (owners : List ℕ) (crossing : List Bool) (width : ℕ) (maker : Maker) : Type 0 where

@@ -1,16 +1,17 @@
 //! The calling thread's part of a run: it hands out batches, and makes the text of those that all shares made.
 
 ghost use Rattle.std.specs.Prelude.{◌≡◌, ℕ, suc, ◌<◌, ◌≤◌, length, All, IfOk, OnOk};
-ghost use Rattle.cmb_pipeline.specs.Windows.{clock_at, last_of};
+ghost use Rattle.cmb_batch.specs.Windows.{clock_at, last_of};
 ghost use Rattle.cmb_stream.specs.Parts.{IsAtEndOf};
 
-use crate::batch::Batch;
 use crate::opening::Ends;
-use crate::parcel::{Inlet, Parcel, taken};
+use crate::parcel::{Inlet, Parcel};
 use crate::source::Source;
 use crate::terms::Terms;
+use cmb_batch::Batch;
 use cmb_design::Design;
 use cmb_dump::Dump;
+use cmb_idle::taken;
 use cmb_stream::{Kept, TextMaker, first_text, tell_window};
 use std::alloc::{AllocError, Global};
 use std::marker::Model;
@@ -83,8 +84,8 @@ fn tell(dump: &mut Dump<'_>, batch: &Batch<'_>, kept: &mut Kept<'_>) -> Result<(
 }
 
 impl<'a, T: Terms, R: Wait> Flow<'a, T, R> {
-    /// Hands out the first batches, and makes the text up to tick 1 while shares are at work on them. Errors: memory was
-    /// refused.
+    /// Hands out the first batches, and makes the text up to tick 1 while shares are at work on them. Errors: memory
+    /// was refused.
     pub(crate) fn begin(
         rt: &'a R,
         alloc: Global,

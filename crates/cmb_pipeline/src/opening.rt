@@ -3,12 +3,11 @@
 ghost use Rattle.std.specs.Prelude.{◌≡◌, ◌<◌, ℕ, List, All, IfOk};
 ghost use Rattle.cmb_pipeline.specs.Opened.{IsMakerOf, IsOf};
 
-use crate::maker::ShareMaker;
-use crate::makers::Makers;
 use crate::parcel::Inlet;
 use crate::source::Source;
 use crate::stage::Stage;
 use crate::terms::Terms;
+use cmb_batch::{Makers, ShareMaker};
 use cmb_design::Design;
 use rtrb::RingBuffer;
 use std::alloc::{AllocError, Global};

@@ -2,12 +2,10 @@
 
 ghost use Rattle.std.specs.Prelude.{◌≡◌};
 
-use crate::batch::Batch;
 use crate::terms::Terms;
-use cmb_idle::Idle;
-use rtrb::{Consumer, Producer, PushError};
+use cmb_batch::Batch;
+use rtrb::{Consumer, Producer};
 use std::marker::PhantomData;
-use std::sync::Wait;
 
 /// A batch of the run that `T` names.
 #[derive(Drop)]
@@ -41,42 +39,3 @@ pub type Inlet<'a, T> = Consumer<Parcel<'a, T>>;
 
 /// The end of a ring at which batches go.
 pub type Outlet<'a, T> = Producer<Parcel<'a, T>>;
-
-/// Waits for a batch. There is none once nobody hands any on.
-pub(crate) fn taken<'a, T: Terms, R: Wait>(
-    rt: &R,
-    inlet: &mut Inlet<'a, T>,
-) -> Option<Parcel<'a, T>> {
-    let mut idle = Idle::new();
-    for _ in rt.forever() {
-        if let Ok(parcel) = inlet.pop() {
-            return Some(parcel);
-        }
-        if inlet.is_abandoned() {
-            return None;
-        }
-        idle.rest(rt);
-    }
-    unreachable!()
-}
-
-/// Hands a batch on, once there is room. Says whether anybody is there to take it.
-pub(crate) fn handed<'a, T: Terms, R: Wait>(
-    rt: &R,
-    outlet: &mut Outlet<'a, T>,
-    parcel: Parcel<'a, T>,
-) -> bool {
-    let mut idle = Idle::new();
-    let mut parcel = parcel;
-    for _ in rt.forever() {
-        match outlet.push(parcel) {
-            Ok(()) => return true,
-            Err(PushError::Full(back)) => parcel = back,
-        }
-        if outlet.is_abandoned() {
-            return false;
-        }
-        idle.rest(rt);
-    }
-    unreachable!()
-}

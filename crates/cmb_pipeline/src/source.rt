@@ -2,12 +2,11 @@
 
 ghost use Rattle.std.specs.Prelude.{◌≡◌, ℕ, ◌<◌, ◌≤◌, length, IfOk, IfSome, OnOk};
 ghost use Rattle.cmb_design.specs.Exact.{nets_of};
-ghost use Rattle.cmb_pipeline.specs.Windows.{AreDays, last_of};
+ghost use Rattle.cmb_batch.specs.Windows.{AreDays, last_of};
 
-use crate::batch::Batch;
-use crate::days::clocks_of;
 use crate::parcel::{Outlet, Parcel};
 use crate::terms::Terms;
+use cmb_batch::{Batch, clocks_of};
 use cmb_design::Design;
 use rtrb::PushError;
 use std::alloc::{AllocError, Global};

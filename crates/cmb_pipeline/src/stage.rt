@@ -1,12 +1,12 @@
 //! A thread's part of a run: it makes a share's windows of each batch that comes by.
 
 ghost use Rattle.std.specs.Prelude.{◌≡◌, suc, ◌<◌, IfOk, IfSome, length};
-ghost use Rattle.cmb_pipeline.specs.Makers.{IsNextOf};
+ghost use Rattle.cmb_batch.specs.Makers.{IsNextOf};
 
-use crate::batch::Batch;
-use crate::maker::ShareMaker;
-use crate::parcel::{Inlet, Outlet, Parcel, handed, taken};
+use crate::parcel::{Inlet, Outlet, Parcel};
 use crate::terms::Terms;
+use cmb_batch::{Batch, ShareMaker};
+use cmb_idle::{handed, taken};
 use std::sync::Wait;
 
 /// A share's maker, the ring on which batches come and the one on which they go on.

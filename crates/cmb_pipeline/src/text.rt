@@ -8,11 +8,10 @@ ghost use Rattle.cmb_stream.specs.Streams.{IsWrittenTo};
 ghost use Rattle.cmb_vcd.specs.Vcd.{vcd};
 
 use crate::flow::Flow;
-use crate::makers::{Makers, open_makers};
 use crate::opening::{Ends, Run, open_run};
-use crate::sharing::shares_of;
 use crate::terms::Terms;
 use crate::threads::{join_all, start};
+use cmb_batch::{Makers, open_makers, shares_of};
 use cmb_cut::Sharing;
 use cmb_design::Design;
 use cmb_stream::{StreamFault, text_rest, write_rest};

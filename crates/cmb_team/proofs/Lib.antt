@@ -1,1 +1,1 @@
-pub mod TeamFacts
+pub mod BatchFacts

@@ -1,29 +1,34 @@
 //! Windows of a run that follow one another.
 
-ghost use Rattle.std.specs.Prelude.{◌≡◌, suc, ◌+◌, ◌<◌, ◌≤◌, ◌++◌, ◌∷◌, [], length, IfOk, OnOk};
-ghost use Rattle.cmb_stream.specs.Parts.{made_text};
+ghost use Rattle.std.specs.Prelude.{◌≡◌, ℕ, suc, ◌+◌, ◌-◌, ◌<◌, ◌≤◌, [], length, IfOk, OnOk};
 ghost use Rattle.cmb_team.specs.Batches.{IsWindow, clock_at, last_clock};
 
-use crate::window::Window;
 use cmb_design::Design;
-use cmb_dump::Dump;
+use cmb_engine::Engine;
 use cmb_words::Changed;
 use std::alloc::{AllocError, Global};
 use std::marker::Model;
 
+// What a batch weighs at most, but for its last window: so much that handing it on costs little beside its text, and so
+// little that it stays in caches. An estimate.
+const WEIGHT: usize = 8_192;
+
 // What a window weighs beside its changed words: it takes about as long as so many of them.
-const WINDOW: usize = 32;
+const WINDOW: usize = 8;
 
 /// Windows of a design's run that follow one another.
 #[derive(Drop)]
-pub(crate) struct Batch<'a> {
+pub struct Batch<'a> {
     alloc: Global,
     design: &'a Design,
+    /// The tick at which the first window begins, and then where each ends.
     clocks: Vec<u32>,
-    windows: Vec<Window<'a>>,
-    /// What the windows before each place weigh.
-    weights: Vec<usize>,
+    /// For each window the nets that changed in it, by rising number, each with its levels.
+    windows: Vec<Vec<Changed>>,
+    /// What the windows weigh: a changed word is 1.
     weight: usize,
+    /// Room for windows.
+    spare: Vec<Vec<Changed>>,
 }
 
 impl<'a> Model for Batch<'a> {
@@ -37,96 +42,120 @@ impl<'a> Model for Batch<'a> {
 }
 
 impl<'a> Batch<'a> {
-    /// No windows, at a tick.
-    pub(crate) fn open(
-        alloc: Global,
-        design: &'a Design,
-        clock: u32,
-    ) -> Result<Batch<'a>, AllocError>
-        requires { clock ≤ design.now.horizon }
-        ensures design { IfOk result (λ batch. batch.design ≡ design.entry.now) }
-        ensures clocks { IfOk result (λ batch. batch.clocks ≡ clock ∷ []) }
+    /// No windows.
+    pub(crate) fn new(alloc: Global, design: &'a Design) -> Batch<'a>
+        ensures { result.design ≡ design.entry.now }
     {
-        let mut clocks = Vec::new(alloc);
-        clocks.push(clock)?;
-        Ok(Batch {
+        Batch {
             alloc,
             design,
-            clocks,
+            clocks: Vec::new(alloc),
             windows: Vec::new(alloc),
-            weights: Vec::new(alloc),
             weight: 0,
-        })
-    }
-
-    /// One window more, from the last one's end on, of which these are the changes.
-    pub(crate) fn with(self, changed: &[Changed], upto: u32) -> Result<Batch<'a>, AllocError>
-        requires { IsWindow self.design (last_clock self) upto changed.now }
-        ensures design { IfOk result (λ batch. batch.design ≡ self.entry.design) }
-        ensures clocks { IfOk result (λ batch. batch.clocks ≡ self.entry.clocks ++ upto ∷ []) }
-    {
-        let Batch {
-            alloc,
-            design,
-            mut clocks,
-            mut windows,
-            mut weights,
-            weight,
-        } = self;
-        let from = clocks[clocks.len() - 1];
-        windows.push(Window::new(alloc, design, from, upto, changed)?)?;
-        clocks.push(upto)?;
-        weights.push(weight)?;
-        Ok(Batch {
-            alloc,
-            design,
-            clocks,
-            windows,
-            weights,
-            weight: weight.saturating_add(changed.len()).saturating_add(WINDOW),
-        })
-    }
-
-    /// How many windows there are.
-    pub(crate) fn len(&self) -> usize
-        ensures { suc result ≡ length self.now.clocks }
-    {
-        self.windows.len()
-    }
-
-    /// What the windows weigh: a changed word is 1.
-    pub(crate) fn weight(&self) -> usize {
-        self.weight
-    }
-
-    /// What the windows before a place weigh.
-    pub(crate) fn weight_before(&self, place: usize) -> usize {
-        match self.weights.get(place) {
-            Some(weight) => *weight,
-            None => self.weight,
+            spare: Vec::new(alloc),
         }
     }
 
+    /// How many windows there are.
+    pub fn len(&self) -> usize
+        ensures { result ≡ length self.now.clocks - 1 }
+    {
+        self.clocks.len().saturating_sub(1)
+    }
+
     /// The tick at which so many windows end.
-    pub(crate) fn clock(&self, count: usize) -> u32
+    pub fn clock(&self, count: usize) -> u32
         requires { count < length self.now.clocks }
-        ensures value { result ≡ clock_at self.now count }
-        ensures within { result ≤ self.now.design.horizon }
+        ensures { result ≡ clock_at self.now count }
     {
         self.clocks[count]
     }
 
-    /// Gives a dump the changes of the window at a place, so that it makes their text.
-    pub(crate) fn tell(&self, place: usize, dump: &mut Dump<'_>) -> Result<(), AllocError>
-        requires place { suc place < length self.now.clocks }
-        requires design { dump.old.design ≡ self.now.design }
-        requires clock { dump.old.clock ≡ clock_at self.now place }
-        ensures text { OnOk result (made_text self.now.design (clock_at self.now (suc place))
-            ≡ made_text self.now.design (clock_at self.now place) ++ dump.new.text) }
-        ensures clock { OnOk result (dump.new.clock ≡ clock_at self.now (suc place)) }
-        ensures design { dump.new.design ≡ dump.old.design }
-        ensures order { clock_at self.now place < clock_at self.now (suc place) }
+    /// The nets that changed in the window at a place, each with its levels.
+    pub fn changes(&self, place: usize) -> &[Changed]
+        requires { suc place < length self.now.clocks }
+        ensures { IsWindow self.now.design (clock_at self.now place) (clock_at self.now (suc place)) result.now }
     {
-        self.windows[place].tell(dump)
+        &self.windows[place]
+    }
+
+    // Begins anew at a tick. The windows' room is kept.
+    fn begin(&mut self, clock: u32) -> Result<(), AllocError>
+        ensures design { self.new.design ≡ self.old.design }
+        ensures some { OnOk result (1 ≤ length self.new.clocks) }
+        ensures clock { OnOk result (last_clock self.new ≡ clock) }
+    {
+        self.weight = 0;
+        self.clocks.clear();
+        for _window in 0..self.windows.len() {
+            if let Some(room) = self.windows.pop() {
+                self.spare.push(room)?;
+            }
+        }
+        self.clocks.push(clock)?;
+        Ok(())
+    }
+
+    // Room for a window.
+    fn take_room(&mut self) -> Vec<Changed>
+        ensures { self.new ≡ self.old }
+    {
+        match self.spare.pop() {
+            Some(room) => room,
+            None => Vec::new(self.alloc),
+        }
+    }
+
+    // One window more, up to a tick, from the last one's end on.
+    fn push(&mut self, changed: Vec<Changed>, upto: u32) -> Result<(), AllocError>
+        requires some { 1 ≤ length self.old.clocks }
+        requires window { IsWindow self.old.design (last_clock self.old) upto changed.items }
+        ensures design { self.new.design ≡ self.old.design }
+        ensures some { 1 ≤ length self.new.clocks }
+        ensures clock { OnOk result (last_clock self.new ≡ upto) }
+    {
+        self.weight = self
+            .weight
+            .saturating_add(changed.len())
+            .saturating_add(WINDOW);
+        // Where memory was refused before, there may be one that isn't told.
+        self.windows.truncate(self.clocks.len() - 1);
+        self.windows.push(changed)?;
+        self.clocks.push(upto)?;
+        Ok(())
+    }
+
+    // One window more, which an engine makes.
+    fn grow(&mut self, engine: Engine<'a>) -> Result<Engine<'a>, AllocError>
+        requires design { engine.design ≡ self.old.design }
+        requires some { 1 ≤ length self.old.clocks }
+        requires clock { last_clock self.old ≡ engine.clock }
+        requires open { engine.clock < engine.design.horizon }
+        ensures design { IfOk result (λ it. it.design ≡ engine.entry.design) }
+        ensures same { self.new.design ≡ self.old.design }
+        ensures some { 1 ≤ length self.new.clocks }
+        ensures clock { IfOk result (λ it. last_clock self.new ≡ it.clock) }
+        ensures later { IfOk result (λ it. engine.entry.clock < it.clock) }
+    {
+        let mut changed = self.take_room();
+        let engine = engine.advance(&mut changed)?;
+        let pushed = self.push(changed, engine.clock());
+        pushed.and(Ok(engine))
+    }
+
+    /// Has an engine make windows from its clock on, in place of these, until they are enough or end at the horizon.
+    /// Errors: memory was refused.
+    pub(crate) fn fill(&mut self, engine: Engine<'a>) -> Result<Engine<'a>, AllocError>
+        requires { engine.design ≡ self.old.design }
+        ensures design { IfOk result (λ it. it.design ≡ engine.entry.design) }
+        ensures same { self.new.design ≡ self.old.design }
+    {
+        let horizon = self.design.horizon();
+        let begun = self.begin(engine.clock());
+        let mut engine = begun.and(Ok(engine))?;
+        while engine.clock() < horizon && self.weight < WEIGHT {
+            engine = self.grow(engine)?;
+        }
+        Ok(engine)
     }
 }

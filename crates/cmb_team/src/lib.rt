@@ -1,14 +1,18 @@
-//! The text of a whole design by several threads: one goes on with the engine, the others make the text of what it
-//! told.
+//! The text of a whole design by a team of threads: one makes windows with the engine, others their text, batch by batch
+//! in turn, and the calling thread puts the texts one behind the other.
 #![tactic(auto)]
 
 mod batch;
+mod desk;
+mod lead;
 mod maker;
-mod round;
-mod stretches;
-mod team;
+mod opening;
+mod parcel;
 mod teller;
+mod terms;
 pub mod text;
-mod window;
+mod texts;
+mod threads;
+mod ways;
 
 pub use text::{team_text, write_team};

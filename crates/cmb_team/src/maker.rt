@@ -1,131 +1,90 @@
-//! An engine, and the windows that it made last.
+//! A thread's part of a run: it makes windows with the engine, batch by batch.
 
-ghost use Rattle.std.specs.Prelude.{◌≡◌, ◌+◌, ◌<◌, ◌≤◌, ◌∷◌, [], true, false, length, IfOk};
-ghost use Rattle.cmb_team.specs.Batches.{clock_at, last_clock};
+ghost use Rattle.std.specs.Prelude.{◌≡◌, IfOk, IfSome};
 
-use crate::batch::Batch;
-use cmb_design::Design;
+use crate::parcel::Parcel;
+use crate::terms::Terms;
+use crate::ways::Ways;
 use cmb_engine::Engine;
-use cmb_words::Changed;
-use std::alloc::{AllocError, Global};
-use std::marker::Model;
+use std::alloc::AllocError;
+use std::sync::Wait;
 
-/// An engine, and the windows that it made last.
+/// The engine, and where batches come from and go.
 #[derive(Drop)]
-pub(crate) struct Maker<'a> {
-    alloc: Global,
-    design: &'a Design,
+pub struct Maker<'a, T: Terms> {
     engine: Engine<'a>,
-    changed: Vec<Changed>,
-    batch: Batch<'a>,
+    horizon: u32,
+    ways: Ways<'a, T>,
+    ghost design: { engine.design ≡ T.design },
 }
 
-impl<'a> Model for Maker<'a> {
-    ghost use Rattle.cmb_team.specs.Batches.{Batch, IsMade};
-
-    ghost Value = { Batch };
-
-    ghost view = { λ m. m.batch };
-
-    ghost invariant = { λ m. IsMade m.design.now m.engine m.batch };
+// A batch as the engine makes it, from its clock on.
+fn filled<'a, T: Terms>(
+    parcel: Parcel<'a, T>,
+    engine: Engine<'a>,
+) -> Result<(Parcel<'a, T>, Engine<'a>), AllocError>
+    requires { engine.design ≡ T.design }
+    ensures { IfOk result (λ both. both.1.design ≡ T.design) }
+{
+    let Parcel {
+        mut batch,
+        room,
+        ..
+    } = parcel;
+    let engine = batch.fill(engine)?;
+    Ok((Parcel::new(batch, room), engine))
 }
 
-impl<'a> Maker<'a> {
-    /// An engine that made nothing yet.
-    pub(crate) fn open(
-        alloc: Global,
-        design: &'a Design,
-        engine: Engine<'a>,
-    ) -> Result<Maker<'a>, AllocError>
-        requires { engine.design ≡ design.now }
-        ensures design { IfOk result (λ maker. maker.design ≡ design.entry.now) }
-        ensures clocks { IfOk result (λ maker. maker.clocks ≡ engine.entry.clock ∷ []) }
+// The next batch, made and handed on. There is no engine any more where nobody gives batches back or takes them, or
+// memory was refused.
+fn step<'a, T: Terms, R: Wait>(
+    rt: &R,
+    ways: &mut Ways<'a, T>,
+    engine: Engine<'a>,
+) -> Option<Engine<'a>>
+    requires { engine.design ≡ T.design }
+    ensures { IfSome result (λ it. it.design ≡ T.design) }
+{
+    let Some(parcel) = ways.take(rt) else {
+        drop(engine);
+        return None;
+    };
+    let (parcel, engine) = filled(parcel, engine).ok()?;
+    if ways.hand(rt, parcel) {
+        Some(engine)
+    } else {
+        drop(engine);
+        None
+    }
+}
+
+impl<'a, T: Terms> Maker<'a, T> {
+    /// An engine, and where batches come from and go.
+    pub(crate) fn new(engine: Engine<'a>, horizon: u32, ways: Ways<'a, T>) -> Maker<'a, T>
+        requires { engine.design ≡ T.design }
     {
-        let batch = Batch::open(alloc, design, engine.clock())?;
-        Ok(Maker {
-            alloc,
-            design,
+        Maker {
             engine,
-            changed: Vec::new(alloc),
-            batch,
-        })
+            horizon,
+            ways,
+        }
     }
 
-    // One window more.
-    fn step(self) -> Result<Maker<'a>, AllocError>
-        requires { last_clock self < self.design.horizon }
-        ensures design { IfOk result (λ maker. maker.design ≡ self.entry.design) }
-        ensures first { IfOk result (λ maker. clock_at maker 0 ≡ clock_at self.entry 0) }
-        ensures later { IfOk result (λ maker. last_clock self.entry < last_clock maker) }
-    {
+    /// Makes windows up to the horizon.
+    pub(crate) fn run<R: Wait>(self, rt: &R) {
         let Maker {
-            alloc,
-            design,
-            engine,
-            mut changed,
-            batch,
+            mut engine,
+            horizon,
+            mut ways,
         } = self;
-        let engine = engine.advance(&mut changed)?;
-        let batch = batch.with(&changed, engine.clock())?;
-        Ok(Maker {
-            alloc,
-            design,
-            engine,
-            changed,
-            batch,
-        })
-    }
-
-    // Whether the horizon is reached.
-    fn is_done(&self) -> bool
-        ensures done { result ≡ true → self.now.design.horizon ≤ last_clock self.now }
-        ensures open { result ≡ false → last_clock self.now < self.now.design.horizon }
-    {
-        self.engine.clock() >= self.design.horizon()
-    }
-
-    /// Makes windows until they are so many ticks long, one at least below the horizon.
-    pub(crate) fn fill(self, ticks: u32) -> Result<Maker<'a>, AllocError>
-        requires { clock_at self 0 ≡ last_clock self }
-        ensures design { IfOk result (λ maker. maker.design ≡ self.entry.design) }
-        ensures first { IfOk result (λ maker. clock_at maker 0 ≡ clock_at self.entry 0) }
-        ensures later { IfOk result (λ maker. clock_at maker 0 < maker.design.horizon
-            → clock_at maker 0 < last_clock maker) }
-    {
-        let end = self.engine.clock().saturating_add(ticks);
-        let mut maker = self;
-        while !maker.is_done() {
-            maker = maker.step()?;
-            if maker.engine.clock() >= end {
-                return Ok(maker);
+        for _ in rt.forever() {
+            if engine.clock() >= horizon {
+                return;
+            }
+            match step(rt, &mut ways, engine) {
+                Some(next) => engine = next,
+                None => return,
             }
         }
-        Ok(maker)
-    }
-
-    /// Takes the batch away: the next one begins where it ends.
-    pub(crate) fn part(self) -> Result<(Batch<'a>, Maker<'a>), AllocError>
-        ensures batch { IfOk result (λ parts. parts.0 ≡ self.entry) }
-        ensures design { IfOk result (λ parts. parts.1.design ≡ self.entry.design) }
-        ensures clocks { IfOk result (λ parts. parts.1.clocks ≡ last_clock self.entry ∷ []) }
-    {
-        let Maker {
-            alloc,
-            design,
-            engine,
-            changed,
-            batch,
-        } = self;
-        let next = Batch::open(alloc, design, engine.clock())?;
-        Ok((
-            batch,
-            Maker {
-                alloc,
-                design,
-                engine,
-                changed,
-                batch: next,
-            },
-        ))
     }
 }

@@ -1,70 +1,77 @@
-//! Who makes the text of a stretch of a batch.
+//! Who makes the text of batches.
 
-ghost use Rattle.std.specs.Prelude.{◌≡◌, ◌+◌, ◌<◌, ◌≤◌, ◌++◌, length, IfOk, OnOk};
+ghost use Rattle.std.specs.Prelude.{◌≡◌, suc, ◌+◌, ◌<◌, ◌≤◌, ◌++◌, length, IfOk, OnOk};
 ghost use Rattle.cmb_stream.specs.Parts.{made_text};
-ghost use Rattle.cmb_team.specs.Batches.{clock_at};
-ghost use Rattle.cmb_team.specs.Teams.{HasTold};
+ghost use Rattle.cmb_team.specs.Batches.{clock_at, last_clock};
 
 use crate::batch::Batch;
-use cmb_design::Design;
+use crate::parcel::{Inlet, Parcel, Told};
+use crate::terms::Terms;
 use cmb_dump::Dump;
-use std::alloc::{AllocError, Global};
+use cmb_idle::taken;
+use cmb_stream::tell_window;
+use std::alloc::AllocError;
+use std::sync::Wait;
 
-/// Makes the text of a stretch of a batch.
+/// Makes the text of the batches that come by a ring.
 #[derive(Drop)]
-pub(crate) struct Teller<'a> {
-    pub dump: Dump<'a>,
-    /// The text of the last stretch.
-    pub text: Vec<u8>,
-    /// Whether memory was refused for the last stretch.
-    pub refused: bool,
+pub(crate) struct Teller<'a, T: Terms> {
+    dump: Dump<'a>,
+    inlet: Inlet<'a, T>,
+    ghost design: { dump.design ≡ T.design },
 }
 
-impl<'a> Teller<'a> {
-    /// A teller of a design, by a dump of it.
-    pub(crate) fn of(alloc: Global, dump: Dump<'a>) -> Teller<'a>
-        ensures { result.dump ≡ dump.entry }
+// Makes the text of a batch, in place of what `text` had.
+fn tell(dump: &mut Dump<'_>, batch: &Batch<'_>, text: &mut Vec<u8>) -> Result<(), AllocError>
+    requires design { dump.old.design ≡ batch.now.design }
+    requires some { 2 ≤ length batch.now.clocks }
+    ensures design { dump.new.design ≡ dump.old.design }
+    ensures text { OnOk result (made_text batch.now.design (last_clock batch.now)
+        ≡ made_text batch.now.design (clock_at batch.now 0) ++ text.new.items) }
+    ensures order { OnOk result (clock_at batch.now 0 < last_clock batch.now) }
+    ensures within { OnOk result (last_clock batch.now ≤ batch.now.design.horizon) }
+{
+    text.clear();
+    dump.skip(batch.clock(0));
+    for place in 0..batch.len() {
+        tell_window(dump, batch.changes(place), batch.clock(place + 1))?;
+        text.extend_from_slice(dump.text())?;
+    }
+    Ok(())
+}
+
+// A batch with its text. Errors: memory was refused, or it has no windows.
+fn told<'a, T: Terms>(dump: &mut Dump<'a>, parcel: Parcel<'a, T>) -> Result<Told<'a, T>, AllocError>
+    requires { dump.old.design ≡ T.design }
+    ensures { dump.new.design ≡ dump.old.design }
+{
+    let Parcel {
+        batch,
+        mut room,
+        ..
+    } = parcel;
+    let made = if batch.len() > 0 {
+        tell(dump, &batch, &mut room)
+    } else {
+        Err(AllocError)
+    };
+    match made {
+        Ok(()) => Ok(Told::new(batch, room)),
+        Err(error) => Err(error),
+    }
+}
+
+impl<'a, T: Terms> Teller<'a, T> {
+    /// A teller by a dump of a design, of the batches that come by a ring.
+    pub(crate) fn new(dump: Dump<'a>, inlet: Inlet<'a, T>) -> Teller<'a, T>
+        requires { dump.design ≡ T.design }
     {
-        Teller {
-            dump,
-            text: Vec::new(alloc),
-            refused: false,
-        }
+        Teller { dump, inlet }
     }
 
-    /// One more teller.
-    pub(crate) fn open(alloc: Global, design: &'a Design) -> Result<Teller<'a>, AllocError>
-        ensures { IfOk result (λ teller. teller.dump.design ≡ design.entry.now) }
-    {
-        Ok(Teller::of(alloc, Dump::at(alloc, design, 1)?))
-    }
-
-    // Makes the text of the windows at the places of `first..last`.
-    fn write(&mut self, batch: &Batch<'_>, first: usize, last: usize) -> Result<(), AllocError>
-        requires design { self.old.dump.design ≡ batch.now.design }
-        requires order { first ≤ last }
-        requires within { last < length batch.now.clocks }
-        ensures design { self.new.dump.design ≡ batch.now.design }
-        ensures text { OnOk result (made_text batch.now.design (clock_at batch.now last)
-            ≡ made_text batch.now.design (clock_at batch.now first) ++ self.new.text.items) }
-        ensures order { OnOk result (clock_at batch.now first ≤ clock_at batch.now last) }
-    {
-        self.text.clear();
-        self.dump.skip(batch.clock(first));
-        for place in first..last {
-            batch.tell(place, &mut self.dump)?;
-            self.text.extend_from_slice(self.dump.text())?;
-        }
-        Ok(())
-    }
-
-    /// Makes the text of a stretch: of the windows at the places of `first..last`. Where memory is refused it notes so.
-    pub(crate) fn tell(&mut self, batch: &Batch<'_>, first: usize, last: usize)
-        requires design { self.old.dump.design ≡ batch.now.design }
-        requires order { first ≤ last }
-        requires within { last < length batch.now.clocks }
-        ensures { HasTold batch.now first last self.new }
-    {
-        self.refused = self.write(batch, first, last).is_err();
+    /// The next batch with its text. Errors: nobody hands batches on any more, or memory was refused.
+    pub(crate) fn next<R: Wait>(&mut self, rt: &R) -> Result<Told<'a, T>, AllocError> {
+        let parcel = taken(rt, &mut self.inlet).ok_or(AllocError)?;
+        told(&mut self.dump, parcel)
     }
 }

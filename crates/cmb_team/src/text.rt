@@ -1,24 +1,32 @@
-//! The whole text of a design, by several threads.
+//! The whole text of a design, by one thread as far as that pays and then by a team.
 
 ghost use Rattle.std.specs.Prelude.{◌≡◌, ◌-◌, ◌^◌, ◌<◌, ◌≤◌, IfOk};
-ghost use Rattle.cmb_stream.specs.Parts.{IsAtEndOf};
+ghost use Rattle.cmb_stream.specs.Parts.{IsAtEndOf, IsStream};
 ghost use Rattle.cmb_stream.specs.Streams.{IsWrittenTo};
 ghost use Rattle.cmb_vcd.specs.Vcd.{vcd};
 
-use crate::team::{Team, ticks_of};
+use crate::opening::{Run, open_run};
+use crate::terms::Terms;
+use crate::threads::{join_all, start};
 use cmb_design::Design;
 use cmb_stream::{
     Kept, Stream, StreamFault, TextMaker, stream_text, text_rest, write_rest, write_stream,
 };
 use cmb_vcd::Sink;
 use std::alloc::{AllocError, Global};
+use std::marker::Brand;
+use std::sync::Wait;
+use std::thread;
 use std::thread::Threads;
+
+// The most tellers: more are never behind the engine. An estimate.
+const MOST: u32 = 6;
 
 // So many bytes of the text are made in one thread before it is asked whether more of them pay.
 const FIRST: usize = 524_288;
 
 // What is left has so many bytes at least, where threads pay for it: an estimate.
-const LEAST: u64 = 50_331_648;
+const LEAST: u64 = 4_194_304;
 
 // So many bytes a tick, where windows are large enough to be told apart: an estimate.
 const DENSE: u64 = 64;
@@ -57,15 +65,59 @@ fn pays(begun: &Begun<'_>, design: &Design) -> bool {
     begun.dense >= DENSE && begun.dense.saturating_mul(u64::from(left)) >= LEAST
 }
 
-// Makes the rest of a text, by a team where that pays.
-fn text_on<'a, R: Threads + Sync>(
+// How many tellers there are beside the calling thread, where one thread has the engine.
+fn tellers_of(threads: u32) -> usize {
+    threads.saturating_sub(2).min(MOST) as usize
+}
+
+// The rest of the text of the design that T names, from where an engine and a dump are, by a team.
+fn text_named<'a, T: Terms + Send + Sync, R: Threads + Wait + Sync>(
     rt: &'a R,
     alloc: Global,
     design: &'a Design,
+    stream: Stream<'a>,
+    kept: Kept<'a>,
     threads: u32,
-    begun: Begun<'a>,
 ) -> Result<Vec<u8>, AllocError>
-    requires threads { 1 ≤ threads }
+    requires named { design.now ≡ T.design }
+    requires here { IsAtEndOf kept stream }
+    requires design { kept.design ≡ T.design }
+    requires all { kept.given ≡ 0 }
+    ensures { IfOk result (λ text. text.items ≡ vcd design.now) }
+{
+    let (engine, dump) = stream.into_parts();
+    let Run { maker, desks, lead } = open_run::<T, R>(
+        rt,
+        alloc,
+        design,
+        engine,
+        dump,
+        tellers_of(threads),
+    )?;
+    thread::scope(
+        thread::scope_env(),
+        rt,
+        move |scope| -> Result<Vec<u8>, AllocError>
+            requires here { IsAtEndOf kept lead }
+            requires all { kept.given ≡ 0 }
+            ensures { IfOk result (λ text. text.items ≡ vcd kept.entry.design) }
+        {
+            let threads = start(rt, alloc, scope, maker, desks);
+            let text = text_rest(lead, kept);
+            join_all(rt, threads);
+            text
+        },
+    )
+}
+
+// Makes the rest of a text, by a team where that pays.
+fn text_on<R: Threads + Wait + Sync>(
+    rt: &R,
+    alloc: Global,
+    design: &Design,
+    threads: u32,
+    begun: Begun<'_>,
+) -> Result<Vec<u8>, AllocError>
     requires here { IsAtEndOf begun.kept begun.stream }
     requires design { begun.kept.design ≡ design.now }
     requires all { begun.kept.given ≡ 0 }
@@ -73,16 +125,17 @@ fn text_on<'a, R: Threads + Sync>(
 {
     let pays = pays(&begun, design);
     let Begun { stream, kept, .. } = begun;
-    if !pays {
-        return text_rest(stream, kept);
+    if pays {
+        text_named::<Brand, R>(rt, alloc, design, stream, kept, threads)
+    } else {
+        text_rest(stream, kept)
     }
-    let team = Team::of(rt, alloc, design, stream, ticks_of(&kept), threads as usize)?;
-    text_rest(team, kept)
 }
 
 /// The VCD text of a design's run, whole in memory, by so many threads at most; with one thread, or none, by
 /// `stream_text`. Threads are started only where there is enough to do for them. The text is the same for any number.
-pub fn team_text<R: Threads + Sync>(
+/// Errors: memory or a thread was refused.
+pub fn team_text<R: Threads + Wait + Sync>(
     rt: &R,
     alloc: Global,
     design: &Design,
@@ -97,17 +150,67 @@ pub fn team_text<R: Threads + Sync>(
     text_on(rt, alloc, design, threads, begun)
 }
 
-// Writes the rest of a text, by a team where that pays. Gives the text's length.
-fn write_on<'a, R: Threads + Sync, S: Sink>(
+// Does nothing. This use of a reference that came back ties it to the parameter that lent it.
+fn take_back<T>(back: &mut T)
+    ensures { back.new ≡ back.old }
+{}
+
+// Writes the rest of the text of the design that T names, by a team. Gives the text's length.
+fn write_named<'a, T: Terms + Send + Sync, R: Threads + Wait + Sync, S: Sink>(
     rt: &'a R,
     alloc: Global,
     design: &'a Design,
+    stream: Stream<'a>,
+    kept: Kept<'a>,
     threads: u32,
-    begun: Begun<'a>,
     sink: &mut S,
 ) -> Result<u64, StreamFault>
     requires room { S.failures sink.old < 2 ^ 64 - 1 }
-    requires threads { 1 ≤ threads }
+    requires named { design.now ≡ T.design }
+    requires here { IsAtEndOf kept stream }
+    requires design { kept.design ≡ T.design }
+    requires all { kept.given ≡ 0 }
+    ensures { IsWrittenTo S.Sink design.now sink.old sink.new result }
+{
+    let (engine, dump) = stream.into_parts();
+    let Run { maker, desks, lead } = open_run::<T, R>(
+        rt,
+        alloc,
+        design,
+        engine,
+        dump,
+        tellers_of(threads),
+    )?;
+    let (back, written) = thread::scope(
+        thread::scope_env(),
+        rt,
+        move |scope| -> (&mut S, Result<u64, StreamFault>)
+            requires room { S.failures sink.now < 2 ^ 64 - 1 }
+            requires here { IsAtEndOf kept lead }
+            requires all { kept.given ≡ 0 }
+            ensures name { result.0.ghost_name ≡ sink.entry.ghost_name }
+            ensures written { IsWrittenTo S.Sink kept.entry.design sink.entry.now result.0.now result.1 }
+        {
+            let threads = start(rt, alloc, scope, maker, desks);
+            let written = write_rest(lead, kept, sink);
+            join_all(rt, threads);
+            (sink, written)
+        },
+    );
+    take_back(back);
+    written
+}
+
+// Writes the rest of a text, by a team where that pays. Gives the text's length.
+fn write_on<R: Threads + Wait + Sync, S: Sink>(
+    rt: &R,
+    alloc: Global,
+    design: &Design,
+    threads: u32,
+    begun: Begun<'_>,
+    sink: &mut S,
+) -> Result<u64, StreamFault>
+    requires room { S.failures sink.old < 2 ^ 64 - 1 }
     requires here { IsAtEndOf begun.kept begun.stream }
     requires design { begun.kept.design ≡ design.now }
     requires all { begun.kept.given ≡ 0 }
@@ -115,17 +218,18 @@ fn write_on<'a, R: Threads + Sync, S: Sink>(
 {
     let pays = pays(&begun, design);
     let Begun { stream, kept, .. } = begun;
-    if !pays {
-        return write_rest(stream, kept, sink);
+    if pays {
+        write_named::<Brand, R, S>(rt, alloc, design, stream, kept, threads, sink)
+    } else {
+        write_rest(stream, kept, sink)
     }
-    let team = Team::of(rt, alloc, design, stream, ticks_of(&kept), threads as usize)?;
-    write_rest(team, kept, sink)
 }
 
 /// Writes the VCD text of a design's run while it is made, by so many threads at most, and gives its length; with one
 /// thread, or none, by `write_stream`. What it needs of memory doesn't grow with the horizon. Whatever the fault, the
-/// sink took a beginning of the text. A failed write is the answer then and only then; else memory was refused.
-pub fn write_team<R: Threads + Sync, S: Sink>(
+/// sink took a beginning of the text. A failed write is the answer then and only then; else memory or a thread was
+/// refused.
+pub fn write_team<R: Threads + Wait + Sync, S: Sink>(
     rt: &R,
     alloc: Global,
     design: &Design,

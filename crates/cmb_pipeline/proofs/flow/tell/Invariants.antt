@@ -1,5 +1,5 @@
 use Rattle.std.proofs.Common.{◌≡◌, ◌<◌, ◌≤◌}
-use Rattle.cmb_pipeline.specs.Windows.{clock_at}
+use Rattle.cmb_batch.specs.Windows.{clock_at}
 use Rattle.cmb_pipeline.proofs.flow.tell.Given as goal
 
 abbrev pub invariant-loop-place : goal.invariant-loop-place

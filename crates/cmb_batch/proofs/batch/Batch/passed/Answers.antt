@@ -1,0 +1,27 @@
+use Rattle.std.proofs.Common.{◌≡◌, ◌∙◌, suc, ◌+◌, ◌++◌, List, drop, length, take, ap, sym, subst, arith}
+use Rattle.std.proofs.lemmas.List.{take_at}
+use Rattle.cmb_batch.specs.Batches.{Batch, IsBatch}
+use Rattle.cmb_batch.specs.Makers.{IsNextOf, Maker}
+use Rattle.cmb_batch.specs.Shares.{DesignShare}
+use Rattle.cmb_batch.specs.Windows.{AreMade}
+use Rattle.cmb_batch.specs.declared.window.Window.{Window}
+use Rattle.cmb_batch.proofs.BatchFacts.{batch-more}
+use Rattle.cmb_batch.proofs.batch.Batch.passed.Goals as goal
+
+pub invariant_of-batch : goal.invariant_of-batch
+invariant_of-batch c =
+    let b = c.self.inside in
+    let batch : Batch = record { design = b.design.now; owners = b.owners.now; crossing = b.crossing.now; width = b.width; clocks = b.clocks.items; made = b.made } in
+    let maker : Maker = c.args.maker in
+    let more = c.work.new.windows in
+    let next : IsNextOf maker batch = subst (IsNextOf maker) (sym c.self.view_is) c.requires in
+    let same : length more ≡ length b.windows.items = c.work.ensures.len ∙ ap length c.deref_mut.ensures.value in
+    let made : AreMade maker.share.design maker.share.owners maker.share.crossing (suc maker.share.number) b.clocks.items more =
+    subst (λ clocks. AreMade maker.share.design maker.share.owners maker.share.crossing (suc maker.share.number) clocks more) c.deref.ensures.value c.in_ok-maker.ensures.made in
+    let count : c.from.result + 1 ≡ suc b.made =
+    omega (arith, c.from.ensures, c.number.ensures, ap (λ (s : DesignShare). s.number) c.in_ok-maker.ensures.share, next.made) in
+    let items : take b.windows.len (more ++ drop (length more) b.windows.items) ≡ more =
+    take_at more (drop (length more) b.windows.items) b.windows.len (omega (arith, same, ap length c.deref_mut.ensures.value, c.deref_mut.ensures.len)) in
+    subst (λ n. IsBatch batch.design batch.owners batch.crossing batch.width batch.clocks n (take b.windows.len (more ++ drop (length more) b.windows.items))) (sym count)
+    (subst (λ (l : List Window). IsBatch batch.design batch.owners batch.crossing batch.width batch.clocks (suc b.made) l) (sym items)
+    (batch-more maker batch next b.windows.items more c.self.invariant same made))

@@ -1,0 +1,12 @@
+use Rattle.std.proofs.Common.{subst}
+use Rattle.cmb_batch.proofs.MakersFacts.{AreBeingNarrowed, narrowing-more}
+use Rattle.cmb_batch.proofs.makers.all_narrowed.Goals as goal
+
+pub loop-maker-preserved : goal.loop-maker-preserved
+loop-maker-preserved c =
+    let olds = c.args.makers.items in
+    let all = c.loop-maker.all.items in
+    let was = subst (AreBeingNarrowed olds c.args.width all) c.in-Some.ensures.steps.0 c.loop-maker.invariant in
+    let new = c.in_ok-narrowed.ensures in
+    rw c.in_ok-push.ensures.items
+    (narrowing-more olds all c.next.new.self.rest.items c.args.width c.in-Some.maker c.in_ok-narrowed.field-0 was new.share new.width new.clock)

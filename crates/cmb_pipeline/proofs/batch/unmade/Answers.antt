@@ -1,5 +1,0 @@
-use Rattle.cmb_pipeline.proofs.MadeFacts.{unmade-made}
-use Rattle.cmb_pipeline.proofs.batch.unmade.Goals as goal
-
-pub returns-clause-unmade : goal.returns-clause-unmade
-returns-clause-unmade c = λ design owners crossing clocks. unmade-made design owners crossing clocks c.loop-window.windows.items c.loop-window.invariant.unmade

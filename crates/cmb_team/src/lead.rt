@@ -1,0 +1,83 @@
+//! The calling thread's part of a run: it takes the texts of batches, one behind the other.
+
+ghost use Rattle.std.specs.Prelude.{◌≡◌, ◌<◌, IfOk, OnOk};
+ghost use Rattle.cmb_stream.specs.Parts.{IsAtEndOf};
+
+use crate::parcel::{Outlet, Parcel, Told};
+use crate::terms::Terms;
+use crate::texts::Texts;
+use cmb_stream::{Kept, TextMaker};
+use std::alloc::AllocError;
+use std::marker::Model;
+use std::sync::Wait;
+
+/// Takes the texts of batches, and gives the batches' room back.
+#[derive(Drop)]
+pub(crate) struct Lead<'a, T: Terms, R> {
+    rt: &'a R,
+    texts: Texts<'a, T>,
+    back: Outlet<'a, T>,
+    /// The tick up to which the text was taken.
+    clock: u32,
+}
+
+impl<'a, T: Terms, R> Model for Lead<'a, T, R> {
+    ghost use Rattle.cmb_stream.specs.Parts.{Made};
+
+    ghost Value = { Made };
+
+    ghost view = { λ lead. record { design = T.design; clock = lead.clock } };
+}
+
+impl<'a, T: Terms, R: Wait> Lead<'a, T, R> {
+    /// Goes on from a tick, by where texts come from and the ring on which batches go back.
+    pub(crate) fn new(
+        rt: &'a R,
+        clock: u32,
+        texts: Texts<'a, T>,
+        back: Outlet<'a, T>,
+    ) -> Lead<'a, T, R>
+        ensures design { result.design ≡ T.design }
+        ensures clock { result.clock ≡ clock }
+    {
+        Lead {
+            rt,
+            texts,
+            back,
+            clock,
+        }
+    }
+
+    // Takes the text of the next batch, which comes behind what is kept, and gives its room back.
+    fn go_on(&mut self, kept: &mut Kept<'_>) -> Result<(), AllocError>
+        requires { IsAtEndOf kept.old self.old }
+        ensures design { self.new.design ≡ self.old.design }
+        ensures here { OnOk result (IsAtEndOf kept.new self.new) }
+        ensures given { OnOk result (kept.new.given ≡ kept.old.given) }
+        ensures later { OnOk result (kept.old.clock < kept.new.clock) }
+    {
+        let Told { batch, text, .. } = self.texts.next(self.rt)?;
+        if batch.clock(0) != kept.clock() {
+            return Err(AllocError);
+        }
+        let upto = batch.clock(batch.len());
+        kept.grow(&text, upto)?;
+        self.clock = upto;
+        // Where nobody takes it any more it is dropped.
+        let _given = self.back.push(Parcel::new(batch, text));
+        Ok(())
+    }
+}
+
+impl<'a, T: Terms, R: Wait> TextMaker for Lead<'a, T, R> {
+    ghost made = { λ lead. lead };
+
+    ghost ready = { Unit {0} };
+
+    // Goes on by a batch.
+    fn step(self, kept: &mut Kept<'_>) -> Result<Self, AllocError> {
+        let mut lead = self;
+        lead.go_on(kept)?;
+        Ok(lead)
+    }
+}

@@ -1,0 +1,52 @@
+//! Where the calling thread has the texts of batches from.
+
+use crate::parcel::{TextInlet, Told};
+use crate::teller::Teller;
+use crate::terms::Terms;
+use cmb_idle::taken;
+use std::alloc::AllocError;
+use std::sync::Wait;
+
+/// Other tellers, one of each of whose texts comes in turn.
+#[derive(Drop)]
+pub(crate) struct Others<'a, T: Terms> {
+    inlets: Vec<TextInlet<'a, T>>,
+    turn: usize,
+}
+
+/// Who makes the texts that the calling thread takes.
+#[derive(Drop)]
+pub(crate) enum Texts<'a, T: Terms> {
+    /// The calling thread itself.
+    Own(Teller<'a, T>),
+    /// Others in threads of their own.
+    Others(Others<'a, T>),
+}
+
+impl<'a, T: Terms> Others<'a, T> {
+    /// The first text is that of the first ring.
+    pub(crate) fn new(inlets: Vec<TextInlet<'a, T>>) -> Others<'a, T> {
+        Others { inlets, turn: 0 }
+    }
+
+    // The next batch with its text. Errors: nobody hands it on.
+    fn next<R: Wait>(&mut self, rt: &R) -> Result<Told<'a, T>, AllocError> {
+        let turn = self.turn;
+        let next = turn.saturating_add(1);
+        self.turn = if next < self.inlets.len() { next } else { 0 };
+        match self.inlets.get_mut(turn) {
+            Some(inlet) => taken(rt, inlet).ok_or(AllocError),
+            None => Err(AllocError),
+        }
+    }
+}
+
+impl<'a, T: Terms> Texts<'a, T> {
+    /// The next batch with its text. Errors: nobody hands it on, or memory was refused.
+    pub(crate) fn next<R: Wait>(&mut self, rt: &R) -> Result<Told<'a, T>, AllocError> {
+        match self {
+            Texts::Own(teller) => teller.next(rt),
+            Texts::Others(others) => others.next(rt),
+        }
+    }
+}

@@ -1,0 +1,67 @@
+//! Where batches are taken from to be made, and where they go.
+
+ghost use Rattle.std.specs.Prelude.{◌≡◌};
+
+use crate::batch::Batch;
+use crate::parcel::{Inlet, Outlet, Parcel};
+use crate::terms::Terms;
+use cmb_design::Design;
+use cmb_idle::{handed, taken};
+use std::alloc::Global;
+use std::sync::Wait;
+
+/// Where batches are taken from to be made: first there are so many new ones, then those come back whose text was
+/// taken. Each goes to the next teller.
+#[derive(Drop)]
+pub struct Ways<'a, T: Terms> {
+    alloc: Global,
+    design: &'a Design,
+    fresh: usize,
+    back: Inlet<'a, T>,
+    outlets: Vec<Outlet<'a, T>>,
+    turn: usize,
+    ghost named: { design.now ≡ T.design },
+}
+
+impl<'a, T: Terms> Ways<'a, T> {
+    /// So many new batches, those that come back, and a ring to each teller.
+    pub(crate) fn new(
+        alloc: Global,
+        design: &'a Design,
+        fresh: usize,
+        back: Inlet<'a, T>,
+        outlets: Vec<Outlet<'a, T>>,
+    ) -> Ways<'a, T>
+        requires { design.now ≡ T.design }
+    {
+        Ways {
+            alloc,
+            design,
+            fresh,
+            back,
+            outlets,
+            turn: 0,
+        }
+    }
+
+    /// A batch to be made anew. There is none once nobody gives any back.
+    pub(crate) fn take<R: Wait>(&mut self, rt: &R) -> Option<Parcel<'a, T>> {
+        if self.fresh > 0 {
+            self.fresh -= 1;
+            let batch = Batch::new(self.alloc, self.design);
+            return Some(Parcel::new(batch, Vec::new(self.alloc)));
+        }
+        taken(rt, &mut self.back)
+    }
+
+    /// Hands a batch to the next teller. Says whether anybody is there to take it.
+    pub(crate) fn hand<R: Wait>(&mut self, rt: &R, parcel: Parcel<'a, T>) -> bool {
+        let turn = self.turn;
+        let next = turn.saturating_add(1);
+        self.turn = if next < self.outlets.len() { next } else { 0 };
+        match self.outlets.get_mut(turn) {
+            Some(outlet) => handed(rt, outlet, parcel),
+            None => false,
+        }
+    }
+}
