@@ -4,7 +4,7 @@ ghost use Rattle.std.specs.Prelude.{◌≡◌, ◌<◌, ◌≤◌, length, All, 
 ghost use Rattle.cmb_cut.specs.Shapes.{AreOwners};
 
 use crate::components::{Component, Components, components_of, in_order};
-use crate::limit::least_limit;
+use crate::limit::{least_limit, limit_of};
 use cmb_bench::Netlist;
 use std::alloc::{AllocError, Global};
 
@@ -35,7 +35,7 @@ fn fill(
     let mut load = 0_u64;
     for component in order {
         load = load.saturating_add(component.weight);
-        if load > limit && last < most - 1 {
+        if load > limit_of(limit, last) && last < most - 1 {
             last += 1;
             load = component.weight;
         }
