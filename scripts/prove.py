@@ -1,7 +1,7 @@
 #!/usr/bin/env python3
 """prove.py NAME: proves and builds the libraries that a crate of the repository stands on, as far as they aren't built
 yet. Each begins once those below it are built, in a copy of the repository; first those on which the longest chain of
-others stands. All checks together have as many jobs as there are processors (`jobs_for`). What the toolchain says goes
+others stands. All checks together have about as many jobs as processors (`jobs_for`). What the toolchain says goes
 to standard error."""
 import concurrent.futures
 import os
@@ -64,12 +64,12 @@ def jobs_for(ready, idle, lanes, behind, longest):
 
     A second job takes about a third more of the processors, and four take twice as much as one. So most get one. With
     more than two processors the time goes by the longest chain, and not by the work: so a library gets two on which
-    nearly as long a chain stands as on any that isn't built yet, and what is idle then goes to the first, up to four."""
+    nearly as long a chain stands as on any that isn't built yet, also where one processor alone is idle, since a check
+    keeps its jobs to its end. What is idle then goes to the first, up to four."""
     jobs = {}
     for name in ready:
         if idle > 0:
-            wanted = 2 if lanes > 2 and behind[name] >= NEARLY * longest else 1
-            jobs[name] = min(wanted, idle)
+            jobs[name] = 2 if lanes > 2 and behind[name] >= NEARLY * longest else 1
             idle -= jobs[name]
     for _ in range(MOST_JOBS):
         for name in jobs:
