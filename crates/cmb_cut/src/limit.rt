@@ -1,4 +1,4 @@
-//! The least limit by which components in their order fill so many shares at most.
+//! The least limits by which components in their order fill so many shares at most.
 
 ghost use Rattle.std.specs.Prelude.{◌≡◌, ◌≤◌, ◌<◌};
 
@@ -22,23 +22,36 @@ fn heaviest(components: &[Component]) -> u64 {
     most
 }
 
-/// What a share of a number weighs at most: the first a fourth more than the limit of the others, since each of these
-/// has to merge what it owns into what earlier ones made. An estimate.
-pub(crate) fn limit_of(limit: u64, share: u32) -> u64 {
-    if share == 0 {
-        limit.saturating_add(limit / 4)
-    } else {
-        limit
+/// What shares weigh at most.
+#[derive(Clone, Copy)]
+pub(crate) struct Limits {
+    first: u64,
+    later: u64,
+}
+
+impl Limits {
+    // The limits of shares that are as even as that, where none ends within a component. The first may weigh a fourth
+    // more than the others, since each of these has to merge what it owns into what earlier ones made. An estimate.
+    fn of(even: u64, heaviest: u64) -> Limits {
+        Limits {
+            first: even.saturating_add(even / 4).max(heaviest),
+            later: even.max(heaviest),
+        }
+    }
+
+    /// What a share of a number weighs at most.
+    pub(crate) fn at(self, share: u32) -> u64 {
+        if share == 0 { self.first } else { self.later }
     }
 }
 
 // How many shares are filled, where a share ends before the component with which it would weigh more than it may.
-fn shares_within(components: &[Component], limit: u64) -> u32 {
+fn shares_within(components: &[Component], limits: Limits) -> u32 {
     let mut last = 0_u32;
     let mut load = 0_u64;
     for component in components {
         load = load.saturating_add(component.weight);
-        if load > limit_of(limit, last) {
+        if load > limits.at(last) {
             last = last.saturating_add(1);
             load = component.weight;
         }
@@ -46,17 +59,18 @@ fn shares_within(components: &[Component], limit: u64) -> u32 {
     last.saturating_add(1)
 }
 
-/// The least limit by which so many shares are enough, found by bisection.
-pub(crate) fn least_limit(components: &[Component], most: u32) -> u64 {
-    let mut low = heaviest(components);
-    let mut high = total(components).max(low);
+/// The least limits by which so many shares are enough, found by bisection.
+pub(crate) fn least_limits(components: &[Component], most: u32) -> Limits {
+    let heaviest = heaviest(components);
+    let mut low = 0_u64;
+    let mut high = total(components);
     while low < high {
         let middle = low + (high - low) / 2;
-        if shares_within(components, middle) <= most {
+        if shares_within(components, Limits::of(middle, heaviest)) <= most {
             high = middle;
         } else {
             low = middle + 1;
         }
     }
-    high
+    Limits::of(high, heaviest)
 }

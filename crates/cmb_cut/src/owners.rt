@@ -4,7 +4,7 @@ ghost use Rattle.std.specs.Prelude.{◌≡◌, ◌<◌, ◌≤◌, length, All, 
 ghost use Rattle.cmb_cut.specs.Shapes.{AreOwners};
 
 use crate::components::{Component, Components, components_of, in_order};
-use crate::limit::{least_limit, limit_of};
+use crate::limit::{Limits, least_limits};
 use cmb_bench::Netlist;
 use std::alloc::{AllocError, Global};
 
@@ -15,13 +15,13 @@ pub(crate) struct Owners {
     pub count: u32,
 }
 
-/// Fills one share after another with components, up to the limit, but the last of `most`, which gets all that are
+/// Fills one share after another with components, up to its limit, but the last of `most`, which gets all that are
 /// left: for each of `count` numbers of components the share, and how many shares there are.
 fn fill(
     alloc: Global,
     order: &[Component],
     count: usize,
-    limit: u64,
+    limits: Limits,
     most: u32,
 ) -> Result<Owners, AllocError>
     requires components { All (λ component. component.number < count) order.now }
@@ -35,7 +35,7 @@ fn fill(
     let mut load = 0_u64;
     for component in order {
         load = load.saturating_add(component.weight);
-        if load > limit_of(limit, last) && last < most - 1 {
+        if load > limits.at(last) && last < most - 1 {
             last += 1;
             load = component.weight;
         }
@@ -78,7 +78,7 @@ pub(crate) fn owners_of(alloc: Global, netlist: &Netlist, most: u32) -> Result<O
         total = total.saturating_add(*weight);
     }
     let order = in_order(alloc, netlist, &components, total / u64::from(most))?;
-    let limit = least_limit(&order, most);
-    let filled = fill(alloc, &order, netlist.len(), limit, most)?;
+    let limits = least_limits(&order, most);
+    let filled = fill(alloc, &order, netlist.len(), limits, most)?;
     owned(alloc, &components, &filled)
 }

@@ -1,5 +1,5 @@
 use Rattle.std.proofs.Common.{◌-◌, ◌≤◌}
-use Rattle.cmb_cut.proofs.limit.least_limit.Given as goal
+use Rattle.cmb_cut.proofs.limit.least_limits.Given as goal
 
 abbrev pub invariant-loop-low : goal.invariant-loop-low
 invariant-loop-low l = l.low ≤ l.high
