@@ -16,6 +16,12 @@ day_begin calendar = calendar.day * calendar.width
 abbrev pub day_end : Calendar → ℕ
 day_end calendar = (calendar.day + 1) * calendar.width
 
+-- the days are as they were
+pub record SameDays (old new : Calendar) : Type 0 where
+  pub width : new.width ≡ old.width
+  pub horizon : new.horizon ≡ old.horizon
+  pub day : new.day ≡ old.day
+
 -- what a calendar has once something is told: that too, where it is below the horizon
 abbrev pub Notes : Calendar → Calendar → Tell → Type 0
 Notes old new tell = (other : Tell) → Contains new.tells other ↔ (Contains old.tells other ⊎ ((other ≡ tell) × (tell.tick < old.horizon)))

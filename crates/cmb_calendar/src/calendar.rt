@@ -36,7 +36,7 @@ impl Model for Calendar {
 
 impl Calendar {
     ghost use Rattle.std.specs.Prelude.{◌≡◌, ◌<◌, ◌≤◌, [], IfOk, OnOk, min};
-    ghost use Rattle.cmb_calendar.specs.Calendars.{AreInOrder, Notes, Takes, day_begin, day_end};
+    ghost use Rattle.cmb_calendar.specs.Calendars.{AreInOrder, Notes, SameDays, Takes, day_begin, day_end};
 
     /// A calendar with nothing in it, of which day 0 is the next one.
     pub fn open(alloc: Global, width: u32, horizon: u32) -> Result<Calendar, AllocError>
@@ -76,9 +76,7 @@ impl Calendar {
     pub fn note(&mut self, tell: Tell) -> Result<(), AllocError>
         requires later { day_begin self.old ≤ tell.tick }
         ensures notes { OnOk result (Notes self.old self.new tell) }
-        ensures width { self.new.width ≡ self.old.width }
-        ensures horizon { self.new.horizon ≡ self.old.horizon }
-        ensures day { self.new.day ≡ self.old.day }
+        ensures days { SameDays self.old self.new }
     {
         if tell.tick < self.horizon {
             let day = (tell.tick / self.width) as usize;

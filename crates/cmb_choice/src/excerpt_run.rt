@@ -125,9 +125,15 @@ impl<'a> Run<'a> {
             mut changed,
             mut text,
         } = self;
-        let engine = engine.advance(&mut changed)?;
+        let Ok(engine) = engine.advance(&mut changed) else {
+            drop((excerpt, changed, text));
+            return Err(AllocError);
+        };
         let told = excerpt.window(&changed, engine.clock());
-        told.and(text.extend_from_slice(excerpt.text()))?;
+        let Ok(()) = told.and(text.extend_from_slice(excerpt.text())) else {
+            drop((engine, excerpt, changed, text));
+            return Err(AllocError);
+        };
         Ok(Run {
             design,
             engine,
@@ -141,6 +147,14 @@ impl<'a> Run<'a> {
     pub(crate) fn into_text(self) -> Vec<u8>
         ensures { result.items ≡ self.entry.text }
     {
-        self.text
+        let Run {
+            engine,
+            excerpt,
+            changed,
+            text,
+            ..
+        } = self;
+        drop((engine, excerpt, changed));
+        text
     }
 }

@@ -29,7 +29,10 @@ pub fn part_of(alloc: Global, design: &Design, chosen: &[u32]) -> Result<Part, A
     let count = design.netlist().len();
     let nets = closure(alloc, design.netlist(), chosen)?;
     let part = restrict(alloc, design, &nets)?;
-    let places = places_in(alloc, count, &nets, chosen)?;
+    let Ok(places) = places_in(alloc, count, &nets, chosen) else {
+        drop(part);
+        return Err(AllocError);
+    };
     Ok(Part {
         design: part,
         nets: places,
@@ -55,5 +58,7 @@ pub fn chosen_text(alloc: Global, design: &Design, chosen: &[u32]) -> Result<Vec
     ensures { IfOk result (λ text. text.items ≡ vcd_of design.now chosen.now) }
 {
     let part = part_of(alloc, design, chosen)?;
-    shown_text(alloc, &part.design, &part.nets)
+    let text = shown_text(alloc, &part.design, &part.nets);
+    drop(part);
+    text
 }

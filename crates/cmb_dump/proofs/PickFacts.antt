@@ -9,7 +9,7 @@ use Rattle.std.proofs.lemmas.List.Kept.{AllPairs-from_increasing}
 use Rattle.cmb_wave.specs.declared.level.Level.{Level}
 use Rattle.cmb_design.proofs.LevelFacts.{push-rest}
 use Rattle.cmb_words.specs.declared.changed.Changed.{Changed}
-use Rattle.cmb_words.specs.Changes.{RisesWithin, Tells, TellsNet, is_among}
+use Rattle.cmb_words.specs.Changes.{IsWindow, RisesWithin, Tells, TellsNet, is_among}
 use Rattle.cmb_dump.specs.Excerpts.{AreAmong, ArePlaces, levels_at, picked_of}
 
 -- ---- places
@@ -166,9 +166,15 @@ module _ (count : ℕ) (nets places : List ℕ) (among : AreAmong count nets) (a
   }
 
   -- as they are handed on
-  pub picked_fits : (read : List ℕ) (n tails : ℕ) (changed picked last : List Changed) → read ≡ places → n ≡ length nets → tails ≡ length nets → picked ≡ picked_of read n changed → last ≡ picked
-      → RisesWithin 0 count changed → RisesWithin 0 tails last
-  picked_fits read n tails changed picked last r m t p l rises = rw (t, l, p, r, m) (picked_rises 0 0 changed rises (λ q w a. omega arith))
+  pub picked_window : (read : List ℕ) (n tails horizon end from upto : ℕ) (changed picked last : List Changed) → read ≡ places → n ≡ length nets → tails ≡ length nets → picked ≡ picked_of read n changed → last ≡ picked
+      → end ≡ horizon → IsWindow count horizon from upto changed → IsWindow tails end from upto last
+  picked_window read n tails horizon end from upto changed picked last r m t p l h window = record {
+    late = window.late;
+    order = window.order;
+    short = window.short;
+    within = omega (arith, window.within, h);
+    nets = rw (t, l, p, r, m) (picked_rises 0 0 changed window.nets (λ q w a. omega arith));
+  }
 
   pub picked_told : (read : List ℕ) (n tails : ℕ) (changed picked last : List Changed) → read ≡ places → n ≡ length nets → tails ≡ length nets → picked ≡ picked_of read n changed → last ≡ picked
       → (level : ℕ → ℕ → Level) (from upto : ℕ) → RisesWithin 0 count changed → Tells level count from upto changed → Tells (levels_at level nets) tails from upto last

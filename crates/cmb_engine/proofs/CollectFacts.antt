@@ -1,5 +1,5 @@
 -- Which nets changed in a window, and what their words tell.
-use Rattle.std.proofs.Common.{◌≡◌, ℕ, suc, ◌+◌, ◌-◌, ◌<◌, ◌≤◌, ◌⊎◌, inl, inr, Bool, false, List, [], ◌∷◌, ◌++◌, get_or, sym, ap, subst, ◌∙◌, arith}
+use Rattle.std.proofs.Common.{◌≡◌, ℕ, suc, ◌+◌, ◌-◌, ◌<◌, ◌≤◌, ◌⊎◌, inl, inr, Bool, false, List, [], ◌∷◌, ◌++◌, length, get_or, sym, ap, subst, ◌∙◌, arith}
 use Rattle.std.specs.Prelude.{◌==◌}
 use Rattle.std.specs.List.{All}
 use Rattle.std.proofs.lemmas.Bool.{cases_lt, eq-eqb, false≢true, or_parts}
@@ -9,11 +9,14 @@ use Rattle.cmb_wave.specs.declared.level.Level.{Level}
 use Rattle.cmb_words.specs.declared.changed.Changed.{Changed}
 use Rattle.cmb_words.specs.Changes.{RisesWithin, IsStill, Tells, is_among}
 use Rattle.cmb_words.specs.Word.{level_at_place}
+use Rattle.cmb_words.specs.declared.word.Word.{Word}
 use Rattle.cmb_words.proofs.Rising.{rises-push, rises-wider, rises_at}
 use Rattle.cmb_engine.specs.Cells.{IsSteadyFrom}
 use Rattle.cmb_engine.specs.Circuits.{AreQuiet, Shows}
+use Rattle.cmb_engine.specs.Words.{levels_of}
 use Rattle.cmb_engine.proofs.MoveFacts.{quiet-same}
 use Rattle.cmb_engine.proofs.TruthFacts.{in_place-tick}
+use Rattle.cmb_engine.proofs.WordFacts.{levels_of-read}
 
 -- a net is told with its word
 abbrev pub HasWord : (ℕ → ℕ → Level) → Changed → Type 0
@@ -65,6 +68,24 @@ module _ (words : ℕ → ℕ → Level) (first : ℕ) (changed : List Changed) 
       go : (m : ℕ) → m < one.net + 1 → is_among m changed ≡ false → (one.net == m) ≡ false → (m < one.net) ⊎ (one.net ≤ m) → IsSteadyFrom (words m) first
       go m below other here (inl l) = h.others m l other
       go m below other here (inr l) = absurd (false≢true (sym here ∙ eq-eqb one.net m (omega arith)))
+
+-- a live net more, which stays as it is or is collected
+pub collected-next : (words : List Word) (first start net next : ℕ) (word : Word) (live : ℕ → Bool) (old new : List Changed) → first < 64 → start ≤ net → net < length words → next ≡ net + 1
+    → word ≡ get_or words net word → ((m : ℕ) → start ≤ m → m < net → live m ≡ false) → AreQuiet (levels_of words) live (length words)
+    → ((new ≡ old) × IsSteadyFrom (level_at_place word) first) ⊎ (new ≡ old ++ record { net = net; word = word } ∷ [])
+    → IsCollected (levels_of words) first start old → IsCollected (levels_of words) first next new
+collected-next words first start net next word live old new small later inside end is none quiet told h = by told
+  where
+    at : (place : ℕ) → levels_of words net place ≡ level_at_place word place
+    at place = levels_of-read words net word place inside is
+
+    so_far : IsCollected (levels_of words) first net old
+    so_far = collected-passes (levels_of words) first old live (length words) start net small later (omega (arith, inside)) none quiet h
+
+    by : ((new ≡ old) × IsSteadyFrom (level_at_place word) first) ⊎ (new ≡ old ++ record { net = net; word = word } ∷ []) → IsCollected (levels_of words) first next new
+    by (inl steady) =
+        rw (end, steady.0) (collected-steady (levels_of words) first old net (λ place from l. at place ∙ steady.1 place from l ∙ sym (at (first - 1))) so_far)
+    by (inr pushed) = rw (end, pushed) (collected-push (levels_of words) first old (record { net = net; word = word }) (λ place l. sym (at place)) so_far)
 
 -- words that show a trace tell its changes, where all nets are collected
 module _ (words : ℕ → ℕ → Level) (trace : ℕ → ℕ → Level) (count nets to first : ℕ) (changed : List Changed) (shows : Shows words trace count to) (few : nets ≤ count) (begun : 1 ≤ first)

@@ -1,8 +1,8 @@
 -- What words show where something is given of their nets.
-use Rattle.std.proofs.Common.{◌≡◌, ℕ, zero, suc, ◌+◌, ◌-◌, ◌<◌, ◌≤◌, ◌⊎◌, inl, inr, min, true, false, ◌||◌, List, [], ◌∷◌, length, get_or, set, take, refl, sym, ap, subst, ◌∙◌, arith}
+use Rattle.std.proofs.Common.{◌≡◌, ℕ, zero, suc, ◌+◌, ◌-◌, ◌<◌, ◌≤◌, ◌⊎◌, inl, inr, min, true, false, ◌||◌, List, [], ◌∷◌, ◌++◌, length, get_or, set, refl, sym, ap, subst, ◌∙◌, arith}
 use Rattle.std.specs.Prelude.{◌==◌, Contains}
-use Rattle.std.proofs.lemmas.Bool.{cases_lt, cases_eq, cases_Bool, eq-eqb, ne_eqb, false≢true, and_from, and_left, and_parts}
-use Rattle.std.proofs.lemmas.List.{take_more}
+use Rattle.std.proofs.lemmas.Bool.{cases_lt, cases_eq, cases_Bool, eq-eqb, ne_eqb, false≢true, and_from, and_left, and_parts, or_parts}
+use Rattle.std.proofs.lemmas.List.Elements.{Contains-append_left, Contains-append_right, Contains-push}
 use Rattle.std.proofs.lemmas.List.Folds.{list_any-append}
 use Rattle.cmb_wave.specs.declared.level.Level.{Level}
 use Rattle.cmb_calendar.specs.declared.tell.Tell.{Tell}
@@ -15,7 +15,7 @@ use Rattle.cmb_words.specs.Word.{level_at_place}
 use Rattle.cmb_engine.specs.Bits.{has}
 use Rattle.cmb_engine.specs.Cells.{Cell, AreMarked, cell_at, is_made}
 use Rattle.cmb_engine.specs.Circuits.{Shows}
-use Rattle.cmb_engine.specs.Gifts.{AreGiven, is_written}
+use Rattle.cmb_engine.specs.Gifts.{AreGiven, AreWritten, is_written}
 use Rattle.cmb_engine.specs.Roles.{AreRoles, AreToldNets, gives}
 use Rattle.cmb_engine.specs.Tells.{told_level, AreOfWindow}
 use Rattle.cmb_engine.specs.Traces.{trace_of}
@@ -58,42 +58,76 @@ pub one-among : (one : Changed) (net : ℕ) → one.net ≡ net → is_among net
 one-among one net same = let e : (one.net == net) ≡ true = eq-eqb one.net net same in rw e refl
 
 -- of one thing
-pub written-one : (roles : List Role) (one : Changed) (net : ℕ) → is_written roles (one ∷ []) net ≡ true → (gives roles one.net ≡ true) × (one.net ≡ net)
+written-one : (roles : List Role) (one : Changed) (net : ℕ) → is_written roles (one ∷ []) net ≡ true → (gives roles one.net ≡ true) × (one.net ≡ net)
 written-one roles one net is =
     let parts = and_parts (gives roles net) (is_among net (one ∷ [])) is in
     let same : one.net ≡ net = among-one one net parts.1 in
     (ap (gives roles) same ∙ parts.0, same)
 
-pub unwritten-one : (roles : List Role) (one : Changed) (net : ℕ) → gives roles one.net ≡ true → is_written roles (one ∷ []) net ≡ false → one.net ≡ net → ⊥
+unwritten-one : (roles : List Role) (one : Changed) (net : ℕ) → gives roles one.net ≡ true → is_written roles (one ∷ []) net ≡ false → one.net ≡ net → ⊥
 unwritten-one roles one net gift isnt same =
     false≢true (sym isnt ∙ and_from (gives roles net) (is_among net (one ∷ [])) (ap (gives roles) (sym same) ∙ gift) (one-among one net same))
 
--- one thing more is given
-pub written-more : (roles : List Role) (given : List Changed) (k : ℕ) (one : Changed) (net : ℕ) → k < length given → one ≡ get_or given k one
-    → is_written roles (take (k + 1) given) net ≡ (is_written roles (take k given) net || is_written roles (one ∷ []) net)
-written-more roles given k one net small is = go (cases_Bool (gives roles net))
+-- of some things and of others
+written-both : (roles : List Role) (xs ys : List Changed) (net : ℕ) → is_written roles (xs ++ ys) net ≡ (is_written roles xs net || is_written roles ys net)
+written-both roles xs ys net = go (cases_Bool (gives roles net))
   where
-    among : is_among net (take (k + 1) given) ≡ (is_among net (take k given) || is_among net (one ∷ []))
-    among =
-        ap (is_among net) (take_more given k one small)
-        ∙ list_any-append (λ (c : Changed). c.net == net) (take k given) (get_or given k one ∷ [])
-        ∙ ap (λ (c : Changed). is_among net (take k given) || is_among net (c ∷ [])) (sym is)
-
-    go : (gives roles net ≡ true) ⊎ (gives roles net ≡ false)
-        → is_written roles (take (k + 1) given) net ≡ (is_written roles (take k given) net || is_written roles (one ∷ []) net)
-    go (inl h) = rw h among
+    go : (gives roles net ≡ true) ⊎ (gives roles net ≡ false) → is_written roles (xs ++ ys) net ≡ (is_written roles xs net || is_written roles ys net)
+    go (inl h) = rw h (list_any-append (λ (c : Changed). c.net == net) xs ys)
     go (inr h) = rw h refl
 
--- what is written, but not by the last one, is so by the others
-pub written-before : (roles : List Role) (given : List Changed) (k : ℕ) (one : Changed) (net : ℕ) → k < length given → one ≡ get_or given k one
-    → is_written roles (take (k + 1) given) net ≡ true → is_written roles (one ∷ []) net ≡ false → is_written roles (take k given) net ≡ true
-written-before roles given k one net small same is other = go (cases_Bool (is_written roles (take k given) net))
+-- what is written, but not by the others, is so by the first ones
+pub written-first : (roles : List Role) (xs ys : List Changed) (net : ℕ) → is_written roles (xs ++ ys) net ≡ true → is_written roles ys net ≡ false → is_written roles xs net ≡ true
+written-first roles xs ys net is other = go (cases_Bool (is_written roles xs net))
   where
-    go : (is_written roles (take k given) net ≡ true) ⊎ (is_written roles (take k given) net ≡ false) → is_written roles (take k given) net ≡ true
+    go : (is_written roles xs net ≡ true) ⊎ (is_written roles xs net ≡ false) → is_written roles xs net ≡ true
     go (inl h) = h
     go (inr h) =
-        let none : (is_written roles (take k given) net || is_written roles (one ∷ []) net) ≡ false = rw (h, other) refl in
-        absurd (false≢true (sym none ∙ sym (written-more roles given k one net small same) ∙ is))
+        let none : (is_written roles xs net || is_written roles ys net) ≡ false = rw (h, other) refl in
+        absurd (false≢true (sym none ∙ sym (written-both roles xs ys net) ∙ is))
+
+-- ---- words of nets that are written
+
+-- of a net that isn't given nothing is
+pub written-none : (roles : List Role) (one : Changed) (words : ℕ → ℕ → Level) (first : ℕ) → gives roles one.net ≡ false → AreWritten roles (one ∷ []) words words first
+written-none roles one words first none = record {
+  past = λ slot place below. refl;
+  others = λ slot place idle. refl;
+  written = λ level says slot place is. absurd (false≢true (sym none ∙ (written-one roles one slot is).0));
+}
+
+-- the word of a given net is
+pub written-its : (roles : List Role) (one : Changed) (old new : ℕ → ℕ → Level) (first : ℕ) → gives roles one.net ≡ true
+    → ((slot place : ℕ) → place < first → new slot place ≡ old slot place)
+    → ((slot place : ℕ) → (one.net ≡ slot → ⊥) → new slot place ≡ old slot place)
+    → ((place : ℕ) → first ≤ place → place < 64 → new one.net place ≡ level_at_place one.word place) → AreWritten roles (one ∷ []) old new first
+written-its roles one old new first gift past others here = record {
+  past = past;
+  others = λ slot place idle. others slot place (unwritten-one roles one slot gift idle);
+  written = λ level says slot place is late small.
+      let same : one.net ≡ slot = (written-one roles one slot is).1 in
+      subst (λ (n : ℕ). new n place ≡ level n place) same (here place late small ∙ says one (Contains-push [] one) gift place late small);
+}
+
+-- some words, and then others
+pub written-on : (roles : List Role) (xs ys : List Changed) (old mid new : ℕ → ℕ → Level) (first : ℕ) → AreWritten roles xs old mid first → AreWritten roles ys mid new first
+    → AreWritten roles (xs ++ ys) old new first
+written-on roles xs ys old mid new first g h = record {
+  past = λ slot place below. h.past slot place below ∙ g.past slot place below;
+  others = λ slot place idle.
+      let parts = or_parts (is_written roles xs slot) (is_written roles ys slot) (sym (written-both roles xs ys slot) ∙ idle) in
+      h.others slot place parts.1 ∙ g.others slot place parts.0;
+  written = λ level says slot place is late small. by level says slot place is late small (cases_Bool (is_written roles ys slot));
+}
+  where
+    by : (level : ℕ → ℕ → Level)
+        → ((one : Changed) → Contains (xs ++ ys) one → gives roles one.net ≡ true → (place : ℕ) → first ≤ place → place < 64 → level_at_place one.word place ≡ level one.net place)
+        → (slot place : ℕ) → is_written roles (xs ++ ys) slot ≡ true → first ≤ place → place < 64 → (is_written roles ys slot ≡ true) ⊎ (is_written roles ys slot ≡ false)
+        → new slot place ≡ level slot place
+    by level says slot place is late small (inl last) = h.written level (λ one among. says one (Contains-append_right xs ys one among)) slot place last late small
+    by level says slot place is late small (inr other) =
+        h.others slot place other
+        ∙ g.written level (λ one among. says one (Contains-append_left xs ys one among)) slot place (written-first roles xs ys slot is other) late small
 
 -- what is given of the design's nets is given of what the slots show
 pub given-traced : (design : Design) (roles : List Role) (lines : List Pin) (from to : ℕ) (given : List Changed) → AreRoles design roles → AreGiven (value design) roles from to given
@@ -118,14 +152,6 @@ still-from level from upto (suc tick) still begun late small = go (cases_lt (tic
     go (inr l) so_far = sym (still tick (omega arith) small) ∙ so_far l
 
 -- ---- words into which what is told and given was written
-
--- what was written of the given nets from a place on
-pub record AreWritten (roles : List Role) (given : List Changed) (told new : ℕ → ℕ → Level) (first : ℕ) : Type 0 where
-  pub past : (slot place : ℕ) → place < first → new slot place ≡ told slot place
-  pub others : (slot place : ℕ) → is_written roles given slot ≡ false → new slot place ≡ told slot place
-  pub written : (level : ℕ → ℕ → Level)
-      → ((one : Changed) → Contains given one → gives roles one.net ≡ true → (place : ℕ) → first ≤ place → place < 64 → level_at_place one.word place ≡ level one.net place)
-      → (slot place : ℕ) → is_written roles given slot ≡ true → first ≤ place → place < 64 → new slot place ≡ level slot place
 
 module _ (trace : ℕ → ℕ → Level) (cells : List Cell) (roles : List Role) (from ticks to first most : ℕ) (window : IsWindow from ticks to first most) (old moved told new : ℕ → ℕ → Level)
     (shows : Shows old trace (length cells) from) (moves : (slot place : ℕ) → place < 64 → moved slot place ≡ old slot (min (place + ticks) 63))

@@ -5,7 +5,7 @@ use Rattle.std.proofs.lemmas.Bool.{cases_Bool, cases_lt, false≢true}
 use Rattle.std.proofs.lemmas.Option.{slice_get-get_or, get_or_from_slice_get}
 use Rattle.std.proofs.lemmas.List.Elements.{All-contains, All-nil, All-cons, All-head, All-same, All-weaker, Contains-append_left, Contains-push, Contains-push_cases}
 use Rattle.cmb_wave.specs.Waveform.{same_level}
-use Rattle.cmb_wave.proofs.Waveforms.{same_level-true, same_level-same}
+use Rattle.cmb_wave.proofs.Lists.{same_level-same, test_of_same}
 use Rattle.cmb_calendar.specs.Calendars.{Calendar, day_begin}
 use Rattle.cmb_calendar.specs.declared.tell.Tell.{Tell}
 use Rattle.cmb_words.specs.declared.changed.Changed.{Changed}
@@ -42,7 +42,7 @@ module _ (word : Word) (mask first : ℕ) (below : (i : ℕ) → i < first → i
   change-set place late small differs =
       from place late small
       ∙ ⊎_elim
-      (λ same. absurd (differs (same_level-true _ _ same)))
+      (λ same. absurd (differs (test_of_same _ _ same)))
       (λ other. ap not other)
       (cases_Bool (same_level (level_at_place word (place - 1)) (level_at_place word place)))
 

@@ -1,11 +1,15 @@
 -- Words that move on to a later window.
-use Rattle.std.proofs.Common.{◌≡◌, ◌≢◌, ℕ, zero, suc, ◌+◌, ◌<◌, ◌≤◌, ◌⊎◌, inl, inr, Bool, false, List, [], ◌∷◌, min, length, refl, sym, subst, ◌∙◌, arith}
+use Rattle.std.proofs.Common.{◌≡◌, ◌≢◌, ℕ, zero, suc, ◌+◌, ◌<◌, ◌≤◌, ◌⊎◌, inl, inr, Bool, false, List, [], ◌∷◌, min, length, get_or, set, refl, sym, ap, subst, ◌∙◌, arith}
 use Rattle.std.proofs.lemmas.Bool.{cases_lt, cases_eq}
 use Rattle.cmb_wave.specs.declared.level.Level.{Level}
 use Rattle.cmb_wave.specs.declared.level.Level.TheVariants.{X}
 use Rattle.cmb_words.specs.declared.word.Word.{Word}
+use Rattle.cmb_words.specs.Word.{level_at_place}
+use Rattle.cmb_engine.specs.Bits.{has, HasNone}
+use Rattle.cmb_engine.specs.Cells.{IsSteadyFrom}
 use Rattle.cmb_engine.specs.Circuits.{AreQuiet}
 use Rattle.cmb_engine.specs.Words.{levels_of}
+use Rattle.cmb_engine.proofs.WordFacts.{levels_of-read, levels_of-set_same, levels_of-set_other}
 
 -- there is no such net
 pub levels_of-past : (words : List Word) (net place : ℕ) → length words ≤ net → levels_of words net place ≡ X
@@ -59,6 +63,34 @@ moved-step old now new ticks slot others here moved = record {
         subst (λ (n : ℕ). new n place ≡ old n (min (place + ticks) 63)) (sym e)
         (here place small ∙ moved.above slot (min (place + ticks) 63) (omega arith))
     go m place under small (inr k) = others m place k ∙ moved.below m place (omega (arith, under, k)) small
+
+-- a live slot more: it has another word
+module _ (now : List Word) (slot : ℕ) (word : Word) (inside : slot < length now) where
+  here : (place : ℕ) → levels_of (set now slot word) slot place ≡ level_at_place word place
+  here place = levels_of-set_same now slot word place inside
+
+  others : (m place : ℕ) → m ≢ slot → levels_of (set now slot word) m place ≡ levels_of now m place
+  others m place other = levels_of-set_other now slot m word place other
+
+  pub moved-next : (old : List Word) (live : List ℕ) (ticks start next : ℕ) (read : Word) → length now ≡ length old → start ≤ slot → next ≡ slot + 1 → read ≡ get_or now slot read
+      → ((place : ℕ) → place < 64 → level_at_place word place ≡ level_at_place read (min (place + ticks) 63)) → HasNone live start slot
+      → AreQuiet (levels_of now) (has live) (length old) → AreMoved (levels_of old) (levels_of now) ticks start → AreMoved (levels_of old) (levels_of (set now slot word)) ticks next
+  moved-next old live ticks start next read len later end is moves none quiet moved =
+      rw end
+      (moved-step (levels_of old) (levels_of now) (levels_of (set now slot word)) ticks slot others
+      (λ place small. here place ∙ moves place small ∙ sym (levels_of-read now slot read (min (place + ticks) 63) inside is))
+      (moved-passes (levels_of old) (levels_of now) (has live) (length old) ticks start slot later (omega (arith, inside, len)) none quiet moved))
+
+  -- it is live still, or has one level in all places
+  pub quiet-next : (before after : ℕ → Bool) (count : ℕ) → ((m : ℕ) → m ≢ slot → after m ≡ false → before m ≡ false) → (after slot ≡ false → IsSteadyFrom (level_at_place word) 1)
+      → AreQuiet (levels_of now) before count → AreQuiet (levels_of (set now slot word)) after count
+  quiet-next before after count lives steady quiet =
+      quiet-step (levels_of now) (levels_of (set now slot word)) before after count slot others lives
+      (λ none place small. here place ∙ first none place small (cases_lt place 1) ∙ sym (steady none 63 (omega arith) (omega arith)) ∙ sym (here 63)) quiet
+    where
+      first : after slot ≡ false → (place : ℕ) → place < 64 → (place < 1) ⊎ (1 ≤ place) → level_at_place word place ≡ level_at_place word 0
+      first none place small (inl l) = ap (level_at_place word) (omega arith)
+      first none place small (inr l) = steady none place l small
 
 -- all words have moved on
 pub moved-all : (old new : List Word) (ticks : ℕ) → length new ≡ length old → AreMoved (levels_of old) (levels_of new) ticks (length old)

@@ -1,11 +1,17 @@
 -- What a calendar has once many things are told, step by step.
-use Rattle.std.proofs.Common.{◌≡◌, ℕ, ◌+◌, ◌<◌, ◌⊎◌, inl, inr, List, [], ◌∷◌, length, get_or, take, sym, subst}
+use Rattle.std.proofs.Common.{◌≡◌, ℕ, ◌+◌, ◌<◌, ◌⊎◌, inl, inr, List, [], ◌∷◌, length, get_or, take, refl, sym, subst, ◌∙◌}
 use Rattle.std.specs.Prelude.{Contains}
 use Rattle.std.proofs.lemmas.List.{take_more}
 use Rattle.std.proofs.lemmas.List.Elements.{Contains-append_left, Contains-push, Contains-push_cases}
-use Rattle.cmb_calendar.specs.Calendars.{Calendar, Notes}
+use Rattle.cmb_calendar.specs.Calendars.{Calendar, Notes, SameDays}
 use Rattle.cmb_calendar.specs.declared.tell.Tell.{Tell}
 use Rattle.cmb_engine.specs.Lines.{NotesEach}
+
+pub days-same : (calendar : Calendar) → SameDays calendar calendar
+days-same calendar = record { width = refl; horizon = refl; day = refl }
+
+pub days-on : (old between new : Calendar) → SameDays old between → SameDays between new → SameDays old new
+days-on old between new g h = record { width = h.width ∙ g.width; horizon = h.horizon ∙ g.horizon; day = h.day ∙ g.day }
 
 -- nothing is told
 pub notes-none : (IsNew : Tell → Type 0) (calendar : Calendar) → ((tell : Tell) → IsNew tell → ⊥) → NotesEach IsNew calendar calendar

@@ -1,18 +1,22 @@
 -- What the calendar of an engine that begins has.
-use Rattle.std.proofs.Common.{◌≡◌, ◌⊎◌, inl, inr, ℕ, ◌+◌, ◌*◌, ◌<◌, ◌≤◌, List, [], length, ap, ◌∙◌, arith}
+use Rattle.std.proofs.Common.{◌≡◌, ◌⊎◌, inl, inr, ℕ, ◌+◌, ◌*◌, ◌<◌, ◌≤◌, List, [], length, sym, ap, subst, ◌∙◌, arith}
 use Rattle.std.specs.Prelude.{Contains}
-use Rattle.cmb_calendar.specs.Calendars.{Calendar, day_begin, day_end}
+use Rattle.cmb_calendar.specs.Calendars.{Calendar, SameDays, day_begin, day_end}
 use Rattle.cmb_calendar.specs.declared.tell.Tell.{Tell}
 use Rattle.cmb_wave.specs.declared.level.Level.{Level}
 use Rattle.cmb_design.specs.Design.{Design}
 use Rattle.cmb_design.specs.Exact.{nets_of}
+use Rattle.cmb_words.specs.declared.word.Word.{Word}
 use Rattle.cmb_engine.specs.Ahead.{TellsAhead}
 use Rattle.cmb_engine.specs.Cells.{Cell}
 use Rattle.cmb_engine.specs.Circuits.{Shows}
 use Rattle.cmb_engine.specs.Lines.{NotesEach}
 use Rattle.cmb_engine.specs.Starts.{IsOfInput, IsOfStart}
+use Rattle.cmb_engine.specs.States.{IsCircuit}
 use Rattle.cmb_engine.specs.Traces.{IsPlan, trace_of}
+use Rattle.cmb_engine.specs.Words.{levels_of}
 use Rattle.cmb_engine.specs.declared.cell.Pin.{Pin}
+use Rattle.cmb_engine.specs.declared.circuit.Circuit.{Circuit}
 use Rattle.cmb_engine.specs.declared.role.Role.{Role}
 use Rattle.cmb_engine.proofs.StartFacts.{starts-told}
 
@@ -34,15 +38,18 @@ narrower-plan design roles lines most width narrow cells some less plan = record
   wide = some;
 }
 
--- a calendar of the same days
-pub record HasDays (old new : Calendar) : Type 0 where
-  pub width : new.width ≡ old.width
-  pub horizon : new.horizon ≡ old.horizon
-  pub day : new.day ≡ old.day
+-- the words of a circuit's slots
+pub words-show : (design : Design) (circuit : Circuit) (words : List Word) (lines : List Pin) → IsCircuit design circuit → lines ≡ circuit.lines.items
+    → ((roles : List Role) → Shows (levels_of words) (trace_of design roles lines) (nets_of design + length lines) 1)
+    → Shows (levels_of words) (trace_of design circuit.wiring.roles.items circuit.lines.items) (length circuit.wiring.cells) 1
+words-show design circuit words lines is same shows =
+    let roles : List Role = circuit.wiring.roles.items in
+    subst (λ (n : ℕ). Shows (levels_of words) (trace_of design roles circuit.lines.items) n 1) (sym is.plan.count)
+    (subst (λ (ls : List Pin). Shows (levels_of words) (trace_of design roles ls) (nets_of design + length ls) 1) same (shows roles))
 
 module _ (design : Design) (roles : List Role) (lines : List Pin) (most width : ℕ) (cells : List Cell) (plan : IsPlan design roles lines most width cells) (words : ℕ → ℕ → Level)
     (shows : Shows words (trace_of design roles lines) (nets_of design + length lines) 1) (empty noted started : Calendar) (none : empty.tells ≡ []) (wide : empty.width ≡ width)
-    (ends : empty.horizon ≡ design.horizon) (zero_day : empty.day ≡ 0) (first : HasDays empty noted) (second : HasDays noted started)
+    (ends : empty.horizon ≡ design.horizon) (zero_day : empty.day ≡ 0) (first : SameDays empty noted) (second : SameDays noted started)
     (inputs : NotesEach (IsOfInput design roles) empty noted) (starts : NotesEach (IsOfStart words lines (nets_of design)) noted started) where
   day-zero : started.day ≡ 0
   day-zero = second.day ∙ first.day ∙ zero_day

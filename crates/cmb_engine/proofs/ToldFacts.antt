@@ -8,7 +8,7 @@ use Rattle.std.proofs.lemmas.List.Folds.{Any-from_list_any}
 use Rattle.std.proofs.lemmas.Option.{slice_get_cases, slice_get_within, get_or_from_slice_get}
 use Rattle.cmb_wave.specs.declared.level.Level.{Level}
 use Rattle.cmb_wave.specs.Waveform.{same_level}
-use Rattle.cmb_wave.proofs.Waveforms.{same_level-true, same_level-same}
+use Rattle.cmb_wave.proofs.Lists.{same_level-same, test_of_same}
 use Rattle.cmb_calendar.specs.Calendars.{Calendar, Takes, AreInOrder, day_begin, day_end}
 use Rattle.cmb_calendar.specs.declared.tell.Tell.{Tell}
 use Rattle.cmb_design.specs.Design.{Design}
@@ -222,7 +222,7 @@ module _ (design : Design) (roles : List Role) (lines : List Pin) (most width ho
                 ⊎ (same_level (level_at_place one.word (past + 64 - to - 1)) (level_at_place one.word (past + 64 - to)) ≡ false)
                 → IsTold (trace_of design roles lines) new.tells slot tick
             decide (inl e) =
-                steady (subst (λ (n : ℕ). level_in design roles n (past - 1) ≡ level_in design roles n past) of (sym there ∙ same_level-true _ _ e ∙ here))
+                steady (subst (λ (n : ℕ). level_in design roles n (past - 1) ≡ level_in design roles n past) of (sym there ∙ test_of_same _ _ e ∙ here))
             decide (inr d) = inr ((noted (tell_at tick slot (trace_of design roles lines slot tick))).1 (inr (
               record {
                 one = one;

@@ -31,10 +31,7 @@ pub(crate) fn mark_news(
         → IsSteadyFrom (levels_of words.now net) first ⊎ AreMarked (has marks.new) (slice_index_or readers.now net []) }
 {
     let mut walk = Walk::at(0);
-    'nets: while let Some(net) = live.next(&mut walk) {
-        if net >= words.len() {
-            break;
-        }
+    'nets: while let Some(net) = live.next_below(&mut walk, words.len()) {
         if !words[net].is_steady_from(first) {
             mark_all(marks, readers.of(net));
         }

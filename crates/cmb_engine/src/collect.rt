@@ -38,10 +38,7 @@ pub(crate) fn collect(
 {
     changed.clear();
     let mut walk = Walk::at(0);
-    'nets: while let Some(net) = live.next(&mut walk) {
-        if net >= nets {
-            break;
-        }
+    'nets: while let Some(net) = live.next_below(&mut walk, nets) {
         let word = words[net];
         if !word.is_steady_from(first) {
             changed.push(Changed {

@@ -4,7 +4,7 @@ ghost use Rattle.std.specs.Prelude.{◌≡◌, ◌+◌, ◌<◌, ◌≤◌, IfOk
 ghost use Rattle.cmb_design.specs.Exact.{nets_of};
 ghost use Rattle.cmb_design.specs.Value.{value};
 ghost use Rattle.cmb_engine.specs.Engines.{next_clock};
-ghost use Rattle.cmb_words.specs.Changes.{RisesWithin, Tells};
+ghost use Rattle.cmb_words.specs.Changes.{IsWindow, Tells};
 
 use crate::share::ShareEngine;
 use cmb_design::Design;
@@ -89,10 +89,8 @@ impl<'d> Engine<'d> {
         ensures design { IfOk result (λ engine. engine.design ≡ self.entry.design) }
         ensures width { IfOk result (λ engine. engine.width ≡ self.entry.width) }
         ensures clock { IfOk result (λ engine. engine.clock ≡ next_clock self.entry) }
-        ensures later { IfOk result (λ engine. self.entry.clock < engine.clock) }
-        ensures short { IfOk result (λ engine. engine.clock ≤ self.entry.clock + LONGEST_WINDOW) }
-        ensures within { IfOk result (λ engine. engine.clock ≤ self.entry.design.horizon) }
-        ensures nets { IfOk result (λ engine. RisesWithin 0 (nets_of self.entry.design) changed.new.items) }
+        ensures window { IfOk result (λ engine. IsWindow (nets_of self.entry.design) self.entry.design.horizon
+            self.entry.clock engine.clock changed.new.items) }
         ensures tells { IfOk result (λ engine. Tells (value self.entry.design) (nets_of self.entry.design)
             self.entry.clock engine.clock changed.new.items) }
     {

@@ -1,12 +1,10 @@
 //! What is given of the nets that others drive.
 
-ghost use Rattle.std.specs.Prelude.{◌≡◌, ℕ, ◌*◌, ◌<◌, ◌≤◌, true, false, [], ◌∷◌, All, Contains, length, slice_index_or};
-ghost use Rattle.cmb_wave.specs.declared.level.Level.{Level};
-ghost use Rattle.cmb_words.specs.declared.changed.Changed.{Changed};
+ghost use Rattle.std.specs.Prelude.{◌≡◌, ℕ, ◌*◌, ◌<◌, ◌≤◌, true, [], ◌∷◌, All, length, slice_index_or};
 ghost use Rattle.cmb_words.specs.Word.{level_at_place};
 ghost use Rattle.cmb_engine.specs.Bits.{has};
 ghost use Rattle.cmb_engine.specs.Cells.{AreBelow, AreMarked};
-ghost use Rattle.cmb_engine.specs.Gifts.{is_written};
+ghost use Rattle.cmb_engine.specs.Gifts.{is_written, AreWritten};
 ghost use Rattle.cmb_engine.specs.Roles.{gives};
 ghost use Rattle.cmb_engine.specs.Words.{levels_of, Writes};
 
@@ -60,14 +58,7 @@ fn give_word(
     requires room { length words.old ≤ 64 * length marks.old }
     requires live { length words.old ≤ 64 * length live.old }
     ensures writes { Writes words.old words.new live.old live.new marks.old marks.new }
-    ensures past { (slot place : ℕ) → place < first → levels_of words.new slot place ≡ levels_of words.old slot place }
-    ensures others { (slot place : ℕ) → is_written roles.now (one ∷ []) slot ≡ false
-        → levels_of words.new slot place ≡ levels_of words.old slot place }
-    ensures written { (level : ℕ → ℕ → Level)
-        → (gives roles.now one.net ≡ true
-        → (place : ℕ) → first ≤ place → place < 64 → level_at_place one.word place ≡ level one.net place)
-        → (slot place : ℕ) → is_written roles.now (one ∷ []) slot ≡ true → first ≤ place → place < 64
-        → levels_of words.new slot place ≡ level slot place }
+    ensures written { AreWritten roles.now (one ∷ []) (levels_of words.old) (levels_of words.new) first }
     ensures news { (slot : ℕ) → is_written roles.now (one ∷ []) slot ≡ true
         → AreMarked (has marks.new) (slice_index_or readers.now slot []) }
 {
@@ -96,14 +87,7 @@ pub(crate) fn write_given(
     requires room { length words.old ≤ 64 * length marks.old }
     requires live { length words.old ≤ 64 * length live.old }
     ensures writes { Writes words.old words.new live.old live.new marks.old marks.new }
-    ensures past { (slot place : ℕ) → place < first → levels_of words.new slot place ≡ levels_of words.old slot place }
-    ensures others { (slot place : ℕ) → is_written roles.now given.now slot ≡ false
-        → levels_of words.new slot place ≡ levels_of words.old slot place }
-    ensures written { (level : ℕ → ℕ → Level)
-        → ((one : Changed) → Contains given.now one → gives roles.now one.net ≡ true
-        → (place : ℕ) → first ≤ place → place < 64 → level_at_place one.word place ≡ level one.net place)
-        → (slot place : ℕ) → is_written roles.now given.now slot ≡ true → first ≤ place → place < 64
-        → levels_of words.new slot place ≡ level slot place }
+    ensures written { AreWritten roles.now given.now (levels_of words.old) (levels_of words.new) first }
     ensures news { (slot : ℕ) → is_written roles.now given.now slot ≡ true
         → AreMarked (has marks.new) (slice_index_or readers.now slot []) }
 {

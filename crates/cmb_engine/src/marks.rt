@@ -1,6 +1,6 @@
 //! The nets with news: a set of numbers, of which the next one is found quickly.
 
-ghost use Rattle.std.specs.Prelude.{◌≡◌, ℕ, ◌+◌, ◌*◌, ◌<◌, ◌||◌, ◌&&◌, ◌==◌, false, not, length, IfOk, MatchOption};
+ghost use Rattle.std.specs.Prelude.{◌≡◌, ℕ, ◌+◌, ◌*◌, ◌<◌, ◌≤◌, ◌||◌, ◌&&◌, ◌==◌, false, not, length, IfOk, MatchOption};
 ghost use Rattle.cmb_engine.specs.Bits.{has, HasNone, IsNext};
 ghost use Rattle.cmb_engine.specs.Walks.{walked};
 
@@ -73,5 +73,16 @@ impl Marks {
         let k = self.high.next_from(walk.word + 1)?;
         *walk = Walk::at(k);
         self.low.next_at(walk)
+    }
+
+    /// The same, where that number is below a bound.
+    #[inline]
+    pub(crate) fn next_below(&self, walk: &mut Walk, bound: usize) -> Option<usize>
+        requires { bound ≤ 64 * length self.now }
+        ensures { MatchOption result (HasNone self.now (walked walk.old) bound)
+            (λ found. IsNext self.now (walked walk.old) found × (walked walk.new ≡ found + 1) × (found < bound)) }
+    {
+        let found = self.next(walk)?;
+        if found < bound { Some(found) } else { None }
     }
 }

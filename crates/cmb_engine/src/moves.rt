@@ -24,10 +24,7 @@ pub(crate) fn move_on(words: &mut [Word], live: &mut Marks, ticks: u32)
     ensures quiet { AreQuiet (levels_of words.new) (has live.new) (length words.old) }
 {
     let mut walk = Walk::at(0);
-    'slots: while let Some(slot) = live.next(&mut walk) {
-        if slot >= words.len() {
-            break;
-        }
+    'slots: while let Some(slot) = live.next_below(&mut walk, words.len()) {
         let word = words[slot].advanced(ticks);
         words[slot] = word;
         if word.is_steady_from(1) {

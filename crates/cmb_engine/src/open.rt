@@ -1,9 +1,13 @@
 //! How an engine begins.
 
 ghost use Rattle.std.specs.Prelude.{◌≡◌, ℕ, ◌*◌, ◌^◌, ◌<◌, ◌≤◌, true, length, IfOk};
+ghost use Rattle.cmb_engine.specs.Ahead.{TellsAhead};
 ghost use Rattle.cmb_engine.specs.Bits.{has};
+ghost use Rattle.cmb_engine.specs.Circuits.{Shows};
 ghost use Rattle.cmb_engine.specs.Roles.{AreRoles};
 ghost use Rattle.cmb_engine.specs.States.{IsCircuit, IsState};
+ghost use Rattle.cmb_engine.specs.Traces.{trace_of};
+ghost use Rattle.cmb_engine.specs.Words.{levels_of};
 
 use crate::circuit::Circuit;
 use crate::flops::flops_of;
@@ -18,6 +22,7 @@ use crate::stimuli::{note_starts, note_stimuli};
 use crate::window::Wiring;
 use cmb_calendar::Calendar;
 use cmb_design::Design;
+use cmb_words::Word;
 use std::alloc::{AllocError, Global};
 
 /// The circuit of a design, of which each net has its role.
@@ -65,6 +70,27 @@ fn all_below(alloc: Global, count: usize) -> Result<Marks, AllocError>
     Ok(marks)
 }
 
+// What is told from tick 1 on of the slots of a circuit, where their words end before that tick.
+fn open_calendar(
+    alloc: Global,
+    design: &Design,
+    circuit: &Circuit,
+    words: &[Word],
+) -> Result<Calendar, AllocError>
+    requires circuit { IsCircuit design.now circuit.now }
+    requires count { length words.now ≡ length circuit.now.wiring.cells }
+    requires shows { Shows (levels_of words.now)
+        (trace_of design.now circuit.now.wiring.roles.items circuit.now.lines.items) (length circuit.now.wiring.cells) 1 }
+    ensures begun { 1 ≤ design.now.horizon }
+    ensures ahead { IfOk result (TellsAhead design.now circuit.now.wiring.roles.items circuit.now.lines.items
+        circuit.now.width circuit.now.wiring.cells 1) }
+{
+    let mut calendar = Calendar::open(alloc, circuit.width, design.horizon())?;
+    note_stimuli(design, circuit.wiring.roles.as_slice(), &mut calendar)?;
+    note_starts(words, &circuit.lines, design.netlist().len(), &mut calendar)?;
+    Ok(calendar)
+}
+
 /// The state of a design's engine of which tick 0 is known.
 pub(crate) fn open_state(
     alloc: Global,
@@ -76,16 +102,9 @@ pub(crate) fn open_state(
     ensures clock { IfOk result (λ state. state.clock ≡ 1) }
 {
     let words = start_words(alloc, design, &circuit.lines)?;
+    let calendar = open_calendar(alloc, design, circuit, &words)?;
     let live = all_below(alloc, words.len())?;
     let marks = Marks::new(alloc, words.len())?;
-    let mut calendar = Calendar::open(alloc, circuit.width, design.horizon())?;
-    note_stimuli(design, circuit.wiring.roles.as_slice(), &mut calendar)?;
-    note_starts(
-        &words,
-        &circuit.lines,
-        design.netlist().len(),
-        &mut calendar,
-    )?;
     Ok(State {
         words,
         live,

@@ -1,12 +1,12 @@
 //! Visits of nets with news.
 
-ghost use Rattle.std.specs.Prelude.{◌≡◌, ◌≢◌, ℕ, ◌+◌, ◌*◌, ◌<◌, ◌≤◌, true, false, [], All, length, slice_index};
+ghost use Rattle.std.specs.Prelude.{◌≡◌, ◌≢◌, ℕ, ◌+◌, ◌*◌, ◌<◌, ◌≤◌, true, [], All, length, slice_index};
 ghost use Rattle.std.specs.Prelude.{slice_index_or};
 ghost use Rattle.cmb_wave.specs.declared.level.Level.{Level};
 ghost use Rattle.cmb_engine.specs.Arrivals.{IsArrival};
 ghost use Rattle.cmb_engine.specs.Bits.{has};
 ghost use Rattle.cmb_engine.specs.Cells.{Told, IsMade, IsLawful, IsReady, IsTrueBelow, IsWired, AreReaders, AreSettled};
-ghost use Rattle.cmb_engine.specs.Cells.{cell_at, is_made, reads};
+ghost use Rattle.cmb_engine.specs.Cells.{cell_at};
 ghost use Rattle.cmb_engine.specs.Sweeps.{Sweeps};
 ghost use Rattle.cmb_engine.specs.Windows.{HasWindow};
 ghost use Rattle.cmb_engine.specs.Words.{levels_of};
@@ -31,19 +31,20 @@ pub(crate) fn mark_all(marks: &mut Marks, nets: &[u32])
     }
 }
 
-/// Makes the word of a net from a place on, and takes its mark away; where the word is another one than before, the
-/// nets that read it are marked. Whether it is another one.
+/// Makes the word of a net from a place on, and takes its mark away; where the word is another one than before, the net
+/// is put among the live ones, and those that read it are marked.
 #[inline]
 pub(crate) fn visit(
     cells: &Cells,
     readers: &Readers,
     words: &mut [Word],
     marks: &mut Marks,
+    live: &mut Marks,
     last: &mut Arrival,
     net: usize,
     to: u32,
     first: u32,
-) -> bool
+)
     requires last { IsArrival last.old to first }
     requires net { net < length words.old }
     requires cell { IsLawful (length words.old) first (slice_index_or cells.now net Told) }
@@ -52,40 +53,26 @@ pub(crate) fn visit(
     requires room { length words.old ≤ 64 * length marks.old }
     requires readers { AreReaders cells.now net (slice_index_or readers.now net []) }
     requires within { All (λ reader. reader < 64 * length marks.old) (slice_index_or readers.now net []) }
+    requires live { length words.old ≤ 64 * length live.old }
     requires window { HasWindow to first }
     ensures last { IsArrival last.new to first }
-    ensures room { length marks.new ≡ length marks.old }
     ensures others { (m place : ℕ) → m ≢ net → levels_of words.new m place ≡ levels_of words.old m place }
     ensures past { (place : ℕ) → place < first → levels_of words.new net place ≡ levels_of words.old net place }
-    ensures made { IsMade (levels_of words.old) (levels_of words.new net) to first (slice_index_or cells.now net Told) }
-    ensures told { is_made (slice_index_or cells.now net Told) ≡ false
-        → (place : ℕ) → levels_of words.new net place ≡ levels_of words.old net place }
-    ensures same { result ≡ false → (m place : ℕ) → levels_of words.new m place ≡ levels_of words.old m place }
-    ensures differs { ((place : ℕ) → place < 64 → levels_of words.new net place ≡ levels_of words.old net place)
-        → result ≡ false }
-    ensures marks { (m : ℕ) → has marks.new m ≡ false → m ≢ net → has marks.old m ≡ false }
-
-    // A net that reads this one and isn't marked sees the word that it saw.
-    ensures news { (m place : ℕ) → has marks.new m ≡ false
-        → reads (slice_index_or cells.now m Told) net ≡ true
-        → place < 64
-        → levels_of words.new net place ≡ levels_of words.old net place }
-
-    // So where every made net that isn't marked was settled, it is.
-    ensures settled { AreSettled (levels_of words.old) (has marks.old) (cell_at cells.now) to first
-        → AreSettled (levels_of words.new) (has marks.new) (cell_at cells.now) to first }
+    ensures made { IsMade (levels_of words.old) (levels_of words.new net) to first (cell_at cells.now net) }
+    ensures sweeps { Sweeps (cell_at cells.now) to first (levels_of words.old) (levels_of words.new)
+        marks.old marks.new live.old live.new }
 {
     marks.remove(net);
     let made = cells.word(net, words, last, to, first);
     if !made.differs_from(words[net], first) {
-        return false;
+        return;
     }
     words[net] = made;
+    live.insert(net);
     mark_all(marks, readers.of(net));
-    true
 }
 
-/// Visits the marked nets by rising number, each once, and puts those that get another word among the live ones.
+/// Visits the marked nets by rising number, each once.
 pub(crate) fn sweep(
     cells: &Cells,
     readers: &Readers,
@@ -111,13 +98,10 @@ pub(crate) fn sweep(
 {
     let mut last = any_arrival(to, first);
     let mut walk = Walk::at(0);
-    'nets: while let Some(net) = marks.next(&mut walk) {
-        if net >= words.len() {
-            break;
-        }
-        if visit(cells, readers, words, marks, &mut last, net, to, first) {
-            live.insert(net);
-        }
+    'nets: while let Some(net) = marks.next_below(&mut walk, words.len()) {
+        visit(
+            cells, readers, words, marks, live, &mut last, net, to, first,
+        );
     }
 }
 

@@ -3,8 +3,10 @@
 ghost use Rattle.std.specs.Prelude.{◌≡◌, ◌+◌, ◌<◌, ◌≤◌, IfOk, length};
 ghost use Rattle.cmb_design.specs.Exact.{nets_of};
 ghost use Rattle.cmb_design.specs.Value.{value};
+ghost use Rattle.cmb_engine.specs.Roles.{driven_of, AreOf};
 ghost use Rattle.cmb_engine.specs.Shares.{share_clock, IsDriven, IsGiven, TellsThose};
-ghost use Rattle.cmb_words.specs.Changes.{RisesWithin};
+ghost use Rattle.cmb_engine.specs.States.{IsCircuit};
+ghost use Rattle.cmb_words.specs.Changes.{IsWindow};
 
 use crate::circuit::Circuit;
 use crate::engine::LONGEST_WINDOW;
@@ -47,6 +49,32 @@ impl<'d> Model for ShareEngine<'d> {
 }
 
 impl<'d> ShareEngine<'d> {
+    // The engine of a circuit, of which tick 0 is known.
+    fn begin(
+        alloc: Global,
+        design: &'d Design,
+        circuit: Circuit,
+    ) -> Result<ShareEngine<'d>, AllocError>
+        requires circuit { IsCircuit design.now circuit }
+        requires roles { AreOf design.now (driven_of circuit.wiring.roles.items) circuit.wiring.roles.items }
+        ensures design { IfOk result (λ engine. engine.design ≡ design.entry.now) }
+        ensures driven { IfOk result (λ engine. engine.driven ≡ driven_of circuit.wiring.roles.items) }
+        ensures width { IfOk result (λ engine. engine.width ≡ circuit.width) }
+        ensures clock { IfOk result (λ engine. engine.clock ≡ 1) }
+    {
+        match open_state(alloc, design, &circuit) {
+            Ok(state) => Ok(ShareEngine {
+                design,
+                circuit,
+                state,
+            }),
+            Err(error) => {
+                drop(circuit);
+                Err(error)
+            }
+        }
+    }
+
     /// The engine of the nets that `driven` marks, of which tick 0 is known. Inputs among them have their stimuli.
     pub fn open(
         alloc: Global,
@@ -60,12 +88,7 @@ impl<'d> ShareEngine<'d> {
     {
         let roles = roles_of(alloc, design, driven)?;
         let circuit = open_circuit(alloc, design, roles)?;
-        let state = open_state(alloc, design, &circuit)?;
-        Ok(ShareEngine {
-            design,
-            circuit,
-            state,
-        })
+        ShareEngine::begin(alloc, design, circuit)
     }
 
     /// The engine begun anew, of which tick 0 is known, with windows of at most so many ticks. Engines that are to give
@@ -81,15 +104,11 @@ impl<'d> ShareEngine<'d> {
         let ShareEngine {
             design,
             circuit,
-            state: _,
-        } = self;
-        let circuit = circuit.narrowed(design, width);
-        let state = open_state(alloc, design, &circuit)?;
-        Ok(ShareEngine {
-            design,
-            circuit,
             state,
-        })
+        } = self;
+        drop(state);
+        let circuit = circuit.narrowed(design, width);
+        ShareEngine::begin(alloc, design, circuit)
     }
 
     /// The most ticks of a window. Windows end at the multiples of it, and the last one at the horizon.
@@ -126,10 +145,8 @@ impl<'d> ShareEngine<'d> {
         ensures driven { IfOk result (λ engine. engine.driven ≡ self.entry.driven) }
         ensures width { IfOk result (λ engine. engine.width ≡ self.entry.width) }
         ensures clock { IfOk result (λ engine. engine.clock ≡ share_clock self.entry) }
-        ensures later { IfOk result (λ engine. self.entry.clock < engine.clock) }
-        ensures short { IfOk result (λ engine. engine.clock ≤ self.entry.clock + LONGEST_WINDOW) }
-        ensures within { IfOk result (λ engine. engine.clock ≤ self.entry.design.horizon) }
-        ensures nets { IfOk result (λ engine. RisesWithin 0 (nets_of self.entry.design) changed.new.items) }
+        ensures window { IfOk result (λ engine. IsWindow (nets_of self.entry.design) self.entry.design.horizon
+            self.entry.clock engine.clock changed.new.items) }
         ensures tells { IfOk result (λ engine. TellsThose (IsDriven self.entry.driven) (value self.entry.design)
             self.entry.clock engine.clock changed.new.items) }
     {

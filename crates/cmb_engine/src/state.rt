@@ -3,7 +3,7 @@
 ghost use Rattle.std.specs.Prelude.{◌≡◌, ◌+◌, ◌<◌, ◌≤◌, IfOk, OnOk};
 ghost use Rattle.cmb_design.specs.Exact.{nets_of};
 ghost use Rattle.cmb_design.specs.Value.{value};
-ghost use Rattle.cmb_words.specs.Changes.{RisesWithin, Tells};
+ghost use Rattle.cmb_words.specs.Changes.{IsWindow, Tells};
 ghost use Rattle.cmb_engine.specs.Engines.{window_end};
 ghost use Rattle.cmb_engine.specs.Gifts.{AreGiven};
 ghost use Rattle.cmb_engine.specs.Roles.{level_in};
@@ -53,8 +53,8 @@ impl State {
         ensures state { IfOk result (λ state. IsState design.now circuit.now state) }
         ensures clock { IfOk result (λ state.
             state.clock ≡ window_end circuit.now.width design.now.horizon self.clock) }
-        ensures later { IfOk result (λ state. (self.clock < state.clock) × (state.clock ≤ self.clock + 63)) }
-        ensures nets { IfOk result (λ state. RisesWithin 0 (nets_of design.now) changed.new.items) }
+        ensures window { IfOk result (λ state. IsWindow (nets_of design.now) design.now.horizon
+            self.clock state.clock changed.new.items) }
         ensures tells { IfOk result (λ state. Tells
             (level_in design.now circuit.now.wiring.roles.items) (nets_of design.now)
             self.clock state.clock changed.new.items) }

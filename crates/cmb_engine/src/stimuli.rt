@@ -3,6 +3,7 @@
 ghost use Rattle.std.specs.Prelude.{◌≡◌, ◌+◌, ◌^◌, ◌<◌, true, All, OnOk, length};
 ghost use Rattle.cmb_bench.specs.Netlist.{driver_of};
 ghost use Rattle.cmb_bench.specs.declared.netlist.Driver.TheVariants.{Input};
+ghost use Rattle.cmb_calendar.specs.Calendars.{SameDays};
 ghost use Rattle.cmb_design.specs.Exact.{nets_of};
 ghost use Rattle.cmb_engine.specs.Lines.{NotesEach};
 ghost use Rattle.cmb_engine.specs.Roles.{drives};
@@ -24,9 +25,7 @@ fn note_stimulus(design: &Design, net: usize, calendar: &mut Calendar) -> Result
     requires few { nets_of design.now < 2 ^ 32 }
     requires day { calendar.old.day ≡ 0 }
     ensures notes { OnOk result (NotesEach (IsOfStimulus design.now net) calendar.old calendar.new) }
-    ensures width { calendar.new.width ≡ calendar.old.width }
-    ensures horizon { calendar.new.horizon ≡ calendar.old.horizon }
-    ensures day { calendar.new.day ≡ calendar.old.day }
+    ensures days { SameDays calendar.old calendar.new }
 {
     for change in design.stim_changes(net) {
         if change.tick > 0 {
@@ -60,9 +59,7 @@ pub(crate) fn note_stimuli(
 ) -> Result<(), AllocError>
     requires { calendar.old.day ≡ 0 }
     ensures notes { OnOk result (NotesEach (IsOfInput design.now roles.now) calendar.old calendar.new) }
-    ensures width { calendar.new.width ≡ calendar.old.width }
-    ensures horizon { calendar.new.horizon ≡ calendar.old.horizon }
-    ensures day { calendar.new.day ≡ calendar.old.day }
+    ensures days { SameDays calendar.old calendar.new }
 {
     for net in 0..design.netlist().len() {
         if is_driven_input(design, roles, net) {
@@ -84,9 +81,7 @@ pub(crate) fn note_starts(
     requires few { nets + length lines.now < 2 ^ 32 }
     requires day { calendar.old.day ≡ 0 }
     ensures notes { OnOk result (NotesEach (IsOfStart (levels_of words.now) lines.now nets) calendar.old calendar.new) }
-    ensures width { calendar.new.width ≡ calendar.old.width }
-    ensures horizon { calendar.new.horizon ≡ calendar.old.horizon }
-    ensures day { calendar.new.day ≡ calendar.old.day }
+    ensures days { SameDays calendar.old calendar.new }
 {
     for (number, line) in lines.iter().enumerate() {
         let level = words[line.net as usize].level(63);

@@ -1,11 +1,11 @@
 //! The text of a design from its beginning on, by a dump.
 
-ghost use Rattle.std.specs.Prelude.{◌≡◌, ℕ, ◌+◌, ◌<◌, ◌≤◌, ◌++◌, length, slice_index_or, IfOk, OnOk};
+ghost use Rattle.std.specs.Prelude.{◌≡◌, ℕ, ◌<◌, ◌++◌, length, slice_index_or, IfOk, OnOk};
 ghost use Rattle.cmb_wave.specs.declared.level.Level.TheVariants.{X};
 ghost use Rattle.cmb_design.specs.Exact.{nets_of};
 ghost use Rattle.cmb_design.specs.Value.{value};
 ghost use Rattle.cmb_stream.specs.Parts.{made_text};
-ghost use Rattle.cmb_words.specs.Changes.{RisesWithin, Tells};
+ghost use Rattle.cmb_words.specs.Changes.{IsWindow, Tells};
 
 use crate::kept::Kept;
 use cmb_design::Design;
@@ -54,11 +54,7 @@ pub fn first_text<'a>(alloc: Global, design: &'a Design) -> Result<(Dump<'a>, Ke
 
 /// The text of a window, by the nets that changed in it: where there are none, that costs nothing.
 pub fn tell_window(dump: &mut Dump<'_>, changed: &[Changed], upto: u32) -> Result<(), AllocError>
-    requires late { 1 ≤ dump.old.clock }
-    requires order { dump.old.clock < upto }
-    requires short { upto ≤ dump.old.clock + 63 }
-    requires within { upto ≤ dump.old.design.horizon }
-    requires nets { RisesWithin 0 (nets_of dump.old.design) changed.now }
+    requires window { IsWindow (nets_of dump.old.design) dump.old.design.horizon dump.old.clock upto changed.now }
     requires tells { Tells (value dump.old.design) (nets_of dump.old.design) dump.old.clock upto changed.now }
     ensures text { OnOk result (made_text dump.old.design upto
         ≡ made_text dump.old.design dump.old.clock ++ dump.new.text) }
@@ -79,11 +75,7 @@ pub fn keep_window(
     upto: u32,
     kept: &mut Kept<'_>,
 ) -> Result<(), AllocError>
-    requires late { 1 ≤ dump.old.clock }
-    requires order { dump.old.clock < upto }
-    requires short { upto ≤ dump.old.clock + 63 }
-    requires within { upto ≤ dump.old.design.horizon }
-    requires nets { RisesWithin 0 (nets_of dump.old.design) changed.now }
+    requires window { IsWindow (nets_of dump.old.design) dump.old.design.horizon dump.old.clock upto changed.now }
     requires tells { Tells (value dump.old.design) (nets_of dump.old.design) dump.old.clock upto changed.now }
     requires same { kept.old.design ≡ dump.old.design }
     requires here { kept.old.clock ≡ dump.old.clock }

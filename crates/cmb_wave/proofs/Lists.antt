@@ -1,8 +1,8 @@
 -- Facts on lists of changes.
-use Rattle.std.proofs.Common.{◌≡◌, ◌≢◌, ℕ, zero, suc, ◌+◌, ◌-◌, ◌<◌, ◌≤◌, Bool, true, false, List, [], ◌∷◌, ◌++◌, length, get_or, take, drop, refl, arith, nat_le, nat_lt, not, ◌&&◌, if◌then◌else◌, Some, None, sym, ap, ◌∙◌, ◌⊎◌, inl, inr}
+use Rattle.std.proofs.Common.{◌≡◌, ◌≢◌, ℕ, zero, suc, ◌+◌, ◌-◌, ◌<◌, ◌≤◌, true, false, List, [], ◌∷◌, ◌++◌, length, get_or, take, drop, refl, arith, nat_le, nat_lt, not, ◌&&◌, if◌then◌else◌, Some, None, sym, ap, ◌∙◌, ◌⊎◌, inl, inr}
 use Rattle.std.specs.List.Sorted.{IsNonDecreasingBy, IsPartitionPoint}
 use Rattle.std.proofs.lemmas.List.{take_all, length-drop, drop-drop, drop-append-le}
-use Rattle.std.proofs.lemmas.Bool.{le-leb, lt-leb, lt-ltb, le-ltb, cases_lt}
+use Rattle.std.proofs.lemmas.Bool.{le-leb, lt-leb, lt-ltb, le-ltb, and_parts, cases_Bool, cases_lt}
 use Rattle.std.proofs.lemmas.Bool.Decides.{nat_tests}
 use Rattle.cmb_wave.specs.declared.level.Level.{Level}
 use Rattle.cmb_wave.specs.declared.level.Change.{Change}
@@ -54,6 +54,9 @@ same_level_refl Zero = refl
 same_level_refl One = refl
 same_level_refl X = refl
 
+pub same_level-same : (a b : Level) → a ≡ b → same_level a b ≡ true
+same_level-same a b e = rw e (same_level_refl b)
+
 -- two levels that the test tells apart differ
 pub differs_of_test : (a b : Level) → same_level a b ≡ false → a ≢ b
 differs_of_test a b h e = let same : same_level a b ≡ true = rw e (same_level_refl b) in cc
@@ -62,27 +65,22 @@ pub test_of_same : (a b : Level) → same_level a b ≡ true → a ≡ b
 test_of_same Zero Zero h = refl
 test_of_same One One h = refl
 test_of_same X X h = refl
-test_of_same Zero One h = cc
-test_of_same Zero X h = cc
-test_of_same One Zero h = cc
-test_of_same One X h = cc
-test_of_same X Zero h = cc
-test_of_same X One h = cc
+test_of_same _ _ h = cc
 
 pub test_of_differs : (a b : Level) → a ≢ b → same_level a b ≡ false
-test_of_differs Zero Zero h = absurd (h refl)
-test_of_differs One One h = absurd (h refl)
-test_of_differs X X h = absurd (h refl)
-test_of_differs Zero One h = refl
-test_of_differs Zero X h = refl
-test_of_differs One Zero h = refl
-test_of_differs One X h = refl
-test_of_differs X Zero h = refl
-test_of_differs X One h = refl
+test_of_differs a b h = by (cases_Bool (same_level a b))
+  where
+    by : (same_level a b ≡ true) ⊎ (same_level a b ≡ false) → same_level a b ≡ false
+    by (inl e) = absurd (h (test_of_same a b e))
+    by (inr e) = e
 
-and_parts : (a b : Bool) → (a && b) ≡ true → (a ≡ true) × (b ≡ true)
-and_parts true b h = (refl, h)
-and_parts false b h = cc
+-- the order doesn't matter
+pub same_level-sym : (a b : Level) → same_level a b ≡ same_level b a
+same_level-sym a b = by (cases_Bool (same_level a b))
+  where
+    by : (same_level a b ≡ true) ⊎ (same_level a b ≡ false) → same_level a b ≡ same_level b a
+    by (inl e) = e ∙ sym (same_level-same b a (sym (test_of_same a b e)))
+    by (inr e) = e ∙ sym (test_of_differs b a (λ same. differs_of_test a b e (sym same)))
 
 -- the three tests of a piece's list give what a piece keeps
 trace_of_tests : (c : Change) (cs : List Change) (low high : ℕ) → rises (c ∷ cs) ≡ true → inside low high (c ∷ cs) ≡ true → differs (c ∷ cs) ≡ true → IsTrace c.level (suc c.tick) cs high

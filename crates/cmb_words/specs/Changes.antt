@@ -10,6 +10,14 @@ abbrev pub RisesWithin : ℕ → ℕ → List Changed → Type 0
 RisesWithin low nets [] = Unit {0}
 RisesWithin low nets (changed ∷ rest) = (low ≤ changed.net) × (changed.net < nets) × RisesWithin (suc changed.net) nets rest
 
+-- the nets that changed, of so many, at the ticks of [from, upto) in a run up to a horizon: a word has room for all of these and the tick before them
+pub record IsWindow (count horizon from upto : ℕ) (changed : List Changed) : Type 0 where
+  pub late : 1 ≤ from
+  pub order : from < upto
+  pub short : upto ≤ from + 63
+  pub within : upto ≤ horizon
+  pub nets : RisesWithin 0 count changed
+
 -- a net's word tells its levels at the ticks of [from, upto) and at the tick before them
 abbrev pub TellsNet : (ℕ → ℕ → Level) → ℕ → ℕ → Changed → Type 0
 TellsNet level from upto changed = (tick : ℕ) → from ≤ suc tick → tick < upto → level_at_place changed.word (tick + 64 - upto) ≡ level changed.net tick

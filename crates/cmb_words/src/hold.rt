@@ -1,7 +1,8 @@
 //! Flip-flops over words.
 
-ghost use Rattle.std.specs.Prelude.{◌≡◌, ℕ, ◌-◌, ◌%◌, ◌<◌, ◌≤◌, ◌==◌, ◌&&◌, nat_le, if◌then◌else◌};
+ghost use Rattle.std.specs.Prelude.{◌≡◌, ℕ, ◌-◌, ◌%◌, ◌<◌, ◌≤◌, ◌==◌, if◌then◌else◌};
 ghost use Rattle.cmb_words.specs.Bits.{level_in};
+ghost use Rattle.cmb_words.specs.Holds.{AreSamples, Holds};
 ghost use Rattle.cmb_words.specs.Word.{level_at_place};
 
 use crate::masks::every;
@@ -36,17 +37,8 @@ fn carried(seen: Word, arrival: u32, period: u32) -> Word
 // What `held` gives, whatever the levels are.
 #[inline]
 fn held_any(own: Word, input: Word, delay: u32, arrival: u32, period: u32, from: u32) -> Word
-    requires least { 1 ≤ from }
-    requires most { from < 64 }
-    requires delay { delay ≤ from }
-    requires arrival { from ≤ arrival }
-    requires period { 1 ≤ period }
-    ensures below { (i : ℕ) → i < from → level_at_place result i ≡ level_at_place own i }
-    ensures from { (i : ℕ) → from ≤ i → i < 64
-        → level_at_place result i
-        ≡ (if nat_le arrival i && ((i - arrival) % period == 0)
-        then level_at_place input (i - delay)
-        else level_at_place result (i - 1)) }
+    requires { AreSamples delay arrival period from }
+    ensures { Holds (level_at_place own) (level_at_place input) (level_at_place result) delay arrival period from }
 {
     let before = own.repeated_from(from);
     if arrival < 64 {
@@ -63,17 +55,8 @@ fn held_any(own: Word, input: Word, delay: u32, arrival: u32, period: u32, from:
 // What `held` gives where no level is x: the places that are 1.
 #[inline]
 fn held_known(own: u64, input: u64, delay: u32, arrival: u32, period: u32, from: u32) -> u64
-    requires least { 1 ≤ from }
-    requires most { from < 64 }
-    requires delay { delay ≤ from }
-    requires arrival { from ≤ arrival }
-    requires period { 1 ≤ period }
-    ensures below { (i : ℕ) → i < from → level_in result 0 i ≡ level_in own 0 i }
-    ensures from { (i : ℕ) → from ≤ i → i < 64
-        → level_in result 0 i
-        ≡ (if nat_le arrival i && ((i - arrival) % period == 0)
-        then level_in input 0 (i - delay)
-        else level_in result 0 (i - 1)) }
+    requires { AreSamples delay arrival period from }
+    ensures { Holds (level_in own 0) (level_in input 0) (level_in result 0) delay arrival period from }
 {
     let before = Word {
         ones: own,
@@ -93,17 +76,8 @@ fn held_known(own: u64, input: u64, delay: u32, arrival: u32, period: u32, from:
 /// Mostly no level is x, and then half of the work is spared.
 #[inline]
 pub fn held(own: Word, input: Word, delay: u32, arrival: u32, period: u32, from: u32) -> Word
-    requires least { 1 ≤ from }
-    requires most { from < 64 }
-    requires delay { delay ≤ from }
-    requires arrival { from ≤ arrival }
-    requires period { 1 ≤ period }
-    ensures below { (i : ℕ) → i < from → level_at_place result i ≡ level_at_place own i }
-    ensures from { (i : ℕ) → from ≤ i → i < 64
-        → level_at_place result i
-        ≡ (if nat_le arrival i && ((i - arrival) % period == 0)
-        then level_at_place input (i - delay)
-        else level_at_place result (i - 1)) }
+    requires { AreSamples delay arrival period from }
+    ensures { Holds (level_at_place own) (level_at_place input) (level_at_place result) delay arrival period from }
 {
     if own.unknown == 0 && input.unknown == 0 {
         Word {

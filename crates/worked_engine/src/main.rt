@@ -1,4 +1,5 @@
-//! The worked example of the engine and of the text that is made as it goes on: an inverter's run.
+//! The worked examples of the engine, of the text that is made as it goes on, and of that which a dump makes of words
+//! that were written by hand: an inverter's run.
 //!
 //! The input `a` is 0, and 1 from tick 5 on. The inverter's delay is one tick, so its output `y` is x at tick 0, 1 from
 //! tick 1 on and 0 from tick 6 on. The engine goes from tick 1 to the horizon, tick 10, in one window, and made narrow
@@ -9,8 +10,12 @@
 ghost use Rattle.std.specs.Prelude.{◌≡◌, IfOk, IfSome};
 ghost use Rattle.cmb_design.specs.Exact.{nets_of};
 
-use cmb_bench::read_bench;
-use cmb_design::{Design, Settings, read_clocks, read_delays, read_stimuli};
+mod example;
+mod windows;
+
+use crate::example::{A, HORIZON, Y, inverter};
+use crate::windows::text_by_windows;
+use cmb_design::Design;
 use cmb_engine::{Engine, start_level};
 use cmb_stream::{StreamFault, stream_text, write_stream};
 use cmb_vcd::{Limited, Room};
@@ -21,35 +26,8 @@ use std::alloc::{AllocError, Global};
 use std::io::Write;
 use std::process::ExitCode;
 
-const HORIZON: u32 = 10;
-
-const A: u16 = 0;
-
-const Y: u16 = 1;
-
 // The place of tick 0, where a window ends at the horizon.
 const START: u32 = 54;
-
-/// The inverter, where it was read as such.
-fn inverter(alloc: Global) -> Option<Design>
-    ensures nets { IfSome result (λ design. nets_of design ≡ 2) }
-    ensures horizon { IfSome result (λ design. design.horizon ≡ HORIZON) }
-{
-    let netlist = read_bench(alloc, b"INPUT(a)\nOUTPUT(y)\ny = NOT(a)\n").ok()?;
-    let delays = read_delays(alloc, b"").ok()?;
-    let stimuli = read_stimuli(alloc, b"tick,net,value\n0,a,0\n5,a,1\n").ok()?;
-    let clocks = read_clocks(alloc, b"").ok()?;
-    let settings = Settings {
-        horizon: HORIZON,
-        clock: None,
-        init: Level::X,
-    };
-    let design = Design::new(alloc, netlist, delays, stimuli, clocks, settings).ok()?;
-    if design.netlist().len() == 2 && design.horizon() == HORIZON {
-        return Some(design);
-    }
-    None
-}
 
 /// Whether a net changed in the window up to the horizon, and has these levels from tick 0 on.
 fn has_levels(changed: &Changed, net: u16, levels: &[Level]) -> bool {
@@ -202,12 +180,18 @@ fn told_text(alloc: Global, design: &Design) -> Option<Vec<u8>> {
     Some(text)
 }
 
-/// The text, where all that was tried answers as it should.
+/// The text, where all that was tried answers as it should, and words written by hand give the same text.
 fn text_of(alloc: Global) -> Option<Vec<u8>> {
     let design = inverter(alloc)?;
-    match is_simulated(alloc, &design) {
-        Ok(true) => told_text(alloc, &design),
-        _ => None,
+    let Ok(true) = is_simulated(alloc, &design) else {
+        return None;
+    };
+    let told = told_text(alloc, &design)?;
+    let by_hand = text_by_windows(alloc, &design)?;
+    if told.as_slice() == by_hand.as_slice() {
+        Some(told)
+    } else {
+        None
     }
 }
 

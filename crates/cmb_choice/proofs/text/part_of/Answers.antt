@@ -11,9 +11,9 @@ places_in-requires-clause-there c =
 pub returns-clause-among : goal.returns-clause-among
 returns-clause-among c =
     part-among c.args.design.now c.in_ok-part.part c.in_ok-nets.nets.items c.deref-2.result.now _ (rw c.deref.ensures.value at c.in_ok-part.ensures.part) c.deref-2.ensures.value
-    c.in_ok-places.ensures.rising c.in_ok-places.ensures.within (omega (arith, c.in_ok-places.ensures.count, c.requires.few))
+    c.in-Ok.ensures.rising c.in-Ok.ensures.within (omega (arith, c.in-Ok.ensures.count, c.requires.few))
 
 pub returns-clause-text : goal.returns-clause-text
 returns-clause-text c =
     part-text c.args.design.now c.in_ok-part.part c.in_ok-nets.nets.items c.args.chosen.now _ (rw c.deref.ensures.value at c.in_ok-part.ensures.part) (rw c.deref.ensures.value at c.in_ok-part.ensures.values)
-    (rw c.deref-2.ensures.value at c.in_ok-places.ensures.within) (rw c.deref-2.ensures.value at c.in_ok-places.ensures.back)
+    (rw c.deref-2.ensures.value at c.in-Ok.ensures.within) (rw c.deref-2.ensures.value at c.in-Ok.ensures.back)

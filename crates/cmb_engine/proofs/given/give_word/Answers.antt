@@ -1,5 +1,7 @@
 use Rattle.std.proofs.Common.{◌≡◌, ◌<◌, ℕ, true, List, length, get_or, sym, subst, ◌∙◌, arith}
 use Rattle.cmb_engine.specs.Roles.{gives}
+use Rattle.cmb_engine.specs.Words.{levels_of}
+use Rattle.cmb_engine.proofs.GivenFacts.{written-its, written-none}
 use Rattle.cmb_engine.proofs.WriteFacts.{writes-none}
 use Rattle.cmb_engine.proofs.given.give_word.Goals as goal
 
@@ -22,3 +24,11 @@ write_word-requires-clause-within c = λ k d small.
 
 pub returns-then-not-is_given-clause-writes : goal.returns-then-not-is_given-clause-writes
 returns-then-not-is_given-clause-writes c = writes-none c.args.words.now c.args.live.now c.args.marks.now
+
+pub returns-then-not-is_given-clause-written : goal.returns-then-not-is_given-clause-written
+returns-then-not-is_given-clause-written c = written-none c.args.roles.now c.args.one (levels_of c.args.words.now) c.args.first (sym c.is_given.ensures ∙ c.if-not-is_given.true)
+
+pub returns-clause-written : goal.returns-clause-written
+returns-clause-written c =
+    written-its c.args.roles.now c.args.one (levels_of c.args.words.now) (levels_of c.write_word.new.words) c.args.first (sym c.is_given.ensures ∙ c.if-not-is_given.false)
+    c.write_word.ensures.past c.write_word.ensures.others c.write_word.ensures.written

@@ -1,13 +1,13 @@
-use Rattle.std.proofs.Common.{◌≡◌, ◌+◌, ◌<◌, inl, inr, ℕ, true, ◌||◌, List, [], ◌∷◌, length, take, sym, ap, subst, ◌∙◌, arith}
-use Rattle.std.specs.Prelude.{Contains}
-use Rattle.std.proofs.lemmas.Bool.{cases_Bool, or_parts}
-use Rattle.std.proofs.lemmas.List.{take_all}
-use Rattle.std.proofs.lemmas.List.Elements.{Contains-get_or}
+use Rattle.std.proofs.Common.{◌≡◌, ◌+◌, inl, inr, ℕ, true, List, [], ◌∷◌, ◌++◌, get_or, take, sym, ap, subst, ◌∙◌, arith}
+use Rattle.std.proofs.lemmas.Bool.{cases_Bool}
+use Rattle.std.proofs.lemmas.List.{take_all, take_more}
 use Rattle.cmb_words.specs.declared.changed.Changed.{Changed}
-use Rattle.cmb_engine.specs.Gifts.{is_written}
+use Rattle.cmb_engine.specs.Bits.{has}
+use Rattle.cmb_engine.specs.Cells.{AreMarked}
+use Rattle.cmb_engine.specs.Gifts.{is_written, AreWritten}
 use Rattle.cmb_engine.specs.Words.{levels_of}
 use Rattle.cmb_engine.specs.declared.role.Role.{Role}
-use Rattle.cmb_engine.proofs.GivenFacts.{written-before, written-more}
+use Rattle.cmb_engine.proofs.GivenFacts.{written-first, written-on}
 use Rattle.cmb_engine.proofs.WriteFacts.{writes-on}
 use Rattle.cmb_engine.proofs.given.write_given.Goals as goal
 
@@ -17,42 +17,26 @@ loop-one-preserved c =
     let roles : List Role = c.args.roles.now in
     let k : ℕ = c.loop-one.one-index in
     let one : Changed = c.one-item.result in
-    let inside : k < length given = omega arith in
-    let among : Contains given one = subst (λ (x : Changed). Contains given x) (sym c.one-item.is) (Contains-get_or given k one inside) in
-    let more : (slot : ℕ) → is_written roles (take (k + 1) given) slot ≡ (is_written roles (take k given) slot || is_written roles (one ∷ []) slot) =
-    λ slot. written-more roles given k one slot inside c.one-item.is in
+    let so_far : List Changed = take k given in
+    let next : take (k + 1) given ≡ so_far ++ one ∷ [] = take_more given k one (omega arith) ∙ ap (λ (x : Changed). so_far ++ x ∷ []) (sym c.one-item.is) in
     record {
       writes = writes-on c.args.words.now c.loop-one.words c.give_word.new.words c.args.live.now c.loop-one.live c.give_word.new.live c.args.marks.now c.loop-one.marks c.give_word.new.marks
           c.loop-one.invariant.writes c.give_word.ensures.writes;
-      past = λ slot place below. c.give_word.ensures.past slot place below ∙ c.loop-one.invariant.past slot place below;
-      others = λ slot place idle.
-          let parts = or_parts (is_written roles (take k given) slot) (is_written roles (one ∷ []) slot) (sym (more slot) ∙ idle) in
-          c.give_word.ensures.others slot place parts.1 ∙ c.loop-one.invariant.others slot place parts.0;
-      written = λ level says slot place is late small.
-          let last : (h : is_written roles (one ∷ []) slot ≡ true) → levels_of c.give_word.new.words slot place ≡ level slot place =
-          λ h. c.give_word.ensures.written level (λ gift p l s. says one among gift p l s) slot place h late small in
-          elim (cases_Bool (is_written roles (one ∷ []) slot)) [
-            | inl h ↦ last h
-            | inr other ↦
-                c.give_word.ensures.others slot place other
-                ∙ c.loop-one.invariant.written level says slot place (written-before roles given k one slot inside c.one-item.is is other) late small
-          ];
-      news = λ slot is.
+      written = subst (λ (xs : List Changed). AreWritten roles xs (levels_of c.args.words.now) (levels_of c.give_word.new.words) c.args.first) (sym next)
+          (written-on roles so_far (one ∷ []) (levels_of c.args.words.now) (levels_of c.loop-one.words) (levels_of c.give_word.new.words) c.args.first
+          c.loop-one.invariant.written c.give_word.ensures.written);
+      news = subst (λ (xs : List Changed). (slot : ℕ) → is_written roles xs slot ≡ true → AreMarked (has c.give_word.new.marks) (get_or c.args.readers.now slot [])) (sym next)
+          (λ slot is.
           elim (cases_Bool (is_written roles (one ∷ []) slot)) [
             | inl h ↦ c.give_word.ensures.news slot h
-            | inr other ↦ λ j small. c.give_word.ensures.writes.marks _ (c.loop-one.invariant.news slot (written-before roles given k one slot inside c.one-item.is is other) j small)
-          ];
+            | inr other ↦ λ j small. c.give_word.ensures.writes.marks _ (c.loop-one.invariant.news slot (written-first roles so_far (one ∷ []) slot is other) j small)
+          ]);
     }
 
-pub returns-clause-others : goal.returns-clause-others
-returns-clause-others c = λ slot place idle.
-    c.loop-one.invariant.others slot place
-    (ap (λ (given : List Changed). is_written c.args.roles.now given slot) (take_all c.loop-one.one-index c.args.given.now (omega arith)) ∙ idle)
-
 pub returns-clause-written : goal.returns-clause-written
-returns-clause-written c = λ level says slot place is late small.
-    c.loop-one.invariant.written level says slot place
-    (ap (λ (given : List Changed). is_written c.args.roles.now given slot) (take_all c.loop-one.one-index c.args.given.now (omega arith)) ∙ is) late small
+returns-clause-written c =
+    subst (λ (xs : List Changed). AreWritten c.args.roles.now xs (levels_of c.args.words.now) (levels_of c.loop-one.words) c.args.first)
+    (take_all c.loop-one.one-index c.args.given.now (omega arith)) c.loop-one.invariant.written
 
 pub returns-clause-news : goal.returns-clause-news
 returns-clause-news c = λ slot is.

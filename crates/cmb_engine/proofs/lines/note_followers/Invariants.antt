@@ -1,11 +1,10 @@
-use Rattle.std.proofs.Common.{◌≡◌, take}
+use Rattle.std.proofs.Common.{take}
+use Rattle.cmb_calendar.specs.Calendars.{SameDays}
 use Rattle.cmb_engine.specs.Lines.{IsOfFollower, NotesEach}
 use Rattle.cmb_engine.proofs.lines.note_followers.Given as goal
 
 abbrev pub invariant-loop-number : goal.invariant-loop-number
 invariant-loop-number l = record {
   notes : NotesEach (IsOfFollower l.word (take l.number-index l.followers) l.lines l.nets l.to l.first) l.initial.calendar l.calendar;
-  width : l.calendar.width ≡ l.initial.calendar.width;
-  horizon : l.calendar.horizon ≡ l.initial.calendar.horizon;
-  day : l.calendar.day ≡ l.initial.calendar.day;
+  days : SameDays l.initial.calendar l.calendar;
 }

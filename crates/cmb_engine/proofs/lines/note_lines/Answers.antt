@@ -1,4 +1,4 @@
-use Rattle.std.proofs.Common.{◌≡◌, ◌+◌, ◌<◌, ℕ, [], List, length, get_or, take, subst, sym, ◌∙◌, refl, arith}
+use Rattle.std.proofs.Common.{◌≡◌, ◌+◌, ◌<◌, ℕ, [], List, length, get_or, take, subst, sym, arith}
 use Rattle.std.specs.Prelude.{◌↔◌, Contains}
 use Rattle.std.proofs.lemmas.List.{take_all}
 use Rattle.std.proofs.lemmas.List.Elements.{Contains-get_or}
@@ -6,7 +6,7 @@ use Rattle.std.proofs.lemmas.Option.{slice_get_within}
 use Rattle.cmb_words.specs.declared.changed.Changed.{Changed}
 use Rattle.cmb_engine.specs.Lines.{NotesEach, Follows, IsOfFollower, IsOfLine}
 use Rattle.cmb_engine.proofs.LineFacts.{line-none, line-parts, line-before, line-last, rises-within}
-use Rattle.cmb_engine.proofs.NoteFacts.{notes-none, notes-more}
+use Rattle.cmb_engine.proofs.NoteFacts.{days-on, days-same, notes-none, notes-more}
 use Rattle.cmb_engine.proofs.lines.note_lines.Goals as goal
 
 pub of-numbers-requires : goal.of-numbers-requires
@@ -30,9 +30,7 @@ pub loop-one-init : goal.loop-one-init
 loop-one-init c = record {
   notes = notes-none (IsOfLine [] c.args.lines.now (length c.args.followers.now) c.args.to c.args.first) c.args.calendar.now
       (line-none c.args.lines.now (length c.args.followers.now) c.args.to c.args.first);
-  width = refl;
-  horizon = refl;
-  day = refl;
+  days = days-same c.args.calendar.now;
 }
 
 pub loop-one-preserved : goal.loop-one-preserved
@@ -52,16 +50,14 @@ loop-one-preserved c =
           (IsOfLine (take i c.args.changed.now) c.args.lines.now nets c.args.to c.args.first)
           (IsOfFollower one.word c.of-numbers.result.now c.args.lines.now nets c.args.to c.args.first)
           (IsOfLine (take (i + 1) c.args.changed.now) c.args.lines.now nets c.args.to c.args.first)
-          c.args.calendar.now c.loop-one.calendar c.note_followers.new.calendar c.loop-one.invariant.horizon
+          c.args.calendar.now c.loop-one.calendar c.note_followers.new.calendar c.loop-one.invariant.days.horizon
           (line-parts c.args.changed.now i one small c.one-item.is c.args.lines.now nets c.args.to c.args.first c.of-numbers.result.now follow)
           (line-before c.args.changed.now i one small c.one-item.is c.args.lines.now nets c.args.to c.args.first c.of-numbers.result.now follow)
           (line-last c.args.changed.now i one small c.one-item.is c.args.lines.now nets c.args.to c.args.first c.of-numbers.result.now follow)
           c.loop-one.invariant.notes
           (subst (λ (n : ℕ). NotesEach (IsOfFollower one.word c.of-numbers.result.now c.args.lines.now n c.args.to c.args.first) c.loop-one.calendar c.note_followers.new.calendar)
           c.len-nets.ensures c.in_ok-note_followers.ensures.notes);
-      width = c.note_followers.ensures.width ∙ c.loop-one.invariant.width;
-      horizon = c.note_followers.ensures.horizon ∙ c.loop-one.invariant.horizon;
-      day = c.note_followers.ensures.day ∙ c.loop-one.invariant.day;
+      days = days-on c.args.calendar.now c.loop-one.calendar c.note_followers.new.calendar c.loop-one.invariant.days c.note_followers.ensures.days;
     }
 
 pub returns-clause-notes : goal.returns-clause-notes

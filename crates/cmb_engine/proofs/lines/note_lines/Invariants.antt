@@ -1,11 +1,10 @@
-use Rattle.std.proofs.Common.{◌≡◌, length, take}
+use Rattle.std.proofs.Common.{length, take}
+use Rattle.cmb_calendar.specs.Calendars.{SameDays}
 use Rattle.cmb_engine.specs.Lines.{IsOfLine, NotesEach}
 use Rattle.cmb_engine.proofs.lines.note_lines.Given as goal
 
 abbrev pub invariant-loop-one : goal.invariant-loop-one
 invariant-loop-one l = record {
   notes : NotesEach (IsOfLine (take l.one-index l.changed) l.lines (length l.followers) l.to l.first) l.initial.calendar l.calendar;
-  width : l.calendar.width ≡ l.initial.calendar.width;
-  horizon : l.calendar.horizon ≡ l.initial.calendar.horizon;
-  day : l.calendar.day ≡ l.initial.calendar.day;
+  days : SameDays l.initial.calendar l.calendar;
 }

@@ -1,4 +1,5 @@
-use Rattle.std.proofs.Common.{◌≡◌, ◌<◌}
+use Rattle.std.proofs.Common.{◌<◌}
+use Rattle.cmb_calendar.specs.Calendars.{SameDays}
 use Rattle.cmb_engine.specs.Lines.{NotesEach}
 use Rattle.cmb_engine.specs.Starts.{IsOfStart}
 use Rattle.cmb_engine.specs.Words.{levels_of}
@@ -7,7 +8,5 @@ use Rattle.cmb_engine.proofs.stimuli.note_starts.Given as goal
 abbrev pub invariant-loop-number : goal.invariant-loop-number
 invariant-loop-number l = record {
   notes : NotesEach (λ tell. (start : IsOfStart (levels_of l.words) l.lines l.nets tell) × (start.number < l.number)) l.initial.calendar l.calendar;
-  width : l.calendar.width ≡ l.initial.calendar.width;
-  horizon : l.calendar.horizon ≡ l.initial.calendar.horizon;
-  day : l.calendar.day ≡ l.initial.calendar.day;
+  days : SameDays l.initial.calendar l.calendar;
 }

@@ -1,4 +1,5 @@
-use Rattle.std.proofs.Common.{◌≡◌, ◌<◌}
+use Rattle.std.proofs.Common.{◌<◌}
+use Rattle.cmb_calendar.specs.Calendars.{SameDays}
 use Rattle.cmb_engine.specs.Lines.{NotesEach}
 use Rattle.cmb_engine.specs.Starts.{IsOfInput}
 use Rattle.cmb_engine.proofs.stimuli.note_stimuli.Given as goal
@@ -6,7 +7,5 @@ use Rattle.cmb_engine.proofs.stimuli.note_stimuli.Given as goal
 abbrev pub invariant-loop-net : goal.invariant-loop-net
 invariant-loop-net l = record {
   notes : NotesEach (λ tell. IsOfInput l.design l.roles tell × (tell.slot < l.net)) l.initial.calendar l.calendar;
-  width : l.calendar.width ≡ l.initial.calendar.width;
-  horizon : l.calendar.horizon ≡ l.initial.calendar.horizon;
-  day : l.calendar.day ≡ l.initial.calendar.day;
+  days : SameDays l.initial.calendar l.calendar;
 }

@@ -1,9 +1,10 @@
-use Rattle.std.proofs.Common.{◌≡◌, ◌+◌, take, subst, sym, ap, ◌∙◌, arith, List}
+use Rattle.std.proofs.Common.{◌≡◌, ◌+◌, take, subst, sym, ◌∙◌, arith, List}
 use Rattle.std.proofs.lemmas.List.{take_all}
 use Rattle.cmb_wave.specs.declared.level.Change.{Change}
 use Rattle.cmb_wave.specs.declared.level.Level.TheVariants.{Zero}
-use Rattle.cmb_calendar.specs.Calendars.{Calendar}
+use Rattle.cmb_calendar.specs.Calendars.{Calendar, SameDays}
 use Rattle.cmb_engine.specs.Lines.{NotesEach}
+use Rattle.cmb_engine.proofs.NoteFacts.{days-on}
 use Rattle.cmb_engine.proofs.StimulusFacts.{IsOfChanges, changes-noted, changes-passed, changes-are_stimulus}
 use Rattle.cmb_engine.proofs.stimuli.note_stimulus.Goals as goal
 use Rattle.cmb_engine.proofs.stimuli.note_stimulus.Goals.{then-change-gt0+in_ok-note, else-change-gt0}
@@ -19,19 +20,15 @@ loop-change-preserved c =
     elim c.if-change-gt0.branch [
       | then-change-gt0+in_ok-note w ↦ record {
         notes = subst (λ (calendar : Calendar). NotesEach (IsOfChanges (take (c.loop-change.change-index + 1) changes) c.args.net) old calendar) (sym w.calendar-is)
-            (changes-noted changes c.loop-change.change-index none c.args.net c.loop-change-test.true old c.loop-change.calendar w.note.new.self c.loop-change.invariant.horizon
+            (changes-noted changes c.loop-change.change-index none c.args.net c.loop-change-test.true old c.loop-change.calendar w.note.new.self c.loop-change.invariant.days.horizon
             c.loop-change.invariant.notes w.if-change-gt0.true w.in_ok-note.ensures.notes);
-        width = ap (λ (calendar : Calendar). calendar.width) w.calendar-is ∙ w.note.ensures.width ∙ c.loop-change.invariant.width;
-        horizon = ap (λ (calendar : Calendar). calendar.horizon) w.calendar-is ∙ w.note.ensures.horizon ∙ c.loop-change.invariant.horizon;
-        day = ap (λ (calendar : Calendar). calendar.day) w.calendar-is ∙ w.note.ensures.day ∙ c.loop-change.invariant.day;
+        days = subst (λ (calendar : Calendar). SameDays old calendar) (sym w.calendar-is) (days-on old c.loop-change.calendar w.note.new.self c.loop-change.invariant.days w.note.ensures.days);
       }
       | else-change-gt0 w ↦ record {
         notes = subst (λ (calendar : Calendar). NotesEach (IsOfChanges (take (c.loop-change.change-index + 1) changes) c.args.net) old calendar) (sym w.calendar-is)
-            (changes-passed changes c.loop-change.change-index none c.args.net c.loop-change-test.true old c.loop-change.calendar c.loop-change.calendar c.loop-change.invariant.horizon
+            (changes-passed changes c.loop-change.change-index none c.args.net c.loop-change-test.true old c.loop-change.calendar c.loop-change.calendar c.loop-change.invariant.days.horizon
             c.loop-change.invariant.notes (omega (arith, w.if-change-gt0.false)));
-        width = ap (λ (calendar : Calendar). calendar.width) w.calendar-is ∙ c.loop-change.invariant.width;
-        horizon = ap (λ (calendar : Calendar). calendar.horizon) w.calendar-is ∙ c.loop-change.invariant.horizon;
-        day = ap (λ (calendar : Calendar). calendar.day) w.calendar-is ∙ c.loop-change.invariant.day;
+        days = subst (λ (calendar : Calendar). SameDays old calendar) (sym w.calendar-is) c.loop-change.invariant.days;
       }
     ]
 

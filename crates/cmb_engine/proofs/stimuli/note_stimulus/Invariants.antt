@@ -1,4 +1,5 @@
-use Rattle.std.proofs.Common.{◌≡◌, take}
+use Rattle.std.proofs.Common.{take}
+use Rattle.cmb_calendar.specs.Calendars.{SameDays}
 use Rattle.cmb_engine.specs.Lines.{NotesEach}
 use Rattle.cmb_engine.proofs.StimulusFacts.{IsOfChanges}
 use Rattle.cmb_engine.proofs.stimuli.note_stimulus.Given as goal
@@ -6,7 +7,5 @@ use Rattle.cmb_engine.proofs.stimuli.note_stimulus.Given as goal
 abbrev pub invariant-loop-change : goal.invariant-loop-change
 invariant-loop-change l = record {
   notes : NotesEach (IsOfChanges (take l.change-index l.change-items) l.net) l.initial.calendar l.calendar;
-  width : l.calendar.width ≡ l.initial.calendar.width;
-  horizon : l.calendar.horizon ≡ l.initial.calendar.horizon;
-  day : l.calendar.day ≡ l.initial.calendar.day;
+  days : SameDays l.initial.calendar l.calendar;
 }

@@ -3,13 +3,13 @@ use Rattle.std.specs.Prelude.{All}
 use Rattle.cmb_engine.specs.Bits.{has}
 use Rattle.cmb_engine.specs.Cells.{Cell, IsPace, IsSteadyFrom, AreMarked, cell_at}
 use Rattle.cmb_engine.specs.Circuits.{IsInGroup, Shows}
-use Rattle.cmb_engine.specs.Gifts.{is_written}
+use Rattle.cmb_engine.specs.Gifts.{is_written, AreWritten}
 use Rattle.cmb_engine.specs.Roles.{AreToldNets, gives}
 use Rattle.cmb_engine.specs.Tells.{told_level, AreOfWindow}
 use Rattle.cmb_engine.specs.Words.{levels_of}
 use Rattle.cmb_engine.specs.declared.group.Group.{Group}
 use Rattle.cmb_engine.specs.declared.role.Role.{Role}
-use Rattle.cmb_engine.proofs.GivenFacts.{AreWritten, made-kept, unmarked-kept, written-true}
+use Rattle.cmb_engine.proofs.GivenFacts.{made-kept, unmarked-kept, written-true}
 use Rattle.cmb_engine.proofs.GroupFacts.{arrives-flop, groups-inside, groups-paced}
 use Rattle.cmb_engine.proofs.TraceFacts.{made-inside}
 use Rattle.cmb_engine.proofs.WindowFacts.{IsBegun, IsWindow, marked-kept, window-wired, window-shows}
@@ -65,7 +65,7 @@ returns-clause-shows c = λ trace meets shows right given slot place inside smal
     λ s p l. c.write_told.ensures.words s p (omega (arith, l, c.requires.nets, c.move_on.ensures.len)) in
     let writes : AreWritten roles c.args.given.now (levels_of c.write_told.new.words) (levels_of c.write_given.new.words) (64 - c.args.ticks) =
     subst (λ (rs : List Role). AreWritten rs c.args.given.now (levels_of c.write_told.new.words) (levels_of c.write_given.new.words) (64 - c.args.ticks)) (sym same_roles)
-    (record { past = c.write_given.ensures.past; others = c.write_given.ensures.others; written = c.write_given.ensures.written }) in
+    c.write_given.ensures.written in
     let given_news : (s : ℕ) → is_written roles c.args.given.now s ≡ true → AreMarked (has c.write_given.new.marks) (get_or lists s []) =
     subst (λ (rs : List Role). (s : ℕ) → is_written rs c.args.given.now s ≡ true → AreMarked (has c.write_given.new.marks) (get_or lists s [])) (sym same_roles) c.write_given.ensures.news in
     let begun : IsBegun trace cells lists c.args.wiring.now.most (levels_of c.move_on.new.words) (levels_of c.write_given.new.words)

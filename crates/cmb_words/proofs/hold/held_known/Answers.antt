@@ -27,10 +27,11 @@ module _ (c : After-held_any) where
   same : (i : ℕ) → i < 64 → level_in c.held_any.result.ones 0 i ≡ level_in c.held_any.result.ones c.held_any.result.unknown i
   same i small = level-known c.held_any.result.ones c.held_any.result.unknown i (c.held_any.result.apart i small) (known i small)
 
-pub returns-clause-below : goal.returns-clause-below
-returns-clause-below c i l = same c i (omega (arith, l, c.requires.most)) ∙ c.held_any.ensures.below i l
-
-pub returns-clause-from : goal.returns-clause-from
-returns-clause-from c i l small =
-    same c i small ∙ c.held_any.ensures.from i l small
-    ∙ ap (λ level. if nat_le c.args.arrival i && ((i - c.args.arrival) % c.args.period == 0) then level_in c.args.input 0 (i - c.args.delay) else level) (sym (same c (i - 1) (omega (arith, small))))
+pub returns : goal.returns
+returns c = record {
+  below = λ i l. same c i (omega (arith, l, c.requires.most)) ∙ c.held_any.ensures.below i l;
+  from = λ i l small.
+      same c i small ∙ c.held_any.ensures.from i l small
+      ∙ ap (λ level. if nat_le c.args.arrival i && ((i - c.args.arrival) % c.args.period == 0) then level_in c.args.input 0 (i - c.args.delay) else level)
+      (sym (same c (i - 1) (omega (arith, small))));
+}

@@ -14,11 +14,11 @@ returns-clause-text c =
     let upto = c.clock.result in
     let Shown : ℕ → List ℕ = shown_text inside.design inside.nets in
     let Adds : Run → Type 0 = λ r. (front : List ℕ) → front ++ r.text ≡ shown_text r.design r.nets r.clock → front ++ text ≡ shown_text r.design r.nets now in
-    let told = tells-as _ inside.design _ _ inside.clock _ upto _ c.deref.result.now c.self.invariant.engaged c.self.invariant.dumped c.self.invariant.timed c.clock.ensures.value c.deref.ensures.value c.in_ok-engine.ensures.tells in
-    let went = sym c.and.ensures ∙ c.in_ok-and.was in
-    let shown = both-ok c.window-told.result c.extend_from_slice.result c.in_ok-and.field-0 (Shown upto ≡ Shown inside.clock ++ c.window-told.new.self.text) went
+    let told = tells-as _ inside.design _ _ inside.clock _ upto _ c.deref.result.now c.self.invariant.engaged c.self.invariant.dumped c.self.invariant.timed c.clock.ensures.value c.deref.ensures.value c.in-Ok.ensures.tells in
+    let went = sym c.and.ensures ∙ c.in-Ok-and.is in
+    let shown = both-ok c.window-told.result c.extend_from_slice.result c.in-Ok-and.field-0 (Shown upto ≡ Shown inside.clock ++ c.window-told.new.self.text) went
     (c.window-told.ensures.text (value inside.design) told) in
-    let timed = both-ok c.window-told.result c.extend_from_slice.result c.in_ok-and.field-0 (now ≡ upto) went c.window-told.ensures.clock in
+    let timed = both-ok c.window-told.result c.extend_from_slice.result c.in-Ok-and.field-0 (now ≡ upto) went c.window-told.ensures.clock in
     let more : text ≡ old ++ c.text.result.now =
     c.extend_from_slice.ensures.items ∙ ap (λ (b : Bool). if b then old ++ c.text.result.now else old) (ap is_ok shown.1) in
     subst Adds c.self.view_is (λ front is.

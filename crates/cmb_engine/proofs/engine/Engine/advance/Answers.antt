@@ -16,4 +16,4 @@ invariant_of-result c = drives-on c.self.inside.share c.in_ok-share.share c.in_o
 pub returns-clause-tells : goal.returns-clause-tells
 returns-clause-tells c =
     subst (λ (e : Engine). Tells (value e.design) (nets_of e.design) e.clock c.in_ok-share.share.clock c.advance.new.changed.items) c.self.view_is
-    (all-told c.self.inside.share c.self.inside.share.clock c.in_ok-share.share.clock c.advance.new.changed.items c.self.invariant c.in_ok-share.ensures.nets c.in_ok-share.ensures.tells)
+    (all-told c.self.inside.share c.self.inside.share.clock c.in_ok-share.share.clock c.advance.new.changed.items c.self.invariant c.in_ok-share.ensures.window.nets c.in_ok-share.ensures.tells)

@@ -107,7 +107,7 @@ returns-clause-state c =
           (subst (λ (n : ℕ). AreQuiet (levels_of c.go_on.new.words) (has c.go_on.new.live) n) (count c) c.go_on.ensures.quiet);
       ahead = next-ahead c.args.design.now c.args.circuit.now c.args.self c.requires.circuit c.requires.state c.take.new.self c.take.new.taken.items c.next_day-to.result
           c.requires.below c.next_day-to.ensures c.in_ok-take.ensures.takes c.go_on.new.words (shows c) c.collect.new.changed.items (rises c) (right c) (others c)
-          c.note_lines.new.calendar (noted c) c.note_lines.ensures.width c.note_lines.ensures.horizon c.note_lines.ensures.day;
+          c.note_lines.new.calendar (noted c) c.note_lines.ensures.days.width c.note_lines.ensures.days.horizon c.note_lines.ensures.days.day;
       begun = omega (
         arith,
         c.requires.state.begun,

@@ -1,49 +1,18 @@
-//! The worked example of a dump: the text of an inverter's run, window by window.
+//! The worked example of a dump: the text of the inverter's run, window by window.
 //!
-//! The input `a` is 0, and 1 from tick 5 on. The inverter's delay is one tick, so its output `y` is x at tick 0, 1 from
-//! tick 1 on and 0 from tick 6 on. The words say so by hand: where a window ends at a tick, that tick would stand at
-//! place 64, so the tick before it stands at place 63, and so on downwards. The stored text is that of the example
-//! `inverter`, and comes out the same whether the run is cut at tick 5 or where nothing happens.
-#![tactic(auto)]
+//! Words say by hand what the inverter does: where a window ends at a tick, that tick would stand at place 64, so the
+//! tick before it stands at place 63, and so on downwards. The text comes out the same whether the run is cut at tick 5
+//! or where nothing happens.
 
 ghost use Rattle.std.specs.Prelude.{◌≡◌, ◌<◌, IfSome};
 ghost use Rattle.cmb_design.specs.Exact.{nets_of};
 
-use cmb_bench::read_bench;
-use cmb_design::{Design, Settings, read_clocks, read_delays, read_stimuli};
+use crate::example::{A, HORIZON, Y};
+use cmb_design::Design;
 use cmb_dump::Dump;
 use cmb_wave::Level;
 use cmb_words::{Changed, Word};
 use std::alloc::Global;
-use std::io::Write;
-use std::process::ExitCode;
-
-const HORIZON: u32 = 10;
-
-const A: u16 = 0;
-
-const Y: u16 = 1;
-
-/// The inverter, where it was read as such.
-fn inverter(alloc: Global) -> Option<Design>
-    ensures nets { IfSome result (λ design. nets_of design ≡ 2) }
-    ensures horizon { IfSome result (λ design. design.horizon ≡ HORIZON) }
-{
-    let netlist = read_bench(alloc, b"INPUT(a)\nOUTPUT(y)\ny = NOT(a)\n").ok()?;
-    let delays = read_delays(alloc, b"").ok()?;
-    let stimuli = read_stimuli(alloc, b"tick,net,value\n0,a,0\n5,a,1\n").ok()?;
-    let clocks = read_clocks(alloc, b"").ok()?;
-    let settings = Settings {
-        horizon: HORIZON,
-        clock: None,
-        init: Level::X,
-    };
-    let design = Design::new(alloc, netlist, delays, stimuli, clocks, settings).ok()?;
-    if design.netlist().len() == 2 && design.horizon() == HORIZON {
-        return Some(design);
-    }
-    None
-}
 
 /// A net whose level is another from a place on.
 fn turned(net: u16, before: Level, place: u32, after: Level) -> Changed
@@ -103,25 +72,17 @@ fn with_rests(alloc: Global, design: &Design, text: &mut Vec<u8>) -> Option<()>
 }
 
 /// The text, where both ways give the same one.
-fn text_of(alloc: Global) -> Option<Vec<u8>> {
-    let design = inverter(alloc)?;
+pub fn text_by_windows(alloc: Global, design: &Design) -> Option<Vec<u8>>
+    requires nets { nets_of design.now ≡ 2 }
+    requires horizon { design.now.horizon ≡ HORIZON }
+{
     let mut text = Vec::new(alloc);
-    in_two(alloc, &design, &mut text)?;
+    in_two(alloc, design, &mut text)?;
     let mut other = Vec::new(alloc);
-    with_rests(alloc, &design, &mut other)?;
+    with_rests(alloc, design, &mut other)?;
     if text.as_slice() == other.as_slice() {
         Some(text)
     } else {
         None
-    }
-}
-
-fn main(rt: HostRuntime) -> ExitCode {
-    let Some(text) = text_of(rt.alloc()) else {
-        return ExitCode::from(1);
-    };
-    match rt.stdout().write_all(&text) {
-        Ok(()) => ExitCode::SUCCESS,
-        Err(_) => ExitCode::from(2),
     }
 }
