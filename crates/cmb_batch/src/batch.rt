@@ -7,7 +7,7 @@ ghost use Rattle.cmb_design.specs.Exact.{nets_of};
 ghost use Rattle.cmb_design.specs.Value.{value};
 ghost use Rattle.cmb_batch.specs.Makers.{HasWorked, IsNextOf};
 ghost use Rattle.cmb_batch.specs.Windows.{AreDays, AreMade, IsUnmade, clock_at, last_of};
-ghost use Rattle.cmb_words.specs.Changes.{RisesWithin, Tells};
+ghost use Rattle.cmb_words.specs.Changes.{IsWindow, Tells};
 
 use crate::maker::ShareMaker;
 use crate::window::Window;
@@ -193,11 +193,8 @@ impl<'a> Batch<'a> {
     pub fn changes(&self, place: usize) -> &[Changed]
         requires place { suc place < length self.now.clocks }
         requires made { All (λ owner. owner < self.now.made) self.now.owners }
-        ensures late { 1 ≤ clock_at self.now.clocks place }
-        ensures order { clock_at self.now.clocks place < clock_at self.now.clocks (suc place) }
-        ensures short { clock_at self.now.clocks (suc place) ≤ clock_at self.now.clocks place + 63 }
-        ensures within { clock_at self.now.clocks (suc place) ≤ self.now.design.horizon }
-        ensures nets { RisesWithin 0 (nets_of self.now.design) result.now }
+        ensures window { IsWindow (nets_of self.now.design) self.now.design.horizon
+            (clock_at self.now.clocks place) (clock_at self.now.clocks (suc place)) result.now }
         ensures tells { Tells (value self.now.design) (nets_of self.now.design)
             (clock_at self.now.clocks place) (clock_at self.now.clocks (suc place)) result.now }
     {

@@ -4,7 +4,7 @@ use Rattle.std.proofs.lemmas.Bool.{cases_eq}
 use Rattle.std.proofs.lemmas.List.{get_or-take, get_or_append_left, get_or_push, length-take-le, length_push}
 use Rattle.cmb_design.specs.Design.{Design}
 use Rattle.cmb_words.specs.declared.changed.Changed.{Changed}
-use Rattle.cmb_team.specs.Batches.{AreOf, Batch, IsWindow, clock_at, last_clock}
+use Rattle.cmb_team.specs.Batches.{AreOf, Batch, AreIn, clock_at, last_clock}
 
 -- the last of them, once there is one more
 pub last-push : (clocks : List ℕ) (next : ℕ) → get_or (clocks ++ next ∷ []) (length (clocks ++ next ∷ []) - 1) 0 ≡ next
@@ -13,7 +13,7 @@ last-push clocks next = get_or_push clocks next 0 (length (clocks ++ next ∷ []
 -- one window more, behind those that are told
 pub AreOf-push : (design : Design) (clocks : List ℕ) (windows : List (Vec Changed Global)) (window : Vec Changed Global) (upto : ℕ)
     → AreOf (record { design = design; clocks = clocks }) windows → 1 ≤ length clocks
-    → IsWindow design (get_or clocks (length clocks - 1) 0) upto window.items
+    → AreIn design (get_or clocks (length clocks - 1) 0) upto window.items
     → AreOf (record { design = design; clocks = clocks ++ upto ∷ [] }) (take (length clocks - 1) windows ++ window ∷ [])
 AreOf-push design clocks windows window upto are some is = record {
   count = omega (arith, long, length_push clocks upto, length_push front window, some);
@@ -33,7 +33,7 @@ AreOf-push design clocks windows window upto are some is = record {
     all = record { design = design; clocks = clocks ++ upto ∷ [] }
 
     by : (k : ℕ) (d : Vec Changed Global) → suc k < length (clocks ++ upto ∷ []) → (suc k ≡ length clocks) ⊎ (suc k ≡ length clocks → ⊥)
-        → IsWindow design (clock_at all k) (clock_at all (suc k)) (get_or (front ++ window ∷ []) k d).items
+        → AreIn design (clock_at all k) (clock_at all (suc k)) (get_or (front ++ window ∷ []) k d).items
     by k d h (inl e) =
         let at : k ≡ n = omega (arith, e) in
         let from : get_or (clocks ++ upto ∷ []) k 0 ≡ get_or clocks n 0 = get_or_append_left clocks (upto ∷ []) 0 k (omega (arith, e)) ∙ ap (λ i. get_or clocks i 0) at in

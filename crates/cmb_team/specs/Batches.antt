@@ -1,19 +1,15 @@
 -- Windows of a run that follow one another. Only contracts inside the crate cite these.
-use Rattle.std.specs.Prelude.{◌≡◌, ℕ, suc, ◌+◌, ◌<◌, ◌≤◌, ◌-◌, List, length, slice_index_or, Vec}
+use Rattle.std.specs.Prelude.{ℕ, suc, ◌<◌, ◌≤◌, ◌-◌, List, length, slice_index_or, Vec}
 use Rattle.std.specs.Global.{Global}
 use Rattle.cmb_design.specs.Design.{Design}
 use Rattle.cmb_design.specs.Exact.{nets_of}
 use Rattle.cmb_design.specs.Value.{value}
-use Rattle.cmb_words.specs.Changes.{RisesWithin, Tells}
+use Rattle.cmb_words.specs.Changes.{IsWindow, Tells}
 use Rattle.cmb_words.specs.declared.changed.Changed.{Changed}
 
 -- the changes of a design's nets in a window
-pub record IsWindow (design : Design) (from upto : ℕ) (changed : List Changed) : Type 0 where
-  pub late : 1 ≤ from
-  pub order : from < upto
-  pub short : upto ≤ from + 63
-  pub within : upto ≤ design.horizon
-  pub nets : RisesWithin 0 (nets_of design) changed
+pub record AreIn (design : Design) (from upto : ℕ) (changed : List Changed) : Type 0 where
+  pub window : IsWindow (nets_of design) design.horizon from upto changed
   pub tells : Tells (value design) (nets_of design) from upto changed
 
 -- a design, and the ticks at which its windows meet: the first one begins at the first of them, and each ends at one
@@ -31,4 +27,4 @@ last_clock batch = slice_index_or batch.clocks (length batch.clocks - 1) 0
 -- a batch's windows: each goes from a tick of the batch on below the next
 pub record AreOf (batch : Batch) (windows : List (Vec Changed Global)) : Type 0 where
   pub count : length batch.clocks ≤ suc (length windows)
-  pub each : (k : ℕ) (d : Vec Changed Global) → suc k < length batch.clocks → IsWindow batch.design (clock_at batch k) (clock_at batch (suc k)) (slice_index_or windows k d).items
+  pub each : (k : ℕ) (d : Vec Changed Global) → suc k < length batch.clocks → AreIn batch.design (clock_at batch k) (clock_at batch (suc k)) (slice_index_or windows k d).items

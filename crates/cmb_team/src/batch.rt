@@ -1,7 +1,7 @@
 //! Windows of a run that follow one another.
 
 ghost use Rattle.std.specs.Prelude.{◌≡◌, ℕ, suc, ◌+◌, ◌-◌, ◌<◌, ◌≤◌, [], length, IfOk, OnOk};
-ghost use Rattle.cmb_team.specs.Batches.{IsWindow, clock_at, last_clock};
+ghost use Rattle.cmb_team.specs.Batches.{AreIn, clock_at, last_clock};
 
 use cmb_design::Design;
 use cmb_engine::Engine;
@@ -74,7 +74,7 @@ impl<'a> Batch<'a> {
     /// The nets that changed in the window at a place, each with its levels.
     pub fn changes(&self, place: usize) -> &[Changed]
         requires { suc place < length self.now.clocks }
-        ensures { IsWindow self.now.design (clock_at self.now place) (clock_at self.now (suc place)) result.now }
+        ensures { AreIn self.now.design (clock_at self.now place) (clock_at self.now (suc place)) result.now }
     {
         &self.windows[place]
     }
@@ -109,7 +109,7 @@ impl<'a> Batch<'a> {
     // One window more, up to a tick, from the last one's end on.
     fn push(&mut self, changed: Vec<Changed>, upto: u32) -> Result<(), AllocError>
         requires some { 1 ≤ length self.old.clocks }
-        requires window { IsWindow self.old.design (last_clock self.old) upto changed.items }
+        requires window { AreIn self.old.design (last_clock self.old) upto changed.items }
         ensures design { self.new.design ≡ self.old.design }
         ensures some { 1 ≤ length self.new.clocks }
         ensures clock { OnOk result (last_clock self.new ≡ upto) }

@@ -35,12 +35,13 @@ fn filled<'a, T: Terms>(
     Ok((Parcel::new(batch, room), engine))
 }
 
-// The next batch, made and handed on. There is no engine any more where nobody gives batches back or takes them, or
-// memory was refused.
+// The next batch, made and handed on. There is no engine any more where the horizon was reached, nobody gives batches
+// back or takes them, or memory was refused.
 fn step<'a, T: Terms, R: Wait>(
     rt: &R,
     ways: &mut Ways<'a, T>,
     engine: Engine<'a>,
+    horizon: u32,
 ) -> Option<Engine<'a>>
     requires { engine.design ≡ T.design }
     ensures { IfSome result (λ it. it.design ≡ T.design) }
@@ -50,7 +51,7 @@ fn step<'a, T: Terms, R: Wait>(
         return None;
     };
     let (parcel, engine) = filled(parcel, engine).ok()?;
-    if ways.hand(rt, parcel) {
+    if ways.hand(rt, parcel) && engine.clock() < horizon {
         Some(engine)
     } else {
         drop(engine);
@@ -78,12 +79,12 @@ impl<'a, T: Terms> Maker<'a, T> {
             mut ways,
         } = self;
         for _ in rt.forever() {
-            if engine.clock() >= horizon {
-                return;
-            }
-            match step(rt, &mut ways, engine) {
+            match step(rt, &mut ways, engine, horizon) {
                 Some(next) => engine = next,
-                None => return,
+                None => {
+                    drop(ways);
+                    return;
+                }
             }
         }
     }

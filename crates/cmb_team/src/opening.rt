@@ -1,11 +1,11 @@
 //! How a run begins: a maker, tellers, and rings between them.
 
-ghost use Rattle.std.specs.Prelude.{◌≡◌, IfOk};
+ghost use Rattle.std.specs.Prelude.{◌≡◌};
 
 use crate::desk::Desk;
 use crate::lead::Lead;
 use crate::maker::Maker;
-use crate::parcel::Outlet;
+use crate::parcel::{Inlet, Outlet, TextInlet};
 use crate::teller::Teller;
 use crate::terms::Terms;
 use crate::texts::{Others, Texts};
@@ -20,8 +20,9 @@ use std::sync::Wait;
 // How many batches a ring holds: a teller that is late for a while isn't waited for. An estimate.
 const ROOM: usize = 2;
 
-// How many batches may be on their way beside those that are told: one that is made, and one that is read. An estimate.
-const MORE: usize = 2;
+// How many batches may be on their way beside those that are told: some that are made, and some that are read. An
+// estimate.
+const MORE: usize = 4;
 
 /// What a run begins with: a maker and desks of tellers, for a thread each, and the calling thread's part.
 #[derive(Drop)]
@@ -31,85 +32,128 @@ pub(crate) struct Run<'a, T: Terms, R> {
     pub lead: Lead<'a, T, R>,
 }
 
-// The tellers of a run: desks, the rings to all tellers, and where the calling thread has texts from.
+/// Desks of tellers, and the ends of rings.
 #[derive(Drop)]
-struct Tellers<'a, T: Terms> {
+pub(crate) struct Rings<'a, T: Terms> {
     desks: Vec<Desk<'a, T>>,
+    /// To each teller.
     outlets: Vec<Outlet<'a, T>>,
-    texts: Texts<'a, T>,
+    /// To the calling thread, where it is the one teller.
+    own: Option<Inlet<'a, T>>,
+    /// From each desk.
+    texts: Vec<TextInlet<'a, T>>,
+    /// On which batches go back to the maker, and come there.
+    back: Outlet<'a, T>,
+    spent: Inlet<'a, T>,
+    /// How many batches may be on their way.
+    most: usize,
 }
 
-// The calling thread tells all.
-fn one_teller<'a, T: Terms>(alloc: Global, dump: Dump<'a>) -> Result<Tellers<'a, T>, AllocError>
-    requires { dump.design ≡ T.design }
-{
+// One more ring to a teller.
+fn ring_to<'a, T: Terms>(
+    alloc: Global,
+    outlets: &mut Vec<Outlet<'a, T>>,
+) -> Result<Inlet<'a, T>, AllocError> {
     let (outlet, inlet) = RingBuffer::new(alloc, ROOM)?;
-    let mut outlets = Vec::new(alloc);
     outlets.push(outlet)?;
-    Ok(Tellers {
-        desks: Vec::new(alloc),
-        outlets,
-        texts: Texts::Own(Teller::new(dump, inlet)),
-    })
+    Ok(inlet)
 }
 
-// So many tellers, each for a thread of its own.
-fn several_tellers<'a, T: Terms>(
+// One more desk between two rings.
+fn desk_between<'a, T: Terms>(
+    alloc: Global,
+    design: &'a Design,
+    outlets: &mut Vec<Outlet<'a, T>>,
+    texts: &mut Vec<TextInlet<'a, T>>,
+) -> Result<Desk<'a, T>, AllocError>
+    requires { design.now ≡ T.design }
+{
+    let inlet = ring_to(alloc, outlets)?;
+    let (outlet, text) = RingBuffer::new(alloc, ROOM)?;
+    texts.push(text)?;
+    Ok(Desk::new(alloc, design, inlet, outlet))
+}
+
+// So many desks, each between two rings.
+fn desks_between<'a, T: Terms>(
     alloc: Global,
     design: &'a Design,
     count: usize,
-) -> Result<Tellers<'a, T>, AllocError>
+    outlets: &mut Vec<Outlet<'a, T>>,
+    texts: &mut Vec<TextInlet<'a, T>>,
+) -> Result<Vec<Desk<'a, T>>, AllocError>
     requires { design.now ≡ T.design }
 {
-    let mut desks = Vec::new(alloc);
-    let mut outlets = Vec::new(alloc);
-    let mut inlets = Vec::new(alloc);
+    let mut desks = Vec::with_capacity(alloc, count)?;
     for _desk in 0..count {
-        let (outlet, inlet) = RingBuffer::new(alloc, ROOM)?;
-        let (text_outlet, text_inlet) = RingBuffer::new(alloc, ROOM)?;
-        outlets.push(outlet)?;
-        desks.push(Desk::new(alloc, design, inlet, text_outlet))?;
-        inlets.push(text_inlet)?;
+        desks.push(desk_between(alloc, design, outlets, texts)?)?;
     }
-    Ok(Tellers {
+    Ok(desks)
+}
+
+/// So many desks and the rings between them and the maker and the calling thread, which is the one teller where there
+/// are no desks. Errors: memory was refused.
+pub(crate) fn open_rings<'a, T: Terms>(
+    alloc: Global,
+    design: &'a Design,
+    count: usize,
+) -> Result<Rings<'a, T>, AllocError>
+    requires { design.now ≡ T.design }
+{
+    let mut outlets = Vec::new(alloc);
+    let mut texts = Vec::new(alloc);
+    let own = if count == 0 {
+        Some(ring_to(alloc, &mut outlets)?)
+    } else {
+        None
+    };
+    let desks = desks_between(alloc, design, count, &mut outlets, &mut texts)?;
+    let most = outlets.len().saturating_add(MORE);
+    let (back, spent) = RingBuffer::new(alloc, most)?;
+    Ok(Rings {
         desks,
         outlets,
-        texts: Texts::Others(Others::new(inlets)),
+        own,
+        texts,
+        back,
+        spent,
+        most,
     })
 }
 
-/// What the run of the design begins with that `T` names, from where an engine is on: so many tellers beside the calling
-/// thread, which by a dump tells all where there are none. Errors: memory was refused.
+/// What the run of the design begins with that `T` names, from where an engine and a dump are on.
 pub(crate) fn open_run<'a, T: Terms, R: Wait>(
     rt: &'a R,
     alloc: Global,
     design: &'a Design,
     engine: Engine<'a>,
     dump: Dump<'a>,
-    count: usize,
-) -> Result<Run<'a, T, R>, AllocError>
+    rings: Rings<'a, T>,
+) -> Run<'a, T, R>
     requires named { design.now ≡ T.design }
     requires engine { engine.design ≡ T.design }
     requires dump { dump.design ≡ T.design }
-    ensures design { IfOk result (λ run. run.lead.design ≡ T.design) }
-    ensures clock { IfOk result (λ run. run.lead.clock ≡ engine.entry.clock) }
+    ensures design { result.lead.design ≡ T.design }
+    ensures clock { result.lead.clock ≡ engine.entry.clock }
 {
-    let Tellers {
+    let Rings {
         desks,
         outlets,
+        own,
         texts,
-    } = if count == 0 {
-        one_teller(alloc, dump)?
-    } else {
-        several_tellers(alloc, design, count)?
+        back,
+        spent,
+        most,
+    } = rings;
+    let texts = match own {
+        Some(inlet) => Texts::Own(Teller::new(dump, inlet)),
+        None => Texts::Others(Others::new(texts)),
     };
-    let most = outlets.len().saturating_add(MORE);
-    let (back, spent) = RingBuffer::new(alloc, most)?;
-    let ways = Ways::new(alloc, design, most, spent, outlets);
     let clock = engine.clock();
-    Ok(Run {
+    let ways = Ways::new(alloc, design, most, spent, outlets);
+    Run {
         maker: Maker::new(engine, design.horizon(), ways),
         desks,
         lead: Lead::new(rt, clock, texts, back),
-    })
+    }
 }

@@ -21,6 +21,21 @@ pub(crate) struct Teller<'a, T: Terms> {
     ghost design: { dump.design ≡ T.design },
 }
 
+// Adds what a dump told last to a text.
+fn add(text: &mut Vec<u8>, dump: &mut Dump<'_>) -> Result<(), AllocError>
+    ensures text { OnOk result (text.new.items ≡ text.old.items ++ dump.old.text) }
+    ensures design { dump.new.design ≡ dump.old.design }
+    ensures clock { dump.new.clock ≡ dump.old.clock }
+{
+    if text.is_empty() {
+        dump.swap_text(text);
+        Ok(())
+    } else {
+        text.extend_from_slice(dump.text())?;
+        Ok(())
+    }
+}
+
 // Makes the text of a batch, in place of what `text` had.
 fn tell(dump: &mut Dump<'_>, batch: &Batch<'_>, text: &mut Vec<u8>) -> Result<(), AllocError>
     requires design { dump.old.design ≡ batch.now.design }
@@ -35,7 +50,7 @@ fn tell(dump: &mut Dump<'_>, batch: &Batch<'_>, text: &mut Vec<u8>) -> Result<()
     dump.skip(batch.clock(0));
     for place in 0..batch.len() {
         tell_window(dump, batch.changes(place), batch.clock(place + 1))?;
-        text.extend_from_slice(dump.text())?;
+        add(text, dump)?;
     }
     Ok(())
 }

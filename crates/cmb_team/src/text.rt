@@ -5,7 +5,7 @@ ghost use Rattle.cmb_stream.specs.Parts.{IsAtEndOf, IsStream};
 ghost use Rattle.cmb_stream.specs.Streams.{IsWrittenTo};
 ghost use Rattle.cmb_vcd.specs.Vcd.{vcd};
 
-use crate::opening::{Run, open_run};
+use crate::opening::{Run, open_rings, open_run};
 use crate::terms::Terms;
 use crate::threads::{join_all, start};
 use cmb_design::Design;
@@ -85,15 +85,16 @@ fn text_named<'a, T: Terms + Send + Sync, R: Threads + Wait + Sync>(
     requires all { kept.given ≡ 0 }
     ensures { IfOk result (λ text. text.items ≡ vcd design.now) }
 {
+    let Ok(rings) = open_rings::<T>(alloc, design, tellers_of(threads)) else {
+        drop((stream, kept));
+        return Err(AllocError);
+    };
     let (engine, dump) = stream.into_parts();
-    let Run { maker, desks, lead } = open_run::<T, R>(
-        rt,
-        alloc,
-        design,
-        engine,
-        dump,
-        tellers_of(threads),
-    )?;
+    let Run {
+        maker,
+        desks,
+        lead,
+    } = open_run(rt, alloc, design, engine, dump, rings);
     thread::scope(
         thread::scope_env(),
         rt,
@@ -172,15 +173,16 @@ fn write_named<'a, T: Terms + Send + Sync, R: Threads + Wait + Sync, S: Sink>(
     requires all { kept.given ≡ 0 }
     ensures { IsWrittenTo S.Sink design.now sink.old sink.new result }
 {
+    let Ok(rings) = open_rings::<T>(alloc, design, tellers_of(threads)) else {
+        drop((stream, kept));
+        return Err(StreamFault::Memory);
+    };
     let (engine, dump) = stream.into_parts();
-    let Run { maker, desks, lead } = open_run::<T, R>(
-        rt,
-        alloc,
-        design,
-        engine,
-        dump,
-        tellers_of(threads),
-    )?;
+    let Run {
+        maker,
+        desks,
+        lead,
+    } = open_run(rt, alloc, design, engine, dump, rings);
     let (back, written) = thread::scope(
         thread::scope_env(),
         rt,

@@ -25,8 +25,8 @@ fn telling<'s, 'a: 's, E, T: Terms + Send + Sync + 's, R: Threads + Wait + Sync>
     scope.spawn(move || desk.run(rt)).ok()
 }
 
-/// Runs a maker and a teller at each desk in a thread of its own. Where one is refused nobody makes what it was to make, so the run
-/// ends.
+/// Runs a maker and a teller at each desk in a thread of its own. Where one is refused nobody makes what it was to
+/// make, so the run ends.
 pub(crate) fn start<'s, 'a: 's, E, T: Terms + Send + Sync + 's, R: Threads + Wait + Sync>(
     rt: &'s R,
     alloc: Global,
