@@ -12,5 +12,5 @@ returns c =
     let Follows : Design → Type 0 = λ d. FollowsChecks (design_checks d) d c.new.result in
     subst Follows (design_on-is c.args.self.now c.args.netlist c.settings.result _ _ _ c.settings.ensures.0 c.settings.ensures.1 c.settings.ensures.2
     (c.in-Ok.ensures ∙ ap (λ (d : Design). filter (λ row. has_delayed c.args.netlist row.what) d.delays) c.self.view_is)
-    (c.in-Ok-stimuli_on.ensures ∙ ap (λ (d : Design). filter (λ row. has_net c.args.netlist row.net) d.stimuli) c.self.view_is)
-    (c.in-Ok-clocks_on.ensures ∙ ap (λ (d : Design). filter (λ row. has_net c.args.netlist row.net) d.clocks) c.self.view_is)) c.new.ensures.checks
+    (c.in-Ok-rows_on.ensures ∙ ap (λ (d : Design). filter (λ row. has_net c.args.netlist row.net) d.stimuli) c.self.view_is)
+    (c.in-Ok-rows_on-2.ensures ∙ ap (λ (d : Design). filter (λ row. has_net c.args.netlist row.net) d.clocks) c.self.view_is)) c.new.ensures.checks
