@@ -1,5 +1,5 @@
 -- One number more, below which the numbers that pass a test are counted.
-use Rattle.std.proofs.Common.{◌≡◌, ℕ, zero, suc, ◌+◌, ◌<◌, Bool, true, false, add-one, arith, refl}
+use Rattle.std.proofs.Common.{◌≡◌, ℕ, zero, suc, ◌+◌, ◌<◌, Bool, false, add-one, arith, refl}
 use Rattle.std.specs.Prelude.{if◌then◌else◌}
 use Rattle.cmb_count.specs.Below.{count_below}
 
