@@ -145,13 +145,10 @@ impl Design {
     pub fn on(&self, alloc: Global, netlist: Netlist) -> Result<Design, DesignFault>
         ensures { let design = design_on self.now netlist in FollowsChecks (design_checks design) design result }
     {
-        let Ok(delays) = rows_on(alloc, &netlist, &self.delays) else {
-            return Err(DesignFault::Memory);
-        };
-        let Ok(stimuli) = rows_on(alloc, &netlist, &self.stimuli) else {
-            return Err(DesignFault::Memory);
-        };
-        let Ok(clocks) = rows_on(alloc, &netlist, &self.clocks) else {
+        let delays = rows_on(alloc, &netlist, &self.delays);
+        let stimuli = rows_on(alloc, &netlist, &self.stimuli);
+        let clocks = rows_on(alloc, &netlist, &self.clocks);
+        let (Ok(delays), Ok(stimuli), Ok(clocks)) = (delays, stimuli, clocks) else {
             return Err(DesignFault::Memory);
         };
         Design::new(alloc, netlist, delays, stimuli, clocks, self.settings())
