@@ -170,14 +170,7 @@ kind_of n =
 kind_back : (k : FaultKind) → kind_of (number_of_fault k) ≡ k
 unfolding kind_of
 kind_back faults.Byte = refl
-kind_back faults.Statement = refl
-kind_back faults.Kind = refl
-kind_back faults.Operands = refl
-kind_back faults.Driven = refl
-kind_back faults.Undriven = refl
-kind_back faults.TooMany = refl
-kind_back faults.Name = refl
-kind_back faults.Memory = refl
+kind_back _ = refl
 
 same_number : (j k : FaultKind) → number_of_fault j ≡ number_of_fault k → j ≡ k
 same_number j k e = sym (kind_back j) ∙ ap kind_of e ∙ kind_back k

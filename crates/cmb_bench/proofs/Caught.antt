@@ -2,7 +2,7 @@
 use Rattle.std.proofs.Common.{◌≡◌, ℕ, List, [], ◌∷◌, ◌++◌, Bool, true, false, length, refl, sym, ap, ◌∙◌, subst, Result, Ok, Err, nat_lt, inl, inr, ⊎_elim, append_assoc, append-nil, arith}
 use Rattle.std.specs.Prelude.{Option, Some, None, if◌then◌else◌, codes, nat_le, ◌⊎◌, ◌+◌, ◌<◌}
 use Rattle.cmb_bench.specs.declared.text.Class.{Class}
-use Rattle.cmb_bench.specs.declared.text.Class.TheVariants.{White, Comment, Open, Close, Comma, Equals, Name, Bad, End}
+use Rattle.cmb_bench.specs.declared.text.Class.TheVariants.{Open, Close, Comma, Equals, End}
 use Rattle.cmb_bench.specs.declared.fault.BenchFault.{BenchFault}
 use Rattle.cmb_bench.specs.declared.fault.FaultKind.{FaultKind}
 use Rattle.cmb_bench.specs.declared.fault.FaultKind.TheVariants as faults
@@ -124,14 +124,7 @@ output_marks names w = record { marks = (λ c is. rw is refl); fits = (λ n. ref
 
 start_mark : (names : List (List ℕ)) (c : Class) → is_end (mark c) ≡ false → go names start (mark c) ≡ None
 start_mark names End e = absurd (cc)
-start_mark names White e = refl
-start_mark names Comment e = refl
-start_mark names Open e = refl
-start_mark names Close e = refl
-start_mark names Comma e = refl
-start_mark names Equals e = refl
-start_mark names Name e = refl
-start_mark names Bad e = refl
+start_mark names _ e = refl
 
 start_marks : (names : List (List ℕ)) (w : Word) → is_end w ≡ false → Naming names start w
 start_marks names w other = record { marks = (λ c is. ap (go names start) is ∙ start_mark names c (ap is_end (sym is) ∙ other)); fits = (λ n. refl) }

@@ -1,6 +1,6 @@
 -- A list read token by token.
 use Rattle.std.proofs.Common.{◌≡◌, ◌∙◌, ℕ, List, [], ◌∷◌, ◌++◌, true, false, None, Some, refl, sym, ap, append_assoc, append-nil}
-use Rattle.cmb_bench.specs.declared.text.Class.TheVariants.{White, Comment, Open, Close, Comma, Equals, Name, Bad, End}
+use Rattle.cmb_bench.specs.declared.text.Class.TheVariants.{End}
 use Rattle.cmb_bench.specs.Inner.Snippet.{snippets_of}
 use Rattle.cmb_bench.specs.Inner.Scan.{behind}
 use Rattle.cmb_bench.specs.Inner.Word.{is_end}
@@ -28,15 +28,7 @@ module _ (netlist : Netlist) (s after : List Lexeme) (token : Lexeme) (is : s �
     where
       by : (word : Word) → is_end word ≡ true → unknown_line netlist (record { word = word; line = token.line } ∷ []) ≡ None
       by (mark End) h = refl
-      by (mark White) h = cc h
-      by (mark Comment) h = cc h
-      by (mark Open) h = cc h
-      by (mark Close) h = cc h
-      by (mark Comma) h = cc h
-      by (mark Equals) h = cc h
-      by (mark Name) h = cc h
-      by (mark Bad) h = cc h
-      by (name bytes) h = cc h
+      by _ h = cc h
 
   pub named_end : is_end token.word ≡ true → named_numbers netlist s ≡ []
   unfolding named_numbers

@@ -3,37 +3,29 @@ ghost use Rattle.std.specs.Prelude.{◌≡◌};
 ghost use Rattle.cmb_bench.specs.FirstFault.{number_of_fault};
 
 use std::alloc::{AllocError, AllocFailed};
+use std::fmt;
 use thiserror::Error;
 
 /// What is wrong with a text, at one of its tokens.
-#[derive(Clone, Copy, Debug, PartialEq, Eq, Error)]
+#[derive(Clone, Copy, Debug, PartialEq, Eq)]
 pub enum FaultKind {
     /// 1: a byte that stands in no token, outside a comment.
-    #[error("a byte that no netlist has")]
     Byte,
     /// 2: the tokens up to this one, with it, begin no list of statements.
-    #[error("not a statement")]
     Statement,
     /// 3: the name in the place of a kind is none.
-    #[error("not a kind")]
     Kind,
     /// 4: a comma among the operands of NOT, BUFF or DFF.
-    #[error("too many operands")]
     Operands,
     /// 5: the net has a driver already.
-    #[error("driven twice")]
     Driven,
     /// 6: a name is used that no statement drives.
-    #[error("not driven")]
     Undriven,
     /// 7: this would be the net numbered 65,535.
-    #[error("too many nets")]
     TooMany,
     /// 8: a name of more than 255 bytes.
-    #[error("a name that is too long")]
     Name,
     /// 70: memory ran out. This is no fault of the text.
-    #[error("out of memory")]
     Memory,
 }
 
@@ -54,7 +46,30 @@ impl FaultKind {
             FaultKind::Memory => 70,
         }
     }
+
+    fn words(self) -> &'static str {
+        match self {
+            FaultKind::Byte => "a byte that no netlist has",
+            FaultKind::Statement => "not a statement",
+            FaultKind::Kind => "not a kind",
+            FaultKind::Operands => "too many operands",
+            FaultKind::Driven => "driven twice",
+            FaultKind::Undriven => "not driven",
+            FaultKind::TooMany => "too many nets",
+            FaultKind::Name => "a name that is too long",
+            FaultKind::Memory => "out of memory",
+        }
+    }
 }
+
+// By one table of words and in one place, since a derived one prints in each of nine arms.
+impl fmt::Display for FaultKind {
+    fn fmt<W: fmt::Write>(&self, f: &mut fmt::Formatter<W>) -> fmt::Result {
+        f.write_str(self.words())
+    }
+}
+
+impl std::error::Error for FaultKind {}
 
 /// Why a text has no netlist, and on which line, counted from 1; line 0 where memory ran out.
 #[derive(Clone, Copy, Debug, PartialEq, Eq, Error)]
@@ -74,7 +89,7 @@ impl BenchFault {
 }
 
 /// Why the reader stops: memory ran out, or the text has a fault.
-#[derive(Clone, Copy, Debug, PartialEq, Eq)]
+#[derive(Clone, Copy)]
 pub(crate) enum ReadError {
     Memory,
     Fault(BenchFault),

@@ -8,7 +8,7 @@ ghost use Rattle.cmb_bench.specs.Listed.{IsRefused, Lists, is_unknown, named_by}
 use crate::limits::{MAX_NETS, MAX_TEXT};
 use crate::netlist::Netlist;
 use crate::text::{Cursor, Token};
-use std::alloc::{AllocFailed, Global};
+use std::alloc::Global;
 use thiserror::Error;
 
 /// Why a list names no nets.
@@ -20,17 +20,6 @@ pub enum ListFault {
     /// 70: memory ran out.
     #[error("out of memory")]
     Memory,
-}
-
-impl<T: Drop> From<AllocFailed<T>> for ListFault {
-    ghost use Rattle.std.specs.Prelude.{◌≡◌};
-    ghost use Rattle.cmb_bench.specs.declared.listed.ListFault.TheVariants.{Memory};
-
-    ghost from_gives = { λ _ e. e ≡ Memory };
-
-    fn from(_error: AllocFailed<T>) -> ListFault {
-        ListFault::Memory
-    }
 }
 
 // The number of the net that a token names.
@@ -65,6 +54,8 @@ pub fn read_list(alloc: Global, netlist: &Netlist, text: &[u8]) -> Result<Vec<u3
         let Some(net) = number_in(netlist, token) else {
             return Err(ListFault::Unknown { line: token.line });
         };
-        numbers.push(net as u32)?;
+        let Ok(()) = numbers.push(net as u32) else {
+            return Err(ListFault::Memory);
+        };
     }
 }

@@ -12,7 +12,7 @@ use Rattle.cmb_design.specs.Timing.{clock_of}
 use Rattle.cmb_design.specs.declared.rows.Clock.{Clock}
 use Rattle.cmb_count.specs.Below.{count_below}
 use Rattle.cmb_count.specs.Clocks.{is_clocked_by, is_first_clocked, same_clock}
-use Rattle.cmb_count.proofs.BelowFacts.{count_below-fail, count_below-next}
+use Rattle.cmb_count.proofs.BelowFacts.{count_below-fail, count_below_next}
 
 or_same : (a : Bool) → a ≡ (a || false)
 or_same true = refl
@@ -76,7 +76,7 @@ met_count design net n true flop old is =
     let e = count_below-fail (is_first_clocked design) net fails in omega (arith, e, is)
 met_count design net n false flop old is =
     let passes : is_first_clocked design net ≡ true = rw (flop, sym old) refl in
-    let e = count_below-next (is_first_clocked design) net in
+    let e = count_below_next (is_first_clocked design) net in
     let f : count_below (is_first_clocked design) (net + 1) ≡ count_below (is_first_clocked design) net + 1 = rw passes at e in omega (arith, f, is)
 
 -- below net 0 there is none

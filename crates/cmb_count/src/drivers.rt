@@ -42,14 +42,13 @@ pub(crate) fn has_kind(wanted: &DriverKind, driver: &Driver) -> bool
 }
 
 /// How many nets are driven by drivers of a kind.
+#[tactic(auto, using(crate::proofs::BelowFacts::count_below_next, crate::proofs::BelowFacts::count_below_none))]
 pub fn count_drivers(netlist: &Netlist, wanted: &DriverKind) -> usize
     ensures { result ≡ kind_count netlist.now wanted.now }
 {
     let mut count = 0;
     for net in 0..netlist.len() {
-        if has_kind(wanted, netlist.driver(net)) {
-            count += 1;
-        }
+        count += usize::from(has_kind(wanted, netlist.driver(net)));
     }
     count
 }
@@ -63,14 +62,13 @@ fn is_silent_input(design: &Design, net: usize) -> bool
 }
 
 /// How many inputs are x at each tick below the horizon.
+#[tactic(auto, using(crate::proofs::BelowFacts::count_below_next, crate::proofs::BelowFacts::count_below_none))]
 pub fn count_silent(design: &Design) -> usize
     ensures { result ≡ silent_count design.now }
 {
     let mut count = 0;
     for net in 0..design.netlist().len() {
-        if is_silent_input(design, net) {
-            count += 1;
-        }
+        count += usize::from(is_silent_input(design, net));
     }
     count
 }
@@ -84,14 +82,13 @@ fn is_still_flop(design: &Design, net: usize) -> bool
 }
 
 /// How many flip-flops have no sample tick below the horizon.
+#[tactic(auto, using(crate::proofs::BelowFacts::count_below_next, crate::proofs::BelowFacts::count_below_none))]
 pub fn count_still(design: &Design) -> usize
     ensures { result ≡ still_count design.now }
 {
     let mut count = 0;
     for net in 0..design.netlist().len() {
-        if is_still_flop(design, net) {
-            count += 1;
-        }
+        count += usize::from(is_still_flop(design, net));
     }
     count
 }

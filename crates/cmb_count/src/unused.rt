@@ -51,14 +51,13 @@ fn mark_used(marks: &mut [bool], netlist: &Netlist)
 }
 
 // How many marks aren't set.
+#[tactic(auto, using(crate::proofs::BelowFacts::count_below_next, crate::proofs::BelowFacts::count_below_none))]
 fn count_unset(marks: &[bool]) -> usize
     ensures { result ≡ count_below (λ net. not (slice_index_or marks.now net false)) (length marks.now) }
 {
     let mut count = 0;
     for net in 0..marks.len() {
-        if !marks[net] {
-            count += 1;
-        }
+        count += usize::from(!marks[net]);
     }
     count
 }

@@ -8,7 +8,7 @@ use Rattle.cmb_design.specs.Checks.{first_fault, rows_checks}
 use Rattle.cmb_design.specs.Design.{Design}
 use Rattle.cmb_design.specs.Lawful.{IsDesign}
 use Rattle.cmb_design.specs.Nets.{driver_cell, is_at}
-use Rattle.cmb_design.specs.Ranges.{AreClockRows, AreDelayRows, AreTicks, IsDelay}
+use Rattle.cmb_design.specs.Ranges.{AreRows, AreTicks, IsClockRow, IsDelay, IsDelayRow}
 use Rattle.cmb_design.specs.Rows.{clock_row_checks, delay_row_checks, stimulus_row_checks}
 use Rattle.cmb_design.specs.Settings.{design_checks, is_bad_clock, setting_checks}
 use Rattle.cmb_design.specs.Tables.{clock_of_row}
@@ -41,12 +41,12 @@ low-delay : (o : Option ℕ) → IsLow o → IsDelay (max (unwrap_or o 1) 1)
 low-delay None h = (omega arith, omega arith)
 low-delay (Some x) h = (omega arith, omega arith)
 
-pub delay-small : (design : Design) (net pin : ℕ) → AreDelayRows design.delays → IsDelay (delay design net pin)
+pub delay-small : (design : Design) (net pin : ℕ) → AreRows IsDelayRow design.delays → IsDelay (delay design net pin)
 unfolding delay_by
 delay-small design net pin h =
-    let pins = delay_in-low (is_of_pin design.netlist net pin) design.delays h.small in
-    let nets = delay_in-low (is_of_net design.netlist net) design.delays h.small in
-    let kinds = delay_in-low (is_of_kind (driver_cell (driver_of design.netlist net))) design.delays h.small in
+    let pins = delay_in-low (is_of_pin design.netlist net pin) design.delays h.lawful in
+    let nets = delay_in-low (is_of_net design.netlist net) design.delays h.lawful in
+    let kinds = delay_in-low (is_of_kind (driver_cell (driver_of design.netlist net))) design.delays h.lawful in
     low-delay _ (or-low _ _ pins (or-low _ _ nets kinds))
 
 common-small : (o : Option Clock) → is_bad_clock o ≡ false → AreTicks (common_clock o).first (common_clock o).period
@@ -67,7 +67,7 @@ clock-small test (row ∷ rows) other h g =
     by false t more = more
 
 -- a design of which no check stands, with rows as a reader gives them
-pub lawful : (design : Design) → IsNetlist design.netlist → AreDelayRows design.delays → AreClockRows design.clocks → first_fault (design_checks design) ≡ None → IsDesign design
+pub lawful : (design : Design) → IsNetlist design.netlist → AreRows IsDelayRow design.delays → AreRows IsClockRow design.clocks → first_fault (design_checks design) ≡ None → IsDesign design
 unfolding setting_checks clock_of
 lawful design netlist delays clocks h =
     let settings = parts_pass (setting_checks design.netlist design.horizon design.clock design.clocks) (rows_checks (delay_row_checks design.netlist) design.delays ++ (rows_checks (stimulus_row_checks design.netlist) design.stimuli ++ rows_checks (clock_row_checks design.netlist) design.clocks)) h in
@@ -78,5 +78,5 @@ lawful design netlist delays clocks h =
       no_fault = h;
       horizon = within 1 1000000 design.horizon horizon.0;
       delays = λ net pin. delay-small design net pin delays;
-      clocks = λ net. clock-small (λ row. is_at (number_of design.netlist row.net) net) design.clocks (common_clock design.clock) clocks.small (common-small design.clock clock.0);
+      clocks = λ net. clock-small (λ row. is_at (number_of design.netlist row.net) net) design.clocks (common_clock design.clock) clocks.lawful (common-small design.clock clock.0);
     }

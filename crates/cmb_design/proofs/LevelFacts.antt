@@ -13,6 +13,7 @@ use Rattle.cmb_wave.specs.declared.level.Level.{Level}
 use Rattle.cmb_wave.specs.declared.level.Level.TheVariants as level
 use Rattle.cmb_wave.specs.declared.level.Change.{Change}
 use Rattle.cmb_wave.specs.Waveform.{changes_between, level_at, same_level}
+use Rattle.cmb_wave.proofs.Lists.{differs_of_test, same_level_refl, test_of_differs, test_of_same}
 use Rattle.cmb_wave.proofs.Spans.{Alternates, RisesWithin}
 use Rattle.cmb_wave.proofs.Waveforms.{changes_between-unique}
 use Rattle.cmb_design.specs.Timing.{level_by}
@@ -33,22 +34,6 @@ unfolding IsWave
 wave-alternates b low high [] w = tt
 wave-alternates b low high (c ∷ cs) w = (w.2, wave-alternates c.level (c.tick + 1) high cs w.3)
 
-same_level-refl : (l : Level) → same_level l l ≡ true
-same_level-refl level.Zero = refl
-same_level-refl level.One = refl
-same_level-refl level.X = refl
-
-same_level-other : (a b : Level) → a ≢ b → same_level a b ≡ false
-same_level-other level.Zero level.Zero h = absurd (h refl)
-same_level-other level.Zero level.One h = refl
-same_level-other level.Zero level.X h = refl
-same_level-other level.One level.Zero h = refl
-same_level-other level.One level.One h = absurd (h refl)
-same_level-other level.One level.X h = refl
-same_level-other level.X level.Zero h = refl
-same_level-other level.X level.One h = refl
-same_level-other level.X level.X h = absurd (h refl)
-
 level_from-early : (b : Level) (low high t : ℕ) (cs : List Change) → IsWave b low high cs → t < low → level_at b cs t ≡ b
 unfolding IsWave
 level_from-early b low high t [] w h = refl
@@ -67,20 +52,6 @@ unfolding IsWave
 IsWave-lower b low up high [] h w = tt
 IsWave-lower b low up high (c ∷ cs) h w = (omega (arith, w.0), w.1, w.2, w.3)
 
-pub same_is : (a b : Level) → same_level a b ≡ true → a ≡ b
-same_is level.Zero level.Zero h = refl
-same_is level.Zero level.One h = cc h
-same_is level.Zero level.X h = cc h
-same_is level.One level.Zero h = cc h
-same_is level.One level.One h = refl
-same_is level.One level.X h = cc h
-same_is level.X level.Zero h = cc h
-same_is level.X level.One h = cc h
-same_is level.X level.X h = refl
-
-pub other_is : (a b : Level) → same_level a b ≡ false → a ≢ b
-other_is a b h e = let s : same_level a b ≡ true = rw e (same_level-refl b) in cc (sym s ∙ h)
-
 pub keep-wave : (high : ℕ) (b : Level) (low : ℕ) (ps : List Row) → Rises low ps → IsWave b low high (keep high b ps)
 unfolding keep IsWave
 keep-wave high b low [] r = tt
@@ -89,7 +60,7 @@ keep-wave high b low (p ∷ ps) r = by (nat_lt p.0 high) refl (same_level p.1 b)
     by : (x : Bool) → nat_lt p.0 high ≡ x → (y : Bool) → same_level p.1 b ≡ y → IsWave p.1 (p.0 + 1) high (keep high p.1 ps) → IsWave b (p.0 + 1) high (keep high b ps)
         → IsWave b low high (cond (x && not y) (record { tick = p.0; level = p.1 } ∷ keep high p.1 ps) (keep high b ps))
     by true e true f kept dropped = IsWave-lower b low (p.0 + 1) high _ (omega (arith, r.0)) dropped
-    by true e false f kept dropped = (r.0, grind (arith, nat_tests), other_is p.1 b f, kept)
+    by true e false f kept dropped = (r.0, grind (arith, nat_tests), differs_of_test p.1 b f, kept)
     by false e true f kept dropped = IsWave-lower b low (p.0 + 1) high _ (omega (arith, r.0)) dropped
     by false e false f kept dropped = IsWave-lower b low (p.0 + 1) high _ (omega (arith, r.0)) dropped
 
@@ -111,7 +82,7 @@ keep-level high t b low (p ∷ ps) h r =
     by true e true f kept dropped w = stay (nat_le p.0 t) refl
       where
         stay : (z : Bool) → nat_le p.0 t ≡ z → level_at b (keep high b ps) t ≡ cond z (value_from p.1 ps t) b
-        stay true g = dropped ∙ ap (λ l. value_from l ps t) (sym (same_is p.1 b f))
+        stay true g = dropped ∙ ap (λ l. value_from l ps t) (sym (test_of_same p.1 b f))
         stay false g = level_from-early b (p.0 + 1) high t (keep high b ps) w (grind (arith, nat_tests))
     by false e true f kept dropped w = let no : nat_le p.0 t ≡ false = grind (arith, nat_tests) in rw no (level_from-early b (p.0 + 1) high t (keep high b ps) w (grind (arith, nat_tests)))
     by false e false f kept dropped w = let no : nat_le p.0 t ≡ false = grind (arith, nat_tests) in rw no (level_from-early b (p.0 + 1) high t (keep high b ps) w (grind (arith, nat_tests)))
@@ -233,11 +204,11 @@ map_changes high m o = keep-changes high m.entries (get nat_cmp m) (rises m.entr
 -- one more row
 pub keep-kept : (high : ℕ) (b : Level) (p : Row) (ps : List Row) → p.0 < high → p.1 ≢ b → keep high b (p ∷ ps) ≡ record { tick = p.0; level = p.1 } ∷ keep high p.1 ps
 unfolding keep
-keep-kept high b p ps h d = let a : nat_lt p.0 high ≡ true = grind (arith, nat_tests) in rw (a, same_level-other p.1 b d) refl
+keep-kept high b p ps h d = let a : nat_lt p.0 high ≡ true = grind (arith, nat_tests) in rw (a, test_of_differs p.1 b d) refl
 
 pub keep-same : (high : ℕ) (b : Level) (p : Row) (ps : List Row) → p.1 ≡ b → keep high b (p ∷ ps) ≡ keep high b ps
 unfolding keep
-keep-same high b p ps e = let s : same_level p.1 b ≡ true = rw e (same_level-refl b) in by (nat_lt p.0 high) s
+keep-same high b p ps e = let s : same_level p.1 b ≡ true = rw e (same_level_refl b) in by (nat_lt p.0 high) s
   where
     by : (x : Bool) → same_level p.1 b ≡ true → cond (x && not (same_level p.1 b)) (record { tick = p.0; level = p.1 } ∷ keep high p.1 ps) (keep high b ps) ≡ keep high b ps
     by true s = rw s refl

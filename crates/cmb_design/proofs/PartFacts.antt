@@ -9,7 +9,7 @@ use Rattle.cmb_bench.specs.Netlist.{Netlist}
 use Rattle.cmb_design.specs.Design.{Design, clock_given, design_of}
 use Rattle.cmb_design.specs.Part.{has_net, has_delayed, design_on}
 use Rattle.cmb_design.specs.declared.settings.Settings.{Settings}
-use Rattle.cmb_design.specs.Ranges.{AreDelayRows, AreStimulusRows, AreClockRows, IsDelay, AreTicks}
+use Rattle.cmb_design.specs.Ranges.{AreRows}
 use Rattle.cmb_design.specs.declared.rows.DelayRow.{DelayRow}
 use Rattle.cmb_design.specs.declared.rows.StimulusRow.{StimulusRow}
 use Rattle.cmb_design.specs.declared.rows.ClockRow.{ClockRow}
@@ -21,19 +21,10 @@ few_kept p xs i =
     let c = length-take i xs in
     omega arith
 
-pub delays_kept : (p : DelayRow → Bool) (rows kept : List DelayRow) (i : ℕ) → AreDelayRows rows → kept ≡ filter p (take i rows) → AreDelayRows kept
-delays_kept p rows kept i are e = subst AreDelayRows (sym e) (record {
+pub rows_kept : {R : Type 0} (IsLawful : R → Type 0) (p : R → Bool) (rows kept : List R) (i : ℕ) → AreRows IsLawful rows → kept ≡ filter p (take i rows) → AreRows IsLawful kept
+rows_kept IsLawful p rows kept i are e = subst (AreRows IsLawful) (sym e) (record {
   few = let a = few_kept p rows i in omega (arith, are.few);
-  small = All-filter p (λ row. IsDelay row.delay) (take i rows) (All-take (λ row. IsDelay row.delay) i rows are.small);
-})
-
-pub stimuli_kept : (p : StimulusRow → Bool) (rows kept : List StimulusRow) (i : ℕ) → AreStimulusRows rows → kept ≡ filter p (take i rows) → AreStimulusRows kept
-stimuli_kept p rows kept i are e = subst AreStimulusRows (sym e) (record { few = let a = few_kept p rows i in omega (arith, are.few) })
-
-pub clocks_kept : (p : ClockRow → Bool) (rows kept : List ClockRow) (i : ℕ) → AreClockRows rows → kept ≡ filter p (take i rows) → AreClockRows kept
-clocks_kept p rows kept i are e = subst AreClockRows (sym e) (record {
-  few = let a = few_kept p rows i in omega (arith, are.few);
-  small = All-filter p (λ row. AreTicks row.first row.period) (take i rows) (All-take (λ row. AreTicks row.first row.period) i rows are.small);
+  lawful = All-filter p IsLawful (take i rows) (All-take IsLawful i rows are.lawful);
 })
 
 pub design_on-is : (design : Design) (netlist : Netlist) (settings : Settings) (delays : List DelayRow) (stimuli : List StimulusRow) (clocks : List ClockRow)

@@ -6,8 +6,8 @@ use Rattle.std.proofs.lemmas.List.{length-map}
 use Rattle.std.proofs.lemmas.List.Elements.{All-cons, All-nil}
 use Rattle.cmb_design.specs.Checks.{Check, checks_after, first_fault}
 use Rattle.cmb_design.specs.Nets.{is_within}
-use Rattle.cmb_design.specs.Ranges.{AreClockRows, AreDelayRows, AreStimulusRows, AreTicks, IsDelay}
-use Rattle.cmb_design.specs.Readers.{clock_header, clock_record_checks, clock_row_of, delay_header, delay_record_checks, delay_row_of, field, name_checks, record_checks, stimulus_row_of, table_checks, table_rows, value_in}
+use Rattle.cmb_design.specs.Ranges.{AreRows, AreTicks, IsDelay}
+use Rattle.cmb_design.specs.Readers.{clock_record_checks, clock_row_of, delay_record_checks, delay_row_of, field, name_checks, record_checks, table_checks, table_rows, value_in}
 
 -- where no check stands, the first doesn't, and none of the others does
 pub first_passes : (c : Check) (cs : List Check) → first_fault (c ∷ cs) ≡ None → (c.stands ≡ false) × (first_fault cs ≡ None)
@@ -51,7 +51,7 @@ table_all row P header checks good (h ∷ rs) e =
     let p = parts_pass (record_checks header checks 1 h) (checks_after (λ n earlier fields. record_checks header checks n fields) 2 (h ∷ []) rs) e in
     rows_all row P header checks good 2 (h ∷ []) rs (omega arith) p.1
 
-pub length-table_rows : {X : Type 0} (row : List (List ℕ) → X) (records : List (List (List ℕ))) → length (table_rows row records) ≤ length records
+length-table_rows : {X : Type 0} (row : List (List ℕ) → X) (records : List (List (List ℕ))) → length (table_rows row records) ≤ length records
 length-table_rows row [] = omega arith
 length-table_rows row (h ∷ rs) = omega (arith, length-map rs row)
 
@@ -78,19 +78,11 @@ clock_good n f h =
     let c = first_passes _ _ b.1 in
     ticks_within (value_in (field f 1)) (value_in (field f 2)) c.0
 
-pub delay_rows_are : (records : List (List (List ℕ))) → length records ≤ 16777216 → first_fault (table_checks delay_header delay_record_checks records) ≡ None
-    → AreDelayRows (table_rows delay_row_of records)
-delay_rows_are records few h = record {
-  few = omega (arith, length-table_rows delay_row_of records);
-  small = table_all delay_row_of (λ row. IsDelay row.delay) delay_header delay_record_checks delay_good records h;
-}
-
-pub stimulus_rows_are : (records : List (List (List ℕ))) → length records ≤ 16777216 → AreStimulusRows (table_rows stimulus_row_of records)
-stimulus_rows_are records few = record { few = omega (arith, length-table_rows stimulus_row_of records) }
-
-pub clock_rows_are : (records : List (List (List ℕ))) → length records ≤ 16777216 → first_fault (table_checks clock_header clock_record_checks records) ≡ None
-    → AreClockRows (table_rows clock_row_of records)
-clock_rows_are records few h = record {
-  few = omega (arith, length-table_rows clock_row_of records);
-  small = table_all clock_row_of (λ row. AreTicks row.first row.period) clock_header clock_record_checks clock_good records h;
+-- the rows of a table of which no check stands
+pub rows_are : {X : Type 0} (row : List (List ℕ) → X) (P : X → Type 0) (header : List (List ℕ)) (checks : ℕ → List (List ℕ) → List Check)
+    → ((n : ℕ) (f : List (List ℕ)) → first_fault (checks n f) ≡ None → P (row f))
+    → (records : List (List (List ℕ))) → length records ≤ 16777216 → first_fault (table_checks header checks records) ≡ None → AreRows P (table_rows row records)
+rows_are row P header checks good records few h = record {
+  few = omega (arith, length-table_rows row records);
+  lawful = table_all row P header checks good records h;
 }

@@ -65,20 +65,14 @@ toggle = record {
   clocks = [];
 }
 
--- INPUT(a), b = NOT(a), y = AND(a, b): a pulse of one tick
+-- INPUT(a), b = NOT(a), y = AND(a, b), with the inverter's settings and stimuli: a pulse of one tick
 abbrev pub pulse : Design
-pulse = record {
+pulse = record inverter {
   netlist = record {
     names = codes "a" ∷ codes "b" ∷ codes "y" ∷ [];
     drivers = Input ∷ Gate Not (0 ∷ []) ∷ Gate And (0 ∷ 1 ∷ []) ∷ [];
     outputs = [];
   };
-  horizon = 10;
-  init = X;
-  clock = None;
-  delays = [];
-  stimuli = stimulus_row 0 (codes "a") Zero ∷ stimulus_row 5 (codes "a") One ∷ [];
-  clocks = [];
 }
 
 -- INPUT(r), INPUT(s), nq = NOR(s, q), q = NOR(r, nq)

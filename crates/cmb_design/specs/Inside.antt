@@ -6,7 +6,20 @@ use Rattle.cmb_design.specs.Timing.{flat_delays}
 use Rattle.cmb_design.specs.Lawful.{IsDesign}
 use Rattle.cmb_design.specs.Stimuli.{stimulus_changes}
 use Rattle.cmb_design.specs.Told.{changes_in}
+use Rattle.cmb_design.specs.declared.design.Design.TheInside.{Inside}
 use Rattle.cmb_design.specs.declared.design.Tables.{Tables}
+
+-- the design that the fields of one say
+abbrev pub seen : Inside → Design
+seen a = record {
+  netlist = a.netlist;
+  horizon = a.horizon;
+  init = a.init;
+  clock = a.clock;
+  delays = a.delays;
+  stimuli = a.stimuli;
+  clocks = a.clocks;
+}
 
 pub record AreTables (design : Design) (tables : Tables) : Type 0 where
   pub starts : tables.starts.items ≡ starts_of design.netlist

@@ -11,13 +11,17 @@ IsDelay delay = (1 ≤ delay) × (delay ≤ 1000000)
 abbrev pub AreTicks : ℕ → ℕ → Type 0
 AreTicks first period = (first ≤ 1000000) × (1 ≤ period) × (period ≤ 1000000)
 
-pub record AreDelayRows (rows : List DelayRow) : Type 0 where
-  pub few : length rows ≤ 16777216
-  pub small : All (λ row. IsDelay row.delay) rows
+-- what holds of the numbers of a row of each table
+abbrev pub IsDelayRow : DelayRow → Type 0
+IsDelayRow row = IsDelay row.delay
 
-pub record AreStimulusRows (rows : List StimulusRow) : Type 0 where
-  pub few : length rows ≤ 16777216
+abbrev pub IsStimulusRow : StimulusRow → Type 0
+IsStimulusRow row = Unit {0}
 
-pub record AreClockRows (rows : List ClockRow) : Type 0 where
+abbrev pub IsClockRow : ClockRow → Type 0
+IsClockRow row = AreTicks row.first row.period
+
+-- the rows of a table
+pub record AreRows {R : Type 0} (IsLawful : R → Type 0) (rows : List R) : Type 0 where
   pub few : length rows ≤ 16777216
-  pub small : All (λ row. AreTicks row.first row.period) rows
+  pub lawful : All IsLawful rows

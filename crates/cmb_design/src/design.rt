@@ -8,7 +8,7 @@ ghost use Rattle.cmb_design.specs.Nets.{pins_at};
 ghost use Rattle.cmb_design.specs.Timing.{clock_of, delay as design_delay, last_sample, next_sample, stimulus};
 ghost use Rattle.cmb_design.specs.Lawful.{IsDesign};
 ghost use Rattle.cmb_design.specs.Ranges.{IsDelay};
-ghost use Rattle.cmb_wave.specs.Waveform.{changes_between};
+ghost use Rattle.cmb_wave.specs.Waveform.{Rises, changes_between};
 ghost use Rattle.cmb_design.specs.Design.{clock_given, design_of};
 ghost use Rattle.cmb_design.specs.Part.{design_on};
 ghost use Rattle.cmb_design.specs.Settings.{design_checks, range_checks};
@@ -16,7 +16,7 @@ ghost use Rattle.cmb_design.specs.Settings.{design_checks, range_checks};
 use crate::clocks::take_clocks;
 use crate::delays::{lay_out, pin_delays};
 use crate::fault::DesignFault;
-use crate::part::{clocks_on, delays_on, stimuli_on};
+use crate::part::rows_on;
 use crate::rows::{Clock, ClockRows, DelayRows, StimulusRows};
 use crate::samples::{clock_for_all, last_at, level_told, next_at, told_before};
 use crate::settings::{Settings, check_settings};
@@ -90,27 +90,11 @@ impl Model for Design {
 
     ghost Value = { Design };
 
-    ghost use Rattle.cmb_design.specs.Inside.{AreTables};
+    ghost use Rattle.cmb_design.specs.Inside.{AreTables, seen};
 
-    ghost view = { λ a. record {
-      netlist = a.netlist;
-      horizon = a.horizon;
-      init = a.init;
-      clock = a.clock;
-      delays = a.delays;
-      stimuli = a.stimuli;
-      clocks = a.clocks;
-    } };
+    ghost view = { seen };
 
-    ghost invariant = { λ a. AreTables (record {
-      netlist = a.netlist;
-      horizon = a.horizon;
-      init = a.init;
-      clock = a.clock;
-      delays = a.delays;
-      stimuli = a.stimuli;
-      clocks = a.clocks;
-    }) a.tables };
+    ghost invariant = { λ a. AreTables (seen a) a.tables };
 }
 
 impl Design {
@@ -161,13 +145,10 @@ impl Design {
     pub fn on(&self, alloc: Global, netlist: Netlist) -> Result<Design, DesignFault>
         ensures { let design = design_on self.now netlist in FollowsChecks (design_checks design) design result }
     {
-        let Ok(delays) = delays_on(alloc, &netlist, &self.delays) else {
-            return Err(DesignFault::Memory);
-        };
-        let Ok(stimuli) = stimuli_on(alloc, &netlist, &self.stimuli) else {
-            return Err(DesignFault::Memory);
-        };
-        let Ok(clocks) = clocks_on(alloc, &netlist, &self.clocks) else {
+        let delays = rows_on(alloc, &netlist, &self.delays);
+        let stimuli = rows_on(alloc, &netlist, &self.stimuli);
+        let clocks = rows_on(alloc, &netlist, &self.clocks);
+        let (Ok(delays), Ok(stimuli), Ok(clocks)) = (delays, stimuli, clocks) else {
             return Err(DesignFault::Memory);
         };
         Design::new(alloc, netlist, delays, stimuli, clocks, self.settings())
@@ -233,7 +214,7 @@ impl Design {
     fn told(&self, net: usize) -> &[Change]
         requires { net < length self.now.netlist.names }
         ensures value { result.now ≡ changes_between (stimulus self.now net) 0 4294967296 }
-        ensures lawful { IsDesign self.now }
+        ensures rises { Rises 0 result.now }
     {
         self.tables.changes[net].changes()
     }

@@ -7,7 +7,7 @@ use std::fmt;
 
 /// Why a table, the settings or the rows make no design. A fault of a table or of its rows holds the number of the
 /// record at which it stands; the header is record 1.
-#[derive(Clone, Copy, Debug, PartialEq, Eq)]
+#[derive(Clone, Copy, PartialEq, Eq)]
 pub enum DesignFault {
     /// 20: the horizon isn't 1 to 1,000,000 ticks.
     Horizon,
@@ -144,6 +144,13 @@ impl fmt::Display for DesignFault {
             0 => f.write_str(self.words()),
             record => write!(f, "record {record}: {}", self.words()),
         }
+    }
+}
+
+// In the words of `Display`: a derived one prints in each of nineteen arms.
+impl fmt::Debug for DesignFault {
+    fn fmt<W: fmt::Write>(&self, f: &mut fmt::Formatter<W>) -> fmt::Result {
+        fmt::Display::fmt(self, f)
     }
 }
 

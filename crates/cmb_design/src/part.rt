@@ -1,10 +1,10 @@
 //! The rows of a design that another netlist can use.
 
-ghost use Rattle.std.specs.Prelude.{◌≡◌, IfOk};
+ghost use Rattle.std.specs.Prelude.{◌≡◌, Bool, IfOk};
 ghost use Rattle.std.specs.List.{filter};
 ghost use Rattle.cmb_design.specs.Part.{has_delayed, has_net};
 
-use crate::rows::{ClockRow, ClockRows, DelayRow, DelayRows, Delayed, StimulusRow, StimulusRows};
+use crate::rows::{ClockRow, DelayRow, Delayed, Row, Rows, StimulusRow};
 use cmb_bench::{Name, Netlist};
 use std::alloc::{AllocError, Global};
 
@@ -46,70 +46,81 @@ fn copy_delayed(alloc: Global, what: &Delayed) -> Result<Delayed, AllocError>
     }
 }
 
-/// The delay rows that aren't about a net that the netlist lacks.
-pub(crate) fn delays_on(
-    alloc: Global,
-    netlist: &Netlist,
-    rows: &DelayRows,
-) -> Result<DelayRows, AllocError>
-    ensures { IfOk result (λ kept. kept ≡ filter (λ row. has_delayed netlist.now row.what) rows.now) }
-{
-    let mut kept = Vec::new(alloc);
-    let all = rows.as_slice();
-    for row in all {
-        if knows_delayed(netlist, &row.what) {
-            let what = copy_delayed(alloc, &row.what)?;
-            kept.push(DelayRow {
-                what,
-                delay: row.delay,
-            })?;
-        }
-    }
-    Ok(DelayRows::new(kept))
+/// A row of which a part of a netlist may have no use.
+pub(crate) trait PartRow: Row {
+    ghost use Rattle.cmb_bench.specs.Netlist.{Netlist};
+
+    ghost is_of: { Netlist → Self → Bool };
+
+    /// Whether the row is about no net that the netlist lacks.
+    fn is_of(&self, netlist: &Netlist) -> bool
+        ensures { result ≡ is_of netlist.now self.now };
+
+    fn copy(&self, alloc: Global) -> Result<Self, AllocError>
+        ensures { IfOk result (λ copy. copy ≡ self.now) };
 }
 
-/// The stimulus rows of nets of the netlist.
-pub(crate) fn stimuli_on(
-    alloc: Global,
-    netlist: &Netlist,
-    rows: &StimulusRows,
-) -> Result<StimulusRows, AllocError>
-    ensures { IfOk result (λ kept. kept ≡ filter (λ row. has_net netlist.now row.net) rows.now) }
-{
-    let mut kept = Vec::new(alloc);
-    let all = rows.as_slice();
-    for row in all {
-        if knows(netlist, &row.net) {
-            let net = copy_name(alloc, &row.net)?;
-            kept.push(StimulusRow {
-                tick: row.tick,
-                net,
-                level: row.level,
-            })?;
-        }
+impl PartRow for DelayRow {
+    ghost is_of = { λ netlist row. has_delayed netlist row.what };
+
+    fn is_of(&self, netlist: &Netlist) -> bool {
+        knows_delayed(netlist, &self.what)
     }
-    Ok(StimulusRows::new(kept))
+
+    fn copy(&self, alloc: Global) -> Result<Self, AllocError> {
+        Ok(DelayRow {
+            what: copy_delayed(alloc, &self.what)?,
+            delay: self.delay,
+        })
+    }
 }
 
-/// The clock rows of nets of the netlist.
-pub(crate) fn clocks_on(
+impl PartRow for StimulusRow {
+    ghost is_of = { λ netlist row. has_net netlist row.net };
+
+    fn is_of(&self, netlist: &Netlist) -> bool {
+        knows(netlist, &self.net)
+    }
+
+    fn copy(&self, alloc: Global) -> Result<Self, AllocError> {
+        Ok(StimulusRow {
+            tick: self.tick,
+            net: copy_name(alloc, &self.net)?,
+            level: self.level,
+        })
+    }
+}
+
+impl PartRow for ClockRow {
+    ghost is_of = { λ netlist row. has_net netlist row.net };
+
+    fn is_of(&self, netlist: &Netlist) -> bool {
+        knows(netlist, &self.net)
+    }
+
+    fn copy(&self, alloc: Global) -> Result<Self, AllocError> {
+        Ok(ClockRow {
+            net: copy_name(alloc, &self.net)?,
+            first: self.first,
+            period: self.period,
+        })
+    }
+}
+
+/// The rows of a table that are about no net which the netlist lacks.
+pub(crate) fn rows_on<R: PartRow>(
     alloc: Global,
     netlist: &Netlist,
-    rows: &ClockRows,
-) -> Result<ClockRows, AllocError>
-    ensures { IfOk result (λ kept. kept ≡ filter (λ row. has_net netlist.now row.net) rows.now) }
+    rows: &Rows<R>,
+) -> Result<Rows<R>, AllocError>
+    ensures { IfOk result (λ kept. kept ≡ filter (R.is_of netlist.now) rows.now) }
 {
     let mut kept = Vec::new(alloc);
     let all = rows.as_slice();
     for row in all {
-        if knows(netlist, &row.net) {
-            let net = copy_name(alloc, &row.net)?;
-            kept.push(ClockRow {
-                net,
-                first: row.first,
-                period: row.period,
-            })?;
+        if row.is_of(netlist) {
+            kept.push(row.copy(alloc)?)?;
         }
     }
-    Ok(ClockRows::new(kept))
+    Ok(Rows::new(kept))
 }

@@ -122,8 +122,7 @@ pub fn read_delays(alloc: Global, text: &[u8]) -> Result<DelayRows, DesignFault>
     ensures { FollowsChecks (table_checks delay_header delay_record_checks (table_records text.now))
         (table_rows delay_row_of (table_records text.now)) result }
 {
-    let rows = read_table(alloc, text)?;
-    Ok(DelayRows::new(rows))
+    read_table::<DelayRow>(alloc, text)
 }
 
 /// The level that a value names.
@@ -190,8 +189,7 @@ pub fn read_stimuli(alloc: Global, text: &[u8]) -> Result<StimulusRows, DesignFa
     ensures { FollowsChecks (table_checks stimulus_header stimulus_record_checks (table_records text.now))
         (table_rows stimulus_row_of (table_records text.now)) result }
 {
-    let rows = read_table(alloc, text)?;
-    Ok(StimulusRows::new(rows))
+    read_table::<StimulusRow>(alloc, text)
 }
 
 #[tactic(auto, unfolding(crate::specs::Checks::first_fault, crate::specs::Readers::clock_record_checks))]
@@ -249,6 +247,5 @@ pub fn read_clocks(alloc: Global, text: &[u8]) -> Result<ClockRows, DesignFault>
     ensures { FollowsChecks (table_checks clock_header clock_record_checks (table_records text.now))
         (table_rows clock_row_of (table_records text.now)) result }
 {
-    let rows = read_table(alloc, text)?;
-    Ok(ClockRows::new(rows))
+    read_table::<ClockRow>(alloc, text)
 }

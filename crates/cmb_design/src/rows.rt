@@ -6,6 +6,11 @@ use cmb_bench::{Cell, Name};
 use cmb_wave::Level;
 use std::marker::Model;
 
+/// A row of one of the tables, with what holds of its numbers.
+pub trait Row: Sized + Drop {
+    ghost IsLawful: { Self → Type 0 };
+}
+
 /// What a row of the delay table is about.
 #[derive(Drop)]
 pub enum Delayed {
@@ -25,6 +30,12 @@ pub struct DelayRow {
     pub delay: u32,
 }
 
+impl Row for DelayRow {
+    ghost use Rattle.cmb_design.specs.Ranges.{IsDelayRow};
+
+    ghost IsLawful = { IsDelayRow };
+}
+
 /// A row of the stimulus table.
 #[derive(Drop)]
 pub struct StimulusRow {
@@ -32,6 +43,12 @@ pub struct StimulusRow {
     pub tick: u64,
     pub net: Name,
     pub level: Level,
+}
+
+impl Row for StimulusRow {
+    ghost use Rattle.cmb_design.specs.Ranges.{IsStimulusRow};
+
+    ghost IsLawful = { IsStimulusRow };
 }
 
 /// A row of the clock table.
@@ -44,6 +61,12 @@ pub struct ClockRow {
     pub period: u32,
 }
 
+impl Row for ClockRow {
+    ghost use Rattle.cmb_design.specs.Ranges.{IsClockRow};
+
+    ghost IsLawful = { IsClockRow };
+}
+
 /// A sampling clock: its ticks are `first`, `first + period`, `first + 2 * period` and so on.
 #[derive(Clone, Copy, Debug, PartialEq, Eq)]
 pub struct Clock {
@@ -53,110 +76,46 @@ pub struct Clock {
     pub period: u32,
 }
 
-/// The rows of a delay table, in the order of their records. Only a reader makes them.
+/// The rows of a table, in the order of their records. Only a reader makes them.
 #[derive(Drop)]
-pub struct DelayRows {
-    rows: Vec<DelayRow>,
+pub struct Rows<R: Row> {
+    rows: Vec<R>,
 }
 
-impl Model for DelayRows {
+impl<R: Row> Model for Rows<R> {
     ghost use Rattle.std.specs.Prelude.{List};
-    ghost use Rattle.cmb_design.specs.declared.rows.DelayRow.{DelayRow};
-    ghost use Rattle.cmb_design.specs.Ranges.{AreDelayRows};
+    ghost use Rattle.cmb_design.specs.Ranges.{AreRows};
 
-    ghost Value = { List DelayRow };
+    ghost Value = { List R };
 
     ghost view = { λ a. a.rows.items };
 
-    ghost invariant = { λ a. AreDelayRows a.rows.items };
+    ghost invariant = { λ a. AreRows R.IsLawful a.rows.items };
 }
 
-impl DelayRows {
-    ghost use Rattle.cmb_design.specs.Ranges.{AreDelayRows};
+impl<R: Row> Rows<R> {
+    ghost use Rattle.cmb_design.specs.Ranges.{AreRows};
 
-    pub(crate) fn new(rows: Vec<DelayRow>) -> DelayRows
-        requires { AreDelayRows rows.items }
+    pub(crate) fn new(rows: Vec<R>) -> Rows<R>
+        requires { AreRows R.IsLawful rows.items }
         ensures { result ≡ rows.items }
     {
-        DelayRows { rows }
+        Rows { rows }
     }
 
-    pub(crate) fn as_slice(&self) -> &[DelayRow]
+    pub(crate) fn as_slice(&self) -> &[R]
         ensures value { result.now ≡ self.now }
-        ensures lawful { AreDelayRows self.now }
+        ensures lawful { AreRows R.IsLawful self.now }
     {
         self.rows.as_slice()
     }
 }
 
-/// The rows of a stimulus table, in the order of their records. Only a reader makes them.
-#[derive(Drop)]
-pub struct StimulusRows {
-    rows: Vec<StimulusRow>,
-}
+/// The rows of a delay table.
+pub type DelayRows = Rows<DelayRow>;
 
-impl Model for StimulusRows {
-    ghost use Rattle.std.specs.Prelude.{List};
-    ghost use Rattle.cmb_design.specs.declared.rows.StimulusRow.{StimulusRow};
-    ghost use Rattle.cmb_design.specs.Ranges.{AreStimulusRows};
+/// The rows of a stimulus table.
+pub type StimulusRows = Rows<StimulusRow>;
 
-    ghost Value = { List StimulusRow };
-
-    ghost view = { λ a. a.rows.items };
-
-    ghost invariant = { λ a. AreStimulusRows a.rows.items };
-}
-
-impl StimulusRows {
-    ghost use Rattle.cmb_design.specs.Ranges.{AreStimulusRows};
-
-    pub(crate) fn new(rows: Vec<StimulusRow>) -> StimulusRows
-        requires { AreStimulusRows rows.items }
-        ensures { result ≡ rows.items }
-    {
-        StimulusRows { rows }
-    }
-
-    pub(crate) fn as_slice(&self) -> &[StimulusRow]
-        ensures value { result.now ≡ self.now }
-        ensures lawful { AreStimulusRows self.now }
-    {
-        self.rows.as_slice()
-    }
-}
-
-/// The rows of a clock table, in the order of their records. Only a reader makes them.
-#[derive(Drop)]
-pub struct ClockRows {
-    rows: Vec<ClockRow>,
-}
-
-impl Model for ClockRows {
-    ghost use Rattle.std.specs.Prelude.{List};
-    ghost use Rattle.cmb_design.specs.declared.rows.ClockRow.{ClockRow};
-    ghost use Rattle.cmb_design.specs.Ranges.{AreClockRows};
-
-    ghost Value = { List ClockRow };
-
-    ghost view = { λ a. a.rows.items };
-
-    ghost invariant = { λ a. AreClockRows a.rows.items };
-}
-
-impl ClockRows {
-    ghost use Rattle.cmb_design.specs.Ranges.{AreClockRows};
-
-    pub(crate) fn new(rows: Vec<ClockRow>) -> ClockRows
-        requires { AreClockRows rows.items }
-        ensures { result ≡ rows.items }
-    {
-        ClockRows { rows }
-    }
-
-    pub(crate) fn as_slice(&self) -> &[ClockRow]
-        ensures value { result.now ≡ self.now }
-        ensures lawful { AreClockRows self.now }
-    {
-        self.rows.as_slice()
-    }
-}
+/// The rows of a clock table.
+pub type ClockRows = Rows<ClockRow>;

@@ -2,25 +2,21 @@
 
 ghost use Rattle.std.specs.Prelude.{◌≡◌, ◌<◌, ◌≤◌, IfSome};
 ghost use Rattle.cmb_wave.specs.declared.level.Level.TheVariants.{X};
-ghost use Rattle.std.specs.List.Sorted.{IsNonDecreasingBy};
 ghost use Rattle.cmb_wave.specs.Waveform.{Rises, changes_below, level_at};
 ghost use Rattle.cmb_design.specs.Ranges.{AreTicks};
 ghost use Rattle.cmb_design.specs.Timing.{common_clock, last_sample, next_sample};
 
 use crate::rows::Clock;
+use cmb_wave::search::{left_from, level_after};
 use cmb_wave::{Change, Level};
 
 /// The level at a tick that changes in order tell.
 pub(crate) fn level_told(changes: &[Change], tick: u32) -> Level
-    requires { IsNonDecreasingBy (λ change. change.tick) changes.now }
+    requires { Rises 0 changes.now }
     ensures { result ≡ level_at X changes.now tick }
 {
     let count = changes.partition_point(|change| change.tick <= tick);
-    if count == 0 {
-        Level::X
-    } else {
-        changes[count - 1].level
-    }
+    level_after(Level::X, changes, count)
 }
 
 /// The changes at ticks below this one.
@@ -28,8 +24,8 @@ pub(crate) fn told_before(changes: &[Change], tick: u32) -> &[Change]
     requires { Rises 0 changes.now }
     ensures { result.now ≡ changes_below tick changes.now }
 {
-    let count = changes.partition_point(|change| change.tick < tick);
-    &changes[..count]
+    let rest = left_from(Level::X, changes, tick).changes;
+    &changes[..changes.len() - rest.len()]
 }
 
 /// The clock of each flip-flop that has none of its own.

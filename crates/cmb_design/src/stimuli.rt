@@ -69,27 +69,6 @@ fn no_levels(alloc: Global, count: usize) -> Result<Vec<Told>, AllocError>
     Ok(table)
 }
 
-/// For each net the levels of its rows by their ticks.
-fn take_stimuli(
-    alloc: Global,
-    netlist: &Netlist,
-    rows: &[StimulusRow],
-) -> Result<Vec<Told>, DesignFault>
-    requires { length rows.now ≤ MAX_TEXT }
-    ensures ok { IfOk result (λ v. (first_fault (rows_checks (stimulus_row_checks netlist.now) rows.now) ≡ None)
-        × AreStimuli netlist.now rows.now v.items) }
-    ensures err { IfErr result (IsFaultOf (rows_checks (stimulus_row_checks netlist.now) rows.now)) }
-{
-    let Ok(mut table) = no_levels(alloc, netlist.len()) else {
-        return Err(DesignFault::Memory);
-    };
-    let mut likely = 0;
-    for i in 0..rows.len() {
-        take_stimulus(alloc, netlist, rows, i, &mut likely, &mut table)?;
-    }
-    Ok(table)
-}
-
 /// Makes lists of what the nets' rows told.
 fn settle_all(alloc: Global, table: &mut Vec<Told>) -> Result<(), AllocError>
     requires { AllTold table.old.items }
@@ -113,7 +92,13 @@ pub(crate) fn stimuli_changes(
         × (map changes_in v.items ≡ stimulus_changes netlist.now rows.now ALL_TICKS)) }
     ensures err { IfErr result (IsFaultOf (rows_checks (stimulus_row_checks netlist.now) rows.now)) }
 {
-    let mut table = take_stimuli(alloc, netlist, rows)?;
+    let Ok(mut table) = no_levels(alloc, netlist.len()) else {
+        return Err(DesignFault::Memory);
+    };
+    let mut likely = 0;
+    for i in 0..rows.len() {
+        take_stimulus(alloc, netlist, rows, i, &mut likely, &mut table)?;
+    }
     let Ok(()) = settle_all(alloc, &mut table) else {
         return Err(DesignFault::Memory);
     };

@@ -1,23 +1,24 @@
 //! A table: a header, and then rows.
 
 ghost use Rattle.std.specs.Prelude.{◌∷◌, ◌≤◌, [], List, ℕ, length, ◌≡◌, ◌==◌, ◌++◌, if◌then◌else◌, IfErr, IfOk};
-ghost use Rattle.std.specs.Prelude.{OnOk};
+ghost use Rattle.std.specs.Prelude.{OnOk, None, map};
 ghost use Rattle.std.specs.Cmp.Lexicographic.{pointwise};
 ghost use Rattle.std.specs.Str.{bytes_eq};
 ghost use Rattle.csv.specs.Records.{fields_of};
 ghost use Rattle.cmb_design.specs.Checks.{IsFaultOf, Check, FollowsChecks, first_fault};
 ghost use Rattle.cmb_design.specs.Fields.{fields_in};
 ghost use Rattle.cmb_design.specs.Readers.{record_checks, table_checks, table_rows};
-ghost use Rattle.cmb_design.specs.Records.{table_records};
+ghost use Rattle.cmb_design.specs.Records.{IsReading, records_left, table_records};
 
 use crate::fault::DesignFault;
 use crate::records::{next_record, open_records};
+use crate::rows::{Row, Rows};
 use cmb_bench::MAX_TEXT;
-use csv::ByteRecord;
+use csv::{ByteRecord, Reader};
 use std::alloc::Global;
 
 /// A row of a table, by its header, the checks of a record in their order, and what a record says.
-pub(crate) trait TableRow: Sized + Drop {
+pub(crate) trait TableRow: Row {
     ghost header: { List (List ℕ) };
 
     ghost checks: { ℕ → List (List ℕ) → List Check };
@@ -67,24 +68,48 @@ fn likely_rows(text: &[u8]) -> usize {
     text.len() / 12
 }
 
-/// Reads a table.
-pub(crate) fn read_table<T: TableRow>(alloc: Global, text: &[u8]) -> Result<Vec<T>, DesignFault>
-    requires { length text.now ≤ MAX_TEXT }
-    ensures ok { IfOk result (λ v. (first_fault (table_checks T.header T.checks (table_records text.now)) ≡ None)
-        × (v.items ≡ table_rows T.row_of (table_records text.now))) }
-    ensures err { IfErr result (IsFaultOf (table_checks T.header T.checks (table_records text.now))) }
+/// Takes the records that a reader has left.
+fn take_records<T: TableRow>(
+    alloc: Global,
+    reader: &mut Reader<&[u8]>,
+    row: &mut ByteRecord,
+    rows: &mut Vec<T>,
+) -> Result<(), DesignFault>
+    requires reading { IsReading reader.old }
+    requires few { length (records_left reader.old) ≤ MAX_TEXT }
+    requires none { rows.old.items ≡ [] }
+    ensures ok { OnOk result ((first_fault (table_checks T.header T.checks (map fields_in (records_left reader.old)))
+        ≡ None)
+        × (rows.new.items ≡ table_rows T.row_of (map fields_in (records_left reader.old)))) }
+    ensures err { IfErr result (IsFaultOf (table_checks T.header T.checks (map fields_in (records_left reader.old)))) }
 {
-    let mut reader = open_records(alloc, text);
-    let mut row = ByteRecord::new(alloc);
-    let Ok(mut rows) = Vec::with_capacity(alloc, likely_rows(text)) else {
-        return Err(DesignFault::Memory);
-    };
     for number in 1..u32::MAX {
-        match next_record(&mut reader, &mut row) {
+        match next_record(reader, row) {
             Err(_) => return Err(DesignFault::Memory),
-            Ok(false) => return Ok(rows),
-            Ok(true) => take_record(alloc, number, &row, &mut rows)?,
+            Ok(false) => return Ok(()),
+            Ok(true) => take_record(alloc, number, row, rows)?,
         }
     }
     unreachable!()
+}
+
+/// Reads a table.
+pub(crate) fn read_table<T: TableRow>(alloc: Global, text: &[u8]) -> Result<Rows<T>, DesignFault>
+    requires text { length text.now ≤ MAX_TEXT }
+    requires lawful { (number : ℕ) (fields : List (List ℕ)) → first_fault (T.checks number fields) ≡ None
+        → T.IsLawful (T.row_of fields) }
+    ensures { FollowsChecks (table_checks T.header T.checks (table_records text.now))
+        (table_rows T.row_of (table_records text.now)) result }
+{
+    let Ok(mut rows) = Vec::with_capacity(alloc, likely_rows(text)) else {
+        return Err(DesignFault::Memory);
+    };
+    let mut reader = open_records(alloc, text);
+    let mut row = ByteRecord::new(alloc);
+    let taken = take_records(alloc, &mut reader, &mut row, &mut rows);
+    drop((reader, row));
+    match taken {
+        Ok(()) => Ok(Rows::new(rows)),
+        Err(fault) => Err(fault),
+    }
 }

@@ -1,7 +1,7 @@
 //! What a path-based search knows.
 
 /// How far a search has come with a net.
-#[derive(Clone, Copy, Debug, PartialEq, Eq)]
+#[derive(Clone, Copy)]
 pub(crate) enum Seen {
     /// It wasn't found yet.
     New,
@@ -12,7 +12,7 @@ pub(crate) enum Seen {
 }
 
 /// A net on the path of which steps are left.
-#[derive(Clone, Copy, Debug)]
+#[derive(Clone, Copy)]
 pub(crate) struct Frame {
     /// The net's place on the path.
     pub place: usize,

@@ -11,8 +11,6 @@ use Rattle.std.proofs.lemmas.List.Folds.{list_any_none, list_any_at, Any-from_li
 use Rattle.std.proofs.lemmas.List.Kept.{AllPairs-from_increasing}
 use Rattle.std.proofs.lemmas.Map.Keys.{apart_from_distinct, IsDistinct-from_apart}
 use Rattle.std.specs.Cmp.Lexicographic.{nat_list_eq_equiv}
-use Rattle.cmb_bench.specs.declared.netlist.Kind.{Kind}
-use Rattle.cmb_bench.specs.declared.netlist.Kind.TheVariants.{And, Nand, Or, Nor, Xor, Xnor, Not, Buff}
 use Rattle.cmb_bench.specs.declared.netlist.Driver.{Driver}
 use Rattle.cmb_bench.specs.declared.netlist.Driver.TheVariants.{Input, Gate, Flop}
 use Rattle.cmb_bench.specs.Netlist.{Netlist, IsNetlist, IsWired, MayTake, driver_of, name_of, pins_of}
@@ -88,17 +86,7 @@ module _ (nets places : List ℕ) (are : ArePlaces nets places) where
   wired_part : (count : ℕ) (driver : Driver) → IsWired count driver → All (Contains nets) (pins_of driver) → IsWired (length nets) (with_nets (λ n. get_or places n 0) driver)
   wired_part count Input wired there = tt
   wired_part count (Gate kind operands) wired there =
-      (taken kind (length-map operands (λ n. get_or places n 0)) wired.0, All-map (λ p. p < length nets) (λ n. get_or places n 0) operands (λ k d within. (place_back (get_or operands k d) (there k d within)).0))
-    where
-      taken : (kind : Kind) {a b : ℕ} → a ≡ b → MayTake kind b → MayTake kind a
-      taken And e h = omega arith
-      taken Nand e h = omega arith
-      taken Or e h = omega arith
-      taken Nor e h = omega arith
-      taken Xor e h = omega arith
-      taken Xnor e h = omega arith
-      taken Not e h = omega arith
-      taken Buff e h = omega arith
+      (subst (MayTake kind) (sym (length-map operands (λ n. get_or places n 0))) wired.0, All-map (λ p. p < length nets) (λ n. get_or places n 0) operands (λ k d within. (place_back (get_or operands k d) (there k d within)).0))
   wired_part count (Flop source) wired there = (place_back source (there 0 0 (omega arith))).0
 
   read_back : (driver : Driver) → All (Contains nets) (pins_of driver) → with_nets (λ n. get_or nets n 0) (with_nets (λ n. get_or places n 0) driver) ≡ driver

@@ -23,8 +23,8 @@ loop-cursor-preserved c =
     let AreNets : List ℕ → Type 0 = λ nets. All IsNet nets in
     record {
       known = c.loop-cursor.invariant.known ∙ known_next c.args.netlist.now _ _ _ c.next-token.ensures.token (c.number_in.ensures.unknown more ∙ ap is_none c.in-Some.is) more;
-      named = numbers_more c.loop-cursor.numbers.items _ _ _ c.in-Some.net c.in_ok-push.ensures.items
+      named = numbers_more c.loop-cursor.numbers.items _ _ _ c.in-Some.net c.in-Ok.ensures.items
           (ap (λ rest. c.loop-cursor.numbers.items ++ rest) (sym (named_next _ _ _ _ c.next-token.ensures.token _ (sym c.number_in.ensures.value ∙ c.in-Some.is) more)) ∙ c.loop-cursor.invariant.named);
-      nets = subst AreNets (sym c.in_ok-push.ensures.items) (All-push IsNet c.loop-cursor.numbers.items c.in-Some.net c.loop-cursor.invariant.nets c.in-Some.ensures.below.0);
+      nets = subst AreNets (sym c.in-Ok.ensures.items) (All-push IsNet c.loop-cursor.numbers.items c.in-Some.net c.loop-cursor.invariant.nets c.in-Some.ensures.below.0);
       fits = omega (arith, c.next-token.ensures.fits, c.loop-cursor.invariant.fits);
     }

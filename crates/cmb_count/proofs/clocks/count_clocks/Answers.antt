@@ -3,13 +3,13 @@ use Rattle.cmb_bench.specs.Netlist.{Netlist, driver_of}
 use Rattle.cmb_design.specs.Nets.{is_flop}
 use Rattle.cmb_design.specs.Timing.{clock_of}
 use Rattle.cmb_count.proofs.ClockFacts.{met, met_count, none_before, passed, passed_count}
-use Rattle.cmb_count.proofs.BelowFacts.{count_below-none}
+use Rattle.cmb_count.proofs.BelowFacts.{count_below_none}
 use Rattle.cmb_count.proofs.clocks.count_clocks.Goals.{then-has_kind+in_ok-note_clock, else-has_kind}
 use Rattle.cmb_count.proofs.clocks.count_clocks.Goals as goal
 
 pub loop-net-init : goal.loop-net-init
 loop-net-init c = record {
-  count = rw (c.new-clocks.ensures.items, count_below-none) refl;
+  count = rw (c.new-clocks.ensures.items, count_below_none) refl;
   found = λ clock. rw (c.new-clocks.ensures.items) (none_before c.args.design.now clock);
 }
 

@@ -1,7 +1,7 @@
 use Rattle.std.proofs.Common.{◌≡◌, ◌∙◌, None, inl, inr, ⊎_elim}
 use Rattle.std.proofs.lemmas.Result.{err_from_is_err_and}
 use Rattle.cmb_design.specs.Checks.{first_fault}
-use Rattle.cmb_design.specs.Ranges.{AreClockRows, AreDelayRows}
+use Rattle.cmb_design.specs.Ranges.{AreRows, IsClockRow, IsDelayRow}
 use Rattle.cmb_design.specs.Design.{Design, design_of}
 use Rattle.cmb_design.proofs.LawfulFacts.{lawful}
 use Rattle.cmb_design.proofs.WholeFacts.{in_clocks, in_delays, in_settings, in_stimuli, of_clocks, of_delays, of_settings, of_stimuli}
@@ -49,8 +49,8 @@ returns-clause-ok c =
     let stimuli : first_fault (of_stimuli d) ≡ None = rw c.as_slice.ensures.value at c.in_ok-changes.ensures.ok.0 in
     let clocks : first_fault (of_clocks d) ≡ None = rw c.as_slice-clock_rows.ensures.value at c.in_ok-own_clocks.ensures.ok.0 in
     let passes = in_clocks d settings delays stimuli ∙ clocks in
-    let delay_rows : AreDelayRows d.delays = c.as_slice-delay_rows.ensures.lawful in
-    let clock_rows : AreClockRows d.clocks = c.as_slice-clock_rows.ensures.lawful in (
+    let delay_rows : AreRows IsDelayRow d.delays = c.as_slice-delay_rows.ensures.lawful in
+    let clock_rows : AreRows IsClockRow d.clocks = c.as_slice-clock_rows.ensures.lawful in (
       passes,
       record {
         starts = c.in_ok-layout.ensures.ok.0;

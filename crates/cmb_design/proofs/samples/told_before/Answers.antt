@@ -1,14 +1,13 @@
-use Rattle.std.proofs.Common.{◌≡◌, nat_lt, rules}
-use Rattle.std.proofs.lemmas.List.Sorted.{IsPartitionPoint-from_clause, IsPartitionedBy-ltb}
+use Rattle.std.proofs.Common.{◌≡◌, ◌-◌, arith, length, ap, ◌∙◌}
+use Rattle.std.proofs.lemmas.List.{length-drop}
 use Rattle.cmb_wave.specs.Waveform.{below}
-use Rattle.cmb_wave.proofs.Lists.{below_at_point, take_below, ticks_ascend}
+use Rattle.cmb_wave.proofs.Lists.{below_length, take_below}
 use Rattle.cmb_design.proofs.samples.told_before.Goals as goal
 
 pub returns : goal.returns
 returns c =
     let cs = c.args.changes.now in
-    let parted = IsPartitionedBy-ltb (λ change. change.tick) _ c.args.tick (ticks_ascend 0 _ c.requires) in
-    let count : c.partition_point-count.result ≡ below c.args.tick cs =
-    below_at_point c.args.tick _ _ c.partition_point-count.ensures.bound
-    (IsPartitionPoint-from_clause (λ change. nat_lt change.tick c.args.tick) _ _ c.partition_point-count.ensures.partitioned parted (λ a r f' call. search rules)) in
-    rw count (take_below 0 c.args.tick cs c.requires)
+    let tick = c.args.tick in
+    let rest = ap length c.left_from.ensures.changes ∙ length-drop (below tick cs) cs in
+    let count : length cs - length c.left_from.result.changes.now ≡ below tick cs = omega (arith, rest, below_length tick cs) in
+    rw count (take_below 0 tick cs c.requires)

@@ -1,5 +1,5 @@
 use Rattle.std.proofs.Common.{◌<◌, ◌∙◌, arith, length, sym}
-use Rattle.cmb_design.specs.Design.{Design}
+use Rattle.cmb_design.specs.Inside.{seen}
 use Rattle.cmb_design.proofs.PlaceFacts.{slot, slot_within}
 use Rattle.cmb_design.proofs.AskFacts.{clock_read}
 use Rattle.cmb_design.proofs.design.Design.clock.Goals as goal
@@ -12,7 +12,6 @@ index-requires c =
 pub returns-clause-value : goal.returns-clause-value
 returns-clause-value c =
     let i = c.self.inside in
-    let d : Design = record { netlist = i.netlist; horizon = i.horizon; init = i.init; clock = i.clock; delays = i.delays; stimuli = i.stimuli; clocks = i.clocks } in
     let h : c.args.net < length i.netlist.names = rw (sym c.self.view_is) at c.requires in
     let e = slot _ _ _ _ _ _ c.index.result.now h c.self.invariant.own_clocks c.index.ensures in
-    rw (← c.self.view_is) (c.unwrap_or.ensures ∙ clock_read d c.args.net c.index.result.now c.clock_for_all.result e c.clock_for_all.ensures)
+    rw (← c.self.view_is) (c.unwrap_or.ensures ∙ clock_read (seen i) c.args.net c.index.result.now c.clock_for_all.result e c.clock_for_all.ensures)

@@ -1,5 +1,8 @@
-use Rattle.std.proofs.Common.{◌<◌, ◌≤◌, ap, arith, length, sym}
+use Rattle.std.proofs.Common.{◌<◌, ◌≤◌, ap, arith, length, subst, sym}
+use Rattle.cmb_design.specs.Design.{Design}
 use Rattle.cmb_design.specs.Nets.{pins_at}
+use Rattle.cmb_design.specs.Ranges.{IsDelay}
+use Rattle.cmb_design.specs.Timing.{delay}
 use Rattle.cmb_design.proofs.RowFacts.{length-starts, start_in}
 use Rattle.cmb_design.proofs.FlatFacts.{flat-read, length-flat, start-read}
 use Rattle.cmb_design.proofs.design.Design.delay.Goals as goal
@@ -36,9 +39,4 @@ returns-clause-value c =
 
 pub returns-clause-small : goal.returns-clause-small
 returns-clause-small c =
-    let i = c.self.inside in
-    let h : c.args.net < length i.netlist.names = rw (sym c.self.view_is) at c.requires.net in
-    let high : c.args.pin ≤ pins_at i.netlist c.args.net = rw (sym c.self.view_is) at c.requires.high in
-    let s = start-read i.netlist i.tables.starts.items c.args.net c.index.result.now c.self.invariant.starts h c.index.ensures in
-    rw (flat-read i.netlist i.delays i.tables.delays.items c.args.net c.args.pin c.index.result.now c.index-2.result.now c.self.invariant.delays h c.requires.low high s c.index-2.ensures)
-    (c.self.invariant.lawful.delays c.args.net c.args.pin)
+    rw (returns-clause-value c) (subst (λ (d : Design). IsDelay (delay d c.args.net c.args.pin)) c.self.view_is (c.self.invariant.lawful.delays c.args.net c.args.pin))

@@ -1,14 +1,8 @@
 use Rattle.std.proofs.Common.{◌≤◌, ◌∙◌, ap, arith}
 use Rattle.cmb_wave.specs.Waveform.{changes_below}
-use Rattle.cmb_wave.proofs.Waveforms.{changes_below-changes_between, changes_between-rises}
+use Rattle.cmb_wave.proofs.Waveforms.{changes_below-changes_between}
 use Rattle.cmb_design.specs.Timing.{stimulus}
-use Rattle.cmb_design.proofs.AskFacts.{rises-within}
 use Rattle.cmb_design.proofs.design.Design.stim_changes.Goals as goal
-
-pub told_before-requires : goal.told_before-requires
-told_before-requires c =
-    let d = c.args.self.now in
-    rw c.told.ensures.value (rises-within 0 4294967296 _ (changes_between-rises (stimulus d c.args.net) 0 4294967296 (omega arith)))
 
 pub returns : goal.returns
 returns c =
