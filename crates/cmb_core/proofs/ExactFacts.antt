@@ -1,8 +1,8 @@
 -- Exact waves stay exact under the calls of a cluster.
-use Rattle.std.proofs.Common.{◌≡◌, ℕ, zero, suc, ◌+◌, ◌-◌, ◌<◌, ◌≤◌, Bool, true, false, cond, eqb, ltb, leb, List, [], ◌∷◌, ◌⊎◌, inl, inr, length, get_or, map, Option, Some, None, Result, Ok, Err, IfSome, IfOk, OnOk, OnErr, IsSome, refl, sym, ◌∙◌, ap, subst, arith}
+use Rattle.std.proofs.Common.{◌≡◌, ℕ, suc, ◌+◌, ◌-◌, ◌<◌, ◌≤◌, Bool, true, false, cond, eqb, ltb, leb, List, [], ◌∷◌, ◌⊎◌, inl, inr, length, get_or, map, Option, Some, None, Result, Ok, Err, IfSome, IfOk, OnOk, OnErr, IsSome, refl, sym, ◌∙◌, ap, subst, arith}
 use Rattle.std.specs.Prelude.{All}
-use Rattle.std.specs.List.{AllByRecursion, range_with_len}
-use Rattle.std.proofs.lemmas.List.Elements.{recursion_from_All}
+use Rattle.std.specs.List.{AllByRecursion}
+use Rattle.std.proofs.lemmas.List.Elements.{All-from_recursion, All-get_or, recursion_from_All}
 use Rattle.std.proofs.lemmas.Bool.{lt-ltb, le-ltb, le-leb, ltb-true, ltb-false, leb-false, eqb-false, cases_lt, cases_eq}
 use Rattle.cmb_wave.specs.declared.level.Change.{Change}
 use Rattle.cmb_wave.specs.declared.level.Promise.{Promise}
@@ -32,14 +32,13 @@ use Rattle.cmb_core.specs.Opened.{IsClusterOf, held_nets}
 use Rattle.cmb_core.specs.Reach.{flop_need, AreKept, IsKept}
 use Rattle.cmb_core.specs.Rows.{Process, AreReady, IsReadyFor, sample_need, slot_of}
 use Rattle.cmb_core.specs.Step.{wave_at, told_from, step_reach, step_piece, with_wave}
-use Rattle.cmb_core.specs.Directory.{given_at, readers_from}
-use Rattle.cmb_core.specs.Trims.{least_need, trimmed_wave, trimmed}
+use Rattle.cmb_core.specs.Trims.{trimmed, IsTrim, AreTrims}
 use Rattle.cmb_core.proofs.Driven.{Drives, step_waves_are}
 use Rattle.cmb_core.proofs.OpenedFacts.{held_below}
 use Rattle.cmb_core.proofs.Slots.{slot_is}
 use Rattle.cmb_core.proofs.Steps.{wave_at-net, wave_at-exact, step_piece-is_exact}
 use Rattle.cmb_core.proofs.NetByNet.{still_of, drives_here, given_reach, long}
-use Rattle.cmb_core.proofs.TrimFacts.{least_clock}
+use Rattle.cmb_core.proofs.TrimFacts.{trimmed_trims}
 use Rattle.cmb_core.proofs.Replacing.{all-with}
 
 -- ---- by the result of a call
@@ -247,34 +246,21 @@ heard_exact design waves promise all right =
 
 -- ---- a trim
 
-all_get : (P : Wave → Type 0) (waves : List Wave) (i : ℕ) (d : Wave) → AllByRecursion P waves → i < length waves → P (get_or waves i d)
-all_get P [] i d all h = absurd (omega arith)
-all_get P (w ∷ ws) zero d all h = all.0
-all_get P (w ∷ ws) (suc i) d all h = all_get P ws i d all.1 (omega arith)
+trim_exact : (design : Design) (w v : Wave) → IsTrim w v → IsExactWaveIn design w → IsExactWaveIn design v
+trim_exact design w v t exact = subst (IsExactWaveIn design) (sym t.2) (go (ltb w.base t.0) refl)
+  where
+    go : (more : Bool) → ltb w.base t.0 ≡ more → IsExactWaveIn design (cond more (wave_from w t.0) w)
+    go false e = exact
+    go true e = record { net = exact.net; exact = from-exact (value design w.net) design.horizon w exact.exact t.0 (omega (arith, ltb-true _ _ e)) t.1 }
 
-all_range : (P : Wave → Type 0) (f : ℕ → Wave) (a n : ℕ) → ((k : ℕ) → a ≤ k → k < a + n → P (f k)) → AllByRecursion P (map f (range_with_len a n))
-all_range P f a zero each = tt
-all_range P f a (suc n) each = (each a (omega arith) (omega arith), all_range P f (a + 1) n (λ k low high. each k (omega arith) (omega arith)))
+trims_exact : (design : Design) (ws vs : List Wave) → AreTrims ws vs → AllByRecursion (IsExactWaveIn design) ws → AllByRecursion (IsExactWaveIn design) vs
+trims_exact design [] [] t all = tt
+trims_exact design (w ∷ ws) (v ∷ vs) t all = (trim_exact design w v t.0 all.0, trims_exact design ws vs t.1 all.1)
+trims_exact design [] (v ∷ vs) t all = absurd t
+trims_exact design (w ∷ ws) [] t all = absurd t
 
 pub trimmed_exact : (design : Design) (s : Cluster) → AllByRecursion (IsExactWaveIn design) s.waves → AllByRecursion (IsExactWaveIn design) (trimmed s).waves
-trimmed_exact design s all = all_range (IsExactWaveIn design) (trimmed_wave s) 0 (length s.waves) (λ k low high. each k (omega arith))
-  where
-    each : (k : ℕ) → k < length s.waves → IsExactWaveIn design (trimmed_wave s k)
-    each k h = go (given_at s.processes k) (ltb (slot_wave s k).base least) refl
-      where
-        least : ℕ
-        least = least_need s.processes s.waves (readers_from k 0 s.processes) (slot_wave s k).clock
-
-        exact : IsExactWaveIn design (slot_wave s k)
-        exact = all_get (IsExactWaveIn design) s.waves k (new_wave 0) all h
-
-        go : (given more : Bool) → ltb (slot_wave s k).base least ≡ more → IsExactWaveIn design (cond given (cond more (wave_from (slot_wave s k) least) (slot_wave s k)) (slot_wave s k))
-        go false more e = exact
-        go true false e = exact
-        go true true e = record {
-          net = exact.net;
-          exact = from-exact (value design (slot_wave s k).net) design.horizon (slot_wave s k) exact.exact least (omega (arith, ltb-true _ _ e)) (least_clock s.processes s.waves (readers_from k 0 s.processes) (slot_wave s k).clock);
-        }
+trimmed_exact design s all = trims_exact design s.waves (trimmed s).waves (trimmed_trims s) all
 
 -- ---- what is sent
 
@@ -296,7 +282,7 @@ sent_exact design wave exact from low high = go (eqb from wave.clock) refl
 pub placed_exact : (design : Design) (waves : List Wave) (net slot : ℕ) → AllByRecursion (IsExactWaveIn design) waves → slot_of waves net ≡ Some slot → IsExactWaveIn design (wave_at waves net)
 placed_exact design waves net slot all e =
     let wave : (slot < length waves) × (get_or waves slot (new_wave 0) ≡ wave_at waves net) = slot_is waves net slot (new_wave 0) e in
-    subst (IsExactWaveIn design) wave.1 (all_get (IsExactWaveIn design) waves slot (new_wave 0) all wave.0)
+    subst (IsExactWaveIn design) wave.1 (All-get_or (IsExactWaveIn design) waves slot (new_wave 0) wave.0 (All-from_recursion (IsExactWaveIn design) waves all))
 
 -- a cluster whose waves are exact after a call
 pub still_exact : (design : Design) (clustering : Clustering) (cluster : ℕ) (old new : Cluster) → IsSameButWaves old new → IsExactCluster design clustering cluster old → AllByRecursion (IsExactWaveIn design) new.waves → IsExactCluster design clustering cluster new

@@ -2,7 +2,7 @@
 use Rattle.std.proofs.Common.{◌≡◌, ℕ, zero, suc, ◌+◌, ◌<◌, ◌≤◌, Bool, true, false, not, ◌&&◌, ◌||◌, cond, eqb, List, [], ◌∷◌, length, get_or, map, Option, Some, None, IsSome, refl, sym, ◌∙◌, ap, subst, arith}
 use Rattle.std.specs.Prelude.{All, filter, option_map}
 use Rattle.std.specs.List.{AllByRecursion, range_with_len}
-use Rattle.std.proofs.lemmas.Bool.{eq-eqb, and_from}
+use Rattle.std.proofs.lemmas.Bool.{eq-eqb, eqb-true, and_from}
 use Rattle.std.proofs.lemmas.List.Elements.{All-from_recursion}
 use Rattle.cmb_wave.specs.Wave.{new_wave}
 use Rattle.cmb_bench.specs.Netlist.{driver_of, pins_of, IsNetlist}
@@ -98,13 +98,13 @@ pub new_nets : (nets : List ℕ) → wave_nets (map new_wave nets) ≡ nets
 new_nets [] = refl
 new_nets (n ∷ nets) = ap (λ ns. n ∷ ns) (new_nets nets)
 
-new_base : (nets : List ℕ) (net : ℕ) → (wave_at (map new_wave nets) net).base ≡ 0
-new_base [] net = refl
-new_base (n ∷ nets) net = go (eqb n net) (new_base nets net)
+pub new_here : (nets : List ℕ) (net : ℕ) → wave_at (map new_wave nets) net ≡ new_wave net
+new_here [] net = refl
+new_here (n ∷ nets) net = go (eqb n net) refl (new_here nets net)
   where
-    go : (b : Bool) → (wave_at (map new_wave nets) net).base ≡ 0 → (cond b (new_wave n) (wave_at (map new_wave nets) net)).base ≡ 0
-    go true h = refl
-    go false h = h
+    go : (b : Bool) → eqb n net ≡ b → wave_at (map new_wave nets) net ≡ new_wave net → cond b (new_wave n) (wave_at (map new_wave nets) net) ≡ new_wave net
+    go true e rest = ap new_wave (eqb-true _ _ e)
+    go false e rest = rest
 
 new_at : (nets : List ℕ) (i : ℕ) → ((get_or (map new_wave nets) i (new_wave 0)).base ≡ 0) × ((get_or (map new_wave nets) i (new_wave 0)).clock ≡ 0)
 new_at [] i = (refl, refl)
@@ -135,5 +135,5 @@ opened_sound horizon places nets processes at starts count = record {
     whole : AreWhole places (map new_wave nets)
     whole = record {
       slots = λ net. slot_place (map new_wave nets) net ∙ ap (λ ns. place_in ns net) (new_nets nets) ∙ sym (at net);
-      bases = new_base nets;
+      bases = λ net. ap (λ w. w.base) (new_here nets net);
     }

@@ -1,5 +1,5 @@
 -- A trim keeps what is still needed.
-use Rattle.std.proofs.Common.{◌≡◌, ℕ, zero, suc, ◌+◌, ◌-◌, ◌<◌, ◌≤◌, min, Bool, true, false, cond, eqb, ltb, List, [], ◌∷◌, ◌++◌, ◌⊎◌, inl, inr, length, get_or, set, map, refl, sym, ◌∙◌, ap, subst, arith, get_or-set_same, get_or-set_other, length-set}
+use Rattle.std.proofs.Common.{◌≡◌, ℕ, zero, suc, ◌+◌, ◌-◌, ◌<◌, ◌≤◌, min, Bool, true, false, cond, eqb, ltb, List, [], ◌∷◌, ◌⊎◌, inl, inr, length, get_or, set, map, refl, sym, ◌∙◌, ap, subst, arith, get_or-set_same, get_or-set_other, length-set}
 use Rattle.std.specs.List.{AllByRecursion, range_with_len}
 use Rattle.std.proofs.lemmas.Bool.{eq-eqb, ne_eqb, cases_eq, cases_lt, lt-ltb, le-ltb}
 use Rattle.std.specs.Prelude.{All}
@@ -19,9 +19,10 @@ use Rattle.cmb_core.specs.Clusters.{Cluster, IsSound, IsSameButWaves, slot_wave,
 use Rattle.cmb_core.specs.Rows.{Process, IsThere, AreReady, IsReadyFor, sample_need, is_given}
 use Rattle.cmb_core.specs.Step.{wave_at}
 use Rattle.cmb_core.specs.Directory.{given_at, pins_on, readers_from, listed_readers, IsDirectory}
-use Rattle.cmb_core.specs.Trims.{need, need_at, least_need, trimmed_to, trimmed_wave, trimmed}
+use Rattle.cmb_core.specs.Trims.{need, need_at, least_need, trimmed_to, trimmed_wave, trimmed, IsTrim, AreTrims}
 use Rattle.std.proofs.lemmas.List.{length-map}
 use Rattle.cmb_core.proofs.ClusterLemmas.{gone_on_set, sound_still}
+use Rattle.cmb_core.proofs.Everywhere.{all_append, all_back, all_front}
 use Rattle.cmb_core.proofs.Slots.{slot_wave as read_slot, set_slots}
 
 -- ---- the least need is below each need
@@ -33,14 +34,6 @@ least_clock ps ws (r ∷ rs) most = omega (arith, least_clock ps ws rs (min most
 least_each : (ps : List Process) (ws : List Wave) (rs : List Reader) (most : ℕ) → AllByRecursion (λ r. least_need ps ws rs most ≤ need_at ps ws r) rs
 least_each ps ws [] most = tt
 least_each ps ws (r ∷ rs) most = (omega (arith, least_clock ps ws rs (min most (need_at ps ws r))), least_each ps ws rs (min most (need_at ps ws r)))
-
-all_front : (P : Reader → Type 0) (xs ys : List Reader) → AllByRecursion P (xs ++ ys) → AllByRecursion P xs
-all_front P [] ys a = tt
-all_front P (x ∷ xs) ys a = (a.0, all_front P xs ys a.1)
-
-all_back : (P : Reader → Type 0) (xs ys : List Reader) → AllByRecursion P (xs ++ ys) → AllByRecursion P ys
-all_back P [] ys a = a
-all_back P (x ∷ xs) ys a = all_back P xs ys a.1
 
 -- the pins of the process in a place are among those of all
 pins_among : (P : Reader → Type 0) (place slot k : ℕ) (ps : List Process) (d : Process) → k < length ps → AllByRecursion P (readers_from place slot ps) → AllByRecursion P (pins_on place (slot + k) (get_or ps k d).operands)
@@ -120,19 +113,26 @@ needs_of ps ws least place slot (o ∷ os) a = go (eqb o.slot place) a (λ b. ne
 
 -- ---- a cluster stays sound as one of its given waves forgets
 
-pub trim_net : (least : ℕ) (w : Wave) → (trimmed_to least w).net ≡ w.net
-trim_net least w = go (ltb w.base least)
+-- what a wave keeps that forgets, a trimmed one does
+pub trim_keeps : (of : Wave → ℕ) (least : ℕ) (w : Wave) → of (wave_from w least) ≡ of w → of (trimmed_to least w) ≡ of w
+trim_keeps of least w same = go (ltb w.base least)
   where
-    go : (b : Bool) → (cond b (wave_from w least) w).net ≡ w.net
-    go true = refl
+    go : (b : Bool) → of (cond b (wave_from w least) w) ≡ of w
+    go true = same
     go false = refl
 
+pub trim_net : (least : ℕ) (w : Wave) → (trimmed_to least w).net ≡ w.net
+trim_net least w = trim_keeps (λ v. v.net) least w refl
+
 pub trim_clock : (least : ℕ) (w : Wave) → (trimmed_to least w).clock ≡ w.clock
-trim_clock least w = go (ltb w.base least)
-  where
-    go : (b : Bool) → (cond b (wave_from w least) w).clock ≡ w.clock
-    go true = refl
-    go false = refl
+trim_clock least w = trim_keeps (λ v. v.clock) least w refl
+
+-- nothing is below tick 0, so that nothing is forgotten
+trim_zero : (wave : Wave) → wave ≡ trimmed_to 0 wave
+trim_zero wave = let e : ltb wave.base 0 ≡ false = le-ltb _ _ (omega arith) in rw e refl
+
+pub trim_same : (wave : Wave) → IsTrim wave wave
+trim_same wave = (0, omega arith, trim_zero wave)
 
 pub trim_sound : (s : Cluster) → IsSound s → (i : ℕ) → i < length s.waves → is_given (process_at s i).rule ≡ true
     → IsSound (record s { waves = set s.waves i (trimmed_to (least_need s.processes s.waves (readers_from i 0 s.processes) (slot_wave s i).clock) (slot_wave s i)) })
@@ -186,15 +186,29 @@ pub record TrimmedSoFar (old now : Cluster) (upto : ℕ) : Type 0 where
   pub before : (k : ℕ) → k < upto → k < length old.waves → slot_wave now k ≡ trimmed_wave old k
   pub rest : (k : ℕ) → upto ≤ k → slot_wave now k ≡ slot_wave old k
 
-wave_clock : (s : Cluster) (k : ℕ) → (trimmed_wave s k).clock ≡ (slot_wave s k).clock
-wave_clock s k = go (given_at s.processes k)
+-- each wave is trimmed up to a tick that is no further than its clock
+pub wave_trims : (s : Cluster) (k : ℕ) → IsTrim (slot_wave s k) (trimmed_wave s k)
+wave_trims s k = go (given_at s.processes k)
   where
     least : ℕ
     least = least_need s.processes s.waves (readers_from k 0 s.processes) (slot_wave s k).clock
 
-    go : (b : Bool) → (cond b (trimmed_to least (slot_wave s k)) (slot_wave s k)).clock ≡ (slot_wave s k).clock
-    go true = trim_clock least (slot_wave s k)
-    go false = refl
+    go : (b : Bool) → IsTrim (slot_wave s k) (cond b (trimmed_to least (slot_wave s k)) (slot_wave s k))
+    go true = (least, least_clock s.processes s.waves (readers_from k 0 s.processes) (slot_wave s k).clock, refl)
+    go false = trim_same (slot_wave s k)
+
+pub trims_range : (ws : List Wave) (f : ℕ → Wave) (a : ℕ) → ((k : ℕ) → k < length ws → IsTrim (get_or ws k (new_wave 0)) (f (a + k))) → AreTrims ws (map f (range_with_len a (length ws)))
+trims_range [] f a each = tt
+trims_range (w ∷ ws) f a each =
+    let first : a + 0 ≡ a = omega arith in
+    let P : ℕ → Type 0 = λ n. IsTrim w (f n) in
+    (subst P first (each 0 (omega arith)), trims_range ws f (a + 1) (λ k h. let next : a + suc k ≡ a + 1 + k = omega arith in let Q : ℕ → Type 0 = λ n. IsTrim (get_or ws k (new_wave 0)) (f n) in subst Q next (each (suc k) (omega arith))))
+
+pub trimmed_trims : (s : Cluster) → AreTrims s.waves (trimmed s).waves
+trimmed_trims s = trims_range s.waves (trimmed_wave s) 0 (λ k h. let here : k ≡ 0 + k = omega arith in let P : ℕ → Type 0 = λ n. IsTrim (slot_wave s k) (trimmed_wave s n) in subst P here (wave_trims s k))
+
+wave_clock : (s : Cluster) (k : ℕ) → (trimmed_wave s k).clock ≡ (slot_wave s k).clock
+wave_clock s k = let t = wave_trims s k in ap (λ (w : Wave). w.clock) t.2 ∙ trim_clock t.0 (slot_wave s k)
 
 module _ (old now : Cluster) (i : ℕ) (so : TrimmedSoFar old now i) (h : i < length old.waves) where
   clocks : (k : ℕ) → (slot_wave now k).clock ≡ (slot_wave old k).clock
@@ -239,10 +253,6 @@ trim_all old now i h so =
     λ j. record { horizon = so.same.horizon j; processes = so.same.processes j; waves = all j }
 
 -- ---- what the lists of readers say
-
-all_append : (P : Reader → Type 0) (xs ys : List Reader) → AllByRecursion P xs → AllByRecursion P ys → AllByRecursion P (xs ++ ys)
-all_append P [] ys a b = b
-all_append P (x ∷ xs) ys a b = (a.0, all_append P xs ys a.1 b)
 
 pins_below : (place slot most : ℕ) (os : List Pin) → slot < most → AllByRecursion (λ r. r.slot < most) (pins_on place slot os)
 pins_below place slot most [] h = tt

@@ -26,24 +26,16 @@ use Rattle.cmb_core.specs.Opened.{IsClusterOf, IsOwnNet}
 use Rattle.cmb_core.specs.Reach.{reach_by, IsKept}
 use Rattle.cmb_core.specs.Rows.{Process, slot_of, is_given}
 use Rattle.cmb_core.specs.Step.{wave_at, told_level, told_upto, told_from, step_changes, step_reach, step_piece, with_wave}
-use Rattle.cmb_core.specs.Directory.{given_at, readers_from}
-use Rattle.cmb_core.specs.Trims.{least_need, trimmed_to, trimmed_wave, trimmed, IsTrim, AreTrims, IsTrimOf, AreAlike, AreTraces}
+use Rattle.cmb_core.specs.Trims.{trimmed_to, trimmed_wave, trimmed, IsTrim, AreTrims, IsTrimOf, AreAlike, AreTraces}
 use Rattle.cmb_core.proofs.Driven.{Drives, before-continued}
 use Rattle.cmb_core.proofs.ExactFacts.{kept_here, taken_is}
 use Rattle.cmb_core.proofs.OwnFacts.{own_placed, drives_own}
 use Rattle.cmb_core.proofs.ReadFacts.{driven-not_given}
 use Rattle.cmb_core.proofs.Slots.{slot_is}
 use Rattle.cmb_core.proofs.Steps.{driven_level-known, wave_at-net}
-use Rattle.cmb_core.proofs.TrimFacts.{least_clock, trim_net, trim_clock}
+use Rattle.cmb_core.proofs.TrimFacts.{trim_clock, trim_keeps, trim_net, trim_same, trimmed_trims, trims_range, wave_trims}
 
 -- ---- one wave
-
--- nothing is below tick 0, so that nothing is forgotten
-trim_zero : (wave : Wave) → wave ≡ trimmed_to 0 wave
-trim_zero wave = let e : ltb wave.base 0 ≡ false = le-ltb _ _ (omega arith) in rw e refl
-
-pub trim_same : (wave : Wave) → IsTrim wave wave
-trim_same wave = (0, omega arith, trim_zero wave)
 
 pub trims_same : (waves : List Wave) → AreTrims waves waves
 trims_same [] = tt
@@ -60,11 +52,7 @@ exact_traces design [] e = tt
 exact_traces design (w ∷ ws) e = (exact_trace (value design w.net) design.horizon w e.0.exact, exact_traces design ws e.1)
 
 trim_count : (least : ℕ) (w : Wave) → (trimmed_to least w).count ≡ w.count
-trim_count least w = go (ltb w.base least)
-  where
-    go : (b : Bool) → (cond b (wave_from w least) w).count ≡ w.count
-    go true = refl
-    go false = refl
+trim_count least w = trim_keeps (λ v. v.count) least w refl
 
 -- it tells the same levels from its base on
 trim_levels : (least : ℕ) (w : Wave) → IsTrace w.kept w.base w.changes w.clock → (tick : ℕ) → (trimmed_to least w).base ≤ tick → level_at (trimmed_to least w).kept (trimmed_to least w).changes tick ≡ level_at w.kept w.changes tick
@@ -198,13 +186,6 @@ trace_get (w ∷ ws) all (suc i) = trace_get ws all.1 i
 
 -- ---- a trim of what was trimmed
 
-trims_range : (ws : List Wave) (f : ℕ → Wave) (a : ℕ) → ((k : ℕ) → k < length ws → IsTrim (get_or ws k (new_wave 0)) (f (a + k))) → AreTrims ws (map f (range_with_len a (length ws)))
-trims_range [] f a each = tt
-trims_range (w ∷ ws) f a each =
-    let first : a + 0 ≡ a = omega arith in
-    let P : ℕ → Type 0 = λ n. IsTrim w (f n) in
-    (subst P first (each 0 (omega arith)), trims_range ws f (a + 1) (λ k h. let next : a + suc k ≡ a + 1 + k = omega arith in let Q : ℕ → Type 0 = λ n. IsTrim (get_or ws k (new_wave 0)) (f n) in subst Q next (each (suc k) (omega arith))))
-
 pub trimmed_again : (s less : Cluster) → AreTraces s.waves → IsTrimOf s less → IsTrimOf s (trimmed less)
 trimmed_again s less traces t =
     let P : ℕ → Type 0 = λ n. AreTrims s.waves (map (trimmed_wave less) (range_with_len 0 n)) in
@@ -215,20 +196,15 @@ trimmed_again s less traces t =
     }
   where
     each : (k : ℕ) → IsTrim (slot_wave s k) (trimmed_wave less k)
-    each k = go (given_at less.processes k)
-      where
-        least : ℕ
-        least = least_need less.processes less.waves (readers_from k 0 less.processes) (slot_wave less k).clock
+    each k =
+        let here : IsTrim (slot_wave s k) (slot_wave less k) = trims_get s.waves less.waves t.waves k in
+        let more = wave_trims less k in
+        let low : more.0 ≤ (slot_wave s k).clock = omega (arith, more.1, ap (λ (w : Wave). w.clock) here.2, trim_clock here.0 (slot_wave s k)) in
+        subst (IsTrim (slot_wave s k)) (sym more.2) (trim_again (slot_wave s k) (slot_wave less k) more.0 (trace_get s.waves traces k) here low)
 
-        here : IsTrim (slot_wave s k) (slot_wave less k)
-        here = trims_get s.waves less.waves t.waves k
-
-        low : least ≤ (slot_wave s k).clock
-        low = omega (arith, least_clock less.processes less.waves (readers_from k 0 less.processes) (slot_wave less k).clock, ap (λ x. x.clock) here.2, trim_clock here.0 (slot_wave s k))
-
-        go : (b : Bool) → IsTrim (slot_wave s k) (cond b (trimmed_to least (slot_wave less k)) (slot_wave less k))
-        go true = trim_again (slot_wave s k) (slot_wave less k) least (trace_get s.waves traces k) here low
-        go false = here
+-- a trim moves no clock
+pub trimmed_clock : (s : Cluster) (net : ℕ) → (wave_at (trimmed s).waves net).clock ≡ (wave_at s.waves net).clock
+trimmed_clock s net = let here = trims_at s.waves (trimmed s).waves (trimmed_trims s) net in ap (λ (w : Wave). w.clock) here.2 ∙ trim_clock here.0 (wave_at s.waves net)
 
 -- ---- deliveries and promises
 

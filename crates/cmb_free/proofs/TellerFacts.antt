@@ -1,6 +1,6 @@
 -- What a teller gave is a beginning of the design's text.
 use Rattle.std.proofs.Common.{◌≡◌, ◌∙◌, ℕ, ◌+◌, ◌^◌, ◌<◌, ◌≤◌, List, ◌++◌, Option, None, Some, length, take, refl, ap, sym, subst, append_assoc, length-append, arith}
-use Rattle.std.specs.Prelude.{unwrap_or}
+use Rattle.std.specs.Prelude.{unwrap_or, Result, Ok, Err, IfOk, IfErr, OnOk}
 use Rattle.std.specs.Io.KnownBytes.{Appends}
 use Rattle.cmb_design.specs.Design.{Design}
 use Rattle.cmb_design.specs.Lawful.{IsDesign}
@@ -12,7 +12,9 @@ use Rattle.cmb_vcd.specs.Writer.{IsNotBefore, Writer, done_text}
 use Rattle.cmb_vcd.proofs.BeginFacts.{HasBegun-front, IsCutOff-front, part_text-begins, part_text-whole}
 use Rattle.cmb_vcd.proofs.CollectorFacts.{least_clock_bound}
 use Rattle.cmb_vcd.proofs.TextSizes.{part_text-fits}
-use Rattle.cmb_free.specs.Tellers.{IsTeller, IsWithin, told}
+use Rattle.cmb_run.specs.declared.run_fault.RunFault.{RunFault}
+use Rattle.cmb_free.specs.FreeRuns.{IsCutAt}
+use Rattle.cmb_free.specs.Tellers.{Backlog, IsTeller, IsTold, IsToldTo, IsWithin, told}
 
 pub least-within : (design : Design) (from : ℕ) (collector : Collector) → IsExactFrom design from collector → least collector ≤ design.horizon
 least-within design from collector exact = omega (arith, least_clock_bound collector.horizon collector.waves, exact.opened.horizon)
@@ -80,3 +82,16 @@ teller-more design old new collector now given len part teller v exact next more
       within = least-within design (unwrap_or now 0) collector exact;
       count = omega (arith, teller.count, ap (λ k. length (told design k)) v, l, ap length text, length-append (told design now) part);
     })
+
+-- a teller that gave all, behind what it gave before
+pub told-last : (design : Design) (start old new : Option (List ℕ)) (first before after : ℕ) (done now : Option ℕ) (backlog : Backlog) (given : Result ℕ RunFault) → Appends start old (told design done) → before ≡ first
+    → ((s : Option (List ℕ)) → Appends s old (told design done) → OnOk given (Appends s new (told design now))) → IfOk given (λ n. n ≡ length (told design now)) → OnOk given (IsToldTo design now (least backlog.collector)) → OnOk given (now ≡ backlog.written)
+    → OnOk given (after ≡ before) → ((s : Option (List ℕ)) → Appends s old (told design done) → IfErr given (IsCutAt design s new before after)) → IsTold design start new first after backlog given
+told-last design start old new first before after done now backlog (Err fault) begun same ok count upto written none cut =
+    let P : ℕ → Type 0 = λ k. IsCutAt design start new k after fault in
+    record { whole = tt; cut = subst P same (cut start begun) }
+told-last design start old new first before after done None backlog (Ok n) begun same ok count upto written none cut = absurd upto
+told-last design start old new first before after done (Some tick) backlog (Ok n) begun same ok count upto written none cut = record {
+  whole = record { done = tick; written = sym written; reached = upto.0; within = upto.1; count = count; text = ok start begun; no_failure = none ∙ same };
+  cut = tt;
+}

@@ -1,12 +1,12 @@
 -- The text of a run that is written while it is collected. No public contract cites these.
-use Rattle.std.specs.Prelude.{◌≡◌, ℕ, ◌≤◌, Bool, if◌then◌else◌, List, length, Option, None, Some, Result, Ok, Err, ⊤}
+use Rattle.std.specs.Prelude.{◌≡◌, ℕ, ◌≤◌, Bool, if◌then◌else◌, List, length, Option, None, Some, Result, Ok, Err, IfOk, IfErr, ⊤}
 use Rattle.std.specs.Io.KnownBytes.{Appends}
 use Rattle.cmb_design.specs.Design.{Design}
 use Rattle.cmb_design.specs.Lawful.{IsDesign}
 use Rattle.cmb_design.specs.Value.{value}
 use Rattle.cmb_vcd.specs.Collector.{Collector, least}
 use Rattle.cmb_vcd.specs.Writer.{Writer, done_text}
-use Rattle.cmb_free.specs.FreeRuns.{IsStoppedAt}
+use Rattle.cmb_free.specs.FreeRuns.{IsCutAt, IsStoppedAt}
 use Rattle.cmb_run.specs.declared.run_fault.RunFault.{RunFault}
 use Rattle.cmb_run.specs.declared.run_fault.RunFault.TheVariants.{Incomplete, Write, Memory}
 
@@ -46,7 +46,12 @@ pub record IsGiven (design : Design) (old new : Option (List ℕ)) (before after
   pub text : Appends old new (told design (Some done))
   pub no_failure : after ≡ before
 
--- what a text comes to whose run met want of memory or didn't: a failed write is the answer before all else, and
+-- what telling a run comes to: all that is collected was given, or a beginning of the text
+pub record IsTold (design : Design) (old new : Option (List ℕ)) (before after : ℕ) (backlog : Backlog) (given : Result ℕ RunFault) : Type 0 where
+  pub whole : IfOk given (IsGiven design old new before after backlog)
+  pub cut : IfErr given (IsCutAt design old new before after)
+
+-- what a run comes to that met want of memory or didn't: a failed write is the answer before all else, and
 -- want of memory before the rest
 abbrev pub decision : Result ℕ RunFault → Bool → Result ℕ RunFault
 decision (Ok given) refused = if refused then Err Memory else Ok given
@@ -59,7 +64,9 @@ abbrev pub IsDecided : Result ℕ RunFault → RunFault → Type 0
 IsDecided given Memory = (written : ℕ) → given ≡ Err (Write written) → ⊥
 IsDecided given fault = given ≡ Err fault
 
--- why a run's text isn't whole: it wasn't given, or the run was stopped
+-- why a run isn't whole: what collecting it came to, or that it was stopped; want of memory comes in the place of all but
+-- a failed write
 abbrev pub IsUnfinished : Result ℕ RunFault → Collector → RunFault → Type 0
+IsUnfinished given collector Memory = (written : ℕ) → given ≡ Err (Write written) → ⊥
 IsUnfinished (Ok given) collector fault = IsStoppedAt collector fault
 IsUnfinished (Err why) collector fault = fault ≡ why

@@ -4,7 +4,7 @@ ghost use Rattle.std.specs.Prelude.{◌≡◌};
 
 use crate::backlog::Backlog;
 use crate::crew::Lookout;
-use cmb_run::Terms;
+use cmb_run::{RunFault, Terms};
 use std::alloc::AllocError;
 use std::sync::Wait;
 
@@ -46,22 +46,59 @@ pub(crate) fn take_round<T: Terms, R: Wait>(
     Ok(found)
 }
 
-/// Collects until all workers that were started have finished, and the links are empty.
-pub(crate) fn collect<T: Terms, R: Wait>(
-    rt: &R,
-    lookout: &mut Lookout<T>,
-    started: usize,
-    backlog: &mut Backlog<T>,
-) -> Result<(), AllocError>
-    ensures { backlog.new.written ≡ backlog.old.written }
-{
-    for _ in rt.forever() {
-        let over = lookout.finished() as usize >= started;
-        let found = take_round(rt, lookout, backlog)?;
-        if over && !found {
-            break;
+/// What the calling thread has of a run that it collects. `S` is where the text goes.
+pub(crate) trait Collect<T: Terms, S> {
+    ghost use Rattle.std.specs.Prelude.{ℕ, Result};
+    ghost use Rattle.cmb_run.specs.declared.run_fault.RunFault.{RunFault as Fault};
+
+    /// What it needs before anything is collected.
+    ghost is_ready: { Self → S → Type 0 };
+
+    /// What collecting comes to, from before to after.
+    ghost is_told: { Self → Self → S → S → Result ℕ Fault → Type 0 };
+
+    /// Collects until all workers that were started have finished, and the links are empty. Gives the number of bytes
+    /// that were written.
+    fn collect<R: Wait>(
+        &mut self,
+        rt: &R,
+        lookout: &mut Lookout<T>,
+        started: usize,
+        sink: &mut S,
+    ) -> Result<u64, RunFault>
+        requires { is_ready self.old sink.old }
+        ensures { is_told self.old self.new sink.old sink.new result };
+}
+
+/// Where a run's text goes whose text isn't written.
+#[derive(Drop)]
+pub(crate) struct Nowhere;
+
+impl<T: Terms> Collect<T, Nowhere> for Backlog<T> {
+    ghost use Rattle.std.specs.Prelude.{⊤, IfErr};
+    ghost use Rattle.cmb_run.specs.declared.run_fault.RunFault.TheVariants.{Memory};
+
+    ghost is_ready = { λ backlog sink. ⊤ };
+
+    // What is written stays as it was, and only memory can be refused.
+    ghost is_told = { λ old new before after given.
+        (new.written ≡ old.written) × IfErr given (λ fault. fault ≡ Memory) };
+
+    fn collect<R: Wait>(
+        &mut self,
+        rt: &R,
+        lookout: &mut Lookout<T>,
+        started: usize,
+        _sink: &mut Nowhere,
+    ) -> Result<u64, RunFault> {
+        for _ in rt.forever() {
+            let over = lookout.finished() as usize >= started;
+            let found = take_round(rt, lookout, self)?;
+            if over && !found {
+                break;
+            }
+            lookout.rest_unless(rt, found);
         }
-        lookout.rest_unless(rt, found);
+        Ok(0)
     }
-    Ok(())
 }

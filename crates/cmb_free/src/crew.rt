@@ -1,9 +1,9 @@
 //! The workers of a free run, and what the collecting thread has of it.
 
-ghost use Rattle.std.specs.Prelude.{◌≡◌, ◌+◌, ◌<◌, All, drop, length, vec_len, IfOk, OnOk};
+ghost use Rattle.std.specs.Prelude.{◌≡◌, ◌+◌, ◌<◌, All, drop, vec_len, IfOk, OnOk};
 ghost use Rattle.std.specs.Arc.{arc_value};
-ghost use Rattle.cmb_design.specs.Exact.{nets_of};
 ghost use Rattle.cmb_links.specs.Seats.{IsSeatOf, new_seats, terms};
+ghost use Rattle.cmb_run.specs.RunTerms.{AreTerms};
 
 use crate::desk::Desk;
 use crate::ends::TakeEnd;
@@ -188,9 +188,7 @@ fn add_workers<T: Terms>(
     seats: &mut Vec<Seat>,
     crew: &mut Vec<Worker<T>>,
 ) -> Result<(), AllocError>
-    requires design { design.now ≡ T.design }
-    requires clustering { clustering.now ≡ T.clustering }
-    requires nets { length clustering.now.assign ≡ nets_of design.now }
+    requires terms { AreTerms T.design T.clustering design.now clustering.now }
     requires each { clustering.now.clusters ≡ workers }
     requires seats { seats.old.items ≡ new_seats (arc_value board.now) (terms design.now clustering.now workers) }
     requires count { vec_len seats.old ≡ workers + 1 }
@@ -263,9 +261,7 @@ impl<T: Terms> Crew<T> {
         clustering: &Clustering,
         workers: Workers,
     ) -> Result<Crew<T>, AllocError>
-        requires design { design.now ≡ T.design }
-        requires clustering { clustering.now ≡ T.clustering }
-        requires nets { length clustering.now.assign ≡ nets_of design.now }
+        requires terms { AreTerms T.design T.clustering design.now clustering.now }
         requires each { clustering.now.clusters ≡ workers }
     {
         let (board, mut seats) = open_board(alloc, design, clustering, workers)?;

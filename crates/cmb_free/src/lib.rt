@@ -6,7 +6,6 @@ mod collect;
 mod crew;
 mod desk;
 mod ends;
-mod outlet;
 mod run;
 mod teller;
 mod text_run;

@@ -1,14 +1,14 @@
 //! A free run.
 
-ghost use Rattle.std.specs.Prelude.{◌≡◌, true, false, length, None, Err, IfOk, IfErr, IfSome, IfNone};
-ghost use Rattle.cmb_design.specs.Design.{Design};
+ghost use Rattle.std.specs.Prelude.{◌≡◌, length, Ok, Err, IfOk, IfErr, IfSome, IfNone};
 ghost use Rattle.cmb_design.specs.Exact.{nets_of};
 ghost use Rattle.cmb_vcd.specs.Collector.{IsComplete, IsExactFor};
 ghost use Rattle.cmb_free.specs.FreeRuns.{IsLeastBehind, IsStopped, IsStoppedAt};
-ghost use Rattle.cmb_run.specs.declared.run_fault.RunFault.TheVariants.{Memory};
+ghost use Rattle.cmb_run.specs.RunTerms.{AreTerms};
+ghost use Rattle.cmb_free.specs.Tellers.{decision, IsDecided, IsUnfinished};
 
 use crate::backlog::Backlog;
-use crate::collect::collect;
+use crate::collect::{Collect, Nowhere};
 use crate::crew::Crew;
 use crate::threads::start;
 use crate::turnstile::Turnstile;
@@ -37,8 +37,8 @@ fn least_behind(collector: &Collector) -> Option<(u32, u32)>
     None
 }
 
-/// The collector of a run that ended.
-pub fn ended(collector: Collector) -> Result<Collector, RunFault>
+// The collector of a run that ended.
+fn ended(collector: Collector) -> Result<Collector, RunFault>
     ensures same { IfOk result (λ whole. whole ≡ collector) }
     ensures complete { IfOk result (λ whole. IsComplete whole) }
     ensures fault { IfErr result (IsStoppedAt collector) }
@@ -53,66 +53,109 @@ pub fn ended(collector: Collector) -> Result<Collector, RunFault>
     }
 }
 
-// What a run that ended comes to: 70 where memory or a thread was refused, whatever was collected.
-fn settled(refused: bool, collector: Collector) -> Result<Collector, RunFault>
-    ensures refused { refused ≡ true → result ≡ Err Memory }
-    ensures same { IfOk result (λ whole. whole ≡ collector) }
-    ensures complete { IfOk result (λ whole. IsComplete whole) }
-    ensures fault { refused ≡ false → IfErr result (IsStoppedAt collector) }
-    ensures stopped { (design : Design) → IsExactFor design collector → IfErr result (IsStopped design) }
+// Why a run isn't whole: a failed write comes before all else, and want of memory before the rest.
+fn decided(given: Result<u64, RunFault>, refused: bool) -> Result<u64, RunFault>
+    ensures exact { result ≡ decision given refused }
+    ensures ok { IfOk result (λ now. given ≡ Ok now) }
+    ensures fault { IfErr result (IsDecided given) }
 {
-    if refused {
-        return Err(RunFault::Memory);
+    match given {
+        Err(RunFault::Write { written }) => Err(RunFault::Write { written }),
+        _ if refused => Err(RunFault::Memory),
+        given => given,
     }
-    ended(collector)
 }
 
-// Runs each worker in a thread of the scope, and collects in this one. Says whether memory or a thread was refused.
-fn collect_in<'s, E, T: Terms + Send + Sync + 's, G: Turnstile + Sync, R: Threads + Wait + Sync>(
+/// What a run that ended comes to: how many bytes of its text were written, and its collector.
+pub(crate) fn settled(
+    given: Result<u64, RunFault>,
+    refused: bool,
+    collector: Collector,
+) -> Result<(u64, Collector), RunFault>
+    ensures given { IfOk result (λ whole. given ≡ Ok whole.0) }
+    ensures same { IfOk result (λ whole. whole.1 ≡ collector) }
+    ensures complete { IfOk result (λ whole. IsComplete whole.1) }
+    ensures decided { IfErr (decision given refused) (λ fault. result ≡ Err fault) }
+    ensures fault { IfErr result (IsUnfinished given collector) }
+{
+    let given = decided(given, refused)?;
+    let collector = ended(collector)?;
+    Ok((given, collector))
+}
+
+// Runs each worker in a thread of the scope, and collects in this one. Says what that came to, and whether memory or a
+// thread was refused.
+fn collect_in<
+    's,
+    E,
+    T: Terms + Send + Sync + 's,
+    C: Collect<T, S> + Drop,
+    S,
+    G: Turnstile + Sync,
+    R: Threads + Wait + Sync,
+>(
     rt: &'s R,
     alloc: Global,
     scope: &Scope<'s, E>,
     crew: Crew<T>,
+    collecting: &mut C,
     gate: &'s G,
-    backlog: &mut Backlog<T>,
-) -> bool
-    ensures { backlog.new.written ≡ backlog.old.written }
+    sink: &mut S,
+) -> (Result<u64, RunFault>, bool)
+    requires { C.is_ready collecting.old sink.old }
+    ensures { C.is_told collecting.old collecting.new sink.old sink.new result.0 }
 {
     let Crew {
         workers,
         mut lookout,
     } = crew;
     let started = start(rt, alloc, scope, workers, gate, &mut lookout);
-    let lacking = collect(rt, &mut lookout, started.count(), backlog).is_err();
-    if lacking {
+    let given = collecting.collect(rt, &mut lookout, started.count(), sink);
+    if given.is_err() {
         lookout.raise();
     }
     let refused = started.join(rt);
-    lacking || refused
+    (given, refused)
 }
 
-// Runs a crew and collects meanwhile. Says whether memory or a thread was refused.
-fn run_crew<T: Terms + Send + Sync, G: Turnstile + Sync, R: Threads + Wait + Sync>(
+// Does nothing. This use of a reference that came back ties it to the parameter that lent it.
+fn take_back<T>(back: &mut T)
+    ensures { back.new ≡ back.old }
+{}
+
+/// Runs a crew and collects meanwhile. Gives what was collected, says what that came to, and whether memory or a thread
+/// was refused.
+pub(crate) fn run_crew<
+    T: Terms + Send + Sync,
+    C: Collect<T, S> + Drop,
+    S,
+    G: Turnstile + Sync,
+    R: Threads + Wait + Sync,
+>(
     rt: &R,
     alloc: Global,
     crew: Crew<T>,
-    mut backlog: Backlog<T>,
+    mut collecting: C,
     gate: &G,
-) -> (Backlog<T>, bool)
-    requires { backlog.written ≡ None }
-    ensures { result.0.written ≡ None }
+    sink: &mut S,
+) -> (C, Result<u64, RunFault>, bool)
+    requires { C.is_ready collecting sink.old }
+    ensures { C.is_told collecting result.0 sink.old sink.new result.1 }
 {
-    thread::scope(
+    let (back, collecting, given, refused) = thread::scope(
         thread::scope_env(),
         rt,
-        move |scope| -> (Backlog<T>, bool)
-            requires { backlog.written ≡ None }
-            ensures { result.0.written ≡ None }
+        move |scope| -> (&mut S, C, Result<u64, RunFault>, bool)
+            requires { C.is_ready collecting sink.now }
+            ensures name { result.0.ghost_name ≡ sink.entry.ghost_name }
+            ensures told { C.is_told collecting result.1 sink.entry.now result.0.now result.2 }
         {
-            let refused = collect_in(rt, alloc, scope, crew, gate, &mut backlog);
-            (backlog, refused)
+            let (given, refused) = collect_in(rt, alloc, scope, crew, &mut collecting, gate, sink);
+            (sink, collecting, given, refused)
         },
-    )
+    );
+    take_back(back);
+    (collecting, given, refused)
 }
 
 // The run of the design and the clustering that T names.
@@ -124,18 +167,17 @@ fn run_named<T: Terms + Send + Sync, G: Turnstile + Sync, R: Threads + Wait + Sy
     workers: Workers,
     gate: &G,
 ) -> Result<Collector, RunFault>
-    requires design { design.now ≡ T.design }
-    requires clustering { clustering.now ≡ T.clustering }
-    requires nets { length clustering.now.assign ≡ nets_of design.now }
+    requires terms { AreTerms T.design T.clustering design.now clustering.now }
     requires each { clustering.now.clusters ≡ workers }
     ensures exact { IfOk result (λ collector. IsExactFor design.now collector) }
     ensures complete { IfOk result (λ collector. IsComplete collector) }
     ensures fault { IfErr result (IsStopped design.now) }
 {
-    let backlog = Backlog::open(alloc, design)?;
+    let backlog = Backlog::<T>::open(alloc, design)?;
     let crew = Crew::<T>::open(alloc, design, clustering, workers)?;
-    let (backlog, refused) = run_crew(rt, alloc, crew, backlog, gate);
-    settled(refused, backlog.into_collector())
+    let (backlog, given, refused) = run_crew(rt, alloc, crew, backlog, gate, &mut Nowhere);
+    let (_, collector) = settled(given, refused, backlog.into_collector())?;
+    Ok(collector)
 }
 
 /// Simulates a design by workers that run freely, and collects the waves of all its nets, up to the

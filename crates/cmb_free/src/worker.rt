@@ -4,7 +4,6 @@ ghost use Rattle.std.specs.Prelude.{◌≡◌};
 
 use crate::desk::{Desk, Own};
 use crate::ends::{PutEnd, TakeEnd, open_link};
-use crate::outlet::Outlet;
 use crate::turnstile::Turnstile;
 use cmb_core::Clustering;
 use cmb_design::Design;
@@ -16,6 +15,13 @@ use std::sync::Wait;
 
 /// How many pieces a worker takes from a link in one turn.
 const AT_ONCE: u32 = 64;
+
+/// A net that others read, and the tick up to which it was sent to them.
+#[derive(Clone, Copy)]
+struct Outlet {
+    net: u32,
+    sent: u32,
+}
 
 // Outlets of these nets, of which nothing was put.
 fn outlets_of(alloc: Global, nets: &[u32]) -> Result<Vec<Outlet>, AllocError> {

@@ -12,7 +12,6 @@ use cmb_design::Design;
 use cmb_wave::Promise;
 use std::alloc::{AllocError, Global};
 use std::collections::LinkedList;
-use std::fmt;
 use std::marker::Model;
 use std::mem::replace;
 use std::snapshot::Snapshot;
@@ -109,8 +108,11 @@ type Words = Table<(), Views, Told, Law, Global>;
 
 /// The words that all threads share. Contracts see which board it is.
 #[derive(Drop)]
+#[derive_where(Debug)]
 pub struct Board {
+    #[derive_where(skip)]
     table: Words,
+    #[derive_where(skip)]
     nets: usize,
 }
 
@@ -126,15 +128,11 @@ impl Model for Board {
         × (b.table.shared.table_id.slots ≡ 0) };
 }
 
-impl fmt::Debug for Board {
-    fn fmt<W: fmt::Write>(&self, f: &mut fmt::Formatter<W>) -> fmt::Result {
-        f.pad("Board { .. }")
-    }
-}
-
 /// A thread's place at a board, with which it makes its steps. Contracts see which board it is of, and what it knows.
 #[derive(Drop)]
+#[derive_where(Debug)]
 pub struct Seat {
+    #[derive_where(skip)]
     inner: atomic_table::Seat<(), Views>,
 }
 
@@ -149,12 +147,6 @@ impl Model for Seat {
 
     ghost invariant = { λ s. (s.inner.me ≡ (only s.inner.me.0 ∷ [], []))
         × (s.inner.table_id.words ≡ nets_of (only s.inner.me.0).terms.design + 2) };
-}
-
-impl fmt::Debug for Seat {
-    fn fmt<W: fmt::Write>(&self, f: &mut fmt::Formatter<W>) -> fmt::Result {
-        f.pad("Seat { .. }")
-    }
 }
 
 /// What the words of a board hold when it is closed: a promise for each net, in order, whether a seat raised the stop

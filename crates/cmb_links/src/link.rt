@@ -6,7 +6,6 @@ use cmb_design::Design;
 use cmb_wave::Piece;
 use crossbeam_queue::{Pass, RuledArrayQueue};
 use std::alloc::{AllocError, Global};
-use std::fmt;
 use std::marker::{Brand, Model};
 use std::sync::Wait;
 use thiserror::Error;
@@ -23,7 +22,9 @@ pub struct Full(pub Piece);
 
 /// A bounded queue of pieces. Contracts see which one it is, and its capacity.
 #[derive(Drop)]
+#[derive_where(Debug)]
 pub struct Link {
+    #[derive_where(skip)]
     queue: Queue,
 }
 
@@ -38,15 +39,11 @@ impl Model for Link {
     ghost invariant = { λ l. l.queue.table.shared.table_id.slots ≡ l.queue.cap };
 }
 
-impl fmt::Debug for Link {
-    fn fmt<W: fmt::Write>(&self, f: &mut fmt::Formatter<W>) -> fmt::Result {
-        f.pad("Link { .. }")
-    }
-}
-
 /// The end of a link that puts. Contracts see the link, its design and what was put, in order.
 #[derive(Drop)]
+#[derive_where(Debug)]
 pub struct PutPass {
+    #[derive_where(skip)]
     pass: Pass<Piece, End>,
 }
 
@@ -69,15 +66,11 @@ impl Model for PutPass {
         × All (IsExactIn p.pass.me.0.client.design) p.pass.me.0.client.sent };
 }
 
-impl fmt::Debug for PutPass {
-    fn fmt<W: fmt::Write>(&self, f: &mut fmt::Formatter<W>) -> fmt::Result {
-        f.pad("PutPass { .. }")
-    }
-}
-
 /// The end of a link that takes. Contracts see the link, its design and what was taken, in order.
 #[derive(Drop)]
+#[derive_where(Debug)]
 pub struct TakePass {
+    #[derive_where(skip)]
     pass: Pass<Piece, End>,
 }
 
@@ -98,12 +91,6 @@ impl Model for TakePass {
     ghost invariant = { λ p. (p.pass.me.1 ≡ [])
         × (p.pass.me.0.client ≡ taking p.pass.me.0.client.design p.pass.table_id.slots p.pass.me.0.client.received)
         × All (IsExactIn p.pass.me.0.client.design) p.pass.me.0.client.received };
-}
-
-impl fmt::Debug for TakePass {
-    fn fmt<W: fmt::Write>(&self, f: &mut fmt::Formatter<W>) -> fmt::Result {
-        f.pad("TakePass { .. }")
-    }
 }
 
 impl Link {

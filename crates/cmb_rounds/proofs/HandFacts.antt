@@ -1,6 +1,7 @@
 -- What a worker's cluster knows after its part of a round, and at the end.
-use Rattle.std.proofs.Common.{◌≡◌, ℕ, zero, suc, ◌<◌, ◌≤◌, Bool, true, false, cond, eqb, List, [], ◌∷◌, ◌++◌, length, get_or, map, Option, Some, None, IsSome, refl, sym, ◌∙◌, subst, arith}
+use Rattle.std.proofs.Common.{◌≡◌, ℕ, ◌≤◌, List, [], ◌∷◌, length, Option, Some, None, IsSome, refl, sym, ◌∙◌, subst, arith}
 use Rattle.std.specs.List.{AllByRecursion}
+use Rattle.std.proofs.lemmas.List.Elements.{All-from_recursion, All-get_or}
 use Rattle.cmb_wave.specs.Wave.{Wave, new_wave}
 use Rattle.cmb_bench.specs.Netlist.{IsNetlist}
 use Rattle.cmb_design.specs.Design.{Design}
@@ -35,11 +36,6 @@ sweep_goes_on_as design clustering s old new same clocks cluster netlist of =
 
 -- ---- what all waves have, the wave of a net does
 
-all_get : (P : Wave → Type 0) (ws : List Wave) (i : ℕ) (d : Wave) → i < length ws → AllByRecursion P ws → P (get_or ws i d)
-all_get P [] i d h all = absurd (omega arith)
-all_get P (w ∷ ws) zero d h all = all.0
-all_get P (w ∷ ws) (suc i) d h all = all_get P ws i d (omega arith) all.1
-
 pub own_among : (design : Design) (clustering : Clustering) (cluster : ℕ) (s : Cluster) → IsClusterOf design clustering cluster s → (net : ℕ) → IsOwnNet design clustering cluster net → (P : Wave → Type 0) → AllByRecursion P s.waves → P (wave_at s.waves net)
 own_among design clustering cluster s of net own P all = go (slot_of s.waves net) refl (own_placed design clustering cluster s of net own)
   where
@@ -47,16 +43,7 @@ own_among design clustering cluster s of net own P all = go (slot_of s.waves net
     go None e h = cc
     go (Some slot) e h =
         let there = slot_is s.waves net slot (new_wave 0) e in
-        subst P there.1 (all_get P s.waves slot (new_wave 0) there.0 all)
-
--- a new wave knows nothing
-pub new_clock : (nets : List ℕ) (net : ℕ) → (wave_at (map new_wave nets) net).clock ≡ 0
-new_clock [] net = refl
-new_clock (n ∷ nets) net = go (eqb n net) (new_clock nets net)
-  where
-    go : (b : Bool) → (wave_at (map new_wave nets) net).clock ≡ 0 → (cond b (new_wave n) (wave_at (map new_wave nets) net)).clock ≡ 0
-    go true rest = refl
-    go false rest = rest
+        subst P there.1 (All-get_or P s.waves slot (new_wave 0) there.0 (All-from_recursion P s.waves all))
 
 -- ---- lists of waves and what is given
 
@@ -67,11 +54,3 @@ IsGiven known wave = wave.base ≡ 0 → wave.clock ≤ known wave.net
 pub all_none : (P : Wave → Type 0) (ws : List Wave) → length ws ≡ 0 → AllByRecursion P ws
 all_none P [] e = tt
 all_none P (w ∷ ws) e = absurd (omega (arith, e))
-
-pub all_last : (P : Wave → Type 0) (ws : List Wave) (w : Wave) → AllByRecursion P ws → P w → AllByRecursion P (ws ++ w ∷ [])
-all_last P [] w all p = (p, tt)
-all_last P (v ∷ ws) w all p = (all.0, all_last P ws w all.1 p)
-
-pub all_first : (P : Wave → Type 0) (ws : List Wave) (w : Wave) → AllByRecursion P (ws ++ w ∷ []) → AllByRecursion P ws
-all_first P [] w all = tt
-all_first P (v ∷ ws) w all = (all.0, all_first P ws w all.1)

@@ -4,6 +4,7 @@ use Rattle.std.specs.List.{list_any}
 use Rattle.std.specs.declared.alloc.AllocError.{AllocError}
 use Rattle.std.proofs.lemmas.Bool.{cases_eq, cases_lt}
 use Rattle.std.proofs.lemmas.List.{length_push}
+use Rattle.std.proofs.lemmas.Result.{on_ok_weaker}
 use Rattle.cmb_wave.specs.Wave.{Piece, Wave, cut_of, new_wave}
 use Rattle.cmb_bench.specs.Netlist.{IsNetlist}
 use Rattle.cmb_design.specs.Design.{Design}
@@ -15,15 +16,14 @@ use Rattle.cmb_core.specs.Opened.{IsClusterOf, IsOwnNet, held_nets, read_nets}
 use Rattle.cmb_core.specs.Step.{wave_at}
 use Rattle.cmb_core.specs.Directory.{place_in}
 use Rattle.cmb_core.proofs.Homes.{input_home, input_there}
+use Rattle.cmb_core.proofs.OpenedFacts.{new_here}
 use Rattle.cmb_core.proofs.OpeningFacts.{filter_range_all, filter_range_place}
 use Rattle.cmb_core.proofs.OwnFacts.{own_driven, place_at}
 use Rattle.cmb_core.proofs.Steps.{wave_at-net}
 use Rattle.cmb_core.proofs.NetByNet.{still_of}
 use Rattle.cmb_vcd.specs.Collector.{Collector, IsComplete, IsExactFor, wave_of}
 use Rattle.cmb_run.specs.Passed.{IsPassed}
-use Rattle.cmb_run.proofs.ClusterFacts.{on_ok}
 use Rattle.cmb_run.proofs.RunClocks.{least_clock-whole}
-use Rattle.cmb_rounds.proofs.HandFacts.{new_clock}
 use Rattle.cmb_rounds.specs.Rounds.{Hand, hand_at, known_to, known_at_home, AreHandsOf, AreKnownTo, AreComplete, IsExchanged, IsPassedOn, IsServed, HasWorked}
 use Rattle.cmb_core.proofs.NetReads.{cluster-there, has_input-not_own}
 
@@ -293,7 +293,7 @@ dealt_hands design clustering many hands netlist lawful dealt all = record {
   count = dealt.count ∙ all;
   each = λ worker inside. dealt.each worker (omega (arith, all));
   within = λ worker net inside reads.
-      let none : known_to hands worker net ≡ 0 = ap (λ ws. (wave_at ws net).clock) (dealt.new worker (omega (arith, all))) ∙ new_clock (held_nets design clustering worker) net in
+      let none : known_to hands worker net ≡ 0 = ap (λ ws. (wave_at ws net).clock) (dealt.new worker (omega (arith, all))) ∙ ap (λ (w : Wave). w.clock) (new_here (held_nets design clustering worker) net) in
       omega (arith, none);
 }
 
@@ -388,7 +388,7 @@ module _ (design : Design) (clustering : Clustering) (hands : List Hand) (are : 
       → IsSameButWaves (hand_at hands reader).cluster h.cluster → (r : Result (Unit {0}) AllocError)
       → (IsSome (input_slot (hand_at hands reader).cluster piece.net) → piece.from ≤ (wave_at (hand_at hands reader).cluster.waves piece.net).clock → (wave_at (hand_at hands reader).cluster.waves piece.net).clock < piece.to → OnOk r (IsPassed piece.net piece.to (hand_at hands reader).cluster.waves h.cluster.waves))
       → OnOk r (AreHandsOf design clustering (set hands reader h) × IsPassedOn clustering reader net hands (set hands reader h))
-  pass_taken h known is less piece cut same r passes' = on_ok r _ _ both (at_net input_some (omega (arith, is)) (omega (arith, is, less)))
+  pass_taken h known is less piece cut same r passes' = on_ok_weaker r both (at_net input_some (omega (arith, is)) (omega (arith, is, less)))
     where
       old : List Wave
       old = (hand_at hands reader).cluster.waves

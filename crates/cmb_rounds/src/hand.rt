@@ -1,9 +1,8 @@
 //! What a worker of a run in rounds has in its hands.
 
-ghost use Rattle.std.specs.Prelude.{◌≡◌, ◌<◌, ◌≤◌, ◌↔◌, ℕ, false, true, length, map, IfOk, IfSome, IsSome, OnOk};
+ghost use Rattle.std.specs.Prelude.{◌≡◌, ◌<◌, ◌≤◌, ◌↔◌, ℕ, false, true, map, IfOk, IfSome, IsSome, OnOk};
 ghost use Rattle.cmb_bench.specs.Netlist.{IsNetlist};
 ghost use Rattle.cmb_wave.specs.Wave.{cut_of, new_wave};
-ghost use Rattle.cmb_design.specs.Exact.{nets_of};
 ghost use Rattle.cmb_core.specs.Clustering.{has_input};
 ghost use Rattle.cmb_core.specs.Clusters.{IsDrivenHere, IsSameButWaves, input_slot, told_at};
 ghost use Rattle.cmb_core.specs.Onward.{GoesOn};
@@ -11,6 +10,7 @@ ghost use Rattle.cmb_core.specs.Opened.{IsClusterOf, IsOwnNet, held_nets, read_n
 ghost use Rattle.cmb_core.specs.Step.{wave_at};
 ghost use Rattle.cmb_vcd.specs.Collector.{wave_of};
 ghost use Rattle.cmb_run.specs.Passed.{IsPassed};
+ghost use Rattle.cmb_run.specs.RunTerms.{AreTerms};
 ghost use Rattle.cmb_rounds.specs.Rounds.{HasWorked};
 
 use crate::collected::Collected;
@@ -46,9 +46,7 @@ impl<T: Terms> Hand<T> {
         clustering: &Clustering,
         worker: u32,
     ) -> Result<Hand<T>, AllocError>
-        requires design { design.now ≡ T.design }
-        requires clustering { clustering.now ≡ T.clustering }
-        requires nets { length clustering.now.assign ≡ nets_of design.now }
+        requires terms { AreTerms T.design T.clustering design.now clustering.now }
         requires worker { worker < clustering.now.clusters }
         ensures of { IfOk result (λ hand. IsClusterOf T.design T.clustering worker hand.cluster) }
         ensures new { IfOk result (λ hand. hand.cluster.waves

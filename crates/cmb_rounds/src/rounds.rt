@@ -9,6 +9,7 @@ ghost use Rattle.cmb_core.specs.Onward.{GoesOn};
 ghost use Rattle.cmb_vcd.specs.Collector.{IsComplete, IsExactFor, wave_of};
 ghost use Rattle.cmb_rounds.specs.Rounds.{AreComplete, AreHandsOf, AreKnownTo, HasWorked, IsExchanged, IsPassedOn};
 ghost use Rattle.cmb_rounds.specs.Rounds.{IsServed, hand_at, known_at_home};
+ghost use Rattle.cmb_run.specs.RunTerms.{AreTerms};
 ghost use Rattle.cmb_run.specs.declared.run_fault.RunFault.TheVariants.{Memory};
 
 use crate::collected::Collected;
@@ -32,9 +33,7 @@ fn deal<T: Terms>(
     design: &Design,
     clustering: &Clustering,
 ) -> Result<Vec<Hand<T>>, AllocError>
-    requires design { design.now ≡ T.design }
-    requires clustering { clustering.now ≡ T.clustering }
-    requires nets { length clustering.now.assign ≡ nets_of design.now }
+    requires { AreTerms T.design T.clustering design.now clustering.now }
     ensures { IfOk result (λ hands. AreHandsOf T.design T.clustering hands.items) }
 {
     // What every netlist keeps is told by the contract of its length.
@@ -237,9 +236,7 @@ fn run_named<T: Terms + Send + Sync, R: Threads + Sync>(
     design: &Design,
     clustering: &Clustering,
 ) -> Result<Collector, AllocError>
-    requires design { design.now ≡ T.design }
-    requires clustering { clustering.now ≡ T.clustering }
-    requires nets { length clustering.now.assign ≡ nets_of design.now }
+    requires { AreTerms T.design T.clustering design.now clustering.now }
     ensures exact { IfOk result (λ collector. IsExactFor design.now collector) }
     ensures complete { IfOk result (λ collector. IsComplete collector) }
 {

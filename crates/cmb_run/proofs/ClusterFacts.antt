@@ -1,54 +1,19 @@
--- What a cluster knows after a step and after a delivery.
-use Rattle.std.proofs.Common.{◌≡◌, ℕ, suc, ◌+◌, ◌<◌, ◌≤◌, Bool, true, false, cond, eqb, ltb, leb, List, [], ◌∷◌, length, get_or, map, Option, Some, None, IsSome, Result, Ok, Err, OnOk, refl, sym, ◌∙◌, ap, subst, arith}
-use Rattle.std.specs.List.{AllByRecursion, range_with_len}
+-- What a cluster knows after a delivery.
+use Rattle.std.proofs.Common.{◌≡◌, ℕ, ◌<◌, ◌≤◌, false, ltb, leb, List, Option, Some, None, IsSome, Ok, refl, sym, ◌∙◌, ap}
+use Rattle.std.specs.List.{AllByRecursion}
 use Rattle.std.proofs.lemmas.Bool.{le-ltb, lt-leb}
 use Rattle.cmb_wave.specs.Waveform.{at_or_after, clash, last_level}
-use Rattle.cmb_wave.specs.Wave.{Piece, Wave, new_wave, wave_with_piece}
+use Rattle.cmb_wave.specs.Wave.{Piece, Wave, wave_with_piece}
 use Rattle.cmb_wave.specs.Calls.{joined, taken}
 use Rattle.cmb_design.specs.Design.{Design}
 use Rattle.cmb_design.specs.Exact.{IsExactIn, IsExactWaveIn}
-use Rattle.cmb_core.specs.Clusters.{Cluster, as_delivery, delivered, delivered_at, input_slot, slot_wave}
-use Rattle.cmb_core.specs.Directory.{given_at, readers_from}
+use Rattle.cmb_core.specs.Clusters.{Cluster, as_delivery, delivered, delivered_at, input_slot}
 use Rattle.cmb_core.specs.Step.{wave_at, with_wave}
-use Rattle.cmb_core.specs.Trims.{least_need, trimmed, trimmed_to, trimmed_wave}
 use Rattle.cmb_core.proofs.ExactFacts.{never_clashes}
 use Rattle.cmb_core.proofs.Inputs.{input_put, input_wave}
 use Rattle.cmb_core.proofs.Replacing.{wave_at-with_other}
 use Rattle.cmb_core.proofs.Steps.{wave_at-net}
-use Rattle.cmb_core.proofs.TrimFacts.{trim_net, trim_clock}
 use Rattle.cmb_run.specs.Passed.{IsPassed}
-
--- ---- a trim moves no clock
-
-trimmed_same : (s : Cluster) (k : ℕ) → ((trimmed_wave s k).net ≡ (slot_wave s k).net) × ((trimmed_wave s k).clock ≡ (slot_wave s k).clock)
-trimmed_same s k = go (given_at s.processes k)
-  where
-    least : ℕ
-    least = least_need s.processes s.waves (readers_from k 0 s.processes) (slot_wave s k).clock
-
-    go : (b : Bool) → ((cond b (trimmed_to least (slot_wave s k)) (slot_wave s k)).net ≡ (slot_wave s k).net) × ((cond b (trimmed_to least (slot_wave s k)) (slot_wave s k)).clock ≡ (slot_wave s k).clock)
-    go true = (trim_net least (slot_wave s k), trim_clock least (slot_wave s k))
-    go false = (refl, refl)
-
--- waves in whose places stand others of the same nets and clocks
-filled_clock : (f : ℕ → Wave) (ws : List Wave) (a : ℕ)
-    → ((k i : ℕ) → k ≡ a + i → i < length ws → ((f k).net ≡ (get_or ws i (new_wave 0)).net) × ((f k).clock ≡ (get_or ws i (new_wave 0)).clock))
-    → (net : ℕ) → (wave_at (map f (range_with_len a (length ws))) net).clock ≡ (wave_at ws net).clock
-filled_clock f [] a same net = refl
-filled_clock f (w ∷ ws) a same net =
-    go (eqb (f a).net net) refl (same a 0 (omega arith) (omega arith)) (filled_clock f ws (a + 1) (λ k i e h. same k (suc i) (omega arith) (omega arith)) net)
-  where
-    go : (b : Bool) → eqb (f a).net net ≡ b → ((f a).net ≡ w.net) × ((f a).clock ≡ w.clock) → (wave_at (map f (range_with_len (a + 1) (length ws))) net).clock ≡ (wave_at ws net).clock
-        → (cond b (f a) (wave_at (map f (range_with_len (a + 1) (length ws))) net)).clock ≡ (cond (eqb w.net net) w (wave_at ws net)).clock
-    go true e here rest = let t : eqb w.net net ≡ true = ap (λ n. eqb n net) (sym here.0) ∙ e in rw t here.1
-    go false e here rest = let t : eqb w.net net ≡ false = ap (λ n. eqb n net) (sym here.0) ∙ e in rw t rest
-
-pub trimmed_clock : (s : Cluster) (net : ℕ) → (wave_at (trimmed s).waves net).clock ≡ (wave_at s.waves net).clock
-trimmed_clock s net =
-    filled_clock (trimmed_wave s) s.waves 0
-    (λ k i e h. let P : ℕ → Type 0 = λ n. ((trimmed_wave s k).net ≡ (slot_wave s n).net) × ((trimmed_wave s k).clock ≡ (slot_wave s n).clock) in let same : k ≡ i = omega arith in subst P same (trimmed_same s k)) net
-
--- ---- a delivery
 
 -- a part of what the design defines that goes on from the wave's clock is taken
 module _ (design : Design) (waves : List Wave) (all : AllByRecursion (IsExactWaveIn design) waves) (piece : Piece) (exact : IsExactIn design piece) (from : piece.from ≤ (wave_at waves piece.net).clock) (to : (wave_at waves piece.net).clock < piece.to) where
@@ -89,9 +54,3 @@ module _ (s : Cluster) (piece : Piece) (there : IsSome (input_slot s piece.net))
 
 pub delivers_exact : (design : Design) (s : Cluster) (piece : Piece) → AllByRecursion (IsExactWaveIn design) s.waves → IsExactIn design piece → IsSome (input_slot s piece.net) → piece.from ≤ (wave_at s.waves piece.net).clock → (wave_at s.waves piece.net).clock < piece.to → delivered s piece ≡ Ok (wave_with_piece (wave_at s.waves piece.net) piece)
 delivers_exact design s piece all exact there from to = delivers s piece there (takes design s.waves all piece exact from to)
-
--- ---- results
-
-pub on_ok : {A E : Type 0} (r : Result A E) (P Q : Type 0) → (P → Q) → OnOk r P → OnOk r Q
-on_ok (Ok x) P Q f h = f h
-on_ok (Err e) P Q f h = tt

@@ -1,3 +1,4 @@
 pub mod Passed
 pub mod RunFaults
+pub mod RunTerms
 pub mod Runs

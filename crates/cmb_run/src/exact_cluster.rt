@@ -1,11 +1,11 @@
 //! What a run's workers hold and hand on: all of it is exact in the run's design, by its type.
 
-ghost use Rattle.std.specs.Prelude.{◌≡◌, ◌<◌, ◌↔◌, ◌≤◌, ℕ, true, length, map, IfOk, IfSome, IsSome, OnOk, Ok, Err};
+ghost use Rattle.std.specs.Prelude.{◌≡◌, ◌<◌, ◌↔◌, ◌≤◌, ℕ, true, map, IfOk, IfSome, IsSome, OnOk, Ok, Err};
 ghost use Rattle.cmb_wave.specs.Calls.{heard_wave, promised};
 ghost use Rattle.cmb_wave.specs.Wave.{Wave as WaveOf, cut_of, new_wave};
 ghost use Rattle.cmb_wave.specs.declared.level.Heard.{Heard as Hearing};
 ghost use Rattle.std.specs.List.{AllByRecursion};
-ghost use Rattle.cmb_design.specs.Exact.{IsExactIn, IsExactWaveIn, IsRightIn, nets_of};
+ghost use Rattle.cmb_design.specs.Exact.{IsExactIn, IsExactWaveIn, IsRightIn};
 ghost use Rattle.cmb_core.specs.Clusters.{IsDrivenHere, IsSameButWaves, delivered, heard_at, input_slot, inputs_of};
 ghost use Rattle.cmb_core.specs.Clusters.{is_complete, outputs_of, told_at};
 ghost use Rattle.cmb_core.specs.Opened.{IsClusterOf, IsOwnNet, held_nets, own_nets, read_nets};
@@ -13,6 +13,7 @@ ghost use Rattle.cmb_core.specs.Sweep.{some_rises, stepped_waves};
 ghost use Rattle.cmb_core.specs.Step.{wave_at, with_wave};
 ghost use Rattle.cmb_core.specs.declared.delivery.DeliverFault.{DeliverFault as Refusal};
 ghost use Rattle.cmb_run.specs.Passed.{IsPassed};
+ghost use Rattle.cmb_run.specs.RunTerms.{AreTerms};
 
 use crate::terms::Terms;
 use cmb_core::{Cluster, Clustering, DeliverFault};
@@ -99,9 +100,7 @@ impl<T: Terms> ExactCluster<T> {
         clustering: &Clustering,
         number: u32,
     ) -> Result<ExactCluster<T>, AllocError>
-        requires design { design.now ≡ T.design }
-        requires clustering { clustering.now ≡ T.clustering }
-        requires nets { length clustering.now.assign ≡ nets_of design.now }
+        requires terms { AreTerms T.design T.clustering design.now clustering.now }
         requires number { number < clustering.now.clusters }
         ensures new { IfOk result (λ cluster.
             cluster.waves ≡ map new_wave (held_nets design.now clustering.now number)) }

@@ -293,6 +293,18 @@ module _ (design : Design) (netlist : IsNetlist design.netlist) (clustering : Cl
           let count-is : wave.count ≡ count design wave.net wave.clock = (out-exact net there).exact.count in
           (λ i. record { net = wave.net; count = count-is i; upto = wave.clock }) ∙ (λ i. promise_of design (record { net = net-is i; upto = clock-is i }))
 
+  -- an input wave went on, and is exact
+  in-follows : (cluster net upto : ℕ) → cluster < clustering.clusters → has_input design clustering cluster net ≡ true → (later : Wave) → IsExactWaveIn design later → later.net ≡ net → later.base ≡ 0 → later.clock ≡ upto → (reply : Reply) → Follows design clustering (answered (world_with_wave world cluster later) reply) (replied (with_in clocks cluster net upto) reply)
+  unfolding after
+  in-follows cluster net upto c reads later exact net-is whole clock-is reply =
+      let held : has_wave (waves_of world cluster) later.net ≡ true = ap (has_wave (waves_of world cluster)) net-is ∙ has.ins cluster net c (omega (arith, exact.net, net-is)) reads in
+      record {
+        has = has-after design clustering world has cluster c later held;
+        shows = subst (λ (k : Clocks). Shows design clustering (world_with_wave world cluster later) k) (λ i. with_in clocks cluster (net-is i) (clock-is i))
+            (in-after design clustering world has cluster c later held clocks sound shows exact whole (ap (has_input design clustering cluster) net-is ∙ reads) exact.net);
+        reply = refl;
+      }
+
   deliver-follows : (cluster : ℕ) → cluster < clustering.clusters → (post : Option Span) → ((span : Span) → post ≡ Some span → IsPosted design clocks span) → Follows design clustering (deliver_in design clustering world cluster (option_map (piece_of design) post)) (machine_delivered design clustering clocks cluster post)
   unfolding after
   deliver-follows cluster c None was = stays _ _ refl
@@ -325,14 +337,8 @@ module _ (design : Design) (netlist : IsNetlist design.netlist) (clustering : Cl
           let calm : clash (last_level wave.kept wave.changes) (at_or_after wave.clock (piece_of design span).changes) ≡ None = clash-none _ _ (added-alternates (value design wave.net) design.horizon wave exact.exact (piece_of design span) piece_exact low high) in
           let later : Wave = wave_with_piece wave (piece_of design span) in
           let later_exact : IsExactWaveIn design later = record { net = exact.net; exact = with_piece-exact (value design wave.net) design.horizon wave exact.exact (piece_of design span) piece_exact low high } in
-          let held : has_wave (waves_of world cluster) wave.net ≡ true = ap (has_wave (waves_of world cluster)) net-is ∙ has.ins cluster span.net c posted'.0 reads in
-          let follows : Follows design clustering (taken_in world cluster wave (piece_of design span) None) (replied (with_in clocks cluster span.net span.to) (Delivered span.to)) = record {
-            has = has-after design clustering world has cluster c later held;
-            shows = subst (λ (n : ℕ). Shows design clustering (world_with_wave world cluster later) (with_in clocks cluster n span.to)) net-is
-                (in-after design clustering world has cluster c later held clocks sound shows later_exact (shows.whole cluster span.net) (ap (has_input design clustering cluster) net-is ∙ reads) exact.net);
-            reply = refl;
-          } in
-          subst (λ (o : Option ℕ). Follows design clustering (taken_in world cluster wave (piece_of design span) o) (replied (with_in clocks cluster span.net span.to) (Delivered span.to))) (sym calm) follows
+          subst (λ (o : Option ℕ). Follows design clustering (taken_in world cluster wave (piece_of design span) o) (replied (with_in clocks cluster span.net span.to) (Delivered span.to))) (sym calm)
+          (in-follows cluster span.net span.to c reads later later_exact net-is (shows.whole cluster span.net) refl (Delivered span.to))
 
   look-follows : (cluster : ℕ) → cluster < clustering.clusters → (promise : Option Bound) → ((bound : Bound) → promise ≡ Some bound → IsPromised design clocks bound) → Follows design clustering (look_in design clustering world cluster (option_map (promise_of design) promise)) (looked design clustering clocks cluster promise)
   unfolding after
@@ -368,13 +374,7 @@ module _ (design : Design) (netlist : IsNetlist design.netlist) (clustering : Cl
       hears reads new same =
           let later : Wave = wave_up_to wave bound.upto in
           let later_exact : IsExactWaveIn design later = record { net = exact.net; exact = up_to-exact (value design wave.net) design.horizon wave exact.exact bound.upto (omega (arith, clock-is reads)) (omega (arith, promised'.1, sound.outs_within bound.net)) (same ∙ ap (λ (n : ℕ). count design n bound.upto) (sym net-is)) } in
-          let held : has_wave (waves_of world cluster) wave.net ≡ true = ap (has_wave (waves_of world cluster)) net-is ∙ has.ins cluster bound.net c promised'.0 reads in
-          record {
-            has = has-after design clustering world has cluster c later held;
-            shows = subst (λ (n : ℕ). Shows design clustering (world_with_wave world cluster later) (with_in clocks cluster n bound.upto)) net-is
-                (in-after design clustering world has cluster c later held clocks sound shows later_exact (shows.whole cluster bound.net) (ap (has_input design clustering cluster) net-is ∙ reads) exact.net);
-            reply = refl;
-          }
+          in-follows cluster bound.net bound.upto c reads later later_exact net-is (shows.whole cluster bound.net) refl (Looked Extended)
 
   -- each event on the world is the same event on the clocks, with its reply
   pub play-follows : (event : Event) → Follows design clustering (play_world design clustering world event) (play design clustering clocks event)

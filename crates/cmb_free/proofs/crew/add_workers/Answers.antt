@@ -10,7 +10,7 @@ new-desk-requires-clause-seat g c =
     let within : c.loop-number.number < c.args.workers = omega (arith, c.loop-number-test.true, c.count-number-end.ensures.count) in
     let is : c.remove-seat.result ≡ new_seat (arc_value c.args.board.now) t false c.loop-number.number =
     c.remove-seat.ensures.value ∙ next_seat (arc_value c.args.board.now) t c.loop-number.number c.remove-seat.result c.loop-number.seats.items c.loop-number.invariant within in
-    rw c.in_ok-shared.ensures (rw (sym c.requires.design) (rw (sym c.requires.clustering) is))
+    rw c.in_ok-shared.ensures (rw (sym c.requires.terms.design_is) (rw (sym c.requires.terms.clustering_is) is))
 
 pub loop-number-preserved : goal.loop-number-preserved
 loop-number-preserved g c =

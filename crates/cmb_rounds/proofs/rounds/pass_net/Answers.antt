@@ -1,6 +1,6 @@
 use Rattle.std.proofs.Common.{◌≡◌, ◌∙◌, Some, sym, set, OnOk}
+use Rattle.std.proofs.lemmas.Result.{on_ok_weaker}
 use Rattle.cmb_rounds.specs.Rounds.{AreHandsOf, IsPassedOn, known_to}
-use Rattle.cmb_run.proofs.ClusterFacts.{on_ok}
 use Rattle.cmb_rounds.proofs.RoundFacts.{read_nothing, read_taken, told_any}
 use Rattle.cmb_rounds.proofs.rounds.pass_net.Goals as goal
 use Rattle.cmb_rounds.proofs.rounds.pass_net.Goals.{After-drop-new-inside}
@@ -20,10 +20,10 @@ both g c =
     c.in_ok-new.ensures.new c.in_ok-new.ensures.cut c.in-Some-2.new c.in-Some-2.is c.deliver.new.self c.deliver.ensures.same c.deliver.result c.deliver.ensures.passed
 
 pub returns-in-Some-2-clause-kept : goal.returns-in-Some-2-clause-kept
-returns-in-Some-2-clause-kept g c = on_ok c.deliver.result _ _ (λ b. b.0) (both g c)
+returns-in-Some-2-clause-kept g c = on_ok_weaker c.deliver.result (λ b. b.0) (both g c)
 
 pub returns-in-Some-2-clause-passed : goal.returns-in-Some-2-clause-passed
-returns-in-Some-2-clause-passed g c = on_ok c.deliver.result _ _ (λ b. b.1) (both g c)
+returns-in-Some-2-clause-passed g c = on_ok_weaker c.deliver.result (λ b. b.1) (both g c)
 
 pub returns-in-None-clause-passed : goal.returns-in-None-clause-passed
 returns-in-None-clause-passed g c =

@@ -2,18 +2,19 @@ use Rattle.std.proofs.Common.{◌≡◌, [], ◌∷◌, ◌++◌, ◌∙◌, ap,
 use Rattle.std.specs.Prelude.{option_to_list}
 use Rattle.std.specs.List.{AllByRecursion}
 use Rattle.cmb_design.specs.Exact.{IsExactWaveIn}
-use Rattle.cmb_rounds.proofs.HandFacts.{IsGiven, all_first, all_last, all_none}
+use Rattle.cmb_core.proofs.Everywhere.{all_front, all_push}
+use Rattle.cmb_rounds.proofs.HandFacts.{IsGiven, all_none}
 use Rattle.cmb_rounds.proofs.collected.Collected.adopt_all.Goals as goal
 
 pub loop-wave-preserved : goal.loop-wave-preserved
 loop-wave-preserved g c =
     let items : c.loop-wave.waves.items ≡ c.pop.new.self.items ++ c.in-Some.wave ∷ [] = c.pop.ensures.items ∙ ap (λ o. c.pop.new.self.items ++ option_to_list o) c.in-Some.is in
     record {
-      exact = all_first (IsExactWaveIn g.T.Terms.design) c.pop.new.self.items c.in-Some.wave (subst (AllByRecursion (IsExactWaveIn g.T.Terms.design)) items c.loop-wave.invariant.exact);
+      exact = all_front (IsExactWaveIn g.T.Terms.design) c.pop.new.self.items (c.in-Some.wave ∷ []) (subst (AllByRecursion (IsExactWaveIn g.T.Terms.design)) items c.loop-wave.invariant.exact);
       keeps = λ net. omega (arith, c.loop-wave.invariant.keeps net, c.adopt.ensures.keeps net);
       given = λ known above all.
           c.loop-wave.invariant.given known (λ net. omega (arith, c.adopt.ensures.keeps net, above net))
-          (subst (AllByRecursion (IsGiven known)) (sym items) (all_last (IsGiven known) c.pop.new.self.items c.in-Some.wave all (λ base. omega (arith, c.adopt.ensures.given base, above c.in-Some.wave.net))));
+          (subst (AllByRecursion (IsGiven known)) (sym items) (all_push (IsGiven known) c.pop.new.self.items c.in-Some.wave all (λ base. omega (arith, c.adopt.ensures.given base, above c.in-Some.wave.net))));
     }
 
 pub returns-clause-given : goal.returns-clause-given

@@ -3,7 +3,7 @@ use Rattle.cmb_core.specs.Clusters.{Cluster}
 use Rattle.cmb_core.specs.Opened.{IsClusterOf, own_nets}
 use Rattle.cmb_core.specs.Step.{wave_at}
 use Rattle.cmb_core.specs.Sweep.{stepped_waves}
-use Rattle.cmb_run.proofs.ClusterFacts.{trimmed_clock}
+use Rattle.cmb_core.proofs.TrimLaws.{trimmed_clock}
 use Rattle.cmb_run.proofs.exact_cluster.ExactCluster.step.Goals as goal
 
 pub returns-then-self-inputs-clause-clocks : goal.returns-then-self-inputs-clause-clocks
