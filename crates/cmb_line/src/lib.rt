@@ -7,6 +7,7 @@ mod explaining;
 mod help;
 pub mod line;
 pub mod mode;
+mod options;
 
 pub use choice::{Choice, Pick};
 pub use cmb_design::Settings;

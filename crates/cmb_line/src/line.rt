@@ -6,15 +6,11 @@ ghost use Rattle.cmb_line.specs.Modes.{IsLawful};
 use crate::choice::{Choice, Pick};
 use crate::clock::clock_of;
 use crate::explaining::{explain_command, explain_fault, explain_message};
-use crate::help::{
-    ABOUT, BEGIN, CHECK, CLOCK, CLOCKS, DELAYS, EXPLAIN_FAULT, FILES, HORIZON, INIT, MODE,
-    NETLIST_HINT, ONLY, ONLY_OUTPUTS, PARTS, PROGRESS, RUN, STATS, STIMULI, THREADS, USUAL,
-    VERSION, WORKERS,
-};
+use crate::help::{ABOUT, BEGIN, CHECK, FILES, NETLIST_HINT, RUN, USUAL, VERSION};
 use crate::mode::Mode;
-use clap::builder::ValueParser;
+use crate::options::{RUNNING, SETTINGS, with_options};
 use clap::error::ErrorKind;
-use clap::{Arg, ArgAction, ArgMatches, Command, Error};
+use clap::{ArgMatches, Command, Error};
 use cmb_design::Settings;
 use cmb_wave::Level;
 use std::alloc::{AllocError, Global};
@@ -76,87 +72,7 @@ impl From<AllocError> for LineFault {
 
 const MOST_TICKS: u32 = 1_000_000;
 
-const LEVELS: [&str; 3] = ["0", "1", "x"];
-
-const MODES: [&str; 3] = ["plain", "rounds", "free"];
-
 const MOST_PARTS: u32 = 64;
-
-// An option `--NAME VALUE`.
-fn option<'a>(alloc: Global, name: &'a str, value: &'a str, help: &'a str) -> Arg<'a> {
-    Arg::new(alloc, name)
-        .long(name)
-        .value_name(value)
-        .help(help)
-}
-
-// An option that takes one of these values, which its help names.
-fn choice<'a>(
-    alloc: Global,
-    name: &'a str,
-    value: &'a str,
-    help: &'a str,
-    values: &'a [&'a str],
-) -> Arg<'a> {
-    option(alloc, name, value, help)
-        .value_parser(values)
-        .hide_possible_values(true)
-}
-
-// An option without a value.
-fn flag<'a>(alloc: Global, name: &'a str, help: &'a str) -> Arg<'a> {
-    Arg::new(alloc, name)
-        .long(name)
-        .action(ArgAction::SetTrue)
-        .help(help)
-}
-
-// What is simulated.
-fn with_settings<'a>(alloc: Global, command: Command<'a>) -> Result<Command<'a>, AllocError> {
-    command
-        .arg(
-            option(alloc, "horizon", "N", HORIZON)
-                .required(true)
-                .value_parser(ValueParser::unsigned(1, 1_000_000)),
-        )?
-        .arg(option(alloc, "clock", "F:P", CLOCK))?
-        .arg(choice(alloc, "init", "LEVEL", INIT, LEVELS.as_slice()))?
-        .arg(option(alloc, "delays", "FILE", DELAYS))?
-        .arg(option(alloc, "stimuli", "FILE", STIMULI))?
-        .arg(option(alloc, "clocks", "FILE", CLOCKS))?
-        .arg(flag(alloc, "explain", EXPLAIN_FAULT))
-}
-
-// How many threads share the work, where nobody says who has which nets.
-fn threads_option<'a>(alloc: Global) -> Result<Arg<'a>, AllocError> {
-    option(alloc, "threads", "N", THREADS)
-        .value_parser(ValueParser::unsigned(1, 64))
-        .conflicts_with("workers")?
-        .conflicts_with("clusters")
-}
-
-// How it is run.
-fn with_mode<'a>(alloc: Global, command: Command<'a>) -> Result<Command<'a>, AllocError> {
-    command
-        .arg(choice(alloc, "mode", "MODE", MODE, MODES.as_slice()))?
-        .arg(threads_option(alloc)?)?
-        .arg(option(alloc, "workers", "W", WORKERS).value_parser(ValueParser::unsigned(1, 64)))?
-        .arg(option(alloc, "clusters", "K", PARTS).value_parser(ValueParser::unsigned(1, 64)))
-}
-
-// Which nets are written. Both at once are a wrong line.
-fn with_choice<'a>(alloc: Global, command: Command<'a>) -> Result<Command<'a>, AllocError> {
-    command
-        .arg(option(alloc, "only", "FILE", ONLY).conflicts_with("only-outputs")?)?
-        .arg(flag(alloc, "only-outputs", ONLY_OUTPUTS))
-}
-
-// What is told of a run on standard error.
-fn with_telling<'a>(alloc: Global, command: Command<'a>) -> Result<Command<'a>, AllocError> {
-    command
-        .arg(flag(alloc, "progress", PROGRESS))?
-        .arg(flag(alloc, "stats", STATS))
-}
 
 // The command line of `run`.
 fn run_command<'a>(alloc: Global) -> Result<Command<'a>, AllocError> {
@@ -164,14 +80,14 @@ fn run_command<'a>(alloc: Global) -> Result<Command<'a>, AllocError> {
         .about(RUN)
         .before_help(USUAL)
         .after_help(FILES);
-    let command = with_mode(alloc, with_settings(alloc, command)?)?;
-    let command = with_choice(alloc, command)?;
-    with_telling(alloc, command)
+    let command = with_options(alloc, command, SETTINGS)?;
+    with_options(alloc, command, RUNNING)
 }
 
 // The command line of `check`.
 fn check_command<'a>(alloc: Global) -> Result<Command<'a>, AllocError> {
-    with_settings(alloc, Command::new(alloc, "check").about(CHECK))
+    let command = Command::new(alloc, "check").about(CHECK);
+    with_options(alloc, command, SETTINGS)
 }
 
 // The program's command line without its commands.
@@ -425,25 +341,33 @@ fn hint(kind: ErrorKind, text: &str) -> &'static str {
     }
 }
 
+// What is said of words that aren't a line, or that ask for help or the version.
 fn error_message(alloc: Global, error: &Error) -> Result<String, AllocError> {
-    let mut text = format!(in alloc; "{error}")?;
-    let more = hint(error.kind(), text.as_str());
-    text.push_str(more)?;
-    Ok(text)
+    match error.kind() {
+        ErrorKind::OutOfMemory => Err(AllocError),
+        ErrorKind::MissingSubcommand => String::from_str(alloc, BEGIN),
+        kind => {
+            let mut text = format!(in alloc; "{error}")?;
+            let more = hint(kind, text.as_str());
+            text.push_str(more)?;
+            Ok(text)
+        }
+    }
+}
+
+// What is said of a line that was read: the explanation that it asks for.
+fn answer_message(alloc: Global, matches: &ArgMatches<'_>) -> Result<String, AllocError> {
+    match matches.subcommand_matches("explain") {
+        Some(explain) => explain_message(alloc, explain),
+        None => Ok(String::new(alloc)),
+    }
 }
 
 /// What the program says of words that ask for no run and no check: the text of help, the version or the explanation
 /// where they ask for that, else what is wrong with them and how they are written. Of other words it is empty.
 pub fn line_message(alloc: Global, words: &[String]) -> Result<String, AllocError> {
     match parse(alloc, words) {
-        Ok(matches) => match matches.subcommand_matches("explain") {
-            Some(explain) => explain_message(alloc, explain),
-            None => Ok(String::new(alloc)),
-        },
-        Err(error) => match error.kind() {
-            ErrorKind::OutOfMemory => Err(AllocError),
-            ErrorKind::MissingSubcommand => String::from_str(alloc, BEGIN),
-            _ => error_message(alloc, &error),
-        },
+        Ok(matches) => answer_message(alloc, &matches),
+        Err(error) => error_message(alloc, &error),
     }
 }

@@ -1,7 +1,6 @@
 -- Where each net of a design is chosen, what holds of the chosen nets' text holds of the design's.
 use Rattle.std.proofs.Common.{◌≡◌, ℕ, ◌<◌, Bool, true, List, [], ◌∷◌, length, get_or, Ok, refl, subst, ap, ◌∙◌}
 use Rattle.std.specs.Prelude.{All, Contains}
-use Rattle.std.specs.Io.KnownBytes.{Appends}
 use Rattle.std.specs.List.{filter, range_with_len}
 use Rattle.std.proofs.lemmas.List.Elements.{All-contains, All-head, All-tail, filter_passes}
 use Rattle.cmb_design.specs.Design.{Design}
@@ -19,7 +18,7 @@ use Rattle.cmb_line.specs.declared.choice.Pick.TheVariants.{Listed, Outputs}
 use Rattle.cmb_line.specs.declared.mode.Mode.{Mode}
 use Rattle.cmb_sim.proofs.Outcomes.{SpellDesign-of}
 use Rattle.cmb_sim.specs.Choosing.{AreChosen, Choose, IsChosenOutcome}
-use Rattle.cmb_sim.specs.Simulation.{Input, Inputs, IsOutcome, Output, report_of}
+use Rattle.cmb_sim.specs.Simulation.{HasTaken, Input, Inputs, IsOutcome, Output, report_of}
 use Rattle.cmb_sim.specs.declared.simulation.Report.{Report}
 
 filter_all : (p : ℕ → Bool) (xs : List ℕ) → All (λ x. p x ≡ true) xs → filter p xs ≡ xs
@@ -53,5 +52,5 @@ IsOutcome-chosen settings mode pick i list o report there h =
     let nets : List ℕ = h.1.1 in
     let choose : Choose settings pick i list design nets = h.1.2 in
     let same : vcd_of design nets ≡ vcd design = chosen_whole pick design choose.names nets choose.chosen (there design nets choose) in
-    let told : report ≡ report_of design = h.1.6 ∙ ap (λ text. record { nets = nets_of design; horizon = design.horizon; written = length text }) same in
-    (h.0.0, (design, SpellDesign-of settings mode i design (choose.texts, choose.are.four, choose.spelled) h.1.3, subst (Appends o.old o.new) same h.1.4, h.1.5, told))
+    let told : report ≡ report_of design = h.1.5 ∙ ap (λ text. record { nets = nets_of design; horizon = design.horizon; written = length text }) same in
+    (h.0.0, (design, SpellDesign-of settings mode i design (choose.texts, choose.are.four, choose.spelled) h.1.3, subst (λ text. HasTaken text o) same h.1.4, told))

@@ -1,7 +1,5 @@
 -- The answers of the stages of a simulation of chosen nets as those of the whole.
 use Rattle.std.proofs.Common.{◌≡◌, ℕ, true, false, nat_lt, inl, inr, List, Option, None, Some, Result, Ok, Err, IfOk, IfErr, OnOk, refl}
-use Rattle.std.specs.Io.KnownBytes.{Appends}
-use Rattle.std.proofs.KnownBytes.{Keeps-refl}
 use Rattle.cmb_design.specs.Checks.{first_fault}
 use Rattle.cmb_design.specs.Design.{Design}
 use Rattle.cmb_design.specs.Plain.{cells_of}
@@ -13,18 +11,15 @@ use Rattle.cmb_line.specs.declared.choice.Pick.{Pick}
 use Rattle.cmb_line.specs.declared.choice.Pick.TheVariants.{Listed}
 use Rattle.cmb_line.specs.declared.mode.Mode.{Mode}
 use Rattle.cmb_line.specs.declared.mode.Mode.TheVariants.{Plain}
-use Rattle.cmb_sim.proofs.Outcomes.{NoneFailedBut-any, NoneFailedBut-same}
+use Rattle.cmb_sim.proofs.Outcomes.{NoneFailedBut-any, NoneFailedBut-same, untouched}
 use Rattle.cmb_sim.proofs.RoundRuns.{no_checks}
 use Rattle.cmb_sim.specs.Choosing.{AreAllTexts, AreChosen, Choose, IsChosenAnswer, IsChosenAnswerOf, IsChosenOutcome, IsListText, chosen_report}
-use Rattle.cmb_sim.specs.Simulation.{AreTexts, HasNotFailed, Input, Inputs, IsUntouched, NoneFailedBut, Output, Texts, failed_input, mode_checks, output}
-use Rattle.cmb_sim.specs.Stages.{CanRun, HaveTextFault, IsUnchosen, IsUnread, IsUnrun, IsUnshown, LacksTexts, SpellAny}
+use Rattle.cmb_sim.specs.Simulation.{AreTexts, HasNotFailed, HasTaken, Input, Inputs, NoneFailedBut, Output, Texts, failed_input, mode_checks, output}
+use Rattle.cmb_sim.specs.Stages.{CanRun, HaveTextFault, IsUnchosen, IsUnread, IsUnshown, LacksTexts, SpellAny}
 use Rattle.cmb_sim.specs.declared.fault.Fault.{Fault}
 use Rattle.cmb_sim.specs.declared.fault.Fault.TheVariants as fault
 use Rattle.cmb_sim.specs.declared.simulation.Report.{Report}
 use Rattle.cmb_sim.specs.declared.texts.InputTexts.{InputTexts}
-
-untouched : (old : Option (List ℕ)) (n : ℕ) → IsUntouched (output old old n n)
-untouched old n = (Keeps-refl old, refl)
 
 -- the check of mode plain
 pub plain_fits : (design : Design) → nat_lt 16777216 (cells_of design) ≡ false → first_fault (mode_checks Plain design) ≡ None
@@ -44,13 +39,7 @@ unread : (settings : Settings) (mode : Mode) (pick : Pick) (i : Inputs) (list : 
 unread settings mode pick i list old n (fault.TooLong k) h = (inl h, untouched old n)
 unread settings mode pick i list old n (fault.Read k) h = (inl h, untouched old n)
 unread settings mode pick i list old n fault.Memory h = untouched old n
-unread settings mode pick i list old n (fault.Bench f) h = absurd h
-unread settings mode pick i list old n (fault.Design f) h = absurd h
-unread settings mode pick i list old n (fault.Write k) h = absurd h
-unread settings mode pick i list old n (fault.Incomplete k t) h = absurd h
-unread settings mode pick i list old n (fault.Unknown k) h = absurd h
-unread settings mode pick i list old n fault.Clusters h = absurd h
-unread settings mode pick i list old n fault.Workers h = absurd h
+unread settings mode pick i list old n f h = absurd h
 
 pub IsChosenOutcome-unread : (settings : Settings) (mode : Mode) (pick : Pick) (i : Inputs) (list : Input) (old : Option (List ℕ)) (n : ℕ) (f : Fault)
     → NoneFailedBut (failed_input {A = InputTexts} (Err f)) i → HasNotFailed list → LacksTexts i f → IsChosenOutcome settings mode (Only pick) i list (output old old n n) (Err f)
@@ -63,25 +52,11 @@ unlisted : (settings : Settings) (mode : Mode) (pick : Pick) (i : Inputs) (list 
 unlisted settings mode pick i list old n texts (fault.TooLong k) are is h = (inr (h.0, is, (texts, are), h.1), untouched old n)
 unlisted settings mode pick i list old n texts (fault.Read k) are is h = (inr (h.0, is, (texts, are), h.1), untouched old n)
 unlisted settings mode pick i list old n texts fault.Memory are is h = untouched old n
-unlisted settings mode pick i list old n texts (fault.Bench f) are is h = absurd h
-unlisted settings mode pick i list old n texts (fault.Design f) are is h = absurd h
-unlisted settings mode pick i list old n texts (fault.Write k) are is h = absurd h
-unlisted settings mode pick i list old n texts (fault.Incomplete k t) are is h = absurd h
-unlisted settings mode pick i list old n texts (fault.Unknown k) are is h = absurd h
-unlisted settings mode pick i list old n texts fault.Clusters are is h = absurd h
-unlisted settings mode pick i list old n texts fault.Workers are is h = absurd h
+unlisted settings mode pick i list old n texts f are is h = absurd h
 
 list_failed : (A B : Type 0) (f : Fault) (list : Input) → ((failed_input {A = A} (Err f) ≡ 5 → ⊥) → HasNotFailed list) → (failed_input {A = B} (Err f) ≡ 5 → ⊥) → HasNotFailed list
 list_failed A B (fault.Read n) list h = h
-list_failed A B (fault.TooLong n) list h = h
-list_failed A B fault.Memory list h = h
-list_failed A B (fault.Bench f) list h = h
-list_failed A B (fault.Design f) list h = h
-list_failed A B (fault.Write n) list h = h
-list_failed A B (fault.Incomplete n t) list h = h
-list_failed A B (fault.Unknown n) list h = h
-list_failed A B fault.Clusters list h = h
-list_failed A B fault.Workers list h = h
+list_failed A B f list h = h
 
 pub IsChosenOutcome-unlisted : (A : Type 0) (settings : Settings) (mode : Mode) (pick : Pick) (i : Inputs) (list : Input) (old : Option (List ℕ)) (n : ℕ) (texts : Texts) (f : Fault)
     → NoneFailedBut 0 i → AreTexts i texts → pick ≡ Listed → IsUnread 5 list f → ((failed_input {A = A} (Err f) ≡ 5 → ⊥) → HasNotFailed list)
@@ -95,13 +70,7 @@ unspelled : (settings : Settings) (mode : Mode) (pick : Pick) (i : Inputs) (list
 unspelled settings mode pick i list old n texts names (fault.Bench f) are h = ((texts, names, are, h), untouched old n)
 unspelled settings mode pick i list old n texts names (fault.Design f) are h = (inl (texts, names, are, h), untouched old n)
 unspelled settings mode pick i list old n texts names fault.Memory are h = untouched old n
-unspelled settings mode pick i list old n texts names (fault.TooLong k) are h = absurd h
-unspelled settings mode pick i list old n texts names (fault.Read k) are h = absurd h
-unspelled settings mode pick i list old n texts names (fault.Write k) are h = absurd h
-unspelled settings mode pick i list old n texts names (fault.Incomplete k t) are h = absurd h
-unspelled settings mode pick i list old n texts names (fault.Unknown k) are h = absurd h
-unspelled settings mode pick i list old n texts names fault.Clusters are h = absurd h
-unspelled settings mode pick i list old n texts names fault.Workers are h = absurd h
+unspelled settings mode pick i list old n texts names f are h = absurd h
 
 pub IsChosenAnswerOf-unspelled : (settings : Settings) (mode : Mode) (pick : Pick) (texts : Texts) (names : List ℕ) (old : Option (List ℕ)) (n : ℕ) (f : Fault)
     → HaveTextFault texts settings f → IsChosenAnswerOf settings mode pick texts names (output old old n n) (Err f)
@@ -112,63 +81,39 @@ unchosen : (settings : Settings) (mode : Mode) (pick : Pick) (i : Inputs) (list 
     → AreAllTexts pick i list texts names → SpellAny texts settings design → IsUnchosen pick design.netlist names f → IsChosenAnswer settings mode pick i list (output old old n n) (Err f)
 unchosen settings mode pick i list old n texts names design (fault.Unknown line) are spelled h = ((h.0, (texts, names, are, (design, spelled, h.1))), untouched old n)
 unchosen settings mode pick i list old n texts names design fault.Memory are spelled h = untouched old n
-unchosen settings mode pick i list old n texts names design (fault.Bench f) are spelled h = absurd h
-unchosen settings mode pick i list old n texts names design (fault.Design f) are spelled h = absurd h
-unchosen settings mode pick i list old n texts names design (fault.TooLong k) are spelled h = absurd h
-unchosen settings mode pick i list old n texts names design (fault.Read k) are spelled h = absurd h
-unchosen settings mode pick i list old n texts names design (fault.Write k) are spelled h = absurd h
-unchosen settings mode pick i list old n texts names design (fault.Incomplete k t) are spelled h = absurd h
-unchosen settings mode pick i list old n texts names design fault.Clusters are spelled h = absurd h
-unchosen settings mode pick i list old n texts names design fault.Workers are spelled h = absurd h
+unchosen settings mode pick i list old n texts names design f are spelled h = absurd h
 
 pub IsChosenAnswerOf-unchosen : (settings : Settings) (mode : Mode) (pick : Pick) (texts : Texts) (names : List ℕ) (old : Option (List ℕ)) (n : ℕ) (design : Design) (f : Fault)
     → SpellAny texts settings design → IsUnchosen pick design.netlist names f → IsChosenAnswerOf settings mode pick texts names (output old old n n) (Err f)
 IsChosenAnswerOf-unchosen settings mode pick texts names old n design f spelled h = λ i list are. unchosen settings mode pick i list old n texts names design f are spelled h
 
 -- the text of the chosen nets was written, or it wasn't
-pub IsUnshown-unrun : (mode : Mode) (design : Design) (nets : List ℕ) (old : Option (List ℕ)) (n : ℕ) (f : Fault) → IsUnrun mode design f → IsUnshown mode design nets (output old old n n) f
-IsUnshown-unrun mode design nets old n (fault.Design f) h = (h, untouched old n)
-IsUnshown-unrun mode design nets old n fault.Clusters h = (h, untouched old n)
-IsUnshown-unrun mode design nets old n fault.Workers h = (h, untouched old n)
-IsUnshown-unrun mode design nets old n fault.Memory h = (h, untouched old n)
-IsUnshown-unrun mode design nets old n (fault.Bench f) h = absurd h
-IsUnshown-unrun mode design nets old n (fault.Unknown k) h = absurd h
-IsUnshown-unrun mode design nets old n (fault.Incomplete k t) h = absurd h
-IsUnshown-unrun mode design nets old n (fault.TooLong k) h = absurd h
-IsUnshown-unrun mode design nets old n (fault.Read k) h = absurd h
-IsUnshown-unrun mode design nets old n (fault.Write k) h = absurd h
-
 unshown : (settings : Settings) (mode : Mode) (pick : Pick) (i : Inputs) (list : Input) (o : Output) (design : Design) (nets : List ℕ) (f : Fault)
     → Choose settings pick i list design nets → IsUnshown mode design nets o f → IsChosenAnswer settings mode pick i list o (Err f)
-unshown settings mode pick i list o design nets (fault.Write n) choose h = (design, nets, choose, h.0, h.1, h.2, h.3)
+unshown settings mode pick i list o design nets (fault.Write n) choose h = (design, nets, choose, h.0, h.1)
 unshown settings mode pick i list o design nets (fault.Design f) choose h = (inr (design, nets, choose, h.0), h.1)
 unshown settings mode pick i list o design nets fault.Clusters choose h = ((design, nets, choose, h.0), h.1)
 unshown settings mode pick i list o design nets fault.Workers choose h = ((design, nets, choose, h.0), h.1)
 unshown settings mode pick i list o design nets fault.Memory choose h = h.1
-unshown settings mode pick i list o design nets (fault.Bench f) choose h = absurd h.0
-unshown settings mode pick i list o design nets (fault.Unknown k) choose h = absurd h.0
-unshown settings mode pick i list o design nets (fault.Incomplete k t) choose h = absurd h.0
-unshown settings mode pick i list o design nets (fault.TooLong k) choose h = absurd h.0
-unshown settings mode pick i list o design nets (fault.Read k) choose h = absurd h.0
+unshown settings mode pick i list o design nets f choose h = absurd h.0
 
-shown : (settings : Settings) (mode : Mode) (pick : Pick) (i : Inputs) (list : Input) (old new : Option (List ℕ)) (before after : ℕ) (design : Design) (nets : List ℕ) (result : Result Report Fault)
+shown : (settings : Settings) (mode : Mode) (pick : Pick) (i : Inputs) (list : Input) (o : Output) (design : Design) (nets : List ℕ) (result : Result Report Fault)
     → Choose settings pick i list design nets
-    → IfOk result (λ report. report ≡ chosen_report design nets) → OnOk result (Appends old new (vcd_of design nets)) → OnOk result (after ≡ before)
-    → OnOk result (CanRun mode design) → IfErr result (IsUnshown mode design nets (output old new before after))
-    → IsChosenAnswer settings mode pick i list (output old new before after) result
-shown settings mode pick i list old new before after design nets (Ok report) choose told wrote same fits unwritten = (design, nets, choose, fits, wrote, same, told)
-shown settings mode pick i list old new before after design nets (Err f) choose told wrote same fits unwritten =
-    unshown settings mode pick i list (output old new before after) design nets f choose unwritten
+    → IfOk result (λ report. report ≡ chosen_report design nets) → OnOk result (HasTaken (vcd_of design nets) o)
+    → OnOk result (CanRun mode design) → IfErr result (IsUnshown mode design nets o)
+    → IsChosenAnswer settings mode pick i list o result
+shown settings mode pick i list o design nets (Ok report) choose told wrote fits unwritten = (design, nets, choose, fits, wrote, told)
+shown settings mode pick i list o design nets (Err f) choose told wrote fits unwritten = unshown settings mode pick i list o design nets f choose unwritten
 
-pub IsChosenAnswerOf-shown : (settings : Settings) (mode : Mode) (pick : Pick) (texts : Texts) (names : List ℕ) (old new : Option (List ℕ)) (before after : ℕ)
+pub IsChosenAnswerOf-shown : (settings : Settings) (mode : Mode) (pick : Pick) (texts : Texts) (names : List ℕ) (o : Output)
     (design : Design) (nets : List ℕ) (result : Result Report Fault)
     → SpellAny texts settings design → AreChosen pick design names nets
-    → IfOk result (λ report. report ≡ chosen_report design nets) → OnOk result (Appends old new (vcd_of design nets)) → OnOk result (after ≡ before)
-    → OnOk result (CanRun mode design) → IfErr result (IsUnshown mode design nets (output old new before after))
-    → IsChosenAnswerOf settings mode pick texts names (output old new before after) result
-IsChosenAnswerOf-shown settings mode pick texts names old new before after design nets result spelled chosen told wrote same fits unwritten =
-    λ i list are. shown settings mode pick i list old new before after design nets result
-    (record { texts = texts; names = names; are = are; spelled = spelled; chosen = chosen }) told wrote same fits unwritten
+    → IfOk result (λ report. report ≡ chosen_report design nets) → OnOk result (HasTaken (vcd_of design nets) o)
+    → OnOk result (CanRun mode design) → IfErr result (IsUnshown mode design nets o)
+    → IsChosenAnswerOf settings mode pick texts names o result
+IsChosenAnswerOf-shown settings mode pick texts names o design nets result spelled chosen told wrote fits unwritten =
+    λ i list are. shown settings mode pick i list o design nets result
+    (record { texts = texts; names = names; are = are; spelled = spelled; chosen = chosen }) told wrote fits unwritten
 
 -- a simulation that read its texts and its list ends as one of these does
 pub IsChosenOutcome-read : (settings : Settings) (mode : Mode) (pick : Pick) (i : Inputs) (list : Input) (o : Output) (texts : Texts) (names : List ℕ) (result : Result Report Fault)

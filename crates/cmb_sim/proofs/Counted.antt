@@ -1,11 +1,10 @@
 -- What comes of counting a design, and of writing the counts.
-use Rattle.std.proofs.Common.{ℕ, List, Option, Result, Ok, Err, IfOk, IfErr, refl}
-use Rattle.std.proofs.KnownBytes.{Keeps-refl}
+use Rattle.std.proofs.Common.{ℕ, List, Option, Result, Ok, Err, IfOk, IfErr}
 use Rattle.cmb_count.specs.declared.counts.Counts.{Counts}
 use Rattle.cmb_design.specs.declared.settings.Settings.{Settings}
-use Rattle.cmb_sim.proofs.Outcomes.{LacksDesign-of, LacksDesign-unread, NoneFailedBut-any, NoneFailedBut-same}
+use Rattle.cmb_sim.proofs.Outcomes.{LacksDesign-of, LacksDesign-unread, NoneFailedBut-any, NoneFailedBut-same, untouched}
 use Rattle.cmb_sim.specs.Checking.{IsChecked, IsCountOf}
-use Rattle.cmb_sim.specs.Simulation.{AreTexts, Inputs, IsUntouched, NoneFailedBut, Output, Texts, failed_input, output}
+use Rattle.cmb_sim.specs.Simulation.{AreTexts, Inputs, NoneFailedBut, Output, Texts, failed_input, output}
 use Rattle.cmb_sim.specs.Stages.{HaveTextFault, IsReading, LacksDesign, LacksTexts}
 use Rattle.cmb_sim.specs.Tasks.{AreUnwritten, IsCheck}
 use Rattle.cmb_sim.specs.declared.fault.Fault.{Fault}
@@ -25,33 +24,19 @@ IsReading-counted settings i texts (Ok counts) read are counted faulty =
 IsReading-counted settings i texts (Err f) read are counted faulty =
     record { ok = tt; fault = LacksDesign-of settings i texts are f faulty; failures = NoneFailedBut-any i (failed_input {A = Counts} (Err f)) read }
 
-untouched : (old : Option (List ℕ)) (n : ℕ) → IsUntouched (output old old n n)
-untouched old n = (Keeps-refl old, refl)
-
 -- there is no design to be counted
 pub IsCheck-lacking : (settings : Settings) (i : Inputs) (old : Option (List ℕ)) (n : ℕ) (f : Fault) → NoneFailedBut (failed_input {A = Counts} (Err f)) i → LacksDesign settings i f
     → IsCheck settings i (output old old n n) (Err f)
-IsCheck-lacking settings i old n (fault.Write k) read h = absurd h
 IsCheck-lacking settings i old n (fault.TooLong k) read h = (read, (h, untouched old n))
 IsCheck-lacking settings i old n (fault.Read k) read h = (read, (h, untouched old n))
 IsCheck-lacking settings i old n (fault.Bench f) read h = (read, (h, untouched old n))
 IsCheck-lacking settings i old n (fault.Design f) read h = (read, (h, untouched old n))
 IsCheck-lacking settings i old n fault.Memory read h = (read, (h, untouched old n))
-IsCheck-lacking settings i old n (fault.Incomplete k t) read h = absurd h
-IsCheck-lacking settings i old n (fault.Unknown k) read h = absurd h
-IsCheck-lacking settings i old n fault.Clusters read h = absurd h
-IsCheck-lacking settings i old n fault.Workers read h = absurd h
+IsCheck-lacking settings i old n f read h = absurd h
 
 -- the counts weren't written whole
 pub IsCheck-unwritten : (settings : Settings) (i : Inputs) (o : Output) (counts : Counts) (f : Fault) → NoneFailedBut 0 i → IsChecked settings i counts → AreUnwritten counts o f
     → IsCheck settings i o (Err f)
-IsCheck-unwritten settings i o counts (fault.Write n) read is h = (read, (counts, is, h.0, h.1, h.2))
+IsCheck-unwritten settings i o counts (fault.Write n) read is h = (read, (counts, is, h))
 IsCheck-unwritten settings i o counts fault.Memory read is h = (read, (tt, h))
-IsCheck-unwritten settings i o counts (fault.TooLong k) read is h = absurd h
-IsCheck-unwritten settings i o counts (fault.Read k) read is h = absurd h
-IsCheck-unwritten settings i o counts (fault.Bench f) read is h = absurd h
-IsCheck-unwritten settings i o counts (fault.Design f) read is h = absurd h
-IsCheck-unwritten settings i o counts (fault.Incomplete k t) read is h = absurd h
-IsCheck-unwritten settings i o counts (fault.Unknown k) read is h = absurd h
-IsCheck-unwritten settings i o counts fault.Clusters read is h = absurd h
-IsCheck-unwritten settings i o counts fault.Workers read is h = absurd h
+IsCheck-unwritten settings i o counts f read is h = absurd h

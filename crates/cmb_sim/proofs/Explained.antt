@@ -15,15 +15,8 @@ use Rattle.cmb_sim.specs.declared.fault.Fault.TheVariants.{Bench, Design, Unknow
 -- ---- a fault's number is explained
 
 of_kind : (k : FaultKind) → IsFaultNumber (number_of_fault k)
-of_kind kind.Byte = inl (omega arith, omega arith)
-of_kind kind.Statement = inl (omega arith, omega arith)
-of_kind kind.Kind = inl (omega arith, omega arith)
-of_kind kind.Operands = inl (omega arith, omega arith)
-of_kind kind.Driven = inl (omega arith, omega arith)
-of_kind kind.Undriven = inl (omega arith, omega arith)
-of_kind kind.TooMany = inl (omega arith, omega arith)
-of_kind kind.Name = inl (omega arith, omega arith)
 of_kind kind.Memory = inr (inr (inr (inr (inr (inr refl)))))
+of_kind k = inl (omega arith, omega arith)
 
 -- a number of a fault of tables, and one of settings
 table : (n : ℕ) → IsTableFault n → IsFaultNumber n
@@ -36,22 +29,13 @@ of_design : (f : DesignFault) → IsFaultNumber (fault_number f)
 of_design design.Horizon = settings 20 (inl (omega arith, omega arith))
 of_design design.Clock = settings 21 (inl (omega arith, omega arith))
 of_design design.NoClock = settings 22 (inl (omega arith, omega arith))
-of_design (design.Header n) = table 23 (inl (omega arith, omega arith))
-of_design (design.Fields n) = table 24 (inl (omega arith, omega arith))
-of_design (design.Number n) = table 25 (inl (omega arith, omega arith))
-of_design (design.UnknownNet n) = table 26 (inl (omega arith, omega arith))
-of_design (design.UnknownKind n) = table 27 (inl (omega arith, omega arith))
-of_design (design.DelayRange n) = table 28 (inl (omega arith, omega arith))
-of_design (design.RepeatedRow n) = table 29 (inl (omega arith, omega arith))
-of_design (design.NotInput n) = table 30 (inl (omega arith, omega arith))
-of_design (design.Level n) = table 31 (inl (omega arith, omega arith))
-of_design (design.DelayOfInput n) = table 32 (inl (omega arith, omega arith))
 of_design design.TableTooLarge = settings 33 (inr (inl refl))
 of_design (design.PinName n) = table 34 (inr (omega arith, omega arith))
 of_design (design.NoPin n) = table 35 (inr (omega arith, omega arith))
 of_design (design.ClockRange n) = table 36 (inr (omega arith, omega arith))
 of_design (design.NotFlop n) = table 37 (inr (omega arith, omega arith))
 of_design design.Memory = inr (inr (inr (inr (inr (inr refl)))))
+of_design f = table (fault_number f) (inl (omega arith, omega arith))
 
 pub explained : (f : Fault) → IsFaultNumber (number_of f)
 explained (Bench f) = of_kind f.kind

@@ -17,10 +17,10 @@ pub IsUnwritten-cut : (workers clusters : ℕ) (design : Design) (old new : Opti
     → CanRun (Free workers clusters) design → IsCutAt design old new before after f → IsUnwritten (Free workers clusters) design (output old new before after) (run_as_fault f)
 IsUnwritten-cut workers clusters design old new before after (Incomplete net upto collector) runs h =
     (runs, tt, omega (arith, h.2.exact.opened.nets, h.3.is_net), omega (arith, h.2.exact.opened.horizon, h.3.behind), h.0, h.1)
-IsUnwritten-cut workers clusters design old new before after (Write n) runs h = (runs, h.short, h.begun, h.failed)
+IsUnwritten-cut workers clusters design old new before after (Write n) runs h = (runs, (h.short, h.begun, h.failed))
 IsUnwritten-cut workers clusters design old new before after Memory runs h = inr (runs, tt, h.0, h.1)
 
 pub IsUnwritten-broken : (mode : Mode) (design : Design) (old new : Option (List ℕ)) (before after : ℕ) (f : StreamFault)
     → CanRun mode design → IsFree mode → IsBrokenOff design old new before after f → IsUnwritten mode design (output old new before after) (stream_as_fault f)
-IsUnwritten-broken mode design old new before after (stream_fault.Write n) runs free h = (runs, h.short, h.begun, h.failed)
+IsUnwritten-broken mode design old new before after (stream_fault.Write n) runs free h = (runs, (h.short, h.begun, h.failed))
 IsUnwritten-broken mode design old new before after stream_fault.Memory runs free h = inr (runs, free, h.0, h.1)

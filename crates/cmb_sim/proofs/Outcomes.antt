@@ -60,40 +60,20 @@ design_in-rows texts settings netlist delays stimuli clocks p q r = rw (p, q, r)
 pub LacksDesign-of : (settings : Settings) (i : Inputs) (texts : Texts) → AreTexts i texts → (f : Fault) → HaveTextFault texts settings f → LacksDesign settings i f
 LacksDesign-of settings i texts are (fault.Bench f) h = (texts, are, h)
 LacksDesign-of settings i texts are (fault.Design f) h = (texts, are, h)
-LacksDesign-of settings i texts are (fault.TooLong n) h = absurd h
-LacksDesign-of settings i texts are (fault.Read n) h = absurd h
-LacksDesign-of settings i texts are (fault.Write n) h = absurd h
-LacksDesign-of settings i texts are (fault.Incomplete n t) h = absurd h
-LacksDesign-of settings i texts are (fault.Unknown k) h = absurd h
-LacksDesign-of settings i texts are fault.Clusters h = absurd h
-LacksDesign-of settings i texts are fault.Workers h = absurd h
 LacksDesign-of settings i texts are fault.Memory h = tt
+LacksDesign-of settings i texts are f h = absurd h
 
 -- what keeps an input from being read whole keeps the design from being found
 pub LacksDesign-unread : (settings : Settings) (i : Inputs) (f : Fault) → LacksTexts i f → LacksDesign settings i f
 LacksDesign-unread settings i (fault.TooLong n) h = h
 LacksDesign-unread settings i (fault.Read n) h = h
 LacksDesign-unread settings i fault.Memory h = tt
-LacksDesign-unread settings i (fault.Bench f) h = absurd h
-LacksDesign-unread settings i (fault.Design f) h = absurd h
-LacksDesign-unread settings i (fault.Write n) h = absurd h
-LacksDesign-unread settings i (fault.Incomplete n t) h = absurd h
-LacksDesign-unread settings i (fault.Unknown k) h = absurd h
-LacksDesign-unread settings i fault.Clusters h = absurd h
-LacksDesign-unread settings i fault.Workers h = absurd h
+LacksDesign-unread settings i f h = absurd h
 
 -- the input that a fault names, whatever the answer would have been
 failed_input-any : (A B : Type 0) (f : Fault) → failed_input {A = A} (Err f) ≡ failed_input {A = B} (Err f)
 failed_input-any A B (fault.Read n) = refl
-failed_input-any A B (fault.TooLong n) = refl
-failed_input-any A B fault.Memory = refl
-failed_input-any A B (fault.Bench f) = refl
-failed_input-any A B (fault.Design f) = refl
-failed_input-any A B (fault.Write n) = refl
-failed_input-any A B (fault.Incomplete n t) = refl
-failed_input-any A B (fault.Unknown k) = refl
-failed_input-any A B fault.Clusters = refl
-failed_input-any A B fault.Workers = refl
+failed_input-any A B f = refl
 
 pub NoneFailedBut-same : (A B : Type 0) (f : Fault) (i : Inputs) → NoneFailedBut (failed_input {A = A} (Err f)) i → NoneFailedBut (failed_input {A = B} (Err f)) i
 NoneFailedBut-same A B f i h = subst (λ n. NoneFailedBut n i) (failed_input-any A B f) h
@@ -101,7 +81,7 @@ NoneFailedBut-same A B f i h = subst (λ n. NoneFailedBut n i) (failed_input-any
 -- ---- the whole
 
 -- before anything is written
-untouched : (old : Option (List ℕ)) (n : ℕ) → IsUntouched (output old old n n)
+pub untouched : (old : Option (List ℕ)) (n : ℕ) → IsUntouched (output old old n n)
 untouched old n = (Keeps-refl old, refl)
 
 -- where no read failed, none failed but of any one input
@@ -118,13 +98,7 @@ pub IsOutcome-unread : (settings : Settings) (mode : Mode) (i : Inputs) (old : O
 IsOutcome-unread settings mode i old n (fault.TooLong k) r h = (r, (h, untouched old n))
 IsOutcome-unread settings mode i old n (fault.Read k) r h = (r, (h, untouched old n))
 IsOutcome-unread settings mode i old n fault.Memory r h = (r, inl (untouched old n))
-IsOutcome-unread settings mode i old n (fault.Bench f) r h = absurd h
-IsOutcome-unread settings mode i old n (fault.Design f) r h = absurd h
-IsOutcome-unread settings mode i old n (fault.Write k) r h = absurd h
-IsOutcome-unread settings mode i old n (fault.Incomplete k t) r h = absurd h
-IsOutcome-unread settings mode i old n (fault.Unknown k) r h = absurd h
-IsOutcome-unread settings mode i old n fault.Clusters r h = absurd h
-IsOutcome-unread settings mode i old n fault.Workers r h = absurd h
+IsOutcome-unread settings mode i old n f r h = absurd h
 
 -- texts that were read are no longer than inputs may be
 pub CanBeInputs-read : (i : Inputs) (texts : Texts) → AreTexts i texts → CanBeInputs texts
@@ -146,13 +120,7 @@ pub IsAnswerOf-unspelled : (settings : Settings) (mode : Mode) (texts : Texts) (
 IsAnswerOf-unspelled settings mode texts old n (fault.Bench f) h = λ i are. ((texts, are, h), untouched old n)
 IsAnswerOf-unspelled settings mode texts old n (fault.Design f) h = λ i are. ((texts, are, (h.0, h.1, first_fault-some _ _ f h.2)), untouched old n)
 IsAnswerOf-unspelled settings mode texts old n fault.Memory h = λ i are. inl (untouched old n)
-IsAnswerOf-unspelled settings mode texts old n (fault.TooLong k) h = absurd h
-IsAnswerOf-unspelled settings mode texts old n (fault.Read k) h = absurd h
-IsAnswerOf-unspelled settings mode texts old n (fault.Write k) h = absurd h
-IsAnswerOf-unspelled settings mode texts old n (fault.Incomplete k t) h = absurd h
-IsAnswerOf-unspelled settings mode texts old n (fault.Unknown k) h = absurd h
-IsAnswerOf-unspelled settings mode texts old n fault.Clusters h = absurd h
-IsAnswerOf-unspelled settings mode texts old n fault.Workers h = absurd h
+IsAnswerOf-unspelled settings mode texts old n f h = absurd h
 
 -- the design's checks, then those of the mode, of which one stands
 mode_fault : (texts : Texts) (settings : Settings) (mode : Mode) (netlist : Netlist) (design : Design) (e : DesignFault)
@@ -189,35 +157,27 @@ SpellDesign-of settings mode i design found runs = (
 -- a fault of the mode comes before anything is written
 pub IsUnwritten-unrun : (mode : Mode) (old : Option (List ℕ)) (n : ℕ) (design : Design) (f : Fault) → IsUnrun mode design f → IsUnwritten mode design (output old old n n) f
 IsUnwritten-unrun mode old n design (fault.Design f) h = (h, untouched old n)
-IsUnwritten-unrun mode old n design (fault.Unknown k) h = absurd h
 IsUnwritten-unrun mode old n design fault.Clusters h = (h, untouched old n)
 IsUnwritten-unrun mode old n design fault.Workers h = (h, untouched old n)
 IsUnwritten-unrun mode old n design fault.Memory h = inl (untouched old n)
-IsUnwritten-unrun mode old n design (fault.Bench f) h = absurd h
-IsUnwritten-unrun mode old n design (fault.Incomplete k t) h = absurd h
-IsUnwritten-unrun mode old n design (fault.TooLong k) h = absurd h
-IsUnwritten-unrun mode old n design (fault.Read k) h = absurd h
-IsUnwritten-unrun mode old n design (fault.Write k) h = absurd h
+IsUnwritten-unrun mode old n design f h = absurd h
 
 IsAnswer-unwritten : (settings : Settings) (mode : Mode) (i : Inputs) (o : Output) (design : Design)
     → FoundDesign settings i design → (f : Fault) → IsUnwritten mode design o f → IsAnswer settings mode i o (Err f)
 IsAnswer-unwritten settings mode i o design found (fault.Design f) h =
     ((found.0, found.1, (found.2.netlist, found.2.read, mode_fault found.0 settings mode found.2.netlist design f found.2.checked found.2.is h.0)), h.1)
-IsAnswer-unwritten settings mode i o design found (fault.Unknown k) h = absurd h.0
 IsAnswer-unwritten settings mode i o design found fault.Clusters h = ((found.0, found.1, (HaveDesign-of settings mode i design found h.0.0, h.0.1)), h.1)
 IsAnswer-unwritten settings mode i o design found fault.Workers h = ((found.0, found.1, (HaveDesign-of settings mode i design found h.0.0, h.0.1, h.0.2)), h.1)
 IsAnswer-unwritten settings mode i o design found fault.Memory (inl h) = inl h
 IsAnswer-unwritten settings mode i o design found fault.Memory (inr h) = inr (design, SpellDesign-of settings mode i design found h.0, h.1, h.2, h.3)
-IsAnswer-unwritten settings mode i o design found (fault.Write n) h = (design, SpellDesign-of settings mode i design found h.0, h.1, h.2, h.3)
+IsAnswer-unwritten settings mode i o design found (fault.Write n) h = (design, SpellDesign-of settings mode i design found h.0, h.1)
 IsAnswer-unwritten settings mode i o design found (fault.Incomplete n t) h = (design, SpellDesign-of settings mode i design found h.0, h.1, h.2, h.3, h.4, h.5)
-IsAnswer-unwritten settings mode i o design found (fault.Bench f) h = absurd h.0
-IsAnswer-unwritten settings mode i o design found (fault.TooLong k) h = absurd h.0
-IsAnswer-unwritten settings mode i o design found (fault.Read k) h = absurd h.0
+IsAnswer-unwritten settings mode i o design found f h = absurd h.0
 
 -- a simulation that found its design ends as the writing of its text does
 pub IsAnswerOf-written : (settings : Settings) (mode : Mode) (texts : Texts) (o : Output) (design : Design) (result : Result Report Fault)
     → SpellAny texts settings design → IsWriting (report_of design) mode design o result → IsAnswerOf settings mode texts o result
 IsAnswerOf-written settings mode texts o design (Ok report) spelled h =
-    λ i are. (design, SpellDesign-of settings mode i design (texts, are, spelled) h.fits, h.text, h.no_failure, h.told_so)
+    λ i are. (design, SpellDesign-of settings mode i design (texts, are, spelled) h.fits, h.text, h.told_so)
 IsAnswerOf-written settings mode texts o design (Err f) spelled h =
     λ i are. IsAnswer-unwritten settings mode i o design (texts, are, spelled) f h.fault

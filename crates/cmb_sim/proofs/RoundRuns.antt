@@ -9,13 +9,6 @@ use Rattle.cmb_core.specs.Clustering.{Clustering}
 use Rattle.cmb_core.specs.declared.clustering.ClusteringFault.{ClusteringFault}
 use Rattle.cmb_core.specs.declared.clustering.ClusteringFault.TheVariants.{Clusters}
 use Rattle.cmb_design.specs.Checks.{first_fault}
-use Rattle.cmb_design.specs.Design.{Design}
-use Rattle.cmb_line.specs.Modes.{IsLawfulCount, clusters_of, workers_of}
-use Rattle.cmb_line.specs.declared.mode.Mode.{Mode}
-use Rattle.cmb_sim.specs.Simulation.{mode_checks}
-use Rattle.cmb_sim.specs.Stages.{IsClustersFault, IsUnrun}
-use Rattle.cmb_sim.specs.declared.fault.Fault.{Fault}
-use Rattle.cmb_sim.specs.declared.fault.Fault.TheVariants as fault
 
 pub spread-stands : (nets many : ℕ) (k : Clustering) → spread_clustering nets many ≡ Ok k → (length k.assign ≡ nets) × (1 ≤ many) × (many ≤ 64)
 spread-stands nets many k e = by (nat_lt many 1 || nat_lt 64 many) refl
@@ -31,24 +24,6 @@ spread-stands nets many k e = by (nat_lt many 1 || nat_lt 64 many) refl
         let is : spread ≡ k = cc in
         (subst (λ (c : Clustering). length c.assign ≡ nets) is (length-map-range_with_len (λ net. net % many) 0 nets), some, few)
 
--- ---- why a design isn't run by clusters
-
 pub no_checks : first_fault [] ≡ None
 unfolding first_fault
 no_checks = refl
-
-pub IsUnrun-clusters : (mode : Mode) (design : Design) (f : Fault) → first_fault (mode_checks mode design) ≡ None → IsClustersFault (clusters_of mode) f → IsUnrun mode design f
-IsUnrun-clusters mode design (fault.Unknown k) none h = absurd h
-IsUnrun-clusters mode design fault.Clusters none h = (none, h)
-IsUnrun-clusters mode design fault.Memory none h = tt
-IsUnrun-clusters mode design fault.Workers none h = absurd h
-IsUnrun-clusters mode design (fault.Bench f) none h = absurd h
-IsUnrun-clusters mode design (fault.Design f) none h = absurd h
-IsUnrun-clusters mode design (fault.Incomplete n t) none h = absurd h
-IsUnrun-clusters mode design (fault.TooLong n) none h = absurd h
-IsUnrun-clusters mode design (fault.Read n) none h = absurd h
-IsUnrun-clusters mode design (fault.Write n) none h = absurd h
-
-pub IsUnrun-workers : (mode : Mode) (design : Design) (f : Fault) → first_fault (mode_checks mode design) ≡ None → IsLawfulCount (clusters_of mode)
-    → (f ≡ fault.Workers) × (IsLawfulCount (workers_of mode) → ⊥) → IsUnrun mode design f
-IsUnrun-workers mode design f none many h = rw h.0 (none, many, h.1)

@@ -1,6 +1,5 @@
 -- What a simulation answers where nets are chosen, and what it writes.
-use Rattle.std.specs.Prelude.{◌≡◌, ℕ, ◌+◌, ◌<◌, ◌⊎◌, List, [], length, take, Result, Ok, Err}
-use Rattle.std.specs.Io.KnownBytes.{Appends}
+use Rattle.std.specs.Prelude.{◌≡◌, ℕ, ◌⊎◌, List, [], length, Result, Ok, Err}
 use Rattle.cmb_bench.specs.Listed.{HasUnknown, Lists}
 use Rattle.cmb_design.specs.Design.{Design}
 use Rattle.cmb_design.specs.Exact.{nets_of}
@@ -12,7 +11,7 @@ use Rattle.cmb_line.specs.declared.choice.Choice.TheVariants.{All, Only}
 use Rattle.cmb_line.specs.declared.choice.Pick.{Pick}
 use Rattle.cmb_line.specs.declared.choice.Pick.TheVariants.{Listed, Outputs}
 use Rattle.cmb_line.specs.declared.mode.Mode.{Mode}
-use Rattle.cmb_sim.specs.Simulation.{AreTexts, HasFailed, HasNotFailed, HasTooMany, Input, Inputs, IsOutcome, IsUntouched, NoneFailedBut, Output, StopsAt, Texts, failed_input}
+use Rattle.cmb_sim.specs.Simulation.{AreTexts, HasFailed, HasNotFailed, HasTaken, HasTooMany, Input, Inputs, IsCutAfter, IsOutcome, IsUntouched, NoneFailedBut, Output, StopsAt, Texts, failed_input}
 use Rattle.cmb_sim.specs.Sources.{IsWhole}
 use Rattle.cmb_sim.specs.Stages.{CanRun, HaveTextFault, IsUnrun, SpellAny}
 use Rattle.cmb_sim.specs.declared.fault.Fault.{Fault}
@@ -67,10 +66,9 @@ chosen_report design nets = record { nets = nets_of design; horizon = design.hor
 abbrev pub IsChosenAnswer : Settings → Mode → Pick → Inputs → Input → Output → Result Report Fault → Type 0
 IsChosenAnswer settings mode pick i list o (Ok report) =
     (design : Design) × (nets : List ℕ) × Choose settings pick i list design nets × CanRun mode design
-    × Appends o.old o.new (vcd_of design nets) × (o.after ≡ o.before) × (report ≡ chosen_report design nets)
+    × HasTaken (vcd_of design nets) o × (report ≡ chosen_report design nets)
 IsChosenAnswer settings mode pick i list o (Err (fault.Write n)) =
-    (design : Design) × (nets : List ℕ) × Choose settings pick i list design nets × CanRun mode design
-    × (n < length (vcd_of design nets)) × Appends o.old o.new (take n (vcd_of design nets)) × (o.after ≡ o.before + 1)
+    (design : Design) × (nets : List ℕ) × Choose settings pick i list design nets × CanRun mode design × IsCutAfter n (vcd_of design nets) o
 IsChosenAnswer settings mode pick i list o (Err (fault.TooLong n)) = StopsReading HasTooMany pick i list n × IsUntouched o
 IsChosenAnswer settings mode pick i list o (Err (fault.Read n)) = StopsReading HasFailed pick i list n × IsUntouched o
 IsChosenAnswer settings mode pick i list o (Err (fault.Bench f)) = HaveFaultOfTexts settings pick i list (fault.Bench f) × IsUntouched o

@@ -182,6 +182,14 @@ SpellDesign settings mode i design = (texts : Texts) × AreTexts i texts × Spel
 abbrev pub IsUntouched : Output → Type 0
 IsUntouched o = Keeps o.old o.new × (o.after ≡ o.before)
 
+-- a text was written whole, and no write failed
+abbrev pub HasTaken : List ℕ → Output → Type 0
+HasTaken text o = Appends o.old o.new text × (o.after ≡ o.before)
+
+-- so many bytes of a text were written, and then a write failed
+abbrev pub IsCutAfter : ℕ → List ℕ → Output → Type 0
+IsCutAfter n text o = (n < length text) × Appends o.old o.new (take n text) × (o.after ≡ o.before + 1)
+
 -- the run began to write the text of the design, and no write failed
 abbrev pub BeginsText : Settings → Mode → Inputs → Output → Type 0
 BeginsText settings mode i o = (design : Design) × SpellDesign settings mode i design × IsFree mode × HasBegun design o.old o.new × (o.after ≡ o.before)
@@ -189,13 +197,10 @@ BeginsText settings mode i o = (design : Design) × SpellDesign settings mode i 
 -- what holds with each answer
 abbrev pub IsAnswer : Settings → Mode → Inputs → Output → Result Report Fault → Type 0
 IsAnswer settings mode i o (Ok report) =
-    (design : Design) × SpellDesign settings mode i design
-    × Appends o.old o.new (vcd design) × (o.after ≡ o.before) × (report ≡ report_of design)
+    (design : Design) × SpellDesign settings mode i design × HasTaken (vcd design) o × (report ≡ report_of design)
 IsAnswer settings mode i o (Err (fault.TooLong n)) = StopsAt HasTooMany i n × IsUntouched o
 IsAnswer settings mode i o (Err (fault.Read n)) = StopsAt HasFailed i n × IsUntouched o
-IsAnswer settings mode i o (Err (fault.Write n)) =
-    (design : Design) × SpellDesign settings mode i design
-    × (n < length (vcd design)) × Appends o.old o.new (take n (vcd design)) × (o.after ≡ o.before + 1)
+IsAnswer settings mode i o (Err (fault.Write n)) = (design : Design) × SpellDesign settings mode i design × IsCutAfter n (vcd design) o
 IsAnswer settings mode i o (Err (fault.Incomplete net upto)) =
     (design : Design) × SpellDesign settings mode i design × IsFree mode
     × (net < nets_of design) × (upto < design.horizon) × HasBegun design o.old o.new × (o.after ≡ o.before)

@@ -1,7 +1,5 @@
 -- What the stages of a simulation answer, each as a part of the whole's outcome. Of public contracts only those of reading and of `check` cite these.
-use Rattle.std.specs.Prelude.{◌≡◌, ℕ, ◌+◌, ◌<◌, ◌≤◌, ◌⊎◌, List, length, take, Some, None, Result, IfOk, IfErr, OnOk, Vec, ⊤}
-use Rattle.std.specs.Global.{Global}
-use Rattle.std.specs.Io.KnownBytes.{Appends}
+use Rattle.std.specs.Prelude.{◌≡◌, ℕ, ◌<◌, ◌≤◌, ◌⊎◌, List, length, Some, None, Result, IfOk, IfErr, OnOk, ⊤}
 use Rattle.cmb_bench.specs.Listed.{HasUnknown}
 use Rattle.cmb_bench.specs.Netlist.{Netlist}
 use Rattle.cmb_bench.specs.Meaning.{Reads}
@@ -17,7 +15,7 @@ use Rattle.cmb_line.specs.Modes.{IsLawfulCount, clusters_of, workers_of}
 use Rattle.cmb_line.specs.declared.choice.Pick.{Pick}
 use Rattle.cmb_line.specs.declared.choice.Pick.TheVariants.{Listed}
 use Rattle.cmb_line.specs.declared.mode.Mode.{Mode}
-use Rattle.cmb_sim.specs.Simulation.{AreTexts, HasFailed, HasTooMany, Input, Inputs, IsAnswer, IsFree, IsUntouched, NoneFailedBut, Output, StopsAt, Texts, design_in, failed_input, mode_checks, text_checks}
+use Rattle.cmb_sim.specs.Simulation.{AreTexts, HasFailed, HasTaken, HasTooMany, Input, Inputs, IsAnswer, IsCutAfter, IsFree, IsUntouched, NoneFailedBut, Output, StopsAt, Texts, design_in, failed_input, mode_checks, text_checks}
 use Rattle.cmb_sim.specs.Sources.{input_limit}
 use Rattle.cmb_sim.specs.declared.fault.Fault.{Fault}
 use Rattle.cmb_sim.specs.declared.fault.Fault.TheVariants as fault
@@ -105,24 +103,22 @@ IsUnrun mode design fault.Workers = (first_fault (mode_checks mode design) ≡ N
 IsUnrun mode design fault.Memory = ⊤
 IsUnrun mode design _ = ⊥
 
+-- why a text that is there wasn't written whole
+abbrev pub IsCutShort : List ℕ → Output → Fault → Type 0
+IsCutShort text o (fault.Write n) = IsCutAfter n text o
+IsCutShort text o _ = ⊥
+
 -- why the text of a design wasn't written whole
 abbrev pub IsUnwritten : Mode → Design → Output → Fault → Type 0
-IsUnwritten mode design o (fault.Write n) = CanRun mode design × (n < length (vcd design)) × Appends o.old o.new (take n (vcd design)) × (o.after ≡ o.before + 1)
+IsUnwritten mode design o (fault.Write n) = CanRun mode design × IsCutAfter n (vcd design) o
 IsUnwritten mode design o (fault.Incomplete net upto) = CanRun mode design × IsFree mode × (net < nets_of design) × (upto < design.horizon) × HasBegun design o.old o.new × (o.after ≡ o.before)
 IsUnwritten mode design o fault.Memory = IsUntouched o ⊎ (CanRun mode design × IsFree mode × HasBegun design o.old o.new × (o.after ≡ o.before))
 IsUnwritten mode design o f = IsUnrun mode design f × IsUntouched o
 
--- what comes of making the text of a design
-pub record IsRunText (mode : Mode) (design : Design) (answer : Result (Vec ℕ Global) Fault) : Type 0 where
-  pub text : IfOk answer (λ made. made.items ≡ vcd design)
-  pub fits : OnOk answer (CanRun mode design)
-  pub fault : IfErr answer (IsUnrun mode design)
-
 -- what comes of writing the text of a design: where all of it was written, this is told of it
 pub record IsWriting {A : Type 0} (told : A) (mode : Mode) (design : Design) (o : Output) (answer : Result A Fault) : Type 0 where
   pub told_so : IfOk answer (λ it. it ≡ told)
-  pub text : OnOk answer (Appends o.old o.new (vcd design))
-  pub no_failure : OnOk answer (o.after ≡ o.before)
+  pub text : OnOk answer (HasTaken (vcd design) o)
   pub fits : OnOk answer (CanRun mode design)
   pub fault : IfErr answer (IsUnwritten mode design o)
 
@@ -136,7 +132,7 @@ IsAnswerOf settings mode texts o answer = (i : Inputs) → AreTexts i texts → 
 
 -- why the text of chosen nets wasn't written whole
 abbrev pub IsUnshown : Mode → Design → List ℕ → Output → Fault → Type 0
-IsUnshown mode design nets o (fault.Write n) = CanRun mode design × (n < length (vcd_of design nets)) × Appends o.old o.new (take n (vcd_of design nets)) × (o.after ≡ o.before + 1)
+IsUnshown mode design nets o (fault.Write n) = CanRun mode design × IsCutAfter n (vcd_of design nets) o
 IsUnshown mode design nets o f = IsUnrun mode design f × IsUntouched o
 
 -- why no nets are chosen: memory aside, a token of the list that is no net's name
@@ -144,9 +140,3 @@ abbrev pub IsUnchosen : Pick → Netlist → List ℕ → Fault → Type 0
 IsUnchosen pick netlist names (fault.Unknown line) = (pick ≡ Listed) × HasUnknown netlist names line
 IsUnchosen pick netlist names fault.Memory = ⊤
 IsUnchosen pick netlist names _ = ⊥
-
--- why there is no clustering of so many clusters
-abbrev pub IsClustersFault : ℕ → Fault → Type 0
-IsClustersFault clusters fault.Clusters = IsLawfulCount clusters → ⊥
-IsClustersFault clusters fault.Memory = ⊤
-IsClustersFault clusters _ = ⊥

@@ -1,6 +1,5 @@
 -- What comes of a line's task: the outcome of its run, or the counts of what its inputs spell.
-use Rattle.std.specs.Prelude.{◌≡◌, ◌+◌, ◌<◌, length, take, Result, Ok, Err}
-use Rattle.std.specs.Io.KnownBytes.{Appends}
+use Rattle.std.specs.Prelude.{Result, Ok, Err}
 use Rattle.cmb_count.specs.Texts.{counts_rows}
 use Rattle.cmb_count.specs.declared.counts.Counts.{Counts}
 use Rattle.cmb_design.specs.declared.settings.Settings.{Settings}
@@ -9,8 +8,8 @@ use Rattle.cmb_line.specs.declared.line.Task.{Task}
 use Rattle.cmb_line.specs.declared.line.Task.TheVariants.{Run, Check}
 use Rattle.cmb_sim.specs.Checking.{IsChecked}
 use Rattle.cmb_sim.specs.Choosing.{IsChosenOutcome}
-use Rattle.cmb_sim.specs.Simulation.{HasNotFailed, Input, Inputs, IsUntouched, NoneFailedBut, Output, failed_input}
-use Rattle.cmb_sim.specs.Stages.{LacksDesign}
+use Rattle.cmb_sim.specs.Simulation.{HasNotFailed, HasTaken, Input, Inputs, IsCutAfter, IsUntouched, NoneFailedBut, Output, failed_input}
+use Rattle.cmb_sim.specs.Stages.{IsCutShort, LacksDesign}
 use Rattle.cmb_sim.specs.declared.carrying.Done.{Done}
 use Rattle.cmb_sim.specs.declared.carrying.Done.TheVariants.{Ran, Checked}
 use Rattle.cmb_sim.specs.declared.fault.Fault.{Fault}
@@ -25,17 +24,14 @@ IsRun line i list o (Err f) = IsChosenOutcome line.settings line.mode line.choic
 -- The counts of the design that the inputs spell were written; or a beginning of them, and then a write failed; or there is no design,
 -- or no memory, and nothing was written.
 abbrev pub IsShown : Settings → Inputs → Output → Result Counts Fault → Type 0
-IsShown settings i o (Ok counts) = IsChecked settings i counts × Appends o.old o.new (counts_rows counts) × (o.after ≡ o.before)
-IsShown settings i o (Err (fault.Write n)) =
-    (counts : Counts) × IsChecked settings i counts
-    × (n < length (counts_rows counts)) × Appends o.old o.new (take n (counts_rows counts)) × (o.after ≡ o.before + 1)
+IsShown settings i o (Ok counts) = IsChecked settings i counts × HasTaken (counts_rows counts) o
+IsShown settings i o (Err (fault.Write n)) = (counts : Counts) × IsChecked settings i counts × IsCutAfter n (counts_rows counts) o
 IsShown settings i o (Err f) = LacksDesign settings i f × IsUntouched o
 
 -- why the counts weren't written whole
 abbrev pub AreUnwritten : Counts → Output → Fault → Type 0
-AreUnwritten counts o (fault.Write n) = (n < length (counts_rows counts)) × Appends o.old o.new (take n (counts_rows counts)) × (o.after ≡ o.before + 1)
 AreUnwritten counts o fault.Memory = IsUntouched o
-AreUnwritten counts o _ = ⊥
+AreUnwritten counts o f = IsCutShort (counts_rows counts) o f
 
 -- a read fails only where that is the answer
 abbrev pub IsCheck : Settings → Inputs → Output → Result Counts Fault → Type 0

@@ -1,19 +1,19 @@
 //! What a line asks for, done with sources and a sink.
 
-ghost use Rattle.std.specs.Prelude.{◌≡◌, ◌-◌, ◌^◌, ◌<◌, IfErr, OnOk};
-ghost use Rattle.std.specs.Io.KnownBytes.{Appends};
+ghost use Rattle.std.specs.Prelude.{◌-◌, ◌^◌, ◌<◌, IfErr, OnOk};
 ghost use Rattle.cmb_count.specs.Texts.{counts_rows};
-ghost use Rattle.cmb_sim.specs.Simulation.{inputs_of, read_from, written_to};
+ghost use Rattle.cmb_sim.specs.Simulation.{HasTaken, inputs_of, read_from, written_to};
 ghost use Rattle.cmb_sim.specs.Tasks.{AreUnwritten, IsDone};
 
 use crate::check::check_design;
 use crate::choosing::simulate_chosen;
 use crate::fault::Fault;
+use crate::running::write_text;
 use crate::simulation::Report;
 use crate::source::Source;
 use cmb_count::{Counts, counts_text};
 use cmb_line::{Line, Task};
-use cmb_vcd::{Sink, write_whole};
+use cmb_vcd::Sink;
 use std::alloc::Global;
 use std::sync::Wait;
 use std::thread::Threads;
@@ -30,17 +30,11 @@ pub enum Done {
 // Writes the counts, a line for each.
 fn write_counts<O: Sink>(alloc: Global, counts: &Counts, out: &mut O) -> Result<(), Fault>
     requires { O.failures out.old < 2 ^ 64 - 1 }
-    ensures text { OnOk result (Appends (O.taken out.old) (O.taken out.new) (counts_rows counts.now)) }
-    ensures no_failure { OnOk result (O.failures out.new ≡ O.failures out.old) }
+    ensures text { OnOk result (HasTaken (counts_rows counts.now) (written_to O.Sink out.old out.new)) }
     ensures fault { IfErr result (AreUnwritten counts.now (written_to O.Sink out.old out.new)) }
 {
     let text = counts_text(alloc, counts)?;
-    match write_whole(out, text.as_bytes()) {
-        Ok(()) => Ok(()),
-        Err(written) => Err(Fault::Write {
-            written: written as u64,
-        }),
-    }
+    write_text(out, text.as_bytes())
 }
 
 /// Does what a line asks for, with what its inputs have: simulates and writes the waveforms of the nets that the line

@@ -1,101 +1,29 @@
 //! A simulation of which chosen nets are written.
 
-ghost use Rattle.std.specs.Prelude.{◌≡◌, ◌-◌, ◌^◌, ◌<◌, ◌≤◌, true, false, length, nat_lt, None, Some};
-ghost use Rattle.std.specs.Prelude.{IfOk, IfErr, OnOk};
-ghost use Rattle.std.specs.Io.KnownBytes.{Appends};
-ghost use Rattle.cmb_design.specs.Checks.{first_fault};
+ghost use Rattle.std.specs.Prelude.{◌≡◌, ◌-◌, ◌^◌, ◌<◌, ◌≤◌, length, IfOk, IfErr, OnOk};
 ghost use Rattle.cmb_design.specs.Exact.{nets_of};
-ghost use Rattle.cmb_design.specs.Plain.{cells_of};
-ghost use Rattle.cmb_design.specs.declared.fault.DesignFault.TheVariants.{TableTooLarge};
 ghost use Rattle.cmb_dump.specs.Excerpts.{AreAmong};
 ghost use Rattle.cmb_vcd.specs.Chosen.{vcd_of};
-ghost use Rattle.cmb_line.specs.Modes.{IsLawfulCount, clusters_of, workers_of};
 ghost use Rattle.cmb_sim.specs.Choosing.{AreChosen, IsChosenAnswerOf, IsChosenOutcome, IsListText, chosen_report};
-ghost use Rattle.cmb_sim.specs.Simulation.{failed_input, inputs_of, mode_checks, read_from, written_to};
+ghost use Rattle.cmb_sim.specs.Simulation.{HasTaken, failed_input, inputs_of, read_from, written_to};
 ghost use Rattle.cmb_sim.specs.Sources.{input_limit};
-ghost use Rattle.cmb_sim.specs.Stages.{CanBeInputs, CanRun, IsUnchosen, IsUnread, IsUnrun, IsUnshown, texts_in};
+ghost use Rattle.cmb_sim.specs.Stages.{CanBeInputs, CanRun, IsUnchosen, IsUnread, IsUnshown, texts_in};
 
 use crate::fault::Fault;
+use crate::modes::check_mode;
+use crate::running::write_text;
 use crate::simulation::{Report, simulate, spelled_design};
 use crate::source::Source;
 use crate::texts::{InputTexts, read_input, read_texts};
 use cmb_bench::read_list;
 use cmb_choice::chosen_text;
-use cmb_design::plain::MOST_CELLS;
-use cmb_design::{Design, DesignFault, Settings};
+use cmb_design::{Design, Settings};
 use cmb_line::{Choice, Mode, Pick};
 use cmb_restrict::rising;
-use cmb_vcd::{Sink, write_whole};
+use cmb_vcd::Sink;
 use std::alloc::Global;
 use std::sync::Wait;
 use std::thread::Threads;
-
-// How many clusters a mode asks for.
-fn clusters_in(mode: Mode) -> u32
-    ensures { result ≡ clusters_of mode }
-{
-    match mode {
-        Mode::Rounds { clusters, .. } | Mode::Free { clusters, .. } => clusters,
-        Mode::Plain | Mode::Shared { .. } | Mode::SharedFree { .. } => 1,
-    }
-}
-
-// How many workers.
-fn workers_in(mode: Mode) -> u32
-    ensures { result ≡ workers_of mode }
-{
-    match mode {
-        Mode::Plain => 1,
-        Mode::Rounds { workers, .. } | Mode::Free { workers, .. } => workers,
-        Mode::Shared { threads } | Mode::SharedFree { threads } => threads,
-    }
-}
-
-fn is_lawful_count(count: u32) -> bool
-    ensures lawful { result ≡ true → IsLawfulCount count }
-    ensures unlawful { result ≡ false → IsLawfulCount count → ⊥ }
-{
-    1 <= count && count <= 64
-}
-
-// Whether the table of mode plain would have too many cells.
-fn is_too_large(design: &Design) -> bool
-    ensures { result ≡ nat_lt MOST_CELLS (cells_of design.now) }
-{
-    design.netlist().len() * design.horizon() as usize > MOST_CELLS
-}
-
-// Whether no check of the mode stands against the design.
-#[tactic(auto, using(crate::proofs::Chosen::mode_facts))]
-fn fits(mode: Mode, design: &Design) -> bool
-    ensures fits { result ≡ true → first_fault (mode_checks mode design.now) ≡ None }
-    ensures too_large { result ≡ false → first_fault (mode_checks mode design.now) ≡ Some TableTooLarge }
-{
-    match mode {
-        Mode::Plain => !is_too_large(design),
-        Mode::Rounds { .. } => true,
-        Mode::Free { .. } => true,
-        Mode::Shared { .. } => true,
-        Mode::SharedFree { .. } => true,
-    }
-}
-
-// Refuses a design that the mode can't run: 33, 40, 54.
-fn check_mode(mode: Mode, design: &Design) -> Result<(), Fault>
-    ensures fits { OnOk result (CanRun mode design.now) }
-    ensures fault { IfErr result (IsUnrun mode design.now) }
-{
-    if !fits(mode, design) {
-        return Err(Fault::Design(DesignFault::TableTooLarge));
-    }
-    if !is_lawful_count(clusters_in(mode)) {
-        return Err(Fault::Clusters);
-    }
-    if !is_lawful_count(workers_in(mode)) {
-        return Err(Fault::Workers);
-    }
-    Ok(())
-}
 
 // The text of the list that names nets; empty where there is none, and then nothing is read.
 fn read_names<L: Source>(alloc: Global, pick: Pick, list: &mut L) -> Result<Vec<u8>, Fault>
@@ -141,23 +69,18 @@ fn show_nets<O: Sink>(
     requires room { O.failures out.old < 2 ^ 64 - 1 }
     requires among { AreAmong (nets_of design.now) nets.now }
     ensures report { IfOk result (λ report. report ≡ chosen_report design.now nets.now) }
-    ensures text { OnOk result (Appends (O.taken out.old) (O.taken out.new) (vcd_of design.now nets.now)) }
-    ensures no_failure { OnOk result (O.failures out.new ≡ O.failures out.old) }
+    ensures text { OnOk result (HasTaken (vcd_of design.now nets.now) (written_to O.Sink out.old out.new)) }
     ensures fits { OnOk result (CanRun mode design.now) }
     ensures fault { IfErr result (IsUnshown mode design.now nets.now (written_to O.Sink out.old out.new)) }
 {
     check_mode(mode, design)?;
     let text = chosen_text(alloc, design, nets)?;
-    match write_whole(out, text.as_slice()) {
-        Ok(()) => Ok(Report {
-            nets: design.netlist().len() as u32,
-            horizon: design.horizon(),
-            written: text.len() as u64,
-        }),
-        Err(written) => Err(Fault::Write {
-            written: written as u64,
-        }),
-    }
+    write_text(out, text.as_slice())?;
+    Ok(Report {
+        nets: design.netlist().len() as u32,
+        horizon: design.horizon(),
+        written: text.len() as u64,
+    })
 }
 
 // A simulation of texts that were read, of which some nets are written.

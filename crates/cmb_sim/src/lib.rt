@@ -6,6 +6,7 @@ pub mod check;
 pub mod choosing;
 pub mod fault;
 pub mod laws;
+mod modes;
 pub mod reading;
 mod running;
 pub mod simulation;

@@ -1,75 +1,89 @@
 //! The text of a design, as a mode runs it.
 
-ghost use Rattle.std.specs.Prelude.{◌≡◌, ◌-◌, ◌^◌, ◌<◌, true, length, IfOk, IfErr, OnOk};
+ghost use Rattle.std.specs.Prelude.{◌≡◌, ◌-◌, ◌^◌, ◌<◌, length, IfOk, IfErr, OnOk};
 ghost use Rattle.cmb_design.specs.Exact.{nets_of};
+ghost use Rattle.cmb_design.specs.Plain.{whole_waves};
 ghost use Rattle.cmb_line.specs.Modes.{IsLawfulCount};
-ghost use Rattle.cmb_sim.specs.Simulation.{written_to};
-ghost use Rattle.cmb_sim.specs.Stages.{IsClustersFault, IsRunText, IsWritten};
+ghost use Rattle.cmb_sim.specs.Simulation.{HasTaken, IsFree, written_to};
+ghost use Rattle.cmb_sim.specs.Stages.{CanRun, IsCutShort, IsWritten};
+ghost use Rattle.cmb_vcd.specs.Vcd.{vcd};
 
 use crate::fault::Fault;
+use crate::modes::{is_free, threads_in};
 use cmb_core::{Clustering, ClusteringFault};
-use cmb_design::{Design, plain_waves};
+use cmb_design::{Design, DesignFault, plain_waves};
 use cmb_free::{OpenGate, run_free_text};
 use cmb_line::Mode;
 use cmb_links::Workers;
 use cmb_rounds::run_rounds;
 use cmb_share::{text_by_threads, write_by_threads};
 use cmb_vcd::{Collector, Sink, vcd_text, write_whole};
-use std::alloc::Global;
+use cmb_wave::Wave;
+use std::alloc::{AllocError, Global};
 use std::sync::Wait;
 use std::thread::Threads;
 
-// The most clusters, and the most workers.
-const MOST_PARTS: u32 = 64;
-
-// The text of a design, by a table with a place for each net and tick.
-fn plain_text(alloc: Global, design: &Design) -> Result<Vec<u8>, Fault>
-    ensures { IsRunText Mode.Plain design.now result }
+// Every net's wave, by a table with a place for each net and tick.
+fn table_waves(alloc: Global, design: &Design) -> Result<Vec<Wave>, AllocError>
+    requires { CanRun Mode.Plain design.now }
+    ensures { IfOk result (λ waves. waves.items ≡ whole_waves design.now) }
 {
-    let waves = plain_waves(alloc, design)?;
+    match plain_waves(alloc, design) {
+        Ok(waves) => Ok(waves),
+        Err(DesignFault::TableTooLarge) => unreachable!(),
+        Err(_) => Err(AllocError),
+    }
+}
+
+// The text of a design, of such waves.
+fn plain_text(alloc: Global, design: &Design) -> Result<Vec<u8>, AllocError>
+    requires { CanRun Mode.Plain design.now }
+    ensures { IfOk result (λ text. text.items ≡ vcd design.now) }
+{
+    let waves = table_waves(alloc, design)?;
     let collector = Collector::of_waves(waves, design.horizon());
-    let text = vcd_text(alloc, design, &collector)?;
-    Ok(text)
+    vcd_text(alloc, design, &collector)
 }
 
 // Net n in cluster `n mod clusters`.
-fn spread(alloc: Global, design: &Design, clusters: u32) -> Result<Clustering, Fault>
-    ensures nets { IfOk result (λ clustering. length clustering.assign ≡ nets_of design.now) }
-    ensures many { OnOk result (IsLawfulCount clusters) }
-    ensures fault { IfErr result (λ fault. IsClustersFault clusters fault) }
+fn spread(alloc: Global, design: &Design, clusters: u32) -> Result<Clustering, AllocError>
+    requires { IsLawfulCount clusters }
+    ensures { IfOk result (λ clustering. length clustering.assign ≡ nets_of design.now) }
 {
     match Clustering::spread(alloc, design.netlist().len() as u32, clusters) {
         Ok(clustering) => Ok(clustering),
-        Err(ClusteringFault::Memory) => Err(Fault::Memory),
-        Err(_) => Err(Fault::Clusters),
+        Err(ClusteringFault::Memory) => Err(AllocError),
+        Err(_) => unreachable!(),
     }
 }
 
 // So many workers.
-fn workers_of(workers: u32) -> Result<Workers, Fault>
-    ensures many { OnOk result (IsLawfulCount workers) }
-    ensures fault { IfErr result (λ fault. (fault ≡ Fault.Workers) × (IsLawfulCount workers → ⊥)) }
+fn workers_of(workers: u32) -> Workers
+    requires { IsLawfulCount workers }
 {
     match Workers::new(workers) {
-        Ok(workers) => Ok(workers),
-        Err(_) => Err(Fault::Workers),
+        Ok(workers) => workers,
+        Err(_) => unreachable!(),
     }
 }
 
 // The text of a design, by rounds of several workers.
-fn workers_text<R: AllocGlobal + Threads + Sync>(
+fn rounds_text<R: AllocGlobal + Threads + Sync>(
     rt: &R,
     workers: u32,
     clusters: u32,
     design: &Design,
-) -> Result<Vec<u8>, Fault>
-    ensures { IsRunText (Mode.Rounds workers clusters) design.now result }
+) -> Result<Vec<u8>, AllocError>
+    requires workers { IsLawfulCount workers }
+    requires clusters { IsLawfulCount clusters }
+    ensures { IfOk result (λ text. text.items ≡ vcd design.now) }
 {
-    let clustering = spread(rt.alloc(), design, clusters)?;
-    let workers = workers_of(workers)?;
-    let collector = run_rounds(rt, rt.alloc(), design, &clustering, workers)?;
-    let text = vcd_text(rt.alloc(), design, &collector)?;
-    Ok(text)
+    let alloc = rt.alloc();
+    let clustering = spread(alloc, design, clusters)?;
+    match run_rounds(rt, alloc, design, &clustering, workers_of(workers)) {
+        Ok(collector) => vcd_text(alloc, design, &collector),
+        Err(_) => Err(AllocError),
+    }
 }
 
 // Net and tick pairs up to which several workers run as they are asked to. Above it, what they hand to one another
@@ -82,29 +96,28 @@ fn is_short(design: &Design) -> bool {
     nets.saturating_mul(u64::from(design.horizon())) <= MOST_SHARED
 }
 
-// Whether the engine carries all nets: where one worker has them all, and where several wouldn't pay. Where so, the
-// numbers are lawful.
-fn suits_engine(workers: u32, clusters: u32, design: &Design) -> bool
-    ensures { result ≡ true → IsLawfulCount clusters × IsLawfulCount workers }
-{
-    let least = workers.min(clusters);
-    least >= 1 && workers.max(clusters) <= MOST_PARTS && (least == 1 || !is_short(design))
+// Whether several workers have the nets. Else the engine carries all of them: where one worker has them, and where
+// several wouldn't pay.
+fn are_shared_out(workers: u32, clusters: u32, design: &Design) -> bool {
+    workers.min(clusters) >= 2 && is_short(design)
 }
 
-// The text of a design, by rounds of workers: by the engine where it carries all nets.
-fn rounds_text<R: AllocGlobal + Threads + Wait + Sync>(
+// The text of a design, made whole.
+fn whole_text<R: AllocGlobal + Threads + Wait + Sync>(
     rt: &R,
-    workers: u32,
-    clusters: u32,
+    mode: Mode,
     design: &Design,
-) -> Result<Vec<u8>, Fault>
-    ensures { IsRunText (Mode.Rounds workers clusters) design.now result }
+) -> Result<Vec<u8>, AllocError>
+    requires { CanRun mode design.now }
+    ensures { IfOk result (λ text. text.items ≡ vcd design.now) }
 {
-    if suits_engine(workers, clusters, design) {
-        let text = text_by_threads(rt, rt.alloc(), design, workers.min(clusters))?;
-        return Ok(text);
+    match mode {
+        Mode::Plain => plain_text(rt.alloc(), design),
+        Mode::Rounds { workers, clusters } if are_shared_out(workers, clusters, design) => {
+            rounds_text(rt, workers, clusters, design)
+        }
+        _ => text_by_threads(rt, rt.alloc(), design, threads_in(mode)),
     }
-    workers_text(rt, workers, clusters, design)
 }
 
 // Writes the text of a design while several workers run, and gives the text's length.
@@ -115,86 +128,68 @@ fn write_by_workers<R: AllocGlobal + Threads + Wait + Sync, O: Sink>(
     design: &Design,
     out: &mut O,
 ) -> Result<u64, Fault>
-    requires { O.failures out.old < 2 ^ 64 - 1 }
+    requires runs { CanRun (Mode.Free workers clusters) design.now }
+    requires out { O.failures out.old < 2 ^ 64 - 1 }
     ensures { IsWritten (Mode.Free workers clusters) design.now (written_to O.Sink out.old out.new) result }
 {
     let alloc = rt.alloc();
     let clustering = spread(alloc, design, clusters)?;
-    let workers = workers_of(workers)?;
     // A worker without a cluster would have nothing to do.
-    let busy = workers.at_most(clustering.clusters());
+    let busy = workers_of(workers).at_most(clustering.clusters());
     let written = run_free_text(rt, alloc, design, &clustering, busy, &OpenGate, out)?;
     Ok(written)
 }
 
-// Writes the text of a design while its workers run, and gives the text's length: while the engine goes on, where it
-// carries all nets.
+// Writes the text of a design while it is made, and gives the text's length.
 fn write_free<R: AllocGlobal + Threads + Wait + Sync, O: Sink>(
     rt: &R,
-    workers: u32,
-    clusters: u32,
+    mode: Mode,
     design: &Design,
     out: &mut O,
 ) -> Result<u64, Fault>
-    requires { O.failures out.old < 2 ^ 64 - 1 }
-    ensures { IsWritten (Mode.Free workers clusters) design.now (written_to O.Sink out.old out.new) result }
+    requires runs { CanRun mode design.now }
+    requires free { IsFree mode }
+    requires out { O.failures out.old < 2 ^ 64 - 1 }
+    ensures { IsWritten mode design.now (written_to O.Sink out.old out.new) result }
 {
-    if suits_engine(workers, clusters, design) {
-        let written = write_by_threads(rt, rt.alloc(), design, workers.min(clusters), out)?;
-        return Ok(written);
+    if let Mode::Free { workers, clusters } = mode {
+        if are_shared_out(workers, clusters, design) {
+            return write_by_workers(rt, workers, clusters, design, out);
+        }
     }
-    write_by_workers(rt, workers, clusters, design, out)
-}
-
-// The text of a design, by so many threads at most.
-fn shared_text<R: AllocGlobal + Threads + Wait + Sync>(
-    rt: &R,
-    threads: u32,
-    design: &Design,
-) -> Result<Vec<u8>, Fault>
-    ensures { IsRunText (Mode.Shared threads) design.now result }
-{
-    let _lawful = workers_of(threads)?;
-    let text = text_by_threads(rt, rt.alloc(), design, threads)?;
-    Ok(text)
-}
-
-// Writes the text of a design while it is made, by so many threads at most, and gives its length.
-fn write_shared<R: AllocGlobal + Threads + Wait + Sync, O: Sink>(
-    rt: &R,
-    threads: u32,
-    design: &Design,
-    out: &mut O,
-) -> Result<u64, Fault>
-    requires { O.failures out.old < 2 ^ 64 - 1 }
-    ensures { IsWritten (Mode.SharedFree threads) design.now (written_to O.Sink out.old out.new) result }
-{
-    let _lawful = workers_of(threads)?;
-    let written = write_by_threads(rt, rt.alloc(), design, threads, out)?;
+    let written = write_by_threads(rt, rt.alloc(), design, threads_in(mode), out)?;
     Ok(written)
 }
 
-// Writes the text of a design, and gives its length.
+// Writes a text that is there whole: 62 where a write fails.
+pub(crate) fn write_text<O: Sink>(out: &mut O, text: &[u8]) -> Result<(), Fault>
+    requires { O.failures out.old < 2 ^ 64 - 1 }
+    ensures text { OnOk result (HasTaken text.now (written_to O.Sink out.old out.new)) }
+    ensures fault { IfErr result (IsCutShort text.now (written_to O.Sink out.old out.new)) }
+{
+    match write_whole(out, text) {
+        Ok(()) => Ok(()),
+        Err(written) => Err(Fault::Write {
+            written: written as u64,
+        }),
+    }
+}
+
+// Writes the text of a design that the mode can run, and gives its length.
 pub(crate) fn write_by<R: AllocGlobal + Threads + Wait + Sync, O: Sink>(
     rt: &R,
     mode: Mode,
     design: &Design,
     out: &mut O,
 ) -> Result<u64, Fault>
-    requires { O.failures out.old < 2 ^ 64 - 1 }
+    requires runs { CanRun mode design.now }
+    requires out { O.failures out.old < 2 ^ 64 - 1 }
     ensures { IsWritten mode design.now (written_to O.Sink out.old out.new) result }
 {
-    let text = match mode {
-        Mode::Plain => plain_text(rt.alloc(), design)?,
-        Mode::Rounds { workers, clusters } => rounds_text(rt, workers, clusters, design)?,
-        Mode::Free { workers, clusters } => return write_free(rt, workers, clusters, design, out),
-        Mode::Shared { threads } => shared_text(rt, threads, design)?,
-        Mode::SharedFree { threads } => return write_shared(rt, threads, design, out),
-    };
-    match write_whole(out, text.as_slice()) {
-        Ok(()) => Ok(text.len() as u64),
-        Err(written) => Err(Fault::Write {
-            written: written as u64,
-        }),
+    if is_free(mode) {
+        return write_free(rt, mode, design, out);
     }
+    let text = whole_text(rt, mode, design)?;
+    write_text(out, text.as_slice())?;
+    Ok(text.len() as u64)
 }

@@ -5,6 +5,7 @@ ghost use Rattle.cmb_sim.specs.Simulation.{IsOutcome, inputs_of, read_from, repo
 ghost use Rattle.cmb_sim.specs.Stages.{CanBeInputs, HaveTextFault, IsAnswerOf, IsWriting, SpellAny, texts_in};
 
 use crate::fault::Fault;
+use crate::modes::check_mode;
 use crate::running::write_by;
 use crate::source::Source;
 use crate::texts::{InputTexts, read_texts};
@@ -45,7 +46,7 @@ pub(crate) fn spelled_design(
     Ok(design)
 }
 
-// Writes the text of a design, and tells what was written.
+// Writes the text of a design that the mode can run, and tells what was written.
 fn write_report<R: AllocGlobal + Threads + Wait + Sync, O: Sink>(
     rt: &R,
     mode: Mode,
@@ -55,6 +56,7 @@ fn write_report<R: AllocGlobal + Threads + Wait + Sync, O: Sink>(
     requires { O.failures out.old < 2 ^ 64 - 1 }
     ensures { IsWriting (report_of design.now) mode design.now (written_to O.Sink out.old out.new) result }
 {
+    check_mode(mode, design)?;
     let written = write_by(rt, mode, design, out)?;
     Ok(Report {
         nets: design.netlist().len() as u32,

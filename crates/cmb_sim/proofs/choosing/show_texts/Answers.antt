@@ -16,6 +16,6 @@ returns-in_err-nets g c =
 
 pub returns : goal.returns
 returns g c =
-    IsChosenAnswerOf-shown c.args.settings c.args.mode c.args.pick (texts_in c.args.texts.now) c.args.names.now _ _ _ _ c.in_ok-design.design c.as_slice.result.now _
+    IsChosenAnswerOf-shown c.args.settings c.args.mode c.args.pick (texts_in c.args.texts.now) c.args.names.now _ c.in_ok-design.design c.as_slice.result.now _
     c.in_ok-design.ensures.ok (rw c.as_slice.ensures.value c.in_ok-nets.ensures.chosen)
-    c.show_nets.ensures.report c.show_nets.ensures.text c.show_nets.ensures.no_failure c.show_nets.ensures.fits c.show_nets.ensures.fault
+    c.show_nets.ensures.report c.show_nets.ensures.text c.show_nets.ensures.fits c.show_nets.ensures.fault
