@@ -338,8 +338,8 @@ pub fn parse(alloc: Global, bytes: &[u8]) -> Result<Parsed<'_>, ReadError>
     ensures names { IfOk result (λ p. p.names.keys ≡ driven (map statement p.items.items)) }
 {
     let mut cursor = Cursor::new(bytes);
-    let mut names = IndexSet::with_capacity(alloc, likely_nets(bytes))?;
     let mut items = Vec::with_capacity(alloc, likely_statements(bytes))?;
+    let mut names = IndexSet::with_capacity(alloc, likely_nets(bytes))?;
     loop {
         let first = cursor.next();
         if first.is_end() {

@@ -62,7 +62,10 @@ fn push_explanation(text: &mut String, entry: Explanation) -> Result<(), AllocEr
     let number = entry.number;
     let place = place_words(entry.place);
     let meaning = entry.meaning;
-    write!(text, "Fault {number} at P: {meaning}\nP is {place}.\n\nAn example:\n")?;
+    write!(
+        text,
+        "Fault {number} at P: {meaning}\nP is {place}.\n\nAn example:\n"
+    )?;
     for line in entry.example.lines() {
         write!(text, "    {line}\n")?;
     }

@@ -136,9 +136,9 @@ pub(crate) fn netlist_of(
     ensures sound { IfOk result IsNetlist }
 {
     let places = places_of(alloc, netlist.len(), nets)?;
-    let names = names_of(alloc, netlist, nets)?;
     let drivers = drivers_of(alloc, netlist, nets, places.as_slice())?;
     let outputs = outputs_of(alloc, netlist, nets, places.as_slice())?;
+    let names = names_of(alloc, netlist, nets)?;
     Ok(Netlist::new(names, drivers, outputs))
 }
 

@@ -3,7 +3,7 @@ use Rattle.std.proofs.lemmas.List.{take_all}
 use Rattle.std.proofs.lemmas.Result.{err_from_is_err_and}
 use Rattle.cmb_design.specs.Checks.{checks_after, first_fault}
 use Rattle.cmb_design.specs.Rows.{stimulus_row_checks}
-use Rattle.cmb_design.proofs.CheckFacts.{pass_at, stops_at}
+use Rattle.cmb_design.proofs.CheckFacts.{stops_at}
 use Rattle.cmb_design.proofs.StimulusFacts.{changes_of_stimuli, stimuli_none}
 use Rattle.cmb_design.proofs.stimuli.stimuli_changes.Goals as goal
 
@@ -15,10 +15,6 @@ pub returns-in_err-take_stimulus-clause-err : goal.returns-in_err-take_stimulus-
 returns-in_err-take_stimulus-clause-err c =
     let p = err_from_is_err_and c.from_residual.result c.from_residual.ensures.1 in
     rw (p.1, p.2) (stops_at (stimulus_row_checks c.args.netlist.now) c.args.rows.now c.loop-i.i c.in_err-take_stimulus.field-0.0 (omega arith) c.loop-i.invariant.1 c.in_err-take_stimulus.ensures.err)
-
-pub loop-i-preserved : goal.loop-i-preserved
-loop-i-preserved c =
-    (c.in_ok-take_stimulus.ensures.ok.1, pass_at (stimulus_row_checks c.args.netlist.now) c.args.rows.now c.loop-i.i (omega arith) c.loop-i.invariant.1 c.in_ok-take_stimulus.ensures.ok.0)
 
 pub returns-clause-ok : goal.returns-clause-ok
 returns-clause-ok c =
