@@ -1,7 +1,8 @@
 //! One run: two workers, and a seat that looks at every net.
 
 ghost use Rattle.std.specs.Prelude.{◌≡◌, true, false, IfOk, Ok};
-ghost use Rattle.cmb_links.specs.Seats.{new_seat, terms};
+ghost use Rattle.cmb_links.specs.Seats.{new_seat};
+ghost use Rattle.links_stress.specs.Hands.{IsHand, IsLeft, board_terms, link_into, link_out};
 ghost use Rattle.links_stress.specs.Seats.{at_first};
 
 use crate::circuit::Circuit;
@@ -43,12 +44,9 @@ pub struct Table {
 /// Opens a board for the two clusters of a circuit.
 pub fn open_board(alloc: Global, circuit: &Circuit, workers: Workers) -> Result<Table, Trouble>
     requires { workers ≡ 2 }
-    ensures first { IfOk result (λ t. t.first
-        ≡ new_seat t.board (terms circuit.now.design circuit.now.clustering 2) false 0) }
-    ensures second { IfOk result (λ t. t.second
-        ≡ new_seat t.board (terms circuit.now.design circuit.now.clustering 2) false 1) }
-    ensures last { IfOk result (λ t. t.last
-        ≡ new_seat t.board (terms circuit.now.design circuit.now.clustering 2) true 2) }
+    ensures first { IfOk result (λ t. t.first ≡ new_seat t.board (board_terms circuit.now) false 0) }
+    ensures second { IfOk result (λ t. t.second ≡ new_seat t.board (board_terms circuit.now) false 1) }
+    ensures last { IfOk result (λ t. t.last ≡ new_seat t.board (board_terms circuit.now) true 2) }
 {
     let (board, mut seats) = Board::open(alloc, &circuit.design, &circuit.clustering, workers)?;
     let first = seats.remove(0);
@@ -107,9 +105,8 @@ fn oversee(
     seat: Seat,
 ) -> Result<(Seat, Notes), Trouble>
     requires workers { workers ≡ 2 }
-    requires seat { seat ≡ new_seat room.now.board (terms circuit.now.design circuit.now.clustering 2) true 2 }
-    ensures { IfOk result (λ last.
-        at_first last.0 ≡ new_seat room.now.board (terms circuit.now.design circuit.now.clustering 2) false 2) }
+    requires seat { seat ≡ new_seat room.now.board (board_terms circuit.now) true 2 }
+    ensures { IfOk result (λ last. at_first last.0 ≡ new_seat room.now.board (board_terms circuit.now) false 2) }
 {
     let mut watch = Watch::new(alloc, &room.board, circuit, seat, workers, 2);
     let outcome = look_on(&mut watch);
@@ -170,58 +167,39 @@ fn gathered(
     })
 }
 
-// What the first worker does.
-fn work_first<R: Wait>(
-    rt: &R,
-    alloc: Global,
-    circuit: &Circuit,
-    room: &Room,
-    workers: Workers,
-    hand: Hand,
-) -> Result<Left, Trouble>
-    requires workers { workers ≡ 2 }
-    requires seat { hand.seat ≡ new_seat room.now.board (terms circuit.now.design circuit.now.clustering 2) false 0 }
-    requires put { (hand.put.link ≡ room.now.there.link) × (hand.put.design ≡ circuit.now.design) }
-    requires take { (hand.take.link ≡ room.now.back.link) × (hand.take.design ≡ circuit.now.design) }
-    ensures seat { IfOk result (λ left.
-        at_first left.seat ≡ new_seat room.now.board (terms circuit.now.design circuit.now.clustering 2) false 0) }
-    ensures put { IfOk result (λ left. left.put.link ≡ room.now.there.link) }
-    ensures take { IfOk result (λ left. left.take.link ≡ room.now.back.link) }
+// The nets of a worker, the link into which it puts and the one from which it takes.
+fn ways_of(room: &Room, place: u32) -> (Nets, &Link, &Link)
+    ensures out { result.1.now ≡ link_out room.now place }
+    ensures into { result.2.now ≡ link_into room.now place }
 {
-    let Hand { seat, put, take } = hand;
-    let desk = Desk::new(
-        Watch::new(alloc, &room.board, circuit, seat, workers, 0),
-        FIRST,
-        Out::new(&room.there, put),
-        In::new(&room.back, take),
-    );
-    desk.work(rt, alloc)
+    if place == 0 {
+        (FIRST, &room.there, &room.back)
+    } else {
+        (SECOND, &room.back, &room.there)
+    }
 }
 
-// What the second worker does.
-fn work_second<R: Wait>(
+// What the worker at a place does.
+fn work<R: Wait>(
     rt: &R,
     alloc: Global,
     circuit: &Circuit,
     room: &Room,
     workers: Workers,
+    place: u32,
     hand: Hand,
 ) -> Result<Left, Trouble>
     requires workers { workers ≡ 2 }
-    requires seat { hand.seat ≡ new_seat room.now.board (terms circuit.now.design circuit.now.clustering 2) false 1 }
-    requires put { (hand.put.link ≡ room.now.back.link) × (hand.put.design ≡ circuit.now.design) }
-    requires take { (hand.take.link ≡ room.now.there.link) × (hand.take.design ≡ circuit.now.design) }
-    ensures seat { IfOk result (λ left.
-        at_first left.seat ≡ new_seat room.now.board (terms circuit.now.design circuit.now.clustering 2) false 1) }
-    ensures put { IfOk result (λ left. left.put.link ≡ room.now.back.link) }
-    ensures take { IfOk result (λ left. left.take.link ≡ room.now.there.link) }
+    requires hand { IsHand room.now circuit.now place hand }
+    ensures { IfOk result (IsLeft room.now circuit.now place) }
 {
+    let (nets, out, into) = ways_of(room, place);
     let Hand { seat, put, take } = hand;
     let desk = Desk::new(
-        Watch::new(alloc, &room.board, circuit, seat, workers, 1),
-        SECOND,
-        Out::new(&room.back, put),
-        In::new(&room.there, take),
+        Watch::new(alloc, &room.board, circuit, seat, workers, place),
+        nets,
+        Out::new(out, put),
+        In::new(into, take),
     );
     desk.work(rt, alloc)
 }
@@ -237,38 +215,22 @@ fn run_two<R: Threads + Wait + Sync>(
     last: Seat,
 ) -> (Result<Left, Trouble>, Result<(Seat, Notes), Trouble>)
     requires workers { workers ≡ 2 }
-    requires seat { second.seat ≡ new_seat room.now.board (terms circuit.now.design circuit.now.clustering 2) false 1 }
-    requires put { (second.put.link ≡ room.now.back.link) × (second.put.design ≡ circuit.now.design) }
-    requires take { (second.take.link ≡ room.now.there.link) × (second.take.design ≡ circuit.now.design) }
-    requires last { last ≡ new_seat room.now.board (terms circuit.now.design circuit.now.clustering 2) true 2 }
-    ensures seat { IfOk result.0 (λ left.
-        at_first left.seat ≡ new_seat room.now.board (terms circuit.now.design circuit.now.clustering 2) false 1) }
-    ensures put { IfOk result.0 (λ left. left.put.link ≡ room.now.back.link) }
-    ensures take { IfOk result.0 (λ left. left.take.link ≡ room.now.there.link) }
+    requires second { IsHand room.now circuit.now 1 second }
+    requires last { last ≡ new_seat room.now.board (board_terms circuit.now) true 2 }
+    ensures second { IfOk result.0 (IsLeft room.now circuit.now 1) }
     ensures last { IfOk result.1 (λ found.
-        at_first found.0 ≡ new_seat room.now.board (terms circuit.now.design circuit.now.clustering 2) false 2) }
+        at_first found.0 ≡ new_seat room.now.board (board_terms circuit.now) false 2) }
 {
     thread::join(
         rt,
         move || -> Result<Left, Trouble>
-            requires { (workers ≡ 2)
-                × (second.seat ≡ new_seat room.now.board (terms circuit.now.design circuit.now.clustering 2) false 1)
-                × (second.put.link ≡ room.now.back.link) × (second.put.design ≡ circuit.now.design)
-                × (second.take.link ≡ room.now.there.link) × (second.take.design ≡ circuit.now.design) }
-            ensures seat { IfOk result (λ left.
-                at_first left.seat
-                ≡ new_seat room.entry.now.board (terms circuit.entry.now.design circuit.entry.now.clustering 2)
-                false 1) }
-            ensures put { IfOk result (λ left. left.put.link ≡ room.entry.now.back.link) }
-            ensures take { IfOk result (λ left. left.take.link ≡ room.entry.now.there.link) }
-        { work_second(rt, alloc, circuit, room, workers, second) },
+            requires { (workers ≡ 2) × IsHand room.now circuit.now 1 second }
+            ensures { IfOk result (IsLeft room.entry.now circuit.entry.now 1) }
+        { work(rt, alloc, circuit, room, workers, 1, second) },
         move || -> Result<(Seat, Notes), Trouble>
-            requires { (workers ≡ 2) × (last
-                ≡ new_seat room.now.board (terms circuit.now.design circuit.now.clustering 2) true 2) }
+            requires { (workers ≡ 2) × (last ≡ new_seat room.now.board (board_terms circuit.now) true 2) }
             ensures { IfOk result (λ found.
-                at_first found.0
-                ≡ new_seat room.entry.now.board (terms circuit.entry.now.design circuit.entry.now.clustering 2)
-                false 2) }
+                at_first found.0 ≡ new_seat room.entry.now.board (board_terms circuit.entry.now) false 2) }
         { oversee(alloc, circuit, room, workers, last) },
     )
 }
@@ -283,27 +245,13 @@ fn run_in<R: Threads + Wait + Sync>(
     hands: Hands,
 ) -> Result<Rest, Trouble>
     requires workers { workers ≡ 2 }
-    requires first { hands.first.seat
-        ≡ new_seat room.now.board (terms circuit.now.design circuit.now.clustering 2) false 0 }
-    requires second { hands.second.seat
-        ≡ new_seat room.now.board (terms circuit.now.design circuit.now.clustering 2) false 1 }
-    requires last { hands.last ≡ new_seat room.now.board (terms circuit.now.design circuit.now.clustering 2) true 2 }
-    requires there { (hands.first.put.link ≡ room.now.there.link) × (hands.second.take.link ≡ room.now.there.link) }
-    requires back { (hands.second.put.link ≡ room.now.back.link) × (hands.first.take.link ≡ room.now.back.link) }
-    requires put { (hands.first.put.design ≡ circuit.now.design) × (hands.second.put.design ≡ circuit.now.design) }
-    requires take { (hands.first.take.design ≡ circuit.now.design) × (hands.second.take.design ≡ circuit.now.design) }
-    ensures first { IfOk result (λ rest.
-        at_first rest.first.seat
-        ≡ new_seat room.now.board (terms circuit.now.design circuit.now.clustering 2) false 0) }
-    ensures second { IfOk result (λ rest.
-        at_first rest.second.seat
-        ≡ new_seat room.now.board (terms circuit.now.design circuit.now.clustering 2) false 1) }
+    requires first { IsHand room.now circuit.now 0 hands.first }
+    requires second { IsHand room.now circuit.now 1 hands.second }
+    requires last { hands.last ≡ new_seat room.now.board (board_terms circuit.now) true 2 }
+    ensures first { IfOk result (λ rest. IsLeft room.now circuit.now 0 rest.first) }
+    ensures second { IfOk result (λ rest. IsLeft room.now circuit.now 1 rest.second) }
     ensures last { IfOk result (λ rest.
-        at_first rest.last ≡ new_seat room.now.board (terms circuit.now.design circuit.now.clustering 2) false 2) }
-    ensures there { IfOk result (λ rest. (rest.first.put.link ≡ room.now.there.link)
-        × (rest.second.take.link ≡ room.now.there.link)) }
-    ensures back { IfOk result (λ rest. (rest.second.put.link ≡ room.now.back.link)
-        × (rest.first.take.link ≡ room.now.back.link)) }
+        at_first rest.last ≡ new_seat room.now.board (board_terms circuit.now) false 2) }
 {
     let Hands {
         first,
@@ -313,33 +261,15 @@ fn run_in<R: Threads + Wait + Sync>(
     let (first, (second, last)) = thread::join(
         rt,
         move || -> Result<Left, Trouble>
-            requires { (workers ≡ 2)
-                × (first.seat ≡ new_seat room.now.board (terms circuit.now.design circuit.now.clustering 2) false 0)
-                × (first.put.link ≡ room.now.there.link) × (first.put.design ≡ circuit.now.design)
-                × (first.take.link ≡ room.now.back.link) × (first.take.design ≡ circuit.now.design) }
-            ensures seat { IfOk result (λ left.
-                at_first left.seat
-                ≡ new_seat room.entry.now.board (terms circuit.entry.now.design circuit.entry.now.clustering 2)
-                false 0) }
-            ensures put { IfOk result (λ left. left.put.link ≡ room.entry.now.there.link) }
-            ensures take { IfOk result (λ left. left.take.link ≡ room.entry.now.back.link) }
-        { work_first(rt, alloc, circuit, room, workers, first) },
+            requires { (workers ≡ 2) × IsHand room.now circuit.now 0 first }
+            ensures { IfOk result (IsLeft room.entry.now circuit.entry.now 0) }
+        { work(rt, alloc, circuit, room, workers, 0, first) },
         move || -> (Result<Left, Trouble>, Result<(Seat, Notes), Trouble>)
-            requires { (workers ≡ 2)
-                × (second.seat ≡ new_seat room.now.board (terms circuit.now.design circuit.now.clustering 2) false 1)
-                × (second.put.link ≡ room.now.back.link) × (second.put.design ≡ circuit.now.design)
-                × (second.take.link ≡ room.now.there.link) × (second.take.design ≡ circuit.now.design)
-                × (last ≡ new_seat room.now.board (terms circuit.now.design circuit.now.clustering 2) true 2) }
-            ensures seat { IfOk result.0 (λ left.
-                at_first left.seat
-                ≡ new_seat room.entry.now.board (terms circuit.entry.now.design circuit.entry.now.clustering 2)
-                false 1) }
-            ensures put { IfOk result.0 (λ left. left.put.link ≡ room.entry.now.back.link) }
-            ensures take { IfOk result.0 (λ left. left.take.link ≡ room.entry.now.there.link) }
+            requires { (workers ≡ 2) × IsHand room.now circuit.now 1 second
+                × (last ≡ new_seat room.now.board (board_terms circuit.now) true 2) }
+            ensures second { IfOk result.0 (IsLeft room.entry.now circuit.entry.now 1) }
             ensures last { IfOk result.1 (λ found.
-                at_first found.0
-                ≡ new_seat room.entry.now.board (terms circuit.entry.now.design circuit.entry.now.clustering 2)
-                false 2) }
+                at_first found.0 ≡ new_seat room.entry.now.board (board_terms circuit.entry.now) false 2) }
         { run_two(rt, alloc, circuit, room, workers, second, last) },
     );
     gathered(first, second, last)

@@ -148,11 +148,11 @@ struct Worker<'a> {
 }
 
 impl<'a> Worker<'a> {
+    ghost use Rattle.links_stress.specs.Holds.{HasSameHold};
+
     // Takes pieces. They are exact, and each begins where the one before it ended.
     fn take<R: Wait>(&mut self, rt: &R) -> Result<(), Trouble>
-        ensures seat { at_first self.new.watch.seat ≡ at_first self.old.watch.seat }
-        ensures put { self.new.out.pass.link ≡ self.old.out.pass.link }
-        ensures take { self.new.into.pass.link ≡ self.old.into.pass.link }
+        ensures { HasSameHold self.old self.new }
     {
         for _ in 0..AT_ONCE {
             let Some(piece) = self.into.take(rt) else {
@@ -176,9 +176,7 @@ impl<'a> Worker<'a> {
 
     // Looks at the net of the other worker.
     fn look(&mut self) -> Result<(), Trouble>
-        ensures seat { at_first self.new.watch.seat ≡ at_first self.old.watch.seat }
-        ensures put { self.new.out.pass.link ≡ self.old.out.pass.link }
-        ensures take { self.new.into.pass.link ≡ self.old.into.pass.link }
+        ensures { HasSameHold self.old self.new }
     {
         let promise = self.watch.look(self.nets.read)?;
         match self.cluster.hear(promise) {
@@ -189,9 +187,7 @@ impl<'a> Worker<'a> {
 
     // Goes on until all is known. What comes after that is left in the link.
     fn go_on<R: Wait>(&mut self, rt: &R) -> Result<(), Trouble>
-        ensures seat { at_first self.new.watch.seat ≡ at_first self.old.watch.seat }
-        ensures put { self.new.out.pass.link ≡ self.old.out.pass.link }
-        ensures take { self.new.into.pass.link ≡ self.old.into.pass.link }
+        ensures { HasSameHold self.old self.new }
     {
         if self.is_complete() {
             return Ok(());
@@ -204,9 +200,7 @@ impl<'a> Worker<'a> {
 
     // Publishes how far the told net is known.
     fn publish(&mut self) -> Result<(), Trouble>
-        ensures seat { at_first self.new.watch.seat ≡ at_first self.old.watch.seat }
-        ensures put { self.new.out.pass.link ≡ self.old.out.pass.link }
-        ensures take { self.new.into.pass.link ≡ self.old.into.pass.link }
+        ensures { HasSameHold self.old self.new }
     {
         if let Some(promise) = self.cluster.promise(self.nets.told) {
             if promise.upto > self.told {
@@ -219,9 +213,7 @@ impl<'a> Worker<'a> {
 
     // Puts what is new of the told net. Where the link is full, a longer piece goes later.
     fn send<R: Wait>(&mut self, rt: &R) -> Result<(), Trouble>
-        ensures seat { at_first self.new.watch.seat ≡ at_first self.old.watch.seat }
-        ensures put { self.new.out.pass.link ≡ self.old.out.pass.link }
-        ensures take { self.new.into.pass.link ≡ self.old.into.pass.link }
+        ensures { HasSameHold self.old self.new }
     {
         if let Some(piece) = self.cluster.post(self.nets.told, last_of(&self.sent))? {
             let to = piece.to();
@@ -239,9 +231,7 @@ impl<'a> Worker<'a> {
 
     // One turn. True once the stop word is raised.
     fn turn<R: Wait>(&mut self, rt: &R) -> Result<bool, Trouble>
-        ensures seat { at_first self.new.watch.seat ≡ at_first self.old.watch.seat }
-        ensures put { self.new.out.pass.link ≡ self.old.out.pass.link }
-        ensures take { self.new.into.pass.link ≡ self.old.into.pass.link }
+        ensures { HasSameHold self.old self.new }
     {
         self.go_on(rt)?;
         self.publish()?;
@@ -255,9 +245,7 @@ impl<'a> Worker<'a> {
 
     // Turns up to the stop word.
     fn turns<R: Wait>(&mut self, rt: &R) -> Result<(), Trouble>
-        ensures seat { at_first self.new.watch.seat ≡ at_first self.old.watch.seat }
-        ensures put { self.new.out.pass.link ≡ self.old.out.pass.link }
-        ensures take { self.new.into.pass.link ≡ self.old.into.pass.link }
+        ensures { HasSameHold self.old self.new }
     {
         for _ in 0..TURNS {
             if self.turn(rt)? {
