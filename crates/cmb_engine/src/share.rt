@@ -153,13 +153,18 @@ impl<'d> ShareEngine<'d> {
         let ShareEngine {
             design,
             circuit,
-            state,
+            mut state,
         } = self;
-        let state = state.advance(design, &circuit, given, changed)?;
-        Ok(ShareEngine {
-            design,
-            circuit,
-            state,
-        })
+        match state.advance(design, &circuit, given, changed) {
+            Ok(()) => Ok(ShareEngine {
+                design,
+                circuit,
+                state,
+            }),
+            Err(error) => {
+                drop((circuit, state));
+                Err(error)
+            }
+        }
     }
 }

@@ -1,6 +1,6 @@
 //! The state of an engine, and its way from window to window.
 
-ghost use Rattle.std.specs.Prelude.{◌≡◌, ◌+◌, ◌<◌, ◌≤◌, IfOk, OnOk};
+ghost use Rattle.std.specs.Prelude.{◌≡◌, ◌<◌, OnOk};
 ghost use Rattle.cmb_design.specs.Exact.{nets_of};
 ghost use Rattle.cmb_design.specs.Value.{value};
 ghost use Rattle.cmb_words.specs.Changes.{IsWindow, Tells};
@@ -37,65 +37,59 @@ pub(crate) struct State {
 }
 
 impl State {
-    /// Goes on by a window, of which the given nets are told, and says which nets changed in it.
+    /// Goes on by a window, of which the given nets are told, and says which nets changed in it. After an Err it isn't
+    /// to be used again.
     pub(crate) fn advance(
-        self,
+        &mut self,
         design: &Design,
         circuit: &Circuit,
         given: &[Changed],
         changed: &mut Vec<Changed>,
-    ) -> Result<State, AllocError>
+    ) -> Result<(), AllocError>
         requires circuit { IsCircuit design.now circuit.now }
-        requires state { IsState design.now circuit.now self }
-        requires below { self.clock < design.now.horizon }
-        requires given { AreGiven (value design.now) circuit.now.wiring.roles.items self.clock
-            (window_end circuit.now.width design.now.horizon self.clock) given.now }
-        ensures state { IfOk result (λ state. IsState design.now circuit.now state) }
-        ensures clock { IfOk result (λ state.
-            state.clock ≡ window_end circuit.now.width design.now.horizon self.clock) }
-        ensures window { IfOk result (λ state. IsWindow (nets_of design.now) design.now.horizon
-            self.clock state.clock changed.new.items) }
-        ensures tells { IfOk result (λ state. Tells
+        requires state { IsState design.now circuit.now self.old }
+        requires below { self.old.clock < design.now.horizon }
+        requires given { AreGiven (value design.now) circuit.now.wiring.roles.items self.old.clock
+            (window_end circuit.now.width design.now.horizon self.old.clock) given.now }
+        ensures state { OnOk result (IsState design.now circuit.now self.new) }
+        ensures clock { OnOk result (self.new.clock ≡ window_end circuit.now.width design.now.horizon self.old.clock) }
+        ensures window { OnOk result (IsWindow (nets_of design.now) design.now.horizon
+            self.old.clock self.new.clock changed.new.items) }
+        ensures tells { OnOk result (Tells
             (level_in design.now circuit.now.wiring.roles.items) (nets_of design.now)
-            self.clock state.clock changed.new.items) }
+            self.old.clock self.new.clock changed.new.items) }
     {
-        let State {
-            mut words,
-            mut live,
-            mut marks,
-            mut calendar,
-            mut tells,
-            clock,
-        } = self;
-        let to = calendar.next_day();
-        let ticks = to - clock;
-        calendar.take(&mut tells)?;
+        // The proof learns here how late the horizon is at most.
+        let _horizon = design.horizon();
+        let to = self.calendar.next_day();
+        let ticks = to - self.clock;
+        self.calendar.take(&mut self.tells)?;
         go_on(
             &circuit.wiring,
-            &tells,
+            &self.tells,
             given,
-            &mut words,
-            &mut live,
-            &mut marks,
+            &mut self.words,
+            &mut self.live,
+            &mut self.marks,
             ticks,
             to,
         );
-        collect(&words, &live, design.netlist().len(), 64 - ticks, changed)?;
+        collect(
+            &self.words,
+            &self.live,
+            design.netlist().len(),
+            64 - ticks,
+            changed,
+        )?;
         note_lines(
             changed,
             &circuit.followers,
             &circuit.lines,
-            &mut calendar,
+            &mut self.calendar,
             to,
             64 - ticks,
         )?;
-        Ok(State {
-            words,
-            live,
-            marks,
-            calendar,
-            tells,
-            clock: to,
-        })
+        self.clock = to;
+        Ok(())
     }
 }

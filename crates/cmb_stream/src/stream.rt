@@ -78,13 +78,20 @@ impl<'a> TextMaker for Stream<'a> {
             mut dump,
             mut changed,
         } = self;
-        let engine = engine.advance(&mut changed)?;
-        let told = keep_window(&mut dump, &changed, engine.clock(), kept);
-        let engine = told.and(Ok(engine))?;
-        Ok(Stream {
-            engine,
-            dump,
-            changed,
-        })
+        let Ok(engine) = engine.advance(&mut changed) else {
+            drop((dump, changed));
+            return Err(AllocError);
+        };
+        match keep_window(&mut dump, &changed, engine.clock(), kept) {
+            Ok(()) => Ok(Stream {
+                engine,
+                dump,
+                changed,
+            }),
+            Err(error) => {
+                drop((engine, dump, changed));
+                Err(error)
+            }
+        }
     }
 }

@@ -18,27 +18,28 @@ use Rattle.cmb_engine.specs.declared.cell.Pin.{Pin}
 use Rattle.cmb_engine.proofs.CollectFacts.{HasWord}
 use Rattle.cmb_engine.proofs.EngineFacts.{at-end, before-horizon, gift-slots, later, lines-ahead, next-ahead, next-shows, told-slots, window-changes}
 use Rattle.cmb_engine.proofs.state.State.advance.Goals as goal
+use Rattle.cmb_engine.proofs.state.State.advance.Goals.{After-self-2-1}
 
 pub go_on-requires-clause-told : goal.go_on-requires-clause-told
 go_on-requires-clause-told c = λ tell h.
-    let told = told-slots c.args.design.now c.args.circuit.now c.args.self c.requires.circuit c.requires.state c.take.new.self c.take.new.taken.items
+    let told = told-slots c.args.design.now c.args.circuit.now c.args.self.now c.requires.circuit c.requires.state c.take.new.self c.take.new.taken.items
     c.next_day-to.result c.requires.below c.next_day-to.ensures c.in_ok-take.ensures.takes c.in_ok-take.ensures.order tell
     (subst (λ (xs : List Tell). Contains xs tell) c.deref.ensures.value h) in
     (omega (arith, told.0, c.requires.state.slots, ap length c.deref_mut.ensures.value), told.1, told.2, told.3)
 
 pub go_on-requires-clause-gives : goal.go_on-requires-clause-gives
-go_on-requires-clause-gives c = gift-slots c.args.design.now c.args.circuit.now c.args.self c.requires.circuit c.requires.state
+go_on-requires-clause-gives c = gift-slots c.args.design.now c.args.circuit.now c.args.self.now c.requires.circuit c.requires.state
 
 pub note_lines-requires-clause-ahead : goal.note_lines-requires-clause-ahead
 note_lines-requires-clause-ahead c =
-    subst (λ (lines : List Pin). All (IsAhead c.take.new.self c.next_day-to.result (64 - (c.next_day-to.result - c.args.self.clock))) lines) (sym c.deref-4.ensures.value)
-    (lines-ahead c.args.design.now c.args.circuit.now c.args.self c.requires.circuit c.requires.state c.take.new.self c.take.new.taken.items c.next_day-to.result
+    subst (λ (lines : List Pin). All (IsAhead c.take.new.self c.next_day-to.result (64 - (c.next_day-to.result - c.args.self.now.clock))) lines) (sym c.deref-4.ensures.value)
+    (lines-ahead c.args.design.now c.args.circuit.now c.args.self.now c.requires.circuit c.requires.state c.take.new.self c.take.new.taken.items c.next_day-to.result
     c.requires.below c.next_day-to.ensures c.in_ok-take.ensures.takes)
 
 pub collect-requires-clause-quiet : goal.collect-requires-clause-quiet
 collect-requires-clause-quiet c =
-    let len : length c.go_on.new.words ≡ c.args.self.words.len = omega (arith, c.go_on.ensures.len, ap length c.deref_mut.ensures.value, c.args.self.words.ok) in
-    let same : c.deref-2.result.now ≡ c.go_on.new.words = c.deref-2.ensures.value ∙ with_items_is c.args.self.words c.go_on.new.words len in
+    let len : length c.go_on.new.words ≡ c.args.self.now.words.len = omega (arith, c.go_on.ensures.len, ap length c.deref_mut.ensures.value, c.args.self.now.words.ok) in
+    let same : c.deref-2.result.now ≡ c.go_on.new.words = c.deref-2.ensures.value ∙ with_items_is c.args.self.now.words c.go_on.new.words len in
     subst (λ (ws : List Word). AreQuiet (levels_of ws) (has c.go_on.new.live) (length ws)) (sym same)
     (subst (λ (n : ℕ). AreQuiet (levels_of c.go_on.new.words) (has c.go_on.new.live) n) (sym c.go_on.ensures.len) c.go_on.ensures.quiet)
 
@@ -46,30 +47,30 @@ pub note_lines-requires-clause-few : goal.note_lines-requires-clause-few
 note_lines-requires-clause-few c =
     omega (arith, ap length c.deref-4.ensures.value, c.requires.circuit.follow.count, c.requires.circuit.plan.count, c.requires.circuit.few)
 
-module _ (c : goal.In_ok-note_lines) where
-  len : length c.go_on.new.words ≡ c.args.self.words.len
-  len = omega (arith, c.go_on.ensures.len, ap length c.deref_mut.ensures.value, c.args.self.words.ok)
+module _ (c : After-self-2-1) where
+  len : length c.go_on.new.words ≡ c.args.self.now.words.len
+  len = omega (arith, c.go_on.ensures.len, ap length c.deref_mut.ensures.value, c.args.self.now.words.ok)
 
   count : length c.deref_mut.result.now ≡ length c.args.circuit.now.wiring.cells
   count = ap length c.deref_mut.ensures.value ∙ c.requires.state.slots
 
   -- the words that were collected are those that went on
   collected : c.deref-2.result.now ≡ c.go_on.new.words
-  collected = c.deref-2.ensures.value ∙ with_items_is c.args.self.words c.go_on.new.words len
+  collected = c.deref-2.ensures.value ∙ with_items_is c.args.self.now.words c.go_on.new.words len
 
   nets : c.len.result ≡ nets_of c.args.design.now
   nets = c.len.ensures.value ∙ ap (λ n. length n.names) c.netlist.ensures
 
   -- what is given is given up to the window's end
-  given : AreGiven (value c.args.design.now) c.args.circuit.now.wiring.roles.items c.args.self.clock c.next_day-to.result c.args.given.now
+  given : AreGiven (value c.args.design.now) c.args.circuit.now.wiring.roles.items c.args.self.now.clock c.next_day-to.result c.args.given.now
   given =
-      subst (λ (to : ℕ). AreGiven (value c.args.design.now) c.args.circuit.now.wiring.roles.items c.args.self.clock to c.args.given.now)
-      (sym (at-end c.args.design.now c.args.circuit.now c.args.self c.requires.circuit c.requires.state c.take.new.self c.take.new.taken.items c.next_day-to.result
+      subst (λ (to : ℕ). AreGiven (value c.args.design.now) c.args.circuit.now.wiring.roles.items c.args.self.now.clock to c.args.given.now)
+      (sym (at-end c.args.design.now c.args.circuit.now c.args.self.now c.requires.circuit c.requires.state c.take.new.self c.take.new.taken.items c.next_day-to.result
       c.requires.below c.next_day-to.ensures c.in_ok-take.ensures.takes)) c.requires.given
 
   shows : Shows (levels_of c.go_on.new.words) (trace_of c.args.design.now c.args.circuit.now.wiring.roles.items c.args.circuit.now.lines.items) (length c.args.circuit.now.wiring.cells) c.next_day-to.result
   shows =
-      next-shows c.args.design.now c.args.circuit.now c.args.self c.requires.circuit c.requires.state c.take.new.self c.take.new.taken.items c.next_day-to.result
+      next-shows c.args.design.now c.args.circuit.now c.args.self.now c.requires.circuit c.requires.state c.take.new.self c.take.new.taken.items c.next_day-to.result
       c.requires.below c.next_day-to.ensures c.in_ok-take.ensures.takes c.deref_mut.result.now c.go_on.new.words c.deref.result.now c.args.given.now given c.deref_mut.ensures.value
       c.deref.ensures.value c.in_ok-take.ensures.order c.go_on.ensures.shows
 
@@ -80,24 +81,24 @@ module _ (c : goal.In_ok-note_lines) where
   right = subst (λ (ws : List Word). All (HasWord (levels_of ws)) c.collect.new.changed.items) collected c.in_ok-collect.ensures.words
 
   others : (net : ℕ) → net < nets_of c.args.design.now → is_among net c.collect.new.changed.items ≡ false
-      → IsSteadyFrom (levels_of c.go_on.new.words net) (64 - (c.next_day-to.result - c.args.self.clock))
+      → IsSteadyFrom (levels_of c.go_on.new.words net) (64 - (c.next_day-to.result - c.args.self.now.clock))
   others net small none =
-      subst (λ (ws : List Word). IsSteadyFrom (levels_of ws net) (64 - (c.next_day-to.result - c.args.self.clock))) collected
+      subst (λ (ws : List Word). IsSteadyFrom (levels_of ws net) (64 - (c.next_day-to.result - c.args.self.now.clock))) collected
       (c.in_ok-collect.ensures.others net (omega (arith, small, nets)) none)
 
-  noted : NotesEach (IsOfLine c.collect.new.changed.items c.args.circuit.now.lines.items (nets_of c.args.design.now) c.next_day-to.result (64 - (c.next_day-to.result - c.args.self.clock)))
+  noted : NotesEach (IsOfLine c.collect.new.changed.items c.args.circuit.now.lines.items (nets_of c.args.design.now) c.next_day-to.result (64 - (c.next_day-to.result - c.args.self.now.clock)))
       c.take.new.self c.note_lines.new.calendar
   noted =
-      subst (λ (n : ℕ). NotesEach (IsOfLine c.collect.new.changed.items c.args.circuit.now.lines.items n c.next_day-to.result (64 - (c.next_day-to.result - c.args.self.clock)))
+      subst (λ (n : ℕ). NotesEach (IsOfLine c.collect.new.changed.items c.args.circuit.now.lines.items n c.next_day-to.result (64 - (c.next_day-to.result - c.args.self.now.clock)))
       c.take.new.self c.note_lines.new.calendar) c.requires.circuit.follow.count
-      (subst (λ (lines : List Pin). NotesEach (IsOfLine c.collect.new.changed.items lines (length c.args.circuit.now.followers) c.next_day-to.result (64 - (c.next_day-to.result - c.args.self.clock)))
+      (subst (λ (lines : List Pin). NotesEach (IsOfLine c.collect.new.changed.items lines (length c.args.circuit.now.followers) c.next_day-to.result (64 - (c.next_day-to.result - c.args.self.now.clock)))
       c.take.new.self c.note_lines.new.calendar) c.deref-4.ensures.value
-      (subst (λ (changed : List Changed). NotesEach (IsOfLine changed c.deref-4.result.now (length c.args.circuit.now.followers) c.next_day-to.result (64 - (c.next_day-to.result - c.args.self.clock)))
+      (subst (λ (changed : List Changed). NotesEach (IsOfLine changed c.deref-4.result.now (length c.args.circuit.now.followers) c.next_day-to.result (64 - (c.next_day-to.result - c.args.self.now.clock)))
       c.take.new.self c.note_lines.new.calendar) c.deref-3.ensures.value c.in_ok-note_lines.ensures.notes))
 
 pub returns-clause-state : goal.returns-clause-state
 returns-clause-state c =
-    let same = with_items_is c.args.self.words c.go_on.new.words (len c) in
+    let same = with_items_is c.args.self.now.words c.go_on.new.words (len c) in
     record {
       slots = ap length same ∙ c.go_on.ensures.len ∙ count c;
       live_room = omega (arith, c.go_on.ensures.live, c.requires.state.live_room);
@@ -105,23 +106,23 @@ returns-clause-state c =
       shows = subst (λ (ws : List Word). Shows (levels_of ws) (trace_of c.args.design.now c.args.circuit.now.wiring.roles.items c.args.circuit.now.lines.items) (length c.args.circuit.now.wiring.cells) c.next_day-to.result) (sym same) (shows c);
       quiet = subst (λ (ws : List Word). AreQuiet (levels_of ws) (has c.go_on.new.live) (length c.args.circuit.now.wiring.cells)) (sym same)
           (subst (λ (n : ℕ). AreQuiet (levels_of c.go_on.new.words) (has c.go_on.new.live) n) (count c) c.go_on.ensures.quiet);
-      ahead = next-ahead c.args.design.now c.args.circuit.now c.args.self c.requires.circuit c.requires.state c.take.new.self c.take.new.taken.items c.next_day-to.result
+      ahead = next-ahead c.args.design.now c.args.circuit.now c.args.self.now c.requires.circuit c.requires.state c.take.new.self c.take.new.taken.items c.next_day-to.result
           c.requires.below c.next_day-to.ensures c.in_ok-take.ensures.takes c.go_on.new.words (shows c) c.collect.new.changed.items (rises c) (right c) (others c)
           c.note_lines.new.calendar (noted c) c.note_lines.ensures.days.width c.note_lines.ensures.days.horizon c.note_lines.ensures.days.day;
       begun = omega (
         arith,
         c.requires.state.begun,
-        later c.args.design.now c.args.circuit.now c.args.self c.requires.circuit c.requires.state c.take.new.self c.take.new.taken.items c.next_day-to.result c.requires.below c.next_day-to.ensures c.in_ok-take.ensures.takes,
+        later c.args.design.now c.args.circuit.now c.args.self.now c.requires.circuit c.requires.state c.take.new.self c.take.new.taken.items c.next_day-to.result c.requires.below c.next_day-to.ensures c.in_ok-take.ensures.takes,
       );
-      within = before-horizon c.args.design.now c.args.circuit.now c.args.self c.requires.circuit c.requires.state c.take.new.self c.take.new.taken.items c.next_day-to.result c.requires.below c.next_day-to.ensures c.in_ok-take.ensures.takes;
+      within = before-horizon c.args.design.now c.args.circuit.now c.args.self.now c.requires.circuit c.requires.state c.take.new.self c.take.new.taken.items c.next_day-to.result c.requires.below c.next_day-to.ensures c.in_ok-take.ensures.takes;
     }
 
 pub returns-clause-tells : goal.returns-clause-tells
 returns-clause-tells c =
-    window-changes c.args.design.now c.args.circuit.now c.args.self c.requires.circuit c.requires.state c.take.new.self c.take.new.taken.items c.next_day-to.result
+    window-changes c.args.design.now c.args.circuit.now c.args.self.now c.requires.circuit c.requires.state c.take.new.self c.take.new.taken.items c.next_day-to.result
     c.requires.below c.next_day-to.ensures c.in_ok-take.ensures.takes c.go_on.new.words (shows c) c.collect.new.changed.items (rises c) (right c) (others c)
 
 pub returns-clause-clock : goal.returns-clause-clock
 returns-clause-clock c =
-    at-end c.args.design.now c.args.circuit.now c.args.self c.requires.circuit c.requires.state c.take.new.self c.take.new.taken.items c.next_day-to.result
+    at-end c.args.design.now c.args.circuit.now c.args.self.now c.requires.circuit c.requires.state c.take.new.self c.take.new.taken.items c.next_day-to.result
     c.requires.below c.next_day-to.ensures c.in_ok-take.ensures.takes
