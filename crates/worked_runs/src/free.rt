@@ -4,14 +4,14 @@ ghost use Rattle.std.specs.Prelude.{◌≡◌, IfOk, Some, length};
 ghost use Rattle.std.specs.Prelude.{◌<◌, ◌-◌, ◌^◌};
 ghost use Rattle.cmb_design.specs.Exact.{nets_of};
 
-use crate::rounds::{TOGGLE, design_of, design_of_tables};
+use crate::rounds::{TOGGLE, TOGGLE_TEXT};
 use cmb_core::Clustering;
 use cmb_design::{Design, Settings};
 use cmb_free::{OpenGate, Turnstile, run_free, run_free_text};
 use cmb_links::Workers;
 use cmb_run::RunFault;
 use cmb_vcd::{Collector, Failed, Limited, Room, Sink};
-use cmb_wave::Level;
+use cmb_wave::{Level, Wave};
 use std::alloc::{AllocError, Global};
 use std::process::Abort;
 use std::sync::Wait;
@@ -20,6 +20,7 @@ use std::sync::atomic::Ordering::SeqCst;
 use std::test::Fail;
 use std::thread;
 use std::thread::Threads;
+use worked_inputs::{Inputs, bare, design_of, sampled, spread, text_of};
 
 const LOOKS: u32 = 10_000_000;
 
@@ -34,85 +35,149 @@ fn waits_above(number: &AtomicU64, least: u64) -> bool {
     false
 }
 
-// The design of a flip-flop and an inverter in a ring, which is known after twelve ticks.
-fn toggle(alloc: Global) -> Result<Design, Fail> {
-    design_of(alloc, b"q = DFF(d) d = NOT(q)", b"", 12)
-}
-
-// The nets of a design over two clusters.
-fn spread_over_two(rt: &impl Abort, alloc: Global, design: &Design) -> Result<Clustering, Fail>
-    ensures { IfOk result (λ clustering. length clustering.assign ≡ nets_of design.now) }
-{
-    let clustering = Clustering::spread(alloc, design.netlist().len() as u32, 2)?;
-    assert!(rt; clustering.nets() == design.netlist().len());
-    Ok(clustering)
-}
-
 // A design with a clustering of it.
 #[derive(Drop)]
-struct Spread {
+struct Clustered {
     design: Design,
     clustering: Clustering,
     ghost each: { length clustering.assign ≡ nets_of design },
 }
 
 // The toggle with each of its two nets in a cluster of its own.
-fn spread_toggle(rt: &impl Abort, alloc: Global) -> Result<Spread, Fail> {
-    let design = toggle(alloc)?;
-    let clustering = spread_over_two(rt, alloc, &design)?;
-    Ok(Spread { design, clustering })
+fn spread_toggle(alloc: Global) -> Result<Clustered, Fail> {
+    let design = design_of(alloc, bare(TOGGLE), sampled(12))?;
+    let clustering = spread(alloc, &design, 2)?;
+    Ok(Clustered { design, clustering })
+}
+
+// The text of the toggle.
+fn toggle_text(alloc: Global) -> Result<String, AllocError> {
+    text_of(alloc, TOGGLE_TEXT.0, TOGGLE_TEXT.1)
+}
+
+// How a run ended.
+#[derive(Clone, Copy, Debug, PartialEq, Eq)]
+enum Ended {
+    Whole,
+    // It was stopped, and is known below this tick by this net.
+    Stopped { net: u32, upto: u32 },
+    Refused,
+}
+
+fn end_of(answer: &Result<Collector, RunFault>) -> Ended {
+    match answer {
+        Ok(_) => Ended::Whole,
+        Err(RunFault::Incomplete { net, upto, .. }) => Ended::Stopped {
+            net: *net,
+            upto: *upto,
+        },
+        Err(_) => Ended::Refused,
+    }
 }
 
 // A run by so many workers.
 fn run_by<G: Turnstile + Sync, R: Threads + Wait + Sync>(
     rt: &R,
     alloc: Global,
-    spread: &Spread,
+    clustered: &Clustered,
     workers: u32,
     gate: &G,
-) -> Result<Result<Collector, RunFault>, Fail> {
+) -> Result<Ended, Fail> {
     let workers = Workers::new(workers)?;
-    Ok(run_free(rt, alloc, &spread.design, &spread.clustering, workers, gate))
+    let answer = run_free(
+        rt,
+        alloc,
+        &clustered.design,
+        &clustered.clustering,
+        workers,
+        gate,
+    );
+    Ok(end_of(&answer))
+}
+
+// The toggle by so many workers.
+fn toggle_by<G: Turnstile + Sync, R: Threads + Wait + Sync>(
+    rt: &R,
+    alloc: Global,
+    workers: u32,
+    gate: &G,
+) -> Result<Ended, Fail> {
+    let toggle = spread_toggle(alloc)?;
+    run_by(rt, alloc, &toggle, workers, gate)
+}
+
+// How a run with a text ended.
+#[derive(Clone, Copy, Debug, PartialEq, Eq)]
+enum Told {
+    // So many bytes were written.
+    Whole(u64),
+    // It was stopped, and is known below this tick by this net. What it keeps begins where the text of so many bytes
+    // ends, or doesn't.
+    Stopped {
+        net: u32,
+        upto: u32,
+        written: usize,
+        keeps: bool,
+    },
+    // The sink failed after so many bytes.
+    Broken(u64),
+    Refused,
+}
+
+fn end_of_text(answer: &Result<u64, RunFault>) -> Told {
+    match answer {
+        Ok(written) => Told::Whole(*written),
+        Err(
+            RunFault::Incomplete {
+                net,
+                upto,
+                collector,
+            },
+        ) => Told::Stopped {
+            net: *net,
+            upto: *upto,
+            written: bytes_up_to(collector.least()),
+            keeps: keeps_what_waits(collector),
+        },
+        Err(RunFault::Write { written }) => Told::Broken(*written),
+        Err(RunFault::Memory) => Told::Refused,
+    }
+}
+
+// A run by two workers that tells its text.
+fn tell_by_two<G: Turnstile + Sync, S: Sink, R: Threads + Wait + Sync>(
+    rt: &R,
+    alloc: Global,
+    clustered: &Clustered,
+    gate: &G,
+    sink: &mut S,
+) -> Result<Told, Fail>
+    requires { S.failures sink.old < 2 ^ 64 - 1 }
+{
+    let workers = Workers::new(2)?;
+    let answer = run_free_text(
+        rt,
+        alloc,
+        &clustered.design,
+        &clustered.clustering,
+        workers,
+        gate,
+        sink,
+    );
+    Ok(end_of_text(&answer))
 }
 
 // The toggle by two workers, one of them for each net.
-fn two_workers<G: Turnstile + Sync, R: Abort + Threads + Wait + Sync>(
-    rt: &R,
-    alloc: Global,
-    gate: &G,
-) -> Result<Result<Collector, RunFault>, Fail> {
-    let toggle = spread_toggle(rt, alloc)?;
-    run_by(rt, alloc, &toggle, 2, gate)
-}
-
-// The same, with its text.
-fn two_workers_tell<G: Turnstile + Sync, S: Sink, R: Abort + Threads + Wait + Sync>(
+fn toggle_told<G: Turnstile + Sync, S: Sink, R: Threads + Wait + Sync>(
     rt: &R,
     alloc: Global,
     gate: &G,
     sink: &mut S,
-) -> Result<Result<u64, RunFault>, Fail>
+) -> Result<Told, Fail>
     requires { S.failures sink.old < 2 ^ 64 - 1 }
 {
-    let workers = Workers::new(2)?;
-    let toggle = spread_toggle(rt, alloc)?;
-    Ok(run_free_text(
-        rt,
-        alloc,
-        &toggle.design,
-        &toggle.clustering,
-        workers,
-        gate,
-        sink,
-    ))
-}
-
-// The net and the tick of a run that was stopped.
-fn stopped_at(answer: &Result<Collector, RunFault>) -> Option<(u32, u32)> {
-    match answer {
-        Err(RunFault::Incomplete { net, upto, .. }) => Some((*net, *upto)),
-        _ => None,
-    }
+    let toggle = spread_toggle(alloc)?;
+    tell_by_two(rt, alloc, &toggle, gate, sink)
 }
 
 #[derive(Clone, Copy)]
@@ -127,9 +192,9 @@ impl Turnstile for ClosedGate {
 #[test]
 fn closed_gate(rt: HostRuntime) -> Result<(), Fail> {
     let alloc = rt.alloc();
-    let answer = two_workers(&rt, alloc, &ClosedGate)?;
-    assert!(rt; stopped_at(&answer) == Some((0, 0)));
-    assert!(rt; two_workers(&rt, alloc, &OpenGate)?.is_ok());
+    let stopped = Ended::Stopped { net: 0, upto: 0 };
+    assert_eq!(rt; toggle_by(&rt, alloc, 2, &ClosedGate)?, stopped);
+    assert_eq!(rt; toggle_by(&rt, alloc, 2, &OpenGate)?, Ended::Whole);
     Ok(())
 }
 
@@ -160,7 +225,7 @@ fn workers_meet(rt: HostRuntime) -> Result<(), Fail> {
         flags: [AtomicU64::new(0), AtomicU64::new(0)],
         missed: AtomicU64::new(0),
     };
-    assert!(rt; two_workers(&rt, rt.alloc(), &meeting)?.is_ok());
+    assert_eq!(rt; toggle_by(&rt, rt.alloc(), 2, &meeting)?, Ended::Whole);
     assert_eq!(rt; meeting.missed.load(SeqCst), 0);
     Ok(())
 }
@@ -192,8 +257,7 @@ fn workers_without_clusters_meet_too(rt: HostRuntime) -> Result<(), Fail> {
         others: 4,
         missed: AtomicU64::new(0),
     };
-    let toggle = spread_toggle(&rt, rt.alloc())?;
-    assert!(rt; run_by(&rt, rt.alloc(), &toggle, 5, &assembly)?.is_ok());
+    assert_eq!(rt; toggle_by(&rt, rt.alloc(), 5, &assembly)?, Ended::Whole);
     assert_eq!(rt; assembly.here.load(SeqCst), 5);
     assert_eq!(rt; assembly.missed.load(SeqCst), 0);
     Ok(())
@@ -223,8 +287,7 @@ fn turns_rise_by_one(rt: HostRuntime) -> Result<(), Fail> {
         next: [AtomicU64::new(0), AtomicU64::new(0), AtomicU64::new(0)],
         missed: AtomicU64::new(0),
     };
-    let toggle = spread_toggle(&rt, rt.alloc())?;
-    assert!(rt; run_by(&rt, rt.alloc(), &toggle, 3, &counted)?.is_ok());
+    assert_eq!(rt; toggle_by(&rt, rt.alloc(), 3, &counted)?, Ended::Whole);
     assert_eq!(rt; counted.missed.load(SeqCst), 0);
     for next in &counted.next {
         assert!(rt; next.load(SeqCst) > 0);
@@ -259,6 +322,16 @@ impl Turnstile for OneStops {
     }
 }
 
+// The worker is stopped at this turn.
+fn one_stops_at(stopped: u32, at: u32) -> OneStops {
+    OneStops {
+        stopped,
+        at,
+        hundred: AtomicU64::new(0),
+        missed: AtomicU64::new(0),
+    }
+}
+
 // The worker is stopped at this turn: the run is known below a tick from `least` to `most`, by net 0.
 fn stops<R: Abort + Threads + Wait + Sync>(
     rt: &R,
@@ -268,24 +341,13 @@ fn stops<R: Abort + Threads + Wait + Sync>(
     least: u32,
     most: u32,
 ) -> Result<(), Fail> {
-    let gate = OneStops {
-        stopped,
-        at,
-        hundred: AtomicU64::new(0),
-        missed: AtomicU64::new(0),
-    };
-    let answer = two_workers(rt, alloc, &gate)?;
+    let gate = one_stops_at(stopped, at);
+    let ended = toggle_by(rt, alloc, 2, &gate)?;
     assert_eq!(rt; gate.missed.load(SeqCst), 0);
-    match stopped_at(&answer) {
-        Some((net, upto)) => {
-            assert_eq!(rt; net, 0);
-            assert!(rt;
-                least <= upto && upto <= most,
-                "worker {stopped} at {at}: {upto}"
-            );
-        }
-        None => assert!(rt; false, "worker {stopped} at {at}"),
-    }
+    assert!(rt;
+        matches!(ended, Ended::Stopped { net: 0, upto } if least <= upto && upto <= most),
+        "worker {stopped} at {at}: {ended:?}"
+    );
     Ok(())
 }
 
@@ -337,21 +399,20 @@ fn halves(alloc: Global, count: u32) -> Result<Vec<u32>, AllocError> {
 }
 
 // The buffers, which are slower than the run is long.
-fn slow_buffers(rt: &impl Abort, alloc: Global) -> Result<Design, Fail> {
+fn slow_buffers(alloc: Global) -> Result<Design, Fail> {
     let (bench, stimuli) = buffers(alloc, 70)?;
-    assert!(rt; bench.len() <= 16_777_216 && stimuli.len() <= 16_777_216);
+    let inputs = Inputs {
+        netlist: bench.as_bytes(),
+        delays: b"by,name,delay\nkind,BUFF,20\n",
+        stimuli: stimuli.as_bytes(),
+        clocks: b"",
+    };
     let settings = Settings {
         horizon: 10,
         clock: None,
         init: Level::X,
     };
-    design_of_tables(
-        alloc,
-        bench.as_bytes(),
-        b"by,name,delay\nkind,BUFF,20\n",
-        stimuli.as_bytes(),
-        settings,
-    )
+    design_of(alloc, inputs, settings)
 }
 
 // The inputs of these buffers in one cluster, and the buffers in another.
@@ -363,18 +424,17 @@ fn halved(rt: &impl Abort, alloc: Global, design: &Design) -> Result<Clustering,
     Ok(clustering)
 }
 
-fn halved_buffers(rt: &impl Abort, alloc: Global) -> Result<Spread, Fail> {
-    let design = slow_buffers(rt, alloc)?;
+fn halved_buffers(rt: &impl Abort, alloc: Global) -> Result<Clustered, Fail> {
+    let design = slow_buffers(alloc)?;
     let clustering = halved(rt, alloc, &design)?;
-    Ok(Spread { design, clustering })
+    Ok(Clustered { design, clustering })
 }
 
 #[test]
 fn early_reader(rt: HostRuntime) -> Result<(), Fail> {
     let alloc = rt.alloc();
     let buffers = halved_buffers(&rt, alloc)?;
-    let answer = run_by(&rt, alloc, &buffers, 2, &Patience)?;
-    assert!(rt; answer.is_ok());
+    assert_eq!(rt; run_by(&rt, alloc, &buffers, 2, &Patience)?, Ended::Whole);
     Ok(())
 }
 
@@ -416,6 +476,7 @@ impl<'a> Turnstile for EarlyText<'a> {
 #[test]
 fn early_text(rt: HostRuntime) -> Result<(), Fail> {
     let alloc = rt.alloc();
+    let text = toggle_text(alloc)?;
     let taken = AtomicU64::new(0);
     let gate = EarlyText {
         taken: &taken,
@@ -425,10 +486,10 @@ fn early_text(rt: HostRuntime) -> Result<(), Fail> {
         room: Room::new(alloc, 1000)?,
         taken: &taken,
     };
-    let answer = two_workers_tell(&rt, alloc, &gate, &mut sink)?;
+    let told = toggle_told(&rt, alloc, &gate, &mut sink)?;
     assert_eq!(rt; gate.missed.load(SeqCst), 0);
-    assert_eq!(rt; answer?, 209);
-    assert!(rt; sink.room.bytes.as_slice() == TOGGLE);
+    assert_eq!(rt; told, Told::Whole(209));
+    assert!(rt; sink.room.bytes.as_slice() == text.as_bytes());
     Ok(())
 }
 
@@ -450,12 +511,13 @@ fn ends_early<R: Abort + Threads + Wait + Sync>(
     alloc: Global,
     worker: u32,
 ) -> Result<(), Fail> {
+    let text = toggle_text(alloc)?;
     let mut sink = Limited::new(alloc, 1000);
-    let answer = two_workers_tell(rt, alloc, &ThreeTurns { worker }, &mut sink)?;
-    assert!(rt; TOGGLE.starts_with(sink.bytes.as_slice()));
-    match answer {
-        Ok(written) => assert_eq!(rt; (written, sink.bytes.len()), (209, 209)),
-        Err(fault) => assert_eq!(rt; fault.number(), 53),
+    let told = toggle_told(rt, alloc, &ThreeTurns { worker }, &mut sink)?;
+    assert!(rt; text.as_bytes().starts_with(sink.bytes.as_slice()));
+    match told {
+        Told::Whole(written) => assert_eq!(rt; (written, sink.bytes.len()), (209, 209)),
+        _ => assert!(rt; matches!(told, Told::Stopped { .. })),
     }
     Ok(())
 }
@@ -491,16 +553,18 @@ fn bytes_up_to(tick: u32) -> usize {
     }
 }
 
-// What a stopped run keeps begins where the text ends that it wrote, with the levels that were left there.
-fn keeps_what_waits(rt: &impl Abort, known: &Collector, written: usize) {
+// What a stopped run keeps of a wave begins at this tick, with the level that was left there.
+fn waits(wave: &Wave, least: u32) -> bool {
+    wave.base() == least
+        && wave.kept() == level_before(wave.net(), least)
+        && wave.changes().len() <= 2
+        && wave.changes().iter().all(|change| change.tick >= least)
+}
+
+// What a stopped run keeps begins where all is known.
+fn keeps_what_waits(known: &Collector) -> bool {
     let least = known.least();
-    assert_eq!(rt; written, bytes_up_to(least));
-    for wave in known.waves() {
-        assert_eq!(rt; wave.base(), least);
-        assert!(rt; wave.kept() == level_before(wave.net(), least), "{least}");
-        assert!(rt; wave.changes().len() <= 2);
-        assert!(rt; wave.changes().iter().all(|change| change.tick >= least));
-    }
+    known.waves().iter().all(|wave| waits(wave, least))
 }
 
 // Worker 1 stops at this turn, once the other had a hundred: q is known below a tick from 3 to `most`.
@@ -510,28 +574,22 @@ fn stops_with_text<R: Abort + Threads + Wait + Sync>(
     at: u32,
     most: u32,
 ) -> Result<(), Fail> {
-    let gate = OneStops {
-        stopped: 1,
-        at,
-        hundred: AtomicU64::new(0),
-        missed: AtomicU64::new(0),
-    };
+    let text = toggle_text(alloc)?;
+    let gate = one_stops_at(1, at);
     let mut sink = Limited::new(alloc, 1000);
-    match two_workers_tell(rt, alloc, &gate, &mut sink)? {
-        Err(
-            RunFault::Incomplete {
-                net,
-                upto,
-                collector,
-            },
-        ) => {
-            assert_eq!(rt; net, 0);
+    match toggle_told(rt, alloc, &gate, &mut sink)? {
+        Told::Stopped {
+            net,
+            upto,
+            written,
+            keeps,
+        } => {
+            assert_eq!(rt; (net, written, keeps), (0, sink.bytes.len(), true));
             assert!(rt; 3 <= upto && upto <= most, "{at}: {upto}");
-            keeps_what_waits(rt, &collector, sink.bytes.len());
         }
         _ => assert!(rt; false, "{at}"),
     }
-    assert!(rt; TOGGLE.starts_with(sink.bytes.as_slice()));
+    assert!(rt; text.as_bytes().starts_with(sink.bytes.as_slice()));
     Ok(())
 }
 
@@ -546,13 +604,12 @@ fn written_waves_are_forgotten(rt: HostRuntime) -> Result<(), Fail> {
 #[test]
 fn text_of_a_full_sink(rt: HostRuntime) -> Result<(), Fail> {
     let alloc = rt.alloc();
+    let text = toggle_text(alloc)?;
     for room in [0usize, 17, 144, 145, 208] {
         let mut sink = Limited::new(alloc, room);
-        match two_workers_tell(&rt, alloc, &OpenGate, &mut sink)? {
-            Err(RunFault::Write { written }) => assert_eq!(rt; written, room as u64),
-            _ => assert!(rt; false, "{room}"),
-        }
-        assert!(rt; TOGGLE.starts_with(sink.bytes.as_slice()));
+        let told = toggle_told(&rt, alloc, &OpenGate, &mut sink)?;
+        assert_eq!(rt; told, Told::Broken(room as u64));
+        assert!(rt; text.as_bytes().starts_with(sink.bytes.as_slice()));
         assert_eq!(rt; sink.bytes.len(), room);
     }
     Ok(())

@@ -1,9 +1,7 @@
-//! Worked examples of whole runs and simulations, as tests.
+//! Worked examples of runs in rounds and of free runs, as tests.
 #![tactic(auto)]
 
 #[cfg(test)]
 mod free;
 #[cfg(test)]
 mod rounds;
-#[cfg(test)]
-mod simulations;

@@ -1,64 +1,28 @@
 //! Runs in rounds: the texts don't change with clusters and workers. They were made by another simulator.
 
-ghost use Rattle.std.specs.Prelude.{◌≤◌, length};
-
-use cmb_bench::{MAX_TEXT, read_bench};
-use cmb_core::Clustering;
-use cmb_design::{Design, Settings, read_clocks, read_delays, read_stimuli};
+use cmb_design::Design;
 use cmb_links::Workers;
 use cmb_rounds::run_rounds;
 use cmb_run::RunFault;
 use cmb_vcd::vcd_text;
-use cmb_wave::Level;
 use std::alloc::Global;
 use std::process::Abort;
 use std::sync::Wait;
 use std::test::Fail;
 use std::thread::Threads;
-
-/// The design of these texts, without clock rows.
-pub fn design_of_tables(
-    alloc: Global,
-    bench: &[u8],
-    delays: &[u8],
-    stimuli: &[u8],
-    settings: Settings,
-) -> Result<Design, Fail>
-    requires bench { length bench.now ≤ MAX_TEXT }
-    requires delays { length delays.now ≤ MAX_TEXT }
-    requires stimuli { length stimuli.now ≤ MAX_TEXT }
-{
-    let delays = read_delays(alloc, delays)?;
-    let stimuli = read_stimuli(alloc, stimuli)?;
-    let clocks = read_clocks(alloc, b"")?;
-    let netlist = read_bench(alloc, bench)?;
-    Ok(Design::new(alloc, netlist, delays, stimuli, clocks, settings)?)
-}
-
-/// A design whose flip-flops sample at ticks 2, 6, 10 and so on, and hold 0 before.
-pub fn design_of(alloc: Global, bench: &[u8], stimuli: &[u8], horizon: u32) -> Result<Design, Fail>
-    requires bench { length bench.now ≤ MAX_TEXT }
-    requires stimuli { length stimuli.now ≤ MAX_TEXT }
-{
-    let settings = Settings {
-        horizon,
-        clock: Some((2, 4)),
-        init: Level::Zero,
-    };
-    design_of_tables(alloc, bench, b"", stimuli, settings)
-}
+use worked_inputs::{Inputs, bare, design_of, sampled, spread, stimulated, text_of};
 
 // The text of a run in which the nets are spread over so many clusters.
-fn text_of<R: Abort + Threads + Wait + Sync>(
+fn run_text<R: Threads + Wait + Sync>(
     rt: &R,
     alloc: Global,
     design: &Design,
     clusters: u32,
     workers: u32,
 ) -> Result<Vec<u8>, Fail> {
-    let clustering = Clustering::spread(alloc, design.netlist().len() as u32, clusters)?;
-    assert!(rt; clustering.nets() == design.netlist().len());
-    let collector = run_rounds(rt, alloc, design, &clustering, Workers::new(workers)?)?;
+    let workers = Workers::new(workers)?;
+    let clustering = spread(alloc, design, clusters)?;
+    let collector = run_rounds(rt, alloc, design, &clustering, workers)?;
     Ok(vcd_text(alloc, design, &collector)?)
 }
 
@@ -71,127 +35,62 @@ fn all_alike<R: Abort + Threads + Wait + Sync>(
 ) -> Result<(), Fail> {
     for clusters in [1u32, 2, 64] {
         for workers in [1u32, 2, 3, 64] {
-            assert!(rt; text_of(rt, alloc, design, clusters, workers)?.as_slice() == text);
+            assert!(rt; run_text(rt, alloc, design, clusters, workers)?.as_slice() == text);
         }
     }
     Ok(())
 }
 
-const INVERTER: &[u8] = b"$version cmbsim 1 $end
-$timescale 1 ns $end
-$scope module top $end
-$var wire 1 ! a $end
-$var wire 1 \" y $end
-$upscope $end
-$enddefinitions $end
-#0
-$dumpvars
-0!
-x\"
-$end
-#1
-1\"
-#5
-1!
-#6
-0\"
-#10
-";
+// The text of these inputs up to a horizon is that of these references and this body.
+fn writes<R: AllocGlobal + Abort + Threads + Wait + Sync>(
+    rt: &R,
+    inputs: Inputs<'_>,
+    horizon: u32,
+    references: &str,
+    body: &str,
+) -> Result<(), Fail> {
+    let text = text_of(rt.alloc(), references, body)?;
+    let design = design_of(rt.alloc(), inputs, sampled(horizon))?;
+    all_alike(rt, rt.alloc(), &design, text.as_bytes())
+}
 
 #[test]
 fn inverter(rt: HostRuntime) -> Result<(), Fail> {
-    let alloc = rt.alloc();
-    let design = design_of(
-        alloc,
+    let inputs = stimulated(
         b"INPUT(a) OUTPUT(y) y = NOT(a)",
         b"tick,net,value\n0,a,0\n5,a,1\n",
-        10,
-    )?;
-    all_alike(&rt, alloc, &design, INVERTER)
+    );
+    writes(&rt, inputs, 10, "a y", "#0 0! x\" #1 1\" #5 1! #6 0\" #10")
 }
 
-pub const TOGGLE: &[u8] = b"$version cmbsim 1 $end
-$timescale 1 ns $end
-$scope module top $end
-$var wire 1 ! q $end
-$var wire 1 \" d $end
-$upscope $end
-$enddefinitions $end
-#0
-$dumpvars
-0!
-x\"
-$end
-#1
-1\"
-#3
-1!
-#4
-0\"
-#7
-0!
-#8
-1\"
-#11
-1!
-#12
-";
+/// A flip-flop and an inverter in a ring. It is known after twelve ticks.
+pub const TOGGLE: &[u8] = b"q = DFF(d) d = NOT(q)";
+
+/// The text of the toggle: its references, and the lines behind the header.
+pub const TOGGLE_TEXT: (&str, &str) = (
+    "q d",
+    "#0 0! x\" #1 1\" #3 1! #4 0\" #7 0! #8 1\" #11 1! #12",
+);
 
 #[test]
 fn toggle(rt: HostRuntime) -> Result<(), Fail> {
-    let alloc = rt.alloc();
-    let design = design_of(alloc, b"q = DFF(d) d = NOT(q)", b"", 12)?;
-    all_alike(&rt, alloc, &design, TOGGLE)
+    writes(&rt, bare(TOGGLE), 12, TOGGLE_TEXT.0, TOGGLE_TEXT.1)
 }
-
-const LATCH: &[u8] = b"$version cmbsim 1 $end
-$timescale 1 ns $end
-$scope module top $end
-$var wire 1 ! r $end
-$var wire 1 \" s $end
-$var wire 1 # nq $end
-$var wire 1 $ q $end
-$upscope $end
-$enddefinitions $end
-#0
-$dumpvars
-1!
-0\"
-x#
-x$
-$end
-#1
-0$
-#2
-1#
-#5
-0!
-#8
-1\"
-#9
-0#
-#10
-1$
-#12
-";
 
 #[test]
 fn latch(rt: HostRuntime) -> Result<(), Fail> {
-    let alloc = rt.alloc();
-    let design = design_of(
-        alloc,
+    let inputs = stimulated(
         b"INPUT(r) INPUT(s) nq = NOR(s, q) q = NOR(r, nq)",
         b"tick,net,value\n0,r,1\n0,s,0\n5,r,0\n8,s,1\n",
-        12,
-    )?;
-    all_alike(&rt, alloc, &design, LATCH)
+    );
+    let body = "#0 1! 0\" x# x$ #1 0$ #2 1# #5 0! #8 1\" #9 0# #10 1$ #12";
+    writes(&rt, inputs, 12, "r s nq q", body)
 }
 
 #[test]
 fn no_nets(rt: HostRuntime) -> Result<(), Fail> {
-    let alloc = rt.alloc();
-    let design = design_of(alloc, b"", b"", 1)?;
-    let text = text_of(&rt, alloc, &design, 2, 2)?;
+    let design = design_of(rt.alloc(), bare(b""), sampled(1))?;
+    let text = run_text(&rt, rt.alloc(), &design, 2, 2)?;
     assert_eq!(rt; text.len(), 123);
     Ok(())
 }

@@ -1,20 +1,12 @@
-//! Worked examples as tests, by topic. A case has the texts of a simulation and its settings.
+//! What a simulation is given, and what is to come of it.
 
-mod checks;
-mod chosen;
-mod ends;
-mod explanations;
-mod faults;
-mod lines;
-mod tables;
-mod waves;
-
-use cmb_sim::{Fault, FromBytes, Level, Mode, Report, Room, Settings, simulate};
+use cmb_sim::{Fault, FromBytes, Level, Limited, Mode, Report, Settings, simulate};
 use std::alloc::{AllocError, Global};
 use std::process::Abort;
 use std::sync::Wait;
 use std::test::Fail;
 use std::thread::Threads;
+use worked_inputs::text_of;
 
 /// What a simulation is given. Rows are parted by spaces, and their header is left out.
 #[derive(Clone, Copy)]
@@ -68,36 +60,6 @@ pub fn table(alloc: Global, header: &str, rows: &str) -> Result<String, AllocErr
     Ok(text)
 }
 
-const CODES: &str = "!\"#$%&'";
-
-/// The text of at most seven nets: their references, and the lines behind the header, `$dumpvars` and its `$end` left
-/// out.
-pub fn text_of(alloc: Global, references: &str, body: &str) -> Result<String, AllocError> {
-    let mut text = String::from_str(
-        alloc,
-        "$version cmbsim 1 $end\n$timescale 1 ns $end\n$scope module top $end\n",
-    )?;
-    for (reference, code) in references.split_whitespace().zip(CODES.chars()) {
-        write!(text, "$var wire 1 {code} {reference} $end\n")?;
-    }
-    text.push_str("$upscope $end\n$enddefinitions $end\n")?;
-    let mut ticks = 0u32;
-    for line in body.split_whitespace() {
-        if line.starts_with("#") {
-            ticks = ticks.saturating_add(1);
-            if ticks == 2 {
-                text.push_str("$end\n")?;
-            }
-        }
-        text.push_str(line)?;
-        text.push_str("\n")?;
-        if line == "#0" {
-            text.push_str("$dumpvars\n")?;
-        }
-    }
-    Ok(text)
-}
-
 /// All modes, with one worker and with more, with each net in a cluster of its own and empty clusters besides, and by
 /// threads that share the work.
 pub const MODES: [Mode; 14] = [
@@ -144,17 +106,29 @@ pub const MODES: [Mode; 14] = [
     Mode::SharedFree { threads: 64 },
 ];
 
-/// Simulates over memory, and gives the answer and what was written.
-pub fn run<R: AllocGlobal + Threads + Wait + Sync>(
+/// An answer as examples say it: the report, or the fault's number and place.
+pub type Told = Result<Report, (u32, u64)>;
+
+/// What is told of an answer.
+pub fn told(answer: &Result<Report, Fault>) -> Told {
+    match answer {
+        Ok(report) => Ok(*report),
+        Err(fault) => Err((fault.number(), fault.place())),
+    }
+}
+
+/// Simulates over memory with a sink that takes so many bytes, and gives the answer and what was written.
+pub fn run_within<R: AllocGlobal + Threads + Wait + Sync>(
     rt: &R,
     case: Case<'_>,
     mode: Mode,
-) -> Result<(Result<Report, Fault>, Room), AllocError> {
+    room: usize,
+) -> Result<(Told, Vec<u8>), AllocError> {
     let alloc = rt.alloc();
     let delays = table(alloc, "by,name,delay", case.delays)?;
     let stimuli = table(alloc, "tick,net,value", case.stimuli)?;
     let clocks = table(alloc, "net,first,period", case.clocks)?;
-    let mut out = Room::new(alloc, 1000)?;
+    let mut out = Limited::new(alloc, room);
     let answer = simulate(
         rt,
         &mut FromBytes::new(case.bench),
@@ -165,7 +139,29 @@ pub fn run<R: AllocGlobal + Threads + Wait + Sync>(
         mode,
         &mut out,
     );
-    Ok((answer, out))
+    Ok((told(&answer), out.bytes))
+}
+
+/// The same with a sink that takes any text of an example.
+pub fn run<R: AllocGlobal + Threads + Wait + Sync>(
+    rt: &R,
+    case: Case<'_>,
+    mode: Mode,
+) -> Result<(Told, Vec<u8>), AllocError> {
+    run_within(rt, case, mode, 100_000)
+}
+
+/// A sink took so many bytes of this text, and then failed if that isn't all.
+pub fn takes(rt: &impl Abort, outcome: (Told, Vec<u8>), text: &str, room: usize) {
+    let (told, taken) = outcome;
+    let answer = told.map(|report| report.written);
+    if room < text.len() {
+        assert_eq!(rt; answer, Err((62, room as u64)));
+    } else {
+        assert_eq!(rt; answer, Ok(room as u64));
+    }
+    assert_eq!(rt; taken.len(), room);
+    assert!(rt; text.as_bytes().starts_with(taken.as_slice()));
 }
 
 /// In every mode the text of this case is that of these references and this body, and the report tells its length.
@@ -182,9 +178,9 @@ pub fn writes<R: AllocGlobal + Abort + Threads + Wait + Sync>(
         written: want.len() as u64,
     };
     for mode in MODES {
-        let (answer, out) = run(rt, case, mode)?;
-        assert!(rt; out.bytes.as_slice() == want.as_bytes(), "{body}");
-        assert_eq!(rt; answer?, report, "{body}");
+        let (told, text) = run(rt, case, mode)?;
+        assert!(rt; text.as_slice() == want.as_bytes(), "{body}");
+        assert_eq!(rt; told, Ok(report), "{body}");
     }
     Ok(())
 }
@@ -207,11 +203,8 @@ pub fn refuses_in<R: AllocGlobal + Abort + Threads + Wait + Sync>(
     number: u32,
     place: u64,
 ) -> Result<(), Fail> {
-    let (answer, out) = run(rt, case, mode)?;
-    match answer {
-        Ok(_) => assert!(rt; false, "no fault {number} at {place}"),
-        Err(fault) => assert_eq!(rt; (fault.number(), fault.place()), (number, place)),
-    }
-    assert_eq!(rt; out.bytes.len(), 0);
+    let (told, text) = run(rt, case, mode)?;
+    assert_eq!(rt; told, Err((number, place)));
+    assert!(rt; text.is_empty());
     Ok(())
 }

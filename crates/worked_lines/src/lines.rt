@@ -1,7 +1,6 @@
-//! The command line, and the line of a fault.
+//! Command lines.
 
-use crate::simulations::{bench_case, run};
-use cmb_sim::{Choice, Level, LineFault, Mode, Pick, Task, fault_line, line_message, read_line};
+use cmb_line::{Choice, Level, Line, LineFault, Mode, Pick, Task, line_message, read_line};
 use std::alloc::{AllocError, Global};
 use std::process::Abort;
 use std::test::Fail;
@@ -14,13 +13,31 @@ fn words(alloc: Global, line: &str) -> Result<Vec<String>, AllocError> {
     Ok(all)
 }
 
+// What is read of a line.
+fn answer_of(alloc: Global, line: &str) -> Result<Result<Line, LineFault>, AllocError> {
+    let words = words(alloc, line)?;
+    Ok(read_line(alloc, words.as_slice()))
+}
+
+// What a line asks for.
+fn line_of(alloc: Global, line: &str) -> Result<Line, Fail> {
+    match answer_of(alloc, line)? {
+        Ok(line) => Ok(line),
+        Err(_) => Err(Fail::new("a line is refused")),
+    }
+}
+
 // A line that isn't read, and why.
 fn refused(rt: &impl Abort, alloc: Global, line: &str, want: LineFault) -> Result<(), Fail> {
-    let words = words(alloc, line)?;
-    match read_line(alloc, words.as_slice()) {
-        Ok(_) => assert!(rt; false, "{line} is read"),
-        Err(fault) => assert_eq!(rt; fault, want, "{line}"),
-    }
+    let fault = answer_of(alloc, line)?.err();
+    assert_eq!(rt; fault, Some(want), "{line}");
+    Ok(())
+}
+
+// A line that asks for a run in this mode.
+fn runs(rt: &impl Abort, alloc: Global, line: &str, mode: Mode) -> Result<(), Fail> {
+    let line = line_of(alloc, line)?;
+    assert_eq!(rt; (line.task, line.mode), (Task::Run, mode));
     Ok(())
 }
 
@@ -118,45 +135,67 @@ fn help_and_explanations(rt: HostRuntime) -> Result<(), Fail> {
 
 #[test]
 fn whole_line(rt: HostRuntime) -> Result<(), Fail> {
-    let alloc = rt.alloc();
-    let words = words(
-        alloc,
-        "run --horizon=012 --clock 2:4 --init 0 --mode plain --stimuli in.csv",
-    )?;
-    match read_line(alloc, words.as_slice()) {
-        Ok(line) => {
-            assert_eq!(rt; line.settings.horizon, 12);
-            assert_eq!(rt; line.settings.clock, Some((2, 4)));
-            assert_eq!(rt; line.settings.init, Level::Zero);
-            assert_eq!(rt; line.mode, Mode::Plain);
-            let name = line.stimuli.as_ref().map(|name| name.as_str());
-            assert!(rt; name == Some("in.csv"));
-            assert!(rt; line.delays.is_none());
-            assert!(rt; line.clocks.is_none());
-        }
-        Err(_) => assert!(rt; false),
-    }
+    let words = "run --horizon=012 --clock 2:4 --init 0 --mode plain --stimuli in.csv";
+    let line = line_of(rt.alloc(), words)?;
+    assert_eq!(rt;
+        (line.settings.horizon, line.settings.clock),
+        (12, Some((2, 4)))
+    );
+    assert_eq!(rt; line.settings.init, Level::Zero);
+    assert!(rt; line.stimuli.is_some_and(|name| name.as_str() == "in.csv"));
+    assert!(rt; line.delays.is_none() && line.clocks.is_none());
+    Ok(())
+}
+
+// A line that asks for this task, with a fault in words or without.
+fn asks_for(
+    rt: &impl Abort,
+    alloc: Global,
+    line: &str,
+    task: Task,
+    explain: bool,
+) -> Result<(), Fail> {
+    let line = line_of(alloc, line)?;
+    assert_eq!(rt; (line.task, line.explain), (task, explain));
     Ok(())
 }
 
 #[test]
 fn tasks_of_lines(rt: HostRuntime) -> Result<(), Fail> {
     let alloc = rt.alloc();
-    for (line, task, explain) in [
-        ("run --horizon 10", Task::Run, false),
-        ("run --explain --horizon 10", Task::Run, true),
-        ("check --horizon 10 --clock 2:4", Task::Check, false),
-        ("check --horizon 10 --explain", Task::Check, true),
-    ] {
-        let words = words(alloc, line)?;
-        match read_line(alloc, words.as_slice()) {
-            Ok(read) => {
-                assert_eq!(rt; read.task, task, "{line}");
-                assert_eq!(rt; read.explain, explain, "{line}");
-            }
-            Err(_) => assert!(rt; false, "{line} is refused"),
-        }
-    }
+    asks_for(&rt, alloc, "run --horizon 10", Task::Run, false)?;
+    asks_for(&rt, alloc, "run --explain --horizon 10", Task::Run, true)?;
+    asks_for(
+        &rt,
+        alloc,
+        "check --horizon 10 --clock 2:4",
+        Task::Check,
+        false,
+    )?;
+    asks_for(
+        &rt,
+        alloc,
+        "check --horizon 10 --explain",
+        Task::Check,
+        true,
+    )
+}
+
+const ALONE: Mode = Mode::Rounds {
+    workers: 1,
+    clusters: 1,
+};
+
+// A run in this mode, which shows how far it is and tells what it took, or doesn't.
+fn tells(
+    rt: &impl Abort,
+    alloc: Global,
+    line: &str,
+    mode: Mode,
+    told: (bool, bool),
+) -> Result<(), Fail> {
+    let line = line_of(alloc, line)?;
+    assert_eq!(rt; (line.mode, (line.progress, line.stats)), (mode, told));
     Ok(())
 }
 
@@ -167,136 +206,115 @@ fn telling_of_lines(rt: HostRuntime) -> Result<(), Fail> {
         workers: 1,
         clusters: 1,
     };
-    let rounds = Mode::Rounds {
-        workers: 1,
-        clusters: 1,
-    };
-    for (line, mode, progress, stats) in [
-        ("run --horizon 10", rounds, false, false),
-        ("run --horizon 10 --stats", rounds, false, true),
-        ("run --horizon 10 --progress", free, true, false),
-        (
-            "run --horizon 10 --progress --mode rounds",
-            rounds,
-            true,
-            false,
-        ),
-        (
-            "run --horizon 10 --progress --stats --mode plain",
-            Mode::Plain,
-            true,
-            true,
-        ),
-        (
-            "run --horizon 10 --progress --threads 2",
-            Mode::SharedFree { threads: 2 },
-            true,
-            false,
-        ),
-    ] {
-        let words = words(alloc, line)?;
-        match read_line(alloc, words.as_slice()) {
-            Ok(read) => {
-                assert_eq!(rt; read.mode, mode, "{line}");
-                assert_eq!(rt; (read.progress, read.stats), (progress, stats), "{line}");
-            }
-            Err(_) => assert!(rt; false, "{line} is refused"),
-        }
-    }
-    Ok(())
+    tells(&rt, alloc, "run --horizon 10", ALONE, (false, false))?;
+    tells(&rt, alloc, "run --horizon 10 --stats", ALONE, (false, true))?;
+    tells(
+        &rt,
+        alloc,
+        "run --horizon 10 --progress",
+        free,
+        (true, false),
+    )?;
+    let line = "run --horizon 10 --progress --mode rounds";
+    tells(&rt, alloc, line, ALONE, (true, false))?;
+    let line = "run --horizon 10 --progress --stats --mode plain";
+    tells(&rt, alloc, line, Mode::Plain, (true, true))?;
+    let line = "run --horizon 10 --progress --threads 2";
+    tells(
+        &rt,
+        alloc,
+        line,
+        Mode::SharedFree { threads: 2 },
+        (true, false),
+    )
 }
 
 #[test]
 fn modes_of_lines(rt: HostRuntime) -> Result<(), Fail> {
     let alloc = rt.alloc();
-    for (line, workers, clusters) in [
-        ("run --horizon 10", 1, 1),
-        ("run --horizon 10 --mode rounds --workers 64", 64, 1),
-        ("run --horizon 10 --clusters 64 --workers 2", 2, 64),
-    ] {
-        let words = words(alloc, line)?;
-        match read_line(alloc, words.as_slice()) {
-            Ok(line) => assert_eq!(rt; line.mode, Mode::Rounds { workers, clusters }),
-            Err(_) => assert!(rt; false, "{line} is refused"),
-        }
-    }
+    let rounds = |workers, clusters| Mode::Rounds { workers, clusters };
+    runs(&rt, alloc, "run --horizon 10", ALONE)?;
+    runs(
+        &rt,
+        alloc,
+        "run --horizon 10 --mode rounds --workers 64",
+        rounds(64, 1),
+    )?;
+    runs(
+        &rt,
+        alloc,
+        "run --horizon 10 --clusters 64 --workers 2",
+        rounds(2, 64),
+    )?;
+    let free = Mode::Free {
+        workers: 3,
+        clusters: 5,
+    };
+    runs(
+        &rt,
+        alloc,
+        "run --horizon 10 --mode free --clusters 5 --workers 3",
+        free,
+    )
+}
+
+#[test]
+fn threads_of_lines(rt: HostRuntime) -> Result<(), Fail> {
+    let alloc = rt.alloc();
+    runs(
+        &rt,
+        alloc,
+        "run --horizon 10 --threads 1",
+        Mode::Shared { threads: 1 },
+    )?;
+    let free = Mode::SharedFree { threads: 64 };
+    runs(
+        &rt,
+        alloc,
+        "run --horizon 10 --mode free --threads 64",
+        free,
+    )?;
+    runs(
+        &rt,
+        alloc,
+        "run --horizon 10 --threads 4 --mode plain",
+        Mode::Plain,
+    )
+}
+
+// A line that chooses these nets, by the list in this file where one is named.
+fn chooses(
+    rt: &impl Abort,
+    alloc: Global,
+    line: &str,
+    choice: Choice,
+    only: Option<&str>,
+) -> Result<(), Fail> {
+    let line = line_of(alloc, line)?;
+    assert_eq!(rt; line.choice, choice);
+    assert!(rt; line.only.as_ref().map(|name| name.as_str()) == only);
     Ok(())
 }
 
 #[test]
 fn choices_of_lines(rt: HostRuntime) -> Result<(), Fail> {
     let alloc = rt.alloc();
-    for (line, choice, only) in [
-        ("run --horizon 10", Choice::All, None),
-        (
-            "run --horizon 10 --only nets",
-            Choice::Only(Pick::Listed),
-            Some("nets"),
-        ),
-        (
-            "run --horizon 10 --only-outputs",
-            Choice::Only(Pick::Outputs),
-            None,
-        ),
-    ] {
-        let words = words(alloc, line)?;
-        match read_line(alloc, words.as_slice()) {
-            Ok(read) => {
-                assert_eq!(rt; read.choice, choice, "{line}");
-                assert!(rt;
-                    read.only.as_ref().map(|name| name.as_str()) == only,
-                    "{line}"
-                );
-            }
-            Err(_) => assert!(rt; false, "{line} is refused"),
-        }
-    }
-    Ok(())
-}
-
-#[test]
-fn threads_of_lines(rt: HostRuntime) -> Result<(), Fail> {
-    let alloc = rt.alloc();
-    for (line, mode) in [
-        ("run --horizon 10 --threads 1", Mode::Shared { threads: 1 }),
-        (
-            "run --horizon 10 --mode free --threads 64",
-            Mode::SharedFree { threads: 64 },
-        ),
-        ("run --horizon 10 --threads 4 --mode plain", Mode::Plain),
-    ] {
-        let words = words(alloc, line)?;
-        match read_line(alloc, words.as_slice()) {
-            Ok(line) => assert_eq!(rt; line.mode, mode),
-            Err(_) => assert!(rt; false, "{line} is refused"),
-        }
-    }
-    Ok(())
+    chooses(&rt, alloc, "run --horizon 10", Choice::All, None)?;
+    let listed = Choice::Only(Pick::Listed);
+    chooses(
+        &rt,
+        alloc,
+        "run --horizon 10 --only nets",
+        listed,
+        Some("nets"),
+    )?;
+    let outputs = Choice::Only(Pick::Outputs);
+    chooses(&rt, alloc, "run --horizon 10 --only-outputs", outputs, None)
 }
 
 fn message_of(alloc: Global, line: &str) -> Result<String, AllocError> {
     let words = words(alloc, line)?;
     line_message(alloc, words.as_slice())
-}
-
-#[test]
-fn line_of_mode_free(rt: HostRuntime) -> Result<(), Fail> {
-    let alloc = rt.alloc();
-    let words = words(
-        alloc,
-        "run --horizon 10 --mode free --clusters 5 --workers 3",
-    )?;
-    match read_line(alloc, words.as_slice()) {
-        Ok(line) => assert_eq!(rt;
-            line.mode,
-            Mode::Free {
-                workers: 3,
-                clusters: 5
-            }
-        ),
-        Err(_) => assert!(rt; false),
-    }
-    Ok(())
 }
 
 #[test]
@@ -382,18 +400,6 @@ fn help_has_each_option(rt: HostRuntime) -> Result<(), Fail> {
         "--only-outputs",
     ] {
         assert!(rt; message.as_str().contains(option), "{option}");
-    }
-    Ok(())
-}
-
-#[test]
-fn line_of_a_fault(rt: HostRuntime) -> Result<(), Fail> {
-    match run(&rt, bench_case(b"INPUT(a)\ny = AND(a", 10), Mode::Plain)?.0 {
-        Ok(_) => assert!(rt; false),
-        Err(fault) => {
-            let line = fault_line(rt.alloc(), &fault)?;
-            assert!(rt; line.as_slice() == b"cmbsim: fault 2 at 2\n".as_slice());
-        }
     }
     Ok(())
 }

@@ -1,53 +1,16 @@
 //! Simulations of which chosen nets are written.
 
-ghost use Rattle.std.specs.Prelude.{◌≡◌, Some};
+ghost use Rattle.std.specs.Prelude.{◌≡◌};
 
-use crate::simulations::{Case, MODES, bench_case, table, text_of};
-use cmb_sim::{
-    Choice, Failed, Fault, FromBytes, Limited, Mode, Pick, Report, Sink, Source, simulate_chosen,
-};
+use crate::cases::{Case, MODES, Told, bench_case, table, takes, told};
+use crate::drips::{Drip, dripping};
+use cmb_sim::{Choice, FromBytes, Limited, Mode, Pick, Report, simulate_chosen};
 use std::alloc::AllocError;
 use std::process::Abort;
 use std::sync::Wait;
 use std::test::Fail;
 use std::thread::Threads;
-
-// Gives its bytes one by one, and fails at the read after a number of them.
-#[derive(Drop)]
-struct List<'a> {
-    rest: &'a [u8],
-    left: u32,
-    failures: u64,
-}
-
-impl<'a> Source for List<'a> {
-    ghost remaining = { λ s. Some s.rest.now };
-
-    ghost failures = { λ s. s.failures };
-
-    fn read(&mut self, buffer: &mut [u8]) -> Result<usize, Failed> {
-        if self.left == 0 {
-            self.failures += 1;
-            return Err(Failed);
-        }
-        self.left -= 1;
-        let count = buffer.len().min(self.rest.len()).min(1);
-        let (front, rest) = self.rest.split_at(count);
-        buffer[..count].copy_from_slice(front);
-        self.rest = rest;
-        Ok(count)
-    }
-}
-
-fn listing(rest: &[u8], left: u32) -> List<'_>
-    ensures { result.failures ≡ 0 }
-{
-    List {
-        rest,
-        left,
-        failures: 0,
-    }
-}
+use worked_inputs::text_of;
 
 // An input, two gates in a row, and a gate that nobody chooses. With delays of one tick `y` is x at tick 0, 1 from
 // tick 1 on and 0 from tick 6 on, and `z` is a tick behind it.
@@ -61,15 +24,15 @@ fn row() -> Case<'static> {
     }
 }
 
-// Simulates with a list and a sink that takes so many bytes.
+// Simulates with a list and a sink that takes so many bytes, and gives the answer and what was written.
 fn run_chosen<R: AllocGlobal + Threads + Wait + Sync>(
     rt: &R,
     case: Case<'_>,
     mode: Mode,
     choice: Choice,
-    list: &mut List<'_>,
+    list: &mut Drip<'_>,
     room: usize,
-) -> Result<(Result<Report, Fault>, Limited), AllocError>
+) -> Result<(Told, Vec<u8>), AllocError>
     requires { list.old.failures ≡ 0 }
 {
     let stimuli = table(rt.alloc(), "tick,net,value", case.stimuli)?;
@@ -86,7 +49,7 @@ fn run_chosen<R: AllocGlobal + Threads + Wait + Sync>(
         choice,
         &mut out,
     );
-    Ok((answer, out))
+    Ok((told(&answer), out.bytes))
 }
 
 // In every mode the text of the chosen nets is that of these references and this body.
@@ -104,9 +67,9 @@ fn shows<R: AllocGlobal + Abort + Threads + Wait + Sync>(
         written: want.len() as u64,
     };
     for mode in MODES {
-        let (answer, out) = run_chosen(rt, row(), mode, choice, &mut listing(names, 1000), 1000)?;
-        assert!(rt; out.bytes.as_slice() == want.as_bytes(), "{body}");
-        assert_eq!(rt; answer?, report, "{body}");
+        let (told, text) = run_chosen(rt, row(), mode, choice, &mut dripping(names, 1000), 1000)?;
+        assert!(rt; text.as_slice() == want.as_bytes(), "{body}");
+        assert_eq!(rt; told, Ok(report), "{body}");
     }
     Ok(())
 }
@@ -147,12 +110,9 @@ fn list_refused<R: AllocGlobal + Abort + Threads + Wait + Sync>(
     want: (u32, u64),
 ) -> Result<(), Fail> {
     for mode in MODES {
-        let (answer, out) = run_chosen(rt, case, mode, LISTED, &mut listing(names, left), 1000)?;
-        match &answer {
-            Ok(_) => assert!(rt; false, "the list is read"),
-            Err(fault) => assert_eq!(rt; (fault.number(), fault.place()), want),
-        }
-        assert_eq!(rt; out.bytes.len(), 0);
+        let (told, text) = run_chosen(rt, case, mode, LISTED, &mut dripping(names, left), 1000)?;
+        assert_eq!(rt; told, Err(want));
+        assert!(rt; text.is_empty());
     }
     Ok(())
 }
@@ -171,26 +131,21 @@ fn each_read_of_a_list_fails(rt: HostRuntime) -> Result<(), Fail> {
     for left in 0..3u32 {
         list_refused(&rt, row(), b"y\n", left, (61, 5))?;
     }
-    let mut names = listing(b"y\n", 3);
-    let (answer, _) = run_chosen(&rt, row(), Mode::Plain, LISTED, &mut names, 1000)?;
-    assert!(rt; answer.is_ok());
+    let mut names = dripping(b"y\n", 3);
+    let (told, _) = run_chosen(&rt, row(), Mode::Plain, LISTED, &mut names, 1000)?;
+    assert!(rt; told.is_ok());
     Ok(())
 }
 
-// A sink that takes so many bytes of the text of `y` and then fails.
-fn output_fails_after<R: AllocGlobal + Abort + Threads + Wait + Sync>(
+// A sink that takes so many bytes of the text of `y`.
+fn takes_chosen<R: AllocGlobal + Abort + Threads + Wait + Sync>(
     rt: &R,
     mode: Mode,
     text: &str,
     room: usize,
 ) -> Result<(), Fail> {
-    let (answer, out) = run_chosen(rt, row(), mode, LISTED, &mut listing(b"y", 100), room)?;
-    match &answer {
-        Ok(report) => assert_eq!(rt; (text.len(), report.written), (room, room as u64)),
-        Err(fault) => assert_eq!(rt; (fault.number(), fault.place()), (62, room as u64)),
-    }
-    assert_eq!(rt; out.bytes.len(), room);
-    assert!(rt; text.as_bytes().starts_with(out.bytes.as_slice()));
+    let outcome = run_chosen(rt, row(), mode, LISTED, &mut dripping(b"y", 100), room)?;
+    takes(rt, outcome, text, room);
     Ok(())
 }
 
@@ -198,10 +153,10 @@ fn output_fails_after<R: AllocGlobal + Abort + Threads + Wait + Sync>(
 fn each_write_of_chosen_nets_fails(rt: HostRuntime) -> Result<(), Fail> {
     let text = text_of(rt.alloc(), "y", "#0 x! #1 1! #6 0! #10")?;
     for room in 0..=text.len() {
-        output_fails_after(&rt, Mode::Plain, text.as_str(), room)?;
+        takes_chosen(&rt, Mode::Plain, text.as_str(), room)?;
     }
     for mode in MODES {
-        output_fails_after(&rt, mode, text.as_str(), 17)?;
+        takes_chosen(&rt, mode, text.as_str(), 17)?;
     }
     Ok(())
 }

@@ -1,7 +1,7 @@
 //! Faults of the netlist and of the settings.
 
-use crate::simulations::waves::{inverter, toggle};
-use crate::simulations::{Case, bench_case, clocked, refuses, refuses_in, writes};
+use crate::cases::{Case, bench_case, clocked, refuses, refuses_in, writes};
+use crate::waves::{inverter, toggle};
 use cmb_sim::{Mode, Settings};
 use std::alloc::{AllocError, Global};
 use std::test::Fail;

@@ -1,7 +1,7 @@
-//! The explanations of faults, beside the library's own texts.
+//! The library's texts of faults, beside their explanations.
 
-use cmb_explain::{Place, explained, explanation_of, fault_list};
-use cmb_sim::{BenchFault, DesignFault, Fault, FaultKind};
+use cmb_explain::explanation_of;
+use cmb_sim::{BenchFault, DesignFault, Fault, FaultKind, fault_line};
 use std::alloc::Global;
 use std::process::Abort;
 use std::test::Fail;
@@ -80,33 +80,8 @@ fn meanings_of_runs(rt: HostRuntime) -> Result<(), Fail> {
 }
 
 #[test]
-fn explanations_of_numbers(rt: HostRuntime) -> Result<(), Fail> {
-    let alloc = rt.alloc();
-    match explained(alloc, 35)? {
-        Some(text) => assert!(rt;
-            text.as_str()
-                .starts_with("Fault 35 at P: the net has no such pin\nP is the record"),
-            "{text}"
-        ),
-        None => assert!(rt; false),
-    }
-    for number in [0, 9, 19, 39, 41, 52, 55, 59, 63, 69, 71] {
-        assert!(rt; explained(alloc, number)?.is_none(), "{number}");
-    }
-    let place = explanation_of(62).map(|entry| entry.place);
-    assert!(rt; place == Some(Place::Bytes));
-    Ok(())
-}
-
-#[test]
-fn list_of_faults(rt: HostRuntime) -> Result<(), Fail> {
-    let list = fault_list(rt.alloc())?;
-    for row in [
-        "\n 1  line    a byte that no netlist has\n 2  line    not a statement\n",
-        "\n22  0       a flip-flop has no clock row, and there is no common clock\n23  record  not",
-        "\n62  bytes   the output failed\n70  0       out of memory\n",
-    ] {
-        assert!(rt; list.as_str().contains(row), "{row}");
-    }
+fn line_of_a_fault(rt: HostRuntime) -> Result<(), Fail> {
+    let line = fault_line(rt.alloc(), &Fault::Write { written: 70 })?;
+    assert!(rt; line.as_slice() == b"cmbsim: fault 62 at 70\n".as_slice());
     Ok(())
 }

@@ -1,7 +1,7 @@
 //! The tables of delays, stimuli and clocks.
 
-use crate::simulations::waves::{inverter, pulse, two_flops};
-use crate::simulations::{Case, clocked, refuses, writes};
+use crate::cases::{Case, clocked, refuses, writes};
+use crate::waves::{inverter, pulse, two_flops};
 use cmb_sim::Settings;
 use std::test::Fail;
 

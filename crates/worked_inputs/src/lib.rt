@@ -1,0 +1,10 @@
+//! What worked examples are made of: designs of given texts, clusterings of them, and the VCD text of given lines.
+#![tactic(auto)]
+
+pub mod clusterings;
+pub mod designs;
+pub mod texts;
+
+pub use clusterings::spread;
+pub use designs::{Inputs, bare, design_of, judged_design, sampled, stimulated};
+pub use texts::text_of;

@@ -1,0 +1,133 @@
+//! Sources and sinks that fail, and inputs that are too large.
+
+use crate::cases::{MODES, Told, bench_case, clocked, refuses, run_within, takes, told};
+use crate::drips::dripping;
+use crate::waves::{inverter, toggle};
+use cmb_sim::{FromBytes, Limited, Mode, simulate};
+use std::alloc::{AllocError, Global};
+use std::process::Abort;
+use std::sync::Wait;
+use std::test::Fail;
+use std::thread::Threads;
+use worked_inputs::text_of;
+
+// Simulates the inverter with sources that fail after so many reads each.
+fn run_drips<R: AllocGlobal + Threads + Wait + Sync>(
+    rt: &R,
+    mode: Mode,
+    reads: [u32; 4],
+) -> (Told, Vec<u8>) {
+    let case = inverter();
+    let mut out = Limited::new(rt.alloc(), 1000);
+    let answer = simulate(
+        rt,
+        &mut dripping(case.bench, reads[0]),
+        &mut dripping(b"by,name,delay\n", reads[1]),
+        &mut dripping(b"tick,net,value\n0,a,0\n5,a,1\n", reads[2]),
+        &mut dripping(b"net,first,period\n", reads[3]),
+        case.settings,
+        mode,
+        &mut out,
+    );
+    (told(&answer), out.bytes)
+}
+
+// How many reads each source needs: one for each byte, and one for the end.
+const READS: [u32; 4] = [30, 15, 28, 18];
+
+// The input with this number fails at each of its reads in turn.
+fn fails_at_each_read<R: AllocGlobal + Abort + Threads + Wait + Sync>(
+    rt: &R,
+    mode: Mode,
+    input: u32,
+) -> Result<(), Fail> {
+    let index = input.saturating_sub(1) as usize;
+    let mut reads = READS;
+    for left in 0..100u32 {
+        if index < 4 {
+            reads[index] = left;
+        }
+        let (told, text) = run_drips(rt, mode, reads);
+        if let Ok(report) = told {
+            assert_eq!(rt; READS.get(index).copied(), Some(left));
+            assert_eq!(rt; report.written, 190);
+            return Ok(());
+        }
+        assert_eq!(rt; told, Err((61, u64::from(input))));
+        assert!(rt; text.is_empty());
+    }
+    Err(Fail::from("it always fails"))
+}
+
+#[test]
+fn each_read_fails(rt: HostRuntime) -> Result<(), Fail> {
+    for mode in MODES {
+        for input in 1..5u32 {
+            fails_at_each_read(&rt, mode, input)?;
+        }
+    }
+    Ok(())
+}
+
+#[test]
+fn short_sink(rt: HostRuntime) -> Result<(), Fail> {
+    for mode in MODES {
+        let outcome = run_within(&rt, inverter(), mode, 17)?;
+        takes(&rt, outcome, "$version cmbsim 1 $end", 17);
+    }
+    Ok(())
+}
+
+#[test]
+fn each_write_fails(rt: HostRuntime) -> Result<(), Fail> {
+    let body = "#0 0! x\" #1 1\" #3 1! #4 0\" #7 0! #8 1\" #11 1! #12";
+    let text = text_of(rt.alloc(), "q d", body)?;
+    assert_eq!(rt; text.len(), 209);
+    for mode in MODES {
+        for room in 0..=209usize {
+            let outcome = run_within(&rt, clocked(toggle(), 2, 4), mode, room)?;
+            takes(&rt, outcome, text.as_str(), room);
+        }
+    }
+    Ok(())
+}
+
+const SEVENTEEN: &str =
+    "INPUT(a1) INPUT(a2) INPUT(a3) INPUT(a4) INPUT(a5) INPUT(a6) INPUT(a7) INPUT(a8) INPUT(a9)
+INPUT(a10) INPUT(a11) INPUT(a12) INPUT(a13) INPUT(a14) INPUT(a15) INPUT(a16) INPUT(a17)";
+
+// So many blanks. It stands apart, so that no proof computes a list of that length.
+fn blanks(alloc: Global, len: usize) -> Result<Vec<u8>, AllocError> {
+    Vec::from_elem(alloc, b' ', len)
+}
+
+// The long text, or none.
+fn either(is_long: bool, long: &[u8]) -> &[u8] {
+    if is_long { long } else { &[] }
+}
+
+// The input with this number has one byte too many.
+fn too_long<R: AllocGlobal + Abort + Threads + Wait + Sync>(rt: &R, long: &[u8], input: u64) {
+    let mut out = Limited::new(rt.alloc(), 1000);
+    let answer = simulate(
+        rt,
+        &mut FromBytes::new(either(input == 1, long)),
+        &mut FromBytes::new(either(input == 2, long)),
+        &mut FromBytes::new(either(input == 3, long)),
+        &mut FromBytes::new(either(input == 4, long)),
+        inverter().settings,
+        Mode::Plain,
+        &mut out,
+    );
+    assert_eq!(rt; told(&answer), Err((60, input)));
+}
+
+#[test]
+fn too_large(rt: HostRuntime) -> Result<(), Fail> {
+    refuses(&rt, bench_case(SEVENTEEN.as_bytes(), 1_000_000), 33, 0)?;
+    let long = blanks(rt.alloc(), 16_777_217)?;
+    for input in 1..5u64 {
+        too_long(&rt, long.as_slice(), input);
+    }
+    Ok(())
+}
