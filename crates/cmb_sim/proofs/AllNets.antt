@@ -19,7 +19,7 @@ use Rattle.cmb_line.specs.declared.mode.Mode.{Mode}
 use Rattle.cmb_sim.proofs.Outcomes.{SpellDesign-of}
 use Rattle.cmb_sim.specs.Choosing.{AreChosen, Choose, IsChosenOutcome}
 use Rattle.cmb_sim.specs.Simulation.{HasTaken, Input, Inputs, IsOutcome, Output, report_of}
-use Rattle.cmb_sim.specs.declared.simulation.Report.{Report}
+use Rattle.cmb_inout.specs.declared.answer.Report.{Report}
 
 filter_all : (p : ℕ → Bool) (xs : List ℕ) → All (λ x. p x ≡ true) xs → filter p xs ≡ xs
 filter_all p [] all = refl

@@ -16,9 +16,9 @@ use Rattle.cmb_sim.proofs.RoundRuns.{no_checks}
 use Rattle.cmb_sim.specs.Choosing.{AreAllTexts, AreChosen, Choose, IsChosenAnswer, IsChosenAnswerOf, IsChosenOutcome, IsListText, chosen_report}
 use Rattle.cmb_sim.specs.Simulation.{AreTexts, HasNotFailed, HasTaken, Input, Inputs, NoneFailedBut, Output, Texts, failed_input, mode_checks, output}
 use Rattle.cmb_sim.specs.Stages.{CanRun, HaveTextFault, IsUnchosen, IsUnread, IsUnshown, LacksTexts, SpellAny}
-use Rattle.cmb_sim.specs.declared.fault.Fault.{Fault}
-use Rattle.cmb_sim.specs.declared.fault.Fault.TheVariants as fault
-use Rattle.cmb_sim.specs.declared.simulation.Report.{Report}
+use Rattle.cmb_inout.specs.declared.fault.Fault.{Fault}
+use Rattle.cmb_inout.specs.declared.fault.Fault.TheVariants as fault
+use Rattle.cmb_inout.specs.declared.answer.Report.{Report}
 use Rattle.cmb_sim.specs.declared.texts.InputTexts.{InputTexts}
 
 -- the check of mode plain

@@ -7,8 +7,8 @@ use Rattle.cmb_sim.specs.Checking.{IsChecked, IsCountOf}
 use Rattle.cmb_sim.specs.Simulation.{AreTexts, Inputs, NoneFailedBut, Output, Texts, failed_input, output}
 use Rattle.cmb_sim.specs.Stages.{HaveTextFault, IsReading, LacksDesign, LacksTexts}
 use Rattle.cmb_sim.specs.Tasks.{AreUnwritten, IsCheck}
-use Rattle.cmb_sim.specs.declared.fault.Fault.{Fault}
-use Rattle.cmb_sim.specs.declared.fault.Fault.TheVariants as fault
+use Rattle.cmb_inout.specs.declared.fault.Fault.{Fault}
+use Rattle.cmb_inout.specs.declared.fault.Fault.TheVariants as fault
 use Rattle.cmb_sim.specs.declared.texts.InputTexts.{InputTexts}
 
 -- an input wasn't read

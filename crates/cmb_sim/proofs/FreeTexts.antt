@@ -9,7 +9,7 @@ use Rattle.cmb_stream.specs.declared.fault.StreamFault.{StreamFault}
 use Rattle.cmb_stream.specs.declared.fault.StreamFault.TheVariants as stream_fault
 use Rattle.cmb_line.specs.declared.mode.Mode.{Mode}
 use Rattle.cmb_line.specs.declared.mode.Mode.TheVariants.{Free}
-use Rattle.cmb_sim.specs.Numbers.{run_as_fault, stream_as_fault}
+use Rattle.cmb_inout.specs.Numbers.{run_as_fault, stream_as_fault}
 use Rattle.cmb_sim.specs.Simulation.{IsFree, output}
 use Rattle.cmb_sim.specs.Stages.{CanRun, IsUnwritten}
 

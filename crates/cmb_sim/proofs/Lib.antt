@@ -1,9 +1,7 @@
 pub mod AllNets
 pub mod Chosen
 pub mod Counted
-pub mod Explained
 pub mod FreeTexts
-pub mod Known
 pub mod Outcomes
 pub mod PlainRuns
 pub mod RoundRuns

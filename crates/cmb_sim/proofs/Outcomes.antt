@@ -15,12 +15,12 @@ use Rattle.cmb_design.specs.declared.rows.StimulusRow.{StimulusRow}
 use Rattle.cmb_design.specs.declared.rows.ClockRow.{ClockRow}
 use Rattle.cmb_design.specs.declared.settings.Settings.{Settings}
 use Rattle.cmb_line.specs.declared.mode.Mode.{Mode}
-use Rattle.cmb_sim.specs.Numbers.{design_as_fault}
+use Rattle.cmb_inout.specs.Numbers.{design_as_fault}
 use Rattle.cmb_sim.specs.Simulation.{AreTexts, HaveDesign, Inputs, IsAnswer, IsOutcome, IsUntouched, NoneFailedBut, Output, SpellDesign, Texts, design_in, failed_input, mode_checks, output, report_of, text_checks}
 use Rattle.cmb_sim.specs.Stages.{CanBeInputs, CanRun, FoundDesign, HaveTextFault, IsAnswerOf, IsUnrun, IsUnwritten, IsWriting, LacksDesign, LacksTexts, SpellAny}
-use Rattle.cmb_sim.specs.declared.fault.Fault.{Fault}
-use Rattle.cmb_sim.specs.declared.fault.Fault.TheVariants as fault
-use Rattle.cmb_sim.specs.declared.simulation.Report.{Report}
+use Rattle.cmb_inout.specs.declared.fault.Fault.{Fault}
+use Rattle.cmb_inout.specs.declared.fault.Fault.TheVariants as fault
+use Rattle.cmb_inout.specs.declared.answer.Report.{Report}
 use Rattle.cmb_sim.specs.declared.texts.InputTexts.{InputTexts}
 
 -- memory ran out, or this is the fault of the first check that stands

@@ -12,11 +12,11 @@ use Rattle.cmb_line.specs.declared.choice.Pick.{Pick}
 use Rattle.cmb_line.specs.declared.choice.Pick.TheVariants.{Listed, Outputs}
 use Rattle.cmb_line.specs.declared.mode.Mode.{Mode}
 use Rattle.cmb_sim.specs.Simulation.{AreTexts, HasFailed, HasNotFailed, HasTaken, HasTooMany, Input, Inputs, IsCutAfter, IsOutcome, IsUntouched, NoneFailedBut, Output, StopsAt, Texts, failed_input}
-use Rattle.cmb_sim.specs.Sources.{IsWhole}
+use Rattle.cmb_inout.specs.Sources.{IsWhole}
 use Rattle.cmb_sim.specs.Stages.{CanRun, HaveTextFault, IsUnrun, SpellAny}
-use Rattle.cmb_sim.specs.declared.fault.Fault.{Fault}
-use Rattle.cmb_sim.specs.declared.fault.Fault.TheVariants as fault
-use Rattle.cmb_sim.specs.declared.simulation.Report.{Report}
+use Rattle.cmb_inout.specs.declared.fault.Fault.{Fault}
+use Rattle.cmb_inout.specs.declared.fault.Fault.TheVariants as fault
+use Rattle.cmb_inout.specs.declared.answer.Report.{Report}
 
 -- the nets that are chosen of a design, each once and by rising number: those that a list names, or the outputs
 abbrev pub AreChosen : Pick → Design → List ℕ → List ℕ → Type 0

@@ -19,11 +19,11 @@ use Rattle.cmb_vcd.specs.declared.sink.Sink as sink
 use Rattle.cmb_line.specs.Modes.{IsLawfulCount, clusters_of, workers_of}
 use Rattle.cmb_line.specs.declared.mode.Mode.{Mode}
 use Rattle.cmb_line.specs.declared.mode.Mode.TheVariants.{Plain, Rounds, Free, Shared, SharedFree}
-use Rattle.cmb_sim.specs.Sources.{IsTooLong, IsWhole}
-use Rattle.cmb_sim.specs.declared.fault.Fault.{Fault}
-use Rattle.cmb_sim.specs.declared.fault.Fault.TheVariants as fault
-use Rattle.cmb_sim.specs.declared.simulation.Report.{Report}
-use Rattle.cmb_sim.specs.declared.source.Source as source
+use Rattle.cmb_inout.specs.Sources.{IsTooLong, IsWhole}
+use Rattle.cmb_inout.specs.declared.fault.Fault.{Fault}
+use Rattle.cmb_inout.specs.declared.fault.Fault.TheVariants as fault
+use Rattle.cmb_inout.specs.declared.answer.Report.{Report}
+use Rattle.cmb_inout.specs.declared.source.Source as source
 
 -- ---- the texts
 

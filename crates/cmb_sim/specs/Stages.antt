@@ -16,10 +16,10 @@ use Rattle.cmb_line.specs.declared.choice.Pick.{Pick}
 use Rattle.cmb_line.specs.declared.choice.Pick.TheVariants.{Listed}
 use Rattle.cmb_line.specs.declared.mode.Mode.{Mode}
 use Rattle.cmb_sim.specs.Simulation.{AreTexts, HasFailed, HasTaken, HasTooMany, Input, Inputs, IsAnswer, IsCutAfter, IsFree, IsUntouched, NoneFailedBut, Output, StopsAt, Texts, design_in, failed_input, mode_checks, text_checks}
-use Rattle.cmb_sim.specs.Sources.{input_limit}
-use Rattle.cmb_sim.specs.declared.fault.Fault.{Fault}
-use Rattle.cmb_sim.specs.declared.fault.Fault.TheVariants as fault
-use Rattle.cmb_sim.specs.declared.simulation.Report.{Report}
+use Rattle.cmb_inout.specs.Sources.{input_limit}
+use Rattle.cmb_inout.specs.declared.fault.Fault.{Fault}
+use Rattle.cmb_inout.specs.declared.fault.Fault.TheVariants as fault
+use Rattle.cmb_inout.specs.declared.answer.Report.{Report}
 use Rattle.cmb_sim.specs.declared.texts.InputTexts.{InputTexts}
 
 -- an input with this number wasn't read whole

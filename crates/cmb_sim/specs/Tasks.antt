@@ -10,10 +10,10 @@ use Rattle.cmb_sim.specs.Checking.{IsChecked}
 use Rattle.cmb_sim.specs.Choosing.{IsChosenOutcome}
 use Rattle.cmb_sim.specs.Simulation.{HasNotFailed, HasTaken, Input, Inputs, IsCutAfter, IsUntouched, NoneFailedBut, Output, failed_input}
 use Rattle.cmb_sim.specs.Stages.{IsCutShort, LacksDesign}
-use Rattle.cmb_sim.specs.declared.carrying.Done.{Done}
-use Rattle.cmb_sim.specs.declared.carrying.Done.TheVariants.{Ran, Checked}
-use Rattle.cmb_sim.specs.declared.fault.Fault.{Fault}
-use Rattle.cmb_sim.specs.declared.fault.Fault.TheVariants as fault
+use Rattle.cmb_inout.specs.declared.answer.Done.{Done}
+use Rattle.cmb_inout.specs.declared.answer.Done.TheVariants.{Ran, Checked}
+use Rattle.cmb_inout.specs.declared.fault.Fault.{Fault}
+use Rattle.cmb_inout.specs.declared.fault.Fault.TheVariants as fault
 
 -- a run answers as a simulation of the line's choice of nets does
 abbrev pub IsRun : Line → Inputs → Input → Output → Result Done Fault → Type 0

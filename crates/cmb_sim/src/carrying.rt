@@ -7,25 +7,14 @@ ghost use Rattle.cmb_sim.specs.Tasks.{AreUnwritten, IsDone};
 
 use crate::check::check_design;
 use crate::choosing::simulate_chosen;
-use crate::fault::Fault;
 use crate::running::write_text;
-use crate::simulation::Report;
-use crate::source::Source;
 use cmb_count::{Counts, counts_text};
+use cmb_inout::{Done, Fault, Source};
 use cmb_line::{Line, Task};
 use cmb_vcd::Sink;
 use std::alloc::Global;
 use std::sync::Wait;
 use std::thread::Threads;
-
-/// What was done.
-#[derive(Clone, Copy, Debug, PartialEq, Eq)]
-pub enum Done {
-    /// The waveforms were written.
-    Ran(Report),
-    /// The counts were written.
-    Checked(Counts),
-}
 
 // Writes the counts, a line for each.
 fn write_counts<O: Sink>(alloc: Global, counts: &Counts, out: &mut O) -> Result<(), Fault>

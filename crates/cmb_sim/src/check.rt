@@ -5,12 +5,11 @@ ghost use Rattle.cmb_sim.specs.Checking.{IsChecked, IsCountOf};
 ghost use Rattle.cmb_sim.specs.Simulation.{inputs_of, read_from};
 ghost use Rattle.cmb_sim.specs.Stages.{CanBeInputs, HaveTextFault, IsReading, LacksDesign, texts_in};
 
-use crate::fault::Fault;
 use crate::simulation::spelled_design;
-use crate::source::Source;
 use crate::texts::{InputTexts, read_texts};
 use cmb_count::{Counts, count_design};
 use cmb_design::Settings;
+use cmb_inout::{Fault, Source};
 use std::alloc::Global;
 
 // What there is in the design that texts spell.

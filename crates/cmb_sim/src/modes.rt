@@ -8,9 +8,9 @@ ghost use Rattle.cmb_line.specs.Modes.{IsLawfulCount, clusters_of, workers_of};
 ghost use Rattle.cmb_sim.specs.Simulation.{IsFree, mode_checks};
 ghost use Rattle.cmb_sim.specs.Stages.{CanRun, IsUnrun};
 
-use crate::fault::Fault;
 use cmb_design::plain::MOST_CELLS;
 use cmb_design::{Design, DesignFault};
+use cmb_inout::Fault;
 use cmb_line::Mode;
 
 // How many clusters a mode asks for.

@@ -8,11 +8,11 @@ ghost use Rattle.cmb_sim.specs.Simulation.{HasTaken, IsFree, written_to};
 ghost use Rattle.cmb_sim.specs.Stages.{CanRun, IsCutShort, IsWritten};
 ghost use Rattle.cmb_vcd.specs.Vcd.{vcd};
 
-use crate::fault::Fault;
 use crate::modes::{is_free, threads_in};
 use cmb_core::{Clustering, ClusteringFault};
 use cmb_design::{Design, DesignFault, plain_waves};
 use cmb_free::{OpenGate, run_free_text};
+use cmb_inout::Fault;
 use cmb_line::Mode;
 use cmb_links::Workers;
 use cmb_rounds::run_rounds;

@@ -4,29 +4,17 @@ ghost use Rattle.std.specs.Prelude.{◌-◌, ◌^◌, ◌<◌, IfOk, IfErr};
 ghost use Rattle.cmb_sim.specs.Simulation.{IsOutcome, inputs_of, read_from, report_of, written_to};
 ghost use Rattle.cmb_sim.specs.Stages.{CanBeInputs, HaveTextFault, IsAnswerOf, IsWriting, SpellAny, texts_in};
 
-use crate::fault::Fault;
 use crate::modes::check_mode;
 use crate::running::write_by;
-use crate::source::Source;
 use crate::texts::{InputTexts, read_texts};
 use cmb_bench::read_bench;
 use cmb_design::{Design, Settings, read_clocks, read_delays, read_stimuli};
+use cmb_inout::{Fault, Report, Source};
 use cmb_line::Mode;
 use cmb_vcd::Sink;
 use std::alloc::Global;
 use std::sync::Wait;
 use std::thread::Threads;
-
-/// What was simulated and written.
-#[derive(Clone, Copy, Debug, PartialEq, Eq)]
-pub struct Report {
-    /// How many nets the design has.
-    pub nets: u32,
-    /// The ticks below it were simulated.
-    pub horizon: u32,
-    /// How many bytes the text has.
-    pub written: u64,
-}
 
 // The design that texts spell.
 pub(crate) fn spelled_design(

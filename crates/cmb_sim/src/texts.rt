@@ -2,12 +2,10 @@
 
 ghost use Rattle.std.specs.Prelude.{◌≡◌, ◌-◌, ◌^◌, ◌<◌, IfOk, IfErr};
 ghost use Rattle.cmb_sim.specs.Simulation.{failed_input, inputs_of, read_from};
-ghost use Rattle.cmb_sim.specs.Sources.{IsWhole};
+ghost use Rattle.cmb_inout.specs.Sources.{IsWhole};
 ghost use Rattle.cmb_sim.specs.Stages.{HaveTexts, IsReading, IsUnread, LacksTexts};
 
-use crate::fault::Fault;
-use crate::reading::{ReadFault, read_whole};
-use crate::source::Source;
+use cmb_inout::{Fault, ReadFault, Source, read_whole};
 use std::alloc::Global;
 
 /// What the four inputs have.

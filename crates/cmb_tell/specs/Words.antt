@@ -1,7 +1,7 @@
 -- What is said of a run or a check that was done.
 use Rattle.std.specs.Prelude.{ℕ, List, codes}
-use Rattle.cmb_sim.specs.declared.carrying.Done.{Done}
-use Rattle.cmb_sim.specs.declared.carrying.Done.TheVariants.{Ran, Checked}
+use Rattle.cmb_inout.specs.declared.answer.Done.{Done}
+use Rattle.cmb_inout.specs.declared.answer.Done.TheVariants.{Ran, Checked}
 
 abbrev pub nets_of : Done → ℕ
 nets_of (Ran report) = report.nets

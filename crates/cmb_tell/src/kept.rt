@@ -3,7 +3,8 @@
 ghost use Rattle.std.specs.Prelude.{◌≡◌, ◌+◌, ◌-◌, ◌^◌, ◌<◌, ◌≤◌, [], if◌then◌else◌, length, IfOk, MatchResult};
 ghost use Rattle.std.specs.Io.KnownBytes.{ReadConsumes};
 
-use cmb_sim::{Failed, Source};
+use cmb_inout::Source;
+use cmb_vcd::Failed;
 use std::alloc::Global;
 
 /// A source that keeps a copy of what it gave, where that is asked for and as long as memory allows.

@@ -1,6 +1,7 @@
 //! A source that notes when it was read last.
 
-use cmb_sim::{Failed, Source};
+use cmb_inout::Source;
+use cmb_vcd::Failed;
 use std::time::{Clock, Instant};
 
 /// A source that notes when it was read last.

@@ -6,7 +6,8 @@ ghost use Rattle.cmb_vcd.specs.Ends.{write_failures};
 ghost use Rattle.cmb_tell.specs.Tallies.{lengthened, no_text, tallied, went_by};
 
 use crate::tally::Tally;
-use cmb_sim::{Failed, Line, Sink};
+use cmb_line::Line;
+use cmb_vcd::{Failed, Sink};
 use std::alloc::{AllocError, Global};
 use std::io::Write;
 use std::time::{Clock, Duration, Instant};

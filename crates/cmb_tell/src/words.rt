@@ -8,8 +8,10 @@ use crate::netlist::{line_at, undriven};
 use crate::record::{push_wrong, record_at};
 use crate::table::{Table, table_of, text_of};
 use cmb_bench::{MAX_TEXT, read_bench};
+use cmb_design::Settings;
 use cmb_explain::{Explanation, Place, explanation_of};
-use cmb_sim::{Done, Fault, Line, Settings};
+use cmb_inout::{Done, Fault};
+use cmb_line::Line;
 use std::alloc::{AllocError, Global};
 
 /// What a run or a check was given. A text that wasn't kept is empty.

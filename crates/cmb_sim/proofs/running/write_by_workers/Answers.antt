@@ -4,7 +4,7 @@ use Rattle.cmb_line.specs.declared.mode.Mode.TheVariants.{Free}
 use Rattle.cmb_sim.proofs.FreeTexts.{IsUnwritten-cut}
 use Rattle.cmb_sim.proofs.Outcomes.{untouched}
 use Rattle.cmb_sim.proofs.Runs.{IsWriting-not}
-use Rattle.cmb_sim.specs.declared.fault.Fault.TheVariants.{Memory}
+use Rattle.cmb_inout.specs.declared.fault.Fault.TheVariants.{Memory}
 use Rattle.cmb_sim.proofs.running.write_by_workers.Goals as goal
 
 pub returns-in_err-clustering : goal.returns-in_err-clustering

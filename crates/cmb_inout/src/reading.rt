@@ -2,7 +2,7 @@
 
 ghost use Rattle.std.specs.Prelude.{◌≡◌, ◌+◌, ◌-◌, ◌^◌, ◌<◌, IfOk, OnOk, vec_len};
 ghost use Rattle.std.specs.Io.KnownBytes.{IsAtEnd};
-ghost use Rattle.cmb_sim.specs.Sources.{IsWhole, IsTooLong};
+ghost use Rattle.cmb_inout.specs.Sources.{IsWhole, IsTooLong};
 
 use crate::source::Source;
 use cmb_bench::MAX_TEXT;

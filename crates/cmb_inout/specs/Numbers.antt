@@ -13,8 +13,8 @@ use Rattle.cmb_run.specs.declared.run_fault.RunFault.{RunFault}
 use Rattle.cmb_run.specs.declared.run_fault.RunFault.TheVariants as run_fault
 use Rattle.cmb_stream.specs.declared.fault.StreamFault.{StreamFault}
 use Rattle.cmb_stream.specs.declared.fault.StreamFault.TheVariants as stream_fault
-use Rattle.cmb_sim.specs.declared.fault.Fault.{Fault}
-use Rattle.cmb_sim.specs.declared.fault.Fault.TheVariants.{Bench, Design, Unknown, Clusters, Incomplete, Workers, TooLong, Read, Write, Memory}
+use Rattle.cmb_inout.specs.declared.fault.Fault.{Fault}
+use Rattle.cmb_inout.specs.declared.fault.Fault.TheVariants.{Bench, Design, Unknown, Clusters, Incomplete, Workers, TooLong, Read, Write, Memory}
 
 abbrev pub number_of : Fault → ℕ
 number_of (Bench fault) = number_of_fault fault.kind

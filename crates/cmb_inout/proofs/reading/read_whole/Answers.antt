@@ -1,7 +1,7 @@
 use Rattle.std.proofs.Common.{rules, arith, length-append, length-take}
 use Rattle.std.proofs.KnownBytes.{Consumes-trans}
-use Rattle.cmb_sim.proofs.Known.{IsWhole-after, IsTooLong-of, Consumes-more}
-use Rattle.cmb_sim.proofs.reading.read_whole.Goals as goal
+use Rattle.cmb_inout.proofs.Known.{IsWhole-after, IsTooLong-of, Consumes-more}
+use Rattle.cmb_inout.proofs.reading.read_whole.Goals as goal
 
 pub returns-then-count-eq0-clause-whole : goal.returns-then-count-eq0-clause-whole
 returns-then-count-eq0-clause-whole g c =

@@ -1,7 +1,7 @@
 use Rattle.std.proofs.Common.{◌≡◌, ◌-◌, ◌<◌, ◌≤◌, length, vec_len}
 use Rattle.std.specs.Io.KnownBytes.{Consumes}
-use Rattle.cmb_sim.specs.Sources.{input_limit}
-use Rattle.cmb_sim.proofs.reading.read_whole.Given as goal
+use Rattle.cmb_inout.specs.Sources.{input_limit}
+use Rattle.cmb_inout.proofs.reading.read_whole.Given as goal
 
 -- what was read so far is the front of what the source had
 abbrev pub invariant-loop-count : goal.invariant-loop-count

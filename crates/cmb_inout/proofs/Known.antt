@@ -2,7 +2,7 @@
 use Rattle.std.proofs.Common.{◌≡◌, ℕ, ◌<◌, ◌≤◌, List, [], ◌++◌, None, Some, Option, ap, ◌∙◌, arith, length, length-append, append-nil, take, subst, sym}
 use Rattle.std.specs.Io.KnownBytes.{Consumes, IsAtEnd}
 use Rattle.std.proofs.KnownBytes.{Consumes-trans}
-use Rattle.cmb_sim.specs.Sources.{AreAll, IsWhole, IsTooLong, input_limit}
+use Rattle.cmb_inout.specs.Sources.{AreAll, IsWhole, IsTooLong, input_limit}
 
 -- what was read up to the end is all that there was
 pub AreAll-at_end : (a b : Option (List ℕ)) (xs : List ℕ) → Consumes a b xs → IsAtEnd b → AreAll a xs

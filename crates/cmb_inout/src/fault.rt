@@ -1,8 +1,8 @@
 //! Why a simulation didn't write its text.
 
 ghost use Rattle.std.specs.Prelude.{◌≡◌, IfOk};
-ghost use Rattle.cmb_sim.specs.Numbers.{bench_as_fault, design_as_fault, line_of, list_as_fault, number_of, place_of};
-ghost use Rattle.cmb_sim.specs.Numbers.{run_as_fault, stream_as_fault};
+ghost use Rattle.cmb_inout.specs.Numbers.{bench_as_fault, design_as_fault, line_of, list_as_fault, number_of, place_of};
+ghost use Rattle.cmb_inout.specs.Numbers.{run_as_fault, stream_as_fault};
 
 use cmb_bench::{BenchFault, FaultKind, ListFault};
 use cmb_design::DesignFault;
@@ -81,7 +81,7 @@ impl From<ListFault> for Fault {
 }
 
 impl From<AllocError> for Fault {
-    ghost use Rattle.cmb_sim.specs.declared.fault.Fault.TheVariants.{Memory};
+    ghost use Rattle.cmb_inout.specs.declared.fault.Fault.TheVariants.{Memory};
 
     ghost from_gives = { λ _ wider. wider ≡ Memory };
 

@@ -8,9 +8,9 @@ use Rattle.cmb_design.specs.declared.fault.DesignFault.{DesignFault}
 use Rattle.cmb_design.specs.declared.fault.DesignFault.TheVariants as design
 use Rattle.cmb_design.specs.Faults.{fault_number}
 use Rattle.cmb_explain.specs.Known.{IsFaultNumber, IsNetlistFault, IsSettingsFault, IsTableFault, Within}
-use Rattle.cmb_sim.specs.Numbers.{number_of}
-use Rattle.cmb_sim.specs.declared.fault.Fault.{Fault}
-use Rattle.cmb_sim.specs.declared.fault.Fault.TheVariants.{Bench, Design, Unknown, Clusters, Incomplete, Workers, TooLong, Read, Write, Memory}
+use Rattle.cmb_inout.specs.Numbers.{number_of}
+use Rattle.cmb_inout.specs.declared.fault.Fault.{Fault}
+use Rattle.cmb_inout.specs.declared.fault.Fault.TheVariants.{Bench, Design, Unknown, Clusters, Incomplete, Workers, TooLong, Read, Write, Memory}
 
 -- ---- a fault's number is explained
 
