@@ -89,7 +89,7 @@ fn collect_in<
     's,
     E,
     T: Terms + Send + Sync + 's,
-    C: Collect<T, S> + Drop,
+    C: Collect<T, S>,
     S,
     G: Turnstile + Sync,
     R: Threads + Wait + Sync,
