@@ -3,8 +3,9 @@
 ghost use Rattle.std.specs.Prelude.{◌≤◌, length};
 
 use crate::words::Given;
-use cmb_bench::{MAX_TEXT, read_bench};
-use cmb_design::{Design, DesignFault, Settings, read_clocks, read_delays, read_stimuli};
+use cmb_bench::MAX_TEXT;
+use cmb_design::{DesignFault, Settings, read_clocks, read_delays, read_stimuli};
+use cmb_sim::{Counts, Fault, FromBytes, check_design};
 use std::alloc::Global;
 
 /// A table.
@@ -39,24 +40,19 @@ fn text_if<'a>(given: &Given<'a>, table: Table, wanted: Table) -> &'a [u8]
     }
 }
 
-// A design of the netlist with one table alone, each flip-flop having a clock. Without a netlist it is out of memory.
-fn design_with(alloc: Global, given: &Given<'_>, table: Table) -> Result<Design, DesignFault> {
-    if given.bench.len() > MAX_TEXT {
-        return Err(DesignFault::Memory);
-    }
-    let Ok(netlist) = read_bench(alloc, given.bench) else {
-        return Err(DesignFault::Memory);
+// What a check of the netlist with one table alone answers, each flip-flop having a clock.
+fn checked(alloc: Global, given: &Given<'_>, table: Table) -> Result<Counts, Fault> {
+    let settings = Settings {
+        clock: Some((0, 1)),
+        ..given.settings
     };
-    Design::new(
+    check_design(
         alloc,
-        netlist,
-        read_delays(alloc, text_if(given, Table::Delays, table))?,
-        read_stimuli(alloc, text_if(given, Table::Stimuli, table))?,
-        read_clocks(alloc, text_if(given, Table::Clocks, table))?,
-        Settings {
-            clock: Some((0, 1)),
-            ..given.settings
-        },
+        &mut FromBytes::new(given.bench),
+        &mut FromBytes::new(text_if(given, Table::Delays, table)),
+        &mut FromBytes::new(text_if(given, Table::Stimuli, table)),
+        &mut FromBytes::new(text_if(given, Table::Clocks, table)),
+        settings,
     )
 }
 
@@ -70,18 +66,24 @@ fn reading_fault(alloc: Global, given: &Given<'_>, table: Table) -> Option<Desig
     }
 }
 
+fn table_if(table: Table, has_it: bool) -> Option<Table> {
+    if has_it { Some(table) } else { None }
+}
+
 /// The table in which a fault stands that was found by reading and checking: all tables are read in order, and then
 /// their rows are checked in order, so it is the first that has a fault there. `None` where memory was wanting, or
 /// where none has this fault.
 pub(crate) fn table_of(alloc: Global, given: &Given<'_>, fault: DesignFault) -> Option<Table> {
     for table in TABLES {
         if let Some(found) = reading_fault(alloc, given, table) {
-            return Some(table).filter(|_| found == fault);
+            return table_if(table, found == fault);
         }
     }
     for table in TABLES {
-        if let Err(found) = design_with(alloc, given, table) {
-            return Some(table).filter(|_| found == fault);
+        match checked(alloc, given, table) {
+            Ok(_) => {}
+            Err(Fault::Design(found)) => return table_if(table, found == fault),
+            Err(_) => return None,
         }
     }
     None
