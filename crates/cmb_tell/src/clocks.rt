@@ -1,18 +1,14 @@
 //! Which flip-flop has no clock.
 
+use crate::record::{reader_of, reads_next};
 use cmb_bench::{Driver, Netlist};
-use csv::{ByteRecord, ReaderBuilder};
+use csv::{ByteRecord, Reader};
 use std::alloc::Global;
 
-// A row of a table of clocks is about the net.
-fn has_row(alloc: Global, clocks: &[u8], name: &[u8]) -> bool {
-    let mut reader = ReaderBuilder::new()
-        .has_headers(true)
-        .flexible(true)
-        .from_reader(alloc, clocks);
-    let mut row = ByteRecord::new(alloc);
-    for _ in 0..clocks.len() {
-        if !matches!(reader.read_byte_record(&mut row), Ok(true)) {
+// One of the next rows, of which there are at most so many, is about the net.
+fn names_net(reader: &mut Reader<&[u8]>, row: &mut ByteRecord, most: usize, name: &[u8]) -> bool {
+    for _ in 0..most {
+        if !reads_next(reader, row) {
             return false;
         }
         if row.get(0).map(|field| field.trim_ascii()) == Some(name) {
@@ -20,6 +16,13 @@ fn has_row(alloc: Global, clocks: &[u8], name: &[u8]) -> bool {
         }
     }
     false
+}
+
+// A row of a table of clocks is about the net.
+fn has_row(alloc: Global, clocks: &[u8], name: &[u8]) -> bool {
+    let mut row = ByteRecord::new(alloc);
+    let mut reader = reader_of(alloc, clocks, true);
+    names_net(&mut reader, &mut row, clocks.len(), name)
 }
 
 /// The first flip-flop of a netlist of which a table of clocks has no row.

@@ -2,7 +2,7 @@
 
 use crate::table::Table;
 use cmb_design::DesignFault;
-use csv::{ByteRecord, ReaderBuilder};
+use csv::{ByteRecord, Reader, ReaderBuilder};
 use std::alloc::{AllocError, Global};
 
 /// A record of a table.
@@ -46,22 +46,46 @@ fn line_from(text: &[u8], offset: u64) -> u64 {
     line
 }
 
+/// A reader of a table's records, or of those behind its header.
+pub(crate) fn reader_of<'a>(alloc: Global, text: &'a [u8], skips_header: bool) -> Reader<&'a [u8]> {
+    ReaderBuilder::new()
+        .has_headers(skips_header)
+        .flexible(true)
+        .from_reader(alloc, text)
+}
+
+/// Reads the next record. No: there is none, or no memory.
+pub(crate) fn reads_next(reader: &mut Reader<&[u8]>, record: &mut ByteRecord) -> bool {
+    matches!(reader.read_byte_record(record), Ok(true))
+}
+
+// Reads so many records, and says whether there are as many.
+fn reads_to(reader: &mut Reader<&[u8]>, record: &mut ByteRecord, number: u64) -> bool {
+    for _ in 0..number {
+        if !reads_next(reader, record) {
+            return false;
+        }
+    }
+    true
+}
+
+// The record with a number, counted from 1.
+fn numbered(alloc: Global, text: &[u8], number: u64) -> Option<ByteRecord> {
+    let mut record = ByteRecord::new(alloc);
+    if reads_to(&mut reader_of(alloc, text, false), &mut record, number) {
+        Some(record)
+    } else {
+        None
+    }
+}
+
 /// The record with a number, counted from 1; `None` where there is none, or no memory.
 pub(crate) fn record_at(alloc: Global, text: &[u8], number: u64) -> Option<Found> {
     let text = unmarked(text);
-    let mut reader = ReaderBuilder::new()
-        .has_headers(false)
-        .flexible(true)
-        .from_reader(alloc, text);
-    let mut fields = ByteRecord::new(alloc);
-    for _ in 0..number {
-        if !matches!(reader.read_byte_record(&mut fields), Ok(true)) {
-            return None;
-        }
-    }
-    let at = fields.position()?;
+    let fields = numbered(alloc, text, number)?;
+    let offset = fields.position().map(|at| at.byte());
     Some(Found {
-        line: line_from(text, at.byte()),
+        line: line_from(text, offset?),
         fields,
     })
 }

@@ -7,8 +7,8 @@ use crate::clocks::unclocked;
 use crate::netlist::{line_at, undriven};
 use crate::record::{push_wrong, record_at};
 use crate::table::{Table, table_of, text_of};
-use cmb_bench::{MAX_TEXT, read_bench};
-use cmb_design::Settings;
+use cmb_bench::{MAX_TEXT, Netlist, read_bench};
+use cmb_design::{DesignFault, Settings};
 use cmb_explain::{Explanation, Place, explanation_of};
 use cmb_inout::{Done, Fault};
 use cmb_line::Line;
@@ -50,6 +50,21 @@ fn number_of(table: Table) -> u64 {
     }
 }
 
+// Which net on a line isn't driven, where that is what is wrong.
+fn push_undriven(
+    text: &mut String,
+    bench: &[u8],
+    line: &[u8],
+    is_undriven: bool,
+) -> Result<(), AllocError> {
+    if is_undriven {
+        if let Some(name) = undriven(bench, line) {
+            return write!(text, ": {}, in", name.escape_ascii());
+        }
+    }
+    text.push_str(":")
+}
+
 // A line of the netlist: what is wrong there, and what stands there.
 fn push_line(
     text: &mut String,
@@ -63,12 +78,7 @@ fn push_line(
     if line.is_empty() {
         return Ok(());
     }
-    let is_undriven = entry.number == 6;
-    if let Some(name) = undriven(given.bench, line).filter(|_| is_undriven) {
-        write!(text, ": {}, in", name.escape_ascii())?;
-    } else {
-        text.push_str(":")?;
-    }
+    push_undriven(text, given.bench, line, entry.number == 6)?;
     write!(text, " {}", line.escape_ascii())
 }
 
@@ -77,23 +87,21 @@ fn push_record(
     alloc: Global,
     text: &mut String,
     given: &Given<'_>,
-    fault: &Fault,
+    fault: DesignFault,
     meaning: &str,
 ) -> Result<(), AllocError> {
-    let place = fault.place();
-    let Fault::Design(fault) = fault else {
-        return write!(text, "a table, record {place}: {meaning}");
-    };
-    let Some(table) = table_of(alloc, given, *fault) else {
+    let place = fault.record();
+    let Some(table) = table_of(alloc, given, fault) else {
         return write!(text, "a table, record {place}: {meaning}");
     };
     let name = input_name(given.line, number_of(table));
-    let Some(found) = record_at(alloc, text_of(given, table), place) else {
-        return write!(text, "{name}, record {place}: {meaning}");
-    };
-    let line = found.line;
-    write!(text, "{name}, line {line}: {meaning}: ")?;
-    push_wrong(text, table, *fault, &found.fields)
+    match record_at(alloc, text_of(given, table), u64::from(place)) {
+        Some(found) => {
+            write!(text, "{name}, line {}: {meaning}: ", found.line)?;
+            push_wrong(text, table, fault, &found.fields)
+        }
+        None => write!(text, "{name}, record {place}: {meaning}"),
+    }
 }
 
 // A line of the list of nets: the file and the line, what is wrong there, and what stands there.
@@ -112,6 +120,19 @@ fn push_listed(
     write!(text, ": {}", line.escape_ascii())
 }
 
+// Which flip-flop of the netlist has no clock.
+fn push_unclocked(
+    alloc: Global,
+    text: &mut String,
+    netlist: &Netlist,
+    clocks: &[u8],
+) -> Result<(), AllocError> {
+    match unclocked(alloc, netlist, clocks) {
+        Some(name) => write!(text, ": {}", name.escape_ascii()),
+        None => Ok(()),
+    }
+}
+
 // A fault that stands at no one place. Of a flip-flop without a clock its net is named.
 fn push_nowhere(
     alloc: Global,
@@ -126,9 +147,29 @@ fn push_nowhere(
     let Ok(netlist) = read_bench(alloc, given.bench) else {
         return Ok(());
     };
-    match unclocked(alloc, &netlist, given.clocks) {
-        Some(name) => write!(text, ": {}", name.escape_ascii()),
-        None => Ok(()),
+    push_unclocked(alloc, text, &netlist, given.clocks)
+}
+
+// What is wrong, and where.
+fn push_words(
+    alloc: Global,
+    text: &mut String,
+    given: &Given<'_>,
+    fault: &Fault,
+    entry: Explanation,
+) -> Result<(), AllocError> {
+    let place = fault.place();
+    let meaning = entry.meaning;
+    match entry.place {
+        Place::Line => push_line(text, given, place, entry),
+        Place::Record => match fault {
+            Fault::Design(fault) => push_record(alloc, text, given, *fault, meaning),
+            _ => write!(text, "a table, record {place}: {meaning}"),
+        },
+        Place::Listed => push_listed(text, given, place, meaning),
+        Place::Input => write!(text, "{}: {meaning}", input_name(given.line, place)),
+        Place::Bytes => write!(text, "after {place} bytes: {meaning}"),
+        Place::Net | Place::Nowhere => push_nowhere(alloc, text, given, entry),
     }
 }
 
@@ -136,23 +177,10 @@ fn push_nowhere(
 /// there.
 pub fn fault_words(alloc: Global, given: &Given<'_>, fault: &Fault) -> Result<String, AllocError> {
     let mut text = String::from_str(alloc, "cmbsim: ")?;
-    let place = fault.place();
-    let Some(entry) = explanation_of(fault.number()) else {
-        return Ok(text);
-    };
-    let meaning = entry.meaning;
-    match entry.place {
-        Place::Line => push_line(&mut text, given, place, entry)?,
-        Place::Record => push_record(alloc, &mut text, given, fault, meaning)?,
-        Place::Listed => push_listed(&mut text, given, place, meaning)?,
-        Place::Input => {
-            let name = input_name(given.line, place);
-            write!(text, "{name}: {meaning}")?;
-        }
-        Place::Bytes => write!(text, "after {place} bytes: {meaning}")?,
-        Place::Net | Place::Nowhere => push_nowhere(alloc, &mut text, given, entry)?,
+    if let Some(entry) = explanation_of(fault.number()) {
+        push_words(alloc, &mut text, given, fault, entry)?;
+        text.push_str("\n")?;
     }
-    text.push_str("\n")?;
     Ok(text)
 }
 
