@@ -80,7 +80,8 @@ fn open_calendar(
     requires circuit { IsCircuit design.now circuit.now }
     requires count { length words.now ≡ length circuit.now.wiring.cells }
     requires shows { Shows (levels_of words.now)
-        (trace_of design.now circuit.now.wiring.roles.items circuit.now.lines.items) (length circuit.now.wiring.cells) 1 }
+        (trace_of design.now circuit.now.wiring.roles.items circuit.now.lines.items)
+        (length circuit.now.wiring.cells) 1 }
     ensures begun { 1 ≤ design.now.horizon }
     ensures ahead { IfOk result (TellsAhead design.now circuit.now.wiring.roles.items circuit.now.lines.items
         circuit.now.width circuit.now.wiring.cells 1) }

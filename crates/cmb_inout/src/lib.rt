@@ -1,5 +1,5 @@
-//! What goes into a whole simulation and what comes of it: sources of its texts, faults with their numbers and places, and
-//! answers.
+//! What goes into a whole simulation and what comes of it: sources of its texts, faults with their numbers and places,
+//! and answers.
 #![tactic(auto)]
 
 pub mod answer;

@@ -90,11 +90,7 @@ fn text_named<'a, T: Terms + Send + Sync, R: Threads + Wait + Sync>(
         return Err(AllocError);
     };
     let (engine, dump) = stream.into_parts();
-    let Run {
-        maker,
-        desks,
-        lead,
-    } = open_run(rt, alloc, design, engine, dump, rings);
+    let Run { maker, desks, lead } = open_run(rt, alloc, design, engine, dump, rings);
     thread::scope(
         thread::scope_env(),
         rt,
@@ -178,11 +174,7 @@ fn write_named<'a, T: Terms + Send + Sync, R: Threads + Wait + Sync, S: Sink>(
         return Err(StreamFault::Memory);
     };
     let (engine, dump) = stream.into_parts();
-    let Run {
-        maker,
-        desks,
-        lead,
-    } = open_run(rt, alloc, design, engine, dump, rings);
+    let Run { maker, desks, lead } = open_run(rt, alloc, design, engine, dump, rings);
     let (back, written) = thread::scope(
         thread::scope_env(),
         rt,
