@@ -327,9 +327,9 @@ def test_completions():
 
 def test_words():
     words = set()
-    for name in ("line", "explaining"):
+    for name in ("line", "explaining", "options"):
         with open(f"{TOP}/crates/cmb_line/src/{name}.rt", encoding="utf-8") as file:
-            words |= set(re.findall(r'(?:Command::new|option|choice|flag)\(alloc, "([a-z-]+)"', file.read())) - {"cmbsim"}
+            words |= set(re.findall(r'(?:Command::new\(alloc, |name: )"([a-z-]+)"', file.read())) - {"cmbsim"}
     with open(f"{TOP}/docs/cmbsim.1", encoding="ascii") as file:
         manual = file.read().replace("\\-", "-")
     with open(f"{TOP}/completions/cmbsim.bash", encoding="ascii") as file:
