@@ -2,11 +2,10 @@
 use Rattle.std.proofs.Common.{◌≡◌, ℕ, zero, suc, ◌+◌, ◌-◌, ◌<◌, ◌≤◌, Bool, true, false, cond, ltb, leb, List, [], ◌∷◌, ◌++◌, set, Some, ◌⊎◌, inl, inr, refl, sym, ◌∙◌, ap, arith}
 use Rattle.std.proofs.lemmas.Bool.{lt-ltb, le-ltb, le-leb, lt-leb, cases_lt}
 use Rattle.cmb_wave.specs.declared.level.Level.{Level}
-use Rattle.cmb_wave.specs.declared.level.Level.TheVariants.{Zero, One, X}
 use Rattle.cmb_wave.specs.declared.level.Change.{Change}
 use Rattle.cmb_wave.specs.Waveform.{same_level, level_at, level_before, last_level, change_at, changes_in, changes_between, at_or_after}
 use Rattle.cmb_wave.specs.Wave.{Wave, new_wave, grown, wave_with_piece}
-use Rattle.cmb_wave.proofs.Lists.{test_of_same}
+use Rattle.cmb_wave.proofs.Lists.{test_of_same, same_level-sym}
 use Rattle.cmb_wave.proofs.Waveforms.{at_or_after-all, changes_between-rises, level_at-changes_between}
 use Rattle.cmb_bench.specs.declared.netlist.Driver.{Driver}
 use Rattle.cmb_bench.specs.declared.netlist.Driver.TheVariants.{Input as InputNet, Gate as GateNet, Flop as FlopNet}
@@ -97,24 +96,13 @@ reach-same design waves net p (FlopNet source) d = rw d.0 (flop_reach-same desig
 
 -- ---- changes counted on from the level before are the changes of the waveform
 
-same_sym : (a b : Level) → same_level a b ≡ same_level b a
-same_sym Zero Zero = refl
-same_sym Zero One = refl
-same_sym Zero X = refl
-same_sym One Zero = refl
-same_sym One One = refl
-same_sym One X = refl
-same_sym X Zero = refl
-same_sym X One = refl
-same_sym X X = refl
-
 pub changes_from-is : (f g : ℕ → Level) (before : Level) (ticks first : ℕ) → before ≡ level_before g first → ((t : ℕ) → first ≤ t → t < first + ticks → f t ≡ g t) → changes_from f before first ticks ≡ changes_in g first ticks
 unfolding changes_in change_at
 changes_from-is f g before zero first b same = refl
 changes_from-is f g before (suc ticks) first b same =
     let here : f first ≡ g first = same first (omega arith) (omega arith) in
     let later : (t : ℕ) → suc first ≤ t → t < suc first + ticks → f t ≡ g t = λ t low high. same t (omega arith) (omega arith) in
-    let test : same_level (level_before g first) (g first) ≡ same_level (f first) before = rw (here, b) (same_sym (level_before g first) (g first)) in
+    let test : same_level (level_before g first) (g first) ≡ same_level (f first) before = rw (here, b) (same_level-sym (level_before g first) (g first)) in
     rw test (go (same_level (f first) before) refl here (λ l e. changes_from-is f g l ticks (suc first) e later))
   where
     go : (s : Bool) → same_level (f first) before ≡ s → f first ≡ g first → ((l : Level) → l ≡ g first → changes_from f l (suc first) ticks ≡ changes_in g (suc first) ticks) → cond s (changes_from f before (suc first) ticks) (record { tick = first; level = f first } ∷ changes_from f (f first) (suc first) ticks) ≡ cond s [] (record { tick = first; level = g first } ∷ []) ++ changes_in g (suc first) ticks
