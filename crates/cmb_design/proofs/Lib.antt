@@ -13,12 +13,7 @@ pub mod AskFacts
 pub mod FlatFacts
 pub mod SampleFacts
 pub mod ValueFacts
-pub mod FieldFacts
-pub mod RecordFacts
-pub mod ReaderFacts
-pub mod TableFacts
 pub mod RangeFacts
 pub mod LawfulFacts
-pub mod PlainFacts
-pub mod BoundFacts
 pub mod PartFacts
+pub mod PlainFacts

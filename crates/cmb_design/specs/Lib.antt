@@ -14,10 +14,7 @@ pub mod Value
 pub mod Exact
 pub mod Examples
 pub mod Faults
-pub mod Fields
 pub mod Ranges
-pub mod Readers
-pub mod Records
 pub mod Plain
 pub mod PlainTable
 pub mod Part

@@ -1,26 +1,17 @@
 //! The laws of delays, stimuli, sample ticks and levels.
 
-ghost use Rattle.std.specs.Prelude.{◌≡◌, ℕ, ◌+◌, ◌<◌, ◌≤◌, false, List, All, Some, None, unwrap_or};
-ghost use Rattle.std.specs.Option.{option_or};
+ghost use Rattle.std.specs.Prelude.{◌≡◌, ℕ, ◌+◌, ◌<◌, ◌≤◌, List, Some, None};
 ghost use Rattle.cmb_wave.specs.Waveform.{changes_between};
 ghost use Rattle.cmb_wave.specs.declared.level.Level.{Level};
 ghost use Rattle.cmb_wave.specs.declared.level.Level.TheVariants.{X};
 ghost use Rattle.cmb_bench.specs.declared.netlist.Driver.{Driver};
 ghost use Rattle.cmb_bench.specs.declared.netlist.Driver.TheVariants.{Input, Gate, Flop};
 ghost use Rattle.cmb_bench.specs.declared.netlist.Kind.{Kind};
-ghost use Rattle.cmb_bench.specs.Netlist.{Netlist, driver_of};
+ghost use Rattle.cmb_bench.specs.Netlist.{driver_of};
 ghost use Rattle.cmb_design.specs.declared.rows.Clock.{Clock};
-ghost use Rattle.cmb_design.specs.declared.rows.ClockRow.{ClockRow};
-ghost use Rattle.cmb_design.specs.declared.rows.DelayRow.{DelayRow};
-ghost use Rattle.cmb_design.specs.Checks.{first_fault};
-ghost use Rattle.cmb_design.specs.Nets.{driver_cell};
-ghost use Rattle.cmb_design.specs.Readers.{clock_header, clock_record_checks, clock_row_of, delay_header};
-ghost use Rattle.cmb_design.specs.Readers.{delay_record_checks, delay_row_of, table_checks, table_rows};
-ghost use Rattle.cmb_design.specs.Settings.{is_bad_clock};
-ghost use Rattle.cmb_design.specs.Tables.{clock_of_row};
 ghost use Rattle.cmb_design.specs.Design.{Design};
 ghost use Rattle.cmb_design.specs.Gate.{gate};
-ghost use Rattle.cmb_design.specs.Timing.{delay, delay_by, delay_in, is_of_pin, is_of_net, is_of_kind, common_clock};
+ghost use Rattle.cmb_design.specs.Timing.{delay};
 ghost use Rattle.cmb_design.specs.Timing.{stimulus, row_level, IsSample, last_sample, next_sample};
 ghost use Rattle.cmb_design.specs.Value.{value, changes, driven_level, pin_levels, flop_level};
 
@@ -45,31 +36,6 @@ pub fn drivers_look_back()
 /// No delay is less than one tick.
 pub fn delays_are_positive()
     ensures { (design : Design) (net pin : ℕ) → 1 ≤ delay design net pin }
-{}
-
-/// Each delay of a table that was read is at least one tick, and then the bound in the definition of a pin's delay
-/// changes nothing: it is that of the pin's row, else of its net's, else of its kind's, else 1.
-pub fn read_delays_are_positive()
-    ensures rows { (records : List (List (List ℕ)))
-        → first_fault (table_checks delay_header delay_record_checks records) ≡ None
-        → All (λ row. 1 ≤ row.delay) (table_rows delay_row_of records) }
-    ensures delay { (netlist : Netlist) (rows : List DelayRow) (net pin : ℕ) → All (λ row. 1 ≤ row.delay) rows
-        → delay_by netlist rows net pin
-        ≡ unwrap_or (option_or (delay_in (is_of_pin netlist net pin) rows)
-        (option_or (delay_in (is_of_net netlist net) rows)
-        (delay_in (is_of_kind (driver_cell (driver_of netlist net))) rows))) 1 }
-{}
-
-/// Each period of a table that was read is at least one tick, and so is that of a common clock that passed its check.
-/// Then the bound in the definition of a clock changes nothing.
-pub fn read_periods_are_positive()
-    ensures rows { (records : List (List (List ℕ)))
-        → first_fault (table_checks clock_header clock_record_checks records) ≡ None
-        → All (λ row. 1 ≤ row.period) (table_rows clock_row_of records) }
-    ensures row { (row : ClockRow) → 1 ≤ row.period
-        → clock_of_row row ≡ record { first = row.first; period = row.period } }
-    ensures checked { (clock : Clock) → is_bad_clock (Some clock) ≡ false → 1 ≤ clock.period }
-    ensures common { (clock : Clock) → 1 ≤ clock.period → common_clock (Some clock) ≡ clock }
 {}
 
 /// The changes of an input's stimulus are the changes of the net.

@@ -6,7 +6,6 @@ mod delays;
 pub mod design;
 pub mod examples;
 pub mod fault;
-mod fields;
 pub mod gates;
 pub mod laws;
 mod nets;
@@ -14,20 +13,16 @@ mod part;
 pub mod plain;
 mod plain_cells;
 mod plain_table;
-mod readers;
-mod records;
 pub mod rows;
 mod samples;
 pub mod settings;
 mod stimuli;
-mod table;
 mod told;
 
 pub use design::Design;
 pub use fault::DesignFault;
 pub use gates::gate;
 pub use plain::{MOST_CELLS, plain_waves};
-pub use readers::{read_clocks, read_delays, read_stimuli};
 pub use rows::{
     Clock, ClockRow, ClockRows, DelayRow, DelayRows, Delayed, StimulusRow, StimulusRows,
 };

@@ -76,7 +76,7 @@ pub struct Clock {
     pub period: u32,
 }
 
-/// The rows of a table, in the order of their records. Only a reader makes them.
+/// The rows of a table, in the order of their records, with their numbers in range.
 #[derive(Drop)]
 pub struct Rows<R: Row> {
     rows: Vec<R>,
@@ -96,7 +96,8 @@ impl<R: Row> Model for Rows<R> {
 impl<R: Row> Rows<R> {
     ghost use Rattle.cmb_design.specs.Ranges.{AreRows};
 
-    pub(crate) fn new(rows: Vec<R>) -> Rows<R>
+    /// The rows of a table that was read.
+    pub fn new(rows: Vec<R>) -> Rows<R>
         requires { AreRows R.IsLawful rows.items }
         ensures { result ≡ rows.items }
     {

@@ -6,8 +6,8 @@ use Rattle.cmb_bench.specs.Meaning.{Reads}
 use Rattle.cmb_design.proofs.CheckFacts.{first_fault-none, first_fault-some}
 use Rattle.cmb_design.specs.Checks.{Check, first_fault}
 use Rattle.cmb_design.specs.Design.{Design, design_of}
-use Rattle.cmb_design.specs.Records.{table_records}
-use Rattle.cmb_design.specs.Readers.{table_rows, delay_row_of, stimulus_row_of, clock_row_of}
+use Rattle.cmb_tables.specs.Records.{table_records}
+use Rattle.cmb_tables.specs.Readers.{table_rows, delay_row_of, stimulus_row_of, clock_row_of}
 use Rattle.cmb_design.specs.declared.fault.DesignFault.{DesignFault}
 use Rattle.cmb_design.specs.declared.fault.DesignFault.TheVariants.{Memory}
 use Rattle.cmb_design.specs.declared.rows.DelayRow.{DelayRow}

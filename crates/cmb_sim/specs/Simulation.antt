@@ -8,8 +8,8 @@ use Rattle.cmb_design.specs.Checks.{Check, check, first_fault}
 use Rattle.cmb_design.specs.Design.{Design, design_of}
 use Rattle.cmb_design.specs.Exact.{nets_of}
 use Rattle.cmb_design.specs.Plain.{cells_of}
-use Rattle.cmb_design.specs.Records.{table_records}
-use Rattle.cmb_design.specs.Readers.{table_checks, table_rows, delay_header, delay_record_checks, delay_row_of, stimulus_header, stimulus_record_checks, stimulus_row_of, clock_header, clock_record_checks, clock_row_of}
+use Rattle.cmb_tables.specs.Records.{table_records}
+use Rattle.cmb_tables.specs.Readers.{table_checks, table_rows, delay_header, delay_record_checks, delay_row_of, stimulus_header, stimulus_record_checks, stimulus_row_of, clock_header, clock_record_checks, clock_row_of}
 use Rattle.cmb_design.specs.Settings.{design_checks}
 use Rattle.cmb_design.specs.declared.fault.DesignFault.TheVariants.{TableTooLarge}
 use Rattle.cmb_design.specs.declared.settings.Settings.{Settings}

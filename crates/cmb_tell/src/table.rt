@@ -4,7 +4,8 @@ ghost use Rattle.std.specs.Prelude.{◌≤◌, length};
 
 use crate::words::Given;
 use cmb_bench::{MAX_TEXT, read_bench};
-use cmb_design::{Design, DesignFault, Settings, read_clocks, read_delays, read_stimuli};
+use cmb_design::{Design, DesignFault, Settings};
+use cmb_tables::{read_clocks, read_delays, read_stimuli};
 use std::alloc::Global;
 
 /// A table.

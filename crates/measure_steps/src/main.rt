@@ -20,7 +20,8 @@ ghost use Rattle.cmb_design.specs.Exact.{nets_of};
 
 use cmb_bench::read_bench;
 use cmb_core::{Cluster, Clustering};
-use cmb_design::{Design, Settings, read_clocks, read_delays, read_stimuli};
+use cmb_design::{Design, Settings};
+use cmb_tables::{read_clocks, read_delays, read_stimuli};
 use cmb_wave::{Change, Level, Piece};
 use std::alloc::{AllocError, Global};
 use std::env;

@@ -8,7 +8,8 @@
 
 use cmb_bench::read_bench;
 use cmb_core::Clustering;
-use cmb_design::{Design, Settings, read_clocks, read_delays, read_stimuli};
+use cmb_design::{Design, Settings};
+use cmb_tables::{read_clocks, read_delays, read_stimuli};
 use cmb_wave::{Heard, Level, Piece};
 use cmb_world::{Event, PlayFault, Reply, World};
 use std::alloc::{AllocError, Global};

@@ -4,7 +4,8 @@ ghost use Rattle.std.specs.Prelude.{◌≡◌, IfSome};
 ghost use Rattle.cmb_design.specs.Exact.{nets_of};
 
 use cmb_bench::read_bench;
-use cmb_design::{Design, Settings, read_clocks, read_delays, read_stimuli};
+use cmb_design::{Design, Settings};
+use cmb_tables::{read_clocks, read_delays, read_stimuli};
 use cmb_wave::Level;
 use std::alloc::Global;
 

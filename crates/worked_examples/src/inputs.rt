@@ -1,7 +1,8 @@
 //! The texts that examples are made of.
 
 use cmb_bench::{Netlist, read_bench};
-use cmb_design::{Design, DesignFault, Settings, read_clocks, read_delays, read_stimuli};
+use cmb_design::{Design, DesignFault, Settings};
+use cmb_tables::{read_clocks, read_delays, read_stimuli};
 use std::alloc::Global;
 use std::process::Abort;
 use std::test::Fail;

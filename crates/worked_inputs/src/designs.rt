@@ -3,7 +3,8 @@
 ghost use Rattle.std.specs.Prelude.{◌≤◌, IfOk, length};
 
 use cmb_bench::{MAX_TEXT, Netlist, read_bench};
-use cmb_design::{Design, DesignFault, Settings, read_clocks, read_delays, read_stimuli};
+use cmb_design::{Design, DesignFault, Settings};
+use cmb_tables::{read_clocks, read_delays, read_stimuli};
 use cmb_wave::Level;
 use std::alloc::Global;
 use std::test::Fail;

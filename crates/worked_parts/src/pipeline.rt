@@ -5,7 +5,8 @@ ghost use Rattle.cmb_cut.specs.Sharings.{IsSharing};
 
 use cmb_bench::read_bench;
 use cmb_cut::{Sharing, share_out};
-use cmb_design::{Design, Settings, read_clocks, read_delays, read_stimuli};
+use cmb_design::{Design, Settings};
+use cmb_tables::{read_clocks, read_delays, read_stimuli};
 use cmb_pipeline::{pipeline_text, write_pipeline};
 use cmb_stream::{StreamFault, stream_text};
 use cmb_vcd::Limited;
