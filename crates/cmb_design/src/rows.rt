@@ -104,7 +104,8 @@ impl<R: Row> Rows<R> {
         Rows { rows }
     }
 
-    pub(crate) fn as_slice(&self) -> &[R]
+    /// The rows, in the order of their records.
+    pub fn as_slice(&self) -> &[R]
         ensures value { result.now ≡ self.now }
         ensures lawful { AreRows R.IsLawful self.now }
     {
