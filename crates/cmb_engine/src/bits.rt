@@ -107,14 +107,8 @@ impl Bits {
     pub(crate) fn next_from(&self, n: usize) -> Option<usize>
         ensures { MatchOption result (HasNone self.now n (64 * length self.now)) (IsNext self.now n) }
     {
-        if n / 64 >= self.words.len() {
-            return None;
-        }
-        if let Some(found) = self.next_in_word(n) {
-            return Some(found);
-        }
-        for k in n / 64 + 1..self.len() {
-            if let Some(found) = self.next_in_word(64 * k) {
+        for k in n / 64..self.len() {
+            if let Some(found) = self.next_in_word(n.max(64 * k)) {
                 return Some(found);
             }
         }
