@@ -216,16 +216,10 @@ pub(crate) fn plan_of(alloc: Global, design: &Design, roles: &[Role]) -> Result<
     let mut lines = Lines::new(alloc, design.netlist().len());
     let mut cells = net_cells(alloc, design, roles, &mut lines)?;
     cells.push_told_ones(lines.list.len())?;
-    let Lines {
-        nets: _,
-        list,
-        most,
-    } = lines;
-    let width = width_of(list.as_slice(), most);
     Ok(Plan {
         cells,
-        lines: list,
-        most,
-        width,
+        width: width_of(&lines.list, lines.most),
+        most: lines.most,
+        lines: lines.list,
     })
 }
