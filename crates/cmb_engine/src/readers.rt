@@ -60,9 +60,8 @@ impl Readers {
     pub(crate) fn joined(alloc: Global, lists: &[Numbers]) -> Result<Readers, AllocError>
         ensures { IfOk result (λ readers. readers ≡ map (λ list. list.items) lists.now) }
     {
-        let mut starts = Vec::with_capacity(alloc, lists.len().saturating_add(1))?;
-        let mut nets = Vec::with_capacity(alloc, lists.len().saturating_mul(2))?;
-        starts.push(0)?;
+        let mut starts = vec![in alloc; 0; 1]?;
+        let mut nets = Vec::new(alloc);
         for list in lists {
             nets.extend_from_slice(list.as_slice())?;
             let Ok(end) = u32::try_from(nets.len()) else {
