@@ -19,7 +19,7 @@ use Rattle.cmb_engine.specs.Gifts.{AreGiven, AreWritten, is_written}
 use Rattle.cmb_engine.specs.Roles.{AreRoles, AreToldNets, gives}
 use Rattle.cmb_engine.specs.Tells.{told_level, AreOfWindow}
 use Rattle.cmb_engine.specs.Traces.{trace_of}
-use Rattle.cmb_engine.specs.Words.{levels_of}
+use Rattle.cmb_engine.specs.Words.{levels_of, Writes}
 use Rattle.cmb_engine.specs.declared.cell.Pin.{Pin}
 use Rattle.cmb_engine.specs.declared.role.Role.{Role}
 use Rattle.cmb_engine.proofs.RoleFacts.{given-inside, given-known, level-present}
@@ -28,7 +28,8 @@ use Rattle.cmb_engine.proofs.SlotFacts.{trace-net}
 use Rattle.cmb_engine.proofs.TraceFacts.{shown}
 use Rattle.cmb_engine.proofs.TruthFacts.{in_place-tick}
 use Rattle.cmb_engine.proofs.WindowFacts.{IsWindow, moved-below, moved-held}
-use Rattle.cmb_engine.proofs.WordFacts.{levels_of-set_same, levels_of-set_other}
+use Rattle.cmb_engine.proofs.WordFacts.{levels_of-set_same, levels_of-set_other, written-other, written-same}
+use Rattle.cmb_engine.proofs.WriteFacts.{writes-none}
 
 -- ---- words
 
@@ -58,7 +59,7 @@ pub one-among : (one : Changed) (net : ℕ) → one.net ≡ net → is_among net
 one-among one net same = let e : (one.net == net) ≡ true = eq-eqb one.net net same in rw e refl
 
 -- of one thing
-written-one : (roles : List Role) (one : Changed) (net : ℕ) → is_written roles (one ∷ []) net ≡ true → (gives roles one.net ≡ true) × (one.net ≡ net)
+pub written-one : (roles : List Role) (one : Changed) (net : ℕ) → is_written roles (one ∷ []) net ≡ true → (gives roles one.net ≡ true) × (one.net ≡ net)
 written-one roles one net is =
     let parts = and_parts (gives roles net) (is_among net (one ∷ [])) is in
     let same : one.net ≡ net = among-one one net parts.1 in
@@ -107,6 +108,33 @@ written-its roles one old new first gift past others here = record {
   written = λ level says slot place is late small.
       let same : one.net ≡ slot = (written-one roles one slot is).1 in
       subst (λ (n : ℕ). new n place ≡ level n place) same (here place late small ∙ says one (Contains-push [] one) gift place late small);
+}
+
+-- what is left of one thing that is given: where its net is a given one, the word is written, and who reads the net is marked
+pub record IsTaken (roles : List Role) (readers : List (List ℕ)) (one : Changed) (first : ℕ) (old new : List Word) (live more marks marked : List ℕ) : Type 0 where
+  pub writes : Writes old new live more marks marked
+  pub written : AreWritten roles (one ∷ []) (levels_of old) (levels_of new) first
+  pub news : (slot : ℕ) → is_written roles (one ∷ []) slot ≡ true → AreMarked (has marked) (get_or readers slot [])
+
+pub taken-not : (roles : List Role) (readers : List (List ℕ)) (one : Changed) (first : ℕ) (words : List Word) (live marks : List ℕ) → gives roles one.net ≡ false
+    → IsTaken roles readers one first words words live live marks marks
+taken-not roles readers one first words live marks none = record {
+  writes = writes-none words live marks;
+  written = written-none roles one (levels_of words) first none;
+  news = λ slot is. absurd (false≢true (sym none ∙ (written-one roles one slot is).0));
+}
+
+pub taken-put : (roles : List Role) (readers : List (List ℕ)) (one : Changed) (first : ℕ) (old new : List Word) (live more marks marked : List ℕ) (word : Word) → gives roles one.net ≡ true
+    → one.net < length old → new ≡ set old one.net word → ((place : ℕ) → place < first → level_at_place word place ≡ levels_of old one.net place)
+    → ((place : ℕ) → first ≤ place → place < 64 → level_at_place word place ≡ level_at_place one.word place)
+    → Writes old new live more marks marked → AreMarked (has marked) (get_or readers one.net []) → IsTaken roles readers one first old new live more marks marked
+taken-put roles readers one first old new live more marks marked word gift inside is below from writes news = record {
+  writes = writes;
+  written = written-its roles one (levels_of old) (levels_of new) first gift
+      (λ slot place early. ap (λ (words : List Word). levels_of words slot place) is ∙ word-kept old one.net word slot place inside (below place early))
+      (λ slot place other. written-other old new one.net slot word place is (λ e. other (sym e)))
+      (λ place late small. written-same old new one.net word place is inside ∙ from place late small);
+  news = λ slot is. subst (λ (n : ℕ). AreMarked (has marked) (get_or readers n [])) (written-one roles one slot is).1 news;
 }
 
 -- some words, and then others

@@ -1,20 +1,21 @@
 -- Flip-flops in groups.
-use Rattle.std.proofs.Common.{◌≡◌, ℕ, ◌+◌, ◌<◌, ◌≤◌, ◌⊎◌, inl, inr, true, false, List, [], ◌∷◌, ◌++◌, length, set, get_or, refl, sym, ap, subst, ◌∙◌, arith, length-set, get_or-set_same, get_or-set_other}
-use Rattle.std.specs.Prelude.{All, Contains}
+use Rattle.std.proofs.Common.{◌≡◌, ℕ, ◌+◌, ◌-◌, ◌<◌, ◌≤◌, ◌⊎◌, inl, inr, Bool, true, false, List, [], ◌∷◌, ◌++◌, ◌||◌, ◌&&◌, ◌==◌, length, set, get_or, refl, sym, ap, subst, ◌∙◌, arith, length-set, get_or-set_same, get_or-set_other}
+use Rattle.std.specs.Prelude.{All, Contains, nat_le}
 use Rattle.std.specs.List.Sorted.{IsPermutation}
-use Rattle.std.proofs.lemmas.Bool.{cases_eq, false≢true}
+use Rattle.std.proofs.lemmas.Bool.{and_left, cases_eq, eq-eqb, false≢true, lt-leb, or_left}
 use Rattle.std.proofs.lemmas.List.{get_or_default}
 use Rattle.std.proofs.lemmas.List.Elements.{All-push, Contains-append_left, Contains-push}
 use Rattle.std.proofs.lemmas.List.Sorted.{All-permutation, Contains-permutation}
 use Rattle.cmb_wave.specs.declared.level.Level.{Level}
 use Rattle.cmb_design.specs.declared.rows.Clock.{Clock}
-use Rattle.cmb_engine.specs.Cells.{Cell, Told, Gate, Flop, IsLawful, IsPace, cell_at, is_made}
+use Rattle.cmb_engine.specs.Cells.{Cell, Told, Gate, Flop, IsLawful, IsPace, IsSteady, cell_at, is_made}
 use Rattle.cmb_engine.specs.Bits.{has}
 use Rattle.cmb_engine.specs.Circuits.{AreFlops, AreMembers, Arrives, IsFlopOf, IsGroup, IsInGroup, IsMarkedOrRests, is_flop}
 use Rattle.cmb_engine.specs.Rows.{arrives_by}
 use Rattle.cmb_engine.specs.declared.cell.Pin.{Pin}
 use Rattle.cmb_engine.specs.declared.group.Group.{Group}
 use Rattle.cmb_engine.specs.declared.group.Member.{Member}
+use Rattle.cmb_engine.proofs.SweepFacts.{inserted-keeps}
 use Rattle.cmb_engine.proofs.TraceFacts.{made-inside}
 
 -- ---- a cell that is a flip-flop
@@ -200,3 +201,39 @@ pub rests-kept : (old new : List ℕ) (words : ℕ → ℕ → Level) (first : �
     → IsMarkedOrRests (has old) words first cells slot → IsMarkedOrRests (has new) words first cells slot
 rests-kept old new words first cells slot kept (inl marked) = inl (kept slot marked)
 rests-kept old new words first cells slot kept (inr rests) = inr rests
+
+-- marks stay, and a flip-flop is marked or rests
+pub record MarksOne (old new : List ℕ) (words : ℕ → ℕ → Level) (first : ℕ) (cells : List Cell) (slot : ℕ) : Type 0 where
+  pub room : length new ≡ length old
+  pub kept : (m : ℕ) → has old m ≡ true → has new m ≡ true
+  pub here : IsMarkedOrRests (has new) words first cells slot
+
+pub marks-none : (marks : List ℕ) (words : ℕ → ℕ → Level) (first : ℕ) (cells : List Cell) (slot : ℕ) → ((to : ℕ) → IsSteady words to first slot (cell_at cells slot))
+    → MarksOne marks marks words first cells slot
+marks-none marks words first cells slot rests = record { room = refl; kept = λ m h. h; here = inr rests }
+
+pub marks-one : (old new : List ℕ) (words : ℕ → ℕ → Level) (first : ℕ) (cells : List Cell) (slot : ℕ) → length new ≡ length old → ((m : ℕ) → has new m ≡ (m == slot || has old m))
+    → MarksOne old new words first cells slot
+marks-one old new words first cells slot room inserted = record {
+  room = room;
+  kept = λ m. inserted-keeps old new slot m (inserted m);
+  here = inl (inserted slot ∙ or_left (slot == slot) (has old slot) (eq-eqb slot slot refl));
+}
+
+-- marks stay, and the flip-flops of a group are marked or rest, where a sample arrives
+pub record MarksGroup (old new : List ℕ) (words : ℕ → ℕ → Level) (to first : ℕ) (cells : List Cell) (group : Group) : Type 0 where
+  pub room : length new ≡ length old
+  pub kept : (m : ℕ) → has old m ≡ true → has new m ≡ true
+  pub arrivals : (slot place : ℕ) → Contains group.flops.items slot → first ≤ place → place < 64 → arrives_by group.clock group.delay (to + place - 64) ≡ true
+      → IsMarkedOrRests (has new) words first cells slot
+
+-- in a window in which none arrives nothing is to be marked
+pub marks-no_group : (marks : List ℕ) (words : ℕ → ℕ → Level) (to first : ℕ) (cells : List Cell) (group : Group) (begin : ℕ) (others : ℕ → Bool) → 64 ≤ begin
+    → ((place : ℕ) → first ≤ place → place < 64 → arrives_by group.clock group.delay (to + place - 64) ≡ (nat_le begin place && others place))
+    → MarksGroup marks marks words to first cells group
+marks-no_group marks words to first cells group begin others late by = record {
+  room = refl;
+  kept = λ m h. h;
+  arrivals = λ slot place among from small arrives.
+      absurd (false≢true (sym (by place from small ∙ and_left (nat_le begin place) (others place) (lt-leb begin place (omega (arith, late, small)))) ∙ arrives));
+}

@@ -1,5 +1,5 @@
 -- What the calendar of an engine that begins has.
-use Rattle.std.proofs.Common.{◌≡◌, ◌⊎◌, inl, inr, ℕ, ◌+◌, ◌*◌, ◌<◌, ◌≤◌, List, [], length, sym, ap, subst, ◌∙◌, arith}
+use Rattle.std.proofs.Common.{◌≡◌, ◌⊎◌, inl, inr, ℕ, ◌+◌, ◌*◌, ◌<◌, List, [], length, sym, ap, subst, ◌∙◌, arith}
 use Rattle.std.specs.Prelude.{Contains}
 use Rattle.cmb_calendar.specs.Calendars.{Calendar, SameDays, day_begin, day_end}
 use Rattle.cmb_calendar.specs.declared.tell.Tell.{Tell}
@@ -19,24 +19,6 @@ use Rattle.cmb_engine.specs.declared.cell.Pin.{Pin}
 use Rattle.cmb_engine.specs.declared.circuit.Circuit.{Circuit}
 use Rattle.cmb_engine.specs.declared.role.Role.{Role}
 use Rattle.cmb_engine.proofs.StartFacts.{starts-told}
-
--- windows may be narrower than a plan's
-pub narrower-plan : (design : Design) (roles : List Role) (lines : List Pin) (most width narrow : ℕ) (cells : List Cell) → 2 ≤ narrow → narrow ≤ width → IsPlan design roles lines most width cells
-    → IsPlan design roles lines most narrow cells
-narrower-plan design roles lines most width narrow cells some less plan = record {
-  count = plan.count;
-  meets = plan.meets;
-  lawful = plan.lawful;
-  later = plan.later;
-  inputs = plan.inputs;
-  drivers = plan.drivers;
-  others = plan.others;
-  told = plan.told;
-  sources = λ k d inside. let parts = plan.sources k d inside in (parts.0, omega (arith, parts.1, less), parts.2);
-  some = plan.some;
-  fits = omega (arith, plan.fits, less);
-  wide = some;
-}
 
 -- the words of a circuit's slots
 pub words-show : (design : Design) (circuit : Circuit) (words : List Word) (lines : List Pin) → IsCircuit design circuit → lines ≡ circuit.lines.items

@@ -41,6 +41,11 @@ rest-absent Driven h g = absurd (false≢true (sym h))
 rest-absent Given h g = absurd (false≢true (sym g))
 rest-absent Absent h g = refl
 
+pub not-absent : (role : Role) → (role ≡ Absent → ⊥) → is_absent role ≡ false
+not-absent Driven h = refl
+not-absent Given h = refl
+not-absent Absent h = absurd (h refl)
+
 -- driven and given nets are known, and the others absent
 pub driven-known : (roles : List Role) (net : ℕ) → drives roles net ≡ true → lacks roles net ≡ false
 driven-known roles net h = driven-there (role_of roles net) h

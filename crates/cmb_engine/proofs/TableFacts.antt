@@ -49,6 +49,14 @@ pub cells_more : (xs ys : List Pin) (rules : List Rule) → AreInside xs rules �
 cells_more xs ys [] h = refl
 cells_more xs ys (r ∷ rules) h = rw (cell_more xs ys r h.0, cells_more xs ys rules h.1) refl
 
+-- ---- one more rule, which has its pins in itself
+
+pub own_inside : (pins : List Pin) (rules : List Rule) (r : Rule) → AreInside pins rules → IsInside [] r → AreInside pins (rules ++ r ∷ [])
+own_inside pins rules r all own = inside_push pins rules r all (inside_more [] pins r own)
+
+pub own_cells : (pins : List Pin) (rules : List Rule) (r : Rule) → IsInside [] r → cells_of pins (rules ++ r ∷ []) ≡ cells_of pins rules ++ cell_of [] r ∷ []
+own_cells pins rules r own = cells_push pins rules r ∙ ap (λ cell. cells_of pins rules ++ cell ∷ []) (cell_more [] pins r own)
+
 -- ---- reading
 
 pub inside-get_or : (pins : List Pin) (rules : List Rule) (net : ℕ) (d : Rule) → AreInside pins rules → net < length rules → IsInside pins (get_or rules net d)

@@ -30,6 +30,13 @@ levels_of-set_other (w ∷ words) zero (suc other) word place h = refl
 levels_of-set_other (w ∷ words) (suc net) zero word place h = refl
 levels_of-set_other (w ∷ words) (suc net) (suc other) word place h = levels_of-set_other words net other word place (λ e. h (ap suc e))
 
+-- the same of words among which one was written
+pub written-same : (old new : List Word) (net : ℕ) (word : Word) (place : ℕ) → new ≡ set old net word → net < length old → levels_of new net place ≡ level_at_place word place
+written-same old new net word place is h = ap (λ (words : List Word). levels_of words net place) is ∙ levels_of-set_same old net word place h
+
+pub written-other : (old new : List Word) (net other : ℕ) (word : Word) (place : ℕ) → new ≡ set old net word → other ≢ net → levels_of new other place ≡ levels_of old other place
+written-other old new net other word place is h = ap (λ (words : List Word). levels_of words other place) is ∙ levels_of-set_other old net other word place h
+
 -- one more operand of a gate that has some
 pub joint-more : (kind : Kind) (levels : List Level) (joined result operand : Level) → 1 ≤ length levels
     → ((first : Level) (others : List Level) → joined ≡ joint kind (first ∷ others) → result ≡ joint kind ((first ∷ others) ++ operand ∷ []))

@@ -1,8 +1,9 @@
 -- What nets and lines show at tick 0.
-use Rattle.std.proofs.Common.{◌≡◌, ℕ, zero, suc, ◌+◌, ◌-◌, ◌<◌, ◌≤◌, ◌⊎◌, inl, inr, true, false, List, [], ◌∷◌, ◌++◌, Some, length, get_or, refl, sym, ap, ◌∙◌, arith, ltb}
+use Rattle.std.proofs.Common.{◌≡◌, ℕ, suc, ◌+◌, ◌-◌, ◌<◌, ◌≤◌, ◌⊎◌, inl, inr, true, false, List, [], ◌∷◌, Some, length, get_or, set, replicate, refl, sym, ap, subst, ◌∙◌, arith, ltb}
 use Rattle.std.proofs.lemmas.Bool.{lt-ltb, cases_lt}
+use Rattle.std.proofs.lemmas.List.{get_or-replicate, length-replicate, length-set}
 use Rattle.std.proofs.lemmas.Option.{slice_get-get_or}
-use Rattle.std.specs.Prelude.{slice_get, All}
+use Rattle.std.specs.Prelude.{slice_get, nat_lt, All, if◌then◌else◌}
 use Rattle.std.specs.List.{list_any}
 use Rattle.cmb_wave.specs.declared.level.Level.{Level}
 use Rattle.cmb_wave.specs.declared.level.Level.TheVariants.{Zero, One, X}
@@ -28,8 +29,10 @@ use Rattle.cmb_engine.specs.Words.{levels_of}
 use Rattle.cmb_engine.specs.declared.cell.Pin.{Pin}
 use Rattle.cmb_engine.specs.declared.role.Role.{Role}
 use Rattle.cmb_engine.proofs.ArrivalFacts.{flop_level-start}
+use Rattle.cmb_engine.proofs.RoleFacts.{level-start}
+use Rattle.cmb_engine.proofs.WordFacts.{levels_of-get_or, written-other, written-same}
 use Rattle.cmb_engine.proofs.PlanFacts.{wired-gate}
-use Rattle.cmb_engine.proofs.SlotFacts.{trace-behind}
+use Rattle.cmb_engine.proofs.SlotFacts.{trace-behind, trace-net}
 
 -- ---- gates of which all pins are x
 
@@ -97,23 +100,53 @@ start-shows trace word before now place small = go (cases_lt place 63)
     go (inl l) = let early : ltb (1 + place) 64 ≡ true = lt-ltb _ _ (omega arith) in rw early (before place l)
     go (inr l) = let e : place ≡ 63 = omega arith in rw e now
 
-levels-push_below : (words : List Word) (word : Word) (slot place : ℕ) → slot < length words → levels_of (words ++ word ∷ []) slot place ≡ levels_of words slot place
-levels-push_below [] word slot place inside = absurd (omega arith)
-levels-push_below (w ∷ words) word zero place inside = refl
-levels-push_below (w ∷ words) word (suc slot) place inside = levels-push_below words word slot place (omega arith)
+-- the words of the first so many nets show their levels at tick 0, and all others x
+pub record AreStarted (design : Design) (upto : ℕ) (words : List Word) : Type 0 where
+  pub begun : (net place : ℕ) → net < upto → place < 64 → levels_of words net place ≡ in_place (value design net) 1 place
+  pub others : (slot : ℕ) (trace : ℕ → Level) → upto ≤ slot → slot < length words → trace 0 ≡ X → (place : ℕ) → place < 64 → levels_of words slot place ≡ in_place trace 1 place
 
-levels-push_at : (words : List Word) (word : Word) (place : ℕ) → levels_of (words ++ word ∷ []) (length words) place ≡ level_at_place word place
-levels-push_at [] word place = refl
-levels-push_at (w ∷ words) word place = levels-push_at words word place
+-- a word shows each trace that has its level at tick 0
+abbrev Starts : Level → Word → Type 0
+Starts level word = (trace : ℕ → Level) → trace 0 ≡ level → (place : ℕ) → place < 64 → level_at_place word place ≡ in_place trace 1 place
 
--- one more slot is shown
-pub shows-push : (words : List Word) (word : Word) (trace : ℕ → ℕ → Level) (to count : ℕ) → length words ≡ count → Shows (levels_of words) trace count to
-    → ((place : ℕ) → place < 64 → level_at_place word place ≡ in_place (trace count) to place) → Shows (levels_of (words ++ word ∷ [])) trace (count + 1) to
-shows-push words word trace to count len old new slot place below small = go (cases_lt slot count)
+pub started-none : (design : Design) (count : ℕ) (word : Word) (words : List Word) → words ≡ replicate count word → Starts X word → AreStarted design 0 words
+started-none design count word words is shows = record {
+  begun = λ net place below. absurd (omega arith);
+  others = λ slot trace late inside zero place small.
+      let within : slot < count = omega (arith, inside, ap length is, length-replicate count word) in
+      levels_of-get_or words slot word place inside
+      ∙ ap (λ (w : Word). level_at_place w place) (ap (λ (ws : List Word). get_or ws slot word) is ∙ get_or-replicate count slot word word within)
+      ∙ shows trace zero place small;
+}
+
+pub started-more : (design : Design) (net : ℕ) (word : Word) (old new : List Word) → net < length old → new ≡ set old net word → Starts (value design net 0) word → AreStarted design net old
+    → AreStarted design (net + 1) new
+started-more design net word old new inside is shows so_far = record {
+  begun = λ other place below small. go other place below small (cases_lt other net);
+  others = λ slot trace late within zero place small.
+      written-other old new net slot word place is (λ e. absurd (omega (arith, e, late)))
+      ∙ so_far.others slot trace (omega (arith, late)) (omega (arith, within, ap length is, length-set old net word)) zero place small;
+}
   where
-    go : (slot < count) ⊎ (count ≤ slot) → levels_of (words ++ word ∷ []) slot place ≡ in_place (trace slot) to place
-    go (inl l) = levels-push_below words word slot place (omega arith) ∙ old slot place l small
+    go : (other place : ℕ) → other < net + 1 → place < 64 → (other < net) ⊎ (net ≤ other) → levels_of new other place ≡ in_place (value design other) 1 place
+    go other place below small (inl l) = written-other old new net other word place is (λ e. absurd (omega (arith, e, l))) ∙ so_far.begun other place l small
+    go other place below small (inr l) =
+        let e : net ≡ other = omega (arith, l, below) in
+        subst (λ (n : ℕ). levels_of new n place ≡ in_place (value design n) 1 place) e (written-same old new net word place is inside ∙ shows (value design net) refl place small)
+
+-- the words of all nets and lines show what these do: at tick 0 nothing is absent
+pub started-shows : (design : Design) (lines : List Pin) (words : List Word) (roles : List Role) → All (λ line. (line.net < nets_of design) × (1 ≤ line.delay)) lines
+    → length words ≡ nets_of design + length lines → AreStarted design (nets_of design) words → Shows (levels_of words) (trace_of design roles lines) (nets_of design + length lines) 1
+started-shows design lines words roles lawful len started slot place inside small = go (cases_lt slot (nets_of design))
+  where
+    go : (slot < nets_of design) ⊎ (nets_of design ≤ slot) → levels_of words slot place ≡ in_place (trace_of design roles lines slot) 1 place
+    go (inl l) =
+        let start : 1 + place - 64 ≡ 0 = omega arith in
+        let now : trace_of design roles lines slot (1 + place - 64) ≡ value design slot (1 + place - 64) =
+        trace-net design roles lines slot (1 + place - 64) l
+        ∙ ap (level_in design roles slot) start ∙ level-start design roles slot ∙ ap (value design slot) (sym start) in
+        started.begun slot place l small ∙ sym (ap (λ level. if nat_lt (1 + place) 64 then X else level) now)
     go (inr l) =
-        let e : slot ≡ count = omega arith in
-        let at : slot ≡ length words = omega arith in
-        ap (λ n. levels_of (words ++ word ∷ []) n place) at ∙ levels-push_at words word place ∙ new place small ∙ ap (λ n. in_place (trace n) to place) (sym e)
+        let at : nets_of design + (slot - nets_of design) ≡ slot = omega (arith, l) in
+        started.others slot (trace_of design roles lines slot) l (omega (arith, inside, len))
+        (ap (λ (n : ℕ). trace_of design roles lines n 0) (sym at) ∙ lines-start design roles lines (slot - nets_of design) (omega (arith, inside, l)) lawful) place small

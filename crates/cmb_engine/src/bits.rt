@@ -67,23 +67,6 @@ impl Bits {
         left == 0
     }
 
-    /// The least one at or after n in n's word.
-    #[inline]
-    pub(crate) fn next_in_word(&self, n: usize) -> Option<usize>
-        requires { n < 64 * length self.now }
-        ensures next { MatchOption result
-            (HasNone self.now n (n / 64 * 64 + 64))
-            (λ found. IsNext self.now n found × (found / 64 ≡ n / 64)) }
-        ensures empty { n % 64 ≡ 0 → IfNone result (slice_index self.now (n / 64) ≡ 0) }
-    {
-        let word = self.words[n / 64] & (u64::MAX << (n % 64));
-        if word == 0 {
-            None
-        } else {
-            Some(n / 64 * 64 + word.trailing_zeros() as usize)
-        }
-    }
-
     /// The least one in the word of a walk that the walk hasn't passed, which it passes then.
     #[inline]
     pub(crate) fn next_at(&self, walk: &mut Walk) -> Option<usize>
@@ -103,18 +86,18 @@ impl Bits {
         Some(64 * word + place as usize)
     }
 
-    /// The least one at or after n.
-    pub(crate) fn next_from(&self, n: usize) -> Option<usize>
-        ensures { MatchOption result (HasNone self.now n (64 * length self.now)) (IsNext self.now n) }
+    /// The least one that a walk hasn't passed.
+    pub(crate) fn next(&self, walk: Walk) -> Option<usize>
+        ensures { MatchOption result
+            (HasNone self.now (walked walk) (64 * length self.now))
+            (IsNext self.now (walked walk)) }
     {
-        if n / 64 >= self.words.len() {
-            return None;
-        }
-        if let Some(found) = self.next_in_word(n) {
+        let mut ahead = walk;
+        if let Some(found) = self.next_at(&mut ahead) {
             return Some(found);
         }
-        for k in n / 64 + 1..self.len() {
-            if let Some(found) = self.next_in_word(64 * k) {
+        for k in walk.word + 1..self.len() {
+            if let Some(found) = self.next_at(&mut Walk::at(k)) {
                 return Some(found);
             }
         }

@@ -7,6 +7,7 @@ ghost use Rattle.cmb_engine.specs.Arrivals.{IsArrival};
 ghost use Rattle.cmb_engine.specs.Cells.{Told, Gate, Flop, cell_at, is_made, pins_of as pins_of_cell, reads, AreBelow};
 ghost use Rattle.cmb_engine.specs.Cells.{IsListed, IsMade, IsLawful};
 ghost use Rattle.cmb_engine.specs.Circuits.{is_flop};
+ghost use Rattle.cmb_engine.specs.Tables.{IsInside, cell_of};
 ghost use Rattle.cmb_engine.specs.Windows.{HasWindow};
 ghost use Rattle.cmb_engine.specs.Words.{levels_of};
 
@@ -80,40 +81,28 @@ impl Cells {
         })
     }
 
+    // Adds a net with a rule that has all its pins in itself.
+    #[tactic(auto, using(crate::proofs::TableFacts::own_inside, crate::proofs::TableFacts::own_cells))]
+    fn push(&mut self, rule: Rule) -> Result<(), AllocError>
+        requires { IsInside [] rule }
+        ensures { OnOk result (self.new ≡ self.old ++ cell_of [] rule ∷ []) }
+    {
+        self.rules.push(rule)?;
+        Ok(())
+    }
+
     /// Adds a net whose word is told.
-    #[tactic(auto, using(crate::proofs::TableFacts::inside_push, crate::proofs::TableFacts::cells_push))]
     pub(crate) fn push_told(&mut self) -> Result<(), AllocError>
         ensures { OnOk result (self.new ≡ self.old ++ Told ∷ []) }
     {
-        self.rules.push(Rule::Told)?;
-        Ok(())
+        self.push(Rule::Told)
     }
 
     /// Adds a flip-flop.
-    #[tactic(auto, using(crate::proofs::TableFacts::inside_push, crate::proofs::TableFacts::cells_push))]
     pub(crate) fn push_flop(&mut self, clock: Clock, pin: Pin) -> Result<(), AllocError>
         ensures { OnOk result (self.new ≡ self.old ++ Flop clock pin ∷ []) }
     {
-        self.rules.push(Rule::Flop(clock, pin))?;
-        Ok(())
-    }
-
-    // Adds a gate with one pin.
-    #[tactic(auto, using(crate::proofs::TableFacts::inside_push, crate::proofs::TableFacts::cells_push))]
-    fn push_single(&mut self, kind: Kind, pin: Pin) -> Result<(), AllocError>
-        ensures { OnOk result (self.new ≡ self.old ++ Gate kind (pin ∷ []) ∷ []) }
-    {
-        self.rules.push(Rule::Single(kind, pin))?;
-        Ok(())
-    }
-
-    // Adds a gate with two pins.
-    #[tactic(auto, using(crate::proofs::TableFacts::inside_push, crate::proofs::TableFacts::cells_push))]
-    fn push_double(&mut self, kind: Kind, pin: Pin, other: Pin) -> Result<(), AllocError>
-        ensures { OnOk result (self.new ≡ self.old ++ Gate kind (pin ∷ other ∷ []) ∷ []) }
-    {
-        self.rules.push(Rule::Double(kind, pin, other))?;
-        Ok(())
+        self.push(Rule::Flop(clock, pin))
     }
 
     // Adds a gate whose pins stand in the list.
@@ -132,8 +121,8 @@ impl Cells {
         ensures { OnOk result (self.new ≡ self.old ++ Gate kind pins.now ∷ []) }
     {
         match pins {
-            [pin] => self.push_single(kind, *pin),
-            [pin, other] => self.push_double(kind, *pin, *other),
+            [pin] => self.push(Rule::Single(kind, *pin)),
+            [pin, other] => self.push(Rule::Double(kind, *pin, *other)),
             _ => self.push_listed(kind, pins),
         }
     }
@@ -185,7 +174,7 @@ impl Cells {
     {
         match self.rules[net] {
             Rule::Told => Ok(()),
-            Rule::Single(_, pin) => push_pins(readers, &[pin], net as u32),
+            Rule::Single(_, pin) | Rule::Flop(_, pin) => push_pins(readers, &[pin], net as u32),
             Rule::Double(_, pin, other) => push_pins(readers, &[pin, other], net as u32),
             Rule::Gate(_, part) => {
                 let begin = part.first as usize;
@@ -195,7 +184,6 @@ impl Cells {
                     net as u32,
                 )
             }
-            Rule::Flop(_, pin) => push_pins(readers, &[pin], net as u32),
         }
     }
 

@@ -61,8 +61,7 @@ fn push_member(alloc: Global, groups: &mut Vec<Group>, member: Member) -> Result
         let last = groups.len() - 1;
         groups[last].flops.push(member.slot)?;
     } else {
-        let mut flops = Vec::new(alloc);
-        flops.push(member.slot)?;
+        let flops = vec![in alloc; member.slot; 1]?;
         groups.push(Group {
             clock: member.clock,
             delay: member.delay,
@@ -105,25 +104,6 @@ fn may_change(cells: &Cells, words: &[Word], slot: usize, first: u32) -> bool
     }
 }
 
-// Marks a flip-flop that may get another level.
-#[inline]
-fn mark_flop(cells: &Cells, words: &[Word], slot: usize, marks: &mut Marks, first: u32)
-    requires slot { slot < length cells.now }
-    requires nets { length cells.now ≡ length words.now }
-    requires lawful { IsLawful (length words.now) first (cell_at cells.now slot) }
-    requires room { length words.now ≤ 64 * length marks.old }
-    requires begun { 1 ≤ first }
-    requires first { first < 64 }
-    ensures room { length marks.new ≡ length marks.old }
-    ensures kept { (m : ℕ) → has marks.old m ≡ true → has marks.new m ≡ true }
-    ensures marked { IsMarkedOrRests (has marks.new) (levels_of words.now) first cells.now slot }
-{
-    if !may_change(cells, words, slot, first) {
-        return;
-    }
-    marks.insert(slot);
-}
-
 // Marks those of some flip-flops that may get another level.
 fn mark_flops(cells: &Cells, words: &[Word], flops: &[u32], marks: &mut Marks, first: u32)
     requires slots { All (λ slot. slot < length cells.now) flops.now }
@@ -138,30 +118,11 @@ fn mark_flops(cells: &Cells, words: &[Word], flops: &[u32], marks: &mut Marks, f
     ensures marked { All (IsMarkedOrRests (has marks.new) (levels_of words.now) first cells.now) flops.now }
 {
     for slot in flops {
-        mark_flop(cells, words, *slot as usize, marks, first);
+        let slot = *slot as usize;
+        if may_change(cells, words, slot, first) {
+            marks.insert(slot);
+        }
     }
-}
-
-// Marks the flip-flops of a group that may get another level, where a sample arrives.
-fn mark_group(group: &Group, cells: &Cells, words: &[Word], marks: &mut Marks, to: u32, first: u32)
-    requires pace { IsPace group.now.clock }
-    requires delay { group.now.delay ≤ 1000000 }
-    requires slots { All (λ slot. slot < length cells.now) group.now.flops.items }
-    requires nets { length cells.now ≡ length words.now }
-    requires lawful { (slot : ℕ) → slot < length words.now
-        → IsLawful (length words.now) first (cell_at cells.now slot) }
-    requires room { length words.now ≤ 64 * length marks.old }
-    requires window { HasWindow to first }
-    ensures room { length marks.new ≡ length marks.old }
-    ensures kept { (m : ℕ) → has marks.old m ≡ true → has marks.new m ≡ true }
-    ensures arrivals { (slot place : ℕ) → Contains group.now.flops.items slot → first ≤ place → place < 64
-        → arrives_by group.now.clock group.now.delay (to + place - 64) ≡ true
-        → IsMarkedOrRests (has marks.new) (levels_of words.now) first cells.now slot }
-{
-    if first_arrival(group.clock, group.delay, to, first) >= 64 {
-        return;
-    }
-    mark_flops(cells, words, group.flops.as_slice(), marks, first);
 }
 
 /// Marks the flip-flops that get a sample in the window, from a place on, but those whose samples can only bring the
@@ -191,6 +152,8 @@ pub(crate) fn mark_arrivals(
         → IsMarkedOrRests (has marks.new) (levels_of words.now) first cells.now slot }
 {
     for group in groups {
-        mark_group(group, cells, words, marks, to, first);
+        if first_arrival(group.clock, group.delay, to, first) < 64 {
+            mark_flops(cells, words, group.flops.as_slice(), marks, first);
+        }
     }
 }

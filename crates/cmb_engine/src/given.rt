@@ -11,63 +11,8 @@ ghost use Rattle.cmb_engine.specs.Words.{levels_of, Writes};
 use crate::marks::Marks;
 use crate::readers::Readers;
 use crate::role::{Role, is_given};
-use crate::settle::mark_all;
+use crate::settle::put_word;
 use cmb_words::{Changed, Word, spliced};
-
-// Writes the word of one net from a place on, and marks who reads the net.
-fn write_word(
-    one: Changed,
-    readers: &[u32],
-    words: &mut [Word],
-    live: &mut Marks,
-    marks: &mut Marks,
-    first: u32,
-)
-    requires slot { one.net < length words.old }
-    requires first { first < 64 }
-    requires within { All (λ reader. reader < 64 * length marks.old) readers.now }
-    requires live { length words.old ≤ 64 * length live.old }
-    ensures writes { Writes words.old words.new live.old live.new marks.old marks.new }
-    ensures past { (slot place : ℕ) → place < first → levels_of words.new slot place ≡ levels_of words.old slot place }
-    ensures others { (slot place : ℕ) → (one.net ≡ slot → ⊥)
-        → levels_of words.new slot place ≡ levels_of words.old slot place }
-    ensures written { (place : ℕ) → first ≤ place → place < 64
-        → levels_of words.new one.net place ≡ level_at_place one.word place }
-    ensures news { AreMarked (has marks.new) readers.now }
-{
-    let slot = one.net as usize;
-    words[slot] = spliced(words[slot], one.word, first);
-    live.insert(slot);
-    mark_all(marks, readers);
-}
-
-// Writes the word of a net from a place on and marks who reads it, where the net is given.
-fn give_word(
-    one: Changed,
-    roles: &[Role],
-    readers: &Readers,
-    words: &mut [Word],
-    live: &mut Marks,
-    marks: &mut Marks,
-    first: u32,
-)
-    requires slots { (slot : ℕ) → gives roles.now slot ≡ true → slot < length words.old }
-    requires first { first < 64 }
-    requires lists { length readers.now ≡ length words.old }
-    requires within { AreBelow (length words.old) readers.now }
-    requires room { length words.old ≤ 64 * length marks.old }
-    requires live { length words.old ≤ 64 * length live.old }
-    ensures writes { Writes words.old words.new live.old live.new marks.old marks.new }
-    ensures written { AreWritten roles.now (one ∷ []) (levels_of words.old) (levels_of words.new) first }
-    ensures news { (slot : ℕ) → is_written roles.now (one ∷ []) slot ≡ true
-        → AreMarked (has marks.new) (slice_index_or readers.now slot []) }
-{
-    let net = one.net as usize;
-    if !is_given(roles, net) {
-        return;
-    }
-    write_word(one, readers.of(net), words, live, marks, first);
-}
 
 /// Writes the words of the given nets from a place on, and marks who reads them.
 #[inline(never)]
@@ -92,6 +37,10 @@ pub(crate) fn write_given(
         → AreMarked (has marks.new) (slice_index_or readers.now slot []) }
 {
     for one in given {
-        give_word(*one, roles, readers, words, live, marks, first);
+        let net = one.net as usize;
+        if is_given(roles, net) {
+            let word = spliced(words[net], one.word, first);
+            put_word(net, word, readers.of(net), words, live, marks);
+        }
     }
 }

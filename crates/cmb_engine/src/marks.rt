@@ -71,7 +71,8 @@ impl Marks {
         if let Some(found) = self.low.next_at(walk) {
             return Some(found);
         }
-        let k = self.high.next_from(walk.word + 1)?;
+        let word = Walk::behind(walk.word / 64, (walk.word % 64) as u32);
+        let k = self.high.next(word)?;
         *walk = Walk::at(k);
         self.low.next_at(walk)
     }

@@ -13,7 +13,7 @@ use crate::circuit::Circuit;
 use crate::flops::flops_of;
 use crate::lines::followers_of;
 use crate::marks::Marks;
-use crate::plan::{Plan, plan_of};
+use crate::plan::plan_of;
 use crate::readers::readers_of;
 use crate::role::Role;
 use crate::start::start_words;
@@ -35,26 +35,21 @@ pub(crate) fn open_circuit(
     ensures circuit { IfOk result (λ circuit. IsCircuit design.now circuit) }
     ensures roles { IfOk result (λ circuit. circuit.wiring.roles.items ≡ roles.items) }
 {
-    let Plan {
-        cells,
-        lines,
-        most,
-        width,
-    } = plan_of(alloc, design, roles.as_slice())?;
-    let readers = readers_of(alloc, &cells)?;
-    let flops = flops_of(alloc, &cells)?;
-    let followers = followers_of(alloc, &lines, design.netlist().len())?;
+    let plan = plan_of(alloc, design, roles.as_slice())?;
+    let readers = readers_of(alloc, &plan.cells)?;
+    let flops = flops_of(alloc, &plan.cells)?;
+    let followers = followers_of(alloc, &plan.lines, design.netlist().len())?;
     Ok(Circuit {
         wiring: Wiring {
             roles,
-            cells,
+            cells: plan.cells,
             readers,
             flops,
-            most,
+            most: plan.most,
         },
-        lines,
+        lines: plan.lines,
         followers,
-        width,
+        width: plan.width,
     })
 }
 

@@ -145,33 +145,6 @@ fn push_flop(
     cells.push_flop(Clock { first, ..clock }, pin)
 }
 
-// Adds the cell of a net that is driven; `pins` is room for its pins.
-fn push_driven(
-    design: &Design,
-    net: usize,
-    lines: &mut Lines,
-    pins: &mut Vec<Pin>,
-    cells: &mut Cells,
-) -> Result<(), AllocError>
-    requires netlist { IsNetlist design.now.netlist }
-    requires net { net < nets_of design.now }
-    requires nets { lines.old.nets ≡ nets_of design.now }
-    ensures nets { lines.new.nets ≡ lines.old.nets }
-    ensures grows { OnOk result (Grows lines.old.list.items lines.new.list.items lines.old.most lines.new.most) }
-    ensures cell { OnOk result (Pushes cells.old cells.new
-        lines.new.nets lines.new.list.items lines.new.most
-        (cell_in design.now net)) }
-{
-    match design.netlist().driver(net) {
-        Driver::Input => cells.push_told(),
-        Driver::Gate(kind, operands) => {
-            collect_pins(design, net, operands.as_slice(), lines, pins)?;
-            cells.push_gate(*kind, pins.as_slice())
-        }
-        Driver::Flop(source) => push_flop(design, net, *source, lines, cells),
-    }
-}
-
 // Adds the cell of a net; `pins` is room for its pins.
 fn push_net(
     design: &Design,
@@ -190,10 +163,16 @@ fn push_net(
         lines.new.nets lines.new.list.items lines.new.most
         (cell_as design.now net (role_of roles.now net))) }
 {
-    if is_driven(roles, net) {
-        push_driven(design, net, lines, pins, cells)
-    } else {
-        cells.push_told()
+    if !is_driven(roles, net) {
+        return cells.push_told();
+    }
+    match design.netlist().driver(net) {
+        Driver::Input => cells.push_told(),
+        Driver::Gate(kind, operands) => {
+            collect_pins(design, net, operands.as_slice(), lines, pins)?;
+            cells.push_gate(*kind, pins.as_slice())
+        }
+        Driver::Flop(source) => push_flop(design, net, *source, lines, cells),
     }
 }
 
@@ -237,16 +216,10 @@ pub(crate) fn plan_of(alloc: Global, design: &Design, roles: &[Role]) -> Result<
     let mut lines = Lines::new(alloc, design.netlist().len());
     let mut cells = net_cells(alloc, design, roles, &mut lines)?;
     cells.push_told_ones(lines.list.len())?;
-    let Lines {
-        nets: _,
-        list,
-        most,
-    } = lines;
-    let width = width_of(list.as_slice(), most);
     Ok(Plan {
         cells,
-        lines: list,
-        most,
-        width,
+        width: width_of(&lines.list, lines.most),
+        most: lines.most,
+        lines: lines.list,
     })
 }

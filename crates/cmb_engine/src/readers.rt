@@ -60,9 +60,8 @@ impl Readers {
     pub(crate) fn joined(alloc: Global, lists: &[Numbers]) -> Result<Readers, AllocError>
         ensures { IfOk result (λ readers. readers ≡ map (λ list. list.items) lists.now) }
     {
-        let mut starts = Vec::with_capacity(alloc, lists.len().saturating_add(1))?;
-        let mut nets = Vec::with_capacity(alloc, lists.len().saturating_mul(2))?;
-        starts.push(0)?;
+        let mut starts = vec![in alloc; 0; 1]?;
+        let mut nets = Vec::new(alloc);
         for list in lists {
             nets.extend_from_slice(list.as_slice())?;
             let Ok(end) = u32::try_from(nets.len()) else {
@@ -128,23 +127,6 @@ pub(crate) fn empty_lists(alloc: Global, count: usize) -> Result<Vec<Numbers>, A
     Ok(lists)
 }
 
-// For each net a list of those whose cells read it.
-fn reader_lists(alloc: Global, cells: &Cells) -> Result<Vec<Numbers>, AllocError>
-    requires few { length cells.now < 2 ^ 32 }
-    requires pins { (net : ℕ) → net < length cells.now
-        → All (λ pin. pin.net < length cells.now) (pins_of (slice_index_or cells.now net Told)) }
-    ensures len { IfOk result (λ lists. length lists.items ≡ length cells.now) }
-    ensures readers { IfOk result (λ lists. (net : ℕ)
-        → AreReaders cells.now net (slice_index_or (map (λ list. list.items) lists.items) net [])) }
-    ensures within { IfOk result (λ lists. AreBelow (length cells.now) (map (λ list. list.items) lists.items)) }
-{
-    let mut lists = empty_lists(alloc, cells.len())?;
-    for net in 0..cells.len() {
-        cells.list_net(net, &mut lists)?;
-    }
-    Ok(lists)
-}
-
 /// For each net those whose cells read it.
 pub(crate) fn readers_of(alloc: Global, cells: &Cells) -> Result<Readers, AllocError>
     requires few { length cells.now < 2 ^ 32 }
@@ -154,6 +136,9 @@ pub(crate) fn readers_of(alloc: Global, cells: &Cells) -> Result<Readers, AllocE
     ensures readers { IfOk result (λ readers. (net : ℕ) → AreReaders cells.now net (slice_index_or readers net [])) }
     ensures within { IfOk result (λ readers. AreBelow (length cells.now) readers) }
 {
-    let lists = reader_lists(alloc, cells)?;
+    let mut lists = empty_lists(alloc, cells.len())?;
+    for net in 0..cells.len() {
+        cells.list_net(net, &mut lists)?;
+    }
     Readers::joined(alloc, &lists)
 }

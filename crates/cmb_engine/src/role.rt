@@ -4,7 +4,7 @@ ghost use Rattle.std.specs.Prelude.{◌≡◌};
 ghost use Rattle.cmb_engine.specs.Roles.{drives, gives};
 
 /// What an engine does with a net: it drives it, is given it by others, or has nothing to do with it.
-#[derive(Clone, Copy, Debug, PartialEq, Eq)]
+#[derive(Clone, Copy)]
 pub(crate) enum Role {
     Driven,
     Given,

@@ -1,15 +1,15 @@
 //! Visits of nets with news.
 
 ghost use Rattle.std.specs.Prelude.{◌≡◌, ◌≢◌, ℕ, ◌+◌, ◌*◌, ◌<◌, ◌≤◌, true, [], All, length, slice_index};
-ghost use Rattle.std.specs.Prelude.{slice_index_or};
+ghost use Rattle.std.specs.Prelude.{slice_index_or, slice_set};
 ghost use Rattle.cmb_wave.specs.declared.level.Level.{Level};
 ghost use Rattle.cmb_engine.specs.Arrivals.{IsArrival};
 ghost use Rattle.cmb_engine.specs.Bits.{has};
 ghost use Rattle.cmb_engine.specs.Cells.{Told, IsMade, IsLawful, IsReady, IsTrueBelow, IsWired, AreReaders, AreSettled};
-ghost use Rattle.cmb_engine.specs.Cells.{cell_at};
+ghost use Rattle.cmb_engine.specs.Cells.{cell_at, AreMarked};
 ghost use Rattle.cmb_engine.specs.Sweeps.{Sweeps};
 ghost use Rattle.cmb_engine.specs.Windows.{HasWindow};
-ghost use Rattle.cmb_engine.specs.Words.{levels_of};
+ghost use Rattle.cmb_engine.specs.Words.{levels_of, Writes};
 
 use crate::arrivals::{Arrival, any_arrival};
 use crate::cells::Cells;
@@ -29,6 +29,28 @@ pub(crate) fn mark_all(marks: &mut Marks, nets: &[u32])
     for net in nets {
         marks.insert(*net as usize);
     }
+}
+
+/// Writes the word of a slot, puts the slot among the live ones, and marks those that read it.
+#[inline]
+pub(crate) fn put_word(
+    slot: usize,
+    word: Word,
+    readers: &[u32],
+    words: &mut [Word],
+    live: &mut Marks,
+    marks: &mut Marks,
+)
+    requires slot { slot < length words.old }
+    requires within { All (λ reader. reader < 64 * length marks.old) readers.now }
+    requires live { length words.old ≤ 64 * length live.old }
+    ensures writes { Writes words.old words.new live.old live.new marks.old marks.new }
+    ensures words { words.new ≡ slice_set words.old slot word }
+    ensures news { AreMarked (has marks.new) readers.now }
+{
+    words[slot] = word;
+    live.insert(slot);
+    mark_all(marks, readers);
 }
 
 /// Makes the word of a net from a place on, and takes its mark away; where the word is another one than before, the net
@@ -67,9 +89,7 @@ pub(crate) fn visit(
     if !made.differs_from(words[net], first) {
         return;
     }
-    words[net] = made;
-    live.insert(net);
-    mark_all(marks, readers.of(net));
+    put_word(net, made, readers.of(net), words, live, marks);
 }
 
 /// Visits the marked nets by rising number, each once.

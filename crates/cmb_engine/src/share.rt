@@ -107,8 +107,7 @@ impl<'d> ShareEngine<'d> {
             state,
         } = self;
         drop(state);
-        let circuit = circuit.narrowed(design, width);
-        ShareEngine::begin(alloc, design, circuit)
+        ShareEngine::begin(alloc, design, Circuit { width, ..circuit })
     }
 
     /// The most ticks of a window. Windows end at the multiples of it, and the last one at the horizon.

@@ -30,23 +30,16 @@ fn first_roles(alloc: Global, driven: &[bool]) -> Result<Vec<Role>, AllocError>
     Ok(roles)
 }
 
-// Lets a net be given, where it isn't driven.
-fn give(roles: &mut [Role], net: usize)
-    requires { net < length roles.old }
-    ensures { Gives roles.old roles.new (net ∷ []) }
-{
-    if let Role::Absent = roles[net] {
-        roles[net] = Role::Given;
-    }
-}
-
 // Lets some nets be given, where they aren't driven.
 fn give_all(roles: &mut [Role], nets: &[u32])
     requires { All (λ net. net < length roles.old) nets.now }
     ensures { Gives roles.old roles.new nets.now }
 {
     for net in nets {
-        give(roles, *net as usize);
+        let net = *net as usize;
+        if let Role::Absent = roles[net] {
+            roles[net] = Role::Given;
+        }
     }
 }
 
@@ -60,7 +53,7 @@ fn give_pins(design: &Design, net: usize, roles: &mut [Role])
     match design.netlist().driver(net) {
         Driver::Input => {}
         Driver::Gate(_, operands) => give_all(roles, operands.as_slice()),
-        Driver::Flop(source) => give(roles, *source as usize),
+        Driver::Flop(source) => give_all(roles, &[*source]),
     }
 }
 

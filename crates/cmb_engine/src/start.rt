@@ -42,18 +42,6 @@ fn start_word(level: Level) -> Word
     Word::constant(Level::X).with_from(63, level)
 }
 
-// The words of a design's nets that end before tick 1.
-fn net_words(alloc: Global, design: &Design) -> Result<Vec<Word>, AllocError>
-    ensures len { IfOk result (λ words. length words.items ≡ nets_of design.now) }
-    ensures shows { IfOk result (λ words. Shows (levels_of words.items) (value design.now) (nets_of design.now) 1) }
-{
-    let mut words = Vec::with_capacity(alloc, design.netlist().len())?;
-    for net in 0..design.netlist().len() {
-        words.push(start_word(start_level(design, net)))?;
-    }
-    Ok(words)
-}
-
 /// The words of a design's nets and of lines that follow some of them, which end before tick 1.
 pub(crate) fn start_words(
     alloc: Global,
@@ -66,9 +54,10 @@ pub(crate) fn start_words(
         → Shows (levels_of words.items) (trace_of design.now roles lines.now)
         (nets_of design.now + length lines.now) 1) }
 {
-    let mut words = net_words(alloc, design)?;
-    for _ in lines {
-        words.push(start_word(Level::X))?;
+    let nets = design.netlist().len();
+    let mut words = vec![in alloc; start_word(Level::X); nets + lines.len()]?;
+    for net in 0..nets {
+        words[net] = start_word(start_level(design, net));
     }
     Ok(words)
 }

@@ -81,6 +81,7 @@ impl State {
             64 - ticks,
             changed,
         )?;
+        self.clock = to;
         note_lines(
             changed,
             &circuit.followers,
@@ -88,8 +89,6 @@ impl State {
             &mut self.calendar,
             to,
             64 - ticks,
-        )?;
-        self.clock = to;
-        Ok(())
+        )
     }
 }

@@ -10,36 +10,9 @@ ghost use Rattle.cmb_engine.specs.Words.{levels_of, Writes};
 
 use crate::marks::Marks;
 use crate::readers::Readers;
-use crate::settle::mark_all;
+use crate::settle::put_word;
 use cmb_calendar::Tell;
 use cmb_words::Word;
-
-// Writes what is told of a slot from its tick on, and marks who reads the slot.
-fn write_tell(
-    tell: Tell,
-    readers: &[u32],
-    words: &mut [Word],
-    live: &mut Marks,
-    marks: &mut Marks,
-    to: u32,
-)
-    requires slot { tell.slot < length words.old }
-    requires begun { 1 ≤ tell.tick }
-    requires from { to ≤ tell.tick + 64 }
-    requires upto { tell.tick < to }
-    requires to { to ≤ 1000000 }
-    requires within { All (λ reader. reader < 64 * length marks.old) readers.now }
-    requires live { length words.old ≤ 64 * length live.old }
-    ensures writes { Writes words.old words.new live.old live.new marks.old marks.new }
-    ensures words { (slot place : ℕ) → place < 64 → levels_of words.new slot place
-        ≡ told_level (tell ∷ []) slot (levels_of words.old slot place) (to + place - 64) }
-    ensures news { AreMarked (has marks.new) readers.now }
-{
-    let slot = tell.slot as usize;
-    words[slot] = words[slot].with_from(tell.tick + 64 - to, tell.level);
-    live.insert(slot);
-    mark_all(marks, readers);
-}
 
 /// Writes what is told into the words that end before a tick, and marks who reads the slots that it is told of.
 #[inline(never)]
@@ -66,6 +39,7 @@ pub(crate) fn write_told(
 {
     for tell in tells {
         let slot = tell.slot as usize;
-        write_tell(*tell, readers.of(slot), words, live, marks, to);
+        let word = words[slot].with_from(tell.tick + 64 - to, tell.level);
+        put_word(slot, word, readers.of(slot), words, live, marks);
     }
 }

@@ -4,7 +4,7 @@ use Rattle.std.specs.Prelude.{All, Contains, count_by}
 use Rattle.std.specs.List.{filter, range_with_len}
 use Rattle.std.specs.List.Sorted.{IsStrictlyIncreasing}
 use Rattle.std.proofs.lemmas.Bool.{cases_eq, cases_lt}
-use Rattle.std.proofs.lemmas.List.{append-nil, append_assoc, map-id, get_or_default, get_or_past, get_or-set_same, get_or-set_other, length-append, take-append-le, take_all, take_more}
+use Rattle.std.proofs.lemmas.List.{append-nil, append_assoc, map-id, get_or_default, get_or_past, get_or-set_same, get_or-set_other, length-append, length-set, take-append-le, take_all, take_more}
 use Rattle.std.proofs.lemmas.List.Elements.{All-nil, All-append, All-filter, All-push, All-weaker, All-contains, All-contains_itself, filter-append, Contains-append_left, Contains-append_right, Contains-push, filter_passes}
 use Rattle.std.proofs.lemmas.List.FromFn.{map-range_with_len_more, length-range_with_len, get_or-range_with_len}
 use Rattle.std.proofs.lemmas.List.Kept.{IsStrictlyIncreasing-filter}
@@ -253,6 +253,23 @@ marked_no p net old new so_far unmarked is =
 
 pub unmarked_at : (marks : List Bool) (net : ℕ) (read : Bool) → net < length marks → read ≡ get_or marks net read → read ≡ false → get_or marks net false ≡ false
 unmarked_at marks net read within is e = get_or_default marks net false read within ∙ sym is ∙ e
+
+-- what is left of one net that is added, unless it is there
+pub record IsAdded (old new : Found) (net : ℕ) : Type 0 where
+  pub found : IsFound new
+  pub marks : length new.marks.items ≡ length old.marks.items
+  pub gains : Gains old.list.items (net ∷ []) new.list.items
+
+pub added_there : (found : Found) (net : ℕ) → IsFound found → get_or found.marks.items net false ≡ true → IsAdded found found net
+added_there found net is marked = record { found = is; marks = refl; gains = gains_there found net is marked }
+
+pub added_new : (old new : Found) (net : ℕ) → IsFound old → net < length old.marks.items → get_or old.marks.items net false ≡ false
+    → new.marks.items ≡ set old.marks.items net true → new.list.items ≡ old.list.items ++ net ∷ [] → IsAdded old new net
+added_new old new net is within unmarked m l = record {
+  found = found_new old new net is within unmarked m l;
+  marks = ap length m ∙ length-set old.marks.items net true;
+  gains = let P : List ℕ → Type 0 = λ xs. Gains old.list.items (net ∷ []) xs in subst P (sym l) (gains_new old.list.items net);
+}
 
 -- the pins of a driver are nets
 pub wired_pins : (count : ℕ) (driver : Driver) → IsWired count driver → All (λ pin. pin < count) (pins_of driver)

@@ -32,21 +32,6 @@ fn nothing(alloc: Global, count: usize) -> Result<Found, AllocError>
 impl Found {
     ghost use Rattle.cmb_restrict.specs.Found.{IsFound, Gains};
 
-    /// Adds a net, unless it is there.
-    fn add(&mut self, net: u32) -> Result<(), AllocError>
-        requires found { IsFound self.old }
-        requires net { net < length self.old.marks.items }
-        ensures found { OnOk result (IsFound self.new) }
-        ensures marks { length self.new.marks.items ≡ length self.old.marks.items }
-        ensures gains { OnOk result (Gains self.old.list.items (net ∷ []) self.new.list.items) }
-    {
-        if !self.marks[net as usize] {
-            self.list.push(net)?;
-            self.marks[net as usize] = true;
-        }
-        Ok(())
-    }
-
     /// Adds those nets of a list that aren't there.
     fn add_all(&mut self, nets: &[u32]) -> Result<(), AllocError>
         requires found { IsFound self.old }
@@ -56,7 +41,10 @@ impl Found {
         ensures gains { OnOk result (Gains self.old.list.items nets.now self.new.list.items) }
     {
         for net in nets {
-            self.add(*net)?;
+            if !self.marks[*net as usize] {
+                self.list.push(*net)?;
+                self.marks[*net as usize] = true;
+            }
         }
         Ok(())
     }
@@ -75,7 +63,7 @@ fn add_asked(netlist: &Netlist, net: usize, found: &mut Found) -> Result<(), All
     match netlist.driver(net) {
         Driver::Input => Ok(()),
         Driver::Gate(_, operands) => found.add_all(operands.as_slice()),
-        Driver::Flop(source) => found.add(*source),
+        Driver::Flop(source) => found.add_all(&[*source]),
     }
 }
 

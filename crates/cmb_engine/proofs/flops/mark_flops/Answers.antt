@@ -4,24 +4,39 @@ use Rattle.std.proofs.lemmas.List.{get_or_default}
 use Rattle.cmb_engine.specs.Bits.{has}
 use Rattle.cmb_engine.specs.Circuits.{IsMarkedOrRests}
 use Rattle.cmb_engine.specs.Words.{levels_of}
-use Rattle.cmb_engine.proofs.GroupFacts.{rests-kept}
+use Rattle.cmb_engine.proofs.GroupFacts.{MarksOne, marks-none, marks-one, rests-kept}
 use Rattle.cmb_engine.proofs.flops.mark_flops.Goals as goal
+use Rattle.cmb_engine.proofs.flops.mark_flops.Goals.{then-may_change, else-may_change}
 
 pub loop-slot-preserved : goal.loop-slot-preserved
 loop-slot-preserved c = record {
-  room = c.mark_flop.ensures.room ∙ c.loop-slot.invariant.room;
-  kept = λ m h. c.mark_flop.ensures.kept m (c.loop-slot.invariant.kept m h);
+  room = one.room ∙ c.loop-slot.invariant.room;
+  kept = λ m h. one.kept m (c.loop-slot.invariant.kept m h);
   marked = λ k below. go k below (cases_lt k c.loop-slot.slot-index);
 }
   where
+    slot : ℕ
+    slot = get_or c.args.flops.now c.loop-slot.slot-index 0
+
+    one : MarksOne c.loop-slot.marks c.if-may_change.marks (levels_of c.args.words.now) c.args.first c.args.cells.now slot
+    one =
+        elim c.if-may_change.branch [
+          | then-may_change w ↦
+              rw w.marks-is
+              (marks-one c.loop-slot.marks w.insert.new.self (levels_of c.args.words.now) c.args.first c.args.cells.now slot w.insert.ensures.len w.insert.ensures.has)
+          | else-may_change w ↦
+              rw w.marks-is
+              (marks-none c.loop-slot.marks (levels_of c.args.words.now) c.args.first c.args.cells.now slot (c.may_change.ensures w.if-may_change.false))
+        ]
+
     go : (k : ℕ) → k < c.loop-slot.slot-index + 1 → (k < c.loop-slot.slot-index) ⊎ (c.loop-slot.slot-index ≤ k)
-        → IsMarkedOrRests (has c.mark_flop.new.marks) (levels_of c.args.words.now) c.args.first c.args.cells.now (get_or c.args.flops.now k 0)
+        → IsMarkedOrRests (has c.if-may_change.marks) (levels_of c.args.words.now) c.args.first c.args.cells.now (get_or c.args.flops.now k 0)
     go k below (inl l) =
-        rests-kept c.loop-slot.marks c.mark_flop.new.marks (levels_of c.args.words.now) c.args.first c.args.cells.now (get_or c.args.flops.now k 0) c.mark_flop.ensures.kept
+        rests-kept c.loop-slot.marks c.if-may_change.marks (levels_of c.args.words.now) c.args.first c.args.cells.now (get_or c.args.flops.now k 0) one.kept
         (c.loop-slot.invariant.marked k l)
     go k below (inr l) =
         let at : c.loop-slot.slot-index ≡ k = omega (arith, l, below) in
-        subst (λ (n : ℕ). IsMarkedOrRests (has c.mark_flop.new.marks) (levels_of c.args.words.now) c.args.first c.args.cells.now (get_or c.args.flops.now n 0)) at c.mark_flop.ensures.marked
+        subst (λ (n : ℕ). IsMarkedOrRests (has c.if-may_change.marks) (levels_of c.args.words.now) c.args.first c.args.cells.now (get_or c.args.flops.now n 0)) at one.here
 
 pub returns-clause-marked : goal.returns-clause-marked
 returns-clause-marked c = λ k d small.

@@ -1,4 +1,4 @@
-use Rattle.std.proofs.Common.{◌≡◌, ℕ, ◌-◌, List, [], ◌∷◌, ◌++◌, length, get_or, refl, sym, ap, ap₂, subst, ◌∙◌, arith}
+use Rattle.std.proofs.Common.{◌≡◌, ℕ, ◌-◌, List, [], ◌∷◌, length, get_or, refl, sym, ap, ap₂, subst, ◌∙◌, arith}
 use Rattle.std.specs.Prelude.{Contains}
 use Rattle.std.proofs.lemmas.List.Elements.{Contains-push}
 use Rattle.cmb_engine.specs.Circuits.{IsInGroup}
@@ -25,13 +25,13 @@ returns-in_ok-push-clause-listed c =
     c.index_mut.ensures.value refl refl c.args.member.slot c.in_ok-push.ensures.items c.args.member.clock c.args.member.delay
     (sym (ap (λ (g : Group). g.clock) last) ∙ same.0) (sym (ap (λ (g : Group). g.delay) last) ∙ same.1)
 
-pub returns-in_ok-push-3-clause-kept : goal.returns-in_ok-push-3-clause-kept
-returns-in_ok-push-3-clause-kept c = λ clock delay slot h.
-    subst (λ (groups : List Group). IsInGroup clock delay slot groups) (sym c.in_ok-push-3.ensures.items) (group-added c.args.groups.now.items _ clock delay slot h)
+pub returns-in_ok-push-2-clause-kept : goal.returns-in_ok-push-2-clause-kept
+returns-in_ok-push-2-clause-kept c = λ clock delay slot h.
+    subst (λ (groups : List Group). IsInGroup clock delay slot groups) (sym c.in_ok-push-2.ensures.items) (group-added c.args.groups.now.items _ clock delay slot h)
 
-pub returns-in_ok-push-3-clause-listed : goal.returns-in_ok-push-3-clause-listed
-returns-in_ok-push-3-clause-listed c =
-    let items : c.push-else-is_of_last.new.self.items ≡ c.args.member.slot ∷ [] = c.in_ok-push-2.ensures.items ∙ ap (λ xs. xs ++ c.args.member.slot ∷ []) c.new-flops.ensures.items in
-    subst (λ (groups : List Group). IsInGroup c.args.member.clock c.args.member.delay c.args.member.slot groups) (sym c.in_ok-push-3.ensures.items)
-    (group-new c.args.groups.now.items (record { clock = c.args.member.clock; delay = c.args.member.delay; flops = c.push-else-is_of_last.new.self }) c.args.member.slot
+pub returns-in_ok-push-2-clause-listed : goal.returns-in_ok-push-2-clause-listed
+returns-in_ok-push-2-clause-listed c =
+    let items : c.in_ok-flops.flops.items ≡ c.args.member.slot ∷ [] = c.in_ok-flops.ensures.items_if_clones_equal (λ y h. h) in
+    subst (λ (groups : List Group). IsInGroup c.args.member.clock c.args.member.delay c.args.member.slot groups) (sym c.in_ok-push-2.ensures.items)
+    (group-new c.args.groups.now.items (record { clock = c.args.member.clock; delay = c.args.member.delay; flops = c.in_ok-flops.flops }) c.args.member.slot
     (subst (λ (xs : List ℕ). Contains xs c.args.member.slot) (sym items) (Contains-push [] c.args.member.slot)))

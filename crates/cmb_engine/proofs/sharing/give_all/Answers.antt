@@ -1,24 +1,31 @@
-use Rattle.std.proofs.Common.{ℕ, List, subst, arith}
-use Rattle.std.proofs.lemmas.List.{take_all}
-use Rattle.cmb_engine.specs.Roles.{Gives}
-use Rattle.cmb_engine.proofs.RoleFacts.{gives-length, gives-more, gives-nothing}
+use Rattle.std.proofs.Common.{ℕ, ◌<◌, List, [], ◌∷◌, length, get_or, subst, ap, ◌∙◌, arith}
+use Rattle.std.proofs.lemmas.List.{get_or_default, take_all}
+use Rattle.cmb_engine.specs.Roles.{Gives, is_absent, role_of}
+use Rattle.cmb_engine.specs.declared.role.Role.TheVariants.{Driven}
+use Rattle.cmb_engine.proofs.RoleFacts.{gives-known, gives-length, gives-more, gives-nothing, gives-written, not-absent}
 use Rattle.cmb_engine.proofs.sharing.give_all.Goals as goal
+use Rattle.cmb_engine.proofs.sharing.give_all.Goals.{in-Absent, in_default}
 
 pub loop-net-init : goal.loop-net-init
 loop-net-init c = record { gives = gives-nothing c.args.roles.now }
 
-pub give-requires : goal.give-requires
-give-requires c =
+pub loop-net-preserved : goal.loop-net-preserved
+loop-net-preserved c =
+    let net : ℕ = get_or c.args.nets.now c.loop-net.net-index 0 in
+    let small : net < length c.loop-net.roles =
     omega (
       arith,
       c.requires c.loop-net.net-index 0 c.loop-net-test.true,
       gives-length c.args.roles.now c.loop-net.roles _ c.loop-net.invariant.gives,
-    )
-
-pub loop-net-preserved : goal.loop-net-preserved
-loop-net-preserved c = record {
-  gives = gives-more c.args.roles.now c.loop-net.roles c.give.new.roles c.args.nets.now c.loop-net.net-index 0 c.loop-net-test.true c.loop-net.invariant.gives c.give.ensures;
-}
+    ) in
+    let gave : Gives c.loop-net.roles c.match-roles-net.roles (net ∷ []) =
+    elim c.match-roles-net.branch [
+      | in-Absent w ↦ rw w.roles-is (gives-written c.loop-net.roles net small (ap is_absent (get_or_default c.loop-net.roles net Driven _ small ∙ w.in-Absent.is)))
+      | in_default w ↦ rw w.roles-is (gives-known c.loop-net.roles net (not-absent (role_of c.loop-net.roles net) w.in_default.not-Absent))
+    ] in
+    record {
+      gives = gives-more c.args.roles.now c.loop-net.roles c.match-roles-net.roles c.args.nets.now c.loop-net.net-index 0 c.loop-net-test.true c.loop-net.invariant.gives gave;
+    }
 
 pub returns : goal.returns
 returns c =

@@ -1,5 +1,6 @@
-use Rattle.std.proofs.Common.{◌≡◌, ℕ, ◌<◌, List, length, sym, subst, ap, ◌∙◌}
+use Rattle.std.proofs.Common.{◌≡◌, ℕ, ◌<◌, List, [], length, sym, subst, ap, ◌∙◌, arith}
 use Rattle.std.specs.Prelude.{All}
+use Rattle.std.proofs.lemmas.List.Elements.{All-push}
 use Rattle.cmb_bench.specs.Netlist.{Netlist, driver_of}
 use Rattle.cmb_bench.specs.declared.netlist.Driver.TheVariants as driver
 use Rattle.cmb_engine.proofs.PlanFacts.{wired-flop, wired-gate}
@@ -14,9 +15,10 @@ give_all-requires c =
     subst (λ (operands : List ℕ). All (λ operand. operand < length c.args.roles.now) operands) (sym c.as_slice.ensures)
     (subst (λ (nets : ℕ). All (λ operand. operand < nets) c.in-Gate.operands) (sym c.requires.count) wired.1)
 
-pub give-requires : goal.give-requires
-give-requires c =
+pub give_all-requires-in-Flop : goal.give_all-requires-in-Flop
+give_all-requires-in-Flop c =
     let netlist : Netlist = c.args.design.now.netlist in
     let is : driver_of netlist c.args.net ≡ driver.Flop c.in-Flop.source =
     ap (λ (netlist : Netlist). driver_of netlist c.args.net) (sym c.netlist.ensures) ∙ sym c.driver.ensures ∙ c.in-Flop.is in
-    subst (λ (nets : ℕ). c.in-Flop.source < nets) (sym c.requires.count) (wired-flop netlist c.args.net c.in-Flop.source c.requires.netlist is)
+    All-push (λ (net : ℕ). net < length c.args.roles.now) [] c.in-Flop.source (λ k d none. absurd (omega arith))
+    (subst (λ (nets : ℕ). c.in-Flop.source < nets) (sym c.requires.count) (wired-flop netlist c.args.net c.in-Flop.source c.requires.netlist is))

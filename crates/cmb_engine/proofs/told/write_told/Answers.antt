@@ -5,32 +5,50 @@ use Rattle.std.proofs.lemmas.List.Elements.{Contains-get_or}
 use Rattle.cmb_wave.specs.declared.level.Level.{Level}
 use Rattle.cmb_wave.specs.declared.level.Level.TheVariants.{Zero}
 use Rattle.cmb_calendar.specs.declared.tell.Tell.{Tell}
+use Rattle.cmb_words.specs.declared.word.Word.{Word}
 use Rattle.cmb_engine.specs.Bits.{has}
 use Rattle.cmb_engine.specs.Cells.{AreMarked}
 use Rattle.cmb_engine.specs.Tells.{told_level}
 use Rattle.cmb_engine.specs.Words.{levels_of}
-use Rattle.cmb_engine.proofs.TellFacts.{told-more}
+use Rattle.cmb_engine.proofs.TellFacts.{told-more, told-written}
+use Rattle.cmb_engine.proofs.WordFacts.{levels_of-read}
 use Rattle.cmb_engine.proofs.WriteFacts.{writes-on}
 use Rattle.cmb_engine.proofs.told.write_told.Goals as goal
 
 abbrev none : Tell
 none = record { tick = 0; slot = 0; level = Zero }
 
+pub bounds-words-slot : goal.bounds-words-slot
+bounds-words-slot c =
+    let facts = c.requires.slots (get_or c.args.tells.now c.loop-tell.tell-index none) (Contains-get_or c.args.tells.now c.loop-tell.tell-index none c.loop-tell-test.true) in
+    omega (arith, facts.0, c.loop-tell.invariant.writes.len)
+
+pub overflow_add-tell : goal.overflow_add-tell
+overflow_add-tell c =
+    let facts = c.requires.slots (get_or c.args.tells.now c.loop-tell.tell-index none) (Contains-get_or c.args.tells.now c.loop-tell.tell-index none c.loop-tell-test.true) in
+    omega (arith, facts.3, c.requires.to)
+
+pub overflow_sub-tell : goal.overflow_sub-tell
+overflow_sub-tell c =
+    let facts = c.requires.slots (get_or c.args.tells.now c.loop-tell.tell-index none) (Contains-get_or c.args.tells.now c.loop-tell.tell-index none c.loop-tell-test.true) in
+    omega (arith, facts.2)
+
+pub with_from-word-requires : goal.with_from-word-requires
+with_from-word-requires c =
+    let facts = c.requires.slots (get_or c.args.tells.now c.loop-tell.tell-index none) (Contains-get_or c.args.tells.now c.loop-tell.tell-index none c.loop-tell-test.true) in
+    omega (arith, facts.2, facts.3)
+
 pub of-requires : goal.of-requires
 of-requires c =
     let facts = c.requires.slots (get_or c.args.tells.now c.loop-tell.tell-index none) (Contains-get_or c.args.tells.now c.loop-tell.tell-index none c.loop-tell-test.true) in
     omega (arith, facts.0, c.requires.lists)
 
-pub write_tell-requires : goal.write_tell-requires
-write_tell-requires c =
+pub put_word-requires : goal.put_word-requires
+put_word-requires c =
     let facts = c.requires.slots (get_or c.args.tells.now c.loop-tell.tell-index none) (Contains-get_or c.args.tells.now c.loop-tell.tell-index none c.loop-tell-test.true) in
     let place : ℕ = (get_or c.args.tells.now c.loop-tell.tell-index none).slot in
     record {
       slot = omega (arith, facts.0, c.loop-tell.invariant.writes.len);
-      begun = facts.1;
-      from = facts.2;
-      upto = facts.3;
-      to = c.requires.to;
       within = λ k d small.
           let below : get_or c.of.result.now k d < length c.args.words.now =
           subst (λ (readers : List ℕ). get_or readers k d < length c.args.words.now) (sym c.of.ensures)
@@ -44,22 +62,26 @@ loop-tell-preserved c =
     let tell : Tell = get_or c.args.tells.now c.loop-tell.tell-index none in
     let lists : List (List ℕ) = c.args.readers.now in
     let facts = c.requires.slots tell (Contains-get_or c.args.tells.now c.loop-tell.tell-index none c.loop-tell-test.true) in
+    let inside : tell.slot < length c.loop-tell.words = omega (arith, facts.0, c.loop-tell.invariant.writes.len) in
     record {
-      writes = writes-on c.args.words.now c.loop-tell.words c.write_tell.new.words c.args.live.now c.loop-tell.live c.write_tell.new.live c.args.marks.now c.loop-tell.marks c.write_tell.new.marks
-          c.loop-tell.invariant.writes c.write_tell.ensures.writes;
+      writes = writes-on c.args.words.now c.loop-tell.words c.put_word.new.words c.args.live.now c.loop-tell.live c.put_word.new.live c.args.marks.now c.loop-tell.marks c.put_word.new.marks
+          c.loop-tell.invariant.writes c.put_word.ensures.writes;
       words = λ slot place small.
-          c.write_tell.ensures.words slot place small
+          ap (λ (words : List Word). levels_of words slot place) c.put_word.ensures.words
+          ∙ told-written c.loop-tell.words tell c.with_from-word.result c.args.to slot place inside facts.1 facts.2
+          (λ i l. c.with_from-word.ensures.below i l ∙ sym (levels_of-read c.loop-tell.words tell.slot c.index-words-slot.result i inside c.index-words-slot.is))
+          c.with_from-word.ensures.from small
           ∙ ap (λ (held : Level). told_level (tell ∷ []) slot held (c.args.to + place - 64)) (c.loop-tell.invariant.words slot place small)
           ∙ sym (told-more c.args.tells.now c.loop-tell.tell-index none slot (levels_of c.args.words.now slot place) (c.args.to + place - 64) c.loop-tell-test.true);
       news = λ k d l.
           elim (cases_lt k c.loop-tell.tell-index) [
-            | inl before ↦ λ j small. c.write_tell.ensures.writes.marks _ (c.loop-tell.invariant.news k d before j small)
+            | inl before ↦ λ j small. c.put_word.ensures.writes.marks _ (c.loop-tell.invariant.news k d before j small)
             | inr now ↦
                 let e : c.loop-tell.tell-index ≡ k = omega (arith, l, now) in
                 let here : tell ≡ get_or c.args.tells.now k d =
                 get_or_default c.args.tells.now c.loop-tell.tell-index none d c.loop-tell-test.true ∙ ap (λ (n : ℕ). get_or c.args.tells.now n d) e in
-                subst (λ (t : Tell). AreMarked (has c.write_tell.new.marks) (get_or lists t.slot [])) here
-                (subst (λ (readers : List ℕ). AreMarked (has c.write_tell.new.marks) readers) c.of.ensures c.write_tell.ensures.news)
+                subst (λ (t : Tell). AreMarked (has c.put_word.new.marks) (get_or lists t.slot [])) here
+                (subst (λ (readers : List ℕ). AreMarked (has c.put_word.new.marks) readers) c.of.ensures c.put_word.ensures.news)
           ];
     }
 

@@ -1,4 +1,4 @@
-use Rattle.std.proofs.Common.{arith, ℕ, List, sym, subst, ◌<◌, length}
+use Rattle.std.proofs.Common.{ℕ, List, sym, subst, ◌<◌, length}
 use Rattle.std.specs.Prelude.{All}
 use Rattle.cmb_bench.specs.declared.netlist.Driver.TheVariants.{Flop}
 use Rattle.cmb_restrict.proofs.FoundFacts.{pins_below}
@@ -9,5 +9,6 @@ add_all-requires-clause-nets c =
     let P : List ℕ → Type 0 = λ xs. All (λ pin. pin < length c.args.found.now.marks.items) xs in
     subst P (sym c.as_slice.ensures) (pins_below c.args.netlist.now c.args.net _ _ _ c.requires.sound c.requires.net c.requires.marks c.driver.ensures c.in-Gate.is)
 
-pub add-requires-clause-net : goal.add-requires-clause-net
-add-requires-clause-net c = pins_below c.args.netlist.now c.args.net _ _ (Flop c.in-Flop.source) c.requires.sound c.requires.net c.requires.marks c.driver.ensures c.in-Flop.is 0 0 (omega arith)
+pub add_all-requires-in-Flop-clause-nets : goal.add_all-requires-in-Flop-clause-nets
+add_all-requires-in-Flop-clause-nets c =
+    pins_below c.args.netlist.now c.args.net _ _ (Flop c.in-Flop.source) c.requires.sound c.requires.net c.requires.marks c.driver.ensures c.in-Flop.is

@@ -13,8 +13,8 @@ loop-list-preserved c =
     let grows = c.in_ok-extend_from_slice.ensures.items in
     let end : c.in-Ok.end ≡ length (nets ++ list) = omega (arith, c.in-Ok.ensures, c.len.ensures, ap length grows, c.extend_from_slice.new.self.ok) in
     record {
-      starts = rw (grows, c.in_ok-push-2.ensures.items) (starts-append nets list c.loop-list.starts.items _ c.loop-list.invariant.starts end);
-      lists = ap₂ lists_between grows c.in_ok-push-2.ensures.items
+      starts = rw (grows, c.in_ok-push.ensures.items) (starts-append nets list c.loop-list.starts.items _ c.loop-list.invariant.starts end);
+      lists = ap₂ lists_between grows c.in_ok-push.ensures.items
           ∙ lists_between-append nets list c.loop-list.starts.items _ c.loop-list.invariant.starts end
           ∙ ap (λ ls. ls ++ list ∷ []) c.loop-list.invariant.lists
           ∙ ap (λ l. map items (take c.loop-list.list-index c.args.lists.now) ++ l ∷ []) (c.as_slice.ensures ∙ ap items c.list-item.is)

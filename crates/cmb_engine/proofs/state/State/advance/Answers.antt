@@ -1,6 +1,7 @@
 use Rattle.std.proofs.Common.{◌≡◌, ◌<◌, ℕ, ◌-◌, List, length, sym, ap, subst, ◌∙◌, arith}
 use Rattle.std.specs.Prelude.{All, Contains, false}
 use Rattle.std.proofs.lemmas.List.{with_items_is}
+use Rattle.std.proofs.lemmas.Result.{on_ok_weaker}
 use Rattle.cmb_calendar.specs.declared.tell.Tell.{Tell}
 use Rattle.cmb_design.specs.Exact.{nets_of}
 use Rattle.cmb_design.specs.Value.{value}
@@ -18,7 +19,7 @@ use Rattle.cmb_engine.specs.declared.cell.Pin.{Pin}
 use Rattle.cmb_engine.proofs.CollectFacts.{HasWord}
 use Rattle.cmb_engine.proofs.EngineFacts.{at-end, before-horizon, gift-slots, later, lines-ahead, next-ahead, next-shows, told-slots, window-changes}
 use Rattle.cmb_engine.proofs.state.State.advance.Goals as goal
-use Rattle.cmb_engine.proofs.state.State.advance.Goals.{After-self-2-1}
+use Rattle.cmb_engine.proofs.state.State.advance.Goals.{After-note_lines}
 
 pub go_on-requires-clause-told : goal.go_on-requires-clause-told
 go_on-requires-clause-told c = λ tell h.
@@ -47,7 +48,7 @@ pub note_lines-requires-clause-few : goal.note_lines-requires-clause-few
 note_lines-requires-clause-few c =
     omega (arith, ap length c.deref-4.ensures.value, c.requires.circuit.follow.count, c.requires.circuit.plan.count, c.requires.circuit.few)
 
-module _ (c : After-self-2-1) where
+module _ (c : After-note_lines) where
   len : length c.go_on.new.words ≡ c.args.self.now.words.len
   len = omega (arith, c.go_on.ensures.len, ap length c.deref_mut.ensures.value, c.args.self.now.words.ok)
 
@@ -86,20 +87,22 @@ module _ (c : After-self-2-1) where
       subst (λ (ws : List Word). IsSteadyFrom (levels_of ws net) (64 - (c.next_day-to.result - c.args.self.now.clock))) collected
       (c.in_ok-collect.ensures.others net (omega (arith, small, nets)) none)
 
-  noted : NotesEach (IsOfLine c.collect.new.changed.items c.args.circuit.now.lines.items (nets_of c.args.design.now) c.next_day-to.result (64 - (c.next_day-to.result - c.args.self.now.clock)))
+  noted : NotesEach (IsOfLine c.deref-3.result.now c.deref-4.result.now (length c.args.circuit.now.followers) c.next_day-to.result (64 - (c.next_day-to.result - c.args.self.now.clock)))
       c.take.new.self c.note_lines.new.calendar
-  noted =
+      → NotesEach (IsOfLine c.collect.new.changed.items c.args.circuit.now.lines.items (nets_of c.args.design.now) c.next_day-to.result (64 - (c.next_day-to.result - c.args.self.now.clock)))
+      c.take.new.self c.note_lines.new.calendar
+  noted notes =
       subst (λ (n : ℕ). NotesEach (IsOfLine c.collect.new.changed.items c.args.circuit.now.lines.items n c.next_day-to.result (64 - (c.next_day-to.result - c.args.self.now.clock)))
       c.take.new.self c.note_lines.new.calendar) c.requires.circuit.follow.count
       (subst (λ (lines : List Pin). NotesEach (IsOfLine c.collect.new.changed.items lines (length c.args.circuit.now.followers) c.next_day-to.result (64 - (c.next_day-to.result - c.args.self.now.clock)))
       c.take.new.self c.note_lines.new.calendar) c.deref-4.ensures.value
       (subst (λ (changed : List Changed). NotesEach (IsOfLine changed c.deref-4.result.now (length c.args.circuit.now.followers) c.next_day-to.result (64 - (c.next_day-to.result - c.args.self.now.clock)))
-      c.take.new.self c.note_lines.new.calendar) c.deref-3.ensures.value c.in_ok-note_lines.ensures.notes))
+      c.take.new.self c.note_lines.new.calendar) c.deref-3.ensures.value notes))
 
 pub returns-clause-state : goal.returns-clause-state
 returns-clause-state c =
     let same = with_items_is c.args.self.now.words c.go_on.new.words (len c) in
-    record {
+    on_ok_weaker c.note_lines.result (λ notes. record {
       slots = ap length same ∙ c.go_on.ensures.len ∙ count c;
       live_room = omega (arith, c.go_on.ensures.live, c.requires.state.live_room);
       marks_room = omega (arith, c.go_on.ensures.room, c.requires.state.marks_room);
@@ -108,21 +111,25 @@ returns-clause-state c =
           (subst (λ (n : ℕ). AreQuiet (levels_of c.go_on.new.words) (has c.go_on.new.live) n) (count c) c.go_on.ensures.quiet);
       ahead = next-ahead c.args.design.now c.args.circuit.now c.args.self.now c.requires.circuit c.requires.state c.take.new.self c.take.new.taken.items c.next_day-to.result
           c.requires.below c.next_day-to.ensures c.in_ok-take.ensures.takes c.go_on.new.words (shows c) c.collect.new.changed.items (rises c) (right c) (others c)
-          c.note_lines.new.calendar (noted c) c.note_lines.ensures.days.width c.note_lines.ensures.days.horizon c.note_lines.ensures.days.day;
+          c.note_lines.new.calendar (noted c notes) c.note_lines.ensures.days.width c.note_lines.ensures.days.horizon c.note_lines.ensures.days.day;
       begun = omega (
         arith,
         c.requires.state.begun,
         later c.args.design.now c.args.circuit.now c.args.self.now c.requires.circuit c.requires.state c.take.new.self c.take.new.taken.items c.next_day-to.result c.requires.below c.next_day-to.ensures c.in_ok-take.ensures.takes,
       );
       within = before-horizon c.args.design.now c.args.circuit.now c.args.self.now c.requires.circuit c.requires.state c.take.new.self c.take.new.taken.items c.next_day-to.result c.requires.below c.next_day-to.ensures c.in_ok-take.ensures.takes;
-    }
+    }) c.note_lines.ensures.notes
 
 pub returns-clause-tells : goal.returns-clause-tells
 returns-clause-tells c =
-    window-changes c.args.design.now c.args.circuit.now c.args.self.now c.requires.circuit c.requires.state c.take.new.self c.take.new.taken.items c.next_day-to.result
-    c.requires.below c.next_day-to.ensures c.in_ok-take.ensures.takes c.go_on.new.words (shows c) c.collect.new.changed.items (rises c) (right c) (others c)
+    on_ok_weaker c.note_lines.result
+    (λ notes. window-changes c.args.design.now c.args.circuit.now c.args.self.now c.requires.circuit c.requires.state c.take.new.self c.take.new.taken.items c.next_day-to.result
+    c.requires.below c.next_day-to.ensures c.in_ok-take.ensures.takes c.go_on.new.words (shows c) c.collect.new.changed.items (rises c) (right c) (others c))
+    c.note_lines.ensures.notes
 
 pub returns-clause-clock : goal.returns-clause-clock
 returns-clause-clock c =
-    at-end c.args.design.now c.args.circuit.now c.args.self.now c.requires.circuit c.requires.state c.take.new.self c.take.new.taken.items c.next_day-to.result
-    c.requires.below c.next_day-to.ensures c.in_ok-take.ensures.takes
+    on_ok_weaker c.note_lines.result
+    (λ notes. at-end c.args.design.now c.args.circuit.now c.args.self.now c.requires.circuit c.requires.state c.take.new.self c.take.new.taken.items c.next_day-to.result
+    c.requires.below c.next_day-to.ensures c.in_ok-take.ensures.takes)
+    c.note_lines.ensures.notes

@@ -3,7 +3,7 @@ use Rattle.std.proofs.lemmas.List.{take_at}
 use Rattle.smallvec.specs.SmallVec.{SmallVec}
 use Rattle.cmb_engine.specs.Cells.{AreBelow, IsListed}
 use Rattle.cmb_engine.proofs.ReaderFacts.{listed-more}
-use Rattle.cmb_engine.proofs.readers.reader_lists.Goals as goal
+use Rattle.cmb_engine.proofs.readers.readers_of.Goals as goal
 
 pub loop-net-preserved : goal.loop-net-preserved
 loop-net-preserved c =

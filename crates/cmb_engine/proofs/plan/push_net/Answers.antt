@@ -5,10 +5,13 @@ use Rattle.std.proofs.lemmas.Result.{on_ok_weaker}
 use Rattle.cmb_bench.specs.Netlist.{Netlist, driver_of}
 use Rattle.cmb_bench.specs.declared.netlist.Driver.TheVariants as driver
 use Rattle.cmb_engine.specs.Cells.{Gate}
-use Rattle.cmb_engine.specs.Plans.{pins_from, StandsFor}
+use Rattle.cmb_engine.specs.Plans.{cell_as, pins_from, CellStandsFor, StandsFor}
+use Rattle.cmb_engine.specs.Roles.{role_of}
 use Rattle.cmb_engine.specs.declared.cell.Pin.{Pin}
+use Rattle.cmb_engine.specs.declared.role.Role.{Role}
 use Rattle.cmb_engine.proofs.PlanFacts.{gate-stands, wired-flop, wired-gate}
-use Rattle.cmb_engine.proofs.plan.push_driven.Goals as goal
+use Rattle.cmb_engine.proofs.RoleFacts.{driven-is}
+use Rattle.cmb_engine.proofs.plan.push_net.Goals as goal
 
 pub collect_pins-requires-clause-within : goal.collect_pins-requires-clause-within
 collect_pins-requires-clause-within c =
@@ -41,5 +44,7 @@ returns-in_ok-collect_pins-in-Gate-clause-cell c =
     (λ pushed. record {
       cell = Gate c.in-Gate.kind pins;
       pushed = pushed;
-      stands = gate-stands design c.args.net c.in-Gate.kind c.in-Gate.operands lines.nets lines.list.items lines.most pins is wired.0 stand;
+      stands = subst (λ (role : Role). CellStandsFor lines.nets lines.list.items lines.most (cell_as design c.args.net role) (Gate c.in-Gate.kind pins))
+          (sym (driven-is (role_of c.args.roles.now c.args.net) (sym c.is_driven.ensures ∙ c.if-not-is_driven.false)))
+          (gate-stands design c.args.net c.in-Gate.kind c.in-Gate.operands lines.nets lines.list.items lines.most pins is wired.0 stand);
     }) c.push_gate.ensures

@@ -1,6 +1,0 @@
-use Rattle.std.proofs.Common.{◌*◌}
-use Rattle.cmb_engine.specs.Bits.{HasNone}
-use Rattle.cmb_engine.proofs.bits.Bits.next_from.Given as goal
-
-abbrev pub invariant-loop-k : goal.invariant-loop-k
-invariant-loop-k l = HasNone l.self l.n (64 * l.k)
