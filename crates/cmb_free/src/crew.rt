@@ -12,7 +12,7 @@ use cmb_core::Clustering;
 use cmb_design::Design;
 use cmb_idle::Idle;
 use cmb_links::{Board, Seat, Workers};
-use cmb_run::{ExactCluster, Posted, Terms};
+use cmb_run::{ExactCluster, Terms};
 use std::alloc::{AllocError, Global};
 use std::sync::{Arc, Wait};
 
@@ -21,7 +21,7 @@ use std::sync::{Arc, Wait};
 pub struct Lookout<T: Terms> {
     board: Arc<Board>,
     seat: Seat,
-    ends: Vec<TakeEnd<T>>,
+    pub ends: Vec<TakeEnd<T>>,
     idle: Idle,
     ghost same: { seat.board ≡ arc_value board },
 }
@@ -47,21 +47,6 @@ impl<T: Terms> Lookout<T> {
     /// How many workers have finished.
     pub(crate) fn finished(&mut self) -> u32 {
         self.board.finished(&mut self.seat)
-    }
-
-    /// How many links there are to take from, one for each worker.
-    pub(crate) fn links(&self) -> usize
-        ensures { result ≡ vec_len self.now.ends }
-    {
-        self.ends.len()
-    }
-
-    /// Takes the next piece from a link, none where it was empty.
-    pub(crate) fn take<R: Wait>(&mut self, rt: &R, link: usize) -> Option<Posted<T>> {
-        match self.ends.get_mut(link) {
-            Some(end) => end.take(rt),
-            None => None,
-        }
     }
 
     /// Rests where nothing was found.
@@ -172,8 +157,7 @@ fn note_nets<T: Terms>(
         mark(&mut is_read, worker.inputs());
     }
     for worker in workers.iter_mut() {
-        worker.note_inputs()?;
-        worker.note_read(clustering, &is_read)?;
+        worker.note_nets(alloc, clustering, &is_read)?;
     }
     Ok(())
 }
