@@ -27,18 +27,6 @@ pub struct Lookout<T: Terms> {
 }
 
 impl<T: Terms> Lookout<T> {
-    // The lookout of a board.
-    fn new(board: Arc<Board>, seat: Seat, ends: Vec<TakeEnd<T>>) -> Lookout<T>
-        requires { seat.board ≡ arc_value board }
-    {
-        Lookout {
-            board,
-            seat,
-            ends,
-            idle: Idle::new(),
-        }
-    }
-
     /// Raises the stop word.
     pub(crate) fn raise(&mut self) {
         self.board.raise(&mut self.seat);
@@ -110,7 +98,7 @@ fn link_two<T: Terms>(
     };
     let end = worker.add_out(alloc, design, nets)?;
     match workers.get_mut(to) {
-        Some(worker) => worker.add_in(end),
+        Some(worker) => Ok(worker.ins.push(end)?),
         None => Ok(()),
     }
 }
@@ -254,10 +242,15 @@ impl<T: Terms> Crew<T> {
             alloc, design, clustering, workers, &board, &mut seats, &mut crew,
         )?;
         let ends = connect(alloc, design, clustering, &mut crew)?;
-        let lookout = Lookout::new(board, seats.remove(0), ends);
+        let seat = seats.remove(0);
         Ok(Crew {
             workers: crew,
-            lookout,
+            lookout: Lookout {
+                board,
+                seat,
+                ends,
+                idle: Idle::new(),
+            },
         })
     }
 }

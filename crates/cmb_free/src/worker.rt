@@ -77,18 +77,6 @@ struct Out<T: Terms> {
 }
 
 impl<T: Terms> Out<T> {
-    // The link by which these nets go.
-    fn new(end: PutEnd<T>, outlets: Vec<Passing>, takes_empty: bool) -> Out<T> {
-        Out {
-            end,
-            outlets,
-            waiting: None,
-            next: 0,
-            takes_empty,
-            is_left: false,
-        }
-    }
-
     // Puts a piece, or keeps it where the link is full. Says whether it was put.
     fn put<R: Wait>(&mut self, rt: &R, posted: Posted<T>) -> bool {
         match self.end.put(rt, posted) {
@@ -141,7 +129,8 @@ pub struct Worker<T: Terms> {
     cluster: ExactCluster<T>,
     /// The nets that other workers drive and this one reads.
     inlets: Vec<Passing>,
-    ins: Vec<TakeEnd<T>>,
+    /// The ends of the links by which the worker is sent nets.
+    pub ins: Vec<TakeEnd<T>>,
     outs: Vec<Out<T>>,
     /// The nets that others read.
     own: Vec<Own<T>>,
@@ -182,8 +171,15 @@ impl<T: Terms> Worker<T> {
     ) -> Result<TakeEnd<T>, AllocError>
         requires { design.now ≡ T.design }
     {
-        let (put, take) = open_link(alloc, design)?;
-        self.outs.push(Out::new(put, outlets, takes_empty))?;
+        let (end, take) = open_link(alloc, design)?;
+        self.outs.push(Out {
+            end,
+            outlets,
+            waiting: None,
+            next: 0,
+            takes_empty,
+            is_left: false,
+        })?;
         Ok(take)
     }
 
@@ -212,12 +208,6 @@ impl<T: Terms> Worker<T> {
         self.add_link(alloc, design, outlets, true)
     }
 
-    /// Adds a link by which the worker is sent nets.
-    pub(crate) fn add_in(&mut self, end: TakeEnd<T>) -> Result<(), AllocError> {
-        self.ins.push(end)?;
-        Ok(())
-    }
-
     /// Notes which nets the worker is given, and which of its own others read, by a table with a place for each net.
     pub(crate) fn note_nets(
         &mut self,
@@ -230,7 +220,7 @@ impl<T: Terms> Worker<T> {
         self.inlets = unsent(alloc, self.cluster.inputs())?;
         for net in self.cluster.driven() {
             if is_read.get(*net as usize) == Some(&true) {
-                if let Some(own) = Own::new(clustering, *net, self.desk.number()) {
+                if let Some(own) = Own::new(clustering, *net, self.desk.number) {
                     self.own.push(own)?;
                 }
             }
@@ -252,7 +242,7 @@ impl<T: Terms> Worker<T> {
     fn turns<G: Turnstile, R: Wait>(&mut self, rt: &R, gate: &G) -> Result<(), AllocError> {
         let mut turn = 0u32;
         for _ in rt.forever() {
-            if !gate.pass(self.desk.number(), turn) {
+            if !gate.pass(self.desk.number, turn) {
                 self.desk.raise();
             }
             if self.desk.raised() || self.turn(rt)? {
