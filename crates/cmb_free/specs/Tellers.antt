@@ -24,12 +24,13 @@ abbrev pub IsWithin : Design → Option ℕ → Type 0
 IsWithin design None = ⊤
 IsWithin design (Some done) = done ≤ design.horizon
 
--- what a teller keeps: its writer is of the design, and it counts the bytes of what that gave
-pub record IsTeller (design : Design) (writer : Writer) (given : ℕ) : Type 0 where
+-- what a teller keeps: its writer is of the design and gave what the backlog has as written, and it counts the bytes of that
+pub record IsTeller (design : Design) (backlog : Backlog) (writer : Writer) (given : ℕ) : Type 0 where
   pub lawful : IsDesign design
   pub opened : writer.design ≡ design
-  pub within : IsWithin design writer.done
-  pub count : given ≡ length (told design writer.done)
+  pub same : writer.done ≡ backlog.written
+  pub within : IsWithin design backlog.written
+  pub count : given ≡ length (told design backlog.written)
 
 -- the text is given up to this tick at least
 abbrev pub IsToldTo : Design → Option ℕ → ℕ → Type 0

@@ -4,6 +4,7 @@ ghost use Rattle.std.specs.Prelude.{◌≡◌};
 
 use crate::backlog::Backlog;
 use crate::crew::Lookout;
+use crate::ends::TakeEnd;
 use cmb_run::{RunFault, Terms};
 use std::alloc::AllocError;
 use std::sync::Wait;
@@ -14,15 +15,14 @@ const MOST: u32 = 64;
 // Takes what waits in a link, up to so many pieces, and says whether there was one.
 fn take_some<T: Terms, R: Wait>(
     rt: &R,
-    lookout: &mut Lookout<T>,
-    link: usize,
+    end: &mut TakeEnd<T>,
     backlog: &mut Backlog<T>,
 ) -> Result<bool, AllocError>
     ensures { backlog.new.written ≡ backlog.old.written }
 {
     let mut found = false;
     for _ in 0..MOST {
-        let Some(posted) = lookout.take(rt, link) else {
+        let Some(posted) = end.take(rt) else {
             break;
         };
         backlog.take(&posted)?;
@@ -31,19 +31,25 @@ fn take_some<T: Terms, R: Wait>(
     Ok(found)
 }
 
-/// Takes what waits in the links, up to so many pieces each, and says whether there was one.
+/// Takes what waits in the links, up to so many pieces each, and says whether there was one. Gives none where there
+/// wasn't and all workers that were started had finished before.
 pub(crate) fn take_round<T: Terms, R: Wait>(
     rt: &R,
     lookout: &mut Lookout<T>,
+    started: usize,
     backlog: &mut Backlog<T>,
-) -> Result<bool, AllocError>
+) -> Result<Option<bool>, AllocError>
     ensures { backlog.new.written ≡ backlog.old.written }
 {
+    let over = lookout.finished() as usize >= started;
     let mut found = false;
-    for link in 0..lookout.links() {
-        found |= take_some(rt, lookout, link, backlog)?;
+    for end in lookout.ends.iter_mut() {
+        found |= take_some(rt, end, backlog)?;
     }
-    Ok(found)
+    if over && !found {
+        return Ok(None);
+    }
+    Ok(Some(found))
 }
 
 /// What the calling thread has of a run that it collects. `S` is where the text goes.
@@ -92,11 +98,9 @@ impl<T: Terms> Collect<T, Nowhere> for Backlog<T> {
         _sink: &mut Nowhere,
     ) -> Result<u64, RunFault> {
         for _ in rt.forever() {
-            let over = lookout.finished() as usize >= started;
-            let found = take_round(rt, lookout, self)?;
-            if over && !found {
+            let Some(found) = take_round(rt, lookout, started, self)? else {
                 break;
-            }
+            };
             lookout.rest_unless(rt, found);
         }
         Ok(0)

@@ -12,7 +12,7 @@ use cmb_core::Clustering;
 use cmb_design::Design;
 use cmb_idle::Idle;
 use cmb_links::{Board, Seat, Workers};
-use cmb_run::{ExactCluster, Posted, Terms};
+use cmb_run::{ExactCluster, Terms};
 use std::alloc::{AllocError, Global};
 use std::sync::{Arc, Wait};
 
@@ -21,24 +21,12 @@ use std::sync::{Arc, Wait};
 pub struct Lookout<T: Terms> {
     board: Arc<Board>,
     seat: Seat,
-    ends: Vec<TakeEnd<T>>,
+    pub ends: Vec<TakeEnd<T>>,
     idle: Idle,
     ghost same: { seat.board ≡ arc_value board },
 }
 
 impl<T: Terms> Lookout<T> {
-    // The lookout of a board.
-    fn new(board: Arc<Board>, seat: Seat, ends: Vec<TakeEnd<T>>) -> Lookout<T>
-        requires { seat.board ≡ arc_value board }
-    {
-        Lookout {
-            board,
-            seat,
-            ends,
-            idle: Idle::new(),
-        }
-    }
-
     /// Raises the stop word.
     pub(crate) fn raise(&mut self) {
         self.board.raise(&mut self.seat);
@@ -47,21 +35,6 @@ impl<T: Terms> Lookout<T> {
     /// How many workers have finished.
     pub(crate) fn finished(&mut self) -> u32 {
         self.board.finished(&mut self.seat)
-    }
-
-    /// How many links there are to take from, one for each worker.
-    pub(crate) fn links(&self) -> usize
-        ensures { result ≡ vec_len self.now.ends }
-    {
-        self.ends.len()
-    }
-
-    /// Takes the next piece from a link, none where it was empty.
-    pub(crate) fn take<R: Wait>(&mut self, rt: &R, link: usize) -> Option<Posted<T>> {
-        match self.ends.get_mut(link) {
-            Some(end) => end.take(rt),
-            None => None,
-        }
     }
 
     /// Rests where nothing was found.
@@ -125,7 +98,7 @@ fn link_two<T: Terms>(
     };
     let end = worker.add_out(alloc, design, nets)?;
     match workers.get_mut(to) {
-        Some(worker) => worker.add_in(end),
+        Some(worker) => Ok(worker.ins.push(end)?),
         None => Ok(()),
     }
 }
@@ -172,8 +145,7 @@ fn note_nets<T: Terms>(
         mark(&mut is_read, worker.inputs());
     }
     for worker in workers.iter_mut() {
-        worker.note_inputs()?;
-        worker.note_read(clustering, &is_read)?;
+        worker.note_nets(alloc, clustering, &is_read)?;
     }
     Ok(())
 }
@@ -270,10 +242,15 @@ impl<T: Terms> Crew<T> {
             alloc, design, clustering, workers, &board, &mut seats, &mut crew,
         )?;
         let ends = connect(alloc, design, clustering, &mut crew)?;
-        let lookout = Lookout::new(board, seats.remove(0), ends);
+        let seat = seats.remove(0);
         Ok(Crew {
             workers: crew,
-            lookout,
+            lookout: Lookout {
+                board,
+                seat,
+                ends,
+                idle: Idle::new(),
+            },
         })
     }
 }

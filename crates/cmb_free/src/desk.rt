@@ -47,7 +47,8 @@ impl<T: Terms> Own<T> {
 pub struct Desk<T: Terms> {
     board: Arc<Board>,
     seat: Seat,
-    number: u32,
+    /// The worker's number.
+    pub number: u32,
     workers: u32,
     nets: usize,
     is_finished: bool,
@@ -82,13 +83,6 @@ impl<T: Terms> Desk<T> {
             is_finished: false,
             of: PhantomData,
         }
-    }
-
-    /// The worker's number.
-    pub(crate) fn number(&self) -> u32
-        ensures { result ≡ self.now.number }
-    {
-        self.number
     }
 
     // Whether a net is an own one of this worker.

@@ -1,15 +1,13 @@
 //! A free run whose text is written while it runs.
 
-ghost use Rattle.std.specs.Prelude.{◌≡◌, ◌-◌, ◌^◌, ◌<◌, None, length, IfOk, IfErr, OnOk, unwrap_or};
+ghost use Rattle.std.specs.Prelude.{◌≡◌, ◌-◌, ◌^◌, ◌<◌, length, IfOk, IfErr, OnOk};
 ghost use Rattle.std.specs.Io.KnownBytes.{Appends};
 ghost use Rattle.cmb_design.specs.Exact.{nets_of};
-ghost use Rattle.cmb_vcd.specs.Collector.{IsExactFrom};
 ghost use Rattle.cmb_vcd.specs.Vcd.{vcd};
 ghost use Rattle.cmb_run.specs.RunTerms.{AreTerms};
 ghost use Rattle.cmb_free.specs.FreeRuns.{IsCutAt};
 
-use crate::backlog::Backlog;
-use crate::collect::{Collect, take_round};
+use crate::collect::Collect;
 use crate::crew::{Crew, Lookout};
 use crate::run::{run_crew, settled};
 use crate::teller::Teller;
@@ -18,8 +16,8 @@ use cmb_core::Clustering;
 use cmb_design::Design;
 use cmb_links::Workers;
 use cmb_run::{RunFault, Terms};
-use cmb_vcd::{Collector, Sink};
-use std::alloc::{AllocError, Global};
+use cmb_vcd::Sink;
+use std::alloc::Global;
 use std::marker::Brand;
 use std::sync::Wait;
 use std::thread::Threads;
@@ -27,43 +25,14 @@ use std::thread::Threads;
 // While pieces come in every round, the text is written once in so many rounds.
 const ROUNDS: u32 = 64;
 
-/// What is collected of a run, and who writes its text.
-#[derive(Drop)]
-struct Telling<'a, T: Terms> {
-    backlog: Backlog<T>,
-    teller: Teller<'a, T>,
-}
-
-impl<'a, T: Terms> Telling<'a, T> {
-    // Nothing is known, and nothing is written.
-    fn open(alloc: Global, design: &'a Design) -> Result<Telling<'a, T>, AllocError>
-        requires { design.now ≡ T.design }
-        ensures { IfOk result (λ telling. (telling.backlog.written ≡ None) × (telling.teller ≡ None)) }
-    {
-        let backlog = Backlog::open(alloc, design)?;
-        let teller = Teller::open(alloc, design)?;
-        Ok(Telling { backlog, teller })
-    }
-
-    // What was collected.
-    fn into_collector(self) -> Collector
-        ensures collector { result ≡ self.entry.backlog.collector }
-        ensures exact { IsExactFrom T.design (unwrap_or self.entry.backlog.written 0) result }
-    {
-        let Telling { backlog, teller: _ } = self;
-        backlog.into_collector()
-    }
-}
-
-impl<'a, T: Terms, S: Sink> Collect<T, S> for Telling<'a, T> {
+impl<'a, T: Terms, S: Sink> Collect<T, S> for Teller<'a, T> {
     ghost use Rattle.std.specs.Prelude.{◌≡◌, ◌-◌, ◌^◌, ◌<◌, None};
     ghost use Rattle.cmb_free.specs.Tellers.{IsTold};
 
-    ghost is_ready = { λ telling sink.
-        (S.failures sink < 2 ^ 64 - 1) × (telling.backlog.written ≡ None) × (telling.teller ≡ None) };
+    ghost is_ready = { λ teller sink. (S.failures sink < 2 ^ 64 - 1) × (teller.written ≡ None) };
 
     ghost is_told = { λ old new before after given.
-        IsTold T.design (S.taken before) (S.taken after) (S.failures before) (S.failures after) new.backlog given };
+        IsTold T.design (S.taken before) (S.taken after) (S.failures before) (S.failures after) new given };
 
     // Writes the text of all that was collected, part after part.
     fn collect<R: Wait>(
@@ -75,19 +44,17 @@ impl<'a, T: Terms, S: Sink> Collect<T, S> for Telling<'a, T> {
     ) -> Result<u64, RunFault> {
         let mut fresh = 0;
         for _ in rt.forever() {
-            let over = lookout.finished() as usize >= started;
-            let found = take_round(rt, lookout, &mut self.backlog)?;
-            if over && !found {
+            let Some(found) = self.take_round(rt, lookout, started)? else {
                 break;
-            }
+            };
             fresh += u32::from(found);
             if fresh >= ROUNDS || (!found && fresh > 0) {
-                self.teller.tell(&mut self.backlog, sink)?;
+                self.tell(sink)?;
                 fresh = 0;
             }
             lookout.rest_unless(rt, found);
         }
-        self.teller.tell(&mut self.backlog, sink)
+        self.tell(sink)
     }
 }
 
@@ -110,10 +77,10 @@ fn run_named<T: Terms + Send + Sync, G: Turnstile + Sync, S: Sink, R: Threads + 
     ensures fault { IfErr result (IsCutAt design.now (S.taken sink.old) (S.taken sink.new) (S.failures sink.old)
         (S.failures sink.new)) }
 {
-    let telling = Telling::<T>::open(alloc, design)?;
+    let teller = Teller::<T>::open(alloc, design)?;
     let crew = Crew::<T>::open(alloc, design, clustering, workers)?;
-    let (telling, given, refused) = run_crew(rt, alloc, crew, telling, gate, sink);
-    let (given, _) = settled(given, refused, telling.into_collector())?;
+    let (teller, given, refused) = run_crew(rt, alloc, crew, teller, gate, sink);
+    let (given, _) = settled(given, refused, teller.into_collector())?;
     Ok(given)
 }
 

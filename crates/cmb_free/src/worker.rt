@@ -16,23 +16,29 @@ use std::sync::Wait;
 /// How many pieces a worker takes from a link in one turn.
 const AT_ONCE: u32 = 64;
 
-/// A net that others read, and the tick up to which it was sent to them.
+/// A net that goes from worker to worker, and a tick: one who sends it has sent it up to there, and one who is given it
+/// knows it up to there at least.
 #[derive(Clone, Copy)]
-struct Outlet {
+struct Passing {
     net: u32,
-    sent: u32,
+    upto: u32,
 }
 
-// Outlets of these nets, of which nothing was put.
-fn outlets_of(alloc: Global, nets: &[u32]) -> Result<Vec<Outlet>, AllocError> {
-    let mut outlets = Vec::with_capacity(alloc, nets.len())?;
+// These nets, of which nothing was sent and nothing is known.
+fn unsent(alloc: Global, nets: &[u32]) -> Result<Vec<Passing>, AllocError> {
+    let mut passing = Vec::with_capacity(alloc, nets.len())?;
     for net in nets {
-        outlets.push(Outlet { net: *net, sent: 0 })?;
+        passing.push(Passing { net: *net, upto: 0 })?;
     }
-    Ok(outlets)
+    Ok(passing)
 }
 
-impl Outlet {
+// Leaves out the nets that were sent or are known up to the horizon.
+fn leave_out_done(nets: &mut Vec<Passing>, horizon: u32) {
+    nets.retain(|passing| passing.upto < horizon);
+}
+
+impl Passing {
     // What is new of the net. A piece without changes isn't put where the board tells the reader as much;
     // the next piece then begins at the same tick. Up to the horizon no piece follows, so the net is done.
     fn cut<T: Terms>(
@@ -40,17 +46,17 @@ impl Outlet {
         cluster: &ExactCluster<T>,
         takes_empty: bool,
     ) -> Result<Option<Posted<T>>, AllocError> {
-        let Some(posted) = cluster.post(self.net, self.sent)? else {
+        let Some(posted) = cluster.post(self.net, self.upto)? else {
             return Ok(None);
         };
         let to = posted.piece().to();
         if !takes_empty && posted.piece().changes().is_empty() {
             if to >= cluster.horizon() {
-                self.sent = to;
+                self.upto = to;
             }
             return Ok(None);
         }
-        self.sent = to;
+        self.upto = to;
         Ok(Some(posted))
     }
 }
@@ -59,7 +65,7 @@ impl Outlet {
 #[derive(Drop)]
 struct Out<T: Terms> {
     end: PutEnd<T>,
-    outlets: Vec<Outlet>,
+    outlets: Vec<Passing>,
     /// A piece that found the link full.
     waiting: Option<Posted<T>>,
     /// The place of the net that is put next.
@@ -71,18 +77,6 @@ struct Out<T: Terms> {
 }
 
 impl<T: Terms> Out<T> {
-    // The link by which these nets go.
-    fn new(end: PutEnd<T>, outlets: Vec<Outlet>, takes_empty: bool) -> Out<T> {
-        Out {
-            end,
-            outlets,
-            waiting: None,
-            next: 0,
-            takes_empty,
-            is_left: false,
-        }
-    }
-
     // Puts a piece, or keeps it where the link is full. Says whether it was put.
     fn put<R: Wait>(&mut self, rt: &R, posted: Posted<T>) -> bool {
         match self.end.put(rt, posted) {
@@ -122,18 +116,10 @@ impl<T: Terms> Out<T> {
                 }
             }
         }
-        let horizon = cluster.horizon();
-        self.outlets.retain(|outlet| outlet.sent < horizon);
+        leave_out_done(&mut self.outlets, cluster.horizon());
         self.is_left = false;
         Ok(())
     }
-}
-
-/// A net that another worker drives, and the tick up to which it is known here at least.
-#[derive(Clone, Copy)]
-struct Inlet {
-    net: u32,
-    known: u32,
 }
 
 /// A worker before and between its turns.
@@ -141,8 +127,10 @@ struct Inlet {
 pub struct Worker<T: Terms> {
     desk: Desk<T>,
     cluster: ExactCluster<T>,
-    inlets: Vec<Inlet>,
-    ins: Vec<TakeEnd<T>>,
+    /// The nets that other workers drive and this one reads.
+    inlets: Vec<Passing>,
+    /// The ends of the links by which the worker is sent nets.
+    pub ins: Vec<TakeEnd<T>>,
     outs: Vec<Out<T>>,
     /// The nets that others read.
     own: Vec<Own<T>>,
@@ -178,13 +166,20 @@ impl<T: Terms> Worker<T> {
         &mut self,
         alloc: Global,
         design: &Design,
-        outlets: Vec<Outlet>,
+        outlets: Vec<Passing>,
         takes_empty: bool,
     ) -> Result<TakeEnd<T>, AllocError>
         requires { design.now ≡ T.design }
     {
-        let (put, take) = open_link(alloc, design)?;
-        self.outs.push(Out::new(put, outlets, takes_empty))?;
+        let (end, take) = open_link(alloc, design)?;
+        self.outs.push(Out {
+            end,
+            outlets,
+            waiting: None,
+            next: 0,
+            takes_empty,
+            is_left: false,
+        })?;
         Ok(take)
     }
 
@@ -197,7 +192,7 @@ impl<T: Terms> Worker<T> {
     ) -> Result<TakeEnd<T>, AllocError>
         requires { design.now ≡ T.design }
     {
-        let outlets = outlets_of(alloc, nets)?;
+        let outlets = unsent(alloc, nets)?;
         self.add_link(alloc, design, outlets, false)
     }
 
@@ -209,38 +204,23 @@ impl<T: Terms> Worker<T> {
     ) -> Result<TakeEnd<T>, AllocError>
         requires { design.now ≡ T.design }
     {
-        let outlets = outlets_of(alloc, self.cluster.driven())?;
+        let outlets = unsent(alloc, self.cluster.driven())?;
         self.add_link(alloc, design, outlets, true)
     }
 
-    /// Adds a link by which the worker is sent nets.
-    pub(crate) fn add_in(&mut self, end: TakeEnd<T>) -> Result<(), AllocError> {
-        self.ins.push(end)?;
-        Ok(())
-    }
-
-    /// Notes which nets the worker is given. Nothing is known of them.
-    pub(crate) fn note_inputs(&mut self) -> Result<(), AllocError> {
-        for net in self.cluster.inputs() {
-            self.inlets.push(Inlet {
-                net: *net,
-                known: 0,
-            })?;
-        }
-        Ok(())
-    }
-
-    /// Notes which of the worker's nets others read, by a table with a place for each net.
-    pub(crate) fn note_read(
+    /// Notes which nets the worker is given, and which of its own others read, by a table with a place for each net.
+    pub(crate) fn note_nets(
         &mut self,
+        alloc: Global,
         clustering: &Clustering,
         is_read: &[bool],
     ) -> Result<(), AllocError>
         requires { clustering.now ≡ T.clustering }
     {
+        self.inlets = unsent(alloc, self.cluster.inputs())?;
         for net in self.cluster.driven() {
             if is_read.get(*net as usize) == Some(&true) {
-                if let Some(own) = Own::new(clustering, *net, self.desk.number()) {
+                if let Some(own) = Own::new(clustering, *net, self.desk.number) {
                     self.own.push(own)?;
                 }
             }
@@ -262,7 +242,7 @@ impl<T: Terms> Worker<T> {
     fn turns<G: Turnstile, R: Wait>(&mut self, rt: &R, gate: &G) -> Result<(), AllocError> {
         let mut turn = 0u32;
         for _ in rt.forever() {
-            if !gate.pass(self.desk.number(), turn) {
+            if !gate.pass(self.desk.number, turn) {
                 self.desk.raise();
             }
             if self.desk.raised() || self.turn(rt)? {
@@ -281,11 +261,11 @@ impl<T: Terms> Worker<T> {
         if stepped {
             self.step()?;
         }
-        self.put_all(rt)?;
+        let is_left = self.put_all(rt)?;
         if stepped {
             self.publish_all();
         }
-        if self.is_complete && !self.outs.iter().any(|out| out.is_left) {
+        if self.is_complete && !is_left {
             self.desk.finish();
         }
         if stepped {
@@ -316,41 +296,38 @@ impl<T: Terms> Worker<T> {
             let Some(promise) = self.desk.look(inlet.net) else {
                 continue;
             };
-            if promise.upto <= inlet.known {
+            if promise.upto <= inlet.upto {
                 continue;
             }
             let heard = self.cluster.hear(promise);
             if heard != Heard::Ahead {
-                inlet.known = promise.upto;
+                inlet.upto = promise.upto;
             }
             if heard == Heard::Extended {
                 self.is_new = true;
             }
         }
-        let horizon = self.cluster.horizon();
-        self.inlets.retain(|inlet| inlet.known < horizon);
+        leave_out_done(&mut self.inlets, self.cluster.horizon());
     }
 
     // Steps the cluster. Where nothing goes on there, a further step is of no use before something is taken or heard.
     fn step(&mut self) -> Result<(), AllocError> {
         self.is_new = self.cluster.step()?;
-        if self.is_new {
-            for out in self.outs.iter_mut() {
-                out.is_left = true;
-            }
-        }
         self.is_complete = self.cluster.complete();
         Ok(())
     }
 
-    // Puts what is new into each link.
-    fn put_all<R: Wait>(&mut self, rt: &R) -> Result<(), AllocError> {
+    // Puts what is new into each link, that of the last step and what was left. Says whether something is left.
+    fn put_all<R: Wait>(&mut self, rt: &R) -> Result<bool, AllocError> {
+        let mut is_left = false;
         for out in self.outs.iter_mut() {
+            out.is_left |= self.is_new;
             if out.is_left {
                 out.put_all(rt, &self.cluster)?;
             }
+            is_left |= out.is_left;
         }
-        Ok(())
+        Ok(is_left)
     }
 
     // Tells the board how far the nets that others read are known, until that is up to the horizon.

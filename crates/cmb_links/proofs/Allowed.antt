@@ -5,6 +5,7 @@ use lib.ListN.{get_elem?}
 use Rattle.atomic_table.specs.Table.{State, Me, Act, step, keeps, stepped, carried_after, Valid, Allows}
 use Rattle.cmb_wave.specs.Calls.{word_of}
 use Rattle.cmb_wave.specs.declared.level.Promise.{Promise}
+use Rattle.cmb_design.specs.Design.{Design}
 use Rattle.cmb_design.specs.Exact.{nets_of, IsRightIn}
 use Rattle.cmb_links.specs.Promises.{promise_of_word, newest}
 use Rattle.cmb_links.specs.Seats.{driver, after_publish, after_look, after_raise, after_check, after_finish, after_count, only, joined}
@@ -13,7 +14,7 @@ use Rattle.cmb_links.specs.declared.view.BoardTerms.{BoardTerms}
 use Rattle.cmb_links.specs.declared.view.View.{View}
 use Rattle.cmb_links.proofs.Joined.{place_of, at_joined, joined-set}
 use Rattle.cmb_links.proofs.Newest.{promise_of_word-word_of}
-use Rattle.cmb_links.proofs.Steps.{tells, publishes_kept, looks_kept, raises_kept, checks_kept, finishes_kept, counts_kept}
+use Rattle.cmb_links.proofs.Steps.{Stays, tells, publishes_kept, looks_kept, raises_kept, checks_kept, finishes_kept, counts_kept}
 
 -- the words with what the table keeps for each seat, and a seat's part of it
 abbrev pub S : Type 0
@@ -59,75 +60,50 @@ publish_allowed t slots id me p one drives right fits rises s kept _ at _ =
       (refl, tells t f i v (after_publish v p) kept here [] p.net x (omega arith) (refl, refl, refl) after),
     )
 
-pub look_allowed : (t : BoardTerms) (slots id : ℕ) (me : M) (k : ℕ) → IsOne me → k < nets_of (only me.0).terms.design → Allows (Law t) slots id me k (λ n. n) (Looks (step slots k 0 0 none) me)
-look_allowed t slots id me k one in' s kept _ at _ =
-    let v : View = only me.0 in let f = seats_of s in let i = place_of s.views id in let here = seated t s id me one at in
-    let old = kept.seats i v here in let x : ℕ = slice_index s.words k in let w : View = after_look v (promise_of_word k x) in
-    let inside : k < nets_of t.design = subst (λ (u : BoardTerms). k < nets_of u.design) old.terms in' in
-    let after = looks_kept t f i v kept here [] k inside in
-    (w ∷ [], keeps, tt, settled t s id me one at k x w after, (refl, tells t f i v w kept here [] k x (omega arith) (refl, refl, refl) after))
-
-pub raise_allowed : (t : BoardTerms) (slots id : ℕ) (me : M) (k : ℕ) → IsOne me → k ≡ nets_of (only me.0).terms.design → Allows (Law t) slots id me k (λ _. 1) (λ _. Raises (step slots k 1 0 none) me 1)
-raise_allowed t slots id me k one is' s kept _ at _ =
-    let v : View = only me.0 in let f = seats_of s in let i = place_of s.views id in let here = seated t s id me one at in
-    let old = kept.seats i v here in let w : View = after_raise v in
-    let is : nets_of t.design ≡ k = sym (is' ∙ ap (λ (u : BoardTerms). nets_of u.design) old.terms) in
-    let after = raises_kept t f i v kept here [] in
-    subst (λ (j : ℕ). (z : List View) × (a : Act (Unit {0})) × Valid s.homes me.1 a × Law t (stepped s j 1 id me.1 z a) × Leaves j 1 w me (z, carried_after me.1 a)) is (
-      w ∷ [],
+-- a step that makes f n of a word's n and leaves the seat the view w n, where that keeps the board's rule
+step_allowed : (t : BoardTerms) (slots id : ℕ) (me : M) (k : ℕ) (word : Design → ℕ) (f : ℕ → ℕ) (w : ℕ → View) → IsOne me → k ≡ word (only me.0).terms.design → ((n : ℕ) → Stays (only me.0) (w n))
+    → ((s : State (Unit {0}) View) (i : ℕ) → IsBoard t s → get_elem? s.views i ≡ some (only me.0) → (word t.design < nets_of t.design + 2)
+    × IsBoard t (stepped s (word t.design) (f (slice_index s.words (word t.design))) i [] (w (slice_index s.words (word t.design))) keeps))
+    → Allows (Law t) slots id me k f (λ n. Leaves k (f n) (w n) me)
+step_allowed t slots id me k word f w one is' stays kept_after s kept _ at _ =
+    let b = seats_of s in let i = place_of s.views id in let here = seated t s id me one at in
+    let old = kept.seats i (only me.0) here in let j : ℕ = word t.design in let n : ℕ = slice_index s.words j in
+    let is : j ≡ k = sym (is' ∙ ap (λ (u : BoardTerms). word u.design) old.terms) in
+    let after = kept_after b i kept here in
+    subst (λ (j : ℕ). (z : List View) × (a : Act (Unit {0})) × Valid s.homes me.1 a × Law t (stepped s j (f (slice_index s.words j)) id me.1 z a)
+    × Leaves j (f (slice_index s.words j)) (w (slice_index s.words j)) me (z, carried_after me.1 a)) is (
+      w n ∷ [],
       keeps,
       tt,
-      settled t s id me one at (nets_of t.design) 1 w after,
-      (refl, tells t f i v w kept here [] (nets_of t.design) 1 (omega arith) (refl, refl, refl) after),
+      settled t s id me one at j (f n) (w n) after.1,
+      (refl, tells t b i (only me.0) (w n) kept here [] j (f n) after.0 (stays n) after.1),
     )
 
+pub look_allowed : (t : BoardTerms) (slots id : ℕ) (me : M) (k : ℕ) → IsOne me → k < nets_of (only me.0).terms.design → Allows (Law t) slots id me k (λ n. n) (Looks (step slots k 0 0 none) me)
+look_allowed t slots id me k one in' =
+    let v : View = only me.0 in
+    step_allowed t slots id me k (λ _. k) (λ n. n) (λ n. after_look v (promise_of_word k n)) one refl (λ _. (refl, refl, refl)) (λ s i kept here.
+    let inside : k < nets_of t.design = subst (λ (u : BoardTerms). k < nets_of u.design) (kept.seats i v here).terms in' in (omega arith, looks_kept t s i v kept here [] k inside))
+
+pub raise_allowed : (t : BoardTerms) (slots id : ℕ) (me : M) (k : ℕ) → IsOne me → k ≡ nets_of (only me.0).terms.design → Allows (Law t) slots id me k (λ _. 1) (λ _. Raises (step slots k 1 0 none) me 1)
+raise_allowed t slots id me k one is =
+    let v : View = only me.0 in
+    step_allowed t slots id me k nets_of (λ _. 1) (λ _. after_raise v) one is (λ _. (refl, refl, refl)) (λ s i kept here. (omega arith, raises_kept t s i v kept here []))
+
 pub check_allowed : (t : BoardTerms) (slots id : ℕ) (me : M) (k : ℕ) → IsOne me → k ≡ nets_of (only me.0).terms.design → Allows (Law t) slots id me k (λ n. n) (Checks (step slots k 0 0 none) me)
-check_allowed t slots id me k one is' s kept _ at _ =
-    let v : View = only me.0 in let f = seats_of s in let i = place_of s.views id in let here = seated t s id me one at in
-    let old = kept.seats i v here in
-    let is : nets_of t.design ≡ k = sym (is' ∙ ap (λ (u : BoardTerms). nets_of u.design) old.terms) in
-    let after = checks_kept t f i v kept here [] in
-    subst (λ (j : ℕ). (z : List View) × (a : Act (Unit {0})) × Valid s.homes me.1 a × Law t (stepped s j (slice_index s.words j) id me.1 z a)
-    × Leaves j (slice_index s.words j) (after_check v (slice_index s.words j == 1)) me (z, carried_after me.1 a)) is
-    (let x : ℕ = slice_index s.words (nets_of t.design) in let w : View = after_check v (x == 1) in (
-      w ∷ [],
-      keeps,
-      tt,
-      settled t s id me one at (nets_of t.design) x w after,
-      (refl, tells t f i v w kept here [] (nets_of t.design) x (omega arith) (refl, refl, refl) after),
-    ))
+check_allowed t slots id me k one is =
+    let v : View = only me.0 in
+    step_allowed t slots id me k nets_of (λ n. n) (λ n. after_check v (n == 1)) one is (λ _. (refl, refl, refl)) (λ s i kept here. (omega arith, checks_kept t s i v kept here []))
 
 pub finish_allowed : (t : BoardTerms) (slots id : ℕ) (me : M) (k : ℕ) → IsOne me → k ≡ nets_of (only me.0).terms.design + 1 → (only me.0).place < (only me.0).terms.workers → (only me.0).endings.finished ≡ false
     → Allows (Law t) slots id me k (λ n. (n + 1) % 2 ^ 64) (Finishes (step slots k 1 0 none) me)
-finish_allowed t slots id me k one is' works not_yet s kept _ at _ =
-    let v : View = only me.0 in let f = seats_of s in let i = place_of s.views id in let here = seated t s id me one at in
-    let old = kept.seats i v here in let w : View = after_finish v in
-    let is : nets_of t.design + 1 ≡ k = sym (is' ∙ ap (λ (u : BoardTerms). nets_of u.design + 1) old.terms) in
-    let place = old.place in
-    let works' : i < t.workers = subst (λ (u : BoardTerms). i < u.workers) old.terms (omega arith) in
-    let after = finishes_kept t f i v kept here [] works' not_yet in
-    subst (λ (j : ℕ). (z : List View) × (a : Act (Unit {0})) × Valid s.homes me.1 a × Law t (stepped s j ((slice_index s.words j + 1) % 2 ^ 64) id me.1 z a)
-    × Leaves j ((slice_index s.words j + 1) % 2 ^ 64) w me (z, carried_after me.1 a)) is
-    (let x : ℕ = (slice_index s.words (nets_of t.design + 1) + 1) % 2 ^ 64 in (
-      w ∷ [],
-      keeps,
-      tt,
-      settled t s id me one at (nets_of t.design + 1) x w after,
-      (refl, tells t f i v w kept here [] (nets_of t.design + 1) x (omega arith) (refl, refl, refl) after),
-    ))
+finish_allowed t slots id me k one is works not_yet =
+    let v : View = only me.0 in
+    step_allowed t slots id me k (λ d. nets_of d + 1) (λ n. (n + 1) % 2 ^ 64) (λ _. after_finish v) one is (λ _. (refl, refl, refl)) (λ s i kept here.
+    let old = kept.seats i v here in let place = old.place in
+    let works' : i < t.workers = subst (λ (u : BoardTerms). i < u.workers) old.terms (omega arith) in (omega arith, finishes_kept t s i v kept here [] works' not_yet))
 
 pub count_allowed : (t : BoardTerms) (slots id : ℕ) (me : M) (k : ℕ) → IsOne me → k ≡ nets_of (only me.0).terms.design + 1 → Allows (Law t) slots id me k (λ n. n) (Counts (step slots k 0 0 none) me)
-count_allowed t slots id me k one is' s kept _ at _ =
-    let v : View = only me.0 in let f = seats_of s in let i = place_of s.views id in let here = seated t s id me one at in
-    let old = kept.seats i v here in
-    let is : nets_of t.design + 1 ≡ k = sym (is' ∙ ap (λ (u : BoardTerms). nets_of u.design + 1) old.terms) in
-    let after = counts_kept t f i v kept here [] in
-    subst (λ (j : ℕ). (z : List View) × (a : Act (Unit {0})) × Valid s.homes me.1 a × Law t (stepped s j (slice_index s.words j) id me.1 z a)
-    × Leaves j (slice_index s.words j) (after_count v (slice_index s.words j)) me (z, carried_after me.1 a)) is
-    (let x : ℕ = slice_index s.words (nets_of t.design + 1) in let w : View = after_count v x in (
-      w ∷ [],
-      keeps,
-      tt,
-      settled t s id me one at (nets_of t.design + 1) x w after,
-      (refl, tells t f i v w kept here [] (nets_of t.design + 1) x (omega arith) (refl, refl, refl) after),
-    ))
+count_allowed t slots id me k one is =
+    let v : View = only me.0 in
+    step_allowed t slots id me k (λ d. nets_of d + 1) (λ n. n) (λ n. after_count v n) one is (λ _. (refl, refl, refl)) (λ s i kept here. (omega arith, counts_kept t s i v kept here []))

@@ -56,7 +56,7 @@ pub end_along : (x y : ℕ) (l m : List Endings) → y ≡ x → m ≡ l → IsE
 end_along x y l m e f h = subst (λ (z : ℕ × List Endings). IsEndKept z.0 z.1) (λ i. (sym e i, sym f i)) h
 
 -- the seat that steps stays in its place
-abbrev Stays : View → View → Type 0
+abbrev pub Stays : View → View → Type 0
 Stays v w = (w.terms ≡ v.terms) × (w.place ≡ v.place) × (w.is_last ≡ v.is_last)
 
 module _ (t : BoardTerms) (s : S) (id : ℕ) (v w : View) (kept : IsBoard t s) (at : get_elem? s.views id ≡ some v) (c : List (ℕ × Unit {0})) where

@@ -101,22 +101,26 @@ Moment v P = (s : State (Unit {0}) View) × IsBoard v.terms s × (get_elem? s.vi
 abbrev pub Leaves : ℕ → ℕ → View → Me (Unit {0}) (List View) → Me (Unit {0}) (List View) → Type 0
 Leaves word x w m m' = (m' ≡ (w ∷ [], m.1)) × Moment w (λ s. slice_index s.words word ≡ x)
 
-abbrev pub Publishes : Step (Unit {0}) → Me (Unit {0}) (List View) → ℕ → Me (Unit {0}) (List View) → Type 0
+-- what the table keeps for the seat after its step, by the step, what it kept before and what the step found
+abbrev pub AfterStep : Type 1
+AfterStep = Step (Unit {0}) → Me (Unit {0}) (List View) → ℕ → Me (Unit {0}) (List View) → Type 0
+
+abbrev pub Publishes : AfterStep
 Publishes step m found m' = Leaves step.word step.first (after_publish (only m.0) (promise_of_word step.word step.first)) m m'
 
-abbrev pub Looks : Step (Unit {0}) → Me (Unit {0}) (List View) → ℕ → Me (Unit {0}) (List View) → Type 0
+abbrev pub Looks : AfterStep
 Looks step m found m' = Leaves step.word found (after_look (only m.0) (promise_of_word step.word found)) m m'
 
-abbrev pub Raises : Step (Unit {0}) → Me (Unit {0}) (List View) → ℕ → Me (Unit {0}) (List View) → Type 0
+abbrev pub Raises : AfterStep
 Raises step m found m' = Leaves step.word 1 (after_raise (only m.0)) m m'
 
-abbrev pub Checks : Step (Unit {0}) → Me (Unit {0}) (List View) → ℕ → Me (Unit {0}) (List View) → Type 0
+abbrev pub Checks : AfterStep
 Checks step m found m' = Leaves step.word found (after_check (only m.0) (found == 1)) m m'
 
-abbrev pub Finishes : Step (Unit {0}) → Me (Unit {0}) (List View) → ℕ → Me (Unit {0}) (List View) → Type 0
+abbrev pub Finishes : AfterStep
 Finishes step m found m' = Leaves step.word ((found + 1) % 2 ^ 64) (after_finish (only m.0)) m m'
 
-abbrev pub Counts : Step (Unit {0}) → Me (Unit {0}) (List View) → ℕ → Me (Unit {0}) (List View) → Type 0
+abbrev pub Counts : AfterStep
 Counts step m found m' = Leaves step.word found (after_count (only m.0) found) m m'
 
 -- ---- the end

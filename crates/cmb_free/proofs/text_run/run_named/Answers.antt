@@ -14,8 +14,8 @@ returns-in_err-crew-clause-fault g c =
 
 pub returns-in_err-given-clause-fault : goal.returns-in_err-given-clause-fault
 returns-in_err-given-clause-fault g c =
-    let told = c.run_crew-telling in
-    let backlog = told.result.0.backlog in
+    let told = c.run_crew-teller in
+    let backlog = told.result.0 in
     let exact : IsExactFrom g.T.Terms.design (unwrap_or backlog.written 0) backlog.collector = rw c.into_collector.ensures.collector at c.into_collector.ensures.exact in
     let why : IsUnfinished told.result.1 backlog.collector c.in_err-given.field-0.0 = rw c.into_collector.ensures.collector at c.in_err-given.ensures.fault in
     let p = err_from_is_err_and c.from_residual-in_err-given.result c.from_residual-in_err-given.ensures.1 in
@@ -23,8 +23,8 @@ returns-in_err-given-clause-fault g c =
 
 pub returns : goal.returns
 returns g c =
-    let told = c.run_crew-telling in
-    let backlog = told.result.0.backlog in
+    let told = c.run_crew-teller in
+    let backlog = told.result.0 in
     let exact : IsExactFrom g.T.Terms.design (unwrap_or backlog.written 0) backlog.collector = rw c.into_collector.ensures.collector at c.into_collector.ensures.exact in
     let complete : IsComplete backlog.collector = subst IsComplete (c.in_ok-given.ensures.same ∙ c.into_collector.ensures.collector) c.in_ok-given.ensures.complete in
     let all = told-whole g.T.Terms.design _ _ _ _ backlog exact told.result.1 c.in_ok-given.given told.ensures c.in_ok-given.ensures.given complete in
