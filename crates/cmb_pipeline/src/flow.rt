@@ -124,10 +124,13 @@ impl<'a, T: Terms, R: Wait> Flow<'a, T, R> {
     {
         self.source.feed()?;
         let before = kept.len();
-        let Parcel { batch, .. } = whole(self.rt, &mut self.inlet, self.shares, kept.clock())?;
-        tell(&mut self.dump, &batch, kept)?;
+        let parcel = whole(self.rt, &mut self.inlet, self.shares, kept.clock())?;
+        if let Err(error) = tell(&mut self.dump, &parcel.batch, kept) {
+            drop(parcel);
+            return Err(error);
+        }
         self.source
-            .take_back(Parcel::new(batch), kept.len().saturating_sub(before))
+            .take_back(parcel, kept.len().saturating_sub(before))
     }
 }
 

@@ -40,7 +40,7 @@ fn stages_of<'a, T: Terms>(
 ) -> Result<(Vec<Stage<'a, T>>, Inlet<'a, T>), AllocError>
     requires { All (IsMakerOf T.design T.owners T.crossing T.width) makers.items }
 {
-    let mut stages = Vec::with_capacity(alloc, makers.len())?;
+    let mut stages = Vec::new(alloc);
     let mut inlet = inlet;
     for maker in makers {
         let (outlet, next) = RingBuffer::new(alloc, ROOM)?;

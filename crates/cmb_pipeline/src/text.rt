@@ -10,33 +10,19 @@ ghost use Rattle.cmb_vcd.specs.Vcd.{vcd};
 use crate::flow::Flow;
 use crate::opening::{Ends, Run, open_run};
 use crate::terms::Terms;
-use crate::threads::{join_all, start};
+use crate::threads::start;
 use cmb_batch::{Makers, open_makers, shares_of};
 use cmb_cut::Sharing;
 use cmb_design::Design;
-use cmb_stream::{StreamFault, text_rest, write_rest};
-use cmb_vcd::Sink;
+use cmb_stream::{StreamFault, write_rest};
+use cmb_vcd::{Room, Sink};
 use std::alloc::{AllocError, Global};
 use std::marker::Brand;
 use std::sync::Wait;
 use std::thread;
 use std::thread::Threads;
 
-// The text, by the calling thread between the ends of a run whose stages are at work.
-fn text_between<'a, T: Terms, R: Wait>(
-    rt: &'a R,
-    alloc: Global,
-    design: &'a Design,
-    ends: Ends<'a, T>,
-) -> Result<Vec<u8>, AllocError>
-    requires { design.now ≡ T.design }
-    ensures { IfOk result (λ text. text.items ≡ vcd design.entry.now) }
-{
-    let (flow, kept) = Flow::begin(rt, alloc, design, ends)?;
-    text_rest(flow, kept)
-}
-
-// Writes the text, in the same way.
+// Writes the text, by the calling thread between the ends of a run whose stages are at work.
 fn write_between<'a, T: Terms, R: Wait, S: Sink>(
     rt: &'a R,
     alloc: Global,
@@ -50,56 +36,6 @@ fn write_between<'a, T: Terms, R: Wait, S: Sink>(
 {
     let (flow, kept) = Flow::begin(rt, alloc, design, ends)?;
     write_rest(flow, kept, sink)
-}
-
-// The text of the design that T names.
-fn text_named<'a, T: Terms + Send + Sync, R: Threads + Wait + Sync>(
-    rt: &'a R,
-    alloc: Global,
-    design: &'a Design,
-    sharing: &'a Sharing,
-    makers: Makers<'a>,
-) -> Result<Vec<u8>, AllocError>
-    requires of { IsOf design.now sharing.now.owners.items sharing.now.crossing.items makers
-        T.design T.owners T.crossing T.width }
-    ensures { IfOk result (λ text. text.items ≡ vcd design.now) }
-{
-    let Run { ends, stages } = open_run::<T>(
-        alloc,
-        design,
-        &sharing.owners,
-        &sharing.crossing,
-        makers,
-    )?;
-    thread::scope(
-        thread::scope_env(),
-        rt,
-        move |scope| -> Result<Vec<u8>, AllocError>
-            requires { design.now ≡ T.design }
-            ensures { IfOk result (λ text. text.items ≡ vcd design.entry.now) }
-        {
-            let threads = start(rt, alloc, scope, stages);
-            let text = text_between(rt, alloc, design, ends);
-            join_all(rt, threads);
-            text
-        },
-    )
-}
-
-/// The VCD text of a design's run, whole in memory, by a thread for each share of its nets and the calling one, which
-/// makes the text. The text is the same however the nets were shared out. Errors: memory or a thread was refused.
-pub fn pipeline_text<R: Threads + Wait + Sync>(
-    rt: &R,
-    alloc: Global,
-    design: &Design,
-    sharing: &Sharing,
-) -> Result<Vec<u8>, AllocError>
-    requires { IsSharing design.now.netlist sharing.now }
-    ensures { IfOk result (λ text. text.items ≡ vcd design.now) }
-{
-    let shares = shares_of(alloc, design, sharing)?;
-    let makers = open_makers(rt, alloc, &shares)?;
-    text_named::<Brand, R>(rt, alloc, design, sharing, makers)
 }
 
 // Does nothing. This use of a reference that came back ties it to the parameter that lent it.
@@ -137,9 +73,8 @@ fn write_named<'a, T: Terms + Send + Sync, R: Threads + Wait + Sync, S: Sink>(
             ensures name { result.0.ghost_name ≡ sink.entry.ghost_name }
             ensures written { IsWrittenTo S.Sink design.entry.now sink.entry.now result.0.now result.1 }
         {
-            let threads = start(rt, alloc, scope, stages);
+            start(rt, scope, stages);
             let written = write_between(rt, alloc, design, ends, sink);
-            join_all(rt, threads);
             (sink, written)
         },
     );
@@ -165,4 +100,22 @@ pub fn write_pipeline<R: Threads + Wait + Sync, S: Sink>(
     let shares = shares_of(alloc, design, sharing)?;
     let makers = open_makers(rt, alloc, &shares)?;
     write_named::<Brand, R, S>(rt, alloc, design, sharing, makers, sink)
+}
+
+/// The VCD text of a design's run, whole in memory, made as `write_pipeline` makes it. The text is the same however the
+/// nets were shared out. Errors: memory or a thread was refused.
+pub fn pipeline_text<R: Threads + Wait + Sync>(
+    rt: &R,
+    alloc: Global,
+    design: &Design,
+    sharing: &Sharing,
+) -> Result<Vec<u8>, AllocError>
+    requires { IsSharing design.now.netlist sharing.now }
+    ensures { IfOk result (λ text. text.items ≡ vcd design.now) }
+{
+    let mut room = Room::new(alloc, 0)?;
+    match write_pipeline(rt, alloc, design, sharing, &mut room) {
+        Ok(_) => Ok(room.bytes),
+        Err(_) => Err(AllocError),
+    }
 }
