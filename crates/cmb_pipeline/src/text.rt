@@ -8,9 +8,8 @@ ghost use Rattle.cmb_stream.specs.Streams.{IsWrittenTo};
 ghost use Rattle.cmb_vcd.specs.Vcd.{vcd};
 
 use crate::flow::Flow;
-use crate::opening::{Ends, Run, open_run};
+use crate::opening::{Run, open_run, start};
 use crate::terms::Terms;
-use crate::threads::start;
 use cmb_batch::{Makers, open_makers, shares_of};
 use cmb_cut::Sharing;
 use cmb_design::Design;
@@ -20,21 +19,32 @@ use std::alloc::{AllocError, Global};
 use std::marker::Brand;
 use std::sync::Wait;
 use std::thread;
-use std::thread::Threads;
+use std::thread::{Scope, Threads};
 
-// Writes the text, by the calling thread between the ends of a run whose stages are at work.
-fn write_between<'a, T: Terms, R: Wait, S: Sink>(
+// Writes the text by the calling thread, while the stages are at work in threads of a scope.
+fn write_within<'s, 'a: 's, E, T: Terms + Send + Sync + 's, R: Threads + Wait + Sync, S: Sink>(
     rt: &'a R,
     alloc: Global,
+    scope: &Scope<'s, E>,
     design: &'a Design,
-    ends: Ends<'a, T>,
+    run: Run<'a, T>,
     sink: &mut S,
 ) -> Result<u64, StreamFault>
     requires room { S.failures sink.old < 2 ^ 64 - 1 }
     requires design { design.now ≡ T.design }
     ensures { IsWrittenTo S.Sink design.entry.now sink.old sink.new result }
 {
-    let (flow, kept) = Flow::begin(rt, alloc, design, ends)?;
+    let Run {
+        source,
+        makers,
+        inlet,
+    } = run;
+    let shares = makers.len() as u32;
+    let Ok(inlet) = start(rt, alloc, scope, makers, inlet) else {
+        drop(source);
+        return Err(StreamFault::Memory);
+    };
+    let (flow, kept) = Flow::begin(rt, alloc, design, shares, source, inlet)?;
     write_rest(flow, kept, sink)
 }
 
@@ -57,13 +67,7 @@ fn write_named<'a, T: Terms + Send + Sync, R: Threads + Wait + Sync, S: Sink>(
         T.design T.owners T.crossing T.width }
     ensures { IsWrittenTo S.Sink design.now sink.old sink.new result }
 {
-    let Run { ends, stages } = open_run::<T>(
-        alloc,
-        design,
-        &sharing.owners,
-        &sharing.crossing,
-        makers,
-    )?;
+    let run = open_run::<T>(alloc, design, &sharing.owners, &sharing.crossing, makers)?;
     let (back, written) = thread::scope(
         thread::scope_env(),
         rt,
@@ -73,8 +77,7 @@ fn write_named<'a, T: Terms + Send + Sync, R: Threads + Wait + Sync, S: Sink>(
             ensures name { result.0.ghost_name ≡ sink.entry.ghost_name }
             ensures written { IsWrittenTo S.Sink design.entry.now sink.entry.now result.0.now result.1 }
         {
-            start(rt, scope, stages);
-            let written = write_between(rt, alloc, design, ends, sink);
+            let written = write_within(rt, alloc, scope, design, run, sink);
             (sink, written)
         },
     );
