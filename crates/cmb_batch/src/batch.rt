@@ -57,19 +57,18 @@ fn clear_all(windows: &mut [Window])
     }
 }
 
-// So many windows of which no share made anything, in place of others, whose room they use.
-fn unmade(alloc: Global, windows: Vec<Window>, count: usize) -> Result<Vec<Window>, AllocError>
-    ensures count { IfOk result (λ windows. length windows.items ≡ count) }
-    ensures unmade { IfOk result (λ windows. (design : Design) (owners : List ℕ) (crossing : List Bool)
-        (clocks : List ℕ) → AreMade design owners crossing 0 clocks windows.items) }
+// Makes them so many windows of which no share made anything, in the room that they have.
+fn unmake(alloc: Global, windows: &mut Vec<Window>, count: usize) -> Result<(), AllocError>
+    ensures count { OnOk result (length windows.new.items ≡ count) }
+    ensures unmade { OnOk result ((design : Design) (owners : List ℕ) (crossing : List Bool)
+        (clocks : List ℕ) → AreMade design owners crossing 0 clocks windows.new.items) }
 {
-    let mut windows = windows;
     windows.truncate(count);
-    clear_all(&mut windows);
+    clear_all(windows);
     for _window in windows.len()..count {
         windows.push(Window::new(alloc))?;
     }
-    Ok(windows)
+    Ok(())
 }
 
 impl<'a> Batch<'a> {
@@ -95,7 +94,8 @@ impl<'a> Batch<'a> {
         ensures clocks { IfOk result (λ batch. batch.clocks ≡ clocks.items) }
         ensures made { IfOk result (λ batch. batch.made ≡ 0) }
     {
-        let windows = unmade(alloc, Vec::new(alloc), clocks.len() - 1)?;
+        let mut windows = Vec::new(alloc);
+        unmake(alloc, &mut windows, clocks.len() - 1)?;
         Ok(Batch {
             design,
             owners,
@@ -119,24 +119,11 @@ impl<'a> Batch<'a> {
         ensures clocks { IfOk result (λ batch. batch.clocks ≡ clocks.items) }
         ensures made { IfOk result (λ batch. batch.made ≡ 0) }
     {
-        let Batch {
-            design,
-            owners,
-            crossing,
-            width,
-            windows,
-            ..
-        } = self;
-        let windows = unmade(alloc, windows, clocks.len() - 1)?;
-        Ok(Batch {
-            design,
-            owners,
-            crossing,
-            width,
-            clocks,
-            windows,
-            made: 0,
-        })
+        let mut batch = self;
+        unmake(alloc, &mut batch.windows, clocks.len() - 1)?;
+        batch.clocks = clocks;
+        batch.made = 0;
+        Ok(batch)
     }
 
     /// The windows as one share more made them, whose maker this is. Errors: memory was refused.

@@ -22,7 +22,6 @@ use std::marker::Model;
 /// The engine of a share, which makes its windows.
 #[derive(Drop)]
 pub struct ShareMaker<'a> {
-    alloc: Global,
     share: &'a DesignShare<'a>,
     engine: ShareEngine<'a>,
     /// What the engine told of its last window.
@@ -139,7 +138,6 @@ impl<'a> ShareMaker<'a> {
         // Its contract tells how wide windows are.
         let _width = engine.width();
         Ok(ShareMaker {
-            alloc,
             share,
             engine,
             told: Vec::new(alloc),
@@ -171,32 +169,17 @@ impl<'a> ShareMaker<'a> {
     }
 
     /// Begins anew, at tick 1, with windows of at most so many ticks. Errors: memory was refused.
-    pub(crate) fn narrowed(self, width: u32) -> Result<ShareMaker<'a>, AllocError>
+    pub(crate) fn narrowed(self, alloc: Global, width: u32) -> Result<ShareMaker<'a>, AllocError>
         requires some { 2 ≤ width }
         requires narrower { width ≤ self.width }
         ensures share { IfOk result (λ maker. maker.share ≡ self.entry.share) }
         ensures width { IfOk result (λ maker. maker.width ≡ width) }
         ensures clock { IfOk result (λ maker. maker.clock ≡ 1) }
     {
-        let ShareMaker {
-            alloc,
-            share,
-            engine,
-            told,
-            room,
-            alone,
-            ..
-        } = self;
-        let engine = engine.narrowed(alloc, width)?;
-        Ok(ShareMaker {
-            alloc,
-            share,
-            engine,
-            told,
-            room,
-            clock: 1,
-            alone,
-        })
+        let mut maker = self;
+        maker.engine = maker.engine.narrowed(alloc, width)?;
+        maker.clock = 1;
+        Ok(maker)
     }
 
     /// Makes the next window before it is asked for, where the share is given nothing, so that nobody need be waited
@@ -204,25 +187,15 @@ impl<'a> ShareMaker<'a> {
     pub fn looked_ahead(self) -> Result<ShareMaker<'a>, AllocError>
         ensures { IfOk result (λ maker. maker ≡ self.entry) }
     {
-        let ShareMaker {
-            alloc,
-            share,
-            engine,
-            mut told,
-            room,
-            clock,
-            alone,
-        } = self;
-        let engine = ahead(share, engine, clock, alone, &mut told)?;
-        Ok(ShareMaker {
-            alloc,
-            share,
-            engine,
-            told,
-            room,
-            clock,
-            alone,
-        })
+        let mut maker = self;
+        maker.engine = ahead(
+            maker.share,
+            maker.engine,
+            maker.clock,
+            maker.alone,
+            &mut maker.told,
+        )?;
+        Ok(maker)
     }
 
     // Makes its share of a window, which all earlier shares made.
@@ -237,7 +210,6 @@ impl<'a> ShareMaker<'a> {
             self.entry.share.crossing (suc self.entry.share.number) self.entry.clock upto window.new) }
     {
         let ShareMaker {
-            alloc,
             share,
             engine,
             mut told,
@@ -248,7 +220,6 @@ impl<'a> ShareMaker<'a> {
         let engine = reached(share, engine, clock, &window.crossing, &mut told)?;
         window.add(share, &told, &mut room)?;
         Ok(ShareMaker {
-            alloc,
             share,
             engine,
             told,

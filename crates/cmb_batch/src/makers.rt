@@ -65,7 +65,7 @@ fn least_width(makers: &[ShareMaker<'_>]) -> u32
 }
 
 // A maker whose windows are as short.
-fn narrowed(maker: ShareMaker<'_>, width: u32) -> Result<ShareMaker<'_>, AllocError>
+fn narrowed(alloc: Global, maker: ShareMaker<'_>, width: u32) -> Result<ShareMaker<'_>, AllocError>
     requires wide { 2 ≤ width }
     requires narrower { width ≤ maker.width }
     requires clock { maker.clock ≡ 1 }
@@ -74,7 +74,7 @@ fn narrowed(maker: ShareMaker<'_>, width: u32) -> Result<ShareMaker<'_>, AllocEr
     ensures clock { IfOk result (λ it. it.clock ≡ 1) }
 {
     if maker.width() > width {
-        maker.narrowed(width)
+        maker.narrowed(alloc, width)
     } else {
         Ok(maker)
     }
@@ -96,7 +96,7 @@ fn all_narrowed<'a>(
 {
     let mut all = Vec::with_capacity(alloc, makers.len())?;
     for maker in makers {
-        all.push(narrowed(maker, width)?)?;
+        all.push(narrowed(alloc, maker, width)?)?;
     }
     Ok(all)
 }

@@ -4,7 +4,6 @@ ghost use Rattle.std.specs.Prelude.{◌≡◌, ℕ, suc, ◌<◌, ◌≤◌, len
 ghost use Rattle.cmb_batch.specs.Windows.{clock_at, last_of};
 ghost use Rattle.cmb_stream.specs.Parts.{IsAtEndOf};
 
-use crate::opening::Ends;
 use crate::parcel::{Inlet, Parcel};
 use crate::source::Source;
 use crate::terms::Terms;
@@ -90,18 +89,17 @@ impl<'a, T: Terms, R: Wait> Flow<'a, T, R> {
         rt: &'a R,
         alloc: Global,
         design: &'a Design,
-        ends: Ends<'a, T>,
+        shares: u32,
+        source: Source<'a, T>,
+        inlet: Inlet<'a, T>,
     ) -> Result<(Flow<'a, T, R>, Kept<'a>), AllocError>
-        requires { design.now ≡ T.design }
+        requires design { design.now ≡ T.design }
+        requires owned { All (λ owner. owner < shares) T.owners }
         ensures here { IfOk result (λ begun. IsAtEndOf begun.1 begun.0) }
         ensures design { IfOk result (λ begun. begun.1.design ≡ design.entry.now) }
         ensures all { IfOk result (λ begun. begun.1.given ≡ 0) }
     {
-        let Ends {
-            shares,
-            mut source,
-            inlet,
-        } = ends;
+        let mut source = source;
         source.feed()?;
         let (dump, kept) = first_text(alloc, design)?;
         let flow = Flow {
@@ -124,10 +122,13 @@ impl<'a, T: Terms, R: Wait> Flow<'a, T, R> {
     {
         self.source.feed()?;
         let before = kept.len();
-        let Parcel { batch, .. } = whole(self.rt, &mut self.inlet, self.shares, kept.clock())?;
-        tell(&mut self.dump, &batch, kept)?;
+        let parcel = whole(self.rt, &mut self.inlet, self.shares, kept.clock())?;
+        if let Err(error) = tell(&mut self.dump, &parcel.batch, kept) {
+            drop(parcel);
+            return Err(error);
+        }
         self.source
-            .take_back(Parcel::new(batch), kept.len().saturating_sub(before))
+            .take_back(parcel, kept.len().saturating_sub(before))
     }
 }
 

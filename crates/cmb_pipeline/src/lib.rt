@@ -9,6 +9,5 @@ mod source;
 mod stage;
 mod terms;
 pub mod text;
-mod threads;
 
 pub use text::{pipeline_text, write_pipeline};

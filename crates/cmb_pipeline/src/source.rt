@@ -154,9 +154,13 @@ impl<'a, T: Terms> Source<'a, T> {
         self.pace(ticks, made);
         if self.waiting.is_some() || self.next >= self.design.horizon() {
             self.left = self.left.saturating_add(1);
+            drop(batch);
             return Ok(());
         }
-        let clocks = self.days()?;
+        let Ok(clocks) = self.days() else {
+            drop(batch);
+            return Err(AllocError);
+        };
         let batch = batch.renewed(self.alloc, clocks)?;
         self.waiting = Some(Parcel::new(batch));
         Ok(())

@@ -1,11 +1,11 @@
 //! A thread's part of a run: it makes a share's windows of each batch that comes by.
 
-ghost use Rattle.std.specs.Prelude.{◌≡◌, suc, ◌<◌, IfOk, IfSome, length};
-ghost use Rattle.cmb_batch.specs.Makers.{IsNextOf};
+ghost use Rattle.std.specs.Prelude.{IfSome};
+ghost use Rattle.cmb_pipeline.specs.Opened.{IsMakerOf};
 
 use crate::parcel::{Inlet, Outlet, Parcel};
 use crate::terms::Terms;
-use cmb_batch::{Batch, ShareMaker};
+use cmb_batch::ShareMaker;
 use cmb_idle::{handed, taken};
 use std::sync::Wait;
 
@@ -15,10 +15,40 @@ pub struct Stage<'a, T: Terms> {
     maker: ShareMaker<'a>,
     inlet: Inlet<'a, T>,
     outlet: Outlet<'a, T>,
-    ghost design: { maker.share.design ≡ T.design },
-    ghost owners: { maker.share.owners ≡ T.owners },
-    ghost crossing: { maker.share.crossing ≡ T.crossing },
-    ghost width: { maker.width ≡ T.width },
+    ghost of: { IsMakerOf T.design T.owners T.crossing T.width maker },
+}
+
+// Takes a batch, makes the share's windows of it and hands it on. There is no maker any more where nobody hands batches
+// on or takes them, or memory was refused.
+fn step<'a, T: Terms, R: Wait>(
+    rt: &R,
+    maker: ShareMaker<'a>,
+    inlet: &mut Inlet<'a, T>,
+    outlet: &mut Outlet<'a, T>,
+) -> Option<ShareMaker<'a>>
+    requires { IsMakerOf T.design T.owners T.crossing T.width maker }
+    ensures { IfSome result (IsMakerOf T.design T.owners T.crossing T.width) }
+{
+    let Ok(maker) = maker.looked_ahead() else {
+        return None;
+    };
+    let Some(Parcel { batch, .. }) = taken(rt, inlet) else {
+        drop(maker);
+        return None;
+    };
+    if batch.made() != u64::from(maker.number()) || batch.clock(0) != maker.clock() {
+        drop((batch, maker));
+        return None;
+    }
+    let Ok((batch, maker)) = batch.passed(maker) else {
+        return None;
+    };
+    if handed(rt, outlet, Parcel::new(batch)) {
+        Some(maker)
+    } else {
+        drop(maker);
+        None
+    }
 }
 
 impl<'a, T: Terms> Stage<'a, T> {
@@ -28,10 +58,7 @@ impl<'a, T: Terms> Stage<'a, T> {
         inlet: Inlet<'a, T>,
         outlet: Outlet<'a, T>,
     ) -> Stage<'a, T>
-        requires design { maker.share.design ≡ T.design }
-        requires owners { maker.share.owners ≡ T.owners }
-        requires crossing { maker.share.crossing ≡ T.crossing }
-        requires width { maker.width ≡ T.width }
+        requires { IsMakerOf T.design T.owners T.crossing T.width maker }
     {
         Stage {
             maker,
@@ -40,50 +67,22 @@ impl<'a, T: Terms> Stage<'a, T> {
         }
     }
 
-    // Takes a batch, makes the share's windows of it and hands it on. There is no stage any more where nobody hands
-    // batches on or takes them, or memory was refused.
-    fn step<R: Wait>(self, rt: &R) -> Option<Stage<'a, T>> {
+    /// Makes the share's windows of each batch that comes by.
+    pub(crate) fn run<R: Wait>(self, rt: &R) {
         let Stage {
-            maker,
+            mut maker,
             mut inlet,
             mut outlet,
         } = self;
-        let Ok(maker) = maker.looked_ahead() else {
-            drop((inlet, outlet));
-            return None;
-        };
-        let Some(Parcel { batch, .. }) = taken(rt, &mut inlet) else {
-            drop((maker, inlet, outlet));
-            return None;
-        };
-        if batch.made() != u64::from(maker.number()) || batch.clock(0) != maker.clock() {
-            drop((batch, maker, inlet, outlet));
-            return None;
-        }
-        let Ok((batch, maker)) = batch.passed(maker) else {
-            drop((inlet, outlet));
-            return None;
-        };
-        if handed(rt, &mut outlet, Parcel::new(batch)) {
-            Some(Stage {
-                maker,
-                inlet,
-                outlet,
-            })
-        } else {
-            drop((maker, inlet, outlet));
-            None
-        }
-    }
-
-    /// Makes the share's windows of each batch that comes by.
-    pub(crate) fn run<R: Wait>(self, rt: &R) {
-        let mut stage = self;
         for _ in rt.forever() {
-            match stage.step(rt) {
-                Some(next) => stage = next,
-                None => return,
+            match step(rt, maker, &mut inlet, &mut outlet) {
+                Some(next) => maker = next,
+                None => {
+                    drop((inlet, outlet));
+                    return;
+                }
             }
         }
+        unreachable!()
     }
 }

@@ -8,98 +8,44 @@ ghost use Rattle.cmb_stream.specs.Streams.{IsWrittenTo};
 ghost use Rattle.cmb_vcd.specs.Vcd.{vcd};
 
 use crate::flow::Flow;
-use crate::opening::{Ends, Run, open_run};
+use crate::opening::{Run, open_run, start};
 use crate::terms::Terms;
-use crate::threads::{join_all, start};
 use cmb_batch::{Makers, open_makers, shares_of};
 use cmb_cut::Sharing;
 use cmb_design::Design;
-use cmb_stream::{StreamFault, text_rest, write_rest};
-use cmb_vcd::Sink;
+use cmb_stream::{StreamFault, write_rest};
+use cmb_vcd::{Room, Sink};
 use std::alloc::{AllocError, Global};
 use std::marker::Brand;
 use std::sync::Wait;
 use std::thread;
-use std::thread::Threads;
+use std::thread::{Scope, Threads};
 
-// The text, by the calling thread between the ends of a run whose stages are at work.
-fn text_between<'a, T: Terms, R: Wait>(
+// Writes the text by the calling thread, while the stages are at work in threads of a scope.
+fn write_within<'s, 'a: 's, E, T: Terms + Send + Sync + 's, R: Threads + Wait + Sync, S: Sink>(
     rt: &'a R,
     alloc: Global,
+    scope: &Scope<'s, E>,
     design: &'a Design,
-    ends: Ends<'a, T>,
-) -> Result<Vec<u8>, AllocError>
-    requires { design.now ≡ T.design }
-    ensures { IfOk result (λ text. text.items ≡ vcd design.entry.now) }
-{
-    let (flow, kept) = Flow::begin(rt, alloc, design, ends)?;
-    text_rest(flow, kept)
-}
-
-// Writes the text, in the same way.
-fn write_between<'a, T: Terms, R: Wait, S: Sink>(
-    rt: &'a R,
-    alloc: Global,
-    design: &'a Design,
-    ends: Ends<'a, T>,
+    run: Run<'a, T>,
     sink: &mut S,
 ) -> Result<u64, StreamFault>
     requires room { S.failures sink.old < 2 ^ 64 - 1 }
     requires design { design.now ≡ T.design }
     ensures { IsWrittenTo S.Sink design.entry.now sink.old sink.new result }
 {
-    let (flow, kept) = Flow::begin(rt, alloc, design, ends)?;
-    write_rest(flow, kept, sink)
-}
-
-// The text of the design that T names.
-fn text_named<'a, T: Terms + Send + Sync, R: Threads + Wait + Sync>(
-    rt: &'a R,
-    alloc: Global,
-    design: &'a Design,
-    sharing: &'a Sharing,
-    makers: Makers<'a>,
-) -> Result<Vec<u8>, AllocError>
-    requires of { IsOf design.now sharing.now.owners.items sharing.now.crossing.items makers
-        T.design T.owners T.crossing T.width }
-    ensures { IfOk result (λ text. text.items ≡ vcd design.now) }
-{
-    let Run { ends, stages } = open_run::<T>(
-        alloc,
-        design,
-        &sharing.owners,
-        &sharing.crossing,
+    let Run {
+        source,
         makers,
-    )?;
-    thread::scope(
-        thread::scope_env(),
-        rt,
-        move |scope| -> Result<Vec<u8>, AllocError>
-            requires { design.now ≡ T.design }
-            ensures { IfOk result (λ text. text.items ≡ vcd design.entry.now) }
-        {
-            let threads = start(rt, alloc, scope, stages);
-            let text = text_between(rt, alloc, design, ends);
-            join_all(rt, threads);
-            text
-        },
-    )
-}
-
-/// The VCD text of a design's run, whole in memory, by a thread for each share of its nets and the calling one, which
-/// makes the text. The text is the same however the nets were shared out. Errors: memory or a thread was refused.
-pub fn pipeline_text<R: Threads + Wait + Sync>(
-    rt: &R,
-    alloc: Global,
-    design: &Design,
-    sharing: &Sharing,
-) -> Result<Vec<u8>, AllocError>
-    requires { IsSharing design.now.netlist sharing.now }
-    ensures { IfOk result (λ text. text.items ≡ vcd design.now) }
-{
-    let shares = shares_of(alloc, design, sharing)?;
-    let makers = open_makers(rt, alloc, &shares)?;
-    text_named::<Brand, R>(rt, alloc, design, sharing, makers)
+        inlet,
+    } = run;
+    let shares = makers.len() as u32;
+    let Ok(inlet) = start(rt, alloc, scope, makers, inlet) else {
+        drop(source);
+        return Err(StreamFault::Memory);
+    };
+    let (flow, kept) = Flow::begin(rt, alloc, design, shares, source, inlet)?;
+    write_rest(flow, kept, sink)
 }
 
 // Does nothing. This use of a reference that came back ties it to the parameter that lent it.
@@ -121,13 +67,7 @@ fn write_named<'a, T: Terms + Send + Sync, R: Threads + Wait + Sync, S: Sink>(
         T.design T.owners T.crossing T.width }
     ensures { IsWrittenTo S.Sink design.now sink.old sink.new result }
 {
-    let Run { ends, stages } = open_run::<T>(
-        alloc,
-        design,
-        &sharing.owners,
-        &sharing.crossing,
-        makers,
-    )?;
+    let run = open_run::<T>(alloc, design, &sharing.owners, &sharing.crossing, makers)?;
     let (back, written) = thread::scope(
         thread::scope_env(),
         rt,
@@ -137,9 +77,7 @@ fn write_named<'a, T: Terms + Send + Sync, R: Threads + Wait + Sync, S: Sink>(
             ensures name { result.0.ghost_name ≡ sink.entry.ghost_name }
             ensures written { IsWrittenTo S.Sink design.entry.now sink.entry.now result.0.now result.1 }
         {
-            let threads = start(rt, alloc, scope, stages);
-            let written = write_between(rt, alloc, design, ends, sink);
-            join_all(rt, threads);
+            let written = write_within(rt, alloc, scope, design, run, sink);
             (sink, written)
         },
     );
@@ -165,4 +103,22 @@ pub fn write_pipeline<R: Threads + Wait + Sync, S: Sink>(
     let shares = shares_of(alloc, design, sharing)?;
     let makers = open_makers(rt, alloc, &shares)?;
     write_named::<Brand, R, S>(rt, alloc, design, sharing, makers, sink)
+}
+
+/// The VCD text of a design's run, whole in memory, made as `write_pipeline` makes it. The text is the same however the
+/// nets were shared out. Errors: memory or a thread was refused.
+pub fn pipeline_text<R: Threads + Wait + Sync>(
+    rt: &R,
+    alloc: Global,
+    design: &Design,
+    sharing: &Sharing,
+) -> Result<Vec<u8>, AllocError>
+    requires { IsSharing design.now.netlist sharing.now }
+    ensures { IfOk result (λ text. text.items ≡ vcd design.now) }
+{
+    let mut room = Room::new(alloc, 0)?;
+    match write_pipeline(rt, alloc, design, sharing, &mut room) {
+        Ok(_) => Ok(room.bytes),
+        Err(_) => Err(AllocError),
+    }
 }

@@ -1,9 +1,10 @@
 -- Windows of a run that follow one another. Only contracts inside the crate cite these.
-use Rattle.std.specs.Prelude.{ℕ, suc, ◌<◌, ◌≤◌, ◌-◌, List, length, slice_index_or, Vec}
+use Rattle.std.specs.Prelude.{◌≡◌, ℕ, suc, ◌<◌, ◌≤◌, ◌-◌, ◌++◌, List, length, slice_index_or, Vec}
 use Rattle.std.specs.Global.{Global}
 use Rattle.cmb_design.specs.Design.{Design}
 use Rattle.cmb_design.specs.Exact.{nets_of}
 use Rattle.cmb_design.specs.Value.{value}
+use Rattle.cmb_stream.specs.Parts.{made_text}
 use Rattle.cmb_words.specs.Changes.{IsWindow, Tells}
 use Rattle.cmb_words.specs.declared.changed.Changed.{Changed}
 
@@ -28,3 +29,9 @@ last_clock batch = slice_index_or batch.clocks (length batch.clocks - 1) 0
 pub record AreOf (batch : Batch) (windows : List (Vec Changed Global)) : Type 0 where
   pub count : length batch.clocks ≤ suc (length windows)
   pub each : (k : ℕ) (d : Vec Changed Global) → suc k < length batch.clocks → AreIn batch.design (clock_at batch k) (clock_at batch (suc k)) (slice_index_or windows k d).items
+
+-- a text is that of a batch's windows, of which there is one at least
+pub record IsTold (batch : Batch) (text : List ℕ) : Type 0 where
+  pub order : clock_at batch 0 < last_clock batch
+  pub within : last_clock batch ≤ batch.design.horizon
+  pub made : made_text batch.design (last_clock batch) ≡ made_text batch.design (clock_at batch 0) ++ text

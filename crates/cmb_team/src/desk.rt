@@ -53,12 +53,15 @@ impl<'a, T: Terms> Desk<'a, T> {
         };
         let mut teller = Teller::new(dump, inlet);
         for _ in rt.forever() {
-            let Ok(told) = teller.next(rt) else {
-                return;
+            let is_taken = match teller.next(rt) {
+                Ok(told) => handed(rt, &mut outlet, told),
+                Err(_) => false,
             };
-            if !handed(rt, &mut outlet, told) {
+            if !is_taken {
+                drop((teller, outlet));
                 return;
             }
         }
+        unreachable!()
     }
 }

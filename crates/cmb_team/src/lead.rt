@@ -3,7 +3,7 @@
 ghost use Rattle.std.specs.Prelude.{◌≡◌, ◌<◌, IfOk, OnOk};
 ghost use Rattle.cmb_stream.specs.Parts.{IsAtEndOf};
 
-use crate::parcel::{Outlet, Parcel, Told};
+use crate::parcel::{Outlet, Told};
 use crate::terms::Terms;
 use crate::texts::Texts;
 use cmb_stream::{Kept, TextMaker};
@@ -56,15 +56,18 @@ impl<'a, T: Terms, R: Wait> Lead<'a, T, R> {
         ensures given { OnOk result (kept.new.given ≡ kept.old.given) }
         ensures later { OnOk result (kept.old.clock < kept.new.clock) }
     {
-        let Told { batch, text, .. } = self.texts.next(self.rt)?;
+        let Told { parcel, .. } = self.texts.next(self.rt)?;
+        let batch = &parcel.batch;
         if batch.clock(0) != kept.clock() {
+            drop(parcel);
             return Err(AllocError);
         }
         let upto = batch.clock(batch.len());
-        kept.grow(&text, upto)?;
-        self.clock = upto;
+        let grown = kept.grow(&parcel.text, upto);
         // Where nobody takes it any more it is dropped.
-        let _given = self.back.push(Parcel::new(batch, text));
+        let _given = self.back.push(parcel);
+        grown?;
+        self.clock = upto;
         Ok(())
     }
 }
@@ -77,7 +80,12 @@ impl<'a, T: Terms, R: Wait> TextMaker for Lead<'a, T, R> {
     // Goes on by a batch.
     fn step(self, kept: &mut Kept<'_>) -> Result<Self, AllocError> {
         let mut lead = self;
-        lead.go_on(kept)?;
-        Ok(lead)
+        match lead.go_on(kept) {
+            Ok(()) => Ok(lead),
+            Err(error) => {
+                drop(lead);
+                Err(error)
+            }
+        }
     }
 }

@@ -1,12 +1,10 @@
 //! A thread's part of a run: it makes windows with the engine, batch by batch.
 
-ghost use Rattle.std.specs.Prelude.{◌≡◌, IfOk, IfSome};
+ghost use Rattle.std.specs.Prelude.{◌≡◌, IfSome};
 
-use crate::parcel::Parcel;
 use crate::terms::Terms;
 use crate::ways::Ways;
 use cmb_engine::Engine;
-use std::alloc::AllocError;
 use std::sync::Wait;
 
 /// The engine, and where batches come from and go.
@@ -16,23 +14,6 @@ pub struct Maker<'a, T: Terms> {
     horizon: u32,
     ways: Ways<'a, T>,
     ghost design: { engine.design ≡ T.design },
-}
-
-// A batch as the engine makes it, from its clock on.
-fn filled<'a, T: Terms>(
-    parcel: Parcel<'a, T>,
-    engine: Engine<'a>,
-) -> Result<(Parcel<'a, T>, Engine<'a>), AllocError>
-    requires { engine.design ≡ T.design }
-    ensures { IfOk result (λ both. both.1.design ≡ T.design) }
-{
-    let Parcel {
-        mut batch,
-        room,
-        ..
-    } = parcel;
-    let engine = batch.fill(engine)?;
-    Ok((Parcel::new(batch, room), engine))
 }
 
 // The next batch, made and handed on. There is no engine any more where the horizon was reached, nobody gives batches
@@ -46,11 +27,14 @@ fn step<'a, T: Terms, R: Wait>(
     requires { engine.design ≡ T.design }
     ensures { IfSome result (λ it. it.design ≡ T.design) }
 {
-    let Some(parcel) = ways.take(rt) else {
+    let Some(mut parcel) = ways.take(rt) else {
         drop(engine);
         return None;
     };
-    let (parcel, engine) = filled(parcel, engine).ok()?;
+    let Ok(engine) = parcel.batch.fill(engine) else {
+        drop(parcel);
+        return None;
+    };
     if ways.hand(rt, parcel) && engine.clock() < horizon {
         Some(engine)
     } else {
@@ -87,5 +71,6 @@ impl<'a, T: Terms> Maker<'a, T> {
                 }
             }
         }
+        unreachable!()
     }
 }

@@ -59,36 +59,35 @@ fn ring_to<'a, T: Terms>(
     Ok(inlet)
 }
 
-// One more desk between two rings.
-fn desk_between<'a, T: Terms>(
-    alloc: Global,
-    design: &'a Design,
-    outlets: &mut Vec<Outlet<'a, T>>,
-    texts: &mut Vec<TextInlet<'a, T>>,
-) -> Result<Desk<'a, T>, AllocError>
-    requires { design.now ≡ T.design }
-{
-    let inlet = ring_to(alloc, outlets)?;
-    let (outlet, text) = RingBuffer::new(alloc, ROOM)?;
-    texts.push(text)?;
-    Ok(Desk::new(alloc, design, inlet, outlet))
-}
-
-// So many desks, each between two rings.
-fn desks_between<'a, T: Terms>(
-    alloc: Global,
-    design: &'a Design,
-    count: usize,
-    outlets: &mut Vec<Outlet<'a, T>>,
-    texts: &mut Vec<TextInlet<'a, T>>,
-) -> Result<Vec<Desk<'a, T>>, AllocError>
-    requires { design.now ≡ T.design }
-{
-    let mut desks = Vec::with_capacity(alloc, count)?;
-    for _desk in 0..count {
-        desks.push(desk_between(alloc, design, outlets, texts)?)?;
+impl<'a, T: Terms> Rings<'a, T> {
+    // One more desk between two rings.
+    fn add_desk(&mut self, alloc: Global, design: &'a Design) -> Result<(), AllocError>
+        requires { design.now ≡ T.design }
+    {
+        let inlet = ring_to(alloc, &mut self.outlets)?;
+        let (outlet, text) = RingBuffer::new(alloc, ROOM)?;
+        self.texts.push(text)?;
+        self.desks.push(Desk::new(alloc, design, inlet, outlet))?;
+        Ok(())
     }
-    Ok(desks)
+
+    // So many desks, each between two rings; where there are none, a ring to the calling thread.
+    fn add_desks(
+        &mut self,
+        alloc: Global,
+        design: &'a Design,
+        count: usize,
+    ) -> Result<(), AllocError>
+        requires { design.now ≡ T.design }
+    {
+        if count == 0 {
+            self.own = Some(ring_to(alloc, &mut self.outlets)?);
+        }
+        for _desk in 0..count {
+            self.add_desk(alloc, design)?;
+        }
+        Ok(())
+    }
 }
 
 /// So many desks and the rings between them and the maker and the calling thread, which is the one teller where there
@@ -100,25 +99,24 @@ pub(crate) fn open_rings<'a, T: Terms>(
 ) -> Result<Rings<'a, T>, AllocError>
     requires { design.now ≡ T.design }
 {
-    let mut outlets = Vec::new(alloc);
-    let mut texts = Vec::new(alloc);
-    let own = if count == 0 {
-        Some(ring_to(alloc, &mut outlets)?)
-    } else {
-        None
-    };
-    let desks = desks_between(alloc, design, count, &mut outlets, &mut texts)?;
-    let most = outlets.len().saturating_add(MORE);
+    let most = count.max(1).saturating_add(MORE);
     let (back, spent) = RingBuffer::new(alloc, most)?;
-    Ok(Rings {
-        desks,
-        outlets,
-        own,
-        texts,
+    let mut rings = Rings {
+        desks: Vec::new(alloc),
+        outlets: Vec::new(alloc),
+        own: None,
+        texts: Vec::new(alloc),
         back,
         spent,
         most,
-    })
+    };
+    match rings.add_desks(alloc, design, count) {
+        Ok(()) => Ok(rings),
+        Err(error) => {
+            drop(rings);
+            Err(error)
+        }
+    }
 }
 
 /// What the run of the design begins with that `T` names, from where an engine and a dump are on.
@@ -146,8 +144,14 @@ pub(crate) fn open_run<'a, T: Terms, R: Wait>(
         most,
     } = rings;
     let texts = match own {
-        Some(inlet) => Texts::Own(Teller::new(dump, inlet)),
-        None => Texts::Others(Others::new(texts)),
+        Some(inlet) => {
+            drop(texts);
+            Texts::Own(Teller::new(dump, inlet))
+        }
+        None => {
+            drop(dump);
+            Texts::Others(Others::new(texts))
+        }
     };
     let clock = engine.clock();
     let ways = Ways::new(alloc, design, most, spent, outlets);

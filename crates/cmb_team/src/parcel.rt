@@ -1,8 +1,7 @@
 //! What goes from thread to thread: a batch, and its text.
 
-ghost use Rattle.std.specs.Prelude.{◌≡◌, ◌<◌, ◌≤◌, ◌++◌, IfOk};
-ghost use Rattle.cmb_stream.specs.Parts.{made_text};
-ghost use Rattle.cmb_team.specs.Batches.{clock_at, last_clock};
+ghost use Rattle.std.specs.Prelude.{◌≡◌};
+ghost use Rattle.cmb_team.specs.Batches.{IsTold};
 
 use crate::batch::Batch;
 use crate::terms::Terms;
@@ -13,51 +12,30 @@ use std::marker::PhantomData;
 #[derive(Drop)]
 pub struct Parcel<'a, T: Terms> {
     pub batch: Batch<'a>,
-    pub room: Vec<u8>,
+    pub text: Vec<u8>,
     terms: PhantomData<T>,
     ghost design: { batch.design ≡ T.design },
 }
 
 impl<'a, T: Terms> Parcel<'a, T> {
     /// A batch, and room for its text.
-    pub(crate) fn new(batch: Batch<'a>, room: Vec<u8>) -> Parcel<'a, T>
+    pub(crate) fn new(batch: Batch<'a>, text: Vec<u8>) -> Parcel<'a, T>
         requires { batch.design ≡ T.design }
         ensures { result.batch ≡ batch.entry }
     {
         Parcel {
             batch,
-            room,
-            terms: PhantomData,
-        }
-    }
-}
-
-/// A batch of the run that `T` names, and its text.
-#[derive(Drop)]
-pub struct Told<'a, T: Terms> {
-    pub batch: Batch<'a>,
-    pub text: Vec<u8>,
-    terms: PhantomData<T>,
-    ghost design: { batch.design ≡ T.design },
-    ghost order: { clock_at batch 0 < last_clock batch },
-    ghost within: { last_clock batch ≤ T.design.horizon },
-    ghost made: { made_text T.design (last_clock batch) ≡ made_text T.design (clock_at batch 0) ++ text.items },
-}
-
-impl<'a, T: Terms> Told<'a, T> {
-    /// A batch, and its text.
-    pub(crate) fn new(batch: Batch<'a>, text: Vec<u8>) -> Told<'a, T>
-        requires design { batch.design ≡ T.design }
-        requires order { clock_at batch 0 < last_clock batch }
-        requires within { last_clock batch ≤ T.design.horizon }
-        requires text { made_text T.design (last_clock batch) ≡ made_text T.design (clock_at batch 0) ++ text.items }
-    {
-        Told {
-            batch,
             text,
             terms: PhantomData,
         }
     }
+}
+
+/// A batch whose text was made.
+#[derive(Drop)]
+pub struct Told<'a, T: Terms> {
+    pub parcel: Parcel<'a, T>,
+    ghost told: { IsTold parcel.batch parcel.text.items },
 }
 
 /// The end of a ring at which batches come.

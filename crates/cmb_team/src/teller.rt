@@ -1,11 +1,11 @@
 //! Who makes the text of batches.
 
-ghost use Rattle.std.specs.Prelude.{◌≡◌, suc, ◌+◌, ◌<◌, ◌≤◌, ◌++◌, length, IfOk, OnOk};
+ghost use Rattle.std.specs.Prelude.{◌≡◌, suc, ◌+◌, ◌<◌, ◌≤◌, ◌++◌, length, OnOk};
 ghost use Rattle.cmb_stream.specs.Parts.{made_text};
-ghost use Rattle.cmb_team.specs.Batches.{clock_at, last_clock};
+ghost use Rattle.cmb_team.specs.Batches.{IsTold, clock_at, last_clock};
 
 use crate::batch::Batch;
-use crate::parcel::{Inlet, Parcel, Told};
+use crate::parcel::{Inlet, Told};
 use crate::terms::Terms;
 use cmb_dump::Dump;
 use cmb_idle::taken;
@@ -31,21 +31,19 @@ fn add(text: &mut Vec<u8>, dump: &mut Dump<'_>) -> Result<(), AllocError>
         dump.swap_text(text);
         Ok(())
     } else {
-        text.extend_from_slice(dump.text())?;
-        Ok(())
+        text.extend_from_slice(dump.text())
     }
 }
 
-// Makes the text of a batch, in place of what `text` had.
+// Makes the text of a batch, in place of what `text` had. Errors: memory was refused, or the batch has no windows.
 fn tell(dump: &mut Dump<'_>, batch: &Batch<'_>, text: &mut Vec<u8>) -> Result<(), AllocError>
-    requires design { dump.old.design ≡ batch.now.design }
-    requires some { 2 ≤ length batch.now.clocks }
+    requires { dump.old.design ≡ batch.now.design }
     ensures design { dump.new.design ≡ dump.old.design }
-    ensures text { OnOk result (made_text batch.now.design (last_clock batch.now)
-        ≡ made_text batch.now.design (clock_at batch.now 0) ++ text.new.items) }
-    ensures order { OnOk result (clock_at batch.now 0 < last_clock batch.now) }
-    ensures within { OnOk result (last_clock batch.now ≤ batch.now.design.horizon) }
+    ensures told { OnOk result (IsTold batch.now text.new.items) }
 {
+    if batch.len() == 0 {
+        return Err(AllocError);
+    }
     text.clear();
     dump.skip(batch.clock(0));
     for place in 0..batch.len() {
@@ -53,27 +51,6 @@ fn tell(dump: &mut Dump<'_>, batch: &Batch<'_>, text: &mut Vec<u8>) -> Result<()
         add(text, dump)?;
     }
     Ok(())
-}
-
-// A batch with its text. Errors: memory was refused, or it has no windows.
-fn told<'a, T: Terms>(dump: &mut Dump<'a>, parcel: Parcel<'a, T>) -> Result<Told<'a, T>, AllocError>
-    requires { dump.old.design ≡ T.design }
-    ensures { dump.new.design ≡ dump.old.design }
-{
-    let Parcel {
-        batch,
-        mut room,
-        ..
-    } = parcel;
-    let made = if batch.len() > 0 {
-        tell(dump, &batch, &mut room)
-    } else {
-        Err(AllocError)
-    };
-    match made {
-        Ok(()) => Ok(Told::new(batch, room)),
-        Err(error) => Err(error),
-    }
 }
 
 impl<'a, T: Terms> Teller<'a, T> {
@@ -84,9 +61,19 @@ impl<'a, T: Terms> Teller<'a, T> {
         Teller { dump, inlet }
     }
 
-    /// The next batch with its text. Errors: nobody hands batches on any more, or memory was refused.
+    /// The next batch with its text. Errors: nobody hands batches on any more, memory was refused, or the batch has no
+    /// windows.
     pub(crate) fn next<R: Wait>(&mut self, rt: &R) -> Result<Told<'a, T>, AllocError> {
-        let parcel = taken(rt, &mut self.inlet).ok_or(AllocError)?;
-        told(&mut self.dump, parcel)
+        let Some(mut parcel) = taken(rt, &mut self.inlet) else {
+            return Err(AllocError);
+        };
+        let untold = &mut parcel;
+        match tell(&mut self.dump, &untold.batch, &mut untold.text) {
+            Ok(()) => Ok(Told { parcel }),
+            Err(error) => {
+                drop(parcel);
+                Err(error)
+            }
+        }
     }
 }

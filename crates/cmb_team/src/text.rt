@@ -7,12 +7,10 @@ ghost use Rattle.cmb_vcd.specs.Vcd.{vcd};
 
 use crate::opening::{Run, open_rings, open_run};
 use crate::terms::Terms;
-use crate::threads::{join_all, start};
+use crate::threads::start;
 use cmb_design::Design;
-use cmb_stream::{
-    Kept, Stream, StreamFault, TextMaker, stream_text, text_rest, write_rest, write_stream,
-};
-use cmb_vcd::Sink;
+use cmb_stream::{Kept, Stream, StreamFault, TextMaker, stream_text, write_rest, write_stream};
+use cmb_vcd::{Room, Sink};
 use std::alloc::{AllocError, Global};
 use std::marker::Brand;
 use std::sync::Wait;
@@ -31,120 +29,31 @@ const LEAST: u64 = 4_194_304;
 // So many bytes a tick, where windows are large enough to be told apart: an estimate.
 const DENSE: u64 = 64;
 
-// A text that one thread began: who goes on with it, what was made, and how many bytes of that were told of a tick,
-// but for the declarations and tick 0.
-#[derive(Drop)]
-struct Begun<'a> {
-    stream: Stream<'a>,
-    kept: Kept<'a>,
-    dense: u64,
+// Whether more than one thread pays for the rest of a text, where so many bytes were told of the ticks behind tick 0.
+fn pays(told: usize, kept: &Kept<'_>, design: &Design) -> bool {
+    let dense = told as u64 / u64::from(kept.clock());
+    let left = design.horizon().saturating_sub(kept.clock());
+    dense >= DENSE && dense.saturating_mul(u64::from(left)) >= LEAST
 }
 
-// The first part of a text, in one thread.
-fn begin(alloc: Global, design: &Design) -> Result<Begun<'_>, AllocError>
-    ensures here { IfOk result (λ begun. IsAtEndOf begun.kept begun.stream) }
-    ensures design { IfOk result (λ begun. begun.kept.design ≡ design.entry.now) }
-    ensures given { IfOk result (λ begun. begun.kept.given ≡ 0) }
+// The first part of a text, in one thread, who goes on with it, and whether more than one thread pays for that.
+fn begin(alloc: Global, design: &Design) -> Result<(Stream<'_>, Kept<'_>, bool), AllocError>
+    ensures here { IfOk result (λ begun. IsAtEndOf begun.1 begun.0) }
+    ensures design { IfOk result (λ begun. begun.1.design ≡ design.entry.now) }
+    ensures given { IfOk result (λ begun. begun.1.given ≡ 0) }
 {
     let (mut stream, mut kept) = Stream::open(alloc, design)?;
     let first = kept.len();
     while !kept.is_done() && kept.len() < first.saturating_add(FIRST) {
         stream = stream.step(&mut kept)?;
     }
-    let dense = kept.len().saturating_sub(first) as u64 / u64::from(kept.clock());
-    Ok(Begun {
-        stream,
-        kept,
-        dense,
-    })
-}
-
-// Whether more than one thread pays for the rest of a text.
-fn pays(begun: &Begun<'_>, design: &Design) -> bool {
-    let left = design.horizon().saturating_sub(begun.kept.clock());
-    begun.dense >= DENSE && begun.dense.saturating_mul(u64::from(left)) >= LEAST
+    let pays = pays(kept.len().saturating_sub(first), &kept, design);
+    Ok((stream, kept, pays))
 }
 
 // How many tellers there are beside the calling thread, where one thread has the engine.
 fn tellers_of(threads: u32) -> usize {
     threads.saturating_sub(2).min(MOST) as usize
-}
-
-// The rest of the text of the design that T names, from where an engine and a dump are, by a team.
-fn text_named<'a, T: Terms + Send + Sync, R: Threads + Wait + Sync>(
-    rt: &'a R,
-    alloc: Global,
-    design: &'a Design,
-    stream: Stream<'a>,
-    kept: Kept<'a>,
-    threads: u32,
-) -> Result<Vec<u8>, AllocError>
-    requires named { design.now ≡ T.design }
-    requires here { IsAtEndOf kept stream }
-    requires design { kept.design ≡ T.design }
-    requires all { kept.given ≡ 0 }
-    ensures { IfOk result (λ text. text.items ≡ vcd design.now) }
-{
-    let Ok(rings) = open_rings::<T>(alloc, design, tellers_of(threads)) else {
-        drop((stream, kept));
-        return Err(AllocError);
-    };
-    let (engine, dump) = stream.into_parts();
-    let Run { maker, desks, lead } = open_run(rt, alloc, design, engine, dump, rings);
-    thread::scope(
-        thread::scope_env(),
-        rt,
-        move |scope| -> Result<Vec<u8>, AllocError>
-            requires here { IsAtEndOf kept lead }
-            requires all { kept.given ≡ 0 }
-            ensures { IfOk result (λ text. text.items ≡ vcd kept.entry.design) }
-        {
-            let threads = start(rt, alloc, scope, maker, desks);
-            let text = text_rest(lead, kept);
-            join_all(rt, threads);
-            text
-        },
-    )
-}
-
-// Makes the rest of a text, by a team where that pays.
-fn text_on<R: Threads + Wait + Sync>(
-    rt: &R,
-    alloc: Global,
-    design: &Design,
-    threads: u32,
-    begun: Begun<'_>,
-) -> Result<Vec<u8>, AllocError>
-    requires here { IsAtEndOf begun.kept begun.stream }
-    requires design { begun.kept.design ≡ design.now }
-    requires all { begun.kept.given ≡ 0 }
-    ensures { IfOk result (λ text. text.items ≡ vcd design.now) }
-{
-    let pays = pays(&begun, design);
-    let Begun { stream, kept, .. } = begun;
-    if pays {
-        text_named::<Brand, R>(rt, alloc, design, stream, kept, threads)
-    } else {
-        text_rest(stream, kept)
-    }
-}
-
-/// The VCD text of a design's run, whole in memory, by so many threads at most; with one thread, or none, by
-/// `stream_text`. Threads are started only where there is enough to do for them. The text is the same for any number.
-/// Errors: memory or a thread was refused.
-pub fn team_text<R: Threads + Wait + Sync>(
-    rt: &R,
-    alloc: Global,
-    design: &Design,
-    threads: u32,
-) -> Result<Vec<u8>, AllocError>
-    ensures { IfOk result (λ text. text.items ≡ vcd design.now) }
-{
-    if threads < 2 {
-        return stream_text(alloc, design);
-    }
-    let begun = begin(alloc, design)?;
-    text_on(rt, alloc, design, threads, begun)
 }
 
 // Does nothing. This use of a reference that came back ties it to the parameter that lent it.
@@ -185,9 +94,8 @@ fn write_named<'a, T: Terms + Send + Sync, R: Threads + Wait + Sync, S: Sink>(
             ensures name { result.0.ghost_name ≡ sink.entry.ghost_name }
             ensures written { IsWrittenTo S.Sink kept.entry.design sink.entry.now result.0.now result.1 }
         {
-            let threads = start(rt, alloc, scope, maker, desks);
+            start(rt, scope, maker, desks);
             let written = write_rest(lead, kept, sink);
-            join_all(rt, threads);
             (sink, written)
         },
     );
@@ -195,32 +103,8 @@ fn write_named<'a, T: Terms + Send + Sync, R: Threads + Wait + Sync, S: Sink>(
     written
 }
 
-// Writes the rest of a text, by a team where that pays. Gives the text's length.
-fn write_on<R: Threads + Wait + Sync, S: Sink>(
-    rt: &R,
-    alloc: Global,
-    design: &Design,
-    threads: u32,
-    begun: Begun<'_>,
-    sink: &mut S,
-) -> Result<u64, StreamFault>
-    requires room { S.failures sink.old < 2 ^ 64 - 1 }
-    requires here { IsAtEndOf begun.kept begun.stream }
-    requires design { begun.kept.design ≡ design.now }
-    requires all { begun.kept.given ≡ 0 }
-    ensures { IsWrittenTo S.Sink design.now sink.old sink.new result }
-{
-    let pays = pays(&begun, design);
-    let Begun { stream, kept, .. } = begun;
-    if pays {
-        write_named::<Brand, R, S>(rt, alloc, design, stream, kept, threads, sink)
-    } else {
-        write_rest(stream, kept, sink)
-    }
-}
-
 /// Writes the VCD text of a design's run while it is made, by so many threads at most, and gives its length; with one
-/// thread, or none, by `write_stream`. What it needs of memory doesn't grow with the horizon. Whatever the fault, the
+/// thread, or none, by `write_stream`. Threads are started only where there is enough to do for them. What it needs of memory doesn't grow with the horizon. Whatever the fault, the
 /// sink took a beginning of the text. A failed write is the answer then and only then; else memory or a thread was
 /// refused.
 pub fn write_team<R: Threads + Wait + Sync, S: Sink>(
@@ -236,6 +120,30 @@ pub fn write_team<R: Threads + Wait + Sync, S: Sink>(
     if threads < 2 {
         return write_stream(alloc, design, sink);
     }
-    let begun = begin(alloc, design)?;
-    write_on(rt, alloc, design, threads, begun, sink)
+    let (stream, kept, pays) = begin(alloc, design)?;
+    if pays {
+        write_named::<Brand, R, S>(rt, alloc, design, stream, kept, threads, sink)
+    } else {
+        write_rest(stream, kept, sink)
+    }
+}
+
+/// The VCD text of a design's run, whole in memory, by so many threads at most: with one thread, or none, by
+/// `stream_text`, else as `write_team` does. The text is the same for any number. Errors: memory or a thread was refused.
+pub fn team_text<R: Threads + Wait + Sync>(
+    rt: &R,
+    alloc: Global,
+    design: &Design,
+    threads: u32,
+) -> Result<Vec<u8>, AllocError>
+    ensures { IfOk result (λ text. text.items ≡ vcd design.now) }
+{
+    if threads < 2 {
+        return stream_text(alloc, design);
+    }
+    let mut room = Room::new(alloc, 0)?;
+    match write_team(rt, alloc, design, threads, &mut room) {
+        Ok(_) => Ok(room.bytes),
+        Err(_) => Err(AllocError),
+    }
 }

@@ -3,6 +3,7 @@
 use crate::parcel::{TextInlet, Told};
 use crate::teller::Teller;
 use crate::terms::Terms;
+use crate::ways::next_turn;
 use cmb_idle::taken;
 use std::alloc::AllocError;
 use std::sync::Wait;
@@ -31,9 +32,7 @@ impl<'a, T: Terms> Others<'a, T> {
 
     // The next batch with its text. Errors: nobody hands it on.
     fn next<R: Wait>(&mut self, rt: &R) -> Result<Told<'a, T>, AllocError> {
-        let turn = self.turn;
-        let next = turn.saturating_add(1);
-        self.turn = if next < self.inlets.len() { next } else { 0 };
+        let turn = next_turn(&mut self.turn, self.inlets.len());
         match self.inlets.get_mut(turn) {
             Some(inlet) => taken(rt, inlet).ok_or(AllocError),
             None => Err(AllocError),

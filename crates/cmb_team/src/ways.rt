@@ -23,6 +23,14 @@ pub struct Ways<'a, T: Terms> {
     ghost named: { design.now ≡ T.design },
 }
 
+/// Whose turn it is of so many. The next time it is the next one's.
+pub(crate) fn next_turn(turn: &mut usize, count: usize) -> usize {
+    let now = *turn;
+    let next = now.saturating_add(1);
+    *turn = if next < count { next } else { 0 };
+    now
+}
+
 impl<'a, T: Terms> Ways<'a, T> {
     /// So many new batches, those that come back, and a ring to each teller.
     pub(crate) fn new(
@@ -56,12 +64,13 @@ impl<'a, T: Terms> Ways<'a, T> {
 
     /// Hands a batch to the next teller. Says whether anybody is there to take it.
     pub(crate) fn hand<R: Wait>(&mut self, rt: &R, parcel: Parcel<'a, T>) -> bool {
-        let turn = self.turn;
-        let next = turn.saturating_add(1);
-        self.turn = if next < self.outlets.len() { next } else { 0 };
+        let turn = next_turn(&mut self.turn, self.outlets.len());
         match self.outlets.get_mut(turn) {
             Some(outlet) => handed(rt, outlet, parcel),
-            None => false,
+            None => {
+                drop(parcel);
+                false
+            }
         }
     }
 }

@@ -3,15 +3,15 @@ use Rattle.cmb_batch.specs.Batches.{Batch}
 use Rattle.cmb_batch.specs.Windows.{AreDays, last_of}
 use Rattle.cmb_batch.proofs.batch.Batch.renewed.Goals as goal
 
-pub invariant_of-result : goal.invariant_of-result
-invariant_of-result c =
-    let b = c.self.inside in
+pub invariant_of-batch : goal.invariant_of-batch
+invariant_of-batch c =
+    let b = c.batch.inside in
     let clocks = c.args.clocks.items in
     record {
-      count = omega (arith, c.requires.some, c.len.ensures, c.in_ok-windows.ensures.count);
-      days = subst (λ (v : Batch). AreDays v.width v.design.horizon clocks) (sym c.self.view_is) c.requires.days;
-      within = subst (λ (v : Batch). last_of clocks ≤ v.design.horizon) (sym c.self.view_is) c.requires.within;
-      nets = c.self.invariant.nets;
-      marks = c.self.invariant.marks;
-      each = c.in_ok-windows.ensures.unmade b.design.now b.owners.now b.crossing.now clocks;
+      count = omega (arith, c.requires.some, c.len.ensures, c.in_ok-unmake.ensures.count);
+      days = subst (λ (v : Batch). AreDays v.width v.design.horizon clocks) (sym c.batch.view_is) c.requires.days;
+      within = subst (λ (v : Batch). last_of clocks ≤ v.design.horizon) (sym c.batch.view_is) c.requires.within;
+      nets = c.batch.invariant.nets;
+      marks = c.batch.invariant.marks;
+      each = c.in_ok-unmake.ensures.unmade b.design.now b.owners.now b.crossing.now clocks;
     }
