@@ -1,10 +1,11 @@
 //! Why a collector takes no piece.
 
 use cmb_wave::WaveFault;
+use std::fmt;
 use thiserror::Error;
 
 /// Why a collector takes no piece. They are tested in the order 52, 50, 51, 49.
-#[derive(Clone, Copy, Debug, PartialEq, Eq, Error)]
+#[derive(Clone, Copy, PartialEq, Eq, Error)]
 pub enum CollectFault {
     /// 49: the first new change, at this tick, is to the level that the net's wave ends with.
     #[error("no change at {tick}")]
@@ -21,6 +22,13 @@ pub enum CollectFault {
     /// 70: out of memory.
     #[error("out of memory")]
     Memory,
+}
+
+// In the words of `Display`: a derived one prints in each of five arms.
+impl fmt::Debug for CollectFault {
+    fn fmt<W: fmt::Write>(&self, f: &mut fmt::Formatter<W>) -> fmt::Result {
+        fmt::Display::fmt(self, f)
+    }
 }
 
 impl CollectFault {
