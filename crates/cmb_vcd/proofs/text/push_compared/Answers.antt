@@ -17,6 +17,6 @@ returns c = λ from to late order inside.
     let new = c.push_value_changes.new.out.items in
     let old = c.args.out.now.items in
     let spans : new ≡ old ++ value_changes_text 0 c.as_slice.result.now → new ≡ old ++ span_lines all from to = λ pushed.
-        pushed ∙ ap (λ es. old ++ value_changes_text 0 es) c.as_slice.ensures.value
-        ∙ ap (λ t. old ++ t) (compared from to 0 all sorted late order inside c.in_ok-sort_value_changes.ensures.sorted moved stable) in
+    pushed ∙ ap (λ es. old ++ value_changes_text 0 es) c.as_slice.ensures.value
+    ∙ ap (λ t. old ++ t) (compared from to 0 all sorted late order inside c.in_ok-sort_value_changes.ensures.sorted moved stable) in
     on_ok_weaker c.push_value_changes.result spans c.push_value_changes.ensures

@@ -19,6 +19,6 @@ returns c =
     let old = c.args.out.now.items in
     let parts = value_changes_in c.deref.result.now in
     let ticks : new ≡ old ++ span_lines parts c.args.from c.args.to → new ≡ old ++ ticks_between (length waves) (collected_level waves) c.args.from c.args.to = λ pushed.
-        pushed ∙ ap (λ es. old ++ span_lines es c.args.from c.args.to) same
-        ∙ ap (λ t. old ++ t) (span_is c.args.from c.args.to waves c.requires.late c.requires.order c.in_ok-parts.ensures.traces) in
+    pushed ∙ ap (λ es. old ++ span_lines es c.args.from c.args.to) same
+    ∙ ap (λ t. old ++ t) (span_is c.args.from c.args.to waves c.requires.late c.requires.order c.in_ok-parts.ensures.traces) in
     on_ok_weaker c.push_parts.result ticks c.push_parts.ensures
