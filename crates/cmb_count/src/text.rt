@@ -1,59 +1,77 @@
 //! The counts as a text.
 
 ghost use Rattle.std.specs.Prelude.{◌≡◌, ◌++◌, IfOk, OnOk, string_bytes};
+ghost use Rattle.std.specs.List.{flat_map};
 ghost use Rattle.cmb_count.specs.Texts.{counts_rows, gate_rows, net_rows, row, table_rows};
 
 use crate::counts::{Counts, GateCounts};
 use std::alloc::{AllocError, Global};
 
-fn push_row(text: &mut String, number: usize, what: &str) -> Result<(), AllocError>
-    ensures { OnOk result (string_bytes text.new ≡ string_bytes text.old ++ row number what.now) }
+// Rows, each of a number and what it counts.
+fn push_rows(text: &mut String, rows: &[(usize, &str)]) -> Result<(), AllocError>
+    ensures { OnOk result (string_bytes text.new
+        ≡ string_bytes text.old ++ flat_map (λ it. row it.0 it.1.now) rows.now) }
 {
-    write!(text, "{number:>8}  {what}\n")
+    for (number, what) in rows {
+        write!(text, "{number:>8}  {what}\n")?;
+    }
+    Ok(())
 }
 
-fn push_gates(text: &mut String, gates: GateCounts) -> Result<(), AllocError>
-    ensures { OnOk result (string_bytes text.new ≡ string_bytes text.old ++ gate_rows gates) }
+fn push_gates(text: &mut String, gates: &GateCounts) -> Result<(), AllocError>
+    ensures { OnOk result (string_bytes text.new ≡ string_bytes text.old ++ gate_rows gates.now) }
 {
-    push_row(text, gates.and, "gates AND")?;
-    push_row(text, gates.nand, "gates NAND")?;
-    push_row(text, gates.or, "gates OR")?;
-    push_row(text, gates.nor, "gates NOR")?;
-    push_row(text, gates.xor, "gates XOR")?;
-    push_row(text, gates.xnor, "gates XNOR")?;
-    push_row(text, gates.not, "gates NOT")?;
-    push_row(text, gates.buff, "gates BUFF")
+    push_rows(
+        text,
+        &[
+            (gates.and, "gates AND"),
+            (gates.nand, "gates NAND"),
+            (gates.or, "gates OR"),
+            (gates.nor, "gates NOR"),
+            (gates.xor, "gates XOR"),
+            (gates.xnor, "gates XNOR"),
+            (gates.not, "gates NOT"),
+            (gates.buff, "gates BUFF"),
+        ],
+    )
 }
 
 fn push_tables(text: &mut String, counts: &Counts) -> Result<(), AllocError>
     ensures { OnOk result (string_bytes text.new ≡ string_bytes text.old ++ table_rows counts.now) }
 {
-    push_row(text, counts.clocks, "different clocks of flip-flops")?;
-    push_row(text, counts.delay_rows, "rows of delays")?;
-    push_row(text, counts.stimulus_rows, "rows of stimuli")?;
-    push_row(text, counts.clock_rows, "rows of clocks")
+    push_rows(
+        text,
+        &[
+            (counts.clocks, "different clocks of flip-flops"),
+            (counts.delay_rows, "rows of delays"),
+            (counts.stimulus_rows, "rows of stimuli"),
+            (counts.clock_rows, "rows of clocks"),
+        ],
+    )
 }
 
 fn push_nets(text: &mut String, counts: &Counts) -> Result<(), AllocError>
     ensures { OnOk result (string_bytes text.new ≡ string_bytes text.old ++ net_rows counts.now) }
 {
-    push_row(text, counts.nets, "nets")?;
-    push_row(text, counts.inputs, "inputs")?;
-    push_row(text, counts.silent, "inputs that are x at all ticks")?;
-    push_gates(text, counts.gates)?;
-    push_row(text, counts.flops, "flip-flops")?;
-    push_row(text, counts.still, "flip-flops that never sample")?;
-    push_row(text, counts.in_loops, "nets in feedback loops")?;
-    push_row(text, counts.in_gate_loops, "nets in loops of gates alone")?;
-    push_row(
+    push_rows(
         text,
-        counts.unused,
-        "nets that drive nothing and are no outputs",
+        &[
+            (counts.nets, "nets"),
+            (counts.inputs, "inputs"),
+            (counts.silent, "inputs that are x at all ticks"),
+        ],
     )?;
-    push_row(
+    push_gates(text, &counts.gates)?;
+    push_rows(
         text,
-        counts.largest_delay as usize,
-        "ticks in the largest delay",
+        &[
+            (counts.flops, "flip-flops"),
+            (counts.still, "flip-flops that never sample"),
+            (counts.in_loops, "nets in feedback loops"),
+            (counts.in_gate_loops, "nets in loops of gates alone"),
+            (counts.unused, "nets that drive nothing and are no outputs"),
+            (counts.largest_delay as usize, "ticks in the largest delay"),
+        ],
     )
 }
 

@@ -47,9 +47,9 @@ pub fn explanation_of(number: u32) -> Option<Explanation>
     ensures place { IfSome result (λ e. e.place ≡ place_of number) }
 {
     match number {
-        1..=8 => netlist_fault(number),
-        23..=32 | 34..=37 => table_fault(number),
-        38 | 53 | 60..=62 | 70 => running_fault(number),
-        _ => settings_fault(number),
+        1..=8 => netlist_fault(number).copied(),
+        23..=32 | 34..=37 => table_fault(number).copied(),
+        38 | 53 | 60..=62 | 70 => running_fault(number).copied(),
+        _ => settings_fault(number).copied(),
     }
 }

@@ -5,7 +5,7 @@ ghost use Rattle.cmb_explain.specs.Known.{IsNetlistFault};
 
 use crate::explanation::{Explanation, Place};
 
-const BYTE: Explanation = Explanation {
+static BYTE: Explanation = Explanation {
     number: 1,
     place: Place::Line,
     meaning: "a byte that no netlist has",
@@ -15,7 +15,7 @@ Save the file as ASCII without a byte order mark. Names, brackets, commas, = and
 all that stands in a netlist; in a comment, from # to the end of its line, any bytes may stand.",
 };
 
-const STATEMENT: Explanation = Explanation {
+static STATEMENT: Explanation = Explanation {
     number: 2,
     place: Place::Line,
     meaning: "not a statement",
@@ -25,7 +25,7 @@ Look for a missing bracket, comma or =, also at the end of the line before; for 
 INPUT and OUTPUT; on the last line for a statement that was cut short.",
 };
 
-const KIND: Explanation = Explanation {
+static KIND: Explanation = Explanation {
     number: 3,
     place: Place::Line,
     meaning: "not a kind",
@@ -36,7 +36,7 @@ constant, k = vdd or k = gnd as ABC writes it, write INPUT(k), and give k its le
 the table of stimuli: 0,k,1 or 0,k,0.",
 };
 
-const OPERANDS: Explanation = Explanation {
+static OPERANDS: Explanation = Explanation {
     number: 4,
     place: Place::Line,
     meaning: "too many operands",
@@ -46,7 +46,7 @@ NOT, BUFF and DFF take one operand: keep one, or take NAND or AND, or put a gate
 A DFF has its data alone; its clock is given by --clock or the table of clocks.",
 };
 
-const DRIVEN: Explanation = Explanation {
+static DRIVEN: Explanation = Explanation {
     number: 5,
     place: Place::Line,
     meaning: "driven twice",
@@ -57,7 +57,7 @@ a = NOT(b)",
 Look for a repeated line. An INPUT drives its net too, and each net has one driver.",
 };
 
-const UNDRIVEN: Explanation = Explanation {
+static UNDRIVEN: Explanation = Explanation {
     number: 6,
     place: Place::Line,
     meaning: "not driven",
@@ -69,7 +69,7 @@ Mend the spelling of the operand or output, in capitals or not as where it is dr
 INPUT or the missing gate.",
 };
 
-const TOO_MANY: Explanation = Explanation {
+static TOO_MANY: Explanation = Explanation {
     number: 7,
     place: Place::Line,
     meaning: "too many nets",
@@ -78,7 +78,7 @@ const TOO_MANY: Explanation = Explanation {
 There are at most 65,535 nets: cut the circuit into parts.",
 };
 
-const NAME: Explanation = Explanation {
+static NAME: Explanation = Explanation {
     number: 8,
     place: Place::Line,
     meaning: "a name that is too long",
@@ -88,20 +88,20 @@ A name has at most 255 bytes: shorten it. Look also for a comma or bracket that 
 };
 
 /// The explanation of a fault of the netlist; `None` of any other number.
-pub(crate) fn netlist_fault(number: u32) -> Option<Explanation>
+pub(crate) fn netlist_fault(number: u32) -> Option<&'static Explanation>
     ensures known { IsSome result ↔ IsNetlistFault number }
-    ensures number { IfSome result (λ e. e.number ≡ number) }
-    ensures place { IfSome result (λ e. e.place ≡ Place.Line) }
+    ensures number { IfSome result (λ e. e.now.number ≡ number) }
+    ensures place { IfSome result (λ e. e.now.place ≡ Place.Line) }
 {
     match number {
-        1 => Some(BYTE),
-        2 => Some(STATEMENT),
-        3 => Some(KIND),
-        4 => Some(OPERANDS),
-        5 => Some(DRIVEN),
-        6 => Some(UNDRIVEN),
-        7 => Some(TOO_MANY),
-        8 => Some(NAME),
+        1 => Some(&BYTE),
+        2 => Some(&STATEMENT),
+        3 => Some(&KIND),
+        4 => Some(&OPERANDS),
+        5 => Some(&DRIVEN),
+        6 => Some(&UNDRIVEN),
+        7 => Some(&TOO_MANY),
+        8 => Some(&NAME),
         _ => None,
     }
 }

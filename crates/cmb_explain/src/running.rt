@@ -5,7 +5,7 @@ ghost use Rattle.cmb_explain.specs.Known.{IsRunningFault, place_of};
 
 use crate::explanation::{Explanation, Place};
 
-const UNKNOWN: Explanation = Explanation {
+static UNKNOWN: Explanation = Explanation {
     number: 38,
     place: Place::Listed,
     meaning: "no net has this name",
@@ -15,7 +15,7 @@ Mend the name, in capitals or not as the netlist has it. A list has the names of
 a line; # begins a comment.",
 };
 
-const INCOMPLETE: Explanation = Explanation {
+static INCOMPLETE: Explanation = Explanation {
     number: 53,
     place: Place::Net,
     meaning: "the run was stopped",
@@ -24,7 +24,7 @@ const INCOMPLETE: Explanation = Explanation {
 The program never stops its runs.",
 };
 
-const TOO_LONG: Explanation = Explanation {
+static TOO_LONG: Explanation = Explanation {
     number: 60,
     place: Place::Input,
     meaning: "more than 16,777,216 bytes",
@@ -33,7 +33,7 @@ const TOO_LONG: Explanation = Explanation {
 Leave comments out, or cut the run into parts.",
 };
 
-const READ: Explanation = Explanation {
+static READ: Explanation = Explanation {
     number: 61,
     place: Place::Input,
     meaning: "couldn't be read",
@@ -43,7 +43,7 @@ Mend the path or the rights. A folder can't be read, and neither can a netlist w
 input is closed.",
 };
 
-const WRITE: Explanation = Explanation {
+static WRITE: Explanation = Explanation {
     number: 62,
     place: Place::Bytes,
     meaning: "the output failed",
@@ -53,7 +53,7 @@ Look for a full disk, or for a reader of the pipe that ended. What was written i
 the waveforms.",
 };
 
-const MEMORY: Explanation = Explanation {
+static MEMORY: Explanation = Explanation {
     number: 70,
     place: Place::Nowhere,
     meaning: "out of memory",
@@ -64,18 +64,18 @@ or fewer workers. Mode free writes while it runs, and keeps less.",
 };
 
 /// The explanation of a fault of the list of nets, of a run, its inputs or its output; `None` of any other number.
-pub(crate) fn running_fault(number: u32) -> Option<Explanation>
+pub(crate) fn running_fault(number: u32) -> Option<&'static Explanation>
     ensures known { IsSome result ↔ IsRunningFault number }
-    ensures number { IfSome result (λ e. e.number ≡ number) }
-    ensures place { IfSome result (λ e. e.place ≡ place_of number) }
+    ensures number { IfSome result (λ e. e.now.number ≡ number) }
+    ensures place { IfSome result (λ e. e.now.place ≡ place_of number) }
 {
     match number {
-        38 => Some(UNKNOWN),
-        53 => Some(INCOMPLETE),
-        60 => Some(TOO_LONG),
-        61 => Some(READ),
-        62 => Some(WRITE),
-        70 => Some(MEMORY),
+        38 => Some(&UNKNOWN),
+        53 => Some(&INCOMPLETE),
+        60 => Some(&TOO_LONG),
+        61 => Some(&READ),
+        62 => Some(&WRITE),
+        70 => Some(&MEMORY),
         _ => None,
     }
 }

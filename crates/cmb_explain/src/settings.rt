@@ -5,7 +5,7 @@ ghost use Rattle.cmb_explain.specs.Known.{IsSettingsFault};
 
 use crate::explanation::{Explanation, Place};
 
-const HORIZON: Explanation = Explanation {
+static HORIZON: Explanation = Explanation {
     number: 20,
     place: Place::Nowhere,
     meaning: "the horizon isn't 1 to 1,000,000",
@@ -14,7 +14,7 @@ const HORIZON: Explanation = Explanation {
 Give a horizon from 1 to 1,000,000 ticks. Of the program such a line is wrong, with status 2.",
 };
 
-const CLOCK: Explanation = Explanation {
+static CLOCK: Explanation = Explanation {
     number: 21,
     place: Place::Nowhere,
     meaning: "the common clock's first tick is above 1,000,000, or its period isn't 1 to 1,000,000",
@@ -24,7 +24,7 @@ Write the first tick, a colon and the period, in digits alone: --clock 9:10 samp
 9, 19, 29 and so on.",
 };
 
-const NO_CLOCK: Explanation = Explanation {
+static NO_CLOCK: Explanation = Explanation {
     number: 22,
     place: Place::Nowhere,
     meaning: "a flip-flop has no clock row, and there is no common clock",
@@ -33,7 +33,7 @@ const NO_CLOCK: Explanation = Explanation {
 Give --clock F:P for all flip-flops, or a row in the table of clocks for each of them.",
 };
 
-const TABLE_TOO_LARGE: Explanation = Explanation {
+static TABLE_TOO_LARGE: Explanation = Explanation {
     number: 33,
     place: Place::Nowhere,
     meaning: "the table of all levels would have more than 16,777,216 cells",
@@ -42,7 +42,7 @@ const TABLE_TOO_LARGE: Explanation = Explanation {
 Mode plain keeps a cell for each net and tick: leave --mode out, or take a smaller horizon.",
 };
 
-const CLUSTERS: Explanation = Explanation {
+static CLUSTERS: Explanation = Explanation {
     number: 40,
     place: Place::Nowhere,
     meaning: "the number of clusters isn't from 1 to 64",
@@ -51,7 +51,7 @@ const CLUSTERS: Explanation = Explanation {
 Give 1 to 64 clusters. Of the program such a line is wrong, with status 2.",
 };
 
-const WORKERS: Explanation = Explanation {
+static WORKERS: Explanation = Explanation {
     number: 54,
     place: Place::Nowhere,
     meaning: "the number of workers isn't from 1 to 64",
@@ -61,18 +61,18 @@ Give 1 to 64 workers. Of the program such a line is wrong, with status 2.",
 };
 
 /// The explanation of a fault of the settings or of the mode; `None` of any other number.
-pub(crate) fn settings_fault(number: u32) -> Option<Explanation>
+pub(crate) fn settings_fault(number: u32) -> Option<&'static Explanation>
     ensures known { IsSome result ↔ IsSettingsFault number }
-    ensures number { IfSome result (λ e. e.number ≡ number) }
-    ensures place { IfSome result (λ e. e.place ≡ Place.Nowhere) }
+    ensures number { IfSome result (λ e. e.now.number ≡ number) }
+    ensures place { IfSome result (λ e. e.now.place ≡ Place.Nowhere) }
 {
     match number {
-        20 => Some(HORIZON),
-        21 => Some(CLOCK),
-        22 => Some(NO_CLOCK),
-        33 => Some(TABLE_TOO_LARGE),
-        40 => Some(CLUSTERS),
-        54 => Some(WORKERS),
+        20 => Some(&HORIZON),
+        21 => Some(&CLOCK),
+        22 => Some(&NO_CLOCK),
+        33 => Some(&TABLE_TOO_LARGE),
+        40 => Some(&CLUSTERS),
+        54 => Some(&WORKERS),
         _ => None,
     }
 }

@@ -1,11 +1,11 @@
 //! The faults of the tables.
 
 ghost use Rattle.std.specs.Prelude.{◌≡◌, ◌↔◌, IsSome, IfSome};
-ghost use Rattle.cmb_explain.specs.Known.{IsTableFault, Within};
+ghost use Rattle.cmb_explain.specs.Known.{IsTableFault};
 
 use crate::explanation::{Explanation, Place};
 
-const HEADER: Explanation = Explanation {
+static HEADER: Explanation = Explanation {
     number: 23,
     place: Place::Record,
     meaning: "not the table's header",
@@ -17,7 +17,7 @@ small letters. Between fields stands a comma: a spreadsheet that writes ; or tab
 See also that each table went to its own option.",
 };
 
-const FIELDS: Explanation = Explanation {
+static FIELDS: Explanation = Explanation {
     number: 24,
     place: Place::Record,
     meaning: "not three fields",
@@ -28,7 +28,7 @@ kind,NAND",
 Look for a comma that is missing or one too many. A name with a comma stands in double quotes.",
 };
 
-const NUMBER: Explanation = Explanation {
+static NUMBER: Explanation = Explanation {
     number: 25,
     place: Place::Record,
     meaning: "a number is 1 to 10 digits",
@@ -39,7 +39,7 @@ kind,NAND,3ns",
 Write digits alone: no sign, unit or point. Delays, ticks, first ticks and periods are numbers.",
 };
 
-const UNKNOWN_NET: Explanation = Explanation {
+static UNKNOWN_NET: Explanation = Explanation {
     number: 26,
     place: Place::Record,
     meaning: "the netlist hasn't this net",
@@ -52,7 +52,7 @@ Mend the spelling, in capitals or not as in the netlist, and look for quotes or 
 added to the name.",
 };
 
-const UNKNOWN_KIND: Explanation = Explanation {
+static UNKNOWN_KIND: Explanation = Explanation {
     number: 27,
     place: Place::Record,
     meaning: "no such kind",
@@ -64,7 +64,7 @@ A row of delays begins with kind, net or pin, and behind kind stands AND, NAND, 
 NOT, BUFF (or BUF) or DFF.",
 };
 
-const DELAY_RANGE: Explanation = Explanation {
+static DELAY_RANGE: Explanation = Explanation {
     number: 28,
     place: Place::Record,
     meaning: "the delay isn't 1 to 1,000,000",
@@ -75,7 +75,7 @@ kind,NOT,0",
 No delay is 0: give all delays and periods in a finer tick.",
 };
 
-const REPEATED_ROW: Explanation = Explanation {
+static REPEATED_ROW: Explanation = Explanation {
     number: 29,
     place: Place::Record,
     meaning: "an earlier row is about the same",
@@ -88,7 +88,7 @@ Keep one row of each kind, net or pin in the delays, of each tick and net in the
 each net in the clocks.",
 };
 
-const NOT_INPUT: Explanation = Explanation {
+static NOT_INPUT: Explanation = Explanation {
     number: 30,
     place: Place::Record,
     meaning: "the net isn't an input",
@@ -101,7 +101,7 @@ A net that a gate or a flip-flop drives can't be given a level: make it an INPUT
 out.",
 };
 
-const LEVEL: Explanation = Explanation {
+static LEVEL: Explanation = Explanation {
     number: 31,
     place: Place::Record,
     meaning: "a value is 0, 1, x or X",
@@ -112,7 +112,7 @@ tick,net,value
 There is no z: write x. A bus gets its bits one by one; tools/stimuli.py makes such rows.",
 };
 
-const DELAY_OF_INPUT: Explanation = Explanation {
+static DELAY_OF_INPUT: Explanation = Explanation {
     number: 32,
     place: Place::Record,
     meaning: "an input has no delay",
@@ -124,7 +124,7 @@ with INPUT(a) in the netlist",
 Move the rows of its stimuli to later ticks instead.",
 };
 
-const PIN_NAME: Explanation = Explanation {
+static PIN_NAME: Explanation = Explanation {
     number: 34,
     place: Place::Record,
     meaning: "a pin's name is a net's name, a colon and a number",
@@ -135,7 +135,7 @@ pin,y,3",
 Write y:2 for the second operand of y, or begin the row with net for all operands of y.",
 };
 
-const NO_PIN: Explanation = Explanation {
+static NO_PIN: Explanation = Explanation {
     number: 35,
     place: Place::Record,
     meaning: "the net has no such pin",
@@ -147,7 +147,7 @@ with y = AND(a, b) in the netlist",
 Pins count from 1 in the order of the operands; a flip-flop has pin 1 alone.",
 };
 
-const CLOCK_RANGE: Explanation = Explanation {
+static CLOCK_RANGE: Explanation = Explanation {
     number: 36,
     place: Place::Record,
     meaning: "the first tick is above 1,000,000, or the period isn't 1 to 1,000,000",
@@ -158,7 +158,7 @@ q,4,0",
 Mend the row. A flip-flop that samples once has a period behind the horizon.",
 };
 
-const NOT_FLOP: Explanation = Explanation {
+static NOT_FLOP: Explanation = Explanation {
     number: 37,
     place: Place::Record,
     meaning: "the net isn't driven by a flip-flop",
@@ -170,38 +170,27 @@ with y = NOT(a) in the netlist",
 Only a net that a DFF drives samples: name the flip-flop's own net, not its data.",
 };
 
-// Those of rows as they are read.
-fn read_fault(number: u32) -> Option<Explanation>
-    ensures known { IsSome result ↔ Within 23 29 number }
-    ensures number { IfSome result (λ e. e.number ≡ number) }
-    ensures place { IfSome result (λ e. e.place ≡ Place.Record) }
-{
-    match number {
-        23 => Some(HEADER),
-        24 => Some(FIELDS),
-        25 => Some(NUMBER),
-        26 => Some(UNKNOWN_NET),
-        27 => Some(UNKNOWN_KIND),
-        28 => Some(DELAY_RANGE),
-        29 => Some(REPEATED_ROW),
-        _ => None,
-    }
-}
-
 /// The explanation of a fault of a table; `None` of any other number.
-pub(crate) fn table_fault(number: u32) -> Option<Explanation>
+pub(crate) fn table_fault(number: u32) -> Option<&'static Explanation>
     ensures known { IsSome result ↔ IsTableFault number }
-    ensures number { IfSome result (λ e. e.number ≡ number) }
-    ensures place { IfSome result (λ e. e.place ≡ Place.Record) }
+    ensures number { IfSome result (λ e. e.now.number ≡ number) }
+    ensures place { IfSome result (λ e. e.now.place ≡ Place.Record) }
 {
     match number {
-        30 => Some(NOT_INPUT),
-        31 => Some(LEVEL),
-        32 => Some(DELAY_OF_INPUT),
-        34 => Some(PIN_NAME),
-        35 => Some(NO_PIN),
-        36 => Some(CLOCK_RANGE),
-        37 => Some(NOT_FLOP),
-        _ => read_fault(number),
+        23 => Some(&HEADER),
+        24 => Some(&FIELDS),
+        25 => Some(&NUMBER),
+        26 => Some(&UNKNOWN_NET),
+        27 => Some(&UNKNOWN_KIND),
+        28 => Some(&DELAY_RANGE),
+        29 => Some(&REPEATED_ROW),
+        30 => Some(&NOT_INPUT),
+        31 => Some(&LEVEL),
+        32 => Some(&DELAY_OF_INPUT),
+        34 => Some(&PIN_NAME),
+        35 => Some(&NO_PIN),
+        36 => Some(&CLOCK_RANGE),
+        37 => Some(&NOT_FLOP),
+        _ => None,
     }
 }

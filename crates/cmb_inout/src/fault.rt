@@ -6,44 +6,36 @@ ghost use Rattle.cmb_inout.specs.Numbers.{run_as_fault, stream_as_fault};
 
 use cmb_bench::{BenchFault, FaultKind, ListFault};
 use cmb_design::DesignFault;
+use cmb_explain::explanation_of;
 use cmb_run::RunFault;
 use cmb_stream::StreamFault;
 use std::alloc::{AllocError, Global};
-use thiserror::Error;
+use std::error::Error;
+use std::fmt;
 
 /// Why a simulation didn't write its text. Inputs are 1 the netlist, 2 the delays, 3 the stimuli, 4 the clocks and 5
 /// the list of nets.
-#[derive(Debug, Drop, Error)]
+#[derive(Drop)]
 pub enum Fault {
     /// 1 to 8: the netlist is wrong, on a line.
-    #[error("netlist, {0}")]
     Bench(BenchFault),
     /// 20 to 37: a table, the settings or the rows make no design, or the design is too large for its mode.
-    #[error("{0}")]
     Design(DesignFault),
     /// 38: what stands on this line of the list of nets, counted from 1, is no net's name.
-    #[error("the list, line {line}: no net has this name")]
     Unknown { line: u32 },
     /// 40: the number of clusters isn't from 1 to 64.
-    #[error("the number of clusters isn't from 1 to 64")]
     Clusters,
     /// 53: the run was stopped, and this net is known only below a tick.
-    #[error("net {net} is known only below {upto}: the run was stopped")]
     Incomplete { net: u32, upto: u32 },
     /// 54: the number of workers isn't from 1 to 64.
-    #[error("the number of workers isn't from 1 to 64")]
     Workers,
     /// 60: an input has more than 16,777,216 bytes.
-    #[error("input {input}: more than 16,777,216 bytes")]
     TooLong { input: u32 },
     /// 61: an input couldn't be read.
-    #[error("input {input}: couldn't be read")]
     Read { input: u32 },
     /// 62: the output failed after it took so many bytes.
-    #[error("after {written} bytes: the output failed")]
     Write { written: u64 },
     /// 70: memory or a worker's thread was refused.
-    #[error("out of memory")]
     Memory,
 }
 
@@ -141,15 +133,54 @@ impl Fault {
             Fault::Bench(fault) => u64::from(fault.line),
             Fault::Design(fault) => u64::from(fault.record()),
             Fault::Unknown { line } => u64::from(*line),
-            Fault::Clusters | Fault::Workers => 0,
             Fault::Incomplete { net, .. } => u64::from(*net),
-            Fault::TooLong { input } => u64::from(*input),
-            Fault::Read { input } => u64::from(*input),
+            Fault::TooLong { input } | Fault::Read { input } => u64::from(*input),
             Fault::Write { written } => *written,
-            Fault::Memory => 0,
+            Fault::Clusters | Fault::Workers | Fault::Memory => 0,
+        }
+    }
+
+    // What is wrong, in the words of its explanation.
+    fn meaning(&self) -> &'static str {
+        match explanation_of(self.number()) {
+            Some(entry) => entry.meaning,
+            None => "",
+        }
+    }
+
+    // Where the fault stands.
+    fn write_place<W: fmt::Write>(&self, f: &mut fmt::Formatter<W>) -> fmt::Result {
+        match self {
+            Fault::Unknown { line } => write!(f, "the list, line {line}: "),
+            Fault::Incomplete { net, upto } => write!(f, "net {net} is known only below {upto}: "),
+            Fault::TooLong { input } | Fault::Read { input } => write!(f, "input {input}: "),
+            Fault::Write { written } => write!(f, "after {written} bytes: "),
+            _ => Ok(()),
         }
     }
 }
+
+impl fmt::Display for Fault {
+    fn fmt<W: fmt::Write>(&self, f: &mut fmt::Formatter<W>) -> fmt::Result {
+        match self {
+            Fault::Bench(fault) => write!(f, "netlist, {fault}"),
+            Fault::Design(fault) => fmt::Display::fmt(fault, f),
+            _ => {
+                self.write_place(f)?;
+                f.write_str(self.meaning())
+            }
+        }
+    }
+}
+
+// In the words of `Display`: a derived one prints in each of ten arms.
+impl fmt::Debug for Fault {
+    fn fmt<W: fmt::Write>(&self, f: &mut fmt::Formatter<W>) -> fmt::Result {
+        fmt::Display::fmt(self, f)
+    }
+}
+
+impl Error for Fault {}
 
 /// The line that the program prints of a fault: `cmbsim: fault N at P`, with its line feed.
 pub fn fault_line(alloc: Global, fault: &Fault) -> Result<Vec<u8>, AllocError>

@@ -25,7 +25,7 @@ pub enum Task {
 }
 
 /// What the words ask for.
-#[derive(Debug, Drop)]
+#[derive(Drop)]
 pub struct Line {
     pub task: Task,
     /// A fault is told in words too.
@@ -104,29 +104,19 @@ fn bare_command<'a>(alloc: Global) -> Result<Command<'a>, AllocError> {
     )
 }
 
-// A command line with `run`.
-fn with_run<'a>(alloc: Global, command: Command<'a>) -> Result<Command<'a>, AllocError> {
-    let run = run_command(alloc)?;
-    command.subcommand(run)
-}
-
-// A command line with `check`.
-fn with_check<'a>(alloc: Global, command: Command<'a>) -> Result<Command<'a>, AllocError> {
-    let check = check_command(alloc)?;
-    command.subcommand(check)
-}
-
-// A command line with `explain`.
-fn with_explain<'a>(alloc: Global, command: Command<'a>) -> Result<Command<'a>, AllocError> {
-    let explain = explain_command(alloc)?;
-    command.subcommand(explain)
+// A command line with one more command, where that could be made.
+fn with_command<'a>(
+    line: Command<'a>,
+    command: Result<Command<'a>, AllocError>,
+) -> Result<Command<'a>, AllocError> {
+    line.subcommand(command?)
 }
 
 // The whole command line.
 fn whole_command<'a>(alloc: Global) -> Result<Command<'a>, AllocError> {
-    let command = with_run(alloc, bare_command(alloc)?)?;
-    let command = with_check(alloc, command)?;
-    with_explain(alloc, command)
+    let line = with_command(bare_command(alloc)?, run_command(alloc))?;
+    let line = with_command(line, check_command(alloc))?;
+    with_command(line, explain_command(alloc))
 }
 
 fn parse<'a>(alloc: Global, words: &'a [String]) -> Result<ArgMatches<'a>, Error> {

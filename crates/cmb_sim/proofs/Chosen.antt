@@ -1,19 +1,20 @@
 -- The answers of the stages of a simulation of chosen nets as those of the whole.
-use Rattle.std.proofs.Common.{◌≡◌, ℕ, true, false, nat_lt, inl, inr, List, Option, None, Some, Result, Ok, Err, IfOk, IfErr, OnOk, refl}
+use Rattle.std.proofs.Common.{◌≡◌, ℕ, true, false, nat_lt, inl, inr, List, Option, None, Some, Result, Ok, Err, IfOk, IfErr, OnOk, refl, subst, sym}
 use Rattle.cmb_design.specs.Checks.{first_fault}
 use Rattle.cmb_design.specs.Design.{Design}
 use Rattle.cmb_design.specs.Plain.{cells_of}
 use Rattle.cmb_design.specs.declared.fault.DesignFault.TheVariants.{TableTooLarge}
 use Rattle.cmb_design.specs.declared.settings.Settings.{Settings}
 use Rattle.cmb_vcd.specs.Chosen.{vcd_of}
-use Rattle.cmb_line.specs.declared.choice.Choice.TheVariants.{Only}
+use Rattle.cmb_line.specs.declared.choice.Choice.{Choice}
+use Rattle.cmb_line.specs.declared.choice.Choice.TheVariants.{All, Only}
 use Rattle.cmb_line.specs.declared.choice.Pick.{Pick}
 use Rattle.cmb_line.specs.declared.choice.Pick.TheVariants.{Listed}
 use Rattle.cmb_line.specs.declared.mode.Mode.{Mode}
 use Rattle.cmb_line.specs.declared.mode.Mode.TheVariants.{Plain}
-use Rattle.cmb_sim.proofs.Outcomes.{NoneFailedBut-any, NoneFailedBut-same, untouched}
+use Rattle.cmb_sim.proofs.Outcomes.{IsAnswerOf-unspelled, IsOutcome-read, IsOutcome-unread, NoneFailedBut-any, NoneFailedBut-same, untouched}
 use Rattle.cmb_sim.proofs.RoundRuns.{no_checks}
-use Rattle.cmb_sim.specs.Choosing.{AreAllTexts, AreChosen, Choose, IsChosenAnswer, IsChosenAnswerOf, IsChosenOutcome, IsListText, chosen_report}
+use Rattle.cmb_sim.specs.Choosing.{AreAllTexts, AreChosen, Choose, IsAnswerTo, IsChosenAnswer, IsChosenAnswerOf, IsChosenOutcome, IsNamed, chosen_report}
 use Rattle.cmb_sim.specs.Simulation.{AreTexts, HasNotFailed, HasTaken, Input, Inputs, NoneFailedBut, Output, Texts, failed_input, mode_checks, output}
 use Rattle.cmb_sim.specs.Stages.{CanRun, HaveTextFault, IsUnchosen, IsUnread, IsUnshown, LacksTexts, SpellAny}
 use Rattle.cmb_inout.specs.declared.fault.Fault.{Fault}
@@ -41,9 +42,10 @@ unread settings mode pick i list old n (fault.Read k) h = (inl h, untouched old 
 unread settings mode pick i list old n fault.Memory h = untouched old n
 unread settings mode pick i list old n f h = absurd h
 
-pub IsChosenOutcome-unread : (settings : Settings) (mode : Mode) (pick : Pick) (i : Inputs) (list : Input) (old : Option (List ℕ)) (n : ℕ) (f : Fault)
-    → NoneFailedBut (failed_input {A = InputTexts} (Err f)) i → HasNotFailed list → LacksTexts i f → IsChosenOutcome settings mode (Only pick) i list (output old old n n) (Err f)
-IsChosenOutcome-unread settings mode pick i list old n f read quiet h =
+pub IsChosenOutcome-unread : (settings : Settings) (mode : Mode) (choice : Choice) (i : Inputs) (list : Input) (old : Option (List ℕ)) (n : ℕ) (f : Fault)
+    → NoneFailedBut (failed_input {A = InputTexts} (Err f)) i → HasNotFailed list → LacksTexts i f → IsChosenOutcome settings mode choice i list (output old old n n) (Err f)
+IsChosenOutcome-unread settings mode All i list old n f read quiet h = (IsOutcome-unread settings mode i old n f read h, quiet)
+IsChosenOutcome-unread settings mode (Only pick) i list old n f read quiet h =
     ((NoneFailedBut-same InputTexts Report f i read, λ _. quiet), unread settings mode pick i list old n f h)
 
 -- the list wasn't read
@@ -58,11 +60,12 @@ list_failed : (A B : Type 0) (f : Fault) (list : Input) → ((failed_input {A = 
 list_failed A B (fault.Read n) list h = h
 list_failed A B f list h = h
 
-pub IsChosenOutcome-unlisted : (A : Type 0) (settings : Settings) (mode : Mode) (pick : Pick) (i : Inputs) (list : Input) (old : Option (List ℕ)) (n : ℕ) (texts : Texts) (f : Fault)
-    → NoneFailedBut 0 i → AreTexts i texts → pick ≡ Listed → IsUnread 5 list f → ((failed_input {A = A} (Err f) ≡ 5 → ⊥) → HasNotFailed list)
-    → IsChosenOutcome settings mode (Only pick) i list (output old old n n) (Err f)
-IsChosenOutcome-unlisted A settings mode pick i list old n texts f read are is h failed =
-    ((NoneFailedBut-any i (failed_input {A = Report} (Err f)) read, list_failed A Report f list failed), unlisted settings mode pick i list old n texts f are is h)
+pub IsChosenOutcome-unlisted : (A : Type 0) (settings : Settings) (mode : Mode) (choice : Choice) (i : Inputs) (list : Input) (old : Option (List ℕ)) (n : ℕ) (texts : Texts) (f : Fault)
+    → NoneFailedBut 0 i → AreTexts i texts → choice ≡ Only Listed → IsUnread 5 list f → ((failed_input {A = A} (Err f) ≡ 5 → ⊥) → HasNotFailed list)
+    → IsChosenOutcome settings mode choice i list (output old old n n) (Err f)
+IsChosenOutcome-unlisted A settings mode choice i list old n texts f read are is h failed =
+    subst (λ k. IsChosenOutcome settings mode k i list (output old old n n) (Err f)) (sym is)
+    ((NoneFailedBut-any i (failed_input {A = Report} (Err f)) read, list_failed A Report f list failed), unlisted settings mode Listed i list old n texts f are refl h)
 
 -- the texts spell no design
 unspelled : (settings : Settings) (mode : Mode) (pick : Pick) (i : Inputs) (list : Input) (old : Option (List ℕ)) (n : ℕ) (texts : Texts) (names : List ℕ) (f : Fault)
@@ -72,9 +75,10 @@ unspelled settings mode pick i list old n texts names (fault.Design f) are h = (
 unspelled settings mode pick i list old n texts names fault.Memory are h = untouched old n
 unspelled settings mode pick i list old n texts names f are h = absurd h
 
-pub IsChosenAnswerOf-unspelled : (settings : Settings) (mode : Mode) (pick : Pick) (texts : Texts) (names : List ℕ) (old : Option (List ℕ)) (n : ℕ) (f : Fault)
-    → HaveTextFault texts settings f → IsChosenAnswerOf settings mode pick texts names (output old old n n) (Err f)
-IsChosenAnswerOf-unspelled settings mode pick texts names old n f h = λ i list are. unspelled settings mode pick i list old n texts names f are h
+pub IsAnswerTo-unspelled : (settings : Settings) (mode : Mode) (choice : Choice) (texts : Texts) (names : List ℕ) (old : Option (List ℕ)) (n : ℕ) (f : Fault)
+    → HaveTextFault texts settings f → IsAnswerTo settings mode choice texts names (output old old n n) (Err f)
+IsAnswerTo-unspelled settings mode All texts names old n f h = IsAnswerOf-unspelled settings mode texts old n f h
+IsAnswerTo-unspelled settings mode (Only pick) texts names old n f h = λ i list are. unspelled settings mode pick i list old n texts names f are h
 
 -- no nets are chosen
 unchosen : (settings : Settings) (mode : Mode) (pick : Pick) (i : Inputs) (list : Input) (old : Option (List ℕ)) (n : ℕ) (texts : Texts) (names : List ℕ) (design : Design) (f : Fault)
@@ -116,8 +120,10 @@ IsChosenAnswerOf-shown settings mode pick texts names o design nets result spell
     (record { texts = texts; names = names; are = are; spelled = spelled; chosen = chosen }) told wrote fits unwritten
 
 -- a simulation that read its texts and its list ends as one of these does
-pub IsChosenOutcome-read : (settings : Settings) (mode : Mode) (pick : Pick) (i : Inputs) (list : Input) (o : Output) (texts : Texts) (names : List ℕ) (result : Result Report Fault)
-    → NoneFailedBut 0 i → HasNotFailed list → AreTexts i texts → IsListText pick list names → IsChosenAnswerOf settings mode pick texts names o result
-    → IsChosenOutcome settings mode (Only pick) i list o result
-IsChosenOutcome-read settings mode pick i list o texts names result read quiet are listed answer =
+pub IsChosenOutcome-read : (settings : Settings) (mode : Mode) (choice : Choice) (i : Inputs) (list : Input) (o : Output) (texts : Texts) (names : List ℕ) (result : Result Report Fault)
+    → NoneFailedBut 0 i → HasNotFailed list → AreTexts i texts → IsNamed choice list names → IsAnswerTo settings mode choice texts names o result
+    → IsChosenOutcome settings mode choice i list o result
+IsChosenOutcome-read settings mode All i list o texts names result read quiet are listed answer =
+    (IsOutcome-read settings mode i o texts result read are answer, quiet)
+IsChosenOutcome-read settings mode (Only pick) i list o texts names result read quiet are listed answer =
     ((NoneFailedBut-any i (failed_input result) read, λ _. quiet), answer i list (record { four = are; fifth = listed }))

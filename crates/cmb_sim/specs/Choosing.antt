@@ -13,7 +13,7 @@ use Rattle.cmb_line.specs.declared.choice.Pick.TheVariants.{Listed, Outputs}
 use Rattle.cmb_line.specs.declared.mode.Mode.{Mode}
 use Rattle.cmb_sim.specs.Simulation.{AreTexts, HasFailed, HasNotFailed, HasTaken, HasTooMany, Input, Inputs, IsCutAfter, IsOutcome, IsUntouched, NoneFailedBut, Output, StopsAt, Texts, failed_input}
 use Rattle.cmb_inout.specs.Sources.{IsWhole}
-use Rattle.cmb_sim.specs.Stages.{CanRun, HaveTextFault, IsUnrun, SpellAny}
+use Rattle.cmb_sim.specs.Stages.{CanRun, HaveTextFault, IsAnswerOf, IsUnrun, SpellAny}
 use Rattle.cmb_inout.specs.declared.fault.Fault.{Fault}
 use Rattle.cmb_inout.specs.declared.fault.Fault.TheVariants as fault
 use Rattle.cmb_inout.specs.declared.answer.Report.{Report}
@@ -27,6 +27,11 @@ AreChosen Outputs design names nets = nets ≡ each_once (nets_of design) design
 abbrev pub IsListText : Pick → Input → List ℕ → Type 0
 IsListText Listed list names = IsWhole list.bytes names
 IsListText Outputs list names = names ≡ []
+
+-- the text of the list by which nets are chosen, empty where they aren't chosen by one
+abbrev pub IsNamed : Choice → Input → List ℕ → Type 0
+IsNamed All list names = names ≡ []
+IsNamed (Only pick) list names = IsListText pick list names
 
 -- the inputs are read in order, the list as the last: P holds of the one with this number, and those before it can be read whole
 abbrev pub StopsReading : (Input → Type 0) → Pick → Inputs → Input → ℕ → Type 0
@@ -84,6 +89,16 @@ IsChosenAnswer settings mode pick i list o (Err (fault.Incomplete net upto)) = �
 abbrev pub IsChosenAnswerOf : Settings → Mode → Pick → Texts → List ℕ → Output → Result Report Fault → Type 0
 IsChosenAnswerOf settings mode pick texts names o answer =
     (i : Inputs) (list : Input) → AreAllTexts pick i list texts names → IsChosenAnswer settings mode pick i list o answer
+
+-- the same, of all nets or of chosen ones
+abbrev pub IsAnswerTo : Settings → Mode → Choice → Texts → List ℕ → Output → Result Report Fault → Type 0
+IsAnswerTo settings mode All texts names o answer = IsAnswerOf settings mode texts o answer
+IsAnswerTo settings mode (Only pick) texts names o answer = IsChosenAnswerOf settings mode pick texts names o answer
+
+-- what comes of a design, whichever texts spell it
+abbrev pub IsAnswerFor : Mode → Choice → Design → List ℕ → Output → Result Report Fault → Type 0
+IsAnswerFor mode choice design names o answer =
+    (texts : Texts) (settings : Settings) → SpellAny texts settings design → IsAnswerTo settings mode choice texts names o answer
 
 -- no read failed, but of the input with this number, the list being input 5
 abbrev pub NoneOfFiveFailedBut : ℕ → Inputs → Input → Type 0

@@ -1,5 +1,5 @@
 -- What a whole simulation answers, and what it writes.
-use Rattle.std.specs.Prelude.{◌≡◌, ℕ, ◌+◌, ◌<◌, ◌⊎◌, List, [], ◌∷◌, ◌++◌, length, take, nat_lt, Option, None, Some, Result, Ok, Err, ⊤}
+use Rattle.std.specs.Prelude.{◌≡◌, ℕ, ◌+◌, ◌-◌, ◌^◌, ◌<◌, ◌⊎◌, List, [], ◌∷◌, ◌++◌, length, take, nat_lt, Option, None, Some, Result, Ok, Err, ⊤}
 use Rattle.std.specs.Io.KnownBytes.{Appends, Keeps}
 use Rattle.cmb_bench.specs.Netlist.{Netlist}
 use Rattle.cmb_bench.specs.Meaning.{Reads}
@@ -103,6 +103,10 @@ input bytes before after = record { bytes = bytes; before = before; after = afte
 -- a source as a call found it and left it
 abbrev pub read_from : {S : Type 0} → source.Ghosts S → S → S → Input
 read_from s old new = input (s.remaining old) (s.failures old) (s.failures new)
+
+-- of each source one more failed read can be counted
+abbrev pub HaveRoom : ℕ → ℕ → ℕ → ℕ → Type 0
+HaveRoom bench delays stimuli clocks = (bench < 2 ^ 64 - 1) × (delays < 2 ^ 64 - 1) × (stimuli < 2 ^ 64 - 1) × (clocks < 2 ^ 64 - 1)
 
 -- the inputs 1 to 4
 pub record Inputs : Type 0 where

@@ -2,7 +2,7 @@
 
 ghost use Rattle.std.specs.Prelude.{◌-◌, ◌^◌, ◌<◌, IfErr, OnOk};
 ghost use Rattle.cmb_count.specs.Texts.{counts_rows};
-ghost use Rattle.cmb_sim.specs.Simulation.{HasTaken, inputs_of, read_from, written_to};
+ghost use Rattle.cmb_sim.specs.Simulation.{HasTaken, HaveRoom, inputs_of, read_from, written_to};
 ghost use Rattle.cmb_sim.specs.Tasks.{AreUnwritten, IsDone};
 
 use crate::check::check_design;
@@ -47,10 +47,8 @@ pub fn carry_out<
     list: &mut L,
     out: &mut O,
 ) -> Result<Done, Fault>
-    requires bench { B.failures bench.old < 2 ^ 64 - 1 }
-    requires delays { D.failures delays.old < 2 ^ 64 - 1 }
-    requires stimuli { S.failures stimuli.old < 2 ^ 64 - 1 }
-    requires clocks { C.failures clocks.old < 2 ^ 64 - 1 }
+    requires sources { HaveRoom (B.failures bench.old) (D.failures delays.old)
+        (S.failures stimuli.old) (C.failures clocks.old) }
     requires list { L.failures list.old < 2 ^ 64 - 1 }
     requires out { O.failures out.old < 2 ^ 64 - 1 }
     ensures { IsDone line.now

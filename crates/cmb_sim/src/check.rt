@@ -1,8 +1,8 @@
 //! What a simulation is given, counted and not simulated.
 
-ghost use Rattle.std.specs.Prelude.{◌-◌, ◌^◌, ◌<◌, IfOk, IfErr};
+ghost use Rattle.std.specs.Prelude.{IfOk, IfErr};
 ghost use Rattle.cmb_sim.specs.Checking.{IsChecked, IsCountOf};
-ghost use Rattle.cmb_sim.specs.Simulation.{inputs_of, read_from};
+ghost use Rattle.cmb_sim.specs.Simulation.{HaveRoom, inputs_of, read_from};
 ghost use Rattle.cmb_sim.specs.Stages.{CanBeInputs, HaveTextFault, IsReading, LacksDesign, texts_in};
 
 use crate::simulation::spelled_design;
@@ -33,10 +33,8 @@ pub fn check_design<B: Source, D: Source, S: Source, C: Source>(
     clocks: &mut C,
     settings: Settings,
 ) -> Result<Counts, Fault>
-    requires bench { B.failures bench.old < 2 ^ 64 - 1 }
-    requires delays { D.failures delays.old < 2 ^ 64 - 1 }
-    requires stimuli { S.failures stimuli.old < 2 ^ 64 - 1 }
-    requires clocks { C.failures clocks.old < 2 ^ 64 - 1 }
+    requires sources { HaveRoom (B.failures bench.old) (D.failures delays.old)
+        (S.failures stimuli.old) (C.failures clocks.old) }
     ensures { IsReading (IsChecked settings) (LacksDesign settings)
         (inputs_of (read_from B.Source bench.old bench.new) (read_from D.Source delays.old delays.new)
         (read_from S.Source stimuli.old stimuli.new) (read_from C.Source clocks.old clocks.new))

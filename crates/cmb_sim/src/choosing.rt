@@ -4,14 +4,14 @@ ghost use Rattle.std.specs.Prelude.{◌≡◌, ◌-◌, ◌^◌, ◌<◌, ◌≤
 ghost use Rattle.cmb_design.specs.Exact.{nets_of};
 ghost use Rattle.cmb_dump.specs.Excerpts.{AreAmong};
 ghost use Rattle.cmb_vcd.specs.Chosen.{vcd_of};
-ghost use Rattle.cmb_sim.specs.Choosing.{AreChosen, IsChosenAnswerOf, IsChosenOutcome, IsListText, chosen_report};
-ghost use Rattle.cmb_sim.specs.Simulation.{HasTaken, failed_input, inputs_of, read_from, written_to};
+ghost use Rattle.cmb_sim.specs.Choosing.{AreChosen, IsAnswerFor, IsAnswerTo, IsChosenOutcome, IsNamed, chosen_report};
+ghost use Rattle.cmb_sim.specs.Simulation.{HasTaken, HaveRoom, failed_input, inputs_of, read_from, written_to};
 ghost use Rattle.cmb_inout.specs.Sources.{input_limit};
 ghost use Rattle.cmb_sim.specs.Stages.{CanBeInputs, CanRun, IsUnchosen, IsUnread, IsUnshown, texts_in};
 
 use crate::modes::check_mode;
 use crate::running::write_text;
-use crate::simulation::{simulate, spelled_design};
+use crate::simulation::{spelled_design, write_report};
 use crate::texts::{InputTexts, read_input, read_texts};
 use cmb_bench::read_list;
 use cmb_choice::chosen_text;
@@ -25,17 +25,17 @@ use std::sync::Wait;
 use std::thread::Threads;
 
 // The text of the list that names nets; empty where there is none, and then nothing is read.
-fn read_names<L: Source>(alloc: Global, pick: Pick, list: &mut L) -> Result<Vec<u8>, Fault>
+fn read_names<L: Source>(alloc: Global, choice: Choice, list: &mut L) -> Result<Vec<u8>, Fault>
     requires { L.failures list.old < 2 ^ 64 - 1 }
-    ensures names { IfOk result (λ names. IsListText pick (read_from L.Source list.old list.new) names.items) }
+    ensures names { IfOk result (λ names. IsNamed choice (read_from L.Source list.old list.new) names.items) }
     ensures short { IfOk result (λ names. length names.items ≤ input_limit) }
     ensures fault { IfErr result (IsUnread 5 (read_from L.Source list.old list.new)) }
-    ensures listed { IfErr result (λ _. pick ≡ Pick.Listed) }
+    ensures listed { IfErr result (λ _. choice ≡ Choice.Only Pick.Listed) }
     ensures failures { (failed_input result ≡ 5 → ⊥) → L.failures list.new ≡ L.failures list.old }
 {
-    match pick {
-        Pick::Listed => read_input(alloc, list, 5),
-        Pick::Outputs => Ok(Vec::new(alloc)),
+    match choice {
+        Choice::Only(Pick::Listed) => read_input(alloc, list, 5),
+        Choice::Only(Pick::Outputs) | Choice::All => Ok(Vec::new(alloc)),
     }
 }
 
@@ -82,25 +82,45 @@ fn show_nets<O: Sink>(
     })
 }
 
-// A simulation of texts that were read, of which some nets are written.
-fn show_texts<O: Sink>(
-    alloc: Global,
+// Writes the text of a design, or that of chosen nets of it.
+fn write_chosen<R: AllocGlobal + Threads + Wait + Sync, O: Sink>(
+    rt: &R,
+    mode: Mode,
+    choice: Choice,
+    design: &Design,
+    names: &[u8],
+    out: &mut O,
+) -> Result<Report, Fault>
+    requires names { length names.now ≤ input_limit }
+    requires out { O.failures out.old < 2 ^ 64 - 1 }
+    ensures { IsAnswerFor mode choice design.now names.now (written_to O.Sink out.old out.new) result }
+{
+    let pick = match choice {
+        Choice::All => return write_report(rt, mode, design, out),
+        Choice::Only(pick) => pick,
+    };
+    let nets = chosen_nets(rt.alloc(), pick, design, names)?;
+    show_nets(rt.alloc(), mode, design, nets.as_slice(), out)
+}
+
+// A simulation of texts that were read.
+fn simulate_texts<R: AllocGlobal + Threads + Wait + Sync, O: Sink>(
+    rt: &R,
     texts: &InputTexts,
     names: &[u8],
     settings: Settings,
     mode: Mode,
-    pick: Pick,
+    choice: Choice,
     out: &mut O,
 ) -> Result<Report, Fault>
     requires texts { CanBeInputs (texts_in texts.now) }
     requires names { length names.now ≤ input_limit }
     requires out { O.failures out.old < 2 ^ 64 - 1 }
-    ensures { IsChosenAnswerOf settings mode pick (texts_in texts.now) names.now
+    ensures { IsAnswerTo settings mode choice (texts_in texts.now) names.now
         (written_to O.Sink out.old out.new) result }
 {
-    let design = spelled_design(alloc, texts, settings)?;
-    let nets = chosen_nets(alloc, pick, &design, names)?;
-    show_nets(alloc, mode, &design, nets.as_slice(), out)
+    let design = spelled_design(rt.alloc(), texts, settings)?;
+    write_chosen(rt, mode, choice, &design, names, out)
 }
 
 /// Simulates as `simulate` does, and writes the waveforms of the chosen nets: the declarations and the levels of these
@@ -132,10 +152,8 @@ pub fn simulate_chosen<
     choice: Choice,
     out: &mut O,
 ) -> Result<Report, Fault>
-    requires bench { B.failures bench.old < 2 ^ 64 - 1 }
-    requires delays { D.failures delays.old < 2 ^ 64 - 1 }
-    requires stimuli { S.failures stimuli.old < 2 ^ 64 - 1 }
-    requires clocks { C.failures clocks.old < 2 ^ 64 - 1 }
+    requires sources { HaveRoom (B.failures bench.old) (D.failures delays.old)
+        (S.failures stimuli.old) (C.failures clocks.old) }
     requires list { L.failures list.old < 2 ^ 64 - 1 }
     requires out { O.failures out.old < 2 ^ 64 - 1 }
     ensures { IsChosenOutcome settings mode choice
@@ -143,12 +161,8 @@ pub fn simulate_chosen<
         (read_from S.Source stimuli.old stimuli.new) (read_from C.Source clocks.old clocks.new))
         (read_from L.Source list.old list.new) (written_to O.Sink out.old out.new) result }
 {
-    let pick = match choice {
-        Choice::All => return simulate(rt, bench, delays, stimuli, clocks, settings, mode, out),
-        Choice::Only(pick) => pick,
-    };
     let alloc = rt.alloc();
     let texts = read_texts(alloc, bench, delays, stimuli, clocks)?;
-    let names = read_names(alloc, pick, list)?;
-    show_texts(alloc, &texts, names.as_slice(), settings, mode, pick, out)
+    let names = read_names(alloc, choice, list)?;
+    simulate_texts(rt, &texts, names.as_slice(), settings, mode, choice, out)
 }

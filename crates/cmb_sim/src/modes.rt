@@ -5,7 +5,7 @@ ghost use Rattle.cmb_design.specs.Checks.{first_fault};
 ghost use Rattle.cmb_design.specs.Plain.{cells_of};
 ghost use Rattle.cmb_design.specs.declared.fault.DesignFault.TheVariants.{TableTooLarge};
 ghost use Rattle.cmb_line.specs.Modes.{IsLawfulCount, clusters_of, workers_of};
-ghost use Rattle.cmb_sim.specs.Simulation.{IsFree, mode_checks};
+ghost use Rattle.cmb_sim.specs.Simulation.{mode_checks};
 ghost use Rattle.cmb_sim.specs.Stages.{CanRun, IsUnrun};
 
 use cmb_design::plain::MOST_CELLS;
@@ -78,16 +78,6 @@ pub(crate) fn check_mode(mode: Mode, design: &Design) -> Result<(), Fault>
         return Err(Fault::Workers);
     }
     Ok(())
-}
-
-// Whether the text is written while the run goes on.
-pub(crate) fn is_free(mode: Mode) -> bool
-    ensures { result ≡ true → IsFree mode }
-{
-    match mode {
-        Mode::Free { .. } | Mode::SharedFree { .. } => true,
-        Mode::Plain | Mode::Rounds { .. } | Mode::Shared { .. } => false,
-    }
 }
 
 // By how many threads at most the engine makes the text.

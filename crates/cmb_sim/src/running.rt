@@ -4,11 +4,11 @@ ghost use Rattle.std.specs.Prelude.{◌≡◌, ◌-◌, ◌^◌, ◌<◌, length
 ghost use Rattle.cmb_design.specs.Exact.{nets_of};
 ghost use Rattle.cmb_design.specs.Plain.{whole_waves};
 ghost use Rattle.cmb_line.specs.Modes.{IsLawfulCount};
-ghost use Rattle.cmb_sim.specs.Simulation.{HasTaken, IsFree, written_to};
+ghost use Rattle.cmb_sim.specs.Simulation.{HasTaken, written_to};
 ghost use Rattle.cmb_sim.specs.Stages.{CanRun, IsCutShort, IsWritten};
 ghost use Rattle.cmb_vcd.specs.Vcd.{vcd};
 
-use crate::modes::{is_free, threads_in};
+use crate::modes::threads_in;
 use cmb_core::{Clustering, ClusteringFault};
 use cmb_design::{Design, DesignFault, plain_waves};
 use cmb_free::{OpenGate, run_free_text};
@@ -140,27 +140,6 @@ fn write_by_workers<R: AllocGlobal + Threads + Wait + Sync, O: Sink>(
     Ok(written)
 }
 
-// Writes the text of a design while it is made, and gives the text's length.
-fn write_free<R: AllocGlobal + Threads + Wait + Sync, O: Sink>(
-    rt: &R,
-    mode: Mode,
-    design: &Design,
-    out: &mut O,
-) -> Result<u64, Fault>
-    requires runs { CanRun mode design.now }
-    requires free { IsFree mode }
-    requires out { O.failures out.old < 2 ^ 64 - 1 }
-    ensures { IsWritten mode design.now (written_to O.Sink out.old out.new) result }
-{
-    if let Mode::Free { workers, clusters } = mode {
-        if are_shared_out(workers, clusters, design) {
-            return write_by_workers(rt, workers, clusters, design, out);
-        }
-    }
-    let written = write_by_threads(rt, rt.alloc(), design, threads_in(mode), out)?;
-    Ok(written)
-}
-
 // Writes a text that is there whole: 62 where a write fails.
 pub(crate) fn write_text<O: Sink>(out: &mut O, text: &[u8]) -> Result<(), Fault>
     requires { O.failures out.old < 2 ^ 64 - 1 }
@@ -186,10 +165,18 @@ pub(crate) fn write_by<R: AllocGlobal + Threads + Wait + Sync, O: Sink>(
     requires out { O.failures out.old < 2 ^ 64 - 1 }
     ensures { IsWritten mode design.now (written_to O.Sink out.old out.new) result }
 {
-    if is_free(mode) {
-        return write_free(rt, mode, design, out);
+    match mode {
+        Mode::Free { workers, clusters } if are_shared_out(workers, clusters, design) => {
+            write_by_workers(rt, workers, clusters, design, out)
+        }
+        Mode::Free { .. } | Mode::SharedFree { .. } => {
+            let written = write_by_threads(rt, rt.alloc(), design, threads_in(mode), out)?;
+            Ok(written)
+        }
+        _ => {
+            let text = whole_text(rt, mode, design)?;
+            write_text(out, text.as_slice())?;
+            Ok(text.len() as u64)
+        }
     }
-    let text = whole_text(rt, mode, design)?;
-    write_text(out, text.as_slice())?;
-    Ok(text.len() as u64)
 }

@@ -1,17 +1,18 @@
 //! A whole simulation.
 
 ghost use Rattle.std.specs.Prelude.{◌-◌, ◌^◌, ◌<◌, IfOk, IfErr};
-ghost use Rattle.cmb_sim.specs.Simulation.{IsOutcome, inputs_of, read_from, report_of, written_to};
-ghost use Rattle.cmb_sim.specs.Stages.{CanBeInputs, HaveTextFault, IsAnswerOf, IsWriting, SpellAny, texts_in};
+ghost use Rattle.cmb_sim.specs.Simulation.{HaveRoom, IsOutcome, inputs_of, read_from, report_of, written_to};
+ghost use Rattle.cmb_sim.specs.Stages.{CanBeInputs, HaveTextFault, IsWriting, SpellAny, texts_in};
 
+use crate::choosing::simulate_chosen;
 use crate::modes::check_mode;
 use crate::running::write_by;
-use crate::texts::{InputTexts, read_texts};
+use crate::texts::InputTexts;
 use cmb_bench::read_bench;
 use cmb_design::{Design, Settings};
+use cmb_inout::{Fault, FromBytes, Report, Source};
+use cmb_line::{Choice, Mode};
 use cmb_tables::{read_clocks, read_delays, read_stimuli};
-use cmb_inout::{Fault, Report, Source};
-use cmb_line::Mode;
 use cmb_vcd::Sink;
 use std::alloc::Global;
 use std::sync::Wait;
@@ -36,7 +37,7 @@ pub(crate) fn spelled_design(
 }
 
 // Writes the text of a design that the mode can run, and tells what was written.
-fn write_report<R: AllocGlobal + Threads + Wait + Sync, O: Sink>(
+pub(crate) fn write_report<R: AllocGlobal + Threads + Wait + Sync, O: Sink>(
     rt: &R,
     mode: Mode,
     design: &Design,
@@ -52,22 +53,6 @@ fn write_report<R: AllocGlobal + Threads + Wait + Sync, O: Sink>(
         horizon: design.horizon(),
         written,
     })
-}
-
-// A simulation of texts that were read.
-fn simulate_texts<R: AllocGlobal + Threads + Wait + Sync, O: Sink>(
-    rt: &R,
-    texts: &InputTexts,
-    settings: Settings,
-    mode: Mode,
-    out: &mut O,
-) -> Result<Report, Fault>
-    requires texts { CanBeInputs (texts_in texts.now) }
-    requires out { O.failures out.old < 2 ^ 64 - 1 }
-    ensures { IsAnswerOf settings mode (texts_in texts.now) (written_to O.Sink out.old out.new) result }
-{
-    let design = spelled_design(rt.alloc(), texts, settings)?;
-    write_report(rt, mode, &design, out)
 }
 
 /// Reads a netlist, the tables of delays, stimuli and clocks, and writes the waveforms of all nets below the horizon.
@@ -94,10 +79,8 @@ pub fn simulate<
     mode: Mode,
     out: &mut O,
 ) -> Result<Report, Fault>
-    requires bench { B.failures bench.old < 2 ^ 64 - 1 }
-    requires delays { D.failures delays.old < 2 ^ 64 - 1 }
-    requires stimuli { S.failures stimuli.old < 2 ^ 64 - 1 }
-    requires clocks { C.failures clocks.old < 2 ^ 64 - 1 }
+    requires sources { HaveRoom (B.failures bench.old) (D.failures delays.old)
+        (S.failures stimuli.old) (C.failures clocks.old) }
     requires out { O.failures out.old < 2 ^ 64 - 1 }
     ensures { IsOutcome settings mode
         (inputs_of (read_from B.Source bench.old bench.new) (read_from D.Source delays.old delays.new)
@@ -105,6 +88,9 @@ pub fn simulate<
         (written_to O.Sink out.old out.new)
         result }
 {
-    let texts = read_texts(rt.alloc(), bench, delays, stimuli, clocks)?;
-    simulate_texts(rt, &texts, settings, mode, out)
+    let all = Choice::All;
+    let list = &mut FromBytes::new(&[]);
+    simulate_chosen(
+        rt, bench, delays, stimuli, clocks, list, settings, mode, all, out,
+    )
 }

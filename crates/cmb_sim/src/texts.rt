@@ -1,7 +1,7 @@
 //! The four texts of a simulation, read whole.
 
 ghost use Rattle.std.specs.Prelude.{◌≡◌, ◌-◌, ◌^◌, ◌<◌, IfOk, IfErr};
-ghost use Rattle.cmb_sim.specs.Simulation.{failed_input, inputs_of, read_from};
+ghost use Rattle.cmb_sim.specs.Simulation.{HaveRoom, failed_input, inputs_of, read_from};
 ghost use Rattle.cmb_inout.specs.Sources.{IsWhole};
 ghost use Rattle.cmb_sim.specs.Stages.{HaveTexts, IsReading, IsUnread, LacksTexts};
 
@@ -55,10 +55,8 @@ pub fn read_texts<B: Source, D: Source, S: Source, C: Source>(
     stimuli: &mut S,
     clocks: &mut C,
 ) -> Result<InputTexts, Fault>
-    requires bench { B.failures bench.old < 2 ^ 64 - 1 }
-    requires delays { D.failures delays.old < 2 ^ 64 - 1 }
-    requires stimuli { S.failures stimuli.old < 2 ^ 64 - 1 }
-    requires clocks { C.failures clocks.old < 2 ^ 64 - 1 }
+    requires sources { HaveRoom (B.failures bench.old) (D.failures delays.old)
+        (S.failures stimuli.old) (C.failures clocks.old) }
     ensures { IsReading HaveTexts LacksTexts
         (inputs_of (read_from B.Source bench.old bench.new) (read_from D.Source delays.old delays.new)
         (read_from S.Source stimuli.old stimuli.new) (read_from C.Source clocks.old clocks.new))

@@ -1,25 +1,21 @@
 //! Why a collector takes no piece.
 
 use cmb_wave::WaveFault;
-use thiserror::Error;
+use std::error::Error;
+use std::fmt;
 
 /// Why a collector takes no piece. They are tested in the order 52, 50, 51, 49.
-#[derive(Clone, Copy, Debug, PartialEq, Eq, Error)]
+#[derive(Clone, Copy, PartialEq, Eq)]
 pub enum CollectFault {
     /// 49: the first new change, at this tick, is to the level that the net's wave ends with.
-    #[error("no change at {tick}")]
     Clash { tick: u32 },
     /// 50: the piece begins after the clock of the net's wave, so the changes between them are missing.
-    #[error("the piece begins after {clock}")]
     Gap { clock: u32 },
     /// 51: the piece ends by the clock of the net's wave, so all of it was taken before.
-    #[error("the piece ends by {clock}")]
     Double { clock: u32 },
     /// 52: the piece is of no net of the design.
-    #[error("there is no such net")]
     Stranger,
     /// 70: out of memory.
-    #[error("out of memory")]
     Memory,
 }
 
@@ -39,7 +35,38 @@ impl CollectFault {
             CollectFault::Memory => 70,
         }
     }
+
+    // What is wrong, up to the tick at which it is.
+    fn words(&self) -> &'static str {
+        match self {
+            CollectFault::Clash { .. } => "no change at",
+            CollectFault::Gap { .. } => "the piece begins after",
+            CollectFault::Double { .. } => "the piece ends by",
+            CollectFault::Stranger => "there is no such net",
+            CollectFault::Memory => "out of memory",
+        }
+    }
 }
+
+impl fmt::Display for CollectFault {
+    fn fmt<W: fmt::Write>(&self, f: &mut fmt::Formatter<W>) -> fmt::Result {
+        match self {
+            CollectFault::Clash { tick }
+            | CollectFault::Gap { clock: tick }
+            | CollectFault::Double { clock: tick } => write!(f, "{} {tick}", self.words()),
+            CollectFault::Stranger | CollectFault::Memory => f.write_str(self.words()),
+        }
+    }
+}
+
+// In the words of `Display`: a derived one prints in each of five arms.
+impl fmt::Debug for CollectFault {
+    fn fmt<W: fmt::Write>(&self, f: &mut fmt::Formatter<W>) -> fmt::Result {
+        fmt::Display::fmt(self, f)
+    }
+}
+
+impl Error for CollectFault {}
 
 impl From<WaveFault> for CollectFault {
     ghost use Rattle.std.specs.Prelude.{◌≡◌};

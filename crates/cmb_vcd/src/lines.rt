@@ -81,8 +81,7 @@ fn push_reference(out: &mut Vec<u8>, name: &[u8]) -> Result<(), AllocError>
     if !is_simple(name) {
         out.push(b'\\')?;
     }
-    out.extend_from_slice(name)?;
-    Ok(())
+    out.extend_from_slice(name)
 }
 
 /// The declaration of a net.
@@ -106,15 +105,18 @@ fn push_vars(out: &mut Vec<u8>, netlist: &Netlist) -> Result<(), AllocError>
     Ok(())
 }
 
+// What stands above the declarations of nets, and what below them.
+const HEAD: &[u8] = b"$version cmbsim 1 $end\n$timescale 1 ns $end\n$scope module top $end\n";
+
+const FOOT: &[u8] = b"$upscope $end\n$enddefinitions $end\n";
+
 /// The lines up to the end of the declarations.
 pub fn push_header(out: &mut Vec<u8>, netlist: &Netlist) -> Result<(), AllocError>
     ensures { OnOk result (out.new.items ≡ out.old.items ++ header netlist.now) }
 {
-    out.extend_from_slice(
-        b"$version cmbsim 1 $end\n$timescale 1 ns $end\n$scope module top $end\n",
-    )?;
+    out.extend_from_slice(HEAD)?;
     push_vars(out, netlist)?;
-    out.extend_from_slice(b"$upscope $end\n$enddefinitions $end\n")?;
+    out.extend_from_slice(FOOT)?;
     Ok(())
 }
 
@@ -140,10 +142,8 @@ pub fn push_chosen_header(
     requires few { length nets.now ≤ MAX_NETS }
     ensures { OnOk result (out.new.items ≡ out.old.items ++ header (chosen_from netlist.now nets.now)) }
 {
-    out.extend_from_slice(
-        b"$version cmbsim 1 $end\n$timescale 1 ns $end\n$scope module top $end\n",
-    )?;
+    out.extend_from_slice(HEAD)?;
     push_chosen_vars(out, netlist, nets)?;
-    out.extend_from_slice(b"$upscope $end\n$enddefinitions $end\n")?;
+    out.extend_from_slice(FOOT)?;
     Ok(())
 }

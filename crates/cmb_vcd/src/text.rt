@@ -57,8 +57,7 @@ fn push_first(out: &mut Vec<u8>, codes: &Codes, waves: &[Wave]) -> Result<(), Al
     push_tick(out, 0)?;
     out.extend_from_slice(b"$dumpvars\n")?;
     push_levels(out, codes, waves)?;
-    out.extend_from_slice(b"$end\n")?;
-    Ok(())
+    out.extend_from_slice(b"$end\n")
 }
 
 // The lines of changes, which are sorted by comparison: for few changes in a long span of ticks.
@@ -68,8 +67,7 @@ fn push_compared(out: &mut Vec<u8>, codes: &Codes, parts: &[NetChanges]) -> Resu
 {
     let mut events = gather(*out.allocator(), parts)?;
     sort_value_changes(&mut events)?;
-    push_value_changes(out, codes, 0, events.as_slice())?;
-    Ok(())
+    push_value_changes(out, codes, 0, events.as_slice())
 }
 
 // The lines of changes at the ticks of [from, to), of which there are so many: a count of each tick sorts them.
@@ -88,8 +86,7 @@ fn push_counted(
 {
     let sorted = by_ticks(*out.allocator(), parts, from, to, count)?;
     out.reserve(count as usize * LONGEST_LINE)?;
-    push_by_ticks(out, codes, from, &sorted.ends, &sorted.marks)?;
-    Ok(())
+    push_by_ticks(out, codes, from, &sorted.ends, &sorted.marks)
 }
 
 // The lines of changes at the ticks of [from, to), of which none is tick 0. Work goes by changes, not by ticks.
@@ -128,8 +125,7 @@ fn push_later(
         ≡ out.old.items ++ ticks_between (length waves.now) (collected_level waves.now) from to) }
 {
     let parts = net_changes_within(*out.allocator(), waves, from, to)?;
-    push_parts(out, codes, &parts, from, to)?;
-    Ok(())
+    push_parts(out, codes, &parts, from, to)
 }
 
 // The lines of the ticks of [from, to).
@@ -152,8 +148,7 @@ fn push_ticks(
         return push_later(out, codes, waves, from, to);
     }
     push_first(out, codes, waves)?;
-    push_later(out, codes, waves, 1, to)?;
-    Ok(())
+    push_later(out, codes, waves, 1, to)
 }
 
 /// The last line, where it comes after the tick `from` and by the tick `upto`.
@@ -182,8 +177,7 @@ pub(crate) fn push_part(
         ++ end_line horizon from upto)) }
 {
     push_ticks(out, codes, waves, from, upto)?;
-    push_end(out, horizon, from, upto)?;
-    Ok(())
+    push_end(out, horizon, from, upto)
 }
 
 /// The text of a complete collector: that of the levels which its waves tell.

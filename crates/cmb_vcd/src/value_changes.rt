@@ -135,8 +135,7 @@ fn push_value_change(
     if event.tick != last {
         push_tick(out, event.tick)?;
     }
-    codes.push(out, event.level, event.net)?;
-    Ok(())
+    codes.push(out, event.level, event.net)
 }
 
 /// The text of changes by rising tick, where the line of the tick `first` is written already.

@@ -9,4 +9,4 @@ returns c =
     let all = value_changes_in c.args.parts.now in
     let placed : ArePlaced c.args.from all [] c.deref.result.now c.deref-2.result.now = rw (c.deref.ensures.value, c.deref-2.ensures.value) c.in_ok-sorted.ensures.placed in
     let count : length c.deref.result.now ≡ c.args.to - c.args.from = ap length c.deref.ensures.value ∙ c.in_ok-sorted.ensures.len in
-    rw (← c.reserve.ensures.items) (rw count at (c.in_ok-push_by_ticks.ensures all placed))
+    rw (← c.reserve.ensures.items) (rw count at (c.push_by_ticks.ensures all placed))

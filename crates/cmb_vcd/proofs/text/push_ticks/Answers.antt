@@ -1,5 +1,6 @@
 use Rattle.std.proofs.Common.{◌≡◌, ◌∙◌, ◌++◌, ap, sym, arith, length}
 use Rattle.std.proofs.lemmas.List.{append-nil}
+use Rattle.std.proofs.lemmas.Result.{on_ok_weaker}
 use Rattle.cmb_vcd.specs.Collector.{collected_level}
 use Rattle.cmb_vcd.specs.ValueChanges.{ticks_between}
 use Rattle.cmb_vcd.specs.Vcd.{tick_text}
@@ -19,5 +20,6 @@ returns c =
     let level = collected_level waves in
     let to = c.args.to in
     let start : c.args.from ≡ 0 = c.if-from-ne0.false in
-    let both = joined c.args.out.now.items c.push_first.new.out.items c.push_later-2.new.out.items (tick_text nets level 0) (ticks_between nets level 1 to) c.in_ok-push_first.ensures c.in_ok-push_later.ensures in
-    both ∙ ap (λ t. c.args.out.now.items ++ t) (sym (ticks_between-first nets level to (omega arith)) ∙ ap (λ from. ticks_between nets level from to) (sym start))
+    on_ok_weaker _ (λ last.
+    joined c.args.out.now.items c.push_first.new.out.items c.push_later-2.new.out.items (tick_text nets level 0) (ticks_between nets level 1 to) c.in_ok-push_first.ensures last
+    ∙ ap (λ t. c.args.out.now.items ++ t) (sym (ticks_between-first nets level to (omega arith)) ∙ ap (λ from. ticks_between nets level from to) (sym start))) c.push_later-2.ensures
