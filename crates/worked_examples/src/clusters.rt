@@ -1,74 +1,37 @@
 //! The worked examples of clusters. Their values follow by hand from the netlists, delays and stimuli.
 
-use crate::inputs::{Inputs, bare, design_of};
+use crate::toggle::{D, Q, TOGGLE, at, pair, pulse};
 use cmb_core::{Cluster, Clustering, ClusteringFault, DeliverFault};
-use cmb_design::{Design, Settings};
+use cmb_design::Settings;
 use cmb_wave::{Change, Heard, Level, Piece, Promise, Wave};
 use std::alloc::Global;
 use std::process::Abort;
 use std::test::Fail;
+use worked_inputs::{Inputs, bare, design_of, sampled, spread};
 
-// What the flip-flops sample at, from first on with a period, and have before.
-fn settings_of(horizon: u32, clock: Option<(u32, u32)>) -> Settings {
-    Settings {
-        horizon,
-        clock,
-        init: Level::Zero,
-    }
-}
-
-// The cluster with this number, where the nets are spread over so many.
-fn opened(
-    rt: &impl Abort,
-    alloc: Global,
-    design: &Design,
-    clusters: u32,
-    cluster: u32,
-) -> Result<Cluster, Fail> {
-    let nets = design.netlist().len();
-    assert!(rt; nets <= 65_535);
-    let clustering = Clustering::spread(alloc, nets as u32, clusters)?;
-    assert!(rt; clustering.nets() == nets);
-    assert!(rt; cluster < clustering.clusters());
-    Ok(Cluster::open(alloc, design, &clustering, cluster)?)
-}
-
-// A cluster of a design of these texts.
+// The cluster with this number, where the nets of a design of these texts are spread over so many.
 fn cluster_of(
     rt: &impl Abort,
     alloc: Global,
     texts: Inputs<'_>,
-    times: (u32, Option<(u32, u32)>),
+    settings: Settings,
     clusters: u32,
     cluster: u32,
 ) -> Result<Cluster, Fail> {
-    let design = design_of(rt, alloc, texts, settings_of(times.0, times.1))?;
-    opened(rt, alloc, &design, clusters, cluster)
+    let design = design_of(alloc, texts, settings)?;
+    let clustering = spread(alloc, &design, clusters)?;
+    assert!(rt; cluster < clustering.clusters());
+    Ok(Cluster::open(alloc, &design, &clustering, cluster)?)
 }
 
-// Of a flip-flop q that samples its data d at ticks 2, 6 and 10, and d, the inverse of q.
-fn toggle(rt: &impl Abort, alloc: Global, clusters: u32, cluster: u32) -> Result<Cluster, Fail> {
-    let texts = bare(b"q = DFF(d)\nd = NOT(q)\n");
-    cluster_of(rt, alloc, texts, (12, Some((2, 4))), clusters, cluster)
-}
-
-// A piece with one change.
-fn piece_of(alloc: Global, net: u32, to: u32, tick: u32, level: Level) -> Result<Piece, Fail> {
-    let changes = vec![in alloc; Change { tick, level }]?;
-    Ok(Piece::new(net, 0, to, changes)?)
-}
-
-// A piece of q with two changes.
-fn two_changes(alloc: Global) -> Result<Piece, Fail> {
-    let first = Change {
-        tick: 0,
-        level: Level::Zero,
-    };
-    let second = Change {
-        tick: 3,
-        level: Level::One,
-    };
-    Ok(Piece::new(0, 0, 7, vec![in alloc; first, second]?)?)
+/// Of the toggle, whose flip-flop samples at ticks 2, 6 and 10.
+pub fn toggle(
+    rt: &impl Abort,
+    alloc: Global,
+    clusters: u32,
+    cluster: u32,
+) -> Result<Cluster, Fail> {
+    cluster_of(rt, alloc, bare(TOGGLE), sampled(12), clusters, cluster)
 }
 
 // What a step of a net answers.
@@ -92,18 +55,14 @@ fn trimmed(cluster: &mut Cluster, net: u32) -> (Option<u32>, Option<u32>) {
     (cluster.base(net), cluster.in_clock(net))
 }
 
-// The part of a step: its span and its changes.
-fn is_piece(rt: &impl Abort, part: Option<Piece>, from: u32, to: u32, changes: &[Change]) {
+/// The part of a step: its span and its changes.
+pub fn is_piece(rt: &impl Abort, part: Option<Piece>, from: u32, to: u32, changes: &[Change]) {
     let Some(piece) = part else {
         panic!(rt; "no part");
     };
     assert_eq!(rt; piece.from(), from);
     assert_eq!(rt; piece.to(), to);
     assert!(rt; piece.changes() == changes);
-}
-
-fn at(tick: u32, level: Level) -> Change {
-    Change { tick, level }
 }
 
 fn delivers(
@@ -144,7 +103,7 @@ fn step_of_a_slow_gate(rt: HostRuntime) -> Result<(), Fail> {
         stimuli: b"tick,net,value\n0,a,0\n5,a,1\n",
         clocks: b"",
     };
-    let mut all = cluster_of(&rt, rt.alloc(), texts, (10, None), 1, 0)?;
+    let mut all = cluster_of(&rt, rt.alloc(), texts, sampled(10), 1, 0)?;
     let part = stepped(&mut all, 1)?;
     is_piece(&rt, part, 0, 10, &[]);
     Ok(())
@@ -154,7 +113,11 @@ fn step_of_a_slow_gate(rt: HostRuntime) -> Result<(), Fail> {
 #[test]
 fn step_of_a_flip_flop(rt: HostRuntime) -> Result<(), Fail> {
     let texts = bare(b"INPUT(a)\nq = DFF(a)\n");
-    let mut all = cluster_of(&rt, rt.alloc(), texts, (12, Some((0, 5))), 1, 0)?;
+    let settings = Settings {
+        clock: Some((0, 5)),
+        ..sampled(12)
+    };
+    let mut all = cluster_of(&rt, rt.alloc(), texts, settings, 1, 0)?;
     let part = stepped(&mut all, 1)?;
     is_piece(&rt, part, 0, 1, &[at(0, Level::Zero)]);
     Ok(())
@@ -169,7 +132,7 @@ fn step_by_a_clock_row(rt: HostRuntime) -> Result<(), Fail> {
         stimuli: b"tick,net,value\n0,a,0\n3,a,1\n",
         clocks: b"net,first,period\nq,4,3\n",
     };
-    let mut last = cluster_of(&rt, rt.alloc(), texts, (12, Some((2, 4))), 3, 2)?;
+    let mut last = cluster_of(&rt, rt.alloc(), texts, sampled(12), 3, 2)?;
     let part = stepped(&mut last, 2)?;
     is_piece(&rt, part, 0, 5, &[at(0, Level::Zero)]);
     Ok(())
@@ -188,7 +151,7 @@ fn loop_steps(rt: &impl Abort, all: &mut Cluster) -> Result<(), Fail> {
 #[test]
 fn steps_of_a_loop(rt: HostRuntime) -> Result<(), Fail> {
     let texts = bare(b"n = NOT(n)\n");
-    let mut all = cluster_of(&rt, rt.alloc(), texts, (4, None), 1, 0)?;
+    let mut all = cluster_of(&rt, rt.alloc(), texts, sampled(4), 1, 0)?;
     loop_steps(&rt, &mut all)
 }
 
@@ -246,9 +209,9 @@ fn are_toggling(rt: &impl Abort, waves: &[Wave]) {
         at(7, Level::Zero),
         at(11, Level::One),
     ];
-    is_wave(rt, &waves[0], 0, &q);
+    is_wave(rt, &waves[0], Q, &q);
     let d = [at(1, Level::One), at(4, Level::Zero), at(8, Level::One)];
-    is_wave(rt, &waves[1], 1, &d);
+    is_wave(rt, &waves[1], D, &d);
 }
 
 #[test]
@@ -270,15 +233,15 @@ fn loop_of_two_clusters(rt: HostRuntime) -> Result<(), Fail> {
 #[test]
 fn turns_of_a_loop(rt: HostRuntime) -> Result<(), Fail> {
     let texts = bare(b"n = NOT(n)\n");
-    let mut all = cluster_of(&rt, rt.alloc(), texts, (100, None), 1, 0)?;
+    let mut all = cluster_of(&rt, rt.alloc(), texts, sampled(100), 1, 0)?;
     goes_to(&rt, &mut all, (Some(1), None), true)
 }
 
 fn wrong_steps(rt: &impl Abort, alloc: Global, second: &mut Cluster) -> Result<(), Fail> {
-    let unknown = piece_of(alloc, 0, 3, 0, Level::X)?;
+    let unknown = pulse(alloc, Q, 0, 3, at(0, Level::X))?;
     let clash = DeliverFault::Clash { tick: 0 };
     delivers(rt, second, &unknown, Err(clash));
-    let wrong = piece_of(alloc, 0, 3, 0, Level::One)?;
+    let wrong = pulse(alloc, Q, 0, 3, at(0, Level::One))?;
     delivers(rt, second, &wrong, Ok(3));
     is_piece(rt, stepped(second, 1)?, 0, 4, &[at(1, Level::Zero)]);
     Ok(())
@@ -292,11 +255,11 @@ fn step_by_what_was_delivered(rt: HostRuntime) -> Result<(), Fail> {
 }
 
 fn trim_steps(rt: &impl Abort, alloc: Global, second: &mut Cluster) -> Result<(), Fail> {
-    let first = piece_of(alloc, 0, 3, 0, Level::Zero)?;
+    let first = pulse(alloc, Q, 0, 3, at(0, Level::Zero))?;
     delivers(rt, second, &first, Ok(3));
     is_piece(rt, stepped(second, 1)?, 0, 4, &[at(1, Level::One)]);
     assert_eq!(rt; trimmed(second, 0), (Some(3), Some(3)));
-    let next = two_changes(alloc)?;
+    let next = pair(alloc, Q, 7, at(0, Level::Zero), at(3, Level::One))?;
     delivers(rt, second, &next, Ok(7));
     is_piece(rt, stepped(second, 1)?, 4, 8, &[at(4, Level::Zero)]);
     Ok(())
@@ -317,7 +280,7 @@ fn in_a_row(rt: &impl Abort, alloc: Global, cluster: u32) -> Result<Cluster, Fai
         stimuli: b"tick,net,value\n0,a,0\n",
         clocks: b"",
     };
-    cluster_of(rt, alloc, texts, (12, Some((2, 4))), 3, cluster)
+    cluster_of(rt, alloc, texts, sampled(12), 3, cluster)
 }
 
 // Up to the flip-flop's second step, which has no change.

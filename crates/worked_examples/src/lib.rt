@@ -6,11 +6,11 @@ mod clusters;
 #[cfg(test)]
 mod designs;
 #[cfg(test)]
-mod inputs;
-#[cfg(test)]
 mod netlists;
 #[cfg(test)]
 mod texts;
+#[cfg(test)]
+mod toggle;
 #[cfg(test)]
 mod trims;
 #[cfg(test)]

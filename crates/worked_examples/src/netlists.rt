@@ -2,9 +2,10 @@
 
 ghost use Rattle.std.specs.Prelude.{◌<◌, ◌≤◌, length};
 
-use cmb_bench::{Cell, Driver, Kind, MAX_TEXT, Netlist, Operands, cell_named, read_bench};
+use cmb_bench::{Cell, Driver, Kind, MAX_TEXT, Netlist, cell_named, read_bench};
 use std::alloc::{AllocError, Global};
 use std::process::Abort;
+use worked_inputs::{has_gate, has_input, has_name};
 
 // The number and the line of the fault, or 0 and 0 where the text has a netlist.
 fn outcome(alloc: Global, text: &[u8]) -> (u32, u32)
@@ -23,28 +24,6 @@ fn netlist_of(rt: &impl Abort, alloc: Global, text: &[u8]) -> Netlist
         Ok(netlist) => netlist,
         Err(_) => panic!(rt; "a fault was found"),
     }
-}
-
-fn is_gate(driver: &Driver, kind: Kind, operands: &[u32]) -> bool {
-    match driver {
-        Driver::Gate(found, pins) => *found == kind && Operands::as_slice(pins) == operands,
-        _ => false,
-    }
-}
-
-// Whether the net of this number has this name.
-fn has_name(netlist: &Netlist, net: usize, name: &[u8]) -> bool {
-    net < netlist.len() && netlist.name(net) == name
-}
-
-// Whether the net of this number is driven by a gate of this kind over these nets.
-fn has_gate(netlist: &Netlist, net: usize, kind: Kind, operands: &[u32]) -> bool {
-    net < netlist.len() && is_gate(netlist.driver(net), kind, operands)
-}
-
-// Whether the net of this number is an input.
-fn has_input(netlist: &Netlist, net: usize) -> bool {
-    net < netlist.len() && matches!(netlist.driver(net), Driver::Input)
 }
 
 #[test]
@@ -194,11 +173,11 @@ fn damaged_netlist(rt: HostRuntime) {
     }
 }
 
-// So many lines `INPUT(nK)`, with K from 0.
-fn inputs(alloc: Global, lines: usize) -> Result<String, AllocError> {
+/// So many inputs, with names by number.
+pub fn inputs(alloc: Global, count: usize) -> Result<String, AllocError> {
     let mut text = String::new(alloc);
-    for k in 0..lines {
-        text.push_str(&format!(in alloc; "INPUT(n{k})\n")?)?;
+    for net in 0..count {
+        write!(text, "INPUT(n{net})\n")?;
     }
     Ok(text)
 }

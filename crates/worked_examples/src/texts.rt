@@ -2,35 +2,20 @@
 
 ghost use Rattle.std.specs.Prelude.{◌≡◌, ◌<◌, ◌≤◌, ◌^◌};
 
-use crate::inputs::{bare, design_of};
-use cmb_design::{Design, Settings};
+use crate::netlists::inputs;
+use crate::toggle::{D, Q, TOGGLE, at};
+use cmb_design::Design;
 use cmb_vcd::sink::{Limited, Room, Sink, ToWriter, write_whole};
 use cmb_vcd::{CollectFault, Collector, VcdWriter, vcd_text};
 use cmb_wave::{Change, Level, Piece, Wave};
 use std::alloc::Global;
 use std::process::Abort;
 use std::test::Fail;
+use worked_inputs::{bare, design_of, sampled, text_of};
 
-const Q: u32 = 0;
-
-const D: u32 = 1;
-
-const TOGGLE: &[u8] = b"q = DFF(d) d = NOT(q)";
-
-// A design without rows, whose flip-flops sample at ticks 2, 6, 10 and so on.
-fn sampled(rt: &impl Abort, alloc: Global, netlist: &[u8], horizon: u32) -> Result<Design, Fail> {
-    let settings = Settings {
-        horizon,
-        clock: Some((2, 4)),
-        init: Level::Zero,
-    };
-    design_of(rt, alloc, bare(netlist), settings)
-}
-
-fn at(tick: u32, level: Level) -> Change
-    ensures { result ≡ record { tick = tick; level = level } }
-{
-    Change { tick, level }
+// The design of a netlist without rows, whose flip-flops sample at ticks 2, 6, 10 and so on.
+fn design_up_to(alloc: Global, netlist: &[u8], horizon: u32) -> Result<Design, Fail> {
+    design_of(alloc, bare(netlist), sampled(horizon))
 }
 
 fn take(rt: &impl Abort, collector: &mut Collector, piece: &Piece) -> Result<u32, CollectFault> {
@@ -102,8 +87,8 @@ fn toggle_answers(rt: &impl Abort, alloc: Global, toggle: &mut Collector) -> Res
     )
 }
 
-fn opened(rt: &impl Abort, alloc: Global, bench: &[u8], horizon: u32) -> Result<Collector, Fail> {
-    let design = sampled(rt, alloc, bench, horizon)?;
+fn opened(alloc: Global) -> Result<Collector, Fail> {
+    let design = design_up_to(alloc, TOGGLE, 12)?;
     Ok(Collector::open(alloc, &design)?)
 }
 
@@ -114,7 +99,7 @@ fn is_begun(rt: &impl Abort, toggle: &Collector) {
 
 #[test]
 fn collector(rt: HostRuntime) -> Result<(), Fail> {
-    let mut toggle = opened(&rt, rt.alloc(), TOGGLE, 12)?;
+    let mut toggle = opened(rt.alloc())?;
     toggle_answers(&rt, rt.alloc(), &mut toggle)?;
     is_begun(&rt, &toggle);
     Ok(())
@@ -145,7 +130,7 @@ fn adopts_the_later(rt: &impl Abort, alloc: Global, toggle: &mut Collector) -> R
 
 #[test]
 fn waves_are_adopted(rt: HostRuntime) -> Result<(), Fail> {
-    let mut toggle = opened(&rt, rt.alloc(), TOGGLE, 12)?;
+    let mut toggle = opened(rt.alloc())?;
     adopts_the_later(&rt, rt.alloc(), &mut toggle)
 }
 
@@ -158,40 +143,22 @@ fn numbers(rt: HostRuntime) {
     assert_eq!(rt; CollectFault::Memory.number(), 70);
 }
 
-const INVERTED: &[u8] = b"$version cmbsim 1 $end
-$timescale 1 ns $end
-$scope module top $end
-$var wire 1 ! a $end
-$var wire 1 \" y $end
-$upscope $end
-$enddefinitions $end
-#0
-$dumpvars
-1!
-x\"
-$end
-#10
-";
-
 fn tells_inverted(rt: &impl Abort, alloc: Global, design: &Design) -> Result<(), Fail> {
     let mut inverter = Collector::open(alloc, design)?;
     let one = vec![in alloc; at(0, Level::One)]?;
     answers(rt, &mut inverter, 0, 0, 10, one, Ok(10))?;
     answers(rt, &mut inverter, 1, 0, 10, Vec::new(alloc), Ok(10))?;
     let text = whole_text(rt, alloc, design, &inverter)?;
-    assert!(rt; text.as_slice() == INVERTED);
+    let wanted = text_of(alloc, "a y", "#0 1! x\" #10")?;
+    assert!(rt; text.as_slice() == wanted.as_bytes());
     Ok(())
 }
 
 // The text is that of the waves that were collected, whatever the design says.
-fn tells_its_own(rt: &impl Abort, alloc: Global) -> Result<(), Fail> {
-    let design = sampled(rt, alloc, b"INPUT(a) OUTPUT(y) y = NOT(a)", 10)?;
-    tells_inverted(rt, alloc, &design)
-}
-
 #[test]
 fn collector_tells_its_own(rt: HostRuntime) -> Result<(), Fail> {
-    tells_its_own(&rt, rt.alloc())
+    let design = design_up_to(rt.alloc(), b"INPUT(a) OUTPUT(y) y = NOT(a)", 10)?;
+    tells_inverted(&rt, rt.alloc(), &design)
 }
 
 const TOGGLE_HEADER: &[u8] = b"$version cmbsim 1 $end
@@ -287,14 +254,10 @@ fn tells_parts(rt: &impl Abort, alloc: Global, design: &Design) -> Result<(), Fa
     tells_last_parts(rt, alloc, design, &mut writer, &mut toggle)
 }
 
-fn parts_of_toggle(rt: &impl Abort, alloc: Global) -> Result<(), Fail> {
-    let design = sampled(rt, alloc, TOGGLE, 12)?;
-    tells_parts(rt, alloc, &design)
-}
-
 #[test]
 fn text_in_parts(rt: HostRuntime) -> Result<(), Fail> {
-    parts_of_toggle(&rt, rt.alloc())
+    let design = design_up_to(rt.alloc(), TOGGLE, 12)?;
+    tells_parts(&rt, rt.alloc(), &design)
 }
 
 // Lets what lies below a tick be forgotten, where all is known up to it and no wave has forgotten more.
@@ -379,14 +342,10 @@ fn tells_periods(rt: &impl Abort, alloc: Global, design: &Design) -> Result<(), 
     Ok(())
 }
 
-fn periods_of_toggle(rt: &impl Abort, alloc: Global) -> Result<(), Fail> {
-    let design = sampled(rt, alloc, TOGGLE, 4010)?;
-    tells_periods(rt, alloc, &design)
-}
-
 #[test]
 fn what_is_written_is_forgotten(rt: HostRuntime) -> Result<(), Fail> {
-    periods_of_toggle(&rt, rt.alloc())
+    let design = design_up_to(rt.alloc(), TOGGLE, 4010)?;
+    tells_periods(&rt, rt.alloc(), &design)
 }
 
 fn collected_toggle(rt: &impl Abort, alloc: Global, design: &Design) -> Result<Collector, Fail> {
@@ -407,14 +366,10 @@ fn tells_whole(rt: &impl Abort, alloc: Global, design: &Design) -> Result<(), Fa
     Ok(())
 }
 
-fn whole_toggle(rt: &impl Abort, alloc: Global) -> Result<(), Fail> {
-    let design = sampled(rt, alloc, TOGGLE, 12)?;
-    tells_whole(rt, alloc, &design)
-}
-
 #[test]
 fn text_of_toggle(rt: HostRuntime) -> Result<(), Fail> {
-    whole_toggle(&rt, rt.alloc())
+    let design = design_up_to(rt.alloc(), TOGGLE, 12)?;
+    tells_whole(&rt, rt.alloc(), &design)
 }
 
 // Each net is collected in one piece without changes.
@@ -436,10 +391,6 @@ fn unknown_text(rt: &impl Abort, alloc: Global, design: &Design) -> Result<Vec<u
     whole_text(rt, alloc, design, &collector)
 }
 
-const SEVENTEEN: &[u8] =
-    b"INPUT(a1) INPUT(a2) INPUT(a3) INPUT(a4) INPUT(a5) INPUT(a6) INPUT(a7) INPUT(a8) INPUT(a9)
-INPUT(a10) INPUT(a11) INPUT(a12) INPUT(a13) INPUT(a14) INPUT(a15) INPUT(a16) INPUT(a17)";
-
 const SEVENTEEN_LEVELS: &[u8] =
     b"#0\n$dumpvars\nx!\nx\"\nx#\nx$\nx%\nx&\nx'\nx(\nx)\nx*\nx+\nx,\nx-\nx.\nx/\nx0\nx1\n$end\n#1000000\n";
 
@@ -458,34 +409,24 @@ fn ends_with(
 }
 
 // A table with a place for each net and tick would be too large.
-fn seventeen_inputs(rt: &impl Abort, alloc: Global) -> Result<(), Fail> {
-    let design = sampled(rt, alloc, SEVENTEEN, 1_000_000)?;
-    ends_with(rt, alloc, &design, 562, SEVENTEEN_LEVELS)
-}
-
 #[test]
 fn too_large(rt: HostRuntime) -> Result<(), Fail> {
-    seventeen_inputs(&rt, rt.alloc())
-}
-
-// So many inputs, with names by number.
-fn inputs(alloc: Global, count: u32) -> Result<String, Fail> {
-    let mut bench = String::new(alloc);
-    for net in 0..count {
-        write!(bench, "INPUT(n{net})\n")?;
-    }
-    Ok(bench)
-}
-
-fn most_inputs(rt: &impl Abort, alloc: Global) -> Result<(), Fail> {
-    let bench = inputs(alloc, 65_535)?;
-    let design = sampled(rt, alloc, bench.as_bytes(), 1)?;
-    ends_with(rt, alloc, &design, 2_133_620, b"x0G'\nx1G'\n$end\n#1\n")
+    let bench = inputs(rt.alloc(), 17)?;
+    let design = design_up_to(rt.alloc(), bench.as_bytes(), 1_000_000)?;
+    ends_with(&rt, rt.alloc(), &design, 561, SEVENTEEN_LEVELS)
 }
 
 #[test]
 fn largest_netlist(rt: HostRuntime) -> Result<(), Fail> {
-    most_inputs(&rt, rt.alloc())
+    let bench = inputs(rt.alloc(), 65_535)?;
+    let design = design_up_to(rt.alloc(), bench.as_bytes(), 1)?;
+    ends_with(
+        &rt,
+        rt.alloc(),
+        &design,
+        2_133_620,
+        b"x0G'\nx1G'\n$end\n#1\n",
+    )
 }
 
 #[test]

@@ -10,11 +10,11 @@ ghost use Rattle.cmb_core.specs.Opened.{IsOwnNet};
 ghost use Rattle.cmb_core.specs.Step.{wave_at};
 ghost use Rattle.cmb_core.specs.Trims.{IsTrimOf};
 
-use crate::inputs::{bare, design_of};
+use crate::clusters::{is_piece, toggle};
+use crate::toggle::{D, Q, at, pulse};
 use cmb_core::laws::trims_change_no_answer;
-use cmb_core::{Cluster, Clustering, DeliverFault, Stranger};
-use cmb_design::{Design, Settings};
-use cmb_wave::{Change, Heard, Level, Piece, Promise};
+use cmb_core::{Cluster, DeliverFault, Stranger};
+use cmb_wave::{Heard, Level, Piece, Promise};
 use std::alloc::{AllocError, Global};
 use std::process::Abort;
 use std::test::Fail;
@@ -61,62 +61,25 @@ fn trim_and_hear(cluster: &mut Cluster, promise: Promise) -> Result<Heard, Stran
     cluster.hear(promise)
 }
 
-// The inverter d of a flip-flop q, in a cluster of its own.
-fn inverter(rt: &impl Abort, alloc: Global) -> Result<Cluster, Fail> {
-    let settings = Settings {
-        horizon: 12,
-        clock: Some((2, 4)),
-        init: Level::Zero,
-    };
-    let design = design_of(rt, alloc, bare(b"q = DFF(d)\nd = NOT(q)\n"), settings)?;
-    let clustering = Clustering::spread(alloc, 2, 2)?;
-    assert!(rt; clustering.nets() == design.netlist().len());
-    assert!(rt; clustering.clusters() == 2);
-    Ok(Cluster::open(alloc, &design, &clustering, 1)?)
-}
-
-// A piece of q with one change.
-fn piece_of(alloc: Global, from: u32, to: u32, level: Level) -> Result<Piece, Fail> {
-    let changes = vec![in alloc; Change { tick: from, level }]?;
-    Ok(Piece::new(0, from, to, changes)?)
-}
-
-// What d's new part spans, and its only change.
-fn is_part(rt: &impl Abort, part: Option<Piece>, span: (u32, u32), change: Change) {
-    let Some(piece) = part else {
-        panic!(rt; "no part");
-    };
-    assert_eq!(rt; (piece.from(), piece.to()), span);
-    assert!(rt; piece.changes() == [change].as_slice());
-}
-
 fn trimmed_steps(rt: &impl Abort, alloc: Global, cluster: &mut Cluster) -> Result<(), Fail> {
-    let first = piece_of(alloc, 0, 3, Level::Zero)?;
+    let first = pulse(alloc, Q, 0, 3, at(0, Level::Zero))?;
     assert_eq!(rt; trim_and_deliver(cluster, &first), Ok(3));
-    let rise = Change {
-        tick: 1,
-        level: Level::One,
-    };
-    is_part(rt, trim_and_step(cluster, 1)?, (0, 4), rise);
-    let second = piece_of(alloc, 3, 7, Level::One)?;
+    is_piece(rt, trim_and_step(cluster, D)?, 0, 4, &[at(1, Level::One)]);
+    let second = pulse(alloc, Q, 3, 7, at(3, Level::One))?;
     assert_eq!(rt; trim_and_deliver(cluster, &second), Ok(7));
-    assert_eq!(rt; cluster.base(0), Some(3));
-    let fall = Change {
-        tick: 4,
-        level: Level::Zero,
-    };
-    is_part(rt, trim_and_step(cluster, 1)?, (4, 8), fall);
+    assert_eq!(rt; cluster.base(Q), Some(3));
+    is_piece(rt, trim_and_step(cluster, D)?, 4, 8, &[at(4, Level::Zero)]);
     Ok(())
 }
 
 fn trimmed_answers(rt: &impl Abort, cluster: &mut Cluster) {
     let early = Promise {
-        net: 0,
+        net: Q,
         count: 2,
         upto: 7,
     };
     let late = Promise {
-        net: 0,
+        net: Q,
         count: 2,
         upto: 9,
     };
@@ -124,10 +87,10 @@ fn trimmed_answers(rt: &impl Abort, cluster: &mut Cluster) {
     assert_eq!(rt; trim_and_hear(cluster, late), Ok(Heard::Extended));
 }
 
-// A cluster that is trimmed before each call answers as the same cluster that never is.
+// The cluster of the inverter d is trimmed before each call, and answers as the same cluster that never is.
 #[test]
 fn trims_between_calls(rt: HostRuntime) -> Result<(), Fail> {
-    let mut cluster = inverter(&rt, rt.alloc())?;
+    let mut cluster = toggle(&rt, rt.alloc(), 2, 1)?;
     trimmed_steps(&rt, rt.alloc(), &mut cluster)?;
     trimmed_answers(&rt, &mut cluster);
     Ok(())

@@ -1,32 +1,11 @@
 //! The worked examples of pieces, waves and promises. Their values follow by hand from one circuit:
 //! a flip-flop q that samples its data d at ticks 2, 6, 10, and d the inverse of q, each with delay 1.
 
-ghost use Rattle.std.specs.Prelude.{◌≡◌};
-
+use crate::toggle::{D, Q, at, pair, pulse};
 use cmb_wave::{Change, Heard, Level, Piece, PieceFault, Promise, Wave, WaveFault};
 use std::alloc::Global;
 use std::process::Abort;
 use std::test::Fail;
-
-const Q: u32 = 0;
-
-const D: u32 = 1;
-
-fn at(tick: u32, level: Level) -> Change
-    ensures { result ≡ record { tick = tick; level = level } }
-{
-    Change { tick, level }
-}
-
-// A piece with one change.
-fn pulse(alloc: Global, net: u32, from: u32, to: u32, change: Change) -> Result<Piece, Fail> {
-    Ok(Piece::new(net, from, to, vec![in alloc; change]?)?)
-}
-
-// A piece with two changes.
-fn pair(alloc: Global, net: u32, to: u32, first: Change, second: Change) -> Result<Piece, Fail> {
-    Ok(Piece::new(net, 0, to, vec![in alloc; first, second]?)?)
-}
 
 fn level_at(rt: &impl Abort, wave: &Wave, tick: u32) -> Level {
     assert!(rt; wave.base() <= tick);

@@ -4,50 +4,31 @@ ghost use Rattle.std.specs.Prelude.{◌≡◌, IfOk, length};
 ghost use Rattle.cmb_design.specs.Exact.{nets_of};
 ghost use Rattle.cmb_core.specs.Opened.{IsClusterOf};
 
-use crate::inputs::{Inputs, design_of};
+use crate::toggle::{Q, TOGGLE, at, pulse};
 use cmb_core::{Cluster, Clustering, DeliverFault};
-use cmb_design::{Design, Settings};
-use cmb_wave::{Change, Heard, Level, Piece};
+use cmb_design::Design;
+use cmb_wave::{Heard, Level, Piece};
 use cmb_world::{Event, PlayFault, Reply, World};
 use std::alloc::Global;
 use std::process::Abort;
 use std::test::Fail;
-
-// A design up to tick 12 without delay rows, whose flip-flops sample at ticks 2, 6, 10 and so on, and hold 0 before.
-fn sampled(rt: &impl Abort, alloc: Global, netlist: &[u8], stimuli: &[u8]) -> Result<Design, Fail> {
-    let settings = Settings {
-        horizon: 12,
-        clock: Some((2, 4)),
-        init: Level::Zero,
-    };
-    let inputs = Inputs {
-        netlist,
-        delays: b"",
-        stimuli,
-        clocks: b"",
-    };
-    design_of(rt, alloc, inputs, settings)
-}
+use worked_inputs::{bare, design_of, sampled, spread, stimulated};
 
 // A world of this design whose nets are spread over so many clusters.
-fn opened(rt: &impl Abort, alloc: Global, design: &Design, clusters: u32) -> Result<World, Fail> {
-    let nets = design.netlist().len();
-    assert!(rt; nets <= 65_535);
-    let clustering = Clustering::spread(alloc, nets as u32, clusters)?;
-    assert!(rt; clustering.nets() == nets);
+fn opened(alloc: Global, design: &Design, clusters: u32) -> Result<World, Fail> {
+    let clustering = spread(alloc, design, clusters)?;
     Ok(World::open(alloc, design, &clustering)?)
 }
 
-// A flip-flop q that samples its data d, and d, the inverse of q.
-fn toggle(rt: &impl Abort, alloc: Global, clusters: u32) -> Result<World, Fail> {
-    let design = sampled(rt, alloc, b"q = DFF(d) d = NOT(q)", b"")?;
-    opened(rt, alloc, &design, clusters)
+fn toggle(alloc: Global, clusters: u32) -> Result<World, Fail> {
+    let design = design_of(alloc, bare(TOGGLE), sampled(12))?;
+    opened(alloc, &design, clusters)
 }
 
 // A reply as a test says it: of a piece its net, its span, its number of changes and the first of them.
 #[derive(Clone, Copy, PartialEq, Eq)]
 enum Told {
-    Piece(u32, u32, u32, usize, Option<Change>),
+    Piece(u32, u32, u32, usize, Option<(u32, Level)>),
     Post(usize),
     Clock(u32),
     Promise(usize, u32, u32),
@@ -61,7 +42,7 @@ fn told_piece(piece: &Piece) -> Told {
     let first = if changes.is_empty() {
         None
     } else {
-        Some(changes[0])
+        Some((changes[0].tick, changes[0].level))
     };
     Told::Piece(piece.net(), piece.from(), piece.to(), changes.len(), first)
 }
@@ -120,30 +101,12 @@ const TWO_CLUSTERS: [Event; 10] = [
 ];
 
 const WANTED_OF_TWO_CLUSTERS: [Told; 10] = [
-    Told::Piece(
-        0,
-        0,
-        3,
-        1,
-        Some(Change {
-            tick: 0,
-            level: Level::Zero,
-        }),
-    ),
+    Told::Piece(0, 0, 3, 1, Some((0, Level::Zero))),
     Told::Promise(0, 1, 3),
     Told::Look(Heard::Ahead),
     Told::Post(0),
     Told::Clock(3),
-    Told::Piece(
-        1,
-        0,
-        4,
-        1,
-        Some(Change {
-            tick: 1,
-            level: Level::One,
-        }),
-    ),
+    Told::Piece(1, 0, 4, 1, Some((1, Level::One))),
     Told::Fault(PlayFault::Beyond),
     Told::Fault(PlayFault::NoSuch),
     Told::Fault(PlayFault::Stranger),
@@ -152,7 +115,7 @@ const WANTED_OF_TWO_CLUSTERS: [Told; 10] = [
 
 #[test]
 fn two_clusters(rt: HostRuntime) -> Result<(), Fail> {
-    let mut world = toggle(&rt, rt.alloc(), 2)?;
+    let mut world = toggle(rt.alloc(), 2)?;
     assert!(&rt; replies_with(&mut world, &TWO_CLUSTERS, &WANTED_OF_TWO_CLUSTERS));
     assert!(&rt; world.promised(0).is_some());
     assert!(&rt; world.promised(1).is_none());
@@ -176,28 +139,10 @@ const PROMISE_OVERTAKES: [Event; 11] = [
 ];
 
 const WANTED_OF_PROMISE_OVERTAKES: [Told; 11] = [
-    Told::Piece(
-        1,
-        0,
-        3,
-        1,
-        Some(Change {
-            tick: 0,
-            level: Level::Zero,
-        }),
-    ),
+    Told::Piece(1, 0, 3, 1, Some((0, Level::Zero))),
     Told::Post(0),
     Told::Clock(3),
-    Told::Piece(
-        0,
-        0,
-        12,
-        1,
-        Some(Change {
-            tick: 0,
-            level: Level::Zero,
-        }),
-    ),
+    Told::Piece(0, 0, 12, 1, Some((0, Level::Zero))),
     Told::Post(1),
     Told::Clock(12),
     Told::Piece(1, 3, 12, 0, None),
@@ -208,15 +153,18 @@ const WANTED_OF_PROMISE_OVERTAKES: [Told; 11] = [
 ];
 
 // A flip-flop q that samples the input a, which is 0, and y, which follows it, each in a cluster of its own.
-fn followed(rt: &impl Abort, alloc: Global) -> Result<World, Fail> {
-    let bench = b"INPUT(a) q = DFF(a) y = BUFF(q)";
-    let design = sampled(rt, alloc, bench, b"tick,net,value\n0,a,0\n")?;
-    opened(rt, alloc, &design, 3)
+fn followed(alloc: Global) -> Result<World, Fail> {
+    let texts = stimulated(
+        b"INPUT(a) q = DFF(a) y = BUFF(q)",
+        b"tick,net,value\n0,a,0\n",
+    );
+    let design = design_of(alloc, texts, sampled(12))?;
+    opened(alloc, &design, 3)
 }
 
 #[test]
 fn promise_overtakes(rt: HostRuntime) -> Result<(), Fail> {
-    let mut world = followed(&rt, rt.alloc())?;
+    let mut world = followed(rt.alloc())?;
     assert!(&rt; replies_with(&mut world, &PROMISE_OVERTAKES, &WANTED_OF_PROMISE_OVERTAKES));
     assert!(&rt; world.in_clock(2, 1) == Some(12));
     assert!(&rt; world.out_clock(2) == Some(0));
@@ -269,7 +217,7 @@ fn together(q: u32, d: u32, done: bool) -> After {
 
 #[test]
 fn rounds_of_toggle(rt: HostRuntime) -> Result<(), Fail> {
-    let mut world = toggle(&rt, rt.alloc(), 2)?;
+    let mut world = toggle(rt.alloc(), 2)?;
     for (q, d) in [(3u32, 1u32), (3, 4), (7, 4), (7, 8), (11, 8), (11, 12)] {
         assert!(&rt; after_round(&mut world)? == apart(q, d, false));
     }
@@ -279,7 +227,7 @@ fn rounds_of_toggle(rt: HostRuntime) -> Result<(), Fail> {
 
 #[test]
 fn rounds_of_one_cluster(rt: HostRuntime) -> Result<(), Fail> {
-    let mut world = toggle(&rt, rt.alloc(), 1)?;
+    let mut world = toggle(rt.alloc(), 1)?;
     for (q, d) in [(3u32, 4u32), (7, 8), (11, 12)] {
         assert!(&rt; after_round(&mut world)? == together(q, d, false));
     }
@@ -299,29 +247,9 @@ fn misled(
     ensures { IfOk result (λ s. IsClusterOf design.now clustering.now 1 s) }
 {
     let mut cluster = Cluster::open(alloc, design, clustering, 1)?;
-    let unknown = Piece::new(
-        0,
-        0,
-        3,
-        vec![in alloc;
-            Change {
-                tick: 0,
-                level: Level::X
-            },
-        ]?,
-    )?;
+    let unknown = pulse(alloc, Q, 0, 3, at(0, Level::X))?;
     assert!(rt; cluster.deliver(&unknown) == Err(DeliverFault::Clash { tick: 0 }));
-    let wrong = Piece::new(
-        0,
-        0,
-        3,
-        vec![in alloc;
-            Change {
-                tick: 0,
-                level: Level::One
-            },
-        ]?,
-    )?;
+    let wrong = pulse(alloc, Q, 0, 3, at(0, Level::One))?;
     assert!(rt; cluster.deliver(&wrong) == Ok(3));
     Ok(cluster)
 }
@@ -352,57 +280,18 @@ const WORLD_OF: [Event; 4] = [
 ];
 
 const WANTED_OF_WORLD_OF: [Told; 4] = [
-    Told::Piece(
-        1,
-        0,
-        4,
-        1,
-        Some(Change {
-            tick: 1,
-            level: Level::Zero,
-        }),
-    ),
+    Told::Piece(1, 0, 4, 1, Some((1, Level::Zero))),
     Told::Post(0),
     Told::Clock(4),
-    Told::Piece(
-        0,
-        0,
-        7,
-        1,
-        Some(Change {
-            tick: 0,
-            level: Level::Zero,
-        }),
-    ),
+    Told::Piece(0, 0, 7, 1, Some((0, Level::Zero))),
 ];
 
 fn misled_world(rt: &impl Abort, alloc: Global) -> Result<World, Fail> {
-    let design = sampled(rt, alloc, b"q = DFF(d) d = NOT(q)", b"")?;
-    misled_in(rt, alloc, &design)
-}
-
-// The same of this design.
-fn misled_in(rt: &impl Abort, alloc: Global, design: &Design) -> Result<World, Fail> {
-    let nets = design.netlist().len();
-    assert!(rt; nets <= 65_535);
-    let clustering = Clustering::spread(alloc, nets as u32, 2)?;
-    assert!(rt; clustering.nets() == nets);
+    let design = design_of(alloc, bare(TOGGLE), sampled(12))?;
+    let clustering = spread(alloc, &design, 2)?;
     assert!(rt; clustering.clusters() == 2);
-    misled_with(rt, alloc, design, &clustering)
-}
-
-// The same of this clustering.
-fn misled_with(
-    rt: &impl Abort,
-    alloc: Global,
-    design: &Design,
-    clustering: &Clustering,
-) -> Result<World, Fail>
-    requires nets { length clustering.now.assign ≡ nets_of design.now }
-    requires two { clustering.now.clusters ≡ 2 }
-{
-    let second = misled(rt, alloc, design, clustering)?;
-    world_with(alloc, design, clustering, second)
+    let second = misled(rt, alloc, &design, &clustering)?;
+    world_with(alloc, &design, &clustering, second)
 }
 
 #[test]

@@ -1,20 +1,17 @@
 //! The plain program on worked examples.
 
-use crate::inputs::{Inputs, bare, design_of};
+use crate::netlists::inputs;
+use crate::toggle::{D, Q, TOGGLE, at};
 use cmb_design::{DesignFault, Settings, plain_waves};
 use cmb_wave::{Change, Level, Wave};
 use std::alloc::Global;
 use std::process::Abort;
 use std::test::Fail;
+use worked_inputs::{Inputs, bare, design_of, sampled, stimulated};
 
 // The waves of the design of these texts.
-fn waves_of(
-    rt: &impl Abort,
-    alloc: Global,
-    inputs: Inputs<'_>,
-    settings: Settings,
-) -> Result<Vec<Wave>, Fail> {
-    let design = design_of(rt, alloc, inputs, settings)?;
+fn waves_of(alloc: Global, inputs: Inputs<'_>, settings: Settings) -> Result<Vec<Wave>, Fail> {
+    let design = design_of(alloc, inputs, settings)?;
     Ok(plain_waves(alloc, &design)?)
 }
 
@@ -29,91 +26,22 @@ fn shows(rt: &impl Abort, waves: &[Wave], net: u32, horizon: u32, changes: &[Cha
     }
 }
 
-const TOGGLE_Q: &[Change] = &[
-    Change {
-        tick: 0,
-        level: Level::Zero,
-    },
-    Change {
-        tick: 3,
-        level: Level::One,
-    },
-    Change {
-        tick: 7,
-        level: Level::Zero,
-    },
-    Change {
-        tick: 11,
-        level: Level::One,
-    },
-];
-
-const TOGGLE_D: &[Change] = &[
-    Change {
-        tick: 1,
-        level: Level::One,
-    },
-    Change {
-        tick: 4,
-        level: Level::Zero,
-    },
-    Change {
-        tick: 8,
-        level: Level::One,
-    },
-];
-
+// q shows at ticks 3, 7 and 11 what d was at 2, 6 and 10, and d is the inverse of q a tick before.
 #[test]
 fn toggle(rt: HostRuntime) -> Result<(), Fail> {
-    let settings = Settings {
-        horizon: 12,
-        clock: Some((2, 4)),
-        init: Level::Zero,
-    };
-    let texts = bare(b"q = DFF(d)\nd = NOT(q)\n");
-    let waves = waves_of(&rt, rt.alloc(), texts, settings)?;
-    shows(&rt, &waves, 0, 12, TOGGLE_Q);
-    shows(&rt, &waves, 1, 12, TOGGLE_D);
+    let waves = waves_of(rt.alloc(), bare(TOGGLE), sampled(12))?;
+    let q = [
+        at(0, Level::Zero),
+        at(3, Level::One),
+        at(7, Level::Zero),
+        at(11, Level::One),
+    ];
+    shows(&rt, &waves, Q, 12, &q);
+    let d = [at(1, Level::One), at(4, Level::Zero), at(8, Level::One)];
+    shows(&rt, &waves, D, 12, &d);
     assert_eq!(rt; waves.len(), 2);
     Ok(())
 }
-
-const PULSE_A: &[Change] = &[
-    Change {
-        tick: 0,
-        level: Level::Zero,
-    },
-    Change {
-        tick: 5,
-        level: Level::One,
-    },
-];
-
-const PULSE_B: &[Change] = &[
-    Change {
-        tick: 1,
-        level: Level::One,
-    },
-    Change {
-        tick: 6,
-        level: Level::Zero,
-    },
-];
-
-const PULSE_Y: &[Change] = &[
-    Change {
-        tick: 1,
-        level: Level::Zero,
-    },
-    Change {
-        tick: 6,
-        level: Level::One,
-    },
-    Change {
-        tick: 7,
-        level: Level::Zero,
-    },
-];
 
 const UNCLOCKED: Settings = Settings {
     horizon: 10,
@@ -123,25 +51,29 @@ const UNCLOCKED: Settings = Settings {
 
 #[test]
 fn pulse(rt: HostRuntime) -> Result<(), Fail> {
-    let texts = Inputs {
-        stimuli: b"tick,net,value\n0,a,0\n5,a,1\n",
-        ..bare(b"INPUT(a)\nb = NOT(a)\ny = AND(a, b)\n")
-    };
-    let waves = waves_of(&rt, rt.alloc(), texts, UNCLOCKED)?;
-    shows(&rt, &waves, 0, 10, PULSE_A);
-    shows(&rt, &waves, 1, 10, PULSE_B);
-    shows(&rt, &waves, 2, 10, PULSE_Y);
+    let texts = stimulated(
+        b"INPUT(a)\nb = NOT(a)\ny = AND(a, b)\n",
+        b"tick,net,value\n0,a,0\n5,a,1\n",
+    );
+    let waves = waves_of(rt.alloc(), texts, UNCLOCKED)?;
+    let a = [at(0, Level::Zero), at(5, Level::One)];
+    shows(&rt, &waves, 0, 10, &a);
+    let b = [at(1, Level::One), at(6, Level::Zero)];
+    shows(&rt, &waves, 1, 10, &b);
+    let y = [at(1, Level::Zero), at(6, Level::One), at(7, Level::Zero)];
+    shows(&rt, &waves, 2, 10, &y);
     Ok(())
 }
 
 #[test]
 fn far_ticks(rt: HostRuntime) -> Result<(), Fail> {
-    let texts = Inputs {
-        stimuli: b"tick,net,value\n4294967298,a,1\n5,a,1\n9999999999,a,x\n0,a,0\n",
-        ..bare(b"INPUT(a)")
-    };
-    let waves = waves_of(&rt, rt.alloc(), texts, UNCLOCKED)?;
-    shows(&rt, &waves, 0, 10, PULSE_A);
+    let texts = stimulated(
+        b"INPUT(a)",
+        b"tick,net,value\n4294967298,a,1\n5,a,1\n9999999999,a,x\n0,a,0\n",
+    );
+    let waves = waves_of(rt.alloc(), texts, UNCLOCKED)?;
+    let a = [at(0, Level::Zero), at(5, Level::One)];
+    shows(&rt, &waves, 0, 10, &a);
     Ok(())
 }
 
@@ -151,10 +83,8 @@ fn too_large(rt: HostRuntime) -> Result<(), Fail> {
         horizon: 1_000_000,
         ..UNCLOCKED
     };
-    let bench =
-        b"INPUT(a1) INPUT(a2) INPUT(a3) INPUT(a4) INPUT(a5) INPUT(a6) INPUT(a7) INPUT(a8) INPUT(a9) \
-        INPUT(a10) INPUT(a11) INPUT(a12) INPUT(a13) INPUT(a14) INPUT(a15) INPUT(a16) INPUT(a17)";
-    let design = design_of(&rt, rt.alloc(), bare(bench), settings)?;
+    let bench = inputs(rt.alloc(), 17)?;
+    let design = design_of(rt.alloc(), bare(bench.as_bytes()), settings)?;
     let fault = plain_waves(rt.alloc(), &design).err();
     assert_eq!(rt; fault, Some(DesignFault::TableTooLarge));
     Ok(())

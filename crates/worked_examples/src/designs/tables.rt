@@ -1,11 +1,10 @@
 //! Tables as texts: laid out in odd ways, with far ticks, cut short and damaged at every byte.
 
-use crate::inputs::{Inputs, judged_design};
 use cmb_design::Settings;
 use cmb_wave::Level;
 use std::alloc::{AllocError, Global};
-use std::process::Abort;
 use std::test::Fail;
+use worked_inputs::{Inputs, judged_design};
 
 const BENCH: &[u8] = b"INPUT(G0)\nG1 = DFF(G2)\nG2 = NOR(G0, G1)\nG3 = NOT(G1)\n";
 
@@ -20,19 +19,14 @@ const SETTINGS: Settings = Settings {
 };
 
 // The number and the record of the fault, or 0 and 0 where there is a design.
-fn outcome(
-    rt: &impl Abort,
-    alloc: Global,
-    delays: &[u8],
-    stimuli: &[u8],
-) -> Result<(u32, u32), Fail> {
+fn outcome(alloc: Global, delays: &[u8], stimuli: &[u8]) -> Result<(u32, u32), Fail> {
     let texts = Inputs {
         netlist: BENCH,
         delays,
         stimuli,
         clocks: b"",
     };
-    match judged_design(rt, alloc, texts, SETTINGS)? {
+    match judged_design(alloc, texts, SETTINGS)? {
         Ok(_) => Ok((0, 0)),
         Err(fault) => Ok((fault.number(), fault.record())),
     }
@@ -63,11 +57,11 @@ fn of_stimuli(n: usize) -> (u32, u32) {
 #[test]
 fn cut_tables(rt: HostRuntime) -> Result<(), Fail> {
     for n in 0..=DELAYS.len() {
-        let found = outcome(&rt, rt.alloc(), &DELAYS[..n], STIMULI)?;
+        let found = outcome(rt.alloc(), &DELAYS[..n], STIMULI)?;
         assert_eq!(rt; found, of_delays(n), "{n} bytes of delays");
     }
     for n in 0..=STIMULI.len() {
-        let found = outcome(&rt, rt.alloc(), DELAYS, &STIMULI[..n])?;
+        let found = outcome(rt.alloc(), DELAYS, &STIMULI[..n])?;
         assert_eq!(rt; found, of_stimuli(n), "{n} bytes of stimuli");
     }
     Ok(())
@@ -100,7 +94,7 @@ fn damaged_delays(rt: HostRuntime) -> Result<(), Fail> {
     ] {
         let text = damaged(rt.alloc(), DELAYS, at, value)?;
         assert_eq!(rt;
-            outcome(&rt, rt.alloc(), &text, STIMULI)?,
+            outcome(rt.alloc(), &text, STIMULI)?,
             want,
             "byte {at} to {value}"
         );
@@ -108,7 +102,7 @@ fn damaged_delays(rt: HostRuntime) -> Result<(), Fail> {
     for at in 0..DELAYS.len() {
         for value in 0..=255 {
             let text = damaged(rt.alloc(), DELAYS, at, value)?;
-            let found = outcome(&rt, rt.alloc(), &text, STIMULI)?;
+            let found = outcome(rt.alloc(), &text, STIMULI)?;
             assert!(rt; is_of_record(found), "byte {at} to {value}");
         }
     }
@@ -127,7 +121,7 @@ fn damaged_stimuli(rt: HostRuntime) -> Result<(), Fail> {
     ] {
         let text = damaged(rt.alloc(), STIMULI, at, value)?;
         assert_eq!(rt;
-            outcome(&rt, rt.alloc(), DELAYS, &text)?,
+            outcome(rt.alloc(), DELAYS, &text)?,
             want,
             "byte {at} to {value}"
         );
@@ -135,7 +129,7 @@ fn damaged_stimuli(rt: HostRuntime) -> Result<(), Fail> {
     for at in 0..STIMULI.len() {
         for value in 0..=255 {
             let text = damaged(rt.alloc(), STIMULI, at, value)?;
-            let found = outcome(&rt, rt.alloc(), DELAYS, &text)?;
+            let found = outcome(rt.alloc(), DELAYS, &text)?;
             assert!(rt; is_of_record(found), "byte {at} to {value}");
         }
     }
@@ -156,7 +150,7 @@ fn layouts(rt: HostRuntime) -> Result<(), Fail> {
         ("by,name,delay\npin,G2:1:2,3", (26, 2)),
         ("by,name,delay\nnet,G9,3\nnet,G3,1000001", (28, 3)),
     ] {
-        let found = outcome(&rt, rt.alloc(), delays.as_bytes(), b"")?;
+        let found = outcome(rt.alloc(), delays.as_bytes(), b"")?;
         assert_eq!(rt; found, want, "{delays}");
     }
     Ok(())
@@ -169,7 +163,7 @@ fn ticks_of_10_digits(rt: HostRuntime) -> Result<(), Fail> {
         ("tick,net,value\n9999999999,G0,0\n9999999999,G0,1", (29, 3)),
         ("tick,net,value\n10000000000,G0,0", (25, 2)),
     ] {
-        let found = outcome(&rt, rt.alloc(), b"", stimuli.as_bytes())?;
+        let found = outcome(rt.alloc(), b"", stimuli.as_bytes())?;
         assert_eq!(rt; found, want, "{stimuli}");
     }
     Ok(())
