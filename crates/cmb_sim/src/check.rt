@@ -5,8 +5,7 @@ ghost use Rattle.cmb_sim.specs.Checking.{IsChecked, IsCountOf};
 ghost use Rattle.cmb_sim.specs.Simulation.{HaveRoom, inputs_of, read_from};
 ghost use Rattle.cmb_sim.specs.Stages.{CanBeInputs, HaveTextFault, IsReading, LacksDesign, texts_in};
 
-use crate::simulation::spelled_design;
-use crate::texts::{InputTexts, read_texts};
+use crate::texts::{InputTexts, read_texts, spelled_design};
 use cmb_count::{Counts, count_design};
 use cmb_design::Settings;
 use cmb_inout::{Fault, Source};

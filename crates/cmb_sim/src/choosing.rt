@@ -10,9 +10,8 @@ ghost use Rattle.cmb_inout.specs.Sources.{input_limit};
 ghost use Rattle.cmb_sim.specs.Stages.{CanBeInputs, CanRun, IsUnchosen, IsUnread, IsUnshown, texts_in};
 
 use crate::modes::check_mode;
-use crate::running::write_text;
-use crate::simulation::{spelled_design, write_report};
-use crate::texts::{InputTexts, read_input, read_texts};
+use crate::running::{write_report, write_text};
+use crate::texts::{InputTexts, read_input, read_texts, spelled_design};
 use cmb_bench::read_list;
 use cmb_choice::chosen_text;
 use cmb_design::{Design, Settings};

@@ -4,15 +4,15 @@ ghost use Rattle.std.specs.Prelude.{◌≡◌, ◌-◌, ◌^◌, ◌<◌, length
 ghost use Rattle.cmb_design.specs.Exact.{nets_of};
 ghost use Rattle.cmb_design.specs.Plain.{whole_waves};
 ghost use Rattle.cmb_line.specs.Modes.{IsLawfulCount};
-ghost use Rattle.cmb_sim.specs.Simulation.{HasTaken, written_to};
-ghost use Rattle.cmb_sim.specs.Stages.{CanRun, IsCutShort, IsWritten};
+ghost use Rattle.cmb_sim.specs.Simulation.{HasTaken, report_of, written_to};
+ghost use Rattle.cmb_sim.specs.Stages.{CanRun, IsCutShort, IsWriting, IsWritten};
 ghost use Rattle.cmb_vcd.specs.Vcd.{vcd};
 
-use crate::modes::threads_in;
+use crate::modes::{check_mode, threads_in};
 use cmb_core::{Clustering, ClusteringFault};
 use cmb_design::{Design, DesignFault, plain_waves};
 use cmb_free::{OpenGate, run_free_text};
-use cmb_inout::Fault;
+use cmb_inout::{Fault, Report};
 use cmb_line::Mode;
 use cmb_links::Workers;
 use cmb_rounds::run_rounds;
@@ -155,7 +155,7 @@ pub(crate) fn write_text<O: Sink>(out: &mut O, text: &[u8]) -> Result<(), Fault>
 }
 
 // Writes the text of a design that the mode can run, and gives its length.
-pub(crate) fn write_by<R: AllocGlobal + Threads + Wait + Sync, O: Sink>(
+fn write_by<R: AllocGlobal + Threads + Wait + Sync, O: Sink>(
     rt: &R,
     mode: Mode,
     design: &Design,
@@ -179,4 +179,23 @@ pub(crate) fn write_by<R: AllocGlobal + Threads + Wait + Sync, O: Sink>(
             Ok(text.len() as u64)
         }
     }
+}
+
+// Writes the text of a design that the mode can run, and tells what was written.
+pub(crate) fn write_report<R: AllocGlobal + Threads + Wait + Sync, O: Sink>(
+    rt: &R,
+    mode: Mode,
+    design: &Design,
+    out: &mut O,
+) -> Result<Report, Fault>
+    requires { O.failures out.old < 2 ^ 64 - 1 }
+    ensures { IsWriting (report_of design.now) mode design.now (written_to O.Sink out.old out.new) result }
+{
+    check_mode(mode, design)?;
+    let written = write_by(rt, mode, design, out)?;
+    Ok(Report {
+        nets: design.netlist().len() as u32,
+        horizon: design.horizon(),
+        written,
+    })
 }

@@ -1,59 +1,15 @@
 //! A whole simulation.
 
-ghost use Rattle.std.specs.Prelude.{◌-◌, ◌^◌, ◌<◌, IfOk, IfErr};
-ghost use Rattle.cmb_sim.specs.Simulation.{HaveRoom, IsOutcome, inputs_of, read_from, report_of, written_to};
-ghost use Rattle.cmb_sim.specs.Stages.{CanBeInputs, HaveTextFault, IsWriting, SpellAny, texts_in};
+ghost use Rattle.std.specs.Prelude.{◌-◌, ◌^◌, ◌<◌};
+ghost use Rattle.cmb_sim.specs.Simulation.{HaveRoom, IsOutcome, inputs_of, read_from, written_to};
 
 use crate::choosing::simulate_chosen;
-use crate::modes::check_mode;
-use crate::running::write_by;
-use crate::texts::InputTexts;
-use cmb_bench::read_bench;
-use cmb_design::{Design, Settings};
+use cmb_design::Settings;
 use cmb_inout::{Fault, FromBytes, Report, Source};
 use cmb_line::{Choice, Mode};
-use cmb_tables::{read_clocks, read_delays, read_stimuli};
 use cmb_vcd::Sink;
-use std::alloc::Global;
 use std::sync::Wait;
 use std::thread::Threads;
-
-// The design that texts spell.
-pub(crate) fn spelled_design(
-    alloc: Global,
-    texts: &InputTexts,
-    settings: Settings,
-) -> Result<Design, Fault>
-    requires { CanBeInputs (texts_in texts.now) }
-    ensures ok { IfOk result (SpellAny (texts_in texts.now) settings) }
-    ensures fault { IfErr result (HaveTextFault (texts_in texts.now) settings) }
-{
-    let netlist = read_bench(alloc, texts.bench.as_slice())?;
-    let delays = read_delays(alloc, texts.delays.as_slice())?;
-    let stimuli = read_stimuli(alloc, texts.stimuli.as_slice())?;
-    let clocks = read_clocks(alloc, texts.clocks.as_slice())?;
-    let design = Design::new(alloc, netlist, delays, stimuli, clocks, settings)?;
-    Ok(design)
-}
-
-// Writes the text of a design that the mode can run, and tells what was written.
-pub(crate) fn write_report<R: AllocGlobal + Threads + Wait + Sync, O: Sink>(
-    rt: &R,
-    mode: Mode,
-    design: &Design,
-    out: &mut O,
-) -> Result<Report, Fault>
-    requires { O.failures out.old < 2 ^ 64 - 1 }
-    ensures { IsWriting (report_of design.now) mode design.now (written_to O.Sink out.old out.new) result }
-{
-    check_mode(mode, design)?;
-    let written = write_by(rt, mode, design, out)?;
-    Ok(Report {
-        nets: design.netlist().len() as u32,
-        horizon: design.horizon(),
-        written,
-    })
-}
 
 /// Reads a netlist, the tables of delays, stimuli and clocks, and writes the waveforms of all nets below the horizon.
 ///

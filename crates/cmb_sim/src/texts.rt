@@ -1,11 +1,15 @@
-//! The four texts of a simulation, read whole.
+//! The four texts of a simulation, read whole, and the design that they spell.
 
 ghost use Rattle.std.specs.Prelude.{◌≡◌, ◌-◌, ◌^◌, ◌<◌, IfOk, IfErr};
 ghost use Rattle.cmb_sim.specs.Simulation.{HaveRoom, failed_input, inputs_of, read_from};
 ghost use Rattle.cmb_inout.specs.Sources.{IsWhole};
-ghost use Rattle.cmb_sim.specs.Stages.{HaveTexts, IsReading, IsUnread, LacksTexts};
+ghost use Rattle.cmb_sim.specs.Stages.{CanBeInputs, HaveTextFault, HaveTexts, IsReading, IsUnread, LacksTexts, SpellAny};
+ghost use Rattle.cmb_sim.specs.Stages.{texts_in};
 
+use cmb_bench::read_bench;
+use cmb_design::{Design, Settings};
 use cmb_inout::{Fault, ReadFault, Source, read_whole};
+use cmb_tables::{read_clocks, read_delays, read_stimuli};
 use std::alloc::Global;
 
 /// What the four inputs have.
@@ -69,4 +73,22 @@ pub fn read_texts<B: Source, D: Source, S: Source, C: Source>(
         stimuli: read_input(alloc, stimuli, 3)?,
         clocks: read_input(alloc, clocks, 4)?,
     })
+}
+
+// The design that texts spell.
+pub(crate) fn spelled_design(
+    alloc: Global,
+    texts: &InputTexts,
+    settings: Settings,
+) -> Result<Design, Fault>
+    requires { CanBeInputs (texts_in texts.now) }
+    ensures ok { IfOk result (SpellAny (texts_in texts.now) settings) }
+    ensures fault { IfErr result (HaveTextFault (texts_in texts.now) settings) }
+{
+    let netlist = read_bench(alloc, texts.bench.as_slice())?;
+    let delays = read_delays(alloc, texts.delays.as_slice())?;
+    let stimuli = read_stimuli(alloc, texts.stimuli.as_slice())?;
+    let clocks = read_clocks(alloc, texts.clocks.as_slice())?;
+    let design = Design::new(alloc, netlist, delays, stimuli, clocks, settings)?;
+    Ok(design)
 }

@@ -5,7 +5,7 @@ use Rattle.cmb_design.specs.Design.{Design}
 use Rattle.std.proofs.lemmas.Result.{err_from_is_err_and}
 use Rattle.cmb_sim.proofs.Outcomes.{HaveTextFault-of, Stops, Stops-behind, Stops-front, design_in-rows, none_behind}
 use Rattle.cmb_sim.specs.Stages.{texts_in}
-use Rattle.cmb_sim.proofs.simulation.spelled_design.Goals as goal
+use Rattle.cmb_sim.proofs.texts.spelled_design.Goals as goal
 
 pub returns-in_err-delays-clause-fault : goal.returns-in_err-delays-clause-fault
 returns-in_err-delays-clause-fault c =

@@ -1,7 +1,7 @@
 use Rattle.std.proofs.lemmas.Result.{err_from_is_err_and}
 use Rattle.cmb_sim.proofs.Outcomes.{IsUnwritten-unrun}
 use Rattle.cmb_sim.proofs.Runs.{IsWriting-not}
-use Rattle.cmb_sim.proofs.simulation.write_report.Goals as goal
+use Rattle.cmb_sim.proofs.running.write_report.Goals as goal
 
 pub returns-in_err-check_mode : goal.returns-in_err-check_mode
 returns-in_err-check_mode g c =
