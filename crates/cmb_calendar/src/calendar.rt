@@ -104,29 +104,17 @@ mod tests {
     use cmb_wave::Level;
     use std::test::Fail;
 
+    fn tell(tick: u32, slot: u32, level: Level) -> Tell {
+        Tell { tick, slot, level }
+    }
+
     // Days of ten ticks up to tick 25. What days 0 and 1 have comes by rising ticks; the tell at tick 25 is gone.
     #[test]
     fn days_come_in_order(rt: HostRuntime) -> Result<(), Fail> {
-        let early = Tell {
-            tick: 1,
-            slot: 2,
-            level: Level::X,
-        };
-        let next = Tell {
-            tick: 9,
-            slot: 1,
-            level: Level::Zero,
-        };
-        let late = Tell {
-            tick: 12,
-            slot: 0,
-            level: Level::One,
-        };
-        let outside = Tell {
-            tick: 25,
-            slot: 0,
-            level: Level::Zero,
-        };
+        let early = tell(1, 2, Level::X);
+        let next = tell(9, 1, Level::Zero);
+        let late = tell(12, 0, Level::One);
+        let outside = tell(25, 0, Level::Zero);
         let mut calendar = Calendar::open(rt.alloc(), 10, 25)?;
         for tell in [late, next, outside, early] {
             calendar.note(tell)?;
