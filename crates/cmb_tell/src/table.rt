@@ -45,20 +45,17 @@ fn design_with(alloc: Global, given: &Given<'_>, table: Table) -> Result<Design,
     if given.bench.len() > MAX_TEXT {
         return Err(DesignFault::Memory);
     }
+    let delays = read_delays(alloc, text_if(given, Table::Delays, table))?;
+    let stimuli = read_stimuli(alloc, text_if(given, Table::Stimuli, table))?;
+    let clocks = read_clocks(alloc, text_if(given, Table::Clocks, table))?;
     let Ok(netlist) = read_bench(alloc, given.bench) else {
         return Err(DesignFault::Memory);
     };
-    Design::new(
-        alloc,
-        netlist,
-        read_delays(alloc, text_if(given, Table::Delays, table))?,
-        read_stimuli(alloc, text_if(given, Table::Stimuli, table))?,
-        read_clocks(alloc, text_if(given, Table::Clocks, table))?,
-        Settings {
-            clock: Some((0, 1)),
-            ..given.settings
-        },
-    )
+    let settings = Settings {
+        clock: Some((0, 1)),
+        ..given.settings
+    };
+    Design::new(alloc, netlist, delays, stimuli, clocks, settings)
 }
 
 // The fault of a table's text alone.
@@ -77,12 +74,12 @@ fn reading_fault(alloc: Global, given: &Given<'_>, table: Table) -> Option<Desig
 pub(crate) fn table_of(alloc: Global, given: &Given<'_>, fault: DesignFault) -> Option<Table> {
     for table in TABLES {
         if let Some(found) = reading_fault(alloc, given, table) {
-            return Some(table).filter(|_| found == fault);
+            return (found == fault).then_some(table);
         }
     }
     for table in TABLES {
-        if let Err(found) = design_with(alloc, given, table) {
-            return Some(table).filter(|_| found == fault);
+        if let Some(found) = design_with(alloc, given, table).err() {
+            return (found == fault).then_some(table);
         }
     }
     None
