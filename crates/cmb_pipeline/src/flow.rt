@@ -140,7 +140,12 @@ impl<'a, T: Terms, R: Wait> TextMaker for Flow<'a, T, R> {
     // Goes on by a batch.
     fn step(self, kept: &mut Kept<'_>) -> Result<Self, AllocError> {
         let mut flow = self;
-        flow.go_on(kept)?;
-        Ok(flow)
+        match flow.go_on(kept) {
+            Ok(()) => Ok(flow),
+            Err(error) => {
+                drop(flow);
+                Err(error)
+            }
+        }
     }
 }
