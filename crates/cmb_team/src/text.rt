@@ -56,11 +56,6 @@ fn tellers_of(threads: u32) -> usize {
     threads.saturating_sub(2).min(MOST) as usize
 }
 
-// Does nothing. This use of a reference that came back ties it to the parameter that lent it.
-fn take_back<T>(back: &mut T)
-    ensures { back.new ≡ back.old }
-{}
-
 // Writes the rest of the text of the design that T names, by a team. Gives the text's length.
 fn write_named<'a, T: Terms + Send + Sync, R: Threads + Wait + Sync, S: Sink>(
     rt: &'a R,
@@ -99,7 +94,8 @@ fn write_named<'a, T: Terms + Send + Sync, R: Threads + Wait + Sync, S: Sink>(
             (sink, written)
         },
     );
-    take_back(back);
+    // By this use the reference that came back is tied to the parameter that lent it.
+    let _lent = &*back;
     written
 }
 
