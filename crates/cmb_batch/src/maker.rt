@@ -217,8 +217,14 @@ impl<'a> ShareMaker<'a> {
             clock,
             alone,
         } = self;
-        let engine = reached(share, engine, clock, &window.crossing, &mut told)?;
-        window.add(share, &told, &mut room)?;
+        let Ok(engine) = reached(share, engine, clock, &window.crossing, &mut told) else {
+            drop((told, room));
+            return Err(AllocError);
+        };
+        if let Err(error) = window.add(share, &told, &mut room) {
+            drop((engine, told, room));
+            return Err(error);
+        }
         Ok(ShareMaker {
             share,
             engine,

@@ -100,8 +100,14 @@ impl<'a, T: Terms, R: Wait> Flow<'a, T, R> {
         ensures all { IfOk result (λ begun. begun.1.given ≡ 0) }
     {
         let mut source = source;
-        source.feed()?;
-        let (dump, kept) = first_text(alloc, design)?;
+        if let Err(error) = source.feed() {
+            drop((source, inlet));
+            return Err(error);
+        }
+        let Ok((dump, kept)) = first_text(alloc, design) else {
+            drop((source, inlet));
+            return Err(AllocError);
+        };
         let flow = Flow {
             rt,
             shares,
@@ -140,7 +146,12 @@ impl<'a, T: Terms, R: Wait> TextMaker for Flow<'a, T, R> {
     // Goes on by a batch.
     fn step(self, kept: &mut Kept<'_>) -> Result<Self, AllocError> {
         let mut flow = self;
-        flow.go_on(kept)?;
-        Ok(flow)
+        match flow.go_on(kept) {
+            Ok(()) => Ok(flow),
+            Err(error) => {
+                drop(flow);
+                Err(error)
+            }
+        }
     }
 }

@@ -64,7 +64,10 @@ pub(crate) fn start<'s, 'a: 's, E, T: Terms + Send + Sync + 's, R: Threads + Wai
 {
     let mut inlet = inlet;
     for maker in makers {
-        let (outlet, next) = RingBuffer::new(alloc, ROOM)?;
+        let Ok((outlet, next)) = RingBuffer::new(alloc, ROOM) else {
+            drop((maker, inlet));
+            return Err(AllocError);
+        };
         let stage = Stage::new(maker, inlet, outlet);
         drop(scope.spawn(move || stage.run(rt)));
         inlet = next;

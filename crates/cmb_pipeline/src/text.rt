@@ -48,11 +48,6 @@ fn write_within<'s, 'a: 's, E, T: Terms + Send + Sync + 's, R: Threads + Wait + 
     write_rest(flow, kept, sink)
 }
 
-// Does nothing. This use of a reference that came back ties it to the parameter that lent it.
-fn take_back<T>(back: &mut T)
-    ensures { back.new ≡ back.old }
-{}
-
 // Writes the text of the design that T names.
 fn write_named<'a, T: Terms + Send + Sync, R: Threads + Wait + Sync, S: Sink>(
     rt: &'a R,
@@ -81,7 +76,8 @@ fn write_named<'a, T: Terms + Send + Sync, R: Threads + Wait + Sync, S: Sink>(
             (sink, written)
         },
     );
-    take_back(back);
+    // By this use the reference that came back is tied to the parameter that lent it.
+    let _lent = &*back;
     written
 }
 

@@ -56,11 +56,6 @@ fn tellers_of(threads: u32) -> usize {
     threads.saturating_sub(2).min(MOST) as usize
 }
 
-// Does nothing. This use of a reference that came back ties it to the parameter that lent it.
-fn take_back<T>(back: &mut T)
-    ensures { back.new ≡ back.old }
-{}
-
 // Writes the rest of the text of the design that T names, by a team. Gives the text's length.
 fn write_named<'a, T: Terms + Send + Sync, R: Threads + Wait + Sync, S: Sink>(
     rt: &'a R,
@@ -99,14 +94,15 @@ fn write_named<'a, T: Terms + Send + Sync, R: Threads + Wait + Sync, S: Sink>(
             (sink, written)
         },
     );
-    take_back(back);
+    // By this use the reference that came back is tied to the parameter that lent it.
+    let _lent = &*back;
     written
 }
 
 /// Writes the VCD text of a design's run while it is made, by so many threads at most, and gives its length; with one
-/// thread, or none, by `write_stream`. Threads are started only where there is enough to do for them. What it needs of memory doesn't grow with the horizon. Whatever the fault, the
-/// sink took a beginning of the text. A failed write is the answer then and only then; else memory or a thread was
-/// refused.
+/// thread, or none, by `write_stream`. Threads are started only where there is enough to do for them. What it needs of
+/// memory doesn't grow with the horizon. Whatever the fault, the sink took a beginning of the text. A failed write is
+/// the answer then and only then; else memory or a thread was refused.
 pub fn write_team<R: Threads + Wait + Sync, S: Sink>(
     rt: &R,
     alloc: Global,
@@ -129,7 +125,8 @@ pub fn write_team<R: Threads + Wait + Sync, S: Sink>(
 }
 
 /// The VCD text of a design's run, whole in memory, by so many threads at most: with one thread, or none, by
-/// `stream_text`, else as `write_team` does. The text is the same for any number. Errors: memory or a thread was refused.
+/// `stream_text`, else as `write_team` makes it. The text is the same for any number. Errors: memory or a thread was
+/// refused.
 pub fn team_text<R: Threads + Wait + Sync>(
     rt: &R,
     alloc: Global,
