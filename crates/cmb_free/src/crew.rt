@@ -99,7 +99,10 @@ fn link_two<T: Terms>(
     let end = worker.add_out(alloc, design, nets)?;
     match workers.get_mut(to) {
         Some(worker) => Ok(worker.ins.push(end)?),
-        None => Ok(()),
+        None => {
+            drop(end);
+            Ok(())
+        }
     }
 }
 

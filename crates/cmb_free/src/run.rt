@@ -115,6 +115,7 @@ fn collect_in<
         lookout.raise();
     }
     let refused = started.join(rt);
+    drop(lookout);
     (given, refused)
 }
 

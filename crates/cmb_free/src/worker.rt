@@ -235,6 +235,7 @@ impl<T: Terms> Worker<T> {
             self.desk.raise();
         }
         self.desk.finish();
+        drop(self);
         is_refused
     }
 
