@@ -5,8 +5,8 @@ ghost use Rattle.cmb_design.specs.Exact.{nets_of};
 
 use cmb_bench::{Driver, Kind, Netlist, Operands, read_bench};
 use cmb_design::{Design, Settings};
-use cmb_tables::{read_clocks, read_delays, read_stimuli};
 use cmb_restrict::{closure, restrict};
+use cmb_tables::{read_clocks, read_delays, read_stimuli};
 use cmb_wave::Level;
 use std::alloc::{AllocError, Global};
 use std::process::Abort;
