@@ -4,6 +4,7 @@ ghost use Rattle.std.specs.Prelude.{◌≡◌, ℕ, ◌-◌, ◌^◌, ◌<◌, I
 ghost use Rattle.cmb_cut.specs.Sharings.{IsSharing};
 ghost use Rattle.cmb_design.specs.Exact.{nets_of};
 ghost use Rattle.cmb_pipeline.specs.Opened.{IsOf};
+ghost use Rattle.cmb_stream.specs.Parts.{IsAtEndOf};
 ghost use Rattle.cmb_stream.specs.Streams.{IsWrittenTo};
 ghost use Rattle.cmb_vcd.specs.Vcd.{vcd};
 
@@ -13,15 +14,56 @@ use crate::terms::Terms;
 use cmb_batch::{Makers, open_makers, shares_of};
 use cmb_cut::Sharing;
 use cmb_design::Design;
-use cmb_stream::{StreamFault, write_rest};
-use cmb_vcd::{Room, Sink};
+use cmb_stream::{Kept, StreamFault, text_rest, write_rest};
+use cmb_vcd::Sink;
 use std::alloc::{AllocError, Global};
 use std::marker::Brand;
 use std::sync::Wait;
 use std::thread;
 use std::thread::{Scope, Threads};
 
-// Writes the text by the calling thread, while the stages are at work in threads of a scope.
+// Starts the stages in threads of a scope, and begins the text, with which the calling thread then goes on.
+fn begin<'s, 'a: 's, E, T: Terms + Send + Sync + 's, R: Threads + Wait + Sync>(
+    rt: &'a R,
+    alloc: Global,
+    scope: &Scope<'s, E>,
+    design: &'a Design,
+    run: Run<'a, T>,
+) -> Result<(Flow<'a, T, R>, Kept<'a>), AllocError>
+    requires { design.now ≡ T.design }
+    ensures here { IfOk result (λ begun. IsAtEndOf begun.1 begun.0) }
+    ensures design { IfOk result (λ begun. begun.1.design ≡ design.entry.now) }
+    ensures all { IfOk result (λ begun. begun.1.given ≡ 0) }
+{
+    let Run {
+        source,
+        makers,
+        inlet,
+    } = run;
+    let shares = makers.len() as u32;
+    let Ok(inlet) = start(rt, alloc, scope, makers, inlet) else {
+        drop(source);
+        return Err(AllocError);
+    };
+    Flow::begin(rt, alloc, design, shares, source, inlet)
+}
+
+// Makes the text by the calling thread, while the stages are at work.
+fn text_within<'s, 'a: 's, E, T: Terms + Send + Sync + 's, R: Threads + Wait + Sync>(
+    rt: &'a R,
+    alloc: Global,
+    scope: &Scope<'s, E>,
+    design: &'a Design,
+    run: Run<'a, T>,
+) -> Result<Vec<u8>, AllocError>
+    requires { design.now ≡ T.design }
+    ensures { IfOk result (λ text. text.items ≡ vcd design.entry.now) }
+{
+    let (flow, kept) = begin(rt, alloc, scope, design, run)?;
+    text_rest(flow, kept)
+}
+
+// Writes the text, in the same way.
 fn write_within<'s, 'a: 's, E, T: Terms + Send + Sync + 's, R: Threads + Wait + Sync, S: Sink>(
     rt: &'a R,
     alloc: Global,
@@ -34,18 +76,31 @@ fn write_within<'s, 'a: 's, E, T: Terms + Send + Sync + 's, R: Threads + Wait + 
     requires design { design.now ≡ T.design }
     ensures { IsWrittenTo S.Sink design.entry.now sink.old sink.new result }
 {
-    let Run {
-        source,
-        makers,
-        inlet,
-    } = run;
-    let shares = makers.len() as u32;
-    let Ok(inlet) = start(rt, alloc, scope, makers, inlet) else {
-        drop(source);
-        return Err(StreamFault::Memory);
-    };
-    let (flow, kept) = Flow::begin(rt, alloc, design, shares, source, inlet)?;
+    let (flow, kept) = begin(rt, alloc, scope, design, run)?;
     write_rest(flow, kept, sink)
+}
+
+// The text of the design that T names.
+fn text_named<'a, T: Terms + Send + Sync, R: Threads + Wait + Sync>(
+    rt: &'a R,
+    alloc: Global,
+    design: &'a Design,
+    sharing: &'a Sharing,
+    makers: Makers<'a>,
+) -> Result<Vec<u8>, AllocError>
+    requires of { IsOf design.now sharing.now.owners.items sharing.now.crossing.items makers
+        T.design T.owners T.crossing T.width }
+    ensures { IfOk result (λ text. text.items ≡ vcd design.now) }
+{
+    let run = open_run::<T>(alloc, design, &sharing.owners, &sharing.crossing, makers)?;
+    thread::scope(
+        thread::scope_env(),
+        rt,
+        move |scope| -> Result<Vec<u8>, AllocError>
+            requires { design.now ≡ T.design }
+            ensures { IfOk result (λ text. text.items ≡ vcd design.entry.now) }
+        { text_within(rt, alloc, scope, design, run) },
+    )
 }
 
 // Writes the text of the design that T names.
@@ -101,8 +156,8 @@ pub fn write_pipeline<R: Threads + Wait + Sync, S: Sink>(
     write_named::<Brand, R, S>(rt, alloc, design, sharing, makers, sink)
 }
 
-/// The VCD text of a design's run, whole in memory, made as `write_pipeline` makes it. The text is the same however the
-/// nets were shared out. Errors: memory or a thread was refused.
+/// The VCD text of a design's run, whole in memory, by a thread for each share of its nets and the calling one, which
+/// makes the text. The text is the same however the nets were shared out. Errors: memory or a thread was refused.
 pub fn pipeline_text<R: Threads + Wait + Sync>(
     rt: &R,
     alloc: Global,
@@ -112,9 +167,7 @@ pub fn pipeline_text<R: Threads + Wait + Sync>(
     requires { IsSharing design.now.netlist sharing.now }
     ensures { IfOk result (λ text. text.items ≡ vcd design.now) }
 {
-    let mut room = Room::new(alloc, 0)?;
-    match write_pipeline(rt, alloc, design, sharing, &mut room) {
-        Ok(_) => Ok(room.bytes),
-        Err(_) => Err(AllocError),
-    }
+    let shares = shares_of(alloc, design, sharing)?;
+    let makers = open_makers(rt, alloc, &shares)?;
+    text_named::<Brand, R>(rt, alloc, design, sharing, makers)
 }

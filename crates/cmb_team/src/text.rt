@@ -9,8 +9,10 @@ use crate::opening::{Run, open_rings, open_run};
 use crate::terms::Terms;
 use crate::threads::start;
 use cmb_design::Design;
-use cmb_stream::{Kept, Stream, StreamFault, TextMaker, stream_text, write_rest, write_stream};
-use cmb_vcd::{Room, Sink};
+use cmb_stream::{
+    Kept, Stream, StreamFault, TextMaker, stream_text, text_rest, write_rest, write_stream,
+};
+use cmb_vcd::Sink;
 use std::alloc::{AllocError, Global};
 use std::marker::Brand;
 use std::sync::Wait;
@@ -54,6 +56,41 @@ fn begin(alloc: Global, design: &Design) -> Result<(Stream<'_>, Kept<'_>, bool),
 // How many tellers there are beside the calling thread, where one thread has the engine.
 fn tellers_of(threads: u32) -> usize {
     threads.saturating_sub(2).min(MOST) as usize
+}
+
+// Makes the rest of the text of the design that T names, by a team, whole in memory.
+fn text_named<'a, T: Terms + Send + Sync, R: Threads + Wait + Sync>(
+    rt: &'a R,
+    alloc: Global,
+    design: &'a Design,
+    stream: Stream<'a>,
+    kept: Kept<'a>,
+    threads: u32,
+) -> Result<Vec<u8>, AllocError>
+    requires named { design.now ≡ T.design }
+    requires here { IsAtEndOf kept stream }
+    requires design { kept.design ≡ T.design }
+    requires all { kept.given ≡ 0 }
+    ensures { IfOk result (λ text. text.items ≡ vcd design.now) }
+{
+    let Ok(rings) = open_rings::<T>(alloc, design, tellers_of(threads)) else {
+        drop((stream, kept));
+        return Err(AllocError);
+    };
+    let (engine, dump) = stream.into_parts();
+    let Run { maker, desks, lead } = open_run(rt, alloc, design, engine, dump, rings);
+    thread::scope(
+        thread::scope_env(),
+        rt,
+        move |scope| -> Result<Vec<u8>, AllocError>
+            requires here { IsAtEndOf kept lead }
+            requires all { kept.given ≡ 0 }
+            ensures { IfOk result (λ text. text.items ≡ vcd kept.entry.design) }
+        {
+            start(rt, scope, maker, desks);
+            text_rest(lead, kept)
+        },
+    )
 }
 
 // Writes the rest of the text of the design that T names, by a team. Gives the text's length.
@@ -124,9 +161,9 @@ pub fn write_team<R: Threads + Wait + Sync, S: Sink>(
     }
 }
 
-/// The VCD text of a design's run, whole in memory, by so many threads at most: with one thread, or none, by
-/// `stream_text`, else as `write_team` makes it. The text is the same for any number. Errors: memory or a thread was
-/// refused.
+/// The VCD text of a design's run, whole in memory, by so many threads at most; with one thread, or none, by
+/// `stream_text`. Threads are started only where there is enough to do for them. The text is the same for any number.
+/// Errors: memory or a thread was refused.
 pub fn team_text<R: Threads + Wait + Sync>(
     rt: &R,
     alloc: Global,
@@ -138,9 +175,10 @@ pub fn team_text<R: Threads + Wait + Sync>(
     if threads < 2 {
         return stream_text(alloc, design);
     }
-    let mut room = Room::new(alloc, 0)?;
-    match write_team(rt, alloc, design, threads, &mut room) {
-        Ok(_) => Ok(room.bytes),
-        Err(_) => Err(AllocError),
+    let (stream, kept, pays) = begin(alloc, design)?;
+    if pays {
+        text_named::<Brand, R>(rt, alloc, design, stream, kept, threads)
+    } else {
+        text_rest(stream, kept)
     }
 }
