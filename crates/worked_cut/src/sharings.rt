@@ -1,6 +1,8 @@
 //! Sharings.
 
-use cmb_bench::{Netlist, read_bench};
+ghost use Rattle.std.specs.Prelude.{◌≤◌};
+
+use cmb_bench::read_bench;
 use cmb_cut::{LEAST_NETS, Share, Sharing, pays, share_out};
 use std::alloc::{AllocError, Global};
 use std::test::Fail;
@@ -28,25 +30,27 @@ fn is_ring_by_ring(sharing: &Sharing) -> bool {
         )
 }
 
-fn two_rings(alloc: Global) -> Result<Netlist, Fail> {
+/// Two rings and a net that reads both, shared out to so many threads at most.
+fn two_rings(alloc: Global, most: u32) -> Result<Sharing, Fail>
+    requires { 1 ≤ most }
+{
     let text = b"INPUT(i)\na = DFF(b)\nb = NAND(i, a)\nc = DFF(d)\nd = NAND(i, c)\ny = AND(a, c)\n";
-    Ok(read_bench(alloc, text)?)
+    let netlist = read_bench(alloc, text)?;
+    Ok(share_out(alloc, &netlist, most)?)
 }
 
 // A net weighs 2 and its pins. The input weighs 2, each ring 7 and y 4, together 20; so a share of three is heaviest
 // where the input goes with the first ring: 9.
 #[test]
 fn rings_and_their_reader(rt: HostRuntime) -> Result<(), Fail> {
-    let netlist = two_rings(rt.alloc())?;
-    let sharing = share_out(rt.alloc(), &netlist, 3)?;
+    let sharing = two_rings(rt.alloc(), 3)?;
     assert!(&rt; is_ring_by_ring(&sharing));
     Ok(())
 }
 
 #[test]
 fn one_thread(rt: HostRuntime) -> Result<(), Fail> {
-    let netlist = two_rings(rt.alloc())?;
-    let sharing = share_out(rt.alloc(), &netlist, 1)?;
+    let sharing = two_rings(rt.alloc(), 1)?;
     assert!(&rt; is_whole(&sharing, &[true; 6]));
     Ok(())
 }
@@ -74,12 +78,11 @@ fn chain(rt: HostRuntime) -> Result<(), Fail> {
 // The last share reads a net of each ring. The second reads the input, but drives it itself.
 #[test]
 fn given(rt: HostRuntime) -> Result<(), Fail> {
-    let netlist = two_rings(rt.alloc())?;
-    let sharing = share_out(rt.alloc(), &netlist, 3)?;
+    let sharing = two_rings(rt.alloc(), 3)?;
     assert!(&rt;
         sharing.crossing.as_slice() == [false, true, false, true, false, false].as_slice()
     );
-    let whole = share_out(rt.alloc(), &netlist, 1)?;
+    let whole = two_rings(rt.alloc(), 1)?;
     assert!(&rt; whole.crossing.as_slice() == [false; 6].as_slice());
     Ok(())
 }

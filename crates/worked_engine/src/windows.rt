@@ -25,12 +25,15 @@ fn turned(net: u16, before: Level, place: u32, after: Level) -> Changed
     }
 }
 
-fn open<'a>(alloc: Global, design: &'a Design) -> Option<Dump<'a>>
+/// A dump, of which the text that it begins with is added to this one.
+fn open<'a>(alloc: Global, design: &'a Design, text: &mut Vec<u8>) -> Option<Dump<'a>>
     requires { nets_of design.now ≡ 2 }
     ensures design { IfSome result (λ dump. dump.design ≡ design.entry.now) }
     ensures clock { IfSome result (λ dump. dump.clock ≡ 1) }
 {
-    Dump::open(alloc, design, &[Level::Zero, Level::X]).ok()
+    let dump = Dump::open(alloc, design, &[Level::Zero, Level::X]).ok()?;
+    text.extend_from_slice(dump.text()).ok()?;
+    Some(dump)
 }
 
 /// Two windows, one up to tick 5 and one from there on.
@@ -38,8 +41,7 @@ fn in_two(alloc: Global, design: &Design, text: &mut Vec<u8>) -> Option<()>
     requires nets { nets_of design.now ≡ 2 }
     requires horizon { design.now.horizon ≡ HORIZON }
 {
-    let mut dump = open(alloc, design)?;
-    text.extend_from_slice(dump.text()).ok()?;
+    let mut dump = open(alloc, design, text)?;
     dump.window(&[turned(Y, Level::X, 60, Level::One)], 5).ok()?;
     text.extend_from_slice(dump.text()).ok()?;
     let both = [
@@ -55,8 +57,7 @@ fn with_rests(alloc: Global, design: &Design, text: &mut Vec<u8>) -> Option<()>
     requires nets { nets_of design.now ≡ 2 }
     requires horizon { design.now.horizon ≡ HORIZON }
 {
-    let mut dump = open(alloc, design)?;
-    text.extend_from_slice(dump.text()).ok()?;
+    let mut dump = open(alloc, design, text)?;
     dump.window(&[turned(Y, Level::X, 63, Level::One)], 2).ok()?;
     text.extend_from_slice(dump.text()).ok()?;
     dump.pass(5).ok()?;

@@ -27,10 +27,12 @@ fn line_of(alloc: Global, line: &str) -> Result<Line, Fail> {
     }
 }
 
-// A line that isn't read, and why.
-fn refused(rt: &impl Abort, alloc: Global, line: &str, want: LineFault) -> Result<(), Fail> {
-    let fault = answer_of(alloc, line)?.err();
-    assert_eq!(rt; fault, Some(want), "{line}");
+// Lines that aren't read, and why.
+fn refused(rt: &impl Abort, alloc: Global, lines: &[&str], want: LineFault) -> Result<(), Fail> {
+    for line in lines {
+        let fault = answer_of(alloc, line)?.err();
+        assert_eq!(rt; fault, Some(want), "{line}");
+    }
     Ok(())
 }
 
@@ -43,7 +45,7 @@ fn runs(rt: &impl Abort, alloc: Global, line: &str, mode: Mode) -> Result<(), Fa
 
 #[test]
 fn wrong_settings_and_modes(rt: HostRuntime) -> Result<(), Fail> {
-    for line in [
+    let lines = [
         "run",
         "run --mode plain",
         "run --horizon 0 --mode plain",
@@ -59,15 +61,13 @@ fn wrong_settings_and_modes(rt: HostRuntime) -> Result<(), Fail> {
         "run --horizon 10 --clusters 1 --threads 2",
         "run --horizon 10 --mode plain --init y",
         "run --horizon 0 --mode plain --clock 2-4",
-    ] {
-        refused(&rt, rt.alloc(), line, LineFault::Wrong)?;
-    }
-    Ok(())
+    ];
+    refused(&rt, rt.alloc(), &lines, LineFault::Wrong)
 }
 
 #[test]
 fn wrong_words_of_runs(rt: HostRuntime) -> Result<(), Fail> {
-    for line in [
+    let lines = [
         "run --horizon 10 --only nets --only-outputs",
         "run --horizon 10 --only",
         "run --horizon 10 --horizon 11 --mode plain",
@@ -77,15 +77,13 @@ fn wrong_words_of_runs(rt: HostRuntime) -> Result<(), Fail> {
         "run --horizon 10 --explain yes",
         "run --horizon 10 --stats yes",
         "run --horizon 10 --progress --progress",
-    ] {
-        refused(&rt, rt.alloc(), line, LineFault::Wrong)?;
-    }
-    Ok(())
+    ];
+    refused(&rt, rt.alloc(), &lines, LineFault::Wrong)
 }
 
 #[test]
 fn wrong_tasks(rt: HostRuntime) -> Result<(), Fail> {
-    for line in [
+    let lines = [
         "",
         "check --horizon 10 --only nets",
         "walk",
@@ -97,27 +95,23 @@ fn wrong_tasks(rt: HostRuntime) -> Result<(), Fail> {
         "explain 9",
         "explain all",
         "explain 1 2",
-    ] {
-        refused(&rt, rt.alloc(), line, LineFault::Wrong)?;
-    }
-    Ok(())
+    ];
+    refused(&rt, rt.alloc(), &lines, LineFault::Wrong)
 }
 
 #[test]
 fn wrong_clocks(rt: HostRuntime) -> Result<(), Fail> {
-    for line in [
+    let lines = [
         "run --horizon 10 --mode plain --clock 2-4",
         "run --horizon 10 --mode plain --clock 2:12345678",
         "check --horizon 10 --clock 2-4",
-    ] {
-        refused(&rt, rt.alloc(), line, LineFault::Clock)?;
-    }
-    Ok(())
+    ];
+    refused(&rt, rt.alloc(), &lines, LineFault::Clock)
 }
 
 #[test]
 fn help_and_explanations(rt: HostRuntime) -> Result<(), Fail> {
-    for line in [
+    let lines = [
         "--help",
         "help",
         "help run",
@@ -127,10 +121,8 @@ fn help_and_explanations(rt: HostRuntime) -> Result<(), Fail> {
         "explain",
         "explain 23",
         "explain --help",
-    ] {
-        refused(&rt, rt.alloc(), line, LineFault::Help)?;
-    }
-    Ok(())
+    ];
+    refused(&rt, rt.alloc(), &lines, LineFault::Help)
 }
 
 #[test]

@@ -6,15 +6,7 @@ use std::alloc::{AllocError, Global};
 use std::sync::Wait;
 use std::test::Fail;
 use std::thread::Threads;
-
-/// What the inputs have.
-#[derive(Clone, Copy)]
-pub struct Inputs<'a> {
-    pub bench: &'a [u8],
-    pub delays: &'a [u8],
-    pub stimuli: &'a [u8],
-    pub clocks: &'a [u8],
-}
+use worked_inputs::Inputs;
 
 /// What came of a line.
 #[derive(Drop)]
@@ -63,7 +55,7 @@ pub fn carried<R: AllocGlobal + Threads + Wait + Sync>(
 ) -> Result<Outcome, Fail> {
     let alloc = rt.alloc();
     let line = line_of(alloc, line)?;
-    let mut bench = Kept::new(alloc, FromBytes::new(inputs.bench), line.explain);
+    let mut bench = Kept::new(alloc, FromBytes::new(inputs.netlist), line.explain);
     let mut delays = Kept::new(alloc, FromBytes::new(inputs.delays), line.explain);
     let mut stimuli = Kept::new(alloc, FromBytes::new(inputs.stimuli), line.explain);
     let mut clocks = Timed {

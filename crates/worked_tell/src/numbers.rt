@@ -1,13 +1,14 @@
 //! What `--progress` and `--stats` say.
 
-use crate::carried::{Inputs, carried};
+use crate::carried::carried;
 use cmb_tell::{Stats, Tally, peak_of, processor_of, stats_text};
 use std::test::Fail;
 use std::time::Duration;
+use worked_inputs::{Inputs, bare};
 
 // a rises at tick 5, and y falls a tick later. y leaves x at tick 1, and there are two levels at tick 0.
 const INVERTER: Inputs<'static> = Inputs {
-    bench: b"INPUT(a)\ny = NOT(a)\n",
+    netlist: b"INPUT(a)\ny = NOT(a)\n",
     delays: b"",
     stimuli: b"tick,net,value\n0,a,0\n5,a,1\n",
     clocks: b"",
@@ -47,15 +48,7 @@ fn counts_and_empty_netlists(rt: HostRuntime) -> Result<(), Fail> {
             .ends_with(b"       2  rows of stimuli\n       0  rows of clocks\n")
     );
     assert!(rt; counted.words.is_empty());
-    let none = Inputs {
-        bench: b"",
-        ..INVERTER
-    };
-    let none = Inputs {
-        stimuli: b"",
-        ..none
-    };
-    let told = carried(&rt, &rt, "check --horizon 10 --explain", none)?;
+    let told = carried(&rt, &rt, "check --horizon 10 --explain", bare(b""))?;
     assert!(rt; told.words.starts_with("cmbsim: the netlist has no nets"));
     Ok(())
 }
