@@ -2,6 +2,10 @@
 #![tactic(auto)]
 
 #[cfg(test)]
+mod batches;
+#[cfg(test)]
+mod dumps;
+#[cfg(test)]
 mod nets;
 #[cfg(test)]
 mod parts;

@@ -3,60 +3,44 @@
 ghost use Rattle.std.specs.Prelude.{◌≡◌, IfOk};
 ghost use Rattle.cmb_design.specs.Exact.{nets_of};
 
-use cmb_bench::{Driver, Kind, Netlist, Operands, read_bench};
+use cmb_bench::{Driver, Kind, Netlist};
 use cmb_design::{Design, Settings};
 use cmb_restrict::{closure, restrict};
-use cmb_tables::{read_clocks, read_delays, read_stimuli};
 use cmb_wave::Level;
 use std::alloc::{AllocError, Global};
 use std::process::Abort;
 use std::test::Fail;
+use worked_inputs::{Inputs, design_of, has_gate, has_input, has_name};
 
 /// The nets `a`, `b`, `y`, `z` and `q`, by their numbers. `y` is made of `a`, `z` of `b` with a delay of two ticks, and
 /// `q` samples `z` at ticks 3 and 7.
 pub fn two_parts(rt: &impl Abort, alloc: Global) -> Result<Design, Fail>
     ensures { IfOk result (λ design. nets_of design ≡ 5) }
 {
-    let netlist = read_bench(
-        alloc,
-        b"INPUT(a)\nINPUT(b)\nOUTPUT(y)\nOUTPUT(z)\ny = NOT(a)\nz = NOT(b)\nq = DFF(z)\n",
-    )?;
-    let delays = read_delays(alloc, b"by,name,delay\nnet,z,2\n")?;
-    let stimuli = read_stimuli(alloc, b"tick,net,value\n0,a,1\n0,b,0\n4,b,1\n")?;
-    let clocks = read_clocks(alloc, b"")?;
+    let inputs = Inputs {
+        netlist: b"INPUT(a)\nINPUT(b)\nOUTPUT(y)\nOUTPUT(z)\ny = NOT(a)\nz = NOT(b)\nq = DFF(z)\n",
+        delays: b"by,name,delay\nnet,z,2\n",
+        stimuli: b"tick,net,value\n0,a,1\n0,b,0\n4,b,1\n",
+        clocks: b"",
+    };
     let settings = Settings {
         horizon: 8,
         clock: Some((3, 4)),
         init: Level::X,
     };
-    let design = Design::new(alloc, netlist, delays, stimuli, clocks, settings)?;
+    let design = design_of(alloc, inputs, settings)?;
     assert!(rt; design.netlist().len() == 5);
     Ok(design)
-}
-
-/// Whether the net of this number has this name.
-fn is_named(netlist: &Netlist, net: usize, name: &[u8]) -> bool {
-    net < netlist.len() && netlist.name(net) == name
-}
-
-/// Whether a driver is an inverter of this net.
-fn inverts(driver: &Driver, net: u32) -> bool {
-    match driver {
-        Driver::Gate(kind, operands) => {
-            *kind == Kind::Not && Operands::as_slice(operands) == [net].as_slice()
-        }
-        _ => false,
-    }
 }
 
 /// Whether a netlist is that of `b`, `z` and `q` alone.
 fn is_second_part(netlist: &Netlist) -> bool {
     netlist.len() == 3
-        && is_named(netlist, 0, b"b")
-        && is_named(netlist, 1, b"z")
-        && is_named(netlist, 2, b"q")
-        && matches!(netlist.driver(0), Driver::Input)
-        && inverts(netlist.driver(1), 0)
+        && has_name(netlist, 0, b"b")
+        && has_name(netlist, 1, b"z")
+        && has_name(netlist, 2, b"q")
+        && has_input(netlist, 0)
+        && has_gate(netlist, 1, Kind::Not, &[0])
         && matches!(netlist.driver(2), Driver::Flop(1))
         && netlist.outputs() == [1].as_slice()
 }

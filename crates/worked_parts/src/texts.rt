@@ -8,67 +8,25 @@ use cmb_choice::chosen_text;
 use cmb_choice::text::part_of;
 use cmb_design::Design;
 use std::alloc::{AllocError, Global};
-use std::process::Abort;
 use std::test::Fail;
+use worked_inputs::text_of;
 
-/// Of `b` and `q`. The inverter `z` of `b` is 1 from tick 2 on and 0 from tick 6 on, and `q` shows what was sampled at
-/// tick 3 a tick later.
-const OF_TWO: &str = "$version cmbsim 1 $end
-$timescale 1 ns $end
-$scope module top $end
-$var wire 1 ! b $end
-$var wire 1 \" q $end
-$upscope $end
-$enddefinitions $end
-#0
-$dumpvars
-0!
-x\"
-$end
-#4
-1!
-1\"
-#8
-";
-
-/// Of `b`, `z` and `q`.
-const OF_THREE: &str = "$version cmbsim 1 $end
-$timescale 1 ns $end
-$scope module top $end
-$var wire 1 ! b $end
-$var wire 1 \" z $end
-$var wire 1 # q $end
-$upscope $end
-$enddefinitions $end
-#0
-$dumpvars
-0!
-x\"
-x#
-$end
-#2
-1\"
-#4
-1!
-1#
-#6
-0\"
-#8
-";
-
-/// Whether the text of `b` and `q` is as it should be.
+/// Whether the text of `b` and `q` is as it should be. The inverter `z` of `b` is 1 from tick 2 on and 0 from tick 6 on,
+/// and `q` shows what was sampled at tick 3 a tick later.
 fn shows_two(alloc: Global, design: &Design) -> Result<bool, AllocError>
     requires { nets_of design.now ≡ 5 }
 {
     let text = chosen_text(alloc, design, &[1, 4])?;
-    Ok(text.as_slice() == OF_TWO.as_bytes())
+    let wanted = text_of(alloc, "b q", "#0 0! x\" #4 1! 1\" #8")?;
+    Ok(text.as_slice() == wanted.as_bytes())
 }
 
 /// Whether the text of all nets of a design of three is that of `b`, `z` and `q`.
 fn shows_three(alloc: Global, part: &Design) -> Result<bool, AllocError> {
     if part.netlist().len() == 3 {
         let text = chosen_text(alloc, part, &[0, 1, 2])?;
-        return Ok(text.as_slice() == OF_THREE.as_bytes());
+        let wanted = text_of(alloc, "b z q", "#0 0! x\" x# #2 1\" #4 1! 1# #6 0\" #8")?;
+        return Ok(text.as_slice() == wanted.as_bytes());
     }
     Ok(false)
 }

@@ -1,0 +1,23 @@
+//! The text that a dump gave last.
+
+use crate::parts::two_parts;
+use cmb_design::Design;
+use cmb_dump::Dump;
+use std::alloc::{AllocError, Global};
+use std::test::Fail;
+
+/// Whether the last line of a run up to tick 8 takes the place of what a list had, and the dump is left with nothing.
+fn is_swapped(alloc: Global, design: &Design) -> Result<bool, AllocError> {
+    let mut dump = Dump::at(alloc, design, 1)?;
+    dump.pass(design.horizon())?;
+    let mut room = Vec::from_slice(alloc, b"a part before")?;
+    dump.swap_text(&mut room);
+    Ok(room.as_slice() == b"#8\n".as_slice() && dump.text().is_empty())
+}
+
+#[test]
+fn text_is_swapped(rt: HostRuntime) -> Result<(), Fail> {
+    let design = two_parts(&rt, rt.alloc())?;
+    assert!(&rt; is_swapped(rt.alloc(), &design)?);
+    Ok(())
+}
