@@ -3,8 +3,8 @@
 ghost use Rattle.std.specs.Prelude.{◌≡◌, ◌-◌, ◌^◌, ◌<◌, IfOk, IfErr};
 ghost use Rattle.cmb_sim.specs.Simulation.{HaveRoom, failed_input, inputs_of, read_from};
 ghost use Rattle.cmb_inout.specs.Sources.{IsWhole};
-ghost use Rattle.cmb_sim.specs.Stages.{CanBeInputs, HaveTextFault, HaveTexts, IsReading, IsUnread, LacksTexts, SpellAny};
-ghost use Rattle.cmb_sim.specs.Stages.{texts_in};
+ghost use Rattle.cmb_sim.specs.Stages.{CanBeInputs, HaveTextFault, HaveTexts, IsReading, IsUnread, LacksTexts};
+ghost use Rattle.cmb_sim.specs.Stages.{SpellAny, texts_in};
 
 use cmb_bench::read_bench;
 use cmb_design::{Design, Settings};

@@ -11,8 +11,8 @@ use std::alloc::{AllocError, Global};
 use std::test::Fail;
 use worked_inputs::text_of;
 
-/// Whether the text of `b` and `q` is as it should be. The inverter `z` of `b` is 1 from tick 2 on and 0 from tick 6 on,
-/// and `q` shows what was sampled at tick 3 a tick later.
+/// Whether the text of `b` and `q` is as it should be. The inverter `z` of `b` is 1 from tick 2 on and 0 from tick 6
+/// on, and `q` shows what was sampled at tick 3 a tick later.
 fn shows_two(alloc: Global, design: &Design) -> Result<bool, AllocError>
     requires { nets_of design.now ≡ 5 }
 {
