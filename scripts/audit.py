@@ -23,7 +23,7 @@ import prove
 
 MEMORY_OF_A_CHECK = 4_500_000_000
 NAMES = re.compile(r"has no field|is not in scope|has no `|was not admitted")
-OPEN = re.compile(r"(?m)^note: src/\S+: it is not proved|^(?:note: )?(?:\./)?src/\S+:\d+:\d+: error")
+OPEN = re.compile(r"(?m)^note: src/\S+: (?:it is not proved|`search` found no proof)|^(?:note: )?(?:\./)?src/\S+:\d+:\d+: error")
 ERROR = re.compile(r"(?m)^\./proofs/\S+:\d+:\d+: error.*$")
 LEFT = re.compile(r"(?m)^(?:fn|impl) (\S+): (?!proved\b|assumed)")
 
