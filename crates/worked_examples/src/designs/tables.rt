@@ -1,6 +1,7 @@
 //! Tables as texts: laid out in odd ways, with far ticks, cut short and damaged at every byte.
 
-use cmb_design::Settings;
+use cmb_design::{ClockRow, Settings};
+use cmb_tables::read_clocks;
 use cmb_wave::Level;
 use std::alloc::{AllocError, Global};
 use std::test::Fail;
@@ -167,4 +168,25 @@ fn ticks_of_10_digits(rt: HostRuntime) -> Result<(), Fail> {
         assert_eq!(rt; found, want, "{stimuli}");
     }
     Ok(())
+}
+
+// Whether a row is about this net, with this first sample tick and this period.
+fn is_row(row: &ClockRow, net: &[u8], first: u32, period: u32) -> bool {
+    row.net.as_bytes() == net && row.first == first && row.period == period
+}
+
+// Whether a table of two clocks has the rows that its records say, in their order.
+fn are_in_order(alloc: Global) -> bool {
+    match read_clocks(alloc, b"net,first,period\nG3,4,10\nG1,2,3\n") {
+        Ok(rows) => match rows.as_slice() {
+            [one, other] => is_row(one, b"G3", 4, 10) && is_row(other, b"G1", 2, 3),
+            _ => false,
+        },
+        Err(_) => false,
+    }
+}
+
+#[test]
+fn rows_as_they_were_read(rt: HostRuntime) {
+    assert!(&rt; are_in_order(rt.alloc()));
 }
