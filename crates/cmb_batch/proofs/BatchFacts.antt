@@ -1,20 +1,32 @@
--- What one share more makes of a batch.
-use Rattle.std.proofs.Common.{◌≡◌, ℕ, suc, Bool, List, length, sym, subst, arith}
+-- What a batch says of the share that comes next, and what that makes of it.
+use Rattle.std.proofs.Common.{◌≡◌, ℕ, suc, Bool, List, length, subst, arith}
 use Rattle.cmb_design.specs.Design.{Design}
 use Rattle.cmb_batch.specs.Batches.{Batch, IsBatch}
 use Rattle.cmb_batch.specs.Makers.{IsNextOf, Maker}
-use Rattle.cmb_batch.specs.Windows.{AreMade}
+use Rattle.cmb_batch.specs.Windows.{AreDays, AreMade}
 use Rattle.cmb_batch.specs.declared.window.Window.{Window}
 
 module _ (maker : Maker) (batch : Batch) (next : IsNextOf maker batch) where
-  -- what was made of a maker's share is made of the batch
-  made-batch : (windows : List Window) → AreMade maker.share.design maker.share.owners maker.share.crossing (suc maker.share.number) batch.clocks windows
-      → AreMade batch.design batch.owners batch.crossing (suc batch.made) batch.clocks windows
-  made-batch windows made =
-      subst (λ n. AreMade batch.design batch.owners batch.crossing (suc n) batch.clocks windows) (sym next.made)
-      (subst (λ (marks : List Bool). AreMade batch.design batch.owners marks (suc maker.share.number) batch.clocks windows) (sym next.same.crossing)
-      (subst (λ (owners : List ℕ). AreMade batch.design owners maker.share.crossing (suc maker.share.number) batch.clocks windows) (sym next.same.owners)
-      (subst (λ (design : Design). AreMade design maker.share.owners maker.share.crossing (suc maker.share.number) batch.clocks windows) (sym next.same.design) made)))
+  -- what is said of the batch is said of the maker's share
+  of-share : (P : Design → List ℕ → List Bool → ℕ → Type 0) → P batch.design batch.owners batch.crossing batch.made → P maker.share.design maker.share.owners maker.share.crossing maker.share.number
+  of-share P is =
+      subst (P maker.share.design maker.share.owners maker.share.crossing) next.made
+      (subst (λ (marks : List Bool). P maker.share.design maker.share.owners marks batch.made) next.same.crossing
+      (subst (λ (owners : List ℕ). P maker.share.design owners batch.crossing batch.made) next.same.owners
+      (subst (λ (design : Design). P design batch.owners batch.crossing batch.made) next.same.design is)))
+
+  -- and what is said of the share is said of the batch
+  of-batch : (P : Design → List ℕ → List Bool → ℕ → Type 0) → P maker.share.design maker.share.owners maker.share.crossing maker.share.number → P batch.design batch.owners batch.crossing batch.made
+  of-batch P is = of-share (λ design owners marks made. P design owners marks made → P batch.design batch.owners batch.crossing batch.made) (λ same. same) is
+
+  pub given-days : AreDays batch.width batch.design.horizon batch.clocks → AreDays maker.width maker.share.design.horizon batch.clocks
+  given-days days =
+      subst (λ w. AreDays w maker.share.design.horizon batch.clocks) next.same.width
+      (of-share (λ design owners marks made. AreDays batch.width design.horizon batch.clocks) days)
+
+  pub given-made : (windows : List Window) → AreMade batch.design batch.owners batch.crossing batch.made batch.clocks windows
+      → AreMade maker.share.design maker.share.owners maker.share.crossing maker.share.number batch.clocks windows
+  given-made windows made = of-share (λ design owners marks made. AreMade design owners marks made batch.clocks windows) made
 
   pub batch-more : (windows more : List Window) → IsBatch batch.design batch.owners batch.crossing batch.width batch.clocks batch.made windows → length more ≡ length windows
       → AreMade maker.share.design maker.share.owners maker.share.crossing (suc maker.share.number) batch.clocks more
@@ -25,5 +37,5 @@ module _ (maker : Maker) (batch : Batch) (next : IsNextOf maker batch) where
     within = is.within;
     nets = is.nets;
     marks = is.marks;
-    each = made-batch more made;
+    each = of-batch (λ design owners marks made. AreMade design owners marks (suc made) batch.clocks more) made;
   }

@@ -2,15 +2,16 @@
 use Rattle.std.proofs.Common.{◌≡◌, ◌∙◌, ℕ, suc, ◌<◌, ◌==◌, ◌||◌, ◌&&◌, Bool, true, false, List, [], ◌∷◌, cond, length, get_or, ap, refl, sym, subst, arith}
 use Rattle.std.specs.Prelude.{⊤, All, filter}
 use Rattle.std.proofs.lemmas.Bool.{and_from, and_parts, eq-eqb, eqb-true, false≢true}
-use Rattle.std.proofs.lemmas.List.Elements.{All-cons, All-filter, All-nil, Contains-get_or}
+use Rattle.std.proofs.lemmas.List.Elements.{All-cons, All-contains, All-filter, All-nil, Contains-get_or}
 use Rattle.cmb_design.specs.Exact.{nets_of}
 use Rattle.cmb_design.specs.Value.{value}
-use Rattle.cmb_engine.specs.Shares.{IsDriven, TellsThose}
+use Rattle.cmb_engine.specs.Shares.{IsDriven, IsGiven, TellsThose}
 use Rattle.cmb_words.specs.Changes.{RisesWithin, TellsNet, is_among}
 use Rattle.cmb_words.specs.declared.changed.Changed.{Changed}
 use Rattle.cmb_words.proofs.Rising.{rises_at}
 use Rattle.cmb_batch.specs.Merges.{AreOwn, AreOwnCrossing}
 use Rattle.cmb_batch.specs.Shares.{Crosses, DesignShare, IsShare, Owns}
+use Rattle.cmb_batch.specs.Windows.{TellsMade}
 use Rattle.cmb_batch.proofs.MadeFacts.{TellsOwn}
 use Rattle.cmb_batch.proofs.MergeFacts.{rises-lower}
 
@@ -95,3 +96,13 @@ own-crossing share from upto told own is rises tells are =
     subst (λ l. TellsOwn share.design share.owners (Crosses share.crossing) share.number from upto l) (sym are)
     (tells-own share (Crosses share.crossing) (λ one. (get_or share.owners one.net 0 == share.number) && get_or share.crossing one.net false)
     (λ x e. eqb-true _ _ (and_parts _ _ e).0) (λ x owned crosses. and_from _ _ (eq-eqb _ _ owned) crosses) from upto told is rises tells)
+
+-- ---- those that a share is given
+
+-- what others are given of what earlier shares made has all that a share is given
+pub crossed-given : (share : DesignShare) → IsShare share → (from upto : ℕ) (changed : List Changed) → TellsMade share.design share.owners (Crosses share.crossing) share.number from upto changed
+    → TellsThose (IsGiven share.design share.driven) (value share.design) from upto changed
+crossed-given share lawful from upto changed told = record {
+  words = λ one there given. All-contains (TellsNet (value share.design) from upto) changed one told.words there;
+  others = λ net given none. told.others net (lawful.earlier net given) (lawful.crosses net given) none;
+}

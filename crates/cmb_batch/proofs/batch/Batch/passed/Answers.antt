@@ -3,10 +3,27 @@ use Rattle.std.proofs.lemmas.List.{take_at}
 use Rattle.cmb_batch.specs.Batches.{Batch, IsBatch}
 use Rattle.cmb_batch.specs.Makers.{IsNextOf, Maker}
 use Rattle.cmb_batch.specs.Shares.{DesignShare}
-use Rattle.cmb_batch.specs.Windows.{AreMade}
+use Rattle.cmb_batch.specs.Windows.{AreDays, AreMade}
 use Rattle.cmb_batch.specs.declared.window.Window.{Window}
-use Rattle.cmb_batch.proofs.BatchFacts.{batch-more}
+use Rattle.cmb_batch.proofs.BatchFacts.{batch-more, given-days, given-made}
 use Rattle.cmb_batch.proofs.batch.Batch.passed.Goals as goal
+
+pub work-requires-clause-days : goal.work-requires-clause-days
+work-requires-clause-days c =
+    let b = c.self.inside in
+    let batch : Batch = record { design = b.design.now; owners = b.owners.now; crossing = b.crossing.now; width = b.width; clocks = b.clocks.items; made = b.made } in
+    let next : IsNextOf c.args.maker batch = subst (IsNextOf c.args.maker) (sym c.self.view_is) c.requires in
+    subst (AreDays c.args.maker.width c.args.maker.share.design.horizon) (sym c.deref.ensures.value) (given-days c.args.maker batch next c.self.invariant.days)
+
+pub work-requires-clause-made : goal.work-requires-clause-made
+work-requires-clause-made c =
+    let b = c.self.inside in
+    let share = c.args.maker.share in
+    let batch : Batch = record { design = b.design.now; owners = b.owners.now; crossing = b.crossing.now; width = b.width; clocks = b.clocks.items; made = b.made } in
+    let next : IsNextOf c.args.maker batch = subst (IsNextOf c.args.maker) (sym c.self.view_is) c.requires in
+    subst (λ clocks. AreMade share.design share.owners share.crossing share.number clocks c.deref_mut.result.now) (sym c.deref.ensures.value)
+    (subst (AreMade share.design share.owners share.crossing share.number b.clocks.items) (sym c.deref_mut.ensures.value)
+    (given-made c.args.maker batch next b.windows.items c.self.invariant.each))
 
 pub invariant_of-batch : goal.invariant_of-batch
 invariant_of-batch c =

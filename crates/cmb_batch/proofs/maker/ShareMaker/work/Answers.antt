@@ -1,9 +1,23 @@
 use Rattle.std.proofs.Common.{◌≡◌, ◌∙◌, ◌+◌, suc, arith, get_or, refl, subst, sym}
 use Rattle.std.proofs.lemmas.List.{length-set}
 use Rattle.cmb_batch.specs.Shares.{DesignShare}
-use Rattle.cmb_batch.specs.Windows.{IsWindow, clock_at}
+use Rattle.cmb_batch.specs.Windows.{IsStep, IsWindow, clock_at}
 use Rattle.cmb_batch.proofs.MakerFacts.{making-all, making-more, making-none}
 use Rattle.cmb_batch.proofs.maker.ShareMaker.work.Goals as goal
+
+pub step-requires-clause-step : goal.step-requires-clause-step
+step-requires-clause-step c =
+    let was = c.loop-place.invariant in
+    let share = c.args.self.share in
+    let clocks = c.args.clocks.now in
+    let place = c.loop-place.place in
+    let next : suc place ≡ place + 1 = omega arith in
+    let clock = clock_at clocks (place + 1) in
+    subst (λ (s : DesignShare). IsStep c.loop-place.maker.width s.design.horizon c.loop-place.maker.clock clock) (sym was.share)
+    (subst (λ w. IsStep w share.design.horizon c.loop-place.maker.clock clock) (sym was.width)
+    (subst (λ n. IsStep c.args.self.width share.design.horizon n clock) (sym was.clock)
+    (subst (λ n. IsStep c.args.self.width share.design.horizon (clock_at clocks place) (clock_at clocks n)) next
+    (c.requires.days place (omega (arith, c.loop-place-test.true, was.len, c.requires.count))))))
 
 pub step-requires-clause-made : goal.step-requires-clause-made
 step-requires-clause-made c =
