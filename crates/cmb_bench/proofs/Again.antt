@@ -11,7 +11,7 @@ use Rattle.cmb_bench.specs.Text.{Lexeme, name, mark}
 use Rattle.cmb_bench.specs.Kinds.{is_word}
 use Rattle.cmb_bench.specs.Statement.{Statement, input, output, drive, Mention}
 use Rattle.cmb_bench.specs.Grammar.{at, IsNew, IsShort, AreShort, HasArity, SpellsOperands, Spells, IsLawful}
-use Rattle.cmb_bench.specs.Inner.Reading.{short_name, used_name, opened, closed, with_net, operands_at, driver_at, input_at, output_at, keyword_at, statement_at}
+use Rattle.cmb_bench.specs.Inner.Reading.{short_name, used_name, marked, with_net, operands_at, driver_at, input_at, output_at, keyword_at, statement_at}
 use Rattle.cmb_bench.specs.Meaning.{IsKind}
 use Rattle.cmb_bench.proofs.Arity.{takes_more, arity_tail}
 
@@ -53,7 +53,7 @@ pub not_input : (w : List ℕ) → is_word w (codes "OUTPUT") ≡ true → is_wo
 not_input w e = is_false (is_word w (codes "INPUT")) (λ i. omega (arith, word_length w (codes "OUTPUT") e, word_length w (codes "INPUT") i))
 
 pub statement_again : (names : List (List ℕ)) (s : Statement) (ts rest : List Lexeme) → Spells IsKind s ts rest → IsLawful names s → statement_at names ts ≡ Ok (s, rest)
-unfolding statement_at driver_at input_at output_at keyword_at used_name opened closed
+unfolding statement_at driver_at input_at output_at keyword_at used_name marked
 statement_again names (input n) ts rest h lawful = rw (h.6, short_again h.0 h.1 (input_short h.0 h.5), h.5, new_again names n (at (name n) h.3) lawful) refl
 statement_again names (output m) ts rest h lawful = rw (h.5, short_again h.0 h.1 (output_short h.0 h.4), not_input h.0 h.4, h.4, short_again m.name m.line lawful) refl
 statement_again names (drive n f ms) ts rest h lawful = rw (h.7, short_again n h.1 lawful.0.short, new_again names n (at (mark Equals) h.2) lawful.0, h.6, operands_again f ms h.5 rest h.8 lawful.1 lawful.2) refl

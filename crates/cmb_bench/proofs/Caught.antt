@@ -2,22 +2,22 @@
 use Rattle.std.proofs.Common.{◌≡◌, ℕ, List, [], ◌∷◌, ◌++◌, Bool, true, false, length, refl, sym, ap, ◌∙◌, subst, Result, Ok, Err, nat_lt, inl, inr, ⊎_elim, append_assoc, append-nil, arith}
 use Rattle.std.specs.Prelude.{Option, Some, None, if◌then◌else◌, codes, nat_le, ◌⊎◌, ◌+◌, ◌<◌}
 use Rattle.cmb_bench.specs.declared.text.Class.{Class}
-use Rattle.cmb_bench.specs.declared.text.Class.TheVariants.{Open, Close, Comma, Equals, End}
+use Rattle.cmb_bench.specs.declared.text.Class.TheVariants.{Open, Close, Comma, Equals, End, Bad}
 use Rattle.cmb_bench.specs.declared.fault.BenchFault.{BenchFault}
 use Rattle.cmb_bench.specs.declared.fault.FaultKind.{FaultKind}
 use Rattle.cmb_bench.specs.declared.fault.FaultKind.TheVariants as faults
 use Rattle.cmb_bench.specs.declared.netlist.Cell.{Cell}
 use Rattle.cmb_bench.specs.Text.{Lexeme, Word, name, mark, Snippet, tokens_from, is_token, word_of, line_feeds}
-use Rattle.cmb_bench.specs.Inner.Word.{is_bad, is_open, is_close, is_comma, is_equals, is_end, name_in}
+use Rattle.cmb_bench.specs.Inner.Word.{is_end, has_class, name_in}
 use Rattle.cmb_bench.specs.Kinds.{is_word, cell_of, takes_one}
 use Rattle.cmb_bench.specs.Statement.{Statement, input, output, drive, Mention, driven_by, is_member, driven}
-use Rattle.cmb_bench.specs.Grammar.{IsNew, IsShort, SpellsOperands, Spells}
-use Rattle.cmb_bench.specs.Inner.Reading.{fault_at, misplaced, next_in, named, cell_in, short_name, short, used_name, opened, closed, with_net, with_first, operands_at, driver_at, input_at, output_at, keyword_at, statement_at}
+use Rattle.cmb_bench.specs.Grammar.{at, said, IsNew, IsShort, SpellsOperands, Spells}
+use Rattle.cmb_bench.specs.Inner.Reading.{fault_at, misplaced, next_in, named, cell_in, short_name, short, used_name, marked, with_net, with_first, operands_at, driver_at, input_at, output_at, keyword_at, statement_at, ◌>>=◌}
 use Rattle.cmb_bench.specs.Inner.Building.{Parses, begins_more}
 use Rattle.cmb_bench.proofs.Machine.{Place, start, first, keyed, named as named_place, equalled, kinded, listing, listed, Stand, go, run, or_else, name_check, net_check, verdict}
-use Rattle.cmb_bench.proofs.Inversion.{bind_ok, ok_is, open_is, comma_is, equals_is, name_is, next_is, named_is, short_is, new_is}
-use Rattle.cmb_bench.proofs.Undriven.{bind_err}
-use Rattle.cmb_bench.proofs.Takes.{chosen, statement_takes}
+use Rattle.cmb_bench.proofs.Inversion.{mark_is, marked_is, name_is, next_is, named_is, short_is, new_is}
+use Rattle.cmb_bench.proofs.Undriven.{bind_err, err_is, last_err}
+use Rattle.cmb_bench.proofs.Takes.{cell_is, chosen, statement_takes, used_takes}
 use Rattle.cmb_bench.specs.Meaning.{IsKind}
 use Rattle.cmb_bench.specs.FirstFault.{FirstAt, number_of_fault}
 use Rattle.cmb_bench.proofs.Verdict.{AtMost, stands_verdict}
@@ -54,9 +54,6 @@ next_err : (ts : List Lexeme) (f : BenchFault) → next_in ts ≡ Err f → Clos
 next_err [] f e c = c
 next_err (t ∷ ts) f e c = cc
 
-err_is : {A : Type 0} {x y : BenchFault} → let r : Result A BenchFault = Err x in r ≡ Err y → x ≡ y
-err_is e = cc
-
 -- a test that failed
 if_err : {A : Type 0} (b : Bool) (d f : BenchFault) (r : Result A BenchFault) → (if b then Err d else r) ≡ Err f → ((b ≡ true) × (d ≡ f)) ⊎ ((b ≡ false) × (r ≡ Err f))
 if_err true d f r e = inl (refl, err_is e)
@@ -69,7 +66,7 @@ misplaced_kind false t = (refl, refl)
 -- a token that no statement goes on with
 stray : (f : BenchFault) (names : List (List ℕ)) (place : Place) (t : Lexeme) (ts : List Lexeme) → go names place t.word ≡ None → misplaced t ≡ f → Caught f names place (t ∷ ts)
 stray f names place t ts g is =
-    let k = misplaced_kind (is_bad t.word) t in
+    let k = misplaced_kind (has_class Bad t.word) t in
     subst (λ d. Caught d names place (t ∷ ts)) is (here (misplaced t) names place t ts (rw g k.0) k.1)
 
 named_err : (w : Word) (t : Lexeme) (f : BenchFault) → named (name_in w) t ≡ Err f → (c : Class) × (w ≡ mark c) × (misplaced t ≡ f)
@@ -97,23 +94,14 @@ short_caught f names place t ts h e =
     (short_err t f e)
 
 -- a mark that is wanted
-wanted_caught : (is_wanted : Word → Bool) (f : BenchFault) (names : List (List ℕ)) (place : Place) (t : Lexeme) (ts : List Lexeme) → ((w : Word) → is_wanted w ≡ false → go names place w ≡ None)
-    → (if is_wanted t.word then Ok ts else Err (misplaced t)) ≡ Err f → Caught f names place (t ∷ ts)
-wanted_caught is_wanted f names place t ts other e =
+marked_caught : (c : Class) (f : BenchFault) (names : List (List ℕ)) (place : Place) (ts : List Lexeme) → Closed ts → ((w : Word) → has_class c w ≡ false → go names place w ≡ None) → marked c ts ≡ Err f → Caught f names place ts
+unfolding marked
+marked_caught class f names place [] c other e = absurd c
+marked_caught class f names place (t ∷ ts) c other e =
     ⊎_elim
     (λ h. let no = h.1 in absurd (cc))
     (λ h. stray f names place t ts (other t.word h.0) (err_is h.1))
-    (chosen (is_wanted t.word) (Ok ts) (Err (misplaced t)) (Err f) e)
-
-closed_caught : (f : BenchFault) (names : List (List ℕ)) (place : Place) (ts : List Lexeme) → Closed ts → ((w : Word) → is_close w ≡ false → go names place w ≡ None) → closed ts ≡ Err f → Caught f names place ts
-unfolding closed
-closed_caught f names place [] c other e = absurd c
-closed_caught f names place (t ∷ ts) c other e = wanted_caught is_close f names place t ts other e
-
-opened_caught : (f : BenchFault) (names : List (List ℕ)) (place : Place) (ts : List Lexeme) → Closed ts → ((w : Word) → is_open w ≡ false → go names place w ≡ None) → opened ts ≡ Err f → Caught f names place ts
-unfolding opened
-opened_caught f names place [] c other e = absurd c
-opened_caught f names place (t ∷ ts) c other e = wanted_caught is_open f names place t ts other e
+    (chosen (has_class class t.word) (Ok ts) (Err (misplaced t)) (Err f) e)
 
 -- what marks the places take
 listing_marks : (names : List (List ℕ)) (n k : List ℕ) (only : Bool) (w : Word) → Naming names (listing n k only) w
@@ -129,21 +117,21 @@ start_mark names _ e = refl
 start_marks : (names : List (List ℕ)) (w : Word) → is_end w ≡ false → Naming names start w
 start_marks names w other = record { marks = (λ c is. ap (go names start) is ∙ start_mark names c (ap is_end (sym is) ∙ other)); fits = (λ n. refl) }
 
-kinded_other : (names : List (List ℕ)) (n k : List ℕ) (w : Word) → is_open w ≡ false → go names (kinded n k) w ≡ None
+kinded_other : (names : List (List ℕ)) (n k : List ℕ) (w : Word) → has_class Open w ≡ false → go names (kinded n k) w ≡ None
 kinded_other names n k (mark Open) e = absurd (cc)
 kinded_other names n k w e = refl
 
-named_other : (names : List (List ℕ)) (which : Bool) (n : List ℕ) (w : Word) → is_close w ≡ false → go names (named_place which n) w ≡ None
+named_other : (names : List (List ℕ)) (which : Bool) (n : List ℕ) (w : Word) → has_class Close w ≡ false → go names (named_place which n) w ≡ None
 named_other names true n (mark Close) e = absurd (cc)
 named_other names false n (mark Close) e = absurd (cc)
 named_other names which n w e = refl
 
-listed_other : (names : List (List ℕ)) (n k : List ℕ) (only : Bool) (w : Word) → is_comma w ≡ false → is_close w ≡ false → go names (listed n k only) w ≡ None
+listed_other : (names : List (List ℕ)) (n k : List ℕ) (only : Bool) (w : Word) → has_class Comma w ≡ false → has_class Close w ≡ false → go names (listed n k only) w ≡ None
 listed_other names n k only (mark Comma) e d = absurd (cc)
 listed_other names n k only (mark Close) e d = absurd (cc)
 listed_other names n k only w e d = refl
 
-first_other : (names : List (List ℕ)) (n : List ℕ) (w : Word) → is_equals w ≡ false → is_open w ≡ false → go names (first n) w ≡ None
+first_other : (names : List (List ℕ)) (n : List ℕ) (w : Word) → has_class Equals w ≡ false → has_class Open w ≡ false → go names (first n) w ≡ None
 first_other names n (mark Equals) e d = absurd (cc)
 first_other names n (mark Open) e d = absurd (cc)
 first_other names n w e d = refl
@@ -183,17 +171,17 @@ operands_caught d f names n k only (t ∷ u ∷ ts) is many c e =
     take_name d names (listing n k only) t (u ∷ ts) h.0 (record { names = names; place = listed n k only }) word refl (ok_name h.0 (short_is t h.0 h.1).1)
     (⊎_elim
     (λ x.
-    let comma = comma_is u.word x.0 in
+    let comma = mark_is Comma u.word refl x.0 in
     ⊎_elim
     (λ y. subst (λ g. Caught g names (listed n k only) (u ∷ ts)) y.1 (here (fault_at u faults.Operands) names (listed n k only) u ts (ap (verdict names (listed n k only)) comma ∙ first_comma names n k only f is y.0 many) refl))
     (λ y. take_mark d names (listed n k only) u ts Comma (record { names = names; place = listing n k false }) comma refl (comma_verdict names n k only f is y.0)
-    (operands_caught d f names n k false ts is (λ _. y.0) (going_on u ts (mark Comma) comma refl c1) (⊎_elim (λ z. z) (λ z. let no = z.2 in absurd (cc)) (bind_err (operands_at f ts) _ d y.1))))
+    (operands_caught d f names n k false ts is (λ _. y.0) (going_on u ts (mark Comma) comma refl c1) (last_err (operands_at f ts) _ d y.1)))
     (if_err (takes_one f) (fault_at u faults.Operands) d (with_first (record { name = h.0; line = t.line }) (operands_at f ts)) x.1))
     (λ x. ⊎_elim
     (λ y. let no = y.1 in absurd (cc))
     (λ y. stray d names (listed n k only) u ts (listed_other names n k only u.word x.0 y.0) (err_is y.1))
-    (chosen (is_close u.word) (Ok (record { name = h.0; line = t.line } ∷ [], ts)) (Err (misplaced u)) (Err d) x.1))
-    (chosen (is_comma u.word) _ _ (Err d) h.2)))
+    (chosen (has_class Close u.word) (Ok (record { name = h.0; line = t.line } ∷ [], ts)) (Err (misplaced u)) (Err d) x.1))
+    (chosen (has_class Comma u.word) _ _ (Err d) h.2)))
     (bind_err (short_name t) _ d e)
 
 -- a net that may not be driven
@@ -222,100 +210,62 @@ cell_err : (o : Option Cell) (t : Lexeme) (f : BenchFault) → cell_in o t ≡ E
 cell_err None t f e = (refl, err_is e)
 cell_err (Some g) t f e = absurd (cc)
 
-cell_ok : (o : Option Cell) (t : Lexeme) (f : Cell) → cell_in o t ≡ Ok f → o ≡ Some f
-cell_ok None t f e = absurd (cc)
-cell_ok (Some g) t f e = ap Some (cc)
-
-equalled_mark : (names : List (List ℕ)) (n : List ℕ) (c : Class) → go names (equalled n) (mark c) ≡ None
-equalled_mark names n c = refl
-
-keyed_mark : (names : List (List ℕ)) (which : Bool) (c : Class) → go names (keyed which) (mark c) ≡ None
-keyed_mark names which c = refl
-
-opened_word : (ts rest : List Lexeme) → opened ts ≡ Ok rest → (u : Lexeme) × (ts ≡ u ∷ rest) × (u.word ≡ mark Open)
-unfolding opened
-opened_word [] rest e = absurd (cc)
-opened_word (t ∷ ts) rest e =
-    ⊎_elim
-    (λ h. (t, ap (λ l. t ∷ l) (ok_is h.1), open_is t.word h.0))
-    (λ h. let no = h.1 in absurd (cc))
-    (chosen (is_open t.word) (Ok ts) (Err (misplaced t)) (Ok rest) e)
-
 no_kind : (names : List (List ℕ)) (n k : List ℕ) → cell_of k ≡ None → verdict names (equalled n) (name k) ≡ Some faults.Kind
 no_kind names n k is = rw is refl
 
 known_kind : (names : List (List ℕ)) (n k : List ℕ) (f : Cell) → cell_of k ≡ Some f → verdict names (equalled n) (name k) ≡ None
 known_kind names n k f is = rw is (ok_name k (kind_short k f is))
 
+-- a name that is taken next, where no mark is
+name_caught : {A : Type 0} (more : Lexeme × List Lexeme → List ℕ → Result A BenchFault) (d : BenchFault) (names : List (List ℕ)) (place : Place) (ts : List Lexeme) → Closed ts → ((c : Class) → go names place (mark c) ≡ None)
+    → ((t : Lexeme) (rest : List Lexeme) (n : List ℕ) → t.word ≡ name n → Closed rest → more (t, rest) n ≡ Err d → Caught d names place (t ∷ rest))
+    → (do
+      t ← next_in ts
+      n ← named (name_in t.0.word) t.0
+      more t n) ≡ Err d → Caught d names place ts
+name_caught more d names place [] c none go_on e = absurd c
+name_caught more d names place (t ∷ ts) c none go_on e =
+    ⊎_elim
+    (λ k. let m = named_err t.word t d k in stray d names place t ts (ap (go names place) m.1 ∙ none m.0) m.2)
+    (λ k. let is = name_is t.word k.0 (named_is _ t k.0 k.1) in go_on t ts k.0 is (going_on t ts (name k.0) is refl c) k.2)
+    (bind_err (named (name_in t.word) t) _ d e)
+
 driver_caught : (d : BenchFault) (names : List (List ℕ)) (n : List ℕ) (u : Lexeme) (ts : List Lexeme) → u.word ≡ mark Equals → IsShort n → Closed ts → driver_at names n u ts ≡ Err d → Caught d names (first n) (u ∷ ts)
 unfolding driver_at
 driver_caught d names n u ts word fits c e =
     ⊎_elim
     (λ a. let k = net_err names n u d a in here d names (first n) u ts (ap (verdict names (first n)) word ∙ not_name (net_check names n) (name_check n) d.kind (ok_name n fits) k.0) k.1)
-    (λ a. take_mark d names (first n) u ts Equals (record { names = names; place = equalled n }) word refl (ok_net names n (new_is names a.0 n u a.1)) (⊎_elim
-    (λ b. absurd (next_err ts d b c))
-    (λ b.
-    let t = b.0.0 in
-    let c1 : Closed (t ∷ b.0.1) = subst Closed (next_is ts b.0 b.1) c in
-    subst (Caught d names (equalled n)) (sym (next_is ts b.0 b.1)) (⊎_elim
-    (λ k. let m = named_err t.word t d k in stray d names (equalled n) t b.0.1 (ap (go names (equalled n)) m.1 ∙ equalled_mark names n m.0) m.2)
-    (λ k.
-    let is = name_is t.word k.0 (named_is _ t k.0 k.1) in
-    ⊎_elim
-    (λ f. let m = cell_err (cell_of k.0) t d f in subst (λ g. Caught g names (equalled n) (t ∷ b.0.1)) m.1 (here (fault_at t faults.Kind) names (equalled n) t b.0.1 (ap (verdict names (equalled n)) is ∙ no_kind names n k.0 m.0) refl))
+    (λ a. take_mark d names (first n) u ts Equals (record { names = names; place = equalled n }) word refl (ok_net names n (new_is names a.0 n u a.1)) (name_caught _ d names (equalled n) ts c (λ m. refl)
+    (λ t rest k is c1 h. ⊎_elim
+    (λ f. let m = cell_err (cell_of k) t d f in subst (λ g. Caught g names (equalled n) (t ∷ rest)) m.1 (here (fault_at t faults.Kind) names (equalled n) t rest (ap (verdict names (equalled n)) is ∙ no_kind names n k m.0) refl))
     (λ f.
-    let known = cell_ok (cell_of k.0) t f.0 f.1 in
-    let c2 = going_on t b.0.1 (name k.0) is refl c1 in
-    take_name d names (equalled n) t b.0.1 k.0 (record { names = names; place = kinded n k.0 }) is refl (known_kind names n k.0 f.0 known) (⊎_elim
-    (λ o. opened_caught d names (kinded n k.0) b.0.1 c2 (kinded_other names n k.0) o)
+    let known = cell_is (cell_of k) t f.0 f.1 in
+    take_name d names (equalled n) t rest k (record { names = names; place = kinded n k }) is refl (known_kind names n k f.0 known) (⊎_elim
+    (λ o. marked_caught Open d names (kinded n k) rest c1 (kinded_other names n k) o)
     (λ o.
-    let w = opened_word b.0.1 o.0 o.1 in
-    let c3 = going_on w.0 o.0 (mark Open) w.2 refl (subst Closed w.1 c2) in
-    subst (Caught d names (kinded n k.0)) (sym w.1) (take_mark d names (kinded n k.0) w.0 o.0 Open (record { names = names; place = listing n k.0 true }) w.2 refl refl
-    (operands_caught d f.0 names n k.0 true o.0 known (λ never. absurd (cc)) c3 (⊎_elim (λ z. z) (λ z. let no = z.2 in absurd (cc)) (bind_err (operands_at f.0 o.0) _ d o.2)))))
-    (bind_err (opened b.0.1) _ d f.2)))
-    (bind_err (cell_in (cell_of k.0) t) _ d k.2))
-    (bind_err (named (name_in t.word) t) _ d b.2)))
-    (bind_err (next_in ts) _ d a.2)))
+    let w = marked_is Open rest o.0 refl o.1 in
+    let c2 = going_on (at (mark Open) w.0) o.0 (mark Open) refl refl (subst Closed w.1 c1) in
+    subst (Caught d names (kinded n k)) (sym w.1) (take_mark d names (kinded n k) (at (mark Open) w.0) o.0 Open (record { names = names; place = listing n k true }) refl refl refl
+    (operands_caught d f.0 names n k true o.0 known (λ never. absurd (cc)) c2 (last_err (operands_at f.0 o.0) _ d o.2))))
+    (bind_err (marked Open rest) _ d f.2)))
+    (bind_err (cell_in (cell_of k) t) _ d h))
+    a.2))
     (bind_err (with_net names n u) _ d e)
 
 input_caught : (d : BenchFault) (names : List (List ℕ)) (ts : List Lexeme) → Closed ts → input_at names ts ≡ Err d → Caught d names (keyed true) ts
 unfolding input_at
-input_caught d names ts c e =
-    ⊎_elim
-    (λ b. absurd (next_err ts d b c))
-    (λ b.
-    let t = b.0.0 in
-    let c1 : Closed (t ∷ b.0.1) = subst Closed (next_is ts b.0 b.1) c in
-    subst (Caught d names (keyed true)) (sym (next_is ts b.0 b.1)) (⊎_elim
-    (λ k. let m = named_err t.word t d k in stray d names (keyed true) t b.0.1 (ap (go names (keyed true)) m.1 ∙ keyed_mark names true m.0) m.2)
-    (λ k.
-    let is = name_is t.word k.0 (named_is _ t k.0 k.1) in
-    ⊎_elim
-    (λ a. let m = net_err names k.0 t d a in here d names (keyed true) t b.0.1 (ap (verdict names (keyed true)) is ∙ m.0) m.1)
-    (λ a. take_name d names (keyed true) t b.0.1 k.0 (record { names = names; place = named_place true k.0 }) is refl (new_check names k.0 (new_is names a.0 k.0 t a.1))
-    (closed_caught d names (named_place true k.0) b.0.1 (going_on t b.0.1 (name k.0) is refl c1) (named_other names true k.0)
-    (⊎_elim (λ z. z) (λ z. let no = z.2 in absurd (cc)) (bind_err (closed b.0.1) _ d a.2))))
-    (bind_err (with_net names k.0 t) _ d k.2))
-    (bind_err (named (name_in t.word) t) _ d b.2)))
-    (bind_err (next_in ts) _ d e)
+input_caught d names ts c e = name_caught _ d names (keyed true) ts c (λ m. refl)
+    (λ t rest n is c1 h. ⊎_elim
+    (λ a. let m = net_err names n t d a in here d names (keyed true) t rest (ap (verdict names (keyed true)) is ∙ m.0) m.1)
+    (λ a. take_name d names (keyed true) t rest n (record { names = names; place = named_place true n }) is refl (new_check names n (new_is names a.0 n t a.1))
+    (marked_caught Close d names (named_place true n) rest c1 (named_other names true n) (last_err (marked Close rest) _ d a.2)))
+    (bind_err (with_net names n t) _ d h))
+    e
 
 used_caught : (d : BenchFault) (names : List (List ℕ)) (ts : List Lexeme) → Closed ts → used_name ts ≡ Err d → Caught d names (keyed false) ts
 unfolding used_name
 used_caught d names [] c e = absurd c
-used_caught d names (t ∷ ts) c e =
-    ⊎_elim
-    (λ h. short_caught d names (keyed false) t ts (output_marks names t.word) h)
-    (λ h. let no = h.2 in absurd (cc))
-    (bind_err (short_name t) _ d e)
-
-used_word : (ts : List Lexeme) (r : Mention × List Lexeme) → used_name ts ≡ Ok r → (t : Lexeme) × (ts ≡ t ∷ r.1) × (t.word ≡ name r.0.name) × IsShort r.0.name
-unfolding used_name
-used_word [] r e = absurd (cc)
-used_word (t ∷ ts) r e =
-    let h = bind_ok (short_name t) _ r e in
-    let same : (record { name = h.0; line = t.line }, ts) ≡ r = ok_is h.2 in
-    (t, ap (λ (p : Mention × List Lexeme). t ∷ p.1) same, short_word t h.0 h.1 ∙ ap (λ (p : Mention × List Lexeme). name p.0.name) same, subst (λ (p : Mention × List Lexeme). IsShort p.0.name) same (short_is t h.0 h.1).1)
+used_caught d names (t ∷ ts) c e = short_caught d names (keyed false) t ts (output_marks names t.word) (last_err (short_name t) _ d e)
 
 output_caught : (d : BenchFault) (names : List (List ℕ)) (ts : List Lexeme) → Closed ts → output_at ts ≡ Err d → Caught d names (keyed false) ts
 unfolding output_at
@@ -323,10 +273,10 @@ output_caught d names ts c e =
     ⊎_elim
     (λ m. used_caught d names ts c m)
     (λ m.
-    let w = used_word ts m.0 m.1 in
-    subst (Caught d names (keyed false)) (sym w.1) (take_name d names (keyed false) w.0 m.0.1 m.0.0.name (record { names = names; place = named_place false m.0.0.name }) w.2 refl (ok_name m.0.0.name w.3)
-    (closed_caught d names (named_place false m.0.0.name) m.0.1 (going_on w.0 m.0.1 (name m.0.0.name) w.2 refl (subst Closed w.1 c)) (named_other names false m.0.0.name)
-    (⊎_elim (λ z. z) (λ z. let no = z.2 in absurd (cc)) (bind_err (closed m.0.1) _ d m.2)))))
+    let n = m.0.0.name in
+    let w = used_takes ts m.0 m.1 in
+    subst (Caught d names (keyed false)) (sym w.0) (take_name d names (keyed false) (said m.0.0) m.0.1 n (record { names = names; place = named_place false n }) refl refl (ok_name n w.1)
+    (marked_caught Close d names (named_place false n) m.0.1 (going_on (said m.0.0) m.0.1 (name n) refl refl (subst Closed w.0 c)) (named_other names false n) (last_err (marked Close m.0.1) _ d m.2))))
     (bind_err (used_name ts) _ d e)
 
 keyword_caught : (d : BenchFault) (names : List (List ℕ)) (n : List ℕ) (u : Lexeme) (ts : List Lexeme) → u.word ≡ mark Open → Closed ts → keyword_at names n u ts ≡ Err d → Caught d names (first n) (u ∷ ts)
@@ -356,12 +306,12 @@ statement_caught d names (t ∷ ts) c more e =
     let u = b.0.0 in
     let c2 : Closed (u ∷ b.0.1) = subst Closed (next_is ts b.0 b.1) c1 in
     subst (Caught d names (first a.0)) (sym (next_is ts b.0 b.1)) (⊎_elim
-    (λ x. let is = equals_is u.word x.0 in driver_caught d names a.0 u b.0.1 is fits (going_on u b.0.1 (mark Equals) is refl c2) x.1)
+    (λ x. let is = mark_is Equals u.word refl x.0 in driver_caught d names a.0 u b.0.1 is fits (going_on u b.0.1 (mark Equals) is refl c2) x.1)
     (λ x. ⊎_elim
-    (λ y. let is = open_is u.word y.0 in keyword_caught d names a.0 u b.0.1 is (going_on u b.0.1 (mark Open) is refl c2) y.1)
+    (λ y. let is = mark_is Open u.word refl y.0 in keyword_caught d names a.0 u b.0.1 is (going_on u b.0.1 (mark Open) is refl c2) y.1)
     (λ y. stray d names (first a.0) u b.0.1 (first_other names a.0 u.word x.0 y.0) (err_is y.1))
-    (chosen (is_open u.word) (keyword_at names a.0 u b.0.1) (Err (misplaced u)) (Err d) x.1))
-    (chosen (is_equals u.word) (driver_at names a.0 u b.0.1) _ (Err d) b.2)))
+    (chosen (has_class Open u.word) (keyword_at names a.0 u b.0.1) (Err (misplaced u)) (Err d) x.1))
+    (chosen (has_class Equals u.word) (driver_at names a.0 u b.0.1) _ (Err d) b.2)))
     (bind_err (next_in ts) _ d a.2)))
     (bind_err (short_name t) _ d e)
 

@@ -2,13 +2,13 @@
 use Rattle.std.proofs.Common.{◌≡◌, ℕ, ◌<◌, ◌≤◌, List, [], ◌∷◌, length, Bool, true, false, refl, ap, ◌∙◌, subst, Result, Ok, Err, nat_lt, arith}
 use Rattle.std.specs.Prelude.{if◌then◌else◌, Option, Some, None, nat_le}
 use Rattle.cmb_bench.specs.declared.text.Class.{Class}
-use Rattle.cmb_bench.specs.declared.text.Class.TheVariants.{Open, Close, Comma, Equals}
+use Rattle.cmb_bench.specs.declared.text.Class.TheVariants.{White, Comment, Open, Close, Comma, Equals, Bad, End}
 use Rattle.cmb_bench.specs.declared.fault.BenchFault.{BenchFault}
 use Rattle.cmb_bench.specs.Text.{Lexeme, Word, name, mark}
-use Rattle.cmb_bench.specs.Inner.Word.{is_open, is_close, is_comma, is_equals, name_in}
+use Rattle.cmb_bench.specs.Inner.Word.{has_class, name_in}
 use Rattle.cmb_bench.specs.Grammar.{at, IsNew, IsShort}
 use Rattle.cmb_bench.specs.Statement.{is_member}
-use Rattle.cmb_bench.specs.Inner.Reading.{◌>>=◌, misplaced, next_in, named, short_name, short, opened, closed, with_net}
+use Rattle.cmb_bench.specs.Inner.Reading.{◌>>=◌, next_in, named, short_name, short, marked, with_net}
 
 pub bind_ok : {A B : Type 0} (r : Result A BenchFault) (f : A → Result B BenchFault) (y : B) → (r >>= f) ≡ Ok y → (x : A) × (r ≡ Ok x) × (f x ≡ Ok y)
 bind_ok (Ok x) f y e = (x, refl, e)
@@ -25,21 +25,17 @@ provided false d r y e = absurd (cc)
 pub ok_is : {A : Type 0} {x y : A} → let r : Result A BenchFault = Ok x in r ≡ Ok y → x ≡ y
 ok_is e = cc
 
-pub open_is : (w : Word) → is_open w ≡ true → w ≡ mark Open
-open_is (mark Open) e = refl
-open_is _ e = absurd (cc)
-
-pub close_is : (w : Word) → is_close w ≡ true → w ≡ mark Close
-close_is (mark Close) e = refl
-close_is _ e = absurd (cc)
-
-pub comma_is : (w : Word) → is_comma w ≡ true → w ≡ mark Comma
-comma_is (mark Comma) e = refl
-comma_is _ e = absurd (cc)
-
-pub equals_is : (w : Word) → is_equals w ≡ true → w ≡ mark Equals
-equals_is (mark Equals) e = refl
-equals_is _ e = absurd (cc)
+-- a token of a mark's class is that mark
+pub mark_is : (c : Class) (w : Word) → has_class c (mark c) ≡ true → has_class c w ≡ true → w ≡ mark c
+mark_is White (mark White) m e = refl
+mark_is Comment (mark Comment) m e = refl
+mark_is Open (mark Open) m e = refl
+mark_is Close (mark Close) m e = refl
+mark_is Comma (mark Comma) m e = refl
+mark_is Equals (mark Equals) m e = refl
+mark_is Bad (mark Bad) m e = refl
+mark_is End (mark End) m e = refl
+mark_is _ _ m e = absurd (cc)
 
 pub name_is : (w : Word) (n : List ℕ) → name_in w ≡ Some n → w ≡ name n
 name_is (name m) n e = ap name (cc)
@@ -67,24 +63,12 @@ short_is t n e =
     let same : s.0 ≡ n = ok_is u.1 in
     (token_is t (name n) (name_is t.word n (named_is _ t s.0 s.1 ∙ ap Some same)), subst IsShort same (at_most _ _ u.0))
 
--- the first token is the mark that a test wants
-wanted_is : (test : Word → Bool) (c : Class) (ts rest : List Lexeme) → ((w : Word) → test w ≡ true → w ≡ mark c)
-    → (do
-      t ← next_in ts
-      if test t.0.word then Ok t.1 else Err (misplaced t.0)) ≡ Ok rest
-    → (l : ℕ) × (ts ≡ at (mark c) l ∷ rest)
-wanted_is test c ts rest only e =
+pub marked_is : (c : Class) (ts rest : List Lexeme) → has_class c (mark c) ≡ true → marked c ts ≡ Ok rest → (l : ℕ) × (ts ≡ at (mark c) l ∷ rest)
+unfolding marked
+marked_is c ts rest m e =
     let s = bind_ok (next_in ts) _ rest e in
-    let u = provided (test s.0.0.word) _ (Ok s.0.1) rest s.2 in
-    (s.0.0.line, next_is ts s.0 s.1 ∙ ap (λ t. t ∷ s.0.1) (token_is s.0.0 _ (only _ u.0)) ∙ ap (λ l. at (mark c) s.0.0.line ∷ l) (ok_is u.1))
-
-pub opened_is : (ts rest : List Lexeme) → opened ts ≡ Ok rest → (l : ℕ) × (ts ≡ at (mark Open) l ∷ rest)
-unfolding opened
-opened_is ts rest e = wanted_is is_open Open ts rest open_is e
-
-pub closed_is : (ts rest : List Lexeme) → closed ts ≡ Ok rest → (l : ℕ) × (ts ≡ at (mark Close) l ∷ rest)
-unfolding closed
-closed_is ts rest e = wanted_is is_close Close ts rest close_is e
+    let u = provided (has_class c s.0.0.word) _ (Ok s.0.1) rest s.2 in
+    (s.0.0.line, next_is ts s.0 s.1 ∙ ap (λ t. t ∷ s.0.1) (token_is s.0.0 _ (mark_is c _ m u.0)) ∙ ap (λ l. at (mark c) s.0.0.line ∷ l) (ok_is u.1))
 
 less : (n m : ℕ) → nat_le m n ≡ false → n < m
 less n m e = grind arith

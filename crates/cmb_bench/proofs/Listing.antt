@@ -7,7 +7,8 @@ use Rattle.cmb_bench.specs.declared.fault.ReadError.{ReadError}
 use Rattle.cmb_bench.specs.declared.fault.ReadError.TheVariants as errors
 use Rattle.cmb_bench.specs.declared.netlist.Cell.{Cell}
 use Rattle.cmb_bench.specs.Text.{Lexeme}
-use Rattle.cmb_bench.specs.Inner.Word.{is_comma, is_end}
+use Rattle.cmb_bench.specs.declared.text.Class.TheVariants.{Comma}
+use Rattle.cmb_bench.specs.Inner.Word.{is_end, has_class}
 use Rattle.cmb_bench.specs.Inner.Scan.{behind}
 use Rattle.cmb_bench.specs.Kinds.{takes_one}
 use Rattle.cmb_bench.specs.Statement.{Mention}
@@ -23,14 +24,14 @@ front_more : (ms : List Mention) (m : Mention) (read : Result (List Mention × L
 front_more ms m (Ok x) = ap (λ l. Ok (l, x.1)) (append_assoc ms (m ∷ []) x.0)
 front_more ms m (Err e) = refl
 
-comma : (f : Cell) (t u : Lexeme) (ts : List Lexeme) (name : List ℕ) → short_name t ≡ Ok name → is_comma u.word ≡ true → takes_one f ≡ false →
+comma : (f : Cell) (t u : Lexeme) (ts : List Lexeme) (name : List ℕ) → short_name t ≡ Ok name → has_class Comma u.word ≡ true → takes_one f ≡ false →
     operands_at f (t ∷ u ∷ ts) ≡ with_first (record { name = name; line = t.line }) (operands_at f ts)
 unfolding operands_at
-comma f t u ts name is_name is_comma more = rw (is_name, is_comma, more) refl
+comma f t u ts name is_name comma_is more = rw (is_name, comma_is, more) refl
 
 pub next_round : (f : Cell) (s r q : List Lexeme) (t u : Lexeme) (name : List ℕ) (ms : List Mention) →
     s ≡ t ∷ behind t.word r → is_end t.word ≡ false → r ≡ u ∷ behind u.word q → is_end u.word ≡ false →
-    short_name t ≡ Ok name → is_comma u.word ≡ true → takes_one f ≡ false →
+    short_name t ≡ Ok name → has_class Comma u.word ≡ true → takes_one f ≡ false →
     with_front (ms ++ record { name = name; line = t.line } ∷ []) (operands_at f q) ≡ with_front ms (operands_at f s)
 next_round f s r q t u name ms s_is t_inner r_is u_inner is_name comma_is more =
     front_more ms (record { name = name; line = t.line }) (operands_at f q) ∙ ap (with_front ms) (sym (ap (operands_at f) (s_is ∙ ap (λ b. t ∷ (if b then [] else r)) t_inner ∙ ap (λ l. t ∷ l) (r_is ∙ ap (λ b. u ∷ (if b then [] else q)) u_inner)) ∙ comma f t u q name is_name comma_is more))

@@ -3,9 +3,9 @@ use Rattle.std.specs.Prelude.{ℕ, List, [], ◌∷◌, ◌++◌, Bool, true, fa
 use Rattle.cmb_bench.specs.declared.fault.FaultKind.{FaultKind}
 use Rattle.cmb_bench.specs.declared.fault.FaultKind.TheVariants as faults
 use Rattle.cmb_bench.specs.declared.netlist.Cell.{Cell}
-use Rattle.cmb_bench.specs.Inner.Word.{is_bad}
+use Rattle.cmb_bench.specs.Inner.Word.{has_class}
 use Rattle.cmb_bench.specs.Statement.{is_member}
-use Rattle.cmb_bench.specs.declared.text.Class.TheVariants.{Open, Close, Comma, Equals, End}
+use Rattle.cmb_bench.specs.declared.text.Class.TheVariants.{Open, Close, Comma, Equals, End, Bad}
 use Rattle.cmb_bench.specs.Text.{Lexeme, Word, name, mark}
 use Rattle.cmb_bench.specs.Kinds.{is_word, cell_of, takes_one}
 
@@ -81,4 +81,4 @@ if_taken None o = Some faults.Statement
 if_taken (Some s) o = o
 
 abbrev pub verdict : List (List ℕ) → Place → Word → Option FaultKind
-verdict names place word = if is_bad word then Some faults.Byte else if_taken (go names place word) (checked names place word)
+verdict names place word = if has_class Bad word then Some faults.Byte else if_taken (go names place word) (checked names place word)

@@ -7,7 +7,7 @@ use Rattle.cmb_bench.specs.declared.fault.FaultKind.TheVariants as faults
 use Rattle.cmb_bench.specs.declared.netlist.Cell.{Cell}
 use Rattle.cmb_bench.specs.declared.netlist.Cell.TheVariants.{Flop}
 use Rattle.cmb_bench.specs.Text.{Lexeme, Word, name, mark}
-use Rattle.cmb_bench.specs.Inner.Word.{is_bad}
+use Rattle.cmb_bench.specs.Inner.Word.{has_class}
 use Rattle.cmb_bench.specs.Kinds.{is_word, cell_of, takes_one}
 use Rattle.cmb_bench.specs.Statement.{Statement, input, output, drive, Mention, driven_by, is_member, driven}
 use Rattle.cmb_bench.specs.Grammar.{at, said, SpellsOperands, Spells, SpellsAll}
@@ -17,6 +17,7 @@ use Rattle.cmb_bench.proofs.Takes.{chosen}
 use Rattle.cmb_bench.proofs.Parsing.{driven_more}
 use Rattle.cmb_bench.proofs.Placing.{statement_run}
 use Rattle.cmb_bench.proofs.Completing.{word_for, and_then_is}
+use Rattle.cmb_bench.proofs.Inversion.{mark_is}
 
 -- with any further operands these tokens are a driver statement of this net
 abbrev Lists : List ℕ → List Lexeme → Type 0
@@ -201,10 +202,6 @@ check_stands ss names (keyed true) b (name n) l k is h e =
 check_stands ss names place b (name n) l k is h e = named_stands b n l k e
 check_stands ss names place b word l k is h e = absurd (cc)
 
-bad_is : (w : Word) → is_bad w ≡ true → w ≡ mark Bad
-bad_is (mark Bad) e = refl
-bad_is w e = absurd (cc)
-
 taken_stands : (o : Option Stand) (c : Option FaultKind) (b : List Lexeme) (t : Lexeme) (k : FaultKind) → (o ≡ None → StandsAt faults.Statement b t) → (c ≡ Some k → StandsAt k b t) → if_taken o c ≡ Some k → StandsAt k b t
 taken_stands None c b t k never found e = subst (λ j. StandsAt j b t) (kind_is e) (never refl)
 taken_stands (Some s) c b t k never found e = found e
@@ -214,6 +211,6 @@ pub verdict_stands : (b : List Lexeme) (t : Lexeme) (s : Stand) (k : FaultKind) 
 verdict_stands b t s k e v =
     let h = shaped b s e in
     ⊎_elim
-    (λ c. subst (λ j. StandsAt j b t) (kind_is c.1) (bad_is t.word c.0))
+    (λ c. subst (λ j. StandsAt j b t) (kind_is c.1) (mark_is Bad t.word refl c.0))
     (λ c. taken_stands (go s.names s.place t.word) (checked s.names s.place t.word) b t k (λ g. not_begun b t s e g) (λ found. check_stands h.statements s.names s.place b t.word t.line k h.names h.shape found) c.1)
-    (chosen (is_bad t.word) (Some faults.Byte) (if_taken (go s.names s.place t.word) (checked s.names s.place t.word)) (Some k) v)
+    (chosen (has_class Bad t.word) (Some faults.Byte) (if_taken (go s.names s.place t.word) (checked s.names s.place t.word)) (Some k) v)

@@ -1,17 +1,17 @@
 -- What is read is in the grammar, and lawful.
 use Rattle.std.proofs.Common.{◌≡◌, ℕ, List, [], ◌∷◌, Bool, true, false, refl, sym, ap, ◌∙◌, subst, Ok, inl, inr, ⊎_elim}
 use Rattle.std.specs.Prelude.{if◌then◌else◌, Option, Some, None, codes, ◌⊎◌}
-use Rattle.cmb_bench.specs.declared.text.Class.TheVariants.{Open, Comma, Equals}
+use Rattle.cmb_bench.specs.declared.text.Class.TheVariants.{Open, Comma, Equals, Close}
 use Rattle.cmb_bench.specs.declared.netlist.Cell.{Cell}
 use Rattle.cmb_bench.specs.Text.{Lexeme, Word, name, mark}
-use Rattle.cmb_bench.specs.Inner.Word.{is_open, is_close, is_comma, is_equals, name_in}
+use Rattle.cmb_bench.specs.Inner.Word.{has_class, name_in}
 use Rattle.cmb_bench.specs.Kinds.{is_word, cell_of, takes_one}
 use Rattle.cmb_bench.specs.Statement.{Statement, Mention}
 use Rattle.cmb_bench.specs.Grammar.{at, said, IsShort, AreShort, HasArity, SpellsOperands, Spells, IsLawful}
-use Rattle.cmb_bench.specs.Inner.Reading.{next_in, named, cell_in, short_name, used_name, opened, closed, with_net, with_first, operands_at, driver_at, input_at, output_at, keyword_at, statement_at}
+use Rattle.cmb_bench.specs.Inner.Reading.{next_in, named, cell_in, short_name, used_name, marked, with_net, with_first, operands_at, driver_at, input_at, output_at, keyword_at, statement_at}
 use Rattle.cmb_bench.specs.Meaning.{IsKind}
 use Rattle.cmb_bench.proofs.Arity.{arity_one, arity_more}
-use Rattle.cmb_bench.proofs.Inversion.{bind_ok, unless, provided, ok_is, open_is, close_is, comma_is, equals_is, name_is, token_is, next_is, named_is, short_is, opened_is, closed_is, new_is}
+use Rattle.cmb_bench.proofs.Inversion.{bind_ok, unless, provided, ok_is, mark_is, name_is, token_is, next_is, named_is, short_is, marked_is, new_is}
 
 -- which way a test went
 pub chosen : {A : Type 0} (b : Bool) (x y z : A) → (if b then x else y) ≡ z → ((b ≡ true) × (x ≡ z)) ⊎ ((b ≡ false) × (y ≡ z))
@@ -42,13 +42,13 @@ operands_takes f (t ∷ u ∷ ts) r e =
     let grown = grows f m u.line ts more.0.1 more.0.0 sh.1 one.0 inner in
     subst (λ q. Operands f (t ∷ u ∷ ts) q) (ok_is more.2)
     (subst (λ (v : Lexeme). Operands f (v ∷ u ∷ ts) (m ∷ more.0.0, more.0.1)) (sym sh.0)
-    (subst (λ (v : Lexeme). Operands f (said m ∷ v ∷ ts) (m ∷ more.0.0, more.0.1)) (sym (token_is u _ (comma_is _ c.0))) grown)))
-    (λ c. let last = provided (is_close u.word) _ (Ok (m ∷ [], ts)) r c.1 in
+    (subst (λ (v : Lexeme). Operands f (said m ∷ v ∷ ts) (m ∷ more.0.0, more.0.1)) (sym (token_is u _ (mark_is Comma _ refl c.0))) grown)))
+    (λ c. let last = provided (has_class Close u.word) _ (Ok (m ∷ [], ts)) r c.1 in
     subst (λ q. Operands f (t ∷ u ∷ ts) q) (ok_is last.1)
     (subst (λ (v : Lexeme). Operands f (v ∷ u ∷ ts) (m ∷ [], ts)) (sym sh.0)
-    (subst (λ (v : Lexeme). Operands f (said m ∷ v ∷ ts) (m ∷ [], ts)) (sym (token_is u _ (close_is _ last.0)))
+    (subst (λ (v : Lexeme). Operands f (said m ∷ v ∷ ts) (m ∷ [], ts)) (sym (token_is u _ (mark_is Close _ refl last.0)))
     (record { spelled = (u.line, refl); arity = arity_one f m; short = (sh.1, tt) }))))
-    (chosen (is_comma u.word) _ _ (Ok r) s.2)
+    (chosen (has_class Comma u.word) _ _ (Ok r) s.2)
 
 pub used_takes : (ts : List Lexeme) (r : Mention × List Lexeme) → used_name ts ≡ Ok r → (ts ≡ said r.0 ∷ r.1) × IsShort r.0.name
 unfolding used_name
@@ -59,7 +59,7 @@ used_takes ts r e =
     let same : (record { name = n.0; line = s.0.0.line }, s.0.1) ≡ r = ok_is n.2 in
     (next_is ts s.0 s.1 ∙ ap (λ t. t ∷ s.0.1) sh.0 ∙ ap (λ (p : Mention × List Lexeme). said p.0 ∷ p.1) same, subst (λ (p : Mention × List Lexeme). IsShort p.0.name) same sh.1)
 
-cell_is : (o : Option Cell) (t : Lexeme) (f : Cell) → cell_in o t ≡ Ok f → o ≡ Some f
+pub cell_is : (o : Option Cell) (t : Lexeme) (f : Cell) → cell_in o t ≡ Ok f → o ≡ Some f
 cell_is None t f e = absurd (cc)
 cell_is (Some g) t f e = ap Some (cc)
 
@@ -75,10 +75,10 @@ driver_takes names n a u ts r e =
     let t = bind_ok (next_in ts) _ r w.2 in
     let k = bind_ok (named (name_in t.0.0.word) t.0.0) _ r t.2 in
     let f = bind_ok (cell_in (cell_of k.0) t.0.0) _ r k.2 in
-    let o = bind_ok (opened t.0.1) _ r f.2 in
+    let o = bind_ok (marked Open t.0.1) _ r f.2 in
     let p = bind_ok (operands_at f.0 o.0) _ r o.2 in
     let kind_token = token_is t.0.0 _ (name_is t.0.0.word k.0 (named_is _ t.0.0 k.0 k.1)) in
-    let mark_token = opened_is t.0.1 o.0 o.1 in
+    let mark_token = marked_is Open t.0.1 o.0 refl o.1 in
     let inner = operands_takes f.0 o.0 p.0 p.1 in
     subst (λ q. Taken names (at (name n) a ∷ at (mark Equals) u.line ∷ ts) q) (ok_is p.2)
     (record {
@@ -92,9 +92,9 @@ input_takes names w a b ts r word e =
     let t = bind_ok (next_in ts) _ r e in
     let n = bind_ok (named (name_in t.0.0.word) t.0.0) _ r t.2 in
     let d = bind_ok (with_net names n.0 t.0.0) _ r n.2 in
-    let c = bind_ok (closed t.0.1) _ r d.2 in
+    let c = bind_ok (marked Close t.0.1) _ r d.2 in
     let name_token = token_is t.0.0 _ (name_is t.0.0.word n.0 (named_is _ t.0.0 n.0 n.1)) in
-    let mark_token = closed_is t.0.1 c.0 c.1 in
+    let mark_token = marked_is Close t.0.1 c.0 refl c.1 in
     subst (λ q. Taken names (at (name w) a ∷ at (mark Open) b ∷ ts) q) (ok_is c.2)
     (record {
       spelled = (w, a, b, t.0.0.line, mark_token.0, word, ap (λ l. at (name w) a ∷ at (mark Open) b ∷ l) (next_is ts t.0 t.1 ∙ ap (λ v. v ∷ t.0.1) name_token ∙ ap (λ l. at (name n.0) t.0.0.line ∷ l) mark_token.1));
@@ -105,9 +105,9 @@ pub output_takes : (names : List (List ℕ)) (w : List ℕ) (a b : ℕ) (ts : Li
 unfolding output_at
 output_takes names w a b ts r word e =
     let m = bind_ok (used_name ts) _ r e in
-    let c = bind_ok (closed m.0.1) _ r m.2 in
+    let c = bind_ok (marked Close m.0.1) _ r m.2 in
     let used = used_takes ts m.0 m.1 in
-    let mark_token = closed_is m.0.1 c.0 c.1 in
+    let mark_token = marked_is Close m.0.1 c.0 refl c.1 in
     subst (λ q. Taken names (at (name w) a ∷ at (mark Open) b ∷ ts) q) (ok_is c.2)
     (record {
       spelled = (w, a, b, mark_token.0, word, ap (λ l. at (name w) a ∷ at (mark Open) b ∷ l) (used.0 ∙ ap (λ l. said m.0.0 ∷ l) mark_token.1));
@@ -131,7 +131,7 @@ statement_takes names ts r e =
     let sh = short_is t.0.0 n.0 n.1 in
     let front : (w : Word) → u.0.0.word ≡ w → ts ≡ at (name n.0) t.0.0.line ∷ at w u.0.0.line ∷ u.0.1 = λ w is. next_is ts t.0 t.1 ∙ ap (λ v. v ∷ t.0.1) sh.0 ∙ ap (λ l. at (name n.0) t.0.0.line ∷ l) (next_is t.0.1 u.0 u.1 ∙ ap (λ v. v ∷ u.0.1) (token_is u.0.0 w is)) in
     ⊎_elim
-    (λ c. subst (λ l. Taken names l r) (sym (front _ (equals_is _ c.0))) (driver_takes names n.0 t.0.0.line u.0.0 u.0.1 r c.1))
-    (λ c. let o = provided (is_open u.0.0.word) _ (keyword_at names n.0 u.0.0 u.0.1) r c.1 in
-    subst (λ l. Taken names l r) (sym (front _ (open_is _ o.0))) (keyword_takes names n.0 t.0.0.line u.0.0 u.0.1 r o.1))
-    (chosen (is_equals u.0.0.word) _ _ (Ok r) u.2)
+    (λ c. subst (λ l. Taken names l r) (sym (front _ (mark_is Equals _ refl c.0))) (driver_takes names n.0 t.0.0.line u.0.0 u.0.1 r c.1))
+    (λ c. let o = provided (has_class Open u.0.0.word) _ (keyword_at names n.0 u.0.0 u.0.1) r c.1 in
+    subst (λ l. Taken names l r) (sym (front _ (mark_is Open _ refl o.0))) (keyword_takes names n.0 t.0.0.line u.0.0 u.0.1 r o.1))
+    (chosen (has_class Equals u.0.0.word) _ _ (Ok r) u.2)

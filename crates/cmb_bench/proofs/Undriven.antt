@@ -17,7 +17,14 @@ pub bind_err : {A B : Type 0} (r : Result A BenchFault) (f : A → Result B Benc
 bind_err (Ok x) f d e = inr (x, refl, e)
 bind_err (Err g) f d e = inl (ap Err (cc))
 
-err_is : {x y : BenchFault} → let r : Result ℕ BenchFault = Err x in r ≡ Err y → x ≡ y
+-- the error of a step after which nothing fails
+pub last_err : {A B : Type 0} (r : Result A BenchFault) (g : A → B) (f : BenchFault) → (do
+  x ← r
+  Ok (g x)) ≡ Err f → r ≡ Err f
+last_err (Ok x) g f e = absurd (cc)
+last_err (Err d) g f e = ap Err (cc)
+
+pub err_is : {A : Type 0} {x y : BenchFault} → let r : Result A BenchFault = Err x in r ≡ Err y → x ≡ y
 err_is e = cc
 
 lt_true : (a b : ℕ) → a < b → nat_lt a b ≡ true
@@ -77,7 +84,7 @@ numbers_missing names [] f e = absurd (cc)
 numbers_missing names (m ∷ ms) f e =
     ⊎_elim
     (λ h. here names m ms f (not_found m names f h))
-    (λ k. later names m ms f (found m names k.0 k.1) (⊎_elim (λ h. numbers_missing names ms f h) (λ h. let no = h.2 in absurd (cc)) (bind_err (numbers_in names ms) _ f k.2)))
+    (λ k. later names m ms f (found m names k.0 k.1) (numbers_missing names ms f (last_err (numbers_in names ms) _ f k.2)))
     (bind_err (number_in names m) _ f e)
 
 after_all : (names : List (List ℕ)) (ms : List Mention) (ns : List ℕ) (more : List Mention) (f : BenchFault) → numbers_in names ms ≡ Ok ns → Missing names more f → Missing names (ms ++ more) f
@@ -91,7 +98,7 @@ after_all names (m ∷ ms) ns more f e x =
 pub built_missing : (names : List (List ℕ)) (ss : List Statement) (before : List ℕ) (f : BenchFault) → built names before ss ≡ Err f → Missing names (flat_map used_by ss) f
 unfolding built
 built_missing names [] before f e = absurd (cc)
-built_missing names (input n ∷ ss) before f e = ⊎_elim (λ h. built_missing names ss before f h) (λ h. let no = h.2 in absurd (cc)) (bind_err (built names before ss) _ f e)
+built_missing names (input n ∷ ss) before f e = built_missing names ss before f (last_err (built names before ss) _ f e)
 built_missing names (output m ∷ ss) before f e =
     ⊎_elim
     (λ h. here names m (flat_map used_by ss) f (not_found m names f h))
@@ -100,5 +107,5 @@ built_missing names (output m ∷ ss) before f e =
 built_missing names (drive n g ms ∷ ss) before f e =
     ⊎_elim
     (λ h. longer names ms (flat_map used_by ss) f (numbers_missing names ms f h))
-    (λ ns. after_all names ms ns.0 (flat_map used_by ss) f ns.1 (⊎_elim (λ h. built_missing names ss before f h) (λ h. let no = h.2 in absurd (cc)) (bind_err (built names before ss) _ f ns.2)))
+    (λ ns. after_all names ms ns.0 (flat_map used_by ss) f ns.1 (built_missing names ss before f (last_err (built names before ss) _ f ns.2)))
     (bind_err (numbers_in names ms) _ f e)

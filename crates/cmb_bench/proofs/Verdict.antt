@@ -1,12 +1,12 @@
 -- Where a fault stands at a token, the machine finds one there, and none with a greater number.
 use Rattle.std.proofs.Common.{◌≡◌, ℕ, ◌<◌, ◌≤◌, List, [], ◌∷◌, ◌++◌, true, false, length, refl, sym, ap, ◌∙◌, subst, ⊎_elim, nat_lt, arith}
 use Rattle.std.specs.Prelude.{Option, Some, None, if◌then◌else◌, nat_le}
-use Rattle.cmb_bench.specs.declared.text.Class.TheVariants.{Comma, Equals}
+use Rattle.cmb_bench.specs.declared.text.Class.TheVariants.{Comma, Equals, Bad}
 use Rattle.cmb_bench.specs.declared.fault.FaultKind.{FaultKind}
 use Rattle.cmb_bench.specs.declared.fault.FaultKind.TheVariants as faults
 use Rattle.cmb_bench.specs.declared.netlist.Cell.{Cell}
 use Rattle.cmb_bench.specs.Text.{Lexeme, Word, name, mark}
-use Rattle.cmb_bench.specs.Inner.Word.{is_bad}
+use Rattle.cmb_bench.specs.Inner.Word.{has_class}
 use Rattle.cmb_bench.specs.Kinds.{cell_of}
 use Rattle.cmb_bench.specs.Statement.{Statement, is_member, driven}
 use Rattle.cmb_bench.specs.FirstFault.{AtEquals, AtInput, AtKind, AtComma, StandsAt, number_of_fault}
@@ -69,7 +69,7 @@ name_verdict names (listing m k b) n h = rw h (omega arith)
 name_verdict names (listed m k b) n h = omega arith
 name_verdict names ended n h = omega arith
 
-bad_verdict : (names : List (List ℕ)) (place : Place) (w : Word) → is_bad w ≡ true → AtMost (verdict names place w) 1
+bad_verdict : (names : List (List ℕ)) (place : Place) (w : Word) → has_class Bad w ≡ true → AtMost (verdict names place w) 1
 bad_verdict names place w h = rw h (omega arith)
 
 driven_verdict : (names : List (List ℕ)) (n : List ℕ) (other : Option FaultKind) → is_member n names ≡ true → AtMost (or_else (net_check names n) other) 5
@@ -90,14 +90,14 @@ taken_verdict None c never = omega arith
 taken_verdict (Some s) c never = absurd (never s refl)
 
 statement_verdict : (names : List (List ℕ)) (place : Place) (w : Word) → ((s : Stand) → go names place w ≡ Some s → ⊥) → AtMost (verdict names place w) 2
-statement_verdict names place w never = elim (is_bad w) as (λ v. AtMost (if v then Some faults.Byte else if_taken (go names place w) (checked names place w)) 2) [ true ↦ omega arith | false ↦ taken_verdict (go names place w) (checked names place w) never ]
+statement_verdict names place w never = elim (has_class Bad w) as (λ v. AtMost (if v then Some faults.Byte else if_taken (go names place w) (checked names place w)) 2) [ true ↦ omega arith | false ↦ taken_verdict (go names place w) (checked names place w) never ]
 
 at_word : (n : ℕ) (s t : Stand) (v w : Word) → s ≡ t → v ≡ w → AtMost (verdict t.names t.place w) n → AtMost (verdict s.names s.place v) n
 at_word n s t v w same word h = subst (λ (q : Stand). AtMost (verdict q.names q.place v) n) (sym same) (subst (λ x. AtMost (verdict t.names t.place x) n) (sym word) h)
 
 -- a fault that stands at a token is found there, or one with a lesser number
 pub stands_verdict : (kind : FaultKind) (b : List Lexeme) (u : Lexeme) (s : Stand) → run [] start b ≡ Some s → StandsAt kind b u → AtMost (verdict s.names s.place u.word) (number_of_fault kind)
-stands_verdict faults.Byte b u s e h = bad_verdict s.names s.place u.word (ap is_bad h)
+stands_verdict faults.Byte b u s e h = bad_verdict s.names s.place u.word (ap (has_class Bad) h)
 stands_verdict faults.Statement b u s e h = statement_verdict s.names s.place u.word (λ t g. h (run_begins (b ++ u ∷ []) t (run_more [] start b u s t e g)))
 stands_verdict faults.Kind b u s e h = at_word 3 s _ u.word (name h.0) (at_kind h.0 b u s e h.1) h.1.token (rw h.2 (omega arith))
 stands_verdict faults.Operands b u s e h = at_word 4 s _ u.word (mark Comma) (at_comma h.0 b u s e h.1) h.1.token (rw (h.1.cell, h.2) (omega arith))

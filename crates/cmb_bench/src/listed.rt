@@ -7,7 +7,7 @@ ghost use Rattle.cmb_bench.specs.Listed.{IsRefused, Lists, is_unknown, named_by}
 
 use crate::limits::{MAX_NETS, MAX_TEXT};
 use crate::netlist::Netlist;
-use crate::text::{Cursor, Token};
+use crate::text::{Class, Cursor, Token};
 use std::alloc::Global;
 use thiserror::Error;
 
@@ -48,7 +48,7 @@ pub fn read_list(alloc: Global, netlist: &Netlist, text: &[u8]) -> Result<Vec<u3
     let mut numbers = Vec::new(alloc);
     loop {
         let token = cursor.next();
-        if token.is_end() {
+        if token.is(Class::End) {
             return Ok(numbers);
         }
         let Some(net) = number_in(netlist, token) else {

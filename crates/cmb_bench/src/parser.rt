@@ -1,11 +1,12 @@
 //! From tokens to statements.
 ghost use Rattle.std.specs.Prelude.{◌≡◌, ◌+◌, ◌^◌, ◌<◌, ◌≤◌, ◌++◌, [], ◌∷◌, length, map, if◌then◌else◌, IfOk, IfErr};
-ghost use Rattle.std.specs.Prelude.{OnOk, IsOk, not, false};
+ghost use Rattle.std.specs.Prelude.{◌≢◌, OnOk, IsOk, not, false};
 ghost use Rattle.cmb_bench.specs.Inner.Word.{is_end};
 ghost use Rattle.cmb_bench.specs.declared.fault.ReadError.TheVariants.{Fault, Memory};
+ghost use Rattle.cmb_bench.specs.declared.text.Class.TheVariants.{End};
 ghost use Rattle.cmb_bench.specs.Inner.Scan.{scan, lexeme, behind};
 ghost use Rattle.cmb_bench.specs.Inner.Views.{mention, mentions, statement};
-ghost use Rattle.cmb_bench.specs.Inner.Reading.{Gives, fault_at, misplaced, opened, closed, used_name, with_net};
+ghost use Rattle.cmb_bench.specs.Inner.Reading.{Gives, fault_at, marked, misplaced, used_name, with_net};
 ghost use Rattle.cmb_bench.specs.Inner.Reading.{short_name, operands_at, driver_at, input_at, output_at, keyword_at};
 ghost use Rattle.cmb_bench.specs.Inner.Reading.{statement_at};
 ghost use Rattle.cmb_bench.specs.Statement.{driven_by, is_member, driven};
@@ -18,7 +19,7 @@ use crate::kinds::{cell_named, is_word, takes_one};
 use crate::limits::{MAX_NAME, MAX_NETS, MAX_TEXT};
 use crate::name::Name;
 use crate::netlist::Cell;
-use crate::text::{Cursor, Token};
+use crate::text::{Class, Cursor, Token};
 use indexmap::IndexSet;
 use smallvec::SmallVec;
 use std::alloc::Global;
@@ -61,37 +62,24 @@ fn fault_at(token: Token, kind: FaultKind) -> ReadError
 fn misplaced(token: Token) -> ReadError
     ensures { result ≡ Fault (misplaced (lexeme token.entry)) }
 {
-    if token.is_bad() {
+    if token.is(Class::Bad) {
         fault_at(token, FaultKind::Byte)
     } else {
         fault_at(token, FaultKind::Statement)
     }
 }
 
-#[tactic(auto, unfolding(crate::specs::Inner::Reading::opened))]
-fn open_mark(cursor: &mut Cursor) -> Result<(), ReadError>
-    requires { cursor.old.line + length cursor.old.rest.now < 2 ^ 32 }
-    ensures read { Gives (λ _. scan cursor.new) result (opened (scan cursor.old)) }
+/// Takes a mark of this class.
+#[tactic(auto, unfolding(crate::specs::Inner::Reading::marked))]
+fn take_mark(cursor: &mut Cursor, class: Class) -> Result<(), ReadError>
+    requires inner { class ≢ End }
+    requires line { cursor.old.line + length cursor.old.rest.now < 2 ^ 32 }
+    ensures read { Gives (λ _. scan cursor.new) result (marked class (scan cursor.old)) }
     ensures fits { cursor.new.line + length cursor.new.rest.now ≤ cursor.old.line + length cursor.old.rest.now }
     ensures shorter { length cursor.new.rest.now ≤ length cursor.old.rest.now }
 {
     let token = cursor.next();
-    if token.is_open() {
-        Ok(())
-    } else {
-        Err(misplaced(token))
-    }
-}
-
-#[tactic(auto, unfolding(crate::specs::Inner::Reading::closed))]
-fn close_mark(cursor: &mut Cursor) -> Result<(), ReadError>
-    requires { cursor.old.line + length cursor.old.rest.now < 2 ^ 32 }
-    ensures read { Gives (λ _. scan cursor.new) result (closed (scan cursor.old)) }
-    ensures fits { cursor.new.line + length cursor.new.rest.now ≤ cursor.old.line + length cursor.old.rest.now }
-    ensures shorter { length cursor.new.rest.now ≤ length cursor.old.rest.now }
-{
-    let token = cursor.next();
-    if token.is_close() {
+    if token.is(class) {
         Ok(())
     } else {
         Err(misplaced(token))
@@ -185,11 +173,11 @@ fn read_operands<'a>(
         let line = token.line;
         operands.push(Use { name, line })?;
         let after = cursor.next();
-        if after.is_comma() {
+        if after.is(Class::Comma) {
             if takes_one(cell) {
                 return Err(fault_at(after, FaultKind::Operands));
             }
-        } else if after.is_close() {
+        } else if after.is(Class::Close) {
             return Ok(operands);
         } else {
             return Err(misplaced(after));
@@ -221,7 +209,7 @@ fn read_driver<'a>(
     let Some(cell) = cell_named(kind) else {
         return Err(fault_at(token, FaultKind::Kind));
     };
-    open_mark(cursor)?;
+    take_mark(cursor, Class::Open)?;
     let operands = read_operands(alloc, cursor, cell)?;
     Ok(Item::Drive(name, cell, operands))
 }
@@ -244,7 +232,7 @@ fn read_input<'a>(
         return Err(misplaced(token));
     };
     add_net(names, name, token)?;
-    close_mark(cursor)?;
+    take_mark(cursor, Class::Close)?;
     Ok(Item::Input(name))
 }
 
@@ -258,7 +246,7 @@ fn read_output<'a>(cursor: &mut Cursor<'a>) -> Result<Item<'a>, ReadError>
     ensures shorter { length cursor.new.rest.now ≤ length cursor.old.rest.now }
 {
     let name = used_name(cursor)?;
-    close_mark(cursor)?;
+    take_mark(cursor, Class::Close)?;
     Ok(Item::Output(name))
 }
 
@@ -303,9 +291,9 @@ fn read_statement<'a>(
 {
     let name = short_name(first)?;
     let second = cursor.next();
-    if second.is_equals() {
+    if second.is(Class::Equals) {
         read_driver(alloc, cursor, names, name, second)
-    } else if second.is_open() {
+    } else if second.is(Class::Open) {
         read_keyword(cursor, names, name, second)
     } else {
         Err(misplaced(second))
@@ -342,7 +330,7 @@ pub fn parse(alloc: Global, bytes: &[u8]) -> Result<Parsed<'_>, ReadError>
     let mut names = IndexSet::with_capacity(alloc, likely_nets(bytes))?;
     loop {
         let first = cursor.next();
-        if first.is_end() {
+        if first.is(Class::End) {
             return Ok(Parsed { items, names });
         }
         let item = read_statement(alloc, &mut cursor, &mut names, first)?;

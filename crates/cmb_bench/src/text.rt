@@ -127,8 +127,9 @@ fn first_snippet(bytes: &[u8]) -> Option<Snippet<'_>>
 }
 
 impl<'a> Token<'a> {
-    ghost use Rattle.std.specs.Prelude.{◌≡◌, false, option_map, IsTrue, IsSome};
-    ghost use Rattle.cmb_bench.specs.Inner.Word.{is_open, is_close, is_comma, is_equals, is_bad, is_end, name_in};
+    ghost use Rattle.std.specs.Prelude.{◌≡◌, ◌≢◌, false, option_map, IsTrue, IsSome};
+    ghost use Rattle.cmb_bench.specs.declared.text.Class.TheVariants.{End};
+    ghost use Rattle.cmb_bench.specs.Inner.Word.{has_class, is_end, name_in};
     ghost use Rattle.cmb_bench.specs.Inner.Scan.{lexeme};
 
     /// The name, if the token is one.
@@ -142,62 +143,12 @@ impl<'a> Token<'a> {
         }
     }
 
-    pub fn is_open(self) -> bool
-        ensures value { result ≡ is_open (lexeme self.entry).word }
-        ensures inner { IsTrue result → is_end (lexeme self.entry).word ≡ false }
+    /// Whether the token is of a class.
+    pub fn is(self, class: Class) -> bool
+        ensures value { result ≡ has_class class (lexeme self.entry).word }
+        ensures inner { IsTrue result → class ≢ End → is_end (lexeme self.entry).word ≡ false }
     {
-        match self.class {
-            Class::Open => true,
-            _ => false,
-        }
-    }
-
-    pub fn is_close(self) -> bool
-        ensures value { result ≡ is_close (lexeme self.entry).word }
-        ensures inner { IsTrue result → is_end (lexeme self.entry).word ≡ false }
-    {
-        match self.class {
-            Class::Close => true,
-            _ => false,
-        }
-    }
-
-    pub fn is_comma(self) -> bool
-        ensures value { result ≡ is_comma (lexeme self.entry).word }
-        ensures inner { IsTrue result → is_end (lexeme self.entry).word ≡ false }
-    {
-        match self.class {
-            Class::Comma => true,
-            _ => false,
-        }
-    }
-
-    pub fn is_equals(self) -> bool
-        ensures value { result ≡ is_equals (lexeme self.entry).word }
-        ensures inner { IsTrue result → is_end (lexeme self.entry).word ≡ false }
-    {
-        match self.class {
-            Class::Equals => true,
-            _ => false,
-        }
-    }
-
-    pub fn is_bad(self) -> bool
-        ensures { result ≡ is_bad (lexeme self.entry).word }
-    {
-        match self.class {
-            Class::Bad => true,
-            _ => false,
-        }
-    }
-
-    pub fn is_end(self) -> bool
-        ensures { result ≡ is_end (lexeme self.entry).word }
-    {
-        match self.class {
-            Class::End => true,
-            _ => false,
-        }
+        self.class == class
     }
 }
 

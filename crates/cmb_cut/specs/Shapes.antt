@@ -8,7 +8,6 @@ use Rattle.cmb_cut.specs.declared.sharing.Sharing.{Sharing}
 
 -- each net has a number for which there is a weight
 pub record AreOf (netlist : Netlist) (components : Components) : Type 0 where
-  pub sound : IsNetlist netlist
   pub nets : length components.numbers.items ≡ length netlist.names
   pub weights : length components.weights.items ≡ length netlist.names
   pub below : All (λ number. number < length netlist.names) components.numbers.items

@@ -63,70 +63,71 @@ fn members(alloc: Global, components: &Components) -> Result<Vec<Member>, AllocE
     Ok(members)
 }
 
-// The rank of a net's component behind those that the net reads: one more than that of a heavy one, which weighs more
-// than `heavy`, and no less than that of any other.
-fn rank_at(netlist: &Netlist, components: &Components, ranks: &[u64], heavy: u64, net: usize) -> u64
-    requires components { AreOf netlist.now components.now }
-    requires net { net < length netlist.now.names }
-    requires long { length ranks.now ≡ length netlist.now.names }
-{
-    let number = components.numbers[net];
-    let mut rank = ranks[number];
-    for target in targets_from(netlist, Steps::All, net) {
-        let read = components.numbers[*target as usize];
-        if read != number {
-            let step = u64::from(components.weights[read] > heavy);
-            rank = rank.max(ranks[read].saturating_add(step));
-        }
-    }
-    rank
+/// The components of a netlist, of which those that weigh more than `heavy` are heavy.
+#[derive(Clone, Copy)]
+pub(crate) struct Weighed<'a> {
+    pub netlist: &'a Netlist,
+    pub components: &'a Components,
+    pub heavy: u64,
+    ghost of: { AreOf netlist.now components.now },
 }
 
-/// For each number of a component how many heavy components follow one another, at most, on the ways to what it reads.
-fn ranks_of(
-    alloc: Global,
-    netlist: &Netlist,
-    components: &Components,
-    heavy: u64,
-) -> Result<Vec<u64>, AllocError>
-    requires components { AreOf netlist.now components.now }
-    ensures { IfOk result (λ ranks. length ranks.items ≡ length netlist.now.names) }
-{
-    let members = members(alloc, components)?;
-    let mut ranks = vec![in alloc; 0u64; netlist.len()]?;
-    for member in &members {
-        let number = components.numbers[member.net];
-        ranks[number] = rank_at(netlist, components, &ranks, heavy, member.net);
-    }
-    Ok(ranks)
-}
-
-/// The components in the order in which they are dealt out. What a component reads comes before it. First come all that
-/// read no heavy component, which weighs more than `heavy`; then the heavy ones among them; then those that read these,
-/// and so on. So heavy components stand next to one another as far as may be, and whole shares can be made of them.
-pub(crate) fn in_order(
-    alloc: Global,
-    netlist: &Netlist,
-    components: &Components,
-    heavy: u64,
-) -> Result<Vec<Component>, AllocError>
-    requires components { AreOf netlist.now components.now }
-    ensures { IfOk result (λ order. All (λ component. component.number < length netlist.now.names) order.items) }
-{
-    let ranks = ranks_of(alloc, netlist, components, heavy)?;
-    let mut order = Vec::new(alloc);
-    for number in 0..netlist.len() {
-        let weight = components.weights[number];
-        if weight > 0 {
-            let last = u64::from(weight > heavy);
-            let rank = ranks[number].saturating_mul(2).saturating_add(last);
-            order.push(Component {
-                number,
-                weight,
-                rank,
-            })?;
+impl<'a> Weighed<'a> {
+    // The rank of a net's component behind those that the net reads: one more than that of a heavy one, and no less
+    // than that of any other.
+    fn rank_at(&self, ranks: &[u64], net: usize) -> u64
+        requires sound { IsNetlist self.now.netlist.now }
+        requires net { net < length self.now.netlist.now.names }
+        requires long { length ranks.now ≡ length self.now.netlist.now.names }
+    {
+        let number = self.components.numbers[net];
+        let mut rank = ranks[number];
+        for target in targets_from(self.netlist, Steps::All, net) {
+            let read = self.components.numbers[*target as usize];
+            if read != number {
+                let step = u64::from(self.components.weights[read] > self.heavy);
+                rank = rank.max(ranks[read].saturating_add(step));
+            }
         }
+        rank
     }
-    order.sort_by_key(|component| component.rank)?;
-    Ok(order)
+
+    /// For each number of a component how many heavy components follow one another, at most, on the ways to what it
+    /// reads.
+    fn ranks(&self, alloc: Global) -> Result<Vec<u64>, AllocError>
+        ensures { IfOk result (λ ranks. length ranks.items ≡ length self.now.netlist.now.names) }
+    {
+        let members = members(alloc, self.components)?;
+        let mut ranks = vec![in alloc; 0u64; self.netlist.len()]?;
+        for member in &members {
+            let number = self.components.numbers[member.net];
+            ranks[number] = self.rank_at(&ranks, member.net);
+        }
+        Ok(ranks)
+    }
+
+    /// The components in the order in which they are dealt out. What a component reads comes before it. First come all
+    /// that read no heavy component; then the heavy ones among them; then those that read these, and so on. So heavy
+    /// components stand next to one another as far as may be, and whole shares can be made of them.
+    pub(crate) fn in_order(&self, alloc: Global) -> Result<Vec<Component>, AllocError>
+        ensures { IfOk result (λ order.
+            All (λ component. component.number < length self.now.netlist.now.names) order.items) }
+    {
+        let ranks = self.ranks(alloc)?;
+        let mut order = Vec::new(alloc);
+        for number in 0..self.netlist.len() {
+            let weight = self.components.weights[number];
+            if weight > 0 {
+                let last = u64::from(weight > self.heavy);
+                let rank = ranks[number].saturating_mul(2).saturating_add(last);
+                order.push(Component {
+                    number,
+                    weight,
+                    rank,
+                })?;
+            }
+        }
+        order.sort_by_key(|component| component.rank)?;
+        Ok(order)
+    }
 }

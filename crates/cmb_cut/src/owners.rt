@@ -3,7 +3,7 @@
 ghost use Rattle.std.specs.Prelude.{◌≡◌, ◌<◌, ◌≤◌, length, All, IfOk};
 ghost use Rattle.cmb_cut.specs.Shapes.{AreOwners};
 
-use crate::components::{Component, Components, components_of, in_order};
+use crate::components::{Component, Components, Weighed, components_of};
 use crate::limit::{Limits, least_limits};
 use cmb_bench::Netlist;
 use std::alloc::{AllocError, Global};
@@ -77,7 +77,12 @@ pub(crate) fn owners_of(alloc: Global, netlist: &Netlist, most: u32) -> Result<O
     for weight in &components.weights {
         total = total.saturating_add(*weight);
     }
-    let order = in_order(alloc, netlist, &components, total / u64::from(most))?;
+    let weighed = Weighed {
+        netlist,
+        components: &components,
+        heavy: total / u64::from(most),
+    };
+    let order = weighed.in_order(alloc)?;
     let limits = least_limits(&order, most);
     let filled = fill(alloc, &order, netlist.len(), limits, most)?;
     owned(alloc, &components, &filled)

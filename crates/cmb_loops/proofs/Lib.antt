@@ -1,7 +1,8 @@
 pub mod WalkFacts
 pub mod SearchFacts
 pub mod PartFacts
-pub mod MarkFacts
+pub mod NewFacts
+pub mod StartFacts
 pub mod NumberFacts
 pub mod PathFacts
 pub mod BeginFacts

@@ -1,12 +1,12 @@
 -- Numbers of parts.
-use Rattle.std.proofs.Common.{◌≡◌, ◌≢◌, ◌⊎◌, inl, inr, ℕ, ◌+◌, ◌<◌, ◌≤◌, Bool, List, [], ◌∷◌, ◌++◌, length, take, drop, get_or, set, replicate, refl, sym, ap, ◌∙◌, subst, arith}
+use Rattle.std.proofs.Common.{◌≡◌, ◌≢◌, ◌⊎◌, inl, inr, ℕ, ◌+◌, ◌<◌, ◌≤◌, Bool, List, [], ◌∷◌, ◌++◌, length, drop, get_or, set, replicate, sym, ap, ◌∙◌, subst, arith}
 use Rattle.std.specs.Prelude.{Contains}
 use Rattle.std.proofs.lemmas.Bool.{cases_eq, cases_lt}
-use Rattle.std.proofs.lemmas.List.{get_or_default, get_or-set_same, get_or-set_other, length-replicate, length-set, take_more}
-use Rattle.std.proofs.lemmas.List.Elements.{All-contains, All-nil, All-push, All-weaker, Contains-append_left, Contains-get_or, Contains-push}
+use Rattle.std.proofs.lemmas.List.{get_or_default, get_or-set_same, get_or-set_other, length-replicate, length-set}
+use Rattle.std.proofs.lemmas.List.Elements.{All-contains, Contains-get_or}
 use Rattle.cmb_bench.specs.Netlist.{Netlist}
 use Rattle.cmb_loops.specs.Loops.{AreStrongComponents, Reaches, targets}
-use Rattle.cmb_loops.specs.Search.{IsClosedPart, IsNumbered, IsNumberedAs, IsSearch, IsUnderWay, seen_of}
+use Rattle.cmb_loops.specs.Search.{AreSet, IsNumbered, IsSearch, IsUnderWay, seen_of}
 use Rattle.cmb_loops.specs.declared.search.Frame.{Frame}
 use Rattle.cmb_loops.specs.declared.search.Search.{Search}
 use Rattle.cmb_loops.specs.declared.search.Seen.{Seen}
@@ -14,43 +14,6 @@ use Rattle.cmb_loops.specs.declared.search.Seen.TheVariants.{New, On, Done}
 use Rattle.cmb_loops.specs.declared.steps.Steps.{Steps}
 use Rattle.cmb_loops.proofs.SearchFacts.{starts_low}
 use Rattle.cmb_loops.proofs.PartFacts.{place_in_part}
-
--- ---- nets of a part, one after another
-
-pub numbered_none : (number : ℕ) (numbers : List ℕ) → IsNumberedAs number numbers [] numbers
-numbered_none number numbers = record { long = refl; all = All-nil (λ net. get_or numbers net 0 ≡ number); only = λ net. inr refl }
-
-numbered_one : (number : ℕ) (old numbers nets : List ℕ) (net : ℕ) → net < length numbers → IsNumberedAs number old nets numbers → IsNumberedAs number old (nets ++ net ∷ []) (set numbers net number)
-numbered_one number old numbers nets net within is = record {
-  long = length-set numbers net number ∙ is.long;
-  all = All-push (λ x. get_or (set numbers net number) x 0 ≡ number) nets net
-      (All-weaker (λ x. get_or numbers x 0 ≡ number) (λ x. get_or (set numbers net number) x 0 ≡ number) still nets is.all) here;
-  only = λ x. by-only x (cases_eq x net);
-}
-  where
-    here : get_or (set numbers net number) net 0 ≡ number
-    here = get_or-set_same numbers net number 0 within
-
-    still : (x : ℕ) → get_or numbers x 0 ≡ number → get_or (set numbers net number) x 0 ≡ number
-    still x h = by (cases_eq x net)
-      where
-        by : (x ≡ net) ⊎ (x ≢ net) → get_or (set numbers net number) x 0 ≡ number
-        by (inl e) = ap (λ n. get_or (set numbers net number) n 0) e ∙ here
-        by (inr ne) = get_or-set_other numbers net x number 0 ne ∙ h
-
-    by-only : (x : ℕ) → (x ≡ net) ⊎ (x ≢ net) → Contains (nets ++ net ∷ []) x ⊎ (get_or (set numbers net number) x 0 ≡ get_or old x 0)
-    by-only x (inl e) = inl (let P : ℕ → Type 0 = λ n. Contains (nets ++ net ∷ []) n in subst P (sym e) (Contains-push nets net))
-    by-only x (inr ne) = by (is.only x)
-      where
-        by : Contains nets x ⊎ (get_or numbers x 0 ≡ get_or old x 0) → Contains (nets ++ net ∷ []) x ⊎ (get_or (set numbers net number) x 0 ≡ get_or old x 0)
-        by (inl there) = inl (Contains-append_left nets (net ∷ []) x there)
-        by (inr same) = inr (get_or-set_other numbers net x number 0 ne ∙ same)
-
-pub numbered_more : (number : ℕ) (old numbers nets : List ℕ) (i : ℕ) → i < length nets → get_or nets i 0 < length numbers → IsNumberedAs number old (take i nets) numbers
-    → IsNumberedAs number old (take (i + 1) nets) (set numbers (get_or nets i 0) number)
-numbered_more number old numbers nets i within low is =
-    let P : List ℕ → Type 0 = λ xs. IsNumberedAs number old xs (set numbers (get_or nets i 0) number) in
-    subst P (sym (take_more nets i 0 within)) (numbered_one number old numbers (take i nets) (get_or nets i 0) low is)
 
 -- ---- what a search keeps
 
@@ -81,7 +44,7 @@ numbered_entered next seen numbers done net place within is = record {
 pub numbered_done : (next : ℕ → List ℕ) (seen seen' : List Seen) (numbers numbers' : List ℕ) (marks : List Bool) (path starts : List ℕ) (frames : List Frame) (place k done : ℕ)
     → IsSearch next seen marks path starts (frames ++ record { place = place; next = k } ∷ [])
     → ((net target : ℕ) → seen_of seen' net ≡ Done → Contains (next net) target → seen_of seen' target ≡ Done)
-    → IsClosedPart seen (drop place path) seen' → IsNumberedAs done numbers (drop place path) numbers'
+    → AreSet Done seen (drop place path) seen' → AreSet done numbers (drop place path) numbers'
     → IsNumbered next seen numbers done → IsNumbered next seen' numbers' (done + length (drop place path))
 numbered_done next seen seen' numbers numbers' marks path starts frames place k done is closed' shut given was = record {
   long = given.long ∙ was.long ∙ sym shut.long;
@@ -94,10 +57,10 @@ numbered_done next seen seen' numbers numbers' marks path starts frames place k 
     State net = (Contains (drop place path) net × (get_or numbers' net 0 ≡ done)) ⊎ ((seen_of seen net ≡ Done) × (get_or numbers' net 0 ≡ get_or numbers net 0))
 
     state : (net : ℕ) → seen_of seen' net ≡ Done → State net
-    state net e = by (given.only net) (shut.only net)
+    state net e = by (given.others net 0) (shut.others net New)
       where
         in-part : Contains (drop place path) net → State net
-        in-part there = inl (there, All-contains (λ x. get_or numbers' x 0 ≡ done) (drop place path) net given.all there)
+        in-part there = inl (there, All-contains (λ x. get_or numbers' x 0 ≡ done) (drop place path) net (given.all 0) there)
 
         by : Contains (drop place path) net ⊎ (get_or numbers' net 0 ≡ get_or numbers net 0) → Contains (drop place path) net ⊎ (seen_of seen' net ≡ seen_of seen net) → State net
         by (inl there) shut-at = in-part there

@@ -5,10 +5,10 @@ use Rattle.std.proofs.lemmas.Bool.{cases_eq, cases_lt}
 use Rattle.std.proofs.lemmas.List.{get_or-drop, get_or-take, get_or_default, length-drop, length-take}
 use Rattle.std.proofs.lemmas.List.Elements.{All-contains, All-weaker, Contains-append_left, Contains-get_or, Contains-push, Contains-push_cases}
 use Rattle.cmb_loops.specs.Loops.{Reaches, Walk, one, more}
-use Rattle.cmb_loops.specs.Search.{IsClosedPart, IsFollowed, IsLeft, IsLooped, IsOnePart, IsSearch, seen_of}
+use Rattle.cmb_loops.specs.Search.{AreSet, IsFollowed, IsLeft, IsLooped, IsOnePart, IsSearch, seen_of}
 use Rattle.cmb_loops.specs.declared.search.Frame.{Frame}
 use Rattle.cmb_loops.specs.declared.search.Seen.{Seen}
-use Rattle.cmb_loops.specs.declared.search.Seen.TheVariants.{On, Done}
+use Rattle.cmb_loops.specs.declared.search.Seen.TheVariants.{New, On, Done}
 use Rattle.cmb_loops.proofs.SearchFacts.{all_last, contains_none, frame_before, pairs_front, pairs_last}
 use Rattle.cmb_loops.proofs.WalkFacts.{reach_to, walk_stays}
 
@@ -22,7 +22,7 @@ place_in_part path place net there =
 pub closed : (next : ℕ → List ℕ) (seen seen' : List Seen) (marks marks' : List Bool) (path starts : List ℕ) (frames : List Frame) (place k : ℕ)
     → IsSearch next seen marks path (starts ++ place ∷ []) (frames ++ record { place = place; next = k } ∷ [])
     → length (next (get_or path place 0)) ≤ k
-    → IsClosedPart seen (drop place path) seen' → IsLooped next marks (drop place path) marks'
+    → AreSet Done seen (drop place path) seen' → IsLooped next marks (drop place path) marks'
     → IsSearch next seen' marks' (take place path) starts frames
 closed next seen seen' marks marks' path starts frames place k is end shut looped = record {
   long = looped.long ∙ is.long ∙ sym shut.long;
@@ -89,13 +89,13 @@ closed next seen seen' marks marks' path starts frames place k is end shut loope
     out x there = place_in_part path place x there
 
     shut-at : (p : ℕ) → place ≤ p → p < length path → seen_of seen' (get_or path p 0) ≡ Done
-    shut-at p le h = All-contains (λ x. seen_of seen' x ≡ Done) (drop place path) (get_or path p 0) shut.done (into p le h)
+    shut-at p le h = All-contains (λ x. seen_of seen' x ≡ Done) (drop place path) (get_or path p 0) (shut.all New) (into p le h)
 
     on-before : (x p : ℕ) → seen_of seen' x ≡ On p → (seen_of seen x ≡ On p) × (p < place)
-    on-before x p e = by (shut.only x)
+    on-before x p e = by (shut.others x New)
       where
         by : (Contains (drop place path) x) ⊎ (seen_of seen' x ≡ seen_of seen x) → (seen_of seen x ≡ On p) × (p < place)
-        by (inl there) = let done : seen_of seen' x ≡ Done = All-contains (λ x. seen_of seen' x ≡ Done) (drop place path) x shut.done there in absurd cc
+        by (inl there) = let done : seen_of seen' x ≡ Done = All-contains (λ x. seen_of seen' x ≡ Done) (drop place path) x (shut.all New) there in absurd cc
         by (inr same) = (sym same ∙ e, low (cases_lt p place))
           where
             low : (p < place) ⊎ (place ≤ p) → p < place
@@ -106,14 +106,14 @@ closed next seen seen' marks marks' path starts frames place k is end shut loope
                 absurd cc
 
     done-after : (x : ℕ) → seen_of seen x ≡ Done → seen_of seen' x ≡ Done
-    done-after x e = by (shut.only x)
+    done-after x e = by (shut.others x New)
       where
         by : (Contains (drop place path) x) ⊎ (seen_of seen' x ≡ seen_of seen x) → seen_of seen' x ≡ Done
-        by (inl there) = All-contains (λ x. seen_of seen' x ≡ Done) (drop place path) x shut.done there
+        by (inl there) = All-contains (λ x. seen_of seen' x ≡ Done) (drop place path) x (shut.all New) there
         by (inr same) = same ∙ e
 
     on-after : (x p : ℕ) → seen_of seen x ≡ On p → p < place → seen_of seen' x ≡ On p
-    on-after x p e l = by (shut.only x)
+    on-after x p e l = by (shut.others x New)
       where
         by : (Contains (drop place path) x) ⊎ (seen_of seen' x ≡ seen_of seen x) → seen_of seen' x ≡ On p
         by (inl there) =
@@ -124,7 +124,7 @@ closed next seen seen' marks marks' path starts frames place k is end shut loope
         by (inr same) = same ∙ e
 
     done-before : (x : ℕ) → seen_of seen' x ≡ Done → (seen_of seen x ≡ Done) ⊎ Contains (drop place path) x
-    done-before x e = by (shut.only x)
+    done-before x e = by (shut.others x New)
       where
         by : (Contains (drop place path) x) ⊎ (seen_of seen' x ≡ seen_of seen x) → (seen_of seen x ≡ Done) ⊎ Contains (drop place path) x
         by (inl there) = inr there

@@ -1,12 +1,12 @@
 -- A search of a netlist, step by step.
 use Rattle.std.proofs.Common.{◌≡◌, ◌≢◌, ◌⊎◌, inl, inr, ℕ, ◌+◌, ◌-◌, ◌<◌, ◌≤◌, List, [], ◌∷◌, ◌++◌, length, take, drop, get_or, set, refl, sym, ap, ◌∙◌, subst, arith}
-use Rattle.std.specs.Prelude.{All, AllPairs, Contains, count_by, Some, None}
-use Rattle.std.proofs.lemmas.Bool.{cases_eq, cases_lt}
-use Rattle.std.proofs.lemmas.List.{get_or_default, get_or_past, get_or_read, get_or-set_same, get_or-set_other, length-drop, length-set, length-take, length_push, take_all}
+use Rattle.std.specs.Prelude.{All, AllPairs, count_by, Some, None}
+use Rattle.std.proofs.lemmas.Bool.{cases_lt}
+use Rattle.std.proofs.lemmas.List.{get_or_default, get_or_past, get_or_read, length-drop, length-set, length-take, length_push, take_all}
 use Rattle.std.proofs.lemmas.List.Elements.{All-contains, Contains-get_or}
 use Rattle.cmb_bench.specs.Netlist.{Netlist}
 use Rattle.cmb_loops.specs.Loops.{AreLoops, Reaches, Walk, one, targets}
-use Rattle.cmb_loops.specs.Search.{IsClosedPart, IsEntered, IsLooped, IsNumberedAs, IsScanned, IsSearch, IsStill, IsUnderWay, is_new, seen_of, targets_at}
+use Rattle.cmb_loops.specs.Search.{AreSet, IsEntered, IsLooped, IsScanned, IsSearch, IsStill, IsUnderWay, is_new, seen_of, targets_at}
 use Rattle.cmb_loops.specs.declared.search.Frame.{Frame}
 use Rattle.cmb_loops.specs.declared.search.Search.{Search}
 use Rattle.cmb_loops.specs.declared.search.Seen.{Seen}
@@ -14,7 +14,8 @@ use Rattle.cmb_loops.specs.declared.search.Seen.TheVariants.{New, On, Done}
 use Rattle.cmb_loops.specs.declared.steps.Steps.{Steps}
 use Rattle.cmb_loops.proofs.SearchFacts.{advanced, all_last, dropped, entered, last_reaches, merged, starts_before}
 use Rattle.cmb_loops.proofs.PartFacts.{closed}
-use Rattle.cmb_loops.proofs.MarkFacts.{one_fewer, split_last}
+use Rattle.cmb_loops.proofs.NewFacts.{fewer_new, one_fewer, still_closed, still_entered}
+use Rattle.cmb_loops.proofs.StartFacts.{split_last}
 use Rattle.cmb_loops.proofs.NumberFacts.{numbered_done, numbered_entered}
 use Rattle.cmb_loops.proofs.WalkFacts.{reach_from, reach_on}
 
@@ -126,16 +127,16 @@ path_inside netlist steps search frames under k d within =
 pub finished : (netlist : Netlist) (steps : Steps) (old new : Search) (frames : List Frame) (place : ℕ) → IsScanned netlist steps old frames place None
     → 0 < length old.starts.items → get_or old.starts.items (length old.starts.items - 1) 0 ≡ place → new.starts.items ≡ take (length old.starts.items - 1) old.starts.items
     → new.path.items ≡ take place old.path.items → IsLooped (targets netlist steps) old.marks.items (drop place old.path.items) new.marks.items
-    → IsClosedPart old.seen.items (drop place old.path.items) new.seen.items → IsNumberedAs old.done old.numbers.items (drop place old.path.items) new.numbers.items
-    → new.done ≡ old.done + length (drop place old.path.items) → count_by is_new new.seen.items ≤ count_by is_new old.seen.items
-    → IsUnderWay netlist steps new frames
-finished netlist steps old new frames place (next, end, under) some last starts path looped shut given more fewer = record {
+    → AreSet Done old.seen.items (drop place old.path.items) new.seen.items → AreSet old.done old.numbers.items (drop place old.path.items) new.numbers.items
+    → new.done ≡ old.done + length (drop place old.path.items) → IsUnderWay netlist steps new frames
+finished netlist steps old new frames place (next, end, under) some last starts path looped shut given more = record {
   inside = under.inside;
   sized = shut.long ∙ under.sized;
   is = rw path is;
   numbered = rw more (numbered_done (targets netlist steps) old.seen.items new.seen.items old.numbers.items new.numbers.items old.marks.items old.path.items old.starts.items frames place next old.done under.is
       is.closed shut given under.numbered);
   room = let l = last_within netlist steps old frames (record { place = place; next = next }) under in
+      let fewer = fewer_new old.seen.items new.seen.items shut.long (still_closed old.seen.items new.seen.items (drop place old.path.items) shut) in
       rw path (omega (arith, under.room, more, fewer, l, length-drop place old.path.items, length-take place old.path.items));
 }
   where
@@ -170,20 +171,6 @@ entered_under netlist steps old new frames net under is within new_net reached s
   room = let fewer = one_fewer old.seen.items net (length old.path.items) within new_net in
       rw (is.seen, is.path, is.done) (omega (arith, under.room, fewer, length_push old.path.items net));
 }
-
-pub still_entered : (old new : List Seen) (net place : ℕ) → net < length old → new ≡ set old net (On place) → IsStill old new
-still_entered old new net place within e x h = by (cases_eq x net)
-  where
-    by : (x ≡ net) ⊎ (x ≢ net) → seen_of old x ≡ New
-    by (inl same) = let f : seen_of new x ≡ On place = ap (seen_of new) same ∙ ap (λ s. seen_of s net) e ∙ get_or-set_same old net (On place) New within in absurd cc
-    by (inr ne) = sym (ap (λ s. seen_of s x) e ∙ get_or-set_other old net x (On place) New ne) ∙ h
-
-pub still_closed : (old new : List Seen) (part : List ℕ) → IsClosedPart old part new → IsStill old new
-still_closed old new part shut x h = by (shut.only x)
-  where
-    by : Contains part x ⊎ (seen_of new x ≡ seen_of old x) → seen_of old x ≡ New
-    by (inl there) = let done : seen_of new x ≡ Done = All-contains (λ y. seen_of new y ≡ Done) part x shut.done there in absurd cc
-    by (inr same) = sym same ∙ h
 
 pub part_is : (xs path : List ℕ) (place : ℕ) → xs ≡ path → take (length xs - place) (drop place xs) ≡ drop place path
 part_is xs path place e = take_all (length xs - place) (drop place xs) (omega (arith, length-drop place xs)) ∙ ap (drop place) e

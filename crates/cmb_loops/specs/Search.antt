@@ -94,11 +94,11 @@ pub record IsEntered (old : Search) (net : ℕ) (new : Search) : Type 0 where
   pub starts : new.starts.items ≡ old.starts.items ++ length old.path.items ∷ []
   pub frames : new.frames.items ≡ old.frames.items ++ record { place = length old.path.items; next = 0 } ∷ []
 
--- the nets of a part are done, and no others became so
-pub record IsClosedPart (old : List Seen) (part : List ℕ) (new : List Seen) : Type 0 where
+-- these places have this value, and the others the one that they had
+pub record AreSet {A : Type 0} (value : A) (old : List A) (places : List ℕ) (new : List A) : Type 0 where
   pub long : length new ≡ length old
-  pub done : All (λ net. seen_of new net ≡ Done) part
-  pub only : (net : ℕ) → Contains part net ⊎ (seen_of new net ≡ seen_of old net)
+  pub all : (beyond : A) → All (λ place. slice_index_or new place beyond ≡ value) places
+  pub others : (place : ℕ) (beyond : A) → Contains places place ⊎ (slice_index_or new place beyond ≡ slice_index_or old place beyond)
 
 -- a part has an edge inside: it has two nets, or one with a step to itself
 abbrev pub HasEdge : (ℕ → List ℕ) → List ℕ → Type 0
@@ -110,19 +110,6 @@ pub record IsLooped (next : ℕ → List ℕ) (old : List Bool) (part : List ℕ
   pub kept : (net : ℕ) → slice_index_or old net false ≡ true → slice_index_or new net false ≡ true
   pub all : HasEdge next part → All (λ net. slice_index_or new net false ≡ true) part
   pub only : (net : ℕ) → slice_index_or new net false ≡ true → (slice_index_or old net false ≡ true) ⊎ (Contains part net × HasEdge next part)
-
--- these nets are marked, and no others became so
-pub record IsMarked (old : List Bool) (nets : List ℕ) (new : List Bool) : Type 0 where
-  pub long : length new ≡ length old
-  pub kept : (net : ℕ) → slice_index_or old net false ≡ true → slice_index_or new net false ≡ true
-  pub all : All (λ net. slice_index_or new net false ≡ true) nets
-  pub only : (net : ℕ) → slice_index_or new net false ≡ true → (slice_index_or old net false ≡ true) ⊎ Contains nets net
-
--- these nets have one number, and the others the one that they had
-pub record IsNumberedAs (number : ℕ) (old : List ℕ) (nets : List ℕ) (new : List ℕ) : Type 0 where
-  pub long : length new ≡ length old
-  pub all : All (λ net. slice_index new net ≡ number) nets
-  pub only : (net : ℕ) → Contains nets net ⊎ (slice_index new net ≡ slice_index old net)
 
 -- a search of so many nets of which none was found
 pub record IsBegun (count : ℕ) (search : Search) : Type 0 where

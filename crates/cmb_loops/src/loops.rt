@@ -49,8 +49,7 @@ pub fn nets_in_loops(
 ) -> Result<Vec<bool>, AllocError>
     ensures { IfOk result (λ marks. AreLoops netlist.now steps marks.items) }
 {
-    let search = searched(alloc, netlist, steps)?;
-    Ok(search.marks)
+    Ok(searched(alloc, netlist, steps)?.marks)
 }
 
 /// The strongly connected components of a netlist: for each net a number, the same for two nets just where steps lead
@@ -65,6 +64,5 @@ pub fn strong_components(
 ) -> Result<Vec<usize>, AllocError>
     ensures { IfOk result (λ numbers. AreStrongComponents netlist.now steps numbers.items) }
 {
-    let search = searched(alloc, netlist, steps)?;
-    Ok(search.numbers)
+    Ok(searched(alloc, netlist, steps)?.numbers)
 }

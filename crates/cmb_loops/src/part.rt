@@ -1,11 +1,10 @@
 //! Parts of a path: where they begin, become one, and are done.
 
 ghost use Rattle.std.specs.Prelude.{◌≡◌, ◌≢◌, ◌++◌, ◌-◌, ℕ, ◌<◌, ◌≤◌, List, true, false, length, slice_index};
-ghost use Rattle.std.specs.Prelude.{All, AllPairs, count_by};
+ghost use Rattle.std.specs.Prelude.{All, AllPairs};
 ghost use Rattle.cmb_loops.specs.Loops.{targets};
-ghost use Rattle.cmb_loops.specs.Search.{HasEdge, IsClosedPart, IsLooped, IsMarked, IsNumberedAs, is_new};
+ghost use Rattle.cmb_loops.specs.Search.{AreSet, HasEdge, IsLooped};
 
-use crate::search::Seen;
 use crate::steps::{Steps, targets_from};
 use cmb_bench::Netlist;
 
@@ -44,34 +43,13 @@ pub(crate) fn merge(starts: &mut Vec<usize>, place: usize)
     }
 }
 
-/// Sets the nets of a part done.
-pub(crate) fn close(seen: &mut [Seen], part: &[u32])
-    requires { All (λ net. net < length seen.old) part.now }
-    ensures closed { IsClosedPart seen.old part.now seen.new }
-    ensures fresh { count_by is_new seen.new ≤ count_by is_new seen.old }
+/// Sets each of these places to one value.
+pub(crate) fn set_all<T: Copy>(values: &mut [T], places: &[u32], value: T)
+    requires { All (λ place. place < length values.old) places.now }
+    ensures { AreSet value values.old places.now values.new }
 {
-    for net in part {
-        seen[*net as usize] = Seen::Done;
-    }
-}
-
-/// Gives each of these nets one number.
-pub(crate) fn number_all(numbers: &mut [usize], nets: &[u32], number: usize)
-    requires { All (λ net. net < length numbers.old) nets.now }
-    ensures { IsNumberedAs number numbers.old nets.now numbers.new }
-{
-    for net in nets {
-        numbers[*net as usize] = number;
-    }
-}
-
-// Marks each of these nets.
-fn mark_all(marks: &mut [bool], nets: &[u32])
-    requires { All (λ net. net < length marks.old) nets.now }
-    ensures { IsMarked marks.old nets.now marks.new }
-{
-    for net in nets {
-        marks[*net as usize] = true;
+    for place in places {
+        values[*place as usize] = value;
     }
 }
 
@@ -97,6 +75,6 @@ pub(crate) fn mark_loops(marks: &mut [bool], netlist: &Netlist, steps: Steps, pa
     ensures { IsLooped (targets netlist.now steps) marks.old part.now marks.new }
 {
     if has_edge(netlist, steps, part) {
-        mark_all(marks, part);
+        set_all(marks, part, true);
     }
 }

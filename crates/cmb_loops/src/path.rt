@@ -6,7 +6,7 @@ ghost use Rattle.cmb_loops.specs.Loops.{AreLoops, AreStrongComponents};
 ghost use Rattle.cmb_loops.specs.Search.{IsEntered, IsScanned, IsStill, IsUnderWay, is_new, seen_of};
 ghost use Rattle.cmb_loops.specs.declared.search.Seen.TheVariants.{New};
 
-use crate::part::{close, ends_at, mark_loops, merge, number_all};
+use crate::part::{ends_at, mark_loops, merge, set_all};
 use crate::search::{Frame, Search, Seen};
 use crate::steps::{Steps, targets_from};
 use cmb_bench::Netlist;
@@ -57,8 +57,8 @@ fn finish(search: &mut Search, netlist: &Netlist, steps: Steps, place: usize)
     let _ = search.starts.pop();
     let part = &search.path.as_slice()[place..];
     mark_loops(search.marks.as_mut_slice(), netlist, steps, part);
-    number_all(search.numbers.as_mut_slice(), part, search.done);
-    close(search.seen.as_mut_slice(), part);
+    set_all(search.numbers.as_mut_slice(), part, search.done);
+    set_all(search.seen.as_mut_slice(), part, Seen::Done);
     search.done += part.len();
     search.path.truncate(place);
 }

@@ -26,15 +26,22 @@ fn places_of(alloc: Global, count: usize, nets: &[u32]) -> Result<Vec<u32>, Allo
     Ok(places)
 }
 
-/// Whether a net is in the list.
-fn is_kept(nets: &[u32], places: &[u32], net: u32) -> bool
-    requires net { net < length places.now }
-    requires places { ArePlaces nets.now places.now }
-    ensures { result ≡ is_among nets.now net }
+/// The nets of a part, and for each net of the whole its place there; for a net that isn't in the part anything.
+#[derive(Clone, Copy)]
+struct Kept<'a> {
+    nets: &'a [u32],
+    places: &'a [u32],
+    ghost placed: { ArePlaces nets.now places.now },
+}
+
+/// Whether a net is in the part.
+fn is_kept(kept: &Kept, net: u32) -> bool
+    requires { net < length kept.now.places.now }
+    ensures { result ≡ is_among kept.now.nets.now net }
 {
-    let place = places[net as usize] as usize;
-    if place < nets.len() {
-        nets[place] == net
+    let place = kept.places[net as usize] as usize;
+    if place < kept.nets.len() {
+        kept.nets[place] == net
     } else {
         false
     }
@@ -81,45 +88,32 @@ fn names_of(alloc: Global, netlist: &Netlist, nets: &[u32]) -> Result<IndexSet<N
     Ok(names)
 }
 
-fn drivers_of(
-    alloc: Global,
-    netlist: &Netlist,
-    nets: &[u32],
-    places: &[u32],
-) -> Result<Vec<Driver>, AllocError>
-    requires closed { IsClosed netlist.now nets.now }
-    requires long { length places.now ≡ length netlist.now.names }
-    requires places { ArePlaces nets.now places.now }
+fn drivers_of(alloc: Global, netlist: &Netlist, kept: &Kept) -> Result<Vec<Driver>, AllocError>
+    requires closed { IsClosed netlist.now kept.now.nets.now }
+    requires long { length kept.now.places.now ≡ length netlist.now.names }
     ensures { IfOk result (λ drivers. drivers.items
-        ≡ map (λ net. with_nets (slice_index places.now) (driver_of netlist.now net)) nets.now) }
+        ≡ map (λ net. with_nets (slice_index kept.now.places.now) (driver_of netlist.now net)) kept.now.nets.now) }
 {
-    let mut drivers = Vec::with_capacity(alloc, nets.len())?;
-    for net in nets {
-        let driver = renumbered(alloc, netlist.driver(*net as usize), places)?;
+    let mut drivers = Vec::with_capacity(alloc, kept.nets.len())?;
+    for net in kept.nets {
+        let driver = renumbered(alloc, netlist.driver(*net as usize), kept.places)?;
         drivers.push(driver)?;
     }
     Ok(drivers)
 }
 
-fn outputs_of(
-    alloc: Global,
-    netlist: &Netlist,
-    nets: &[u32],
-    places: &[u32],
-) -> Result<IndexSet<u32>, AllocError>
-    requires closed { IsClosed netlist.now nets.now }
-    requires long { length places.now ≡ length netlist.now.names }
-    requires places { ArePlaces nets.now places.now }
+fn outputs_of(alloc: Global, netlist: &Netlist, kept: &Kept) -> Result<IndexSet<u32>, AllocError>
     requires sound { IsNetlist netlist.now }
-    ensures kept { IfOk result (λ outputs.
-        outputs.keys ≡ map (slice_index places.now) (filter (is_among nets.now) netlist.now.outputs)) }
+    requires long { length kept.now.places.now ≡ length netlist.now.names }
+    ensures kept { IfOk result (λ outputs. outputs.keys
+        ≡ map (slice_index kept.now.places.now) (filter (is_among kept.now.nets.now) netlist.now.outputs)) }
     ensures distinct { IfOk result (λ outputs. IsDistinct nat_eq outputs.keys) }
 {
     let mut outputs = IndexSet::new(alloc);
     let all = netlist.outputs();
     for net in all {
-        if is_kept(nets, places, *net) {
-            outputs.insert(places[*net as usize])?;
+        if is_kept(kept, *net) {
+            outputs.insert(kept.places[*net as usize])?;
         }
     }
     Ok(outputs)
@@ -136,8 +130,12 @@ pub(crate) fn netlist_of(
     ensures sound { IfOk result IsNetlist }
 {
     let places = places_of(alloc, netlist.len(), nets)?;
-    let drivers = drivers_of(alloc, netlist, nets, places.as_slice())?;
-    let outputs = outputs_of(alloc, netlist, nets, places.as_slice())?;
+    let kept = Kept {
+        nets,
+        places: places.as_slice(),
+    };
+    let drivers = drivers_of(alloc, netlist, &kept)?;
+    let outputs = outputs_of(alloc, netlist, &kept)?;
     let names = names_of(alloc, netlist, nets)?;
     Ok(Netlist::new(names, drivers, outputs))
 }

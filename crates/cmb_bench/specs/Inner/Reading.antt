@@ -6,8 +6,10 @@ use Rattle.cmb_bench.specs.declared.fault.FaultKind.TheVariants as faults
 use Rattle.cmb_bench.specs.declared.fault.ReadError.{ReadError}
 use Rattle.cmb_bench.specs.declared.fault.ReadError.TheVariants as errors
 use Rattle.cmb_bench.specs.declared.netlist.Cell.{Cell}
+use Rattle.cmb_bench.specs.declared.text.Class.{Class}
+use Rattle.cmb_bench.specs.declared.text.Class.TheVariants.{Open, Close, Bad, Comma, Equals}
 use Rattle.cmb_bench.specs.Text.{Lexeme}
-use Rattle.cmb_bench.specs.Inner.Word.{is_bad, is_open, is_close, is_comma, is_equals, name_in}
+use Rattle.cmb_bench.specs.Inner.Word.{has_class, name_in}
 use Rattle.cmb_bench.specs.Kinds.{is_word, cell_of, takes_one}
 use Rattle.cmb_bench.specs.Statement.{Statement, input, output, drive, Mention, is_member}
 
@@ -30,7 +32,7 @@ fault_at t kind = record { line = t.line; kind = kind }
 
 -- the fault of a token that no statement goes on with
 abbrev pub misplaced : Lexeme → BenchFault
-misplaced t = if is_bad t.word then fault_at t faults.Byte else fault_at t faults.Statement
+misplaced t = if has_class Bad t.word then fault_at t faults.Byte else fault_at t faults.Statement
 
 abbrev pub next_in : List Lexeme → Result (Lexeme × List Lexeme) BenchFault
 next_in [] = Err (record { line = 0; kind = faults.Statement })
@@ -49,15 +51,11 @@ short_name t = do
   name ← named (name_in t.word) t
   short name t
 
-unfoldable pub opened : List Lexeme → Result (List Lexeme) BenchFault
-opened ts = do
+-- what comes behind a mark of this class
+unfoldable pub marked : Class → List Lexeme → Result (List Lexeme) BenchFault
+marked class ts = do
   t ← next_in ts
-  if is_open t.0.word then Ok t.1 else Err (misplaced t.0)
-
-unfoldable pub closed : List Lexeme → Result (List Lexeme) BenchFault
-closed ts = do
-  t ← next_in ts
-  if is_close t.0.word then Ok t.1 else Err (misplaced t.0)
+  if has_class class t.0.word then Ok t.1 else Err (misplaced t.0)
 
 -- the name of a net that is used
 unfoldable pub used_name : List Lexeme → Result (Mention × List Lexeme) BenchFault
@@ -87,8 +85,8 @@ operands_at f (t ∷ []) = do
   Err (record { line = 0; kind = faults.Statement })
 operands_at f (t ∷ u ∷ ts) = do
   name ← short_name t
-  if is_comma u.word then (if takes_one f then Err (fault_at u faults.Operands) else with_first (record { name = name; line = t.line }) (operands_at f ts))
-      else (if is_close u.word then Ok (record { name = name; line = t.line } ∷ [], ts) else Err (misplaced u))
+  if has_class Comma u.word then (if takes_one f then Err (fault_at u faults.Operands) else with_first (record { name = name; line = t.line }) (operands_at f ts))
+      else (if has_class Close u.word then Ok (record { name = name; line = t.line } ∷ [], ts) else Err (misplaced u))
 
 abbrev pub cell_in : Option Cell → Lexeme → Result Cell BenchFault
 cell_in None t = Err (fault_at t faults.Kind)
@@ -101,7 +99,7 @@ driver_at names name equals ts = do
   t ← next_in ts
   kind ← named (name_in t.0.word) t.0
   f ← cell_in (cell_of kind) t.0
-  rest ← opened t.1
+  rest ← marked Open t.1
   operands ← operands_at f rest
   Ok (drive name f operands.0, operands.1)
 
@@ -111,13 +109,13 @@ input_at names ts = do
   t ← next_in ts
   name ← named (name_in t.0.word) t.0
   added ← with_net names name t.0
-  rest ← closed t.1
+  rest ← marked Close t.1
   Ok (input name, rest)
 
 unfoldable pub output_at : List Lexeme → Result (Statement × List Lexeme) BenchFault
 output_at ts = do
   m ← used_name ts
-  rest ← closed m.1
+  rest ← marked Close m.1
   Ok (output m.0, rest)
 
 -- a statement with this keyword, behind its opening mark
@@ -132,4 +130,4 @@ statement_at names ts = do
   t ← next_in ts
   name ← short_name t.0
   u ← next_in t.1
-  if is_equals u.0.word then driver_at names name u.0 u.1 else (if is_open u.0.word then keyword_at names name u.0 u.1 else Err (misplaced u.0))
+  if has_class Equals u.0.word then driver_at names name u.0 u.1 else (if has_class Open u.0.word then keyword_at names name u.0 u.1 else Err (misplaced u.0))

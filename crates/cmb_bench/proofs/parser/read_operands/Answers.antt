@@ -12,7 +12,7 @@ returns-in_err-name-clause-read c = let p = err_from_is_err_and c.from_residual.
 
 pub loop-operands-preserved : goal.loop-operands-preserved
 loop-operands-preserved c = record {
-  same = ap (λ us. with_front (mentions us) (operands_at c.args.cell (scan c.next-after.new.self))) c.in_ok-push.ensures.ok ∙ ap (λ ms. with_front ms (operands_at c.args.cell (scan c.next-after.new.self))) (map-append mention c.loop-operands.operands.items _) ∙ next_round _ _ _ _ _ _ _ _ c.next-token.ensures.token (c.in_ok-name.ensures.inner refl) c.next-after.ensures.token (c.if-is_comma.ensures.inner refl) c.in_ok-name.ensures.read (sym c.if-is_comma.ensures.value) (sym c.if-takes_one.ensures) ∙ c.loop-operands.invariant.same;
+  same = ap (λ us. with_front (mentions us) (operands_at c.args.cell (scan c.next-after.new.self))) c.in_ok-push.ensures.ok ∙ ap (λ ms. with_front ms (operands_at c.args.cell (scan c.next-after.new.self))) (map-append mention c.loop-operands.operands.items _) ∙ next_round _ _ _ _ _ _ _ _ c.next-token.ensures.token (c.in_ok-name.ensures.inner refl) c.next-after.ensures.token (c.if-is.ensures.inner refl (λ no. absurd cc)) c.in_ok-name.ensures.read (sym c.if-is.ensures.value) (sym c.if-takes_one.ensures) ∙ c.loop-operands.invariant.same;
   shorter = omega arith;
   fits = omega arith;
 }

@@ -1,5 +1,5 @@
 use Rattle.std.proofs.Common.{◌<◌}
-use Rattle.cmb_loops.proofs.MarkFacts.{low_all, popped}
+use Rattle.cmb_loops.proofs.StartFacts.{low_all, popped}
 use Rattle.cmb_loops.proofs.SearchFacts.{pairs_front}
 use Rattle.cmb_loops.proofs.part.merge.Goals as goal
 

@@ -5,9 +5,9 @@ use Rattle.cmb_restrict.proofs.PartFacts.{map_step, pins_known}
 use Rattle.cmb_restrict.proofs.part.drivers_of.Goals as goal
 
 pub renumbered-requires : goal.renumbered-requires
-renumbered-requires c = pins_known c.args.netlist.now c.args.nets.now c.args.places.now c.loop-net.net-index c.driver.result.now c.requires.closed c.requires.long c.loop-net-test.true c.driver.ensures
+renumbered-requires c = pins_known c.args.netlist.now c.args.kept.now.nets.now c.args.kept.now.places.now c.loop-net.net-index c.driver.result.now c.requires.closed c.requires.long c.loop-net-test.true c.driver.ensures
 
 pub loop-net-preserved : goal.loop-net-preserved
 loop-net-preserved c =
-    map_step (λ net. with_nets (λ n. get_or c.args.places.now n 0) (driver_of c.args.netlist.now net)) c.args.nets.now c.loop-net.net-index c.loop-net.drivers.items _ c.in_ok-driver.driver
-    c.loop-net-test.true c.loop-net.invariant (c.in_ok-driver.ensures ∙ ap (with_nets (λ n. get_or c.args.places.now n 0)) c.driver.ensures) c.in_ok-push.ensures.items
+    map_step (λ net. with_nets (λ n. get_or c.args.kept.now.places.now n 0) (driver_of c.args.netlist.now net)) c.args.kept.now.nets.now c.loop-net.net-index c.loop-net.drivers.items _ c.in_ok-driver.driver
+    c.loop-net-test.true c.loop-net.invariant (c.in_ok-driver.ensures ∙ ap (with_nets (λ n. get_or c.args.kept.now.places.now n 0)) c.driver.ensures) c.in_ok-push.ensures.items

@@ -6,6 +6,6 @@ use Rattle.cmb_restrict.proofs.part.outputs_of.Given as goal
 
 abbrev pub invariant-loop-net : goal.invariant-loop-net
 invariant-loop-net l = record {
-  kept : l.outputs.keys ≡ map (λ n. get_or l.places n 0) (filter (is_among l.nets) (take l.net-index l.all));
+  kept : l.outputs.keys ≡ map (λ n. get_or l.kept.places.now n 0) (filter (is_among l.kept.nets.now) (take l.net-index l.all));
   distinct : IsDistinct nat_eq l.outputs.keys;
 }
