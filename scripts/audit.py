@@ -62,10 +62,11 @@ def function_at(file, text, at):
     """The path of the function that a place of a file stands in, as the prover names it, or None outside of all."""
     owner = function = None
     for line in text[:at].split("\n"):
-        impl = re.match(r"impl(?:<.*?>)? (?:(\w+)(?:<(\w+).*?>)? for )?(\w+)", line)
+        impl = re.match(r"impl(?:<(.*?)>)? (?:(\w+)(?:<(\w+).*?>)? for )?(\w+)", line)
         found = re.match(r"(?:    )?(?:pub(?:\(\w+\))? )?fn (\w+)", line)
         if impl:
-            owner = impl[3] + (impl[1] or "") + (impl[2] or "")
+            free = {it.partition(":")[0].strip() for it in (impl[1] or "").split(",")}
+            owner = ("Any" if impl[4] in free else impl[4]) + (impl[2] or "") + (impl[3] or "")
         elif found:
             function = found[1]
         elif line == "}":

@@ -144,14 +144,7 @@ impl<'a, T: Terms, R: Wait> TextMaker for Flow<'a, T, R> {
     ghost ready = { Unit {0} };
 
     // Goes on by a batch.
-    fn step(self, kept: &mut Kept<'_>) -> Result<Self, AllocError> {
-        let mut flow = self;
-        match flow.go_on(kept) {
-            Ok(()) => Ok(flow),
-            Err(error) => {
-                drop(flow);
-                Err(error)
-            }
-        }
+    fn step(mut self, kept: &mut Kept<'_>) -> Result<Self, AllocError> {
+        self.go_on(kept).and(Ok(self))
     }
 }

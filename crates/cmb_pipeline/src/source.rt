@@ -10,7 +10,6 @@ use cmb_batch::{Batch, clocks_of};
 use cmb_design::Design;
 use rtrb::PushError;
 use std::alloc::{AllocError, Global};
-use std::marker::Model;
 
 // About how many bytes of text a batch makes: so many that handing it on costs little beside it, and so few that it
 // stays in caches. An estimate.
@@ -35,17 +34,16 @@ pub(crate) struct Source<'a, T: Terms> {
     waiting: Option<Parcel<'a, T>>,
     /// How many batches more may be on their way.
     left: usize,
-}
-
-impl<'a, T: Terms> Model for Source<'a, T> {
-    ghost use Rattle.cmb_pipeline.specs.Flows.{IsSource};
-
-    ghost Value = { Unit {0} };
-
-    ghost view = { λ s. record {} };
-
-    ghost invariant = { λ s. IsSource T.design T.owners T.crossing T.width
-        s.design.now s.owners.now s.crossing.now s.width s.next };
+    ghost same: { design.now ≡ T.design },
+    ghost owned: { owners.now ≡ T.owners },
+    ghost crossed: { crossing.now ≡ T.crossing },
+    ghost paced: { width ≡ T.width },
+    ghost wide: { 2 ≤ width },
+    ghost narrow: { width < 63 },
+    ghost nets: { length owners.now ≡ nets_of design.now },
+    ghost marks: { length crossing.now ≡ nets_of design.now },
+    ghost late: { 1 ≤ next },
+    ghost within: { next ≤ design.now.horizon },
 }
 
 impl<'a, T: Terms> Source<'a, T> {

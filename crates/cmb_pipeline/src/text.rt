@@ -14,7 +14,7 @@ use crate::terms::Terms;
 use cmb_batch::{Makers, open_makers, shares_of};
 use cmb_cut::Sharing;
 use cmb_design::Design;
-use cmb_stream::{Kept, StreamFault, text_rest, write_rest};
+use cmb_stream::{Destination, InMemory, Kept, StreamFault};
 use cmb_vcd::Sink;
 use std::alloc::{AllocError, Global};
 use std::marker::Brand;
@@ -49,91 +49,85 @@ fn begin<'s, 'a: 's, E, T: Terms + Send + Sync + 's, R: Threads + Wait + Sync>(
 }
 
 // Makes the text by the calling thread, while the stages are at work.
-fn text_within<'s, 'a: 's, E, T: Terms + Send + Sync + 's, R: Threads + Wait + Sync>(
+fn text_within<
+    's,
+    'a: 's,
+    E,
+    T: Terms + Send + Sync + 's,
+    R: Threads + Wait + Sync,
+    D: Destination,
+>(
     rt: &'a R,
     alloc: Global,
     scope: &Scope<'s, E>,
     design: &'a Design,
     run: Run<'a, T>,
-) -> Result<Vec<u8>, AllocError>
-    requires { design.now ≡ T.design }
-    ensures { IfOk result (λ text. text.items ≡ vcd design.entry.now) }
-{
-    let (flow, kept) = begin(rt, alloc, scope, design, run)?;
-    text_rest(flow, kept)
-}
-
-// Writes the text, in the same way.
-fn write_within<'s, 'a: 's, E, T: Terms + Send + Sync + 's, R: Threads + Wait + Sync, S: Sink>(
-    rt: &'a R,
-    alloc: Global,
-    scope: &Scope<'s, E>,
-    design: &'a Design,
-    run: Run<'a, T>,
-    sink: &mut S,
-) -> Result<u64, StreamFault>
-    requires room { S.failures sink.old < 2 ^ 64 - 1 }
+    to: &mut D,
+) -> D::Answer
+    requires room { D.is_ready to.old }
     requires design { design.now ≡ T.design }
-    ensures { IsWrittenTo S.Sink design.entry.now sink.old sink.new result }
+    ensures { D.is_told design.entry.now to.old to.new result }
 {
-    let (flow, kept) = begin(rt, alloc, scope, design, run)?;
-    write_rest(flow, kept, sink)
+    let Ok((flow, kept)) = begin(rt, alloc, scope, design, run) else {
+        return to.refused();
+    };
+    to.take_rest(flow, kept)
 }
 
 // The text of the design that T names.
-fn text_named<'a, T: Terms + Send + Sync, R: Threads + Wait + Sync>(
+fn text_named<'a, T: Terms + Send + Sync, R: Threads + Wait + Sync, D: Destination>(
     rt: &'a R,
     alloc: Global,
     design: &'a Design,
     sharing: &'a Sharing,
     makers: Makers<'a>,
-) -> Result<Vec<u8>, AllocError>
+    to: &mut D,
+) -> D::Answer
+    requires room { D.is_ready to.old }
     requires of { IsOf design.now sharing.now.owners.items sharing.now.crossing.items makers
         T.design T.owners T.crossing T.width }
-    ensures { IfOk result (λ text. text.items ≡ vcd design.now) }
+    ensures { D.is_told design.now to.old to.new result }
 {
-    let run = open_run::<T>(alloc, design, &sharing.owners, &sharing.crossing, makers)?;
-    thread::scope(
+    let Ok(run) = open_run::<T>(alloc, design, &sharing.owners, &sharing.crossing, makers) else {
+        return to.refused();
+    };
+    let (back, answer) = thread::scope(
         thread::scope_env(),
         rt,
-        move |scope| -> Result<Vec<u8>, AllocError>
-            requires { design.now ≡ T.design }
-            ensures { IfOk result (λ text. text.items ≡ vcd design.entry.now) }
-        { text_within(rt, alloc, scope, design, run) },
-    )
-}
-
-// Writes the text of the design that T names.
-fn write_named<'a, T: Terms + Send + Sync, R: Threads + Wait + Sync, S: Sink>(
-    rt: &'a R,
-    alloc: Global,
-    design: &'a Design,
-    sharing: &'a Sharing,
-    makers: Makers<'a>,
-    sink: &mut S,
-) -> Result<u64, StreamFault>
-    requires room { S.failures sink.old < 2 ^ 64 - 1 }
-    requires of { IsOf design.now sharing.now.owners.items sharing.now.crossing.items makers
-        T.design T.owners T.crossing T.width }
-    ensures { IsWrittenTo S.Sink design.now sink.old sink.new result }
-{
-    let run = open_run::<T>(alloc, design, &sharing.owners, &sharing.crossing, makers)?;
-    let (back, written) = thread::scope(
-        thread::scope_env(),
-        rt,
-        move |scope| -> (&mut S, Result<u64, StreamFault>)
-            requires room { S.failures sink.now < 2 ^ 64 - 1 }
+        move |scope| -> (&mut D, D::Answer)
+            requires room { D.is_ready to.now }
             requires design { design.now ≡ T.design }
-            ensures name { result.0.ghost_name ≡ sink.entry.ghost_name }
-            ensures written { IsWrittenTo S.Sink design.entry.now sink.entry.now result.0.now result.1 }
+            ensures name { result.0.ghost_name ≡ to.entry.ghost_name }
+            ensures told { D.is_told design.entry.now to.entry.now result.0.now result.1 }
         {
-            let written = write_within(rt, alloc, scope, design, run, sink);
-            (sink, written)
+            let answer = text_within(rt, alloc, scope, design, run, to);
+            (to, answer)
         },
     );
     // By this use the reference that came back is tied to the parameter that lent it.
     let _lent = &*back;
-    written
+    answer
+}
+
+// The text of a design's run by a thread for each share of its nets and the calling one.
+fn text_by<R: Threads + Wait + Sync, D: Destination>(
+    rt: &R,
+    alloc: Global,
+    design: &Design,
+    sharing: &Sharing,
+    to: &mut D,
+) -> D::Answer
+    requires room { D.is_ready to.old }
+    requires sharing { IsSharing design.now.netlist sharing.now }
+    ensures { D.is_told design.now to.old to.new result }
+{
+    let Ok(shares) = shares_of(alloc, design, sharing) else {
+        return to.refused();
+    };
+    let Ok(makers) = open_makers(rt, alloc, &shares) else {
+        return to.refused();
+    };
+    text_named::<Brand, R, D>(rt, alloc, design, sharing, makers, to)
 }
 
 /// Writes the VCD text of a design's run while it is made, by a thread for each share of its nets and the calling one,
@@ -151,9 +145,7 @@ pub fn write_pipeline<R: Threads + Wait + Sync, S: Sink>(
     requires sharing { IsSharing design.now.netlist sharing.now }
     ensures { IsWrittenTo S.Sink design.now sink.old sink.new result }
 {
-    let shares = shares_of(alloc, design, sharing)?;
-    let makers = open_makers(rt, alloc, &shares)?;
-    write_named::<Brand, R, S>(rt, alloc, design, sharing, makers, sink)
+    text_by(rt, alloc, design, sharing, sink)
 }
 
 /// The VCD text of a design's run, whole in memory, by a thread for each share of its nets and the calling one, which
@@ -167,7 +159,5 @@ pub fn pipeline_text<R: Threads + Wait + Sync>(
     requires { IsSharing design.now.netlist sharing.now }
     ensures { IfOk result (λ text. text.items ≡ vcd design.now) }
 {
-    let shares = shares_of(alloc, design, sharing)?;
-    let makers = open_makers(rt, alloc, &shares)?;
-    text_named::<Brand, R>(rt, alloc, design, sharing, makers)
+    text_by(rt, alloc, design, sharing, &mut InMemory)
 }

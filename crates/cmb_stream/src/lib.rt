@@ -1,6 +1,7 @@
 //! The text of a whole design, made window by window by the engine of words.
 #![tactic(auto)]
 
+pub mod destination;
 pub mod fault;
 pub mod first;
 pub mod kept;
@@ -8,6 +9,7 @@ pub mod stream;
 pub mod text;
 pub mod text_maker;
 
+pub use destination::{Destination, InMemory};
 pub use fault::StreamFault;
 pub use first::{first_text, keep_window, tell_window};
 pub use kept::Kept;

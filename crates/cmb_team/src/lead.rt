@@ -78,14 +78,7 @@ impl<'a, T: Terms, R: Wait> TextMaker for Lead<'a, T, R> {
     ghost ready = { Unit {0} };
 
     // Goes on by a batch.
-    fn step(self, kept: &mut Kept<'_>) -> Result<Self, AllocError> {
-        let mut lead = self;
-        match lead.go_on(kept) {
-            Ok(()) => Ok(lead),
-            Err(error) => {
-                drop(lead);
-                Err(error)
-            }
-        }
+    fn step(mut self, kept: &mut Kept<'_>) -> Result<Self, AllocError> {
+        self.go_on(kept).and(Ok(self))
     }
 }

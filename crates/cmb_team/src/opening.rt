@@ -110,13 +110,7 @@ pub(crate) fn open_rings<'a, T: Terms>(
         spent,
         most,
     };
-    match rings.add_desks(alloc, design, count) {
-        Ok(()) => Ok(rings),
-        Err(error) => {
-            drop(rings);
-            Err(error)
-        }
-    }
+    rings.add_desks(alloc, design, count).and(Ok(rings))
 }
 
 /// What the run of the design begins with that `T` names, from where an engine and a dump are on.

@@ -1,4 +1,4 @@
-use Rattle.cmb_pipeline.proofs.text.pipeline_text.Given as goal
+use Rattle.cmb_pipeline.proofs.text.text_by.Given as goal
 
 abbrev pub ghosts-text_named : goal.ghosts-text_named
 ghosts-text_named g a = record {
