@@ -1,7 +1,7 @@
 -- A cluster: its processes and the waves that it has, and what a step does to it.
 use Rattle.std.specs.Prelude.{◌≡◌, ℕ, suc, ◌<◌, ◌-◌, nat_lt, nat_le, List, [], ◌∷◌, if◌then◌else◌, length, map, slice_index_or, slice_set, Option, Some, None, IsSome, Result, Ok, Err, IsOk, Bool, false, ◌==◌}
 use Rattle.std.specs.List.{list_all}
-use Rattle.cmb_core.specs.declared.advance.Span.{Span}
+use Rattle.cmb_core.specs.declared.span.Span.{Span}
 use Rattle.cmb_wave.specs.declared.level.Level.{Level}
 use Rattle.cmb_wave.specs.Waveform.{changes_between, last_level, level_at, level_before}
 use Rattle.cmb_wave.specs.Wave.{Wave, Piece, new_wave, grown, wave_with_piece}

@@ -28,11 +28,15 @@ abbrev pub delayed_levels : List Wave → List Pin → ℕ → List Level
 delayed_levels waves [] t = []
 delayed_levels waves (o ∷ os) t = delayed_wave (wave_at waves o.net) o.delay t ∷ delayed_levels waves os t
 
--- the level that a flip-flop has at tick `t`
+-- a wave's level at the last sample that shows at tick `t`: the initial one before there is one
 abbrev pub sampled_wave : Wave → ℕ → ℕ → Level → ℕ → ℕ → Level
 sampled_wave w first period init delay t =
     if nat_lt t (first + delay) then init
     else level_at w.kept w.changes (sample_upto first period (t - delay))
+
+-- the level that a flip-flop has at tick `t`, by its operand
+abbrev pub flop_row : List Wave → Pin → ℕ → ℕ → Level → ℕ → Level
+flop_row waves o first period init t = sampled_wave (wave_at waves o.net) first period init o.delay t
 
 -- an operand's wave is in its place
 abbrev pub IsThere : List Wave → Pin → Type 0
@@ -85,7 +89,7 @@ process_level waves Given os cs t = X
 process_level waves Input os cs t = level_at X cs t
 process_level waves (Gate kind) os cs t = gate_row kind waves os t
 process_level waves (Flop first period init) [] cs t = X
-process_level waves (Flop first period init) (o ∷ os) cs t = sampled_wave (wave_at waves o.net) first period init o.delay t
+process_level waves (Flop first period init) (o ∷ os) cs t = flop_row waves o first period init t
 
 -- up to here a process can go on
 abbrev pub process_reach : ℕ → List Wave → Rule → List Pin → ℕ

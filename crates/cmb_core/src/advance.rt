@@ -4,27 +4,20 @@ ghost use Rattle.std.specs.Prelude.{◌≡◌, ℕ, ◌+◌, ◌-◌, ◌≤◌,
 ghost use Rattle.cmb_wave.specs.Waveform.{level_at, same_level, Rises};
 ghost use Rattle.cmb_wave.specs.declared.level.Level.{Level};
 ghost use Rattle.cmb_wave.specs.declared.level.Level.TheVariants.{X};
-ghost use Rattle.cmb_core.specs.Spans.{changes_from};
+ghost use Rattle.cmb_core.specs.Spans.{changes_over};
 ghost use Rattle.cmb_bench.specs.Netlist.{MayTake};
 ghost use Rattle.cmb_design.specs.Timing.{sample_upto};
-ghost use Rattle.cmb_core.specs.Rows.{gate_reach, gate_row, sampled_wave, AreReady, IsThere, flop_reach};
+ghost use Rattle.cmb_core.specs.Rows.{gate_reach, gate_row, flop_reach, flop_row, AreReady, IsThere};
 ghost use Rattle.cmb_core.specs.Step.{wave_at};
 
 use crate::merge::{Lag, differ, follow, merge};
 use crate::pins::{gate_pins, operand_left, operand_wave};
 use crate::process::Pin;
+use crate::span::Span;
 use cmb_bench::netlist::Kind;
 use cmb_wave::search::{Rest, left_from};
 use cmb_wave::{Change, Level, Wave};
 use std::alloc::AllocError;
-
-/// The span of an output's new ticks, and the level before it.
-#[derive(Clone, Copy)]
-pub struct Span {
-    pub before: Level,
-    pub from: u32,
-    pub until: u32,
-}
 
 /// The tick up to which a gate's operands are known at its output.
 pub(crate) fn reach_of_gate(horizon: u32, operands: &[Pin], waves: &[Wave]) -> u32
@@ -67,10 +60,8 @@ fn begins_anew(level: Level, span: Span) -> bool
 // Adds the changes of an output that stays at a level: one at most.
 #[tactic(auto, using(crate::proofs::Changes::changes_from_held))]
 fn held_changes(room: &mut Vec<Change>, level: Level, span: Span) -> Result<(), AllocError>
-    requires { span.from ≤ span.until }
     ensures { (row : ℕ → Level) → ((t : ℕ) → span.from ≤ t → row t ≡ level)
-        → OnOk result (room.new.items ≡ room.old.items
-        ++ changes_from row span.before span.from (span.until - span.from)) }
+        → OnOk result (room.new.items ≡ room.old.items ++ changes_over row span) }
 {
     if begins_anew(level, span) {
         room.push(Change {
@@ -91,13 +82,11 @@ pub(crate) fn gate_changes(
 ) -> Result<(), AllocError>
     requires ready { AreReady waves.now span.from operands.now }
     requires takes { MayTake kind (length operands.now) }
-    requires ordered { span.from ≤ span.until }
     ensures { OnOk result (room.new.items
-        ≡ room.old.items ++ changes_from (gate_row kind waves.now operands.now) span.before span.from
-        (span.until - span.from)) }
+        ≡ room.old.items ++ changes_over (gate_row kind waves.now operands.now) span) }
 {
     let mut pins = gate_pins(*room.allocator(), operands, waves, span.from)?;
-    merge(kind, &mut pins, room, span.before, span.from, span.until)
+    merge(kind, &mut pins, room, span)
 }
 
 // The sample tick that a flip-flop's output shows at its clock, or a tick below that one: no sample that it
@@ -125,12 +114,9 @@ fn sampled_changes(
 ) -> Result<(), AllocError>
     requires positive { 0 < period }
     requires there { IsThere waves.now operand }
-    requires ordered { span.from ≤ span.until }
     ensures { (init : Level) → (span.from < span.until → first + operand.delay ≤ span.from)
-        → OnOk result (room.new.items ≡ room.old.items
-        ++ changes_from (sampled_wave (wave_at waves.now operand.net) first period init operand.delay) span.before
-        span.from
-        (span.until - span.from)) }
+        → OnOk result (room.new.items
+        ≡ room.old.items ++ changes_over (flop_row waves.now operand first period init) span) }
 {
     let lag = Lag::Sampled {
         first,
@@ -139,15 +125,7 @@ fn sampled_changes(
     };
     let seen = seen_upto(first, period, operand.delay, span.from);
     let Rest { level, changes } = operand_left(waves, operand, seen);
-    follow(
-        lag,
-        level,
-        changes,
-        room,
-        span.before,
-        span.from,
-        span.until,
-    )
+    follow(lag, level, changes, room, span)
 }
 
 /// Adds the changes of a flip-flop's output in a span to a list.
@@ -162,10 +140,8 @@ pub(crate) fn flop_changes(
 ) -> Result<(), AllocError>
     requires positive { 0 < period }
     requires there { IsThere waves.now operand }
-    requires ordered { span.from ≤ span.until }
     ensures { OnOk result (room.new.items
-        ≡ room.old.items ++ changes_from (sampled_wave (wave_at waves.now operand.net) first period init operand.delay)
-        span.before span.from (span.until - span.from)) }
+        ≡ room.old.items ++ changes_over (flop_row waves.now operand first period init) span) }
 {
     let begun = first.saturating_add(operand.delay);
     if begun <= span.from {
@@ -173,8 +149,9 @@ pub(crate) fn flop_changes(
     }
     let middle = begun.min(span.until);
     let head = Span {
+        before: span.before,
+        from: span.from,
         until: middle,
-        ..span
     };
     held_changes(room, init, head)?;
     let before = if begins_anew(init, head) {
@@ -196,19 +173,9 @@ pub(crate) fn input_changes(
     stimulus: &[Change],
     span: Span,
 ) -> Result<(), AllocError>
-    requires rises { Rises 0 stimulus.now }
-    requires ordered { span.from ≤ span.until }
-    ensures { OnOk result (room.new.items
-        ≡ room.old.items ++ changes_from (level_at X stimulus.now) span.before span.from (span.until - span.from)) }
+    requires { Rises 0 stimulus.now }
+    ensures { OnOk result (room.new.items ≡ room.old.items ++ changes_over (level_at X stimulus.now) span) }
 {
     let Rest { level, changes } = left_from(Level::X, stimulus, span.from);
-    follow(
-        Lag::Delay(0),
-        level,
-        changes,
-        room,
-        span.before,
-        span.from,
-        span.until,
-    )
+    follow(Lag::Delay(0), level, changes, room, span)
 }

@@ -3,13 +3,13 @@
 ghost use Rattle.std.specs.Prelude.{◌≡◌, ◌≢◌, ◌<◌, ◌≤◌, ℕ, IfOk, OnOk, OnErr, IfErr, IfSome, MatchOption, Ok, Err};
 ghost use Rattle.std.specs.Prelude.{None, slice_set, length, map};
 
-use crate::advance::Span;
 use crate::clustering::Clustering;
 use crate::delivery::{DeliverFault, Stranger, refusal};
 use crate::directory::{Directory, place_of};
 use crate::node::Node;
 use crate::open::{nets_held, nodes_of, places_among, sides_of, waves_of};
 use crate::readers::readers_among;
+use crate::span::Span;
 use cmb_design::Design;
 use cmb_wave::{Heard, Piece, Promise, Wave, WaveFault};
 use std::alloc::{AllocError, Global};

@@ -17,6 +17,7 @@ pub mod process;
 mod progress;
 mod readers;
 mod reads;
+mod span;
 mod stepping;
 mod trim;
 

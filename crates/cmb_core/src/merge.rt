@@ -2,10 +2,11 @@
 
 ghost use Rattle.std.specs.Prelude.{◌≡◌, ℕ, ◌-◌, ◌≤◌, ◌<◌, ◌++◌, OnOk, length, not};
 ghost use Rattle.cmb_wave.specs.Waveform.{same_level};
-ghost use Rattle.cmb_core.specs.Spans.{changes_from};
+ghost use Rattle.cmb_core.specs.Spans.{changes_over};
 ghost use Rattle.cmb_bench.specs.Netlist.{MayTake};
 ghost use Rattle.cmb_core.specs.Arrivals.{arrived, arrives, due_of, gate_at, levels, Advanced, Passed};
 
+use crate::span::Span;
 use cmb_bench::netlist::Kind;
 use cmb_design::gates::gate;
 use cmb_wave::{Change, Level};
@@ -110,25 +111,21 @@ pub(crate) fn differ(level: Level, other: Level) -> bool
     level != other
 }
 
-/// Goes on with a gate's changes over the span from `from` to `until`.
+/// Goes on with a gate's changes over a span.
 pub(crate) fn merge(
     kind: Kind,
     pins: &mut [PinCursor],
     changes: &mut Vec<Change>,
-    before: Level,
-    from: u32,
-    until: u32,
+    span: Span,
 ) -> Result<(), AllocError>
-    requires ordered { from ≤ until }
-    requires takes { MayTake kind (length pins.old) }
-    ensures { OnOk result (changes.new.items
-        ≡ changes.old.items ++ changes_from (gate_at kind pins.old) before from (until - from)) }
+    requires { MayTake kind (length pins.old) }
+    ensures { OnOk result (changes.new.items ≡ changes.old.items ++ changes_over (gate_at kind pins.old) span) }
 {
     let mut seen = Vec::with_capacity(*changes.allocator(), pins.len())?;
-    let mut last = before;
-    let mut now = from;
-    while now < until {
-        let next = let_through(pins, now, until);
+    let mut last = span.before;
+    let mut now = span.from;
+    while now < span.until {
+        let next = let_through(pins, now, span.until);
         read_levels(pins, &mut seen)?;
         let level = gate(kind, &seen);
         if differ(level, last) {
@@ -140,21 +137,17 @@ pub(crate) fn merge(
     Ok(())
 }
 
-/// Goes on with the changes of an output that shows what its only operand is, over the span from
-/// `from` to `until`: `level` has reached it, and `rest` hasn't yet.
+/// Goes on with the changes of an output that shows what its only operand is, over a span: `level` has reached it, and
+/// `rest` hasn't yet.
 pub(crate) fn follow(
     lag: Lag,
     level: Level,
     rest: &[Change],
     changes: &mut Vec<Change>,
-    before: Level,
-    from: u32,
-    until: u32,
+    span: Span,
 ) -> Result<(), AllocError>
-    requires { from ≤ until }
-    ensures { OnOk result (changes.new.items
-        ≡ changes.old.items ++ changes_from (arrived lag level rest.now) before from (until - from)) }
+    ensures { OnOk result (changes.new.items ≡ changes.old.items ++ changes_over (arrived lag level rest.now) span) }
 {
     let mut pins = [PinCursor { rest, lag, level }];
-    merge(Kind::Buff, &mut pins, changes, before, from, until)
+    merge(Kind::Buff, &mut pins, changes, span)
 }

@@ -2,11 +2,10 @@
 
 ghost use Rattle.std.specs.Prelude.{◌≡◌};
 
-use crate::advance::{
-    Span, flop_changes, gate_changes, input_changes, reach_of_flop, reach_of_gate,
-};
+use crate::advance::{flop_changes, gate_changes, input_changes, reach_of_flop, reach_of_gate};
 use crate::pins::operand_wave;
 use crate::process::{Pin, Rule};
+use crate::span::Span;
 use cmb_wave::{Change, Wave};
 use std::alloc::AllocError;
 use std::marker::Model;
@@ -30,7 +29,7 @@ impl Model for Node {
 impl Node {
     ghost use Rattle.std.specs.Prelude.{◌≡◌, ◌≤◌, ◌-◌, ◌++◌, ℕ, OnOk};
     ghost use Rattle.cmb_core.specs.Rows.{IsReadyFor, is_given, process_level, process_reach};
-    ghost use Rattle.cmb_core.specs.Spans.{changes_from};
+    ghost use Rattle.cmb_core.specs.Spans.{changes_over};
 
     pub(crate) fn new(rule: Rule, operands: Vec<Pin>, stimulus: Vec<Change>) -> Node
         ensures { result ≡ record { rule = rule; operands = operands.items; stimulus = stimulus.items } }
@@ -90,11 +89,9 @@ impl Node {
         waves: &[Wave],
         span: Span,
     ) -> Result<(), AllocError>
-        requires ready { IsReadyFor waves.now span.from self.now.rule self.now.operands self.now.stimulus }
-        requires ordered { span.from ≤ span.until }
-        ensures { OnOk result (room.new.items
-            ≡ room.old.items ++ changes_from (process_level waves.now self.now.rule self.now.operands self.now.stimulus)
-            span.before span.from (span.until - span.from)) }
+        requires { IsReadyFor waves.now span.from self.now.rule self.now.operands self.now.stimulus }
+        ensures { OnOk result (room.new.items ≡ room.old.items
+            ++ changes_over (process_level waves.now self.now.rule self.now.operands self.now.stimulus) span) }
     {
         match self.rule {
             Rule::Given => input_changes(room, &[], span),

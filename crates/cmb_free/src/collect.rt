@@ -31,25 +31,36 @@ fn take_some<T: Terms, R: Wait>(
     Ok(found)
 }
 
-/// Takes what waits in the links, up to so many pieces each, and says whether there was one. Gives none where there
-/// wasn't and all workers that were started had finished before.
+/// What was found in the links of all workers.
+#[derive(Clone, Copy)]
+pub(crate) enum Found {
+    /// A piece at least.
+    Pieces,
+    /// No piece, and workers may still put some.
+    Nothing,
+    /// No piece, and all workers that were started had finished before: none will come.
+    End,
+}
+
+/// Takes what waits in the links, up to so many pieces each.
 pub(crate) fn take_round<T: Terms, R: Wait>(
     rt: &R,
     lookout: &mut Lookout<T>,
     started: usize,
     backlog: &mut Backlog<T>,
-) -> Result<Option<bool>, AllocError>
+) -> Result<Found, AllocError>
     ensures { backlog.new.written ≡ backlog.old.written }
 {
     let over = lookout.finished() as usize >= started;
-    let mut found = false;
+    let mut any = false;
     for end in lookout.ends.iter_mut() {
-        found |= take_some(rt, end, backlog)?;
+        any |= take_some(rt, end, backlog)?;
     }
-    if over && !found {
-        return Ok(None);
-    }
-    Ok(Some(found))
+    Ok(match (any, over) {
+        (true, _) => Found::Pieces,
+        (false, false) => Found::Nothing,
+        (false, true) => Found::End,
+    })
 }
 
 /// What the calling thread has of a run that it collects. `S` is where the text goes.
@@ -98,10 +109,10 @@ impl<T: Terms> Collect<T, Nowhere> for Backlog<T> {
         _sink: &mut Nowhere,
     ) -> Result<u64, RunFault> {
         for _ in rt.forever() {
-            let Some(found) = take_round(rt, lookout, started, self)? else {
-                break;
-            };
-            lookout.rest_unless(rt, found);
+            match take_round(rt, lookout, started, self)? {
+                Found::End => break,
+                found => lookout.rest_after(rt, found),
+            }
         }
         Ok(0)
     }

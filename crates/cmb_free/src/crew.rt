@@ -5,6 +5,7 @@ ghost use Rattle.std.specs.Arc.{arc_value};
 ghost use Rattle.cmb_links.specs.Seats.{IsSeatOf, new_seats, terms};
 ghost use Rattle.cmb_run.specs.RunTerms.{AreTerms};
 
+use crate::collect::Found;
 use crate::desk::Desk;
 use crate::ends::TakeEnd;
 use crate::worker::Worker;
@@ -38,11 +39,10 @@ impl<T: Terms> Lookout<T> {
     }
 
     /// Rests where nothing was found.
-    pub(crate) fn rest_unless<R: Wait>(&mut self, rt: &R, found: bool) {
-        if found {
-            self.idle.end();
-        } else {
-            self.idle.rest(rt);
+    pub(crate) fn rest_after<R: Wait>(&mut self, rt: &R, found: Found) {
+        match found {
+            Found::Nothing => self.idle.rest(rt),
+            _ => self.idle.end(),
         }
     }
 }

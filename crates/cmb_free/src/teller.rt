@@ -7,7 +7,7 @@ ghost use Rattle.cmb_free.specs.FreeRuns.{IsCutAt};
 ghost use Rattle.cmb_free.specs.Tellers.{IsToldTo, told};
 
 use crate::backlog::Backlog;
-use crate::collect::take_round;
+use crate::collect::{Found, take_round};
 use crate::crew::Lookout;
 use cmb_design::Design;
 use cmb_run::{RunFault, Terms};
@@ -57,7 +57,7 @@ impl<'a, T: Terms> Teller<'a, T> {
         rt: &R,
         lookout: &mut Lookout<T>,
         started: usize,
-    ) -> Result<Option<bool>, AllocError>
+    ) -> Result<Found, AllocError>
         ensures { self.new.written ≡ self.old.written }
     {
         take_round(rt, lookout, started, &mut self.backlog)

@@ -7,7 +7,7 @@ ghost use Rattle.cmb_vcd.specs.Vcd.{vcd};
 ghost use Rattle.cmb_run.specs.RunTerms.{AreTerms};
 ghost use Rattle.cmb_free.specs.FreeRuns.{IsCutAt};
 
-use crate::collect::Collect;
+use crate::collect::{Collect, Found};
 use crate::crew::{Crew, Lookout};
 use crate::run::{run_crew, settled};
 use crate::teller::Teller;
@@ -44,15 +44,20 @@ impl<'a, T: Terms, S: Sink> Collect<T, S> for Teller<'a, T> {
     ) -> Result<u64, RunFault> {
         let mut fresh = 0;
         for _ in rt.forever() {
-            let Some(found) = self.take_round(rt, lookout, started)? else {
-                break;
+            let found = self.take_round(rt, lookout, started)?;
+            let is_due = match found {
+                Found::Pieces => {
+                    fresh += 1;
+                    fresh >= ROUNDS
+                }
+                Found::Nothing => fresh > 0,
+                Found::End => break,
             };
-            fresh += u32::from(found);
-            if fresh >= ROUNDS || (!found && fresh > 0) {
+            if is_due {
                 self.tell(sink)?;
                 fresh = 0;
             }
-            lookout.rest_unless(rt, found);
+            lookout.rest_after(rt, found);
         }
         self.tell(sink)
     }

@@ -208,3 +208,11 @@ learns_sent port v role items views kept at =
 
 pub learns_left : (port : ℕ) (v : End) → v.role ≡ Closes → Learns IsLinked port v (Leaves v)
 learns_left port v role items views kept at = let h = closes items views port v kept at role in subst (λ (u : End). Leaves u items) h.5.2 (h.4.order, h.4.room)
+
+-- the end that closes a link knows what it has taken, which is exact, with one piece more
+pub emptied : (d : Design) (n : ℕ) (sent received left more : List Piece) (v w : End) (x : Piece) → v ≡ closing d n sent (received ++ left) → Empties v x w → more ≡ left ++ x ∷ [] → All (IsExactIn d) left
+    → (w ≡ closing d n sent (received ++ more)) × All (IsExactIn d) more
+emptied d n sent received left more v w x knows took is exact = (
+  took.0 ∙ ap (λ (u : End). closing u.design u.capacity u.sent (u.received ++ x ∷ [])) knows ∙ ap (closing d n sent) (append_assoc received left (x ∷ []) ∙ ap (λ l. received ++ l) (sym is)),
+  subst (All (IsExactIn d)) (sym is) (All-push (IsExactIn d) left x exact (subst (λ (u : End). IsExactIn u.design x) knows took.1)),
+)

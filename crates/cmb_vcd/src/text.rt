@@ -4,7 +4,7 @@ ghost use Rattle.std.specs.Prelude.{◌≡◌, ◌++◌, ◌<◌, ◌≤◌, ℕ
 ghost use Rattle.std.specs.List.{All};
 ghost use Rattle.cmb_wave.specs.Waveform.{level_at};
 ghost use Rattle.cmb_vcd.specs.Collector.{IsComplete, IsExactFor, IsFor, collected_level};
-ghost use Rattle.cmb_vcd.specs.ValueChanges.{end_line, value_changes_in, ticks_between};
+ghost use Rattle.cmb_vcd.specs.ValueChanges.{end_line, value_changes_in, ticks_told};
 ghost use Rattle.cmb_vcd.specs.Ticks.{IsWithin, span_lines};
 ghost use Rattle.cmb_vcd.specs.Vcd.{level_lines, text_of, tick_text, vcd};
 
@@ -89,28 +89,7 @@ fn push_counted(
     push_by_ticks(out, codes, from, &sorted.ends, &sorted.marks)
 }
 
-// The lines of changes at the ticks of [from, to), of which none is tick 0. Work goes by changes, not by ticks.
-fn push_parts(
-    out: &mut Vec<u8>,
-    codes: &Codes,
-    parts: &[NetChanges],
-    from: u32,
-    to: u32,
-) -> Result<(), AllocError>
-    requires late { 0 < from }
-    requires order { from ≤ to }
-    requires inside { All (IsWithin from to) (value_changes_in parts.now) }
-    ensures { OnOk result (out.new.items ≡ out.old.items ++ span_lines (value_changes_in parts.now) from to) }
-{
-    match count_of(parts) {
-        Some(count) if count >= (to - from) / TICKS_A_CHANGE => push_counted(
-            out, codes, parts, from, to, count,
-        ),
-        _ => push_compared(out, codes, parts),
-    }
-}
-
-// The lines of the ticks of [from, to), of which none is tick 0.
+// The lines of the ticks of [from, to), of which none is tick 0. Work goes by changes, not by ticks.
 fn push_later(
     out: &mut Vec<u8>,
     codes: &Codes,
@@ -121,11 +100,15 @@ fn push_later(
     requires late { 0 < from }
     requires order { from ≤ to }
     requires few { length waves.now ≤ MAX_NETS }
-    ensures { OnOk result (out.new.items
-        ≡ out.old.items ++ ticks_between (length waves.now) (collected_level waves.now) from to) }
+    ensures { OnOk result (out.new.items ≡ out.old.items ++ ticks_told waves.now from to) }
 {
     let parts = net_changes_within(*out.allocator(), waves, from, to)?;
-    push_parts(out, codes, &parts, from, to)
+    match count_of(&parts) {
+        Some(count) if count >= (to - from) / TICKS_A_CHANGE => push_counted(
+            out, codes, &parts, from, to, count,
+        ),
+        _ => push_compared(out, codes, &parts),
+    }
 }
 
 // The lines of the ticks of [from, to).
@@ -138,8 +121,7 @@ fn push_ticks(
 ) -> Result<(), AllocError>
     requires order { from ≤ to }
     requires few { length waves.now ≤ MAX_NETS }
-    ensures { OnOk result (out.new.items
-        ≡ out.old.items ++ ticks_between (length waves.now) (collected_level waves.now) from to) }
+    ensures { OnOk result (out.new.items ≡ out.old.items ++ ticks_told waves.now from to) }
 {
     if from == to {
         return Ok(());
@@ -173,8 +155,7 @@ pub(crate) fn push_part(
     requires order { from ≤ upto }
     requires few { length waves.now ≤ MAX_NETS }
     ensures { OnOk result (out.new.items
-        ≡ out.old.items ++ (ticks_between (length waves.now) (collected_level waves.now) from upto
-        ++ end_line horizon from upto)) }
+        ≡ out.old.items ++ (ticks_told waves.now from upto ++ end_line horizon from upto)) }
 {
     push_ticks(out, codes, waves, from, upto)?;
     push_end(out, horizon, from, upto)

@@ -22,6 +22,6 @@ returns c = λ init begun.
     in
     let same : changes_from shown span.before span.from (span.until - span.from)
     ≡ changes_from (sampled_wave (wave_at c.args.waves.now c.args.operand.net) c.args.first c.args.period init delay) span.before span.from (span.until - span.from) =
-    sampled_span (wave_at c.args.waves.now c.args.operand.net) c.args.first c.args.period delay init span.before shown span.from span.until levels c.requires.ordered begun
+    sampled_span (wave_at c.args.waves.now c.args.operand.net) c.args.first c.args.period delay init span.before shown span.from span.until levels span.ordered begun
     in
     rw same at c.follow.ensures

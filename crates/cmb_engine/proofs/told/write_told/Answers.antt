@@ -2,6 +2,7 @@ use Rattle.std.proofs.Common.{◌≡◌, ◌+◌, ◌-◌, ◌<◌, inl, inr, �
 use Rattle.std.proofs.lemmas.Bool.{cases_lt}
 use Rattle.std.proofs.lemmas.List.{get_or_default, take_all}
 use Rattle.std.proofs.lemmas.List.Elements.{Contains-get_or}
+use Rattle.std.specs.Prelude.{Contains}
 use Rattle.cmb_wave.specs.declared.level.Level.{Level}
 use Rattle.cmb_wave.specs.declared.level.Level.TheVariants.{Zero}
 use Rattle.cmb_calendar.specs.declared.tell.Tell.{Tell}
@@ -18,34 +19,38 @@ use Rattle.cmb_engine.proofs.told.write_told.Goals as goal
 abbrev none : Tell
 none = record { tick = 0; slot = 0; level = Zero }
 
+-- what is required of each tell that is listed
+listed : (P : Tell → Type 0) (tells : List Tell) (i : ℕ) → ((tell : Tell) → Contains tells tell → P tell) → i < length tells → P (get_or tells i none)
+listed P tells i all below = all (get_or tells i none) (Contains-get_or tells i none below)
+
 pub bounds-words-slot : goal.bounds-words-slot
 bounds-words-slot c =
-    let facts = c.requires.slots (get_or c.args.tells.now c.loop-tell.tell-index none) (Contains-get_or c.args.tells.now c.loop-tell.tell-index none c.loop-tell-test.true) in
+    let facts = listed _ _ _ c.requires.slots c.loop-tell-test.true in
     omega (arith, facts.0, c.loop-tell.invariant.writes.len)
 
 pub overflow_add-tell : goal.overflow_add-tell
 overflow_add-tell c =
-    let facts = c.requires.slots (get_or c.args.tells.now c.loop-tell.tell-index none) (Contains-get_or c.args.tells.now c.loop-tell.tell-index none c.loop-tell-test.true) in
+    let facts = listed _ _ _ c.requires.slots c.loop-tell-test.true in
     omega (arith, facts.3, c.requires.to)
 
 pub overflow_sub-tell : goal.overflow_sub-tell
 overflow_sub-tell c =
-    let facts = c.requires.slots (get_or c.args.tells.now c.loop-tell.tell-index none) (Contains-get_or c.args.tells.now c.loop-tell.tell-index none c.loop-tell-test.true) in
+    let facts = listed _ _ _ c.requires.slots c.loop-tell-test.true in
     omega (arith, facts.2)
 
 pub with_from-word-requires : goal.with_from-word-requires
 with_from-word-requires c =
-    let facts = c.requires.slots (get_or c.args.tells.now c.loop-tell.tell-index none) (Contains-get_or c.args.tells.now c.loop-tell.tell-index none c.loop-tell-test.true) in
+    let facts = listed _ _ _ c.requires.slots c.loop-tell-test.true in
     omega (arith, facts.2, facts.3)
 
 pub of-requires : goal.of-requires
 of-requires c =
-    let facts = c.requires.slots (get_or c.args.tells.now c.loop-tell.tell-index none) (Contains-get_or c.args.tells.now c.loop-tell.tell-index none c.loop-tell-test.true) in
+    let facts = listed _ _ _ c.requires.slots c.loop-tell-test.true in
     omega (arith, facts.0, c.requires.lists)
 
 pub put_word-requires : goal.put_word-requires
 put_word-requires c =
-    let facts = c.requires.slots (get_or c.args.tells.now c.loop-tell.tell-index none) (Contains-get_or c.args.tells.now c.loop-tell.tell-index none c.loop-tell-test.true) in
+    let facts = listed _ _ _ c.requires.slots c.loop-tell-test.true in
     let place : ℕ = (get_or c.args.tells.now c.loop-tell.tell-index none).slot in
     record {
       slot = omega (arith, facts.0, c.loop-tell.invariant.writes.len);
@@ -61,7 +66,7 @@ pub loop-tell-preserved : goal.loop-tell-preserved
 loop-tell-preserved c =
     let tell : Tell = get_or c.args.tells.now c.loop-tell.tell-index none in
     let lists : List (List ℕ) = c.args.readers.now in
-    let facts = c.requires.slots tell (Contains-get_or c.args.tells.now c.loop-tell.tell-index none c.loop-tell-test.true) in
+    let facts = listed _ _ _ c.requires.slots c.loop-tell-test.true in
     let inside : tell.slot < length c.loop-tell.words = omega (arith, facts.0, c.loop-tell.invariant.writes.len) in
     record {
       writes = writes-on c.args.words.now c.loop-tell.words c.put_word.new.words c.args.live.now c.loop-tell.live c.put_word.new.live c.args.marks.now c.loop-tell.marks c.put_word.new.marks

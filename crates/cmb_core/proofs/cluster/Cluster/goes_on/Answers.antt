@@ -2,7 +2,7 @@ use Rattle.std.proofs.Common.{◌≡◌, ℕ, ◌≤◌, ltb, Option, Some, None
 use Rattle.std.specs.Prelude.{is_some}
 use Rattle.std.proofs.lemmas.Bool.{lt-ltb, le-ltb}
 use Rattle.cmb_design.specs.Design.{Design}
-use Rattle.cmb_core.specs.declared.advance.Span.{Span}
+use Rattle.cmb_core.specs.declared.span.Span.{Span}
 use Rattle.cmb_core.specs.Clusters.{Cluster, IsNextSpan, output_slot, reach_at, slot_wave}
 use Rattle.cmb_core.specs.Step.{wave_at, step_reach}
 use Rattle.cmb_core.proofs.Driven.{Drives, wave_here, net_here, reach_is}

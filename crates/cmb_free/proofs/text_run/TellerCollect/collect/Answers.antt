@@ -4,7 +4,7 @@ use Rattle.std.specs.Io.KnownBytes.{Appends}
 use Rattle.cmb_free.specs.Tellers.{told}
 use Rattle.cmb_free.proofs.TellerFacts.{HasBegun-told, told-last}
 use Rattle.cmb_free.proofs.text_run.TellerCollect.collect.Goals as goal
-use Rattle.cmb_free.proofs.text_run.TellerCollect.collect.Goals.{in-None, in-Some+in_ok-found+in_default}
+use Rattle.cmb_free.proofs.text_run.TellerCollect.collect.Goals.{in-None, in-Some+in_ok-found+in-End}
 
 pub returns-in_err-found : goal.returns-in_err-found
 returns-in_err-found g c =
@@ -14,6 +14,6 @@ returns-in_err-found g c =
 pub returns : goal.returns
 returns g c =
     let same : c.match-next.self.written ≡ c.loop.self.written =
-    elim c.match-next.branch [ in-None w ↦ ap (λ s. s.written) w.self-is | in-Some+in_ok-found+in_default w ↦ ap (λ s. s.written) w.self-is ∙ w.take_round.ensures ] in
+    elim c.match-next.branch [ in-None w ↦ ap (λ s. s.written) w.self-is | in-Some+in_ok-found+in-End w ↦ ap (λ s. s.written) w.self-is ∙ w.take_round.ensures ] in
     let begun : Appends (g.S.Sink.taken c.args.sink.now) (g.S.Sink.taken c.loop.sink) (told g.T.Terms.design c.match-next.self.written) = rw same c.loop.invariant.4 in
     told-last g.T.Terms.design _ _ _ _ _ _ _ c.tell-2.new.self c.tell-2.result begun c.loop.invariant.5 c.tell-2.ensures.ok c.tell-2.ensures.count c.tell-2.ensures.upto c.tell-2.ensures.no_failure c.tell-2.ensures.fault

@@ -1,5 +1,6 @@
-use Rattle.std.proofs.Common.{◌≡◌, ◌+◌, ◌<◌, ◌≤◌, ◌++◌, [], ◌∷◌, true, false, replicate, rules, arith, ap, sym, ◌∙◌}
+use Rattle.std.proofs.Common.{◌≡◌, ◌+◌, ◌<◌, ◌≤◌, ◌++◌, [], ◌∷◌, true, false, map, replicate, rules, arith, ap, sym, ◌∙◌}
 use Rattle.std.proofs.lemmas.List.FromFn.{map-range_with_len_more}
+use Rattle.std.specs.List.{range_with_len}
 use Rattle.cmb_design.specs.Exact.{nets_of}
 use Rattle.cmb_links.specs.Seats.{new_view, new_seat, new_seats, terms, cut_left, cut_right, only}
 use Rattle.cmb_links.specs.declared.view.BoardTerms.{BoardTerms}
@@ -45,9 +46,18 @@ loop-place-preserved c =
       me = ap (λ s. s.me) c.replace.ensures.after ∙ cut.4 ∙ (λ i. (cut_right (only (kept.me i).0) ∷ [], []));
     }
 
-pub returns-clause-board : goal.returns-clause-board
-returns-clause-board c =
+-- the seats of the workers, and the last one
+opened : (c : goal.After-drop-words-2) → c.push_reserved-2.new.self.items ≡ new_seats c.in_ok-table.table.shared.table_id (terms c.args.design.now c.args.clustering.now c.args.workers)
+opened c =
+    let kept = c.loop-place.invariant in
     let t : BoardTerms = terms c.args.design.now c.args.clustering.now c.args.workers in
     let board = c.in_ok-table.table.shared.table_id in
-    let is : c.push_reserved-2.new.self.items ≡ new_seats board t = search rules in
-    rw is (all_seats board t)
+    let all : c.loop-place._place ≡ c.args.workers = omega (arith, c.loop-place-test.false, c.count-count.ensures.count) in
+    c.push_reserved-2.ensures.items ∙ (λ i. kept.seats i ++ record { board = kept.board i; view = only (kept.me i).0 } ∷ [])
+    ∙ ap (λ n. map (new_seat board t false) (range_with_len 0 n) ++ new_seat board t true n ∷ []) all
+
+pub returns-clause-seats : goal.returns-clause-seats
+returns-clause-seats c = opened c
+
+pub returns-clause-board : goal.returns-clause-board
+returns-clause-board c = rw (opened c) (all_seats c.in_ok-table.table.shared.table_id (terms c.args.design.now c.args.clustering.now c.args.workers))
