@@ -17,8 +17,11 @@ use Rattle.cmb_line.specs.declared.choice.Pick.{Pick}
 use Rattle.cmb_line.specs.declared.choice.Pick.TheVariants.{Listed, Outputs}
 use Rattle.cmb_line.specs.declared.mode.Mode.{Mode}
 use Rattle.cmb_sim.proofs.Outcomes.{SpellDesign-of}
-use Rattle.cmb_sim.specs.Choosing.{AreChosen, Choose, IsChosenOutcome}
-use Rattle.cmb_sim.specs.Simulation.{HasTaken, Input, Inputs, IsOutcome, Output, report_of}
+use Rattle.cmb_sim.specs.Choosing.{Choose, IsChosenOutcome}
+use Rattle.cmb_sim.specs.Simulation.{IsOutcome, report_of}
+use Rattle.cmb_inputs.specs.Chosen.{AreChosen}
+use Rattle.cmb_inputs.specs.Inputs.{Input, Inputs}
+use Rattle.cmb_inputs.specs.Outputs.{HasTaken, Output}
 use Rattle.cmb_inout.specs.declared.answer.Report.{Report}
 
 filter_all : (p : ℕ → Bool) (xs : List ℕ) → All (λ x. p x ≡ true) xs → filter p xs ≡ xs

@@ -12,15 +12,20 @@ use Rattle.cmb_line.specs.declared.choice.Pick.{Pick}
 use Rattle.cmb_line.specs.declared.choice.Pick.TheVariants.{Listed}
 use Rattle.cmb_line.specs.declared.mode.Mode.{Mode}
 use Rattle.cmb_line.specs.declared.mode.Mode.TheVariants.{Plain}
-use Rattle.cmb_sim.proofs.Outcomes.{IsAnswerOf-unspelled, IsOutcome-read, IsOutcome-unread, NoneFailedBut-any, NoneFailedBut-same, untouched}
+use Rattle.cmb_inputs.proofs.Read.{NoneFailedBut-any, NoneFailedBut-same}
+use Rattle.cmb_inputs.specs.Chosen.{AreChosen, IsNamed, IsUnchosen, IsUnshown, chosen_report}
+use Rattle.cmb_inputs.specs.Inputs.{AreTexts, HasNotFailed, Input, Inputs, IsUnread, LacksTexts, NoneFailedBut, Texts, failed_input}
+use Rattle.cmb_inputs.specs.Outputs.{HasTaken, Output, output}
+use Rattle.cmb_inputs.specs.Spelling.{HaveTextFault, SpellAny}
+use Rattle.cmb_inputs.specs.declared.texts.InputTexts.{InputTexts}
+use Rattle.cmb_sim.proofs.Outcomes.{IsAnswerOf-unspelled, IsOutcome-read, IsOutcome-unread, untouched}
 use Rattle.cmb_sim.proofs.RoundRuns.{no_checks}
-use Rattle.cmb_sim.specs.Choosing.{AreAllTexts, AreChosen, Choose, IsAnswerTo, IsChosenAnswer, IsChosenAnswerOf, IsChosenOutcome, IsNamed, chosen_report}
-use Rattle.cmb_sim.specs.Simulation.{AreTexts, HasNotFailed, HasTaken, Input, Inputs, NoneFailedBut, Output, Texts, failed_input, mode_checks, output}
-use Rattle.cmb_sim.specs.Stages.{CanRun, HaveTextFault, IsUnchosen, IsUnread, IsUnshown, LacksTexts, SpellAny}
+use Rattle.cmb_sim.specs.Choosing.{AreAllTexts, Choose, IsAnswerTo, IsChosenAnswer, IsChosenAnswerOf, IsChosenOutcome}
+use Rattle.cmb_sim.specs.Simulation.{mode_checks}
+use Rattle.cmb_sim.specs.Stages.{CanRun, IsUnrun}
 use Rattle.cmb_inout.specs.declared.fault.Fault.{Fault}
 use Rattle.cmb_inout.specs.declared.fault.Fault.TheVariants as fault
 use Rattle.cmb_inout.specs.declared.answer.Report.{Report}
-use Rattle.cmb_sim.specs.declared.texts.InputTexts.{InputTexts}
 
 -- the check of mode plain
 pub plain_fits : (design : Design) → nat_lt 16777216 (cells_of design) ≡ false → first_fault (mode_checks Plain design) ≡ None
@@ -91,33 +96,47 @@ pub IsChosenAnswerOf-unchosen : (settings : Settings) (mode : Mode) (pick : Pick
     → SpellAny texts settings design → IsUnchosen pick design.netlist names f → IsChosenAnswerOf settings mode pick texts names (output old old n n) (Err f)
 IsChosenAnswerOf-unchosen settings mode pick texts names old n design f spelled h = λ i list are. unchosen settings mode pick i list old n texts names design f are spelled h
 
+-- the mode can't run the design
+unrun : (settings : Settings) (mode : Mode) (pick : Pick) (i : Inputs) (list : Input) (old : Option (List ℕ)) (n : ℕ) (design : Design) (nets : List ℕ) (f : Fault)
+    → Choose settings pick i list design nets → IsUnrun mode design f → IsChosenAnswer settings mode pick i list (output old old n n) (Err f)
+unrun settings mode pick i list old n design nets (fault.Design f) choose h = (inr (design, nets, choose, h), untouched old n)
+unrun settings mode pick i list old n design nets fault.Clusters choose h = ((design, nets, choose, h), untouched old n)
+unrun settings mode pick i list old n design nets fault.Workers choose h = ((design, nets, choose, h), untouched old n)
+unrun settings mode pick i list old n design nets fault.Memory choose h = untouched old n
+unrun settings mode pick i list old n design nets f choose h = absurd h
+
+pub IsChosenAnswerOf-unrun : (settings : Settings) (mode : Mode) (pick : Pick) (texts : Texts) (names : List ℕ) (old : Option (List ℕ)) (n : ℕ)
+    (design : Design) (nets : List ℕ) (f : Fault)
+    → SpellAny texts settings design → AreChosen pick design names nets → IsUnrun mode design f
+    → IsChosenAnswerOf settings mode pick texts names (output old old n n) (Err f)
+IsChosenAnswerOf-unrun settings mode pick texts names old n design nets f spelled chosen h =
+    λ i list are. unrun settings mode pick i list old n design nets f
+    (record { texts = texts; names = names; are = are; spelled = spelled; chosen = chosen }) h
+
 -- the text of the chosen nets was written, or it wasn't
 unshown : (settings : Settings) (mode : Mode) (pick : Pick) (i : Inputs) (list : Input) (o : Output) (design : Design) (nets : List ℕ) (f : Fault)
-    → Choose settings pick i list design nets → IsUnshown mode design nets o f → IsChosenAnswer settings mode pick i list o (Err f)
-unshown settings mode pick i list o design nets (fault.Write n) choose h = (design, nets, choose, h.0, h.1)
-unshown settings mode pick i list o design nets (fault.Design f) choose h = (inr (design, nets, choose, h.0), h.1)
-unshown settings mode pick i list o design nets fault.Clusters choose h = ((design, nets, choose, h.0), h.1)
-unshown settings mode pick i list o design nets fault.Workers choose h = ((design, nets, choose, h.0), h.1)
-unshown settings mode pick i list o design nets fault.Memory choose h = h.1
-unshown settings mode pick i list o design nets f choose h = absurd h.0
+    → Choose settings pick i list design nets → CanRun mode design → IsUnshown design nets o f → IsChosenAnswer settings mode pick i list o (Err f)
+unshown settings mode pick i list o design nets (fault.Write n) choose runs h = (design, nets, choose, runs, h)
+unshown settings mode pick i list o design nets fault.Memory choose runs h = h
+unshown settings mode pick i list o design nets f choose runs h = absurd h
 
 shown : (settings : Settings) (mode : Mode) (pick : Pick) (i : Inputs) (list : Input) (o : Output) (design : Design) (nets : List ℕ) (result : Result Report Fault)
-    → Choose settings pick i list design nets
+    → Choose settings pick i list design nets → CanRun mode design
     → IfOk result (λ report. report ≡ chosen_report design nets) → OnOk result (HasTaken (vcd_of design nets) o)
-    → OnOk result (CanRun mode design) → IfErr result (IsUnshown mode design nets o)
+    → IfErr result (IsUnshown design nets o)
     → IsChosenAnswer settings mode pick i list o result
-shown settings mode pick i list o design nets (Ok report) choose told wrote fits unwritten = (design, nets, choose, fits, wrote, told)
-shown settings mode pick i list o design nets (Err f) choose told wrote fits unwritten = unshown settings mode pick i list o design nets f choose unwritten
+shown settings mode pick i list o design nets (Ok report) choose runs told wrote unwritten = (design, nets, choose, runs, wrote, told)
+shown settings mode pick i list o design nets (Err f) choose runs told wrote unwritten = unshown settings mode pick i list o design nets f choose runs unwritten
 
 pub IsChosenAnswerOf-shown : (settings : Settings) (mode : Mode) (pick : Pick) (texts : Texts) (names : List ℕ) (o : Output)
     (design : Design) (nets : List ℕ) (result : Result Report Fault)
-    → SpellAny texts settings design → AreChosen pick design names nets
+    → SpellAny texts settings design → AreChosen pick design names nets → CanRun mode design
     → IfOk result (λ report. report ≡ chosen_report design nets) → OnOk result (HasTaken (vcd_of design nets) o)
-    → OnOk result (CanRun mode design) → IfErr result (IsUnshown mode design nets o)
+    → IfErr result (IsUnshown design nets o)
     → IsChosenAnswerOf settings mode pick texts names o result
-IsChosenAnswerOf-shown settings mode pick texts names o design nets result spelled chosen told wrote fits unwritten =
+IsChosenAnswerOf-shown settings mode pick texts names o design nets result spelled chosen runs told wrote unwritten =
     λ i list are. shown settings mode pick i list o design nets result
-    (record { texts = texts; names = names; are = are; spelled = spelled; chosen = chosen }) told wrote fits unwritten
+    (record { texts = texts; names = names; are = are; spelled = spelled; chosen = chosen }) runs told wrote unwritten
 
 -- a simulation that read its texts and its list ends as one of these does
 pub IsChosenOutcome-read : (settings : Settings) (mode : Mode) (choice : Choice) (i : Inputs) (list : Input) (o : Output) (texts : Texts) (names : List ℕ) (result : Result Report Fault)

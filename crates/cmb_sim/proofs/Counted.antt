@@ -1,28 +1,15 @@
--- What comes of counting a design, and of writing the counts.
-use Rattle.std.proofs.Common.{ℕ, List, Option, Result, Ok, Err, IfOk, IfErr}
+-- What comes of counting a design that there may not be, and of writing the counts.
+use Rattle.std.proofs.Common.{ℕ, List, Option, Err}
 use Rattle.cmb_count.specs.declared.counts.Counts.{Counts}
 use Rattle.cmb_design.specs.declared.settings.Settings.{Settings}
-use Rattle.cmb_sim.proofs.Outcomes.{LacksDesign-of, LacksDesign-unread, NoneFailedBut-any, NoneFailedBut-same, untouched}
-use Rattle.cmb_sim.specs.Checking.{IsChecked, IsCountOf}
-use Rattle.cmb_sim.specs.Simulation.{AreTexts, Inputs, NoneFailedBut, Output, Texts, failed_input, output}
-use Rattle.cmb_sim.specs.Stages.{HaveTextFault, IsReading, LacksDesign, LacksTexts}
-use Rattle.cmb_sim.specs.Tasks.{AreUnwritten, IsCheck}
+use Rattle.cmb_inputs.specs.Checking.{AreUnwritten, IsChecked}
+use Rattle.cmb_inputs.specs.Inputs.{Inputs, NoneFailedBut, failed_input}
+use Rattle.cmb_inputs.specs.Outputs.{Output, output}
+use Rattle.cmb_inputs.specs.Spelling.{LacksDesign}
+use Rattle.cmb_sim.proofs.Outcomes.{untouched}
+use Rattle.cmb_sim.specs.Tasks.{IsCheck}
 use Rattle.cmb_inout.specs.declared.fault.Fault.{Fault}
 use Rattle.cmb_inout.specs.declared.fault.Fault.TheVariants as fault
-use Rattle.cmb_sim.specs.declared.texts.InputTexts.{InputTexts}
-
--- an input wasn't read
-pub IsReading-unread : (settings : Settings) (i : Inputs) (f : Fault) → NoneFailedBut (failed_input {A = InputTexts} (Err f)) i → LacksTexts i f
-    → IsReading {A = Counts} (IsChecked settings) (LacksDesign settings) i (Err f)
-IsReading-unread settings i f read h = record { ok = tt; fault = LacksDesign-unread settings i f h; failures = NoneFailedBut-same InputTexts Counts f i read }
-
--- the texts were read, and what they spell was counted or not
-pub IsReading-counted : (settings : Settings) (i : Inputs) (texts : Texts) (result : Result Counts Fault) → NoneFailedBut 0 i → AreTexts i texts
-    → IfOk result (IsCountOf settings texts) → IfErr result (HaveTextFault texts settings) → IsReading (IsChecked settings) (LacksDesign settings) i result
-IsReading-counted settings i texts (Ok counts) read are counted faulty =
-    record { ok = (counted.0, (texts, are, counted.1), counted.2); fault = tt; failures = read }
-IsReading-counted settings i texts (Err f) read are counted faulty =
-    record { ok = tt; fault = LacksDesign-of settings i texts are f faulty; failures = NoneFailedBut-any i (failed_input {A = Counts} (Err f)) read }
 
 -- there is no design to be counted
 pub IsCheck-lacking : (settings : Settings) (i : Inputs) (old : Option (List ℕ)) (n : ℕ) (f : Fault) → NoneFailedBut (failed_input {A = Counts} (Err f)) i → LacksDesign settings i f

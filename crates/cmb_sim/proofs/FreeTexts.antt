@@ -10,7 +10,8 @@ use Rattle.cmb_stream.specs.declared.fault.StreamFault.TheVariants as stream_fau
 use Rattle.cmb_line.specs.declared.mode.Mode.{Mode}
 use Rattle.cmb_line.specs.declared.mode.Mode.TheVariants.{Free}
 use Rattle.cmb_inout.specs.Numbers.{run_as_fault, stream_as_fault}
-use Rattle.cmb_sim.specs.Simulation.{IsFree, output}
+use Rattle.cmb_inputs.specs.Outputs.{output}
+use Rattle.cmb_sim.specs.Simulation.{IsFree}
 use Rattle.cmb_sim.specs.Stages.{CanRun, IsUnwritten}
 
 pub IsUnwritten-cut : (workers clusters : ℕ) (design : Design) (old new : Option (List ℕ)) (before after : ℕ) (f : RunFault)

@@ -1,97 +1,27 @@
 -- The answers of the stages as those of the whole simulation.
-use Rattle.std.proofs.Common.{◌≡◌, ℕ, ◌⊎◌, inl, inr, List, ◌++◌, Option, None, Some, Result, Ok, Err, refl, sym, subst, ◌∙◌, arith}
+use Rattle.std.proofs.Common.{◌≡◌, ℕ, inl, inr, List, ◌++◌, Option, None, Some, Result, Ok, Err, refl, subst, ◌∙◌}
 use Rattle.std.proofs.KnownBytes.{Keeps-refl}
 use Rattle.cmb_bench.specs.Netlist.{Netlist}
-use Rattle.cmb_bench.specs.Meaning.{Reads}
 use Rattle.cmb_design.proofs.CheckFacts.{first_fault-none, first_fault-some}
-use Rattle.cmb_design.specs.Checks.{Check, first_fault}
-use Rattle.cmb_design.specs.Design.{Design, design_of}
-use Rattle.cmb_tables.specs.Records.{table_records}
-use Rattle.cmb_tables.specs.Readers.{table_rows, delay_row_of, stimulus_row_of, clock_row_of}
+use Rattle.cmb_design.specs.Checks.{first_fault}
+use Rattle.cmb_design.specs.Design.{Design}
 use Rattle.cmb_design.specs.declared.fault.DesignFault.{DesignFault}
-use Rattle.cmb_design.specs.declared.fault.DesignFault.TheVariants.{Memory}
-use Rattle.cmb_design.specs.declared.rows.DelayRow.{DelayRow}
-use Rattle.cmb_design.specs.declared.rows.StimulusRow.{StimulusRow}
-use Rattle.cmb_design.specs.declared.rows.ClockRow.{ClockRow}
 use Rattle.cmb_design.specs.declared.settings.Settings.{Settings}
 use Rattle.cmb_line.specs.declared.mode.Mode.{Mode}
-use Rattle.cmb_inout.specs.Numbers.{design_as_fault}
-use Rattle.cmb_sim.specs.Simulation.{AreTexts, HaveDesign, Inputs, IsAnswer, IsOutcome, IsUntouched, NoneFailedBut, Output, SpellDesign, Texts, design_in, failed_input, mode_checks, output, report_of, text_checks}
-use Rattle.cmb_sim.specs.Stages.{CanBeInputs, CanRun, FoundDesign, HaveTextFault, IsAnswerOf, IsUnrun, IsUnwritten, IsWriting, LacksDesign, LacksTexts, SpellAny}
+use Rattle.cmb_inputs.proofs.Read.{NoneFailedBut-any}
+use Rattle.cmb_inputs.specs.Inputs.{AreTexts, Inputs, LacksTexts, NoneFailedBut, Texts, failed_input}
+use Rattle.cmb_inputs.specs.Outputs.{IsUntouched, Output, output}
+use Rattle.cmb_inputs.specs.Spelling.{FoundDesign, HaveTextFault, SpellAny, design_in, text_checks}
+use Rattle.cmb_inputs.specs.declared.texts.InputTexts.{InputTexts}
+use Rattle.cmb_sim.specs.Simulation.{HaveDesign, IsAnswer, IsOutcome, SpellDesign, mode_checks, report_of}
+use Rattle.cmb_sim.specs.Stages.{CanRun, IsAnswerOf, IsUnrun, IsUnwritten, IsWriting}
 use Rattle.cmb_inout.specs.declared.fault.Fault.{Fault}
 use Rattle.cmb_inout.specs.declared.fault.Fault.TheVariants as fault
 use Rattle.cmb_inout.specs.declared.answer.Report.{Report}
-use Rattle.cmb_sim.specs.declared.texts.InputTexts.{InputTexts}
-
--- memory ran out, or this is the fault of the first check that stands
-abbrev pub Stops : List Check → DesignFault → Type 0
-Stops checks e = (e ≡ Memory) ⊎ (first_fault checks ≡ Some e)
-
-pub Stops-front : (a b : List Check) (e : DesignFault) → Stops a e → Stops (a ++ b) e
-Stops-front a b e (inl m) = inl m
-Stops-front a b e (inr h) = inr (first_fault-some a b e h)
-
-pub Stops-behind : (a b : List Check) (e : DesignFault) → first_fault a ≡ None → Stops b e → Stops (a ++ b) e
-Stops-behind a b e none (inl m) = inl m
-Stops-behind a b e none (inr h) = inr (first_fault-none a b none ∙ h)
-
-pub none_behind : (a b : List Check) → first_fault a ≡ None → first_fault b ≡ None → first_fault (a ++ b) ≡ None
-none_behind a b p q = first_fault-none a b p ∙ q
-
--- ---- the texts
-
-HaveTextFault-found : (texts : Texts) (settings : Settings) (netlist : Netlist) → Reads texts.bench netlist → (e : DesignFault)
-    → first_fault (text_checks texts settings netlist) ≡ Some e → HaveTextFault texts settings (design_as_fault e)
-HaveTextFault-found texts settings netlist read Memory h = tt
-HaveTextFault-found texts settings netlist read e h = (netlist, read, h)
-
-pub HaveTextFault-of : (texts : Texts) (settings : Settings) (netlist : Netlist) (e : DesignFault) → Reads texts.bench netlist
-    → Stops (text_checks texts settings netlist) e → HaveTextFault texts settings (design_as_fault e)
-HaveTextFault-of texts settings netlist e read (inl m) =
-    let P : DesignFault → Type 0 = λ d. HaveTextFault texts settings (design_as_fault d) in subst P (sym m) tt
-HaveTextFault-of texts settings netlist e read (inr h) = HaveTextFault-found texts settings netlist read e h
-
--- the design of rows that are those of the tables
-pub design_in-rows : (texts : Texts) (settings : Settings) (netlist : Netlist) (delays : List DelayRow) (stimuli : List StimulusRow) (clocks : List ClockRow)
-    → delays ≡ table_rows delay_row_of (table_records texts.delays) → stimuli ≡ table_rows stimulus_row_of (table_records texts.stimuli)
-    → clocks ≡ table_rows clock_row_of (table_records texts.clocks) → design_of netlist settings delays stimuli clocks ≡ design_in texts settings netlist
-design_in-rows texts settings netlist delays stimuli clocks p q r = rw (p, q, r) refl
-
-pub LacksDesign-of : (settings : Settings) (i : Inputs) (texts : Texts) → AreTexts i texts → (f : Fault) → HaveTextFault texts settings f → LacksDesign settings i f
-LacksDesign-of settings i texts are (fault.Bench f) h = (texts, are, h)
-LacksDesign-of settings i texts are (fault.Design f) h = (texts, are, h)
-LacksDesign-of settings i texts are fault.Memory h = tt
-LacksDesign-of settings i texts are f h = absurd h
-
--- what keeps an input from being read whole keeps the design from being found
-pub LacksDesign-unread : (settings : Settings) (i : Inputs) (f : Fault) → LacksTexts i f → LacksDesign settings i f
-LacksDesign-unread settings i (fault.TooLong n) h = h
-LacksDesign-unread settings i (fault.Read n) h = h
-LacksDesign-unread settings i fault.Memory h = tt
-LacksDesign-unread settings i f h = absurd h
-
--- the input that a fault names, whatever the answer would have been
-failed_input-any : (A B : Type 0) (f : Fault) → failed_input {A = A} (Err f) ≡ failed_input {A = B} (Err f)
-failed_input-any A B (fault.Read n) = refl
-failed_input-any A B f = refl
-
-pub NoneFailedBut-same : (A B : Type 0) (f : Fault) (i : Inputs) → NoneFailedBut (failed_input {A = A} (Err f)) i → NoneFailedBut (failed_input {A = B} (Err f)) i
-NoneFailedBut-same A B f i h = subst (λ n. NoneFailedBut n i) (failed_input-any A B f) h
-
--- ---- the whole
 
 -- before anything is written
 pub untouched : (old : Option (List ℕ)) (n : ℕ) → IsUntouched (output old old n n)
 untouched old n = (Keeps-refl old, refl)
-
--- where no read failed, none failed but of any one input
-pub NoneFailedBut-any : (i : Inputs) (n : ℕ) → NoneFailedBut 0 i → NoneFailedBut n i
-NoneFailedBut-any i n h = record {
-  bench = λ _. h.bench (λ e. omega arith);
-  delays = λ _. h.delays (λ e. omega arith);
-  stimuli = λ _. h.stimuli (λ e. omega arith);
-  clocks = λ _. h.clocks (λ e. omega arith);
-}
 
 pub IsOutcome-unread : (settings : Settings) (mode : Mode) (i : Inputs) (old : Option (List ℕ)) (n : ℕ) (f : Fault)
     → NoneFailedBut (failed_input {A = InputTexts} (Err f)) i → LacksTexts i f → IsOutcome settings mode i (output old old n n) (Err f)
@@ -99,15 +29,6 @@ IsOutcome-unread settings mode i old n (fault.TooLong k) r h = (r, (h, untouched
 IsOutcome-unread settings mode i old n (fault.Read k) r h = (r, (h, untouched old n))
 IsOutcome-unread settings mode i old n fault.Memory r h = (r, inl (untouched old n))
 IsOutcome-unread settings mode i old n f r h = absurd h
-
--- texts that were read are no longer than inputs may be
-pub CanBeInputs-read : (i : Inputs) (texts : Texts) → AreTexts i texts → CanBeInputs texts
-CanBeInputs-read i texts are = record {
-  bench = are.bench.fits;
-  delays = are.delays.fits;
-  stimuli = are.stimuli.fits;
-  clocks = are.clocks.fits;
-}
 
 -- a simulation that read its texts ends as one of these texts does
 pub IsOutcome-read : (settings : Settings) (mode : Mode) (i : Inputs) (o : Output) (texts : Texts) (result : Result Report Fault)

@@ -1,37 +1,23 @@
 -- What a simulation answers where nets are chosen, and what it writes.
-use Rattle.std.specs.Prelude.{◌≡◌, ℕ, ◌⊎◌, List, [], length, Result, Ok, Err}
-use Rattle.cmb_bench.specs.Listed.{HasUnknown, Lists}
+use Rattle.std.specs.Prelude.{◌≡◌, ℕ, ◌⊎◌, List, Result, Ok, Err}
+use Rattle.cmb_bench.specs.Listed.{HasUnknown}
 use Rattle.cmb_design.specs.Design.{Design}
-use Rattle.cmb_design.specs.Exact.{nets_of}
 use Rattle.cmb_design.specs.declared.settings.Settings.{Settings}
-use Rattle.cmb_restrict.specs.Chosen.{each_once}
 use Rattle.cmb_vcd.specs.Chosen.{vcd_of}
 use Rattle.cmb_line.specs.declared.choice.Choice.{Choice}
 use Rattle.cmb_line.specs.declared.choice.Choice.TheVariants.{All, Only}
 use Rattle.cmb_line.specs.declared.choice.Pick.{Pick}
-use Rattle.cmb_line.specs.declared.choice.Pick.TheVariants.{Listed, Outputs}
+use Rattle.cmb_line.specs.declared.choice.Pick.TheVariants.{Listed}
 use Rattle.cmb_line.specs.declared.mode.Mode.{Mode}
-use Rattle.cmb_sim.specs.Simulation.{AreTexts, HasFailed, HasNotFailed, HasTaken, HasTooMany, Input, Inputs, IsCutAfter, IsOutcome, IsUntouched, NoneFailedBut, Output, StopsAt, Texts, failed_input}
-use Rattle.cmb_inout.specs.Sources.{IsWhole}
-use Rattle.cmb_sim.specs.Stages.{CanRun, HaveTextFault, IsAnswerOf, IsUnrun, SpellAny}
+use Rattle.cmb_inputs.specs.Chosen.{AreChosen, IsListText, chosen_report}
+use Rattle.cmb_inputs.specs.Inputs.{AreTexts, HasFailed, HasNotFailed, HasTooMany, Input, Inputs, NoneFailedBut, StopsAt, Texts, failed_input}
+use Rattle.cmb_inputs.specs.Outputs.{HasTaken, IsCutAfter, IsUntouched, Output}
+use Rattle.cmb_inputs.specs.Spelling.{HaveTextFault, SpellAny}
+use Rattle.cmb_sim.specs.Simulation.{IsOutcome}
+use Rattle.cmb_sim.specs.Stages.{CanRun, IsAnswerOf, IsUnrun}
 use Rattle.cmb_inout.specs.declared.fault.Fault.{Fault}
 use Rattle.cmb_inout.specs.declared.fault.Fault.TheVariants as fault
 use Rattle.cmb_inout.specs.declared.answer.Report.{Report}
-
--- the nets that are chosen of a design, each once and by rising number: those that a list names, or the outputs
-abbrev pub AreChosen : Pick → Design → List ℕ → List ℕ → Type 0
-AreChosen Listed design names nets = (numbers : List ℕ) × Lists design.netlist names numbers × (nets ≡ each_once (nets_of design) numbers)
-AreChosen Outputs design names nets = nets ≡ each_once (nets_of design) design.netlist.outputs
-
--- the list's text, where there is a list
-abbrev pub IsListText : Pick → Input → List ℕ → Type 0
-IsListText Listed list names = IsWhole list.bytes names
-IsListText Outputs list names = names ≡ []
-
--- the text of the list by which nets are chosen, empty where they aren't chosen by one
-abbrev pub IsNamed : Choice → Input → List ℕ → Type 0
-IsNamed All list names = names ≡ []
-IsNamed (Only pick) list names = IsListText pick list names
 
 -- the inputs are read in order, the list as the last: P holds of the one with this number, and those before it can be read whole
 abbrev pub StopsReading : (Input → Type 0) → Pick → Inputs → Input → ℕ → Type 0
@@ -63,9 +49,6 @@ HaveUnknown settings pick i list line =
 -- the inputs choose nets of a design, which the mode can't run
 abbrev pub HaveFaultOfMode : Settings → Mode → Pick → Inputs → Input → Fault → Type 0
 HaveFaultOfMode settings mode pick i list f = (design : Design) × (nets : List ℕ) × Choose settings pick i list design nets × IsUnrun mode design f
-
-abbrev pub chosen_report : Design → List ℕ → Report
-chosen_report design nets = record { nets = nets_of design; horizon = design.horizon; written = length (vcd_of design nets) }
 
 -- what holds with each answer: the text is that of the chosen nets
 abbrev pub IsChosenAnswer : Settings → Mode → Pick → Inputs → Input → Output → Result Report Fault → Type 0

@@ -1,4 +1,3 @@
-pub mod Checking
 pub mod Choosing
 pub mod Simulation
 pub mod Stages

@@ -6,10 +6,11 @@ use Rattle.cmb_design.specs.declared.settings.Settings.{Settings}
 use Rattle.cmb_line.specs.declared.line.Line.{Line}
 use Rattle.cmb_line.specs.declared.line.Task.{Task}
 use Rattle.cmb_line.specs.declared.line.Task.TheVariants.{Run, Check}
-use Rattle.cmb_sim.specs.Checking.{IsChecked}
+use Rattle.cmb_inputs.specs.Checking.{IsChecked}
+use Rattle.cmb_inputs.specs.Inputs.{HasNotFailed, Input, Inputs, NoneFailedBut, failed_input}
+use Rattle.cmb_inputs.specs.Outputs.{HasTaken, IsCutAfter, IsUntouched, Output}
+use Rattle.cmb_inputs.specs.Spelling.{LacksDesign}
 use Rattle.cmb_sim.specs.Choosing.{IsChosenOutcome}
-use Rattle.cmb_sim.specs.Simulation.{HasNotFailed, HasTaken, Input, Inputs, IsCutAfter, IsUntouched, NoneFailedBut, Output, failed_input}
-use Rattle.cmb_sim.specs.Stages.{IsCutShort, LacksDesign}
 use Rattle.cmb_inout.specs.declared.answer.Done.{Done}
 use Rattle.cmb_inout.specs.declared.answer.Done.TheVariants.{Ran, Checked}
 use Rattle.cmb_inout.specs.declared.fault.Fault.{Fault}
@@ -27,11 +28,6 @@ abbrev pub IsShown : Settings → Inputs → Output → Result Counts Fault → 
 IsShown settings i o (Ok counts) = IsChecked settings i counts × HasTaken (counts_rows counts) o
 IsShown settings i o (Err (fault.Write n)) = (counts : Counts) × IsChecked settings i counts × IsCutAfter n (counts_rows counts) o
 IsShown settings i o (Err f) = LacksDesign settings i f × IsUntouched o
-
--- why the counts weren't written whole
-abbrev pub AreUnwritten : Counts → Output → Fault → Type 0
-AreUnwritten counts o fault.Memory = IsUntouched o
-AreUnwritten counts o f = IsCutShort (counts_rows counts) o f
 
 -- a read fails only where that is the answer
 abbrev pub IsCheck : Settings → Inputs → Output → Result Counts Fault → Type 0

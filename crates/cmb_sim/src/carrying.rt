@@ -1,30 +1,17 @@
 //! What a line asks for, done with sources and a sink.
 
-ghost use Rattle.std.specs.Prelude.{◌-◌, ◌^◌, ◌<◌, IfErr, OnOk};
-ghost use Rattle.cmb_count.specs.Texts.{counts_rows};
-ghost use Rattle.cmb_sim.specs.Simulation.{HasTaken, HaveRoom, inputs_of, read_from, written_to};
-ghost use Rattle.cmb_sim.specs.Tasks.{AreUnwritten, IsDone};
+ghost use Rattle.std.specs.Prelude.{◌-◌, ◌^◌, ◌<◌};
+ghost use Rattle.cmb_inputs.specs.Inputs.{HaveRoom, inputs_of, read_from};
+ghost use Rattle.cmb_inputs.specs.Outputs.{written_to};
+ghost use Rattle.cmb_sim.specs.Tasks.{IsDone};
 
-use crate::check::check_design;
 use crate::choosing::simulate_chosen;
-use crate::running::write_text;
-use cmb_count::{Counts, counts_text};
 use cmb_inout::{Done, Fault, Source};
+use cmb_inputs::{check_design, write_counts};
 use cmb_line::{Line, Task};
 use cmb_vcd::Sink;
-use std::alloc::Global;
 use std::sync::Wait;
 use std::thread::Threads;
-
-// Writes the counts, a line for each.
-fn write_counts<O: Sink>(alloc: Global, counts: &Counts, out: &mut O) -> Result<(), Fault>
-    requires { O.failures out.old < 2 ^ 64 - 1 }
-    ensures text { OnOk result (HasTaken (counts_rows counts.now) (written_to O.Sink out.old out.new)) }
-    ensures fault { IfErr result (AreUnwritten counts.now (written_to O.Sink out.old out.new)) }
-{
-    let text = counts_text(alloc, counts)?;
-    write_text(out, text.as_bytes())
-}
 
 /// Does what a line asks for, with what its inputs have: simulates and writes the waveforms of the nets that the line
 /// chooses, or counts and writes the counts. The list of nets is read where the line names one and asks for a run.

@@ -8,9 +8,11 @@ ghost use Rattle.cmb_line.specs.declared.choice.Choice.TheVariants.{All, Only};
 ghost use Rattle.cmb_line.specs.declared.choice.Pick.{Pick};
 ghost use Rattle.cmb_line.specs.declared.mode.Mode.{Mode};
 ghost use Rattle.cmb_sim.specs.Choosing.{Choose, IsChosenOutcome};
-ghost use Rattle.cmb_sim.specs.Simulation.{Input, Inputs, IsOutcome, Output};
+ghost use Rattle.cmb_sim.specs.Simulation.{IsOutcome};
 ghost use Rattle.cmb_inout.specs.declared.fault.Fault.{Fault};
 ghost use Rattle.cmb_inout.specs.declared.answer.Report.{Report};
+ghost use Rattle.cmb_inputs.specs.Inputs.{Input, Inputs};
+ghost use Rattle.cmb_inputs.specs.Outputs.{Output};
 
 /// Where all nets are chosen, the outcome is that of `simulate`. Where what is chosen has each net of the design, Ok
 /// says what it says of `simulate` too: the text is that of the whole design.

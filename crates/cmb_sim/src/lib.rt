@@ -2,16 +2,13 @@
 #![tactic(auto)]
 
 pub mod carrying;
-pub mod check;
 pub mod choosing;
 pub mod laws;
 mod modes;
 mod running;
 pub mod simulation;
-pub mod texts;
 
 pub use carrying::carry_out;
-pub use check::check_design;
 pub use choosing::simulate_chosen;
 pub use cmb_bench::{BenchFault, FaultKind};
 pub use cmb_count::{Counts, counts_text};
@@ -19,8 +16,8 @@ pub use cmb_design::{DesignFault, Settings};
 pub use cmb_inout::{
     Done, Fault, FromBytes, FromReader, ReadFault, Report, Source, fault_line, read_whole,
 };
+pub use cmb_inputs::{InputTexts, check_design, read_texts};
 pub use cmb_line::{Choice, Line, LineFault, Mode, Pick, Task, line_message, read_line};
 pub use cmb_vcd::{Failed, Limited, Room, Sink, ToWriter, write_whole};
 pub use cmb_wave::Level;
 pub use simulation::simulate;
-pub use texts::{InputTexts, read_texts};

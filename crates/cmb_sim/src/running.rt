@@ -1,11 +1,12 @@
 //! The text of a design, as a mode runs it.
 
-ghost use Rattle.std.specs.Prelude.{◌≡◌, ◌-◌, ◌^◌, ◌<◌, length, IfOk, IfErr, OnOk};
+ghost use Rattle.std.specs.Prelude.{◌≡◌, ◌-◌, ◌^◌, ◌<◌, length, IfOk};
 ghost use Rattle.cmb_design.specs.Exact.{nets_of};
 ghost use Rattle.cmb_design.specs.Plain.{whole_waves};
+ghost use Rattle.cmb_inputs.specs.Outputs.{written_to};
 ghost use Rattle.cmb_line.specs.Modes.{IsLawfulCount};
-ghost use Rattle.cmb_sim.specs.Simulation.{HasTaken, report_of, written_to};
-ghost use Rattle.cmb_sim.specs.Stages.{CanRun, IsCutShort, IsWriting, IsWritten};
+ghost use Rattle.cmb_sim.specs.Simulation.{report_of};
+ghost use Rattle.cmb_sim.specs.Stages.{CanRun, IsWriting, IsWritten};
 ghost use Rattle.cmb_vcd.specs.Vcd.{vcd};
 
 use crate::modes::{check_mode, threads_in};
@@ -13,11 +14,12 @@ use cmb_core::{Clustering, ClusteringFault};
 use cmb_design::{Design, DesignFault, plain_waves};
 use cmb_free::{OpenGate, run_free_text};
 use cmb_inout::{Fault, Report};
+use cmb_inputs::write_text;
 use cmb_line::Mode;
 use cmb_links::Workers;
 use cmb_rounds::run_rounds;
 use cmb_share::{text_by_threads, write_by_threads};
-use cmb_vcd::{Collector, Sink, vcd_text, write_whole};
+use cmb_vcd::{Collector, Sink, vcd_text};
 use cmb_wave::Wave;
 use std::alloc::{AllocError, Global};
 use std::sync::Wait;
@@ -138,20 +140,6 @@ fn write_by_workers<R: AllocGlobal + Threads + Wait + Sync, O: Sink>(
     let busy = workers_of(workers).at_most(clustering.clusters());
     let written = run_free_text(rt, alloc, design, &clustering, busy, &OpenGate, out)?;
     Ok(written)
-}
-
-// Writes a text that is there whole: 62 where a write fails.
-pub(crate) fn write_text<O: Sink>(out: &mut O, text: &[u8]) -> Result<(), Fault>
-    requires { O.failures out.old < 2 ^ 64 - 1 }
-    ensures text { OnOk result (HasTaken text.now (written_to O.Sink out.old out.new)) }
-    ensures fault { IfErr result (IsCutShort text.now (written_to O.Sink out.old out.new)) }
-{
-    match write_whole(out, text) {
-        Ok(()) => Ok(()),
-        Err(written) => Err(Fault::Write {
-            written: written as u64,
-        }),
-    }
 }
 
 // Writes the text of a design that the mode can run, and gives its length.

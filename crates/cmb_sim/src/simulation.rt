@@ -1,7 +1,9 @@
 //! A whole simulation.
 
 ghost use Rattle.std.specs.Prelude.{◌-◌, ◌^◌, ◌<◌};
-ghost use Rattle.cmb_sim.specs.Simulation.{HaveRoom, IsOutcome, inputs_of, read_from, written_to};
+ghost use Rattle.cmb_inputs.specs.Inputs.{HaveRoom, inputs_of, read_from};
+ghost use Rattle.cmb_inputs.specs.Outputs.{written_to};
+ghost use Rattle.cmb_sim.specs.Simulation.{IsOutcome};
 
 use crate::choosing::simulate_chosen;
 use cmb_design::Settings;

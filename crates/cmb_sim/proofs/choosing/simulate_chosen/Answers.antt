@@ -1,7 +1,7 @@
 use Rattle.std.proofs.Common.{arith, refl}
 use Rattle.std.proofs.lemmas.Result.{err_from_is_err_and}
 use Rattle.cmb_sim.proofs.Chosen.{IsChosenOutcome-read, IsChosenOutcome-unread}
-use Rattle.cmb_sim.proofs.Outcomes.{CanBeInputs-read}
+use Rattle.cmb_inputs.proofs.Read.{CanBeInputs-read}
 use Rattle.cmb_sim.proofs.choosing.simulate_chosen.Goals as goal
 
 pub returns-in_err-texts : goal.returns-in_err-texts

@@ -1,6 +1,6 @@
 use Rattle.std.proofs.lemmas.Result.{err_from_is_err_and}
 use Rattle.cmb_sim.proofs.Chosen.{IsAnswerTo-unspelled}
-use Rattle.cmb_sim.specs.Stages.{texts_in}
+use Rattle.cmb_inputs.specs.Inputs.{texts_in}
 use Rattle.cmb_sim.proofs.choosing.simulate_texts.Goals as goal
 
 pub returns-in_err-design : goal.returns-in_err-design

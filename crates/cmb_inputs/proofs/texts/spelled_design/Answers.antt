@@ -3,9 +3,9 @@ use Rattle.cmb_design.specs.Checks.{first_fault}
 use Rattle.cmb_design.specs.Settings.{design_checks}
 use Rattle.cmb_design.specs.Design.{Design}
 use Rattle.std.proofs.lemmas.Result.{err_from_is_err_and}
-use Rattle.cmb_sim.proofs.Outcomes.{HaveTextFault-of, Stops, Stops-behind, Stops-front, design_in-rows, none_behind}
-use Rattle.cmb_sim.specs.Stages.{texts_in}
-use Rattle.cmb_sim.proofs.texts.spelled_design.Goals as goal
+use Rattle.cmb_inputs.proofs.Spelled.{HaveTextFault-of, Stops, Stops-behind, Stops-front, design_in-rows, none_behind}
+use Rattle.cmb_inputs.specs.Inputs.{texts_in}
+use Rattle.cmb_inputs.proofs.texts.spelled_design.Goals as goal
 
 pub returns-in_err-delays-clause-fault : goal.returns-in_err-delays-clause-fault
 returns-in_err-delays-clause-fault c =

@@ -1,10 +1,10 @@
 //! The four texts of a simulation, read whole, and the design that they spell.
 
 ghost use Rattle.std.specs.Prelude.{◌≡◌, ◌-◌, ◌^◌, ◌<◌, IfOk, IfErr};
-ghost use Rattle.cmb_sim.specs.Simulation.{HaveRoom, failed_input, inputs_of, read_from};
 ghost use Rattle.cmb_inout.specs.Sources.{IsWhole};
-ghost use Rattle.cmb_sim.specs.Stages.{CanBeInputs, HaveTextFault, HaveTexts, IsReading, IsUnread, LacksTexts};
-ghost use Rattle.cmb_sim.specs.Stages.{SpellAny, texts_in};
+ghost use Rattle.cmb_inputs.specs.Inputs.{CanBeInputs, HaveRoom, HaveTexts, IsReading, IsUnread, LacksTexts};
+ghost use Rattle.cmb_inputs.specs.Inputs.{failed_input, inputs_of, read_from, texts_in};
+ghost use Rattle.cmb_inputs.specs.Spelling.{HaveTextFault, SpellAny};
 
 use cmb_bench::read_bench;
 use cmb_design::{Design, Settings};
@@ -21,12 +21,9 @@ pub struct InputTexts {
     pub clocks: Vec<u8>,
 }
 
-// The whole text of the input with this number.
-pub(crate) fn read_input<S: Source>(
-    alloc: Global,
-    source: &mut S,
-    number: u32,
-) -> Result<Vec<u8>, Fault>
+/// Reads the input with this number whole, and gives its text in bytes: 60 at this number where the input has more than
+/// 16,777,216 bytes, 61 at this number where a read of it failed, 70 where memory was refused.
+pub fn read_input<S: Source>(alloc: Global, source: &mut S, number: u32) -> Result<Vec<u8>, Fault>
     requires { S.failures source.old < 2 ^ 64 - 1 }
     ensures whole { IfOk result (λ text. IsWhole (S.remaining source.old) text.items) }
     ensures fault { IfErr result (IsUnread number (read_from S.Source source.old source.new)) }
@@ -75,8 +72,10 @@ pub fn read_texts<B: Source, D: Source, S: Source, C: Source>(
     })
 }
 
-// The design that texts spell.
-pub(crate) fn spelled_design(
+/// The design that four texts spell, under these settings: the first fault of the netlist (1 to 8), else the first of
+/// the tables, in their order, and of the design (20 to 37) that stands; 70 where memory was refused, which may come in
+/// the place of each of these. No text is longer than an input may be.
+pub fn spelled_design(
     alloc: Global,
     texts: &InputTexts,
     settings: Settings,

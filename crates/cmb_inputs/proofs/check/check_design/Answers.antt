@@ -1,7 +1,6 @@
 use Rattle.std.proofs.lemmas.Result.{err_from_is_err_and}
-use Rattle.cmb_sim.proofs.Counted.{IsReading-counted, IsReading-unread}
-use Rattle.cmb_sim.proofs.Outcomes.{CanBeInputs-read}
-use Rattle.cmb_sim.proofs.check.check_design.Goals as goal
+use Rattle.cmb_inputs.proofs.Read.{CanBeInputs-read, IsReading-counted, IsReading-unread}
+use Rattle.cmb_inputs.proofs.check.check_design.Goals as goal
 
 pub returns-in_err-texts : goal.returns-in_err-texts
 returns-in_err-texts g c =

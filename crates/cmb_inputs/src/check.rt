@@ -1,14 +1,18 @@
 //! What a simulation is given, counted and not simulated.
 
-ghost use Rattle.std.specs.Prelude.{IfOk, IfErr};
-ghost use Rattle.cmb_sim.specs.Checking.{IsChecked, IsCountOf};
-ghost use Rattle.cmb_sim.specs.Simulation.{HaveRoom, inputs_of, read_from};
-ghost use Rattle.cmb_sim.specs.Stages.{CanBeInputs, HaveTextFault, IsReading, LacksDesign, texts_in};
+ghost use Rattle.std.specs.Prelude.{◌-◌, ◌^◌, ◌<◌, IfOk, IfErr, OnOk};
+ghost use Rattle.cmb_count.specs.Texts.{counts_rows};
+ghost use Rattle.cmb_inputs.specs.Checking.{AreUnwritten, IsChecked, IsCountOf};
+ghost use Rattle.cmb_inputs.specs.Inputs.{CanBeInputs, HaveRoom, IsReading, inputs_of, read_from, texts_in};
+ghost use Rattle.cmb_inputs.specs.Outputs.{HasTaken, written_to};
+ghost use Rattle.cmb_inputs.specs.Spelling.{HaveTextFault, LacksDesign};
 
 use crate::texts::{InputTexts, read_texts, spelled_design};
-use cmb_count::{Counts, count_design};
+use crate::writing::write_text;
+use cmb_count::{Counts, count_design, counts_text};
 use cmb_design::Settings;
 use cmb_inout::{Fault, Source};
+use cmb_vcd::Sink;
 use std::alloc::Global;
 
 // What there is in the design that texts spell.
@@ -41,4 +45,15 @@ pub fn check_design<B: Source, D: Source, S: Source, C: Source>(
 {
     let texts = read_texts(alloc, bench, delays, stimuli, clocks)?;
     count_texts(alloc, &texts, settings)
+}
+
+/// Writes the counts, a line for each: 62 at the number of bytes that were written where a write failed, 70 where memory
+/// was refused, and then nothing is written.
+pub fn write_counts<O: Sink>(alloc: Global, counts: &Counts, out: &mut O) -> Result<(), Fault>
+    requires { O.failures out.old < 2 ^ 64 - 1 }
+    ensures text { OnOk result (HasTaken (counts_rows counts.now) (written_to O.Sink out.old out.new)) }
+    ensures fault { IfErr result (AreUnwritten counts.now (written_to O.Sink out.old out.new)) }
+{
+    let text = counts_text(alloc, counts)?;
+    write_text(out, text.as_bytes())
 }

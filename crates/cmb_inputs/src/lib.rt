@@ -1,0 +1,13 @@
+//! What a simulation is given: its inputs read whole, the design that their texts spell, the nets that a line picks of
+//! it, and what is counted of it.
+#![tactic(auto)]
+
+pub mod check;
+pub mod chosen;
+pub mod texts;
+pub mod writing;
+
+pub use check::{check_design, write_counts};
+pub use chosen::{chosen_nets, read_names, show_nets};
+pub use texts::{InputTexts, read_input, read_texts, spelled_design};
+pub use writing::write_text;
