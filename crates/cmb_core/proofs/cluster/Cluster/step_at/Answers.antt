@@ -1,7 +1,9 @@
-use Rattle.std.proofs.Common.{◌≡◌, ◌≤◌, set, arith, sym, ap, subst}
+use Rattle.std.proofs.Common.{◌≡◌, ◌≤◌, ◌∙◌, set, arith, refl, sym, ap, subst}
+use Rattle.std.proofs.lemmas.Result.{err_from_is_err_and}
+use Rattle.std.proofs.lemmas.List.{set-get_or}
 use Rattle.cmb_wave.specs.Waveform.{IsTrace, last_level}
 use Rattle.cmb_wave.specs.Wave.{Wave}
-use Rattle.cmb_core.specs.Clusters.{slot_wave}
+use Rattle.cmb_core.specs.Clusters.{IsSameButWaves, slot_wave}
 use Rattle.cmb_core.proofs.ClusterLemmas.{IsKept, kept_by_loan, kept_same, read_as, step_trace}
 use Rattle.cmb_core.proofs.cluster.Cluster.step_at.Goals as goal
 
@@ -27,6 +29,25 @@ kept c =
 
 pub invariant_of-self-2 : goal.invariant_of-self-2
 invariant_of-self-2 c = let k = kept c in record { sound = k.sound; directory = k.listed }
+
+-- where memory is refused, the wave comes back as it was
+back : (c : goal.After-from_residual-in_err-piece) → set c.self.inside.waves.items c.args.slot c.grow.new.self ≡ c.self.inside.waves.items
+back c = ap (set c.self.inside.waves.items c.args.slot) (c.in_err-piece.ensures.unchanged ∙ c.index_mut.ensures.value) ∙ set-get_or c.self.inside.waves.items c.args.slot c.index_mut.result.now
+
+unchanged : (c : goal.After-from_residual-in_err-piece) → record { horizon = c.self.inside.horizon; processes = c.self.inside.processes.items; waves = set c.self.inside.waves.items c.args.slot c.grow.new.self } ≡ c.args.self.now
+unchanged c = ap (λ ws. record { horizon = c.self.inside.horizon; processes = c.self.inside.processes.items; waves = ws }) (back c) ∙ c.self.view_is
+
+pub invariant_of-self : goal.invariant_of-self
+invariant_of-self c = rw (back c) (record { sound = c.self.invariant.sound; directory = c.self.invariant.directory })
+
+pub returns-in_err-piece-clause-unchanged : goal.returns-in_err-piece-clause-unchanged
+returns-in_err-piece-clause-unchanged c = let p = err_from_is_err_and c.from_residual-in_err-piece.result c.from_residual-in_err-piece.ensures.1 in rw p.1 (unchanged c)
+
+pub returns-in_err-piece-clause-idle : goal.returns-in_err-piece-clause-idle
+returns-in_err-piece-clause-idle c = λ done. unchanged c
+
+pub returns-in_err-piece-clause-same : goal.returns-in_err-piece-clause-same
+returns-in_err-piece-clause-same c = subst (IsSameButWaves c.args.self.now) (sym (unchanged c)) (record { horizon = refl; processes = refl; nets = refl })
 
 pub returns-clause-same : goal.returns-clause-same
 returns-clause-same c = kept_same _ _ _ _ _ _ c.self.view_is (kept c)
