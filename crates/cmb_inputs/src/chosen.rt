@@ -30,6 +30,7 @@ pub fn read_names<L: Source>(alloc: Global, choice: Choice, list: &mut L) -> Res
     ensures fault { IfErr result (IsUnread 5 (read_from L.Source list.old list.new)) }
     ensures listed { IfErr result (λ _. choice ≡ Choice.Only Pick.Listed) }
     ensures failures { (failed_input result ≡ 5 → ⊥) → L.failures list.new ≡ L.failures list.old }
+    ensures unread { (choice ≡ Choice.Only Pick.Listed → ⊥) → list.new ≡ list.old }
 {
     match choice {
         Choice::Only(Pick::Listed) => read_input(alloc, list, 5),

@@ -1,9 +1,9 @@
 //! The four texts of a simulation, read whole, and the design that they spell.
 
-ghost use Rattle.std.specs.Prelude.{◌≡◌, ◌-◌, ◌^◌, ◌<◌, IfOk, IfErr};
+ghost use Rattle.std.specs.Prelude.{◌≡◌, ◌-◌, ◌^◌, ◌<◌, Err, IfOk, IfErr};
 ghost use Rattle.cmb_inout.specs.Sources.{IsWhole};
 ghost use Rattle.cmb_inputs.specs.Inputs.{CanBeInputs, HaveRoom, HaveTexts, IsReading, IsUnread, LacksTexts};
-ghost use Rattle.cmb_inputs.specs.Inputs.{failed_input, inputs_of, read_from, texts_in};
+ghost use Rattle.cmb_inputs.specs.Inputs.{inputs_of, read_from, texts_in};
 ghost use Rattle.cmb_inputs.specs.Spelling.{HaveTextFault, SpellAny};
 
 use cmb_bench::read_bench;
@@ -27,7 +27,7 @@ pub fn read_input<S: Source>(alloc: Global, source: &mut S, number: u32) -> Resu
     requires { S.failures source.old < 2 ^ 64 - 1 }
     ensures whole { IfOk result (λ text. IsWhole (S.remaining source.old) text.items) }
     ensures fault { IfErr result (IsUnread number (read_from S.Source source.old source.new)) }
-    ensures failures { (failed_input result ≡ number → ⊥) → S.failures source.new ≡ S.failures source.old }
+    ensures failures { (result ≡ Err (Fault.Read number) → ⊥) → S.failures source.new ≡ S.failures source.old }
 {
     match read_whole(alloc, source) {
         Ok(text) => Ok(text),

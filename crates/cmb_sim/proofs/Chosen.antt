@@ -1,5 +1,5 @@
 -- The answers of the stages of a simulation of chosen nets as those of the whole.
-use Rattle.std.proofs.Common.{◌≡◌, ℕ, true, false, nat_lt, inl, inr, List, Option, None, Some, Result, Ok, Err, IfOk, IfErr, OnOk, refl, subst, sym}
+use Rattle.std.proofs.Common.{◌≡◌, ℕ, true, false, nat_lt, inl, inr, List, Option, None, Some, Result, Ok, Err, IfOk, IfErr, OnOk, refl}
 use Rattle.cmb_design.specs.Checks.{first_fault}
 use Rattle.cmb_design.specs.Design.{Design}
 use Rattle.cmb_design.specs.Plain.{cells_of}
@@ -9,12 +9,11 @@ use Rattle.cmb_vcd.specs.Chosen.{vcd_of}
 use Rattle.cmb_line.specs.declared.choice.Choice.{Choice}
 use Rattle.cmb_line.specs.declared.choice.Choice.TheVariants.{All, Only}
 use Rattle.cmb_line.specs.declared.choice.Pick.{Pick}
-use Rattle.cmb_line.specs.declared.choice.Pick.TheVariants.{Listed}
 use Rattle.cmb_line.specs.declared.mode.Mode.{Mode}
 use Rattle.cmb_line.specs.declared.mode.Mode.TheVariants.{Plain}
 use Rattle.cmb_inputs.proofs.Read.{NoneFailedBut-any, NoneFailedBut-same}
 use Rattle.cmb_inputs.specs.Chosen.{AreChosen, IsNamed, IsUnchosen, IsUnshown, chosen_report}
-use Rattle.cmb_inputs.specs.Inputs.{AreTexts, HasNotFailed, Input, Inputs, IsUnread, LacksTexts, NoneFailedBut, Texts, failed_input}
+use Rattle.cmb_inputs.specs.Inputs.{AreTexts, HasNotFailed, Input, Inputs, LacksTexts, NoneFailedBut, Texts, failed_input}
 use Rattle.cmb_inputs.specs.Outputs.{HasTaken, Output, output}
 use Rattle.cmb_inputs.specs.Spelling.{HaveTextFault, SpellAny}
 use Rattle.cmb_inputs.specs.declared.texts.InputTexts.{InputTexts}
@@ -52,25 +51,6 @@ pub IsChosenOutcome-unread : (settings : Settings) (mode : Mode) (choice : Choic
 IsChosenOutcome-unread settings mode All i list old n f read quiet h = (IsOutcome-unread settings mode i old n f read h, quiet)
 IsChosenOutcome-unread settings mode (Only pick) i list old n f read quiet h =
     ((NoneFailedBut-same InputTexts Report f i read, λ _. quiet), unread settings mode pick i list old n f h)
-
--- the list wasn't read
-unlisted : (settings : Settings) (mode : Mode) (pick : Pick) (i : Inputs) (list : Input) (old : Option (List ℕ)) (n : ℕ) (texts : Texts) (f : Fault)
-    → AreTexts i texts → pick ≡ Listed → IsUnread 5 list f → IsChosenAnswer settings mode pick i list (output old old n n) (Err f)
-unlisted settings mode pick i list old n texts (fault.TooLong k) are is h = (inr (h.0, is, (texts, are), h.1), untouched old n)
-unlisted settings mode pick i list old n texts (fault.Read k) are is h = (inr (h.0, is, (texts, are), h.1), untouched old n)
-unlisted settings mode pick i list old n texts fault.Memory are is h = untouched old n
-unlisted settings mode pick i list old n texts f are is h = absurd h
-
-list_failed : (A B : Type 0) (f : Fault) (list : Input) → ((failed_input {A = A} (Err f) ≡ 5 → ⊥) → HasNotFailed list) → (failed_input {A = B} (Err f) ≡ 5 → ⊥) → HasNotFailed list
-list_failed A B (fault.Read n) list h = h
-list_failed A B f list h = h
-
-pub IsChosenOutcome-unlisted : (A : Type 0) (settings : Settings) (mode : Mode) (choice : Choice) (i : Inputs) (list : Input) (old : Option (List ℕ)) (n : ℕ) (texts : Texts) (f : Fault)
-    → NoneFailedBut 0 i → AreTexts i texts → choice ≡ Only Listed → IsUnread 5 list f → ((failed_input {A = A} (Err f) ≡ 5 → ⊥) → HasNotFailed list)
-    → IsChosenOutcome settings mode choice i list (output old old n n) (Err f)
-IsChosenOutcome-unlisted A settings mode choice i list old n texts f read are is h failed =
-    subst (λ k. IsChosenOutcome settings mode k i list (output old old n n) (Err f)) (sym is)
-    ((NoneFailedBut-any i (failed_input {A = Report} (Err f)) read, list_failed A Report f list failed), unlisted settings mode Listed i list old n texts f are refl h)
 
 -- the texts spell no design
 unspelled : (settings : Settings) (mode : Mode) (pick : Pick) (i : Inputs) (list : Input) (old : Option (List ℕ)) (n : ℕ) (texts : Texts) (names : List ℕ) (f : Fault)

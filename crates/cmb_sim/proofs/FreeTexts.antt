@@ -1,17 +1,12 @@
--- The faults of a free run, and of a text that is made without one, as those of a simulation.
+-- The faults of a free run as those of a simulation.
 use Rattle.std.proofs.Common.{ℕ, inr, List, Option, arith}
 use Rattle.cmb_design.specs.Design.{Design}
 use Rattle.cmb_free.specs.FreeRuns.{IsCutAt}
 use Rattle.cmb_run.specs.declared.run_fault.RunFault.{RunFault}
 use Rattle.cmb_run.specs.declared.run_fault.RunFault.TheVariants.{Incomplete, Write, Memory}
-use Rattle.cmb_stream.specs.Streams.{IsBrokenOff}
-use Rattle.cmb_stream.specs.declared.fault.StreamFault.{StreamFault}
-use Rattle.cmb_stream.specs.declared.fault.StreamFault.TheVariants as stream_fault
-use Rattle.cmb_line.specs.declared.mode.Mode.{Mode}
 use Rattle.cmb_line.specs.declared.mode.Mode.TheVariants.{Free}
-use Rattle.cmb_inout.specs.Numbers.{run_as_fault, stream_as_fault}
+use Rattle.cmb_inout.specs.Numbers.{run_as_fault}
 use Rattle.cmb_inputs.specs.Outputs.{output}
-use Rattle.cmb_sim.specs.Simulation.{IsFree}
 use Rattle.cmb_sim.specs.Stages.{CanRun, IsUnwritten}
 
 pub IsUnwritten-cut : (workers clusters : ℕ) (design : Design) (old new : Option (List ℕ)) (before after : ℕ) (f : RunFault)
@@ -20,8 +15,3 @@ IsUnwritten-cut workers clusters design old new before after (Incomplete net upt
     (runs, tt, omega (arith, h.2.exact.opened.nets, h.3.is_net), omega (arith, h.2.exact.opened.horizon, h.3.behind), h.0, h.1)
 IsUnwritten-cut workers clusters design old new before after (Write n) runs h = (runs, (h.short, h.begun, h.failed))
 IsUnwritten-cut workers clusters design old new before after Memory runs h = inr (runs, tt, h.0, h.1)
-
-pub IsUnwritten-broken : (mode : Mode) (design : Design) (old new : Option (List ℕ)) (before after : ℕ) (f : StreamFault)
-    → CanRun mode design → IsFree mode → IsBrokenOff design old new before after f → IsUnwritten mode design (output old new before after) (stream_as_fault f)
-IsUnwritten-broken mode design old new before after (stream_fault.Write n) runs free h = (runs, (h.short, h.begun, h.failed))
-IsUnwritten-broken mode design old new before after stream_fault.Memory runs free h = inr (runs, free, h.0, h.1)

@@ -1,6 +1,5 @@
 pub mod AllNets
 pub mod Chosen
-pub mod Counted
 pub mod FreeTexts
 pub mod Outcomes
 pub mod PlainRuns
