@@ -1,11 +1,12 @@
 -- Why a free run has no complete collector, or wrote no whole text.
-use Rattle.std.specs.Prelude.{◌≡◌, ℕ, ◌<◌, ◌≤◌, List, Option, length, ⊤}
+use Rattle.std.specs.Prelude.{◌≡◌, ℕ, ◌<◌, ◌≤◌, List, Option, Result, IfErr, IfOk, OnOk, length, ⊤}
 use Rattle.std.specs.Io.KnownBytes.{Appends}
 use Rattle.cmb_design.specs.Design.{Design}
 use Rattle.cmb_design.specs.Value.{value}
 use Rattle.cmb_vcd.specs.Beginnings.{HasBegun, IsCutOff}
 use Rattle.cmb_vcd.specs.Collector.{Collector, IsExactFor, IsExactFrom, wave_of}
-use Rattle.cmb_vcd.specs.Vcd.{part_text}
+use Rattle.cmb_vcd.specs.Vcd.{part_text, vcd}
+use Rattle.cmb_vcd.specs.declared.sink.Sink as sink
 use Rattle.cmb_run.specs.declared.run_fault.RunFault.{RunFault}
 use Rattle.cmb_run.specs.declared.run_fault.RunFault.TheVariants.{Incomplete, Write, Memory}
 
@@ -40,3 +41,11 @@ abbrev pub IsCutAt : Design → Option (List ℕ) → Option (List ℕ) → ℕ 
 IsCutAt design old new before after (Incomplete net upto collector) = HasBegun design old new × (after ≡ before) × IsWrittenAndKept design old new collector × IsLeastBehind collector net upto
 IsCutAt design old new before after (Write written) = IsCutOff design old new before after written
 IsCutAt design old new before after Memory = HasBegun design old new × (after ≡ before)
+
+-- A sink, as a free run found it and left it, and the text of a design. Where the answer is Ok the sink took the text and nothing
+-- else, no write failed, and the text's length is told. Else the sink took a beginning of it, and the answer is why.
+pub record IsTextRun {S : Type 0} (s : sink.Ghosts S) (design : Design) (old new : S) (answer : Result ℕ RunFault) : Type 0 where
+  pub told : IfOk answer (λ given. given ≡ length (vcd design))
+  pub text : OnOk answer (Appends (s.taken old) (s.taken new) (vcd design))
+  pub no_failure : OnOk answer (s.failures new ≡ s.failures old)
+  pub fault : IfErr answer (IsCutAt design (s.taken old) (s.taken new) (s.failures old) (s.failures new))

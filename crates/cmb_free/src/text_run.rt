@@ -1,11 +1,9 @@
 //! A free run whose text is written while it runs.
 
-ghost use Rattle.std.specs.Prelude.{◌≡◌, ◌-◌, ◌^◌, ◌<◌, length, IfOk, IfErr, OnOk};
-ghost use Rattle.std.specs.Io.KnownBytes.{Appends};
+ghost use Rattle.std.specs.Prelude.{◌≡◌, ◌-◌, ◌^◌, ◌<◌, length};
 ghost use Rattle.cmb_design.specs.Exact.{nets_of};
-ghost use Rattle.cmb_vcd.specs.Vcd.{vcd};
 ghost use Rattle.cmb_run.specs.RunTerms.{AreTerms};
-ghost use Rattle.cmb_free.specs.FreeRuns.{IsCutAt};
+ghost use Rattle.cmb_free.specs.FreeRuns.{IsTextRun};
 
 use crate::collect::{Collect, Found};
 use crate::crew::{Crew, Lookout};
@@ -76,11 +74,7 @@ fn run_named<T: Terms + Send + Sync, G: Turnstile + Sync, S: Sink, R: Threads + 
     requires room { S.failures sink.old < 2 ^ 64 - 1 }
     requires terms { AreTerms T.design T.clustering design.now clustering.now }
     requires each { clustering.now.clusters ≡ workers }
-    ensures whole { IfOk result (λ given.
-        (given ≡ length (vcd design.now)) × Appends (S.taken sink.old) (S.taken sink.new) (vcd design.now)) }
-    ensures no_failure { OnOk result (S.failures sink.new ≡ S.failures sink.old) }
-    ensures fault { IfErr result (IsCutAt design.now (S.taken sink.old) (S.taken sink.new) (S.failures sink.old)
-        (S.failures sink.new)) }
+    ensures { IsTextRun S.Sink design.now sink.old sink.new result }
 {
     let teller = Teller::<T>::open(alloc, design)?;
     let crew = Crew::<T>::open(alloc, design, clustering, workers)?;
@@ -104,11 +98,7 @@ pub fn run_free_text<G: Turnstile + Sync, S: Sink, R: Threads + Wait + Sync>(
 ) -> Result<u64, RunFault>
     requires room { S.failures sink.old < 2 ^ 64 - 1 }
     requires nets { length clustering.now.assign ≡ nets_of design.now }
-    ensures whole { IfOk result (λ given.
-        (given ≡ length (vcd design.now)) × Appends (S.taken sink.old) (S.taken sink.new) (vcd design.now)) }
-    ensures no_failure { OnOk result (S.failures sink.new ≡ S.failures sink.old) }
-    ensures fault { IfErr result (IsCutAt design.now (S.taken sink.old) (S.taken sink.new) (S.failures sink.old)
-        (S.failures sink.new)) }
+    ensures { IsTextRun S.Sink design.now sink.old sink.new result }
 {
     let merged = clustering.merged(alloc, workers.count())?;
     run_named::<Brand, G, S, R>(rt, alloc, design, &merged, workers, gate, sink)

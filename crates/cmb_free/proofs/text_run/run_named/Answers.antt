@@ -28,4 +28,4 @@ returns g c =
     let exact : IsExactFrom g.T.Terms.design (unwrap_or backlog.written 0) backlog.collector = rw c.into_collector.ensures.collector at c.into_collector.ensures.exact in
     let complete : IsComplete backlog.collector = subst IsComplete (c.in_ok-given.ensures.same ∙ c.into_collector.ensures.collector) c.in_ok-given.ensures.complete in
     let all = told-whole g.T.Terms.design _ _ _ _ backlog exact told.result.1 c.in_ok-given.given told.ensures c.in_ok-given.ensures.given complete in
-    rw c.requires.terms.design_is (record { whole = (all.0, all.1); no_failure = all.2; fault = tt })
+    rw c.requires.terms.design_is (record { told = all.0; text = all.1; no_failure = all.2; fault = tt })

@@ -20,4 +20,4 @@ returns-in_err-written g c =
 pub returns : goal.returns
 returns g c =
     let e = c.in_ok-written.ensures in
-    record { told_so = e.whole.0; text = (e.whole.1, e.no_failure); fits = c.requires.runs; fault = tt }
+    record { told_so = e.told; text = (e.text, e.no_failure); fits = c.requires.runs; fault = tt }
