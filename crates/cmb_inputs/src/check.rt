@@ -47,8 +47,8 @@ pub fn check_design<B: Source, D: Source, S: Source, C: Source>(
     count_texts(alloc, &texts, settings)
 }
 
-/// Writes the counts, a line for each: 62 at the number of bytes that were written where a write failed, 70 where memory
-/// was refused, and then nothing is written.
+/// Writes the counts, a line for each: 62 at the number of bytes that were written where a write failed, 70 where
+/// memory was refused, and then nothing is written.
 pub fn write_counts<O: Sink>(alloc: Global, counts: &Counts, out: &mut O) -> Result<(), Fault>
     requires { O.failures out.old < 2 ^ 64 - 1 }
     ensures text { OnOk result (HasTaken (counts_rows counts.now) (written_to O.Sink out.old out.new)) }

@@ -16,6 +16,8 @@ mod faults;
 #[cfg(test)]
 mod meanings;
 #[cfg(test)]
+mod stages;
+#[cfg(test)]
 mod tables;
 #[cfg(test)]
 mod waves;
