@@ -1,8 +1,16 @@
 -- What visits of marked nets leave. Only contracts inside this crate cite this.
-use Rattle.std.specs.Prelude.{◌≡◌, ℕ, true, false, List, length}
+use Rattle.std.specs.Prelude.{◌≡◌, ◌*◌, ℕ, ◌≤◌, true, false, List, length}
 use Rattle.cmb_wave.specs.declared.level.Level.{Level}
 use Rattle.cmb_engine.specs.Bits.{has}
-use Rattle.cmb_engine.specs.Cells.{Cell, AreSettled, KeepsTold}
+use Rattle.cmb_engine.specs.Cells.{Cell, AreSettled, IsWired, KeepsTold}
+use Rattle.cmb_engine.specs.Windows.{HasWindow}
+
+-- what a sweep over the marked nets asks for: cells that are wired, a window, and a place for each net among the marks and the live ones
+pub record CanSweep (cells : List Cell) (readers : List (List ℕ)) (nets : ℕ) (marks' live' : List ℕ) (to first : ℕ) : Type 0 where
+  pub wired : IsWired cells readers nets first
+  pub room : nets ≤ 64 * length marks'
+  pub live : nets ≤ 64 * length live'
+  pub window : HasWindow to first
 
 -- told words stay, a slot that isn't live has the word that it had, and nets that aren't marked are settled where those were;
 -- live slots stay live, and there is as much room for marks as before

@@ -5,9 +5,9 @@ ghost use Rattle.std.specs.Prelude.{slice_index_or, slice_set};
 ghost use Rattle.cmb_wave.specs.declared.level.Level.{Level};
 ghost use Rattle.cmb_engine.specs.Arrivals.{IsArrival};
 ghost use Rattle.cmb_engine.specs.Bits.{has};
-ghost use Rattle.cmb_engine.specs.Cells.{Told, IsMade, IsLawful, IsReady, IsTrueBelow, IsWired, AreReaders, AreSettled};
+ghost use Rattle.cmb_engine.specs.Cells.{Told, IsMade, IsLawful, IsReady, IsTrueBelow, AreReaders, AreSettled};
 ghost use Rattle.cmb_engine.specs.Cells.{cell_at, AreMarked};
-ghost use Rattle.cmb_engine.specs.Sweeps.{Sweeps};
+ghost use Rattle.cmb_engine.specs.Sweeps.{CanSweep, Sweeps};
 ghost use Rattle.cmb_engine.specs.Windows.{HasWindow};
 ghost use Rattle.cmb_engine.specs.Words.{levels_of, Writes};
 
@@ -102,10 +102,7 @@ pub(crate) fn sweep(
     to: u32,
     first: u32,
 )
-    requires wired { IsWired cells.now readers.now (length words.old) first }
-    requires room { length words.old ≤ 64 * length marks.old }
-    requires live { length words.old ≤ 64 * length live.old }
-    requires window { HasWindow to first }
+    requires { CanSweep cells.now readers.now (length words.old) marks.old live.old to first }
     ensures sweeps { Sweeps (cell_at cells.now) to first (levels_of words.old) (levels_of words.new)
         marks.old marks.new live.old live.new }
 
@@ -137,10 +134,7 @@ pub(crate) fn settle(
     to: u32,
     first: u32,
 )
-    requires wired { IsWired cells.now readers.now (length words.old) first }
-    requires room { length words.old ≤ 64 * length marks.old }
-    requires live { length words.old ≤ 64 * length live.old }
-    requires window { HasWindow to first }
+    requires { CanSweep cells.now readers.now (length words.old) marks.old live.old to first }
     ensures sweeps { Sweeps (cell_at cells.now) to first (levels_of words.old) (levels_of words.new)
         marks.old marks.new live.old live.new }
     ensures exact { (truth : ℕ → ℕ → Level)

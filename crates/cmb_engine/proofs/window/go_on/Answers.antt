@@ -20,11 +20,16 @@ write_told-requires-clause-slots c = λ tell among.
     let told = c.requires.told tell among in
     (omega (arith, told.0, c.move_on.ensures.len), omega (arith, told.2, c.requires.later), omega (arith, told.2, c.requires.fits), told.3)
 
-pub settle-requires-clause-wired : goal.settle-requires-clause-wired
-settle-requires-clause-wired c =
-    window-wired c.args.wiring.now.cells c.args.wiring.now.readers c.args.wiring.now.flops.items c.args.wiring.now.most
-    c.requires.wiring
-    (length c.write_given.new.words) (64 - c.args.ticks) (omega (arith, c.requires.nets, c.move_on.ensures.len, c.write_told.ensures.writes.len, c.write_given.ensures.writes.len)) (omega (arith, c.requires.fits))
+pub settle-requires : goal.settle-requires
+settle-requires c = record {
+  wired =
+      window-wired c.args.wiring.now.cells c.args.wiring.now.readers c.args.wiring.now.flops.items c.args.wiring.now.most
+      c.requires.wiring
+      (length c.write_given.new.words) (64 - c.args.ticks) (omega (arith, c.requires.nets, c.move_on.ensures.len, c.write_told.ensures.writes.len, c.write_given.ensures.writes.len)) (omega (arith, c.requires.fits));
+  room = omega (arith, c.requires.room, c.move_on.ensures.len, c.mark_news.ensures.room, c.write_told.ensures.writes.len, c.write_told.ensures.writes.room, c.write_given.ensures.writes.len, c.write_given.ensures.writes.room, c.mark_arrivals.ensures.room);
+  live = omega (arith, c.requires.live, c.move_on.ensures.len, c.move_on.ensures.room, c.write_told.ensures.writes.len, c.write_told.ensures.writes.live_room, c.write_given.ensures.writes.len, c.write_given.ensures.writes.live_room);
+  window = (omega (arith, c.requires.fits), omega (arith, c.requires.some), omega (arith, c.requires.later, c.requires.fits), c.requires.to);
+}
 
 pub mark_arrivals-requires-clause-paces : goal.mark_arrivals-requires-clause-paces
 mark_arrivals-requires-clause-paces c =
