@@ -7,19 +7,24 @@ use Rattle.cmb_free.specs.Tellers.{IsUnfinished}
 use Rattle.cmb_free.proofs.TextRuns.{IsCutAt-unfinished, told-whole}
 use Rattle.cmb_free.proofs.text_run.run_named.Goals as goal
 
-pub returns-in_err-crew-clause-fault : goal.returns-in_err-crew-clause-fault
-returns-in_err-crew-clause-fault g c =
+pub returns-in_err-crew : goal.returns-in_err-crew
+returns-in_err-crew g c =
     let p = err_from_is_err_and c.from_residual-in_err-crew.result c.from_residual-in_err-crew.ensures.1 in
-    rw (p.1, p.2) (HasBegun-none c.args.design.now (g.S.Sink.taken c.args.sink.now), refl)
+    rw (p.1, p.2) (record { told = tt; text = tt; no_failure = tt; fault = (HasBegun-none c.args.design.now (g.S.Sink.taken c.args.sink.now), refl) })
 
-pub returns-in_err-given-clause-fault : goal.returns-in_err-given-clause-fault
-returns-in_err-given-clause-fault g c =
+pub returns-in_err-given : goal.returns-in_err-given
+returns-in_err-given g c =
     let told = c.run_crew-teller in
     let backlog = told.result.0 in
     let exact : IsExactFrom g.T.Terms.design (unwrap_or backlog.written 0) backlog.collector = rw c.into_collector.ensures.collector at c.into_collector.ensures.exact in
     let why : IsUnfinished told.result.1 backlog.collector c.in_err-given.field-0.0 = rw c.into_collector.ensures.collector at c.in_err-given.ensures.fault in
     let p = err_from_is_err_and c.from_residual-in_err-given.result c.from_residual-in_err-given.ensures.1 in
-    rw (c.requires.terms.design_is, p.1, p.2) (IsCutAt-unfinished g.T.Terms.design _ _ _ _ backlog exact told.result.1 _ told.ensures why)
+    rw (c.requires.terms.design_is, p.1, p.2) (record {
+      told = tt;
+      text = tt;
+      no_failure = tt;
+      fault = IsCutAt-unfinished g.T.Terms.design _ _ _ _ backlog exact told.result.1 _ told.ensures why;
+    })
 
 pub returns : goal.returns
 returns g c =
