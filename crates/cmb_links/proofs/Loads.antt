@@ -20,16 +20,16 @@ use Rattle.cmb_links.proofs.EndWord.{counts_itself}
 use Rattle.cmb_links.proofs.Steps.{log_here, loads, few_ended}
 
 -- a seat of a board, as it is within and as contracts see it: its table is the board's, and the board's nets are those of its design
-pub record IsSeated (mine own : TableId) (me : M) (seat : SeatData) (nets : ℕ) : Type 0 where
+pub record IsAtBoard (mine own : TableId) (me : M) (seat : SeatData) (nets : ℕ) : Type 0 where
   pub board : mine ≡ own
   pub nets_is : nets ≡ nets_of (only me.0).terms.design
   pub room : nets + 1 < own.words
   pub one : IsOne me
   pub view : only me.0 ≡ seat.view
 
-pub is_seated : (mine own board : TableId) (me : M) (seat : SeatData) (nets : ℕ) → record { board = mine; view = only me.0 } ≡ seat → seat.board ≡ board → own ≡ board
-    → (me ≡ (only me.0 ∷ [], [])) × (mine.words ≡ nets_of (only me.0).terms.design + 2) → own.words ≡ nets + 2 → IsSeated mine own me seat nets
-is_seated mine own board me seat nets is of same kept wide =
+pub at_board : (mine own board : TableId) (me : M) (seat : SeatData) (nets : ℕ) → record { board = mine; view = only me.0 } ≡ seat → seat.board ≡ board → own ≡ board
+    → (me ≡ (only me.0 ∷ [], [])) × (mine.words ≡ nets_of (only me.0).terms.design + 2) → own.words ≡ nets + 2 → IsAtBoard mine own me seat nets
+at_board mine own board me seat nets is of same kept wide =
     let one : mine ≡ own = ap (λ (s : SeatData). s.board) is ∙ of ∙ sym same in
     let words = ap (λ (t : TableId). t.words) one in
     record {

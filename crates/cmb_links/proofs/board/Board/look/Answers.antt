@@ -2,18 +2,18 @@ use Rattle.std.proofs.Common.{◌≡◌, ◌<◌, rules, arith, sym, subst}
 use Rattle.cmb_design.specs.Exact.{nets_of}
 use Rattle.cmb_links.specs.Seats.{after_look, only}
 use Rattle.cmb_links.proofs.Allowed.{look_allowed}
-use Rattle.cmb_links.proofs.Loads.{Looked, as_seen, is_seated, looks}
+use Rattle.cmb_links.proofs.Loads.{Looked, as_seen, at_board, looks}
 use Rattle.cmb_links.proofs.board.Board.look.Goals as goal
 
 pub load-found-requires : goal.load-found-requires
 load-found-requires c =
-    let at = is_seated _ _ _ c.seat.inside.inner.me _ c.self.inside.nets c.seat.view_is c.requires.board c.self.view_is c.seat.invariant c.self.invariant.0 in
+    let at = at_board _ _ _ c.seat.inside.inner.me _ c.self.inside.nets c.seat.view_is c.requires.board c.self.view_is c.seat.invariant c.self.invariant.0 in
     let net : c.args.net < nets_of (only c.seat.inside.inner.me.0).terms.design = rw at.view c.requires.net in
     (at.board, omega (arith, at.room, at.nets_is), look_allowed _ _ _ _ _ at.one net)
 
 pub returns : goal.returns
 returns c =
-    let at = is_seated _ _ _ c.seat.inside.inner.me _ c.self.inside.nets c.seat.view_is c.requires.board c.self.view_is c.seat.invariant c.self.invariant.0 in
+    let at = at_board _ _ _ c.seat.inside.inner.me _ c.self.inside.nets c.seat.view_is c.requires.board c.self.view_is c.seat.invariant c.self.invariant.0 in
     let net : c.args.net < nets_of (only c.seat.inside.inner.me.0).terms.design = rw at.view c.requires.net in
     let told = c.load-found.ensures.2 in
     let h = as_seen (λ v w. Looked v w c.args.net c.of_word.result) _ _ _ _ c.seat.inside.inner.me at.view told.0

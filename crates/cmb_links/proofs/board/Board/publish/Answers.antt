@@ -3,12 +3,12 @@ use Rattle.cmb_design.specs.Exact.{IsRightIn}
 use Rattle.cmb_links.specs.Promises.{newest}
 use Rattle.cmb_links.specs.Seats.{driver, only}
 use Rattle.cmb_links.proofs.Allowed.{publish_allowed}
-use Rattle.cmb_links.proofs.Loads.{is_seated}
+use Rattle.cmb_links.proofs.Loads.{at_board}
 use Rattle.cmb_links.proofs.board.Board.publish.Goals as goal
 
 pub store-requires : goal.store-requires
 store-requires c =
-    let at = is_seated _ _ _ c.seat.inside.inner.me _ c.self.inside.nets c.seat.view_is c.requires.board c.self.view_is c.seat.invariant c.self.invariant.0 in
+    let at = at_board _ _ _ c.seat.inside.inner.me _ c.self.inside.nets c.seat.view_is c.requires.board c.self.view_is c.seat.invariant c.self.invariant.0 in
     let v = only c.seat.inside.inner.me.0 in
     let p = c.args.promise in
     let drives : driver v.terms p.net ≡ v.place = rw at.view c.requires.drives in
