@@ -27,7 +27,8 @@ pub fn read_input<S: Source>(alloc: Global, source: &mut S, number: u32) -> Resu
     requires { S.failures source.old < 2 ^ 64 - 1 }
     ensures whole { IfOk result (λ text. IsWhole (S.remaining source.old) text.items) }
     ensures fault { IfErr result (IsUnread number (read_from S.Source source.old source.new)) }
-    ensures failures { (result ≡ Err (Fault.Read number) → ⊥) → S.failures source.new ≡ S.failures source.old }
+    ensures failures { (result ≡ Err (Fault.Read number) → ⊥)
+        → S.failures source.new ≡ S.failures source.old }
 {
     match read_whole(alloc, source) {
         Ok(text) => Ok(text),
