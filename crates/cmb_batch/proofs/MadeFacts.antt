@@ -9,7 +9,7 @@ use Rattle.cmb_design.specs.Exact.{nets_of}
 use Rattle.cmb_design.specs.Value.{value}
 use Rattle.cmb_words.specs.Changes.{IsStill, RisesWithin, TellsNet, is_among}
 use Rattle.cmb_words.specs.declared.changed.Changed.{Changed}
-use Rattle.cmb_batch.specs.Merges.{AreMerged, CanMerge}
+use Rattle.cmb_batch.specs.Inner.Merges.{AreMerged, CanMerge}
 use Rattle.cmb_batch.specs.Shares.{Crosses, IsMade, Owns}
 use Rattle.cmb_batch.specs.Windows.{AreMade, IsUnmade, TellsMade, clock_at}
 use Rattle.cmb_batch.specs.declared.window.Window.{Window}

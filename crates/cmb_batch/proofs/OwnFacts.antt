@@ -9,7 +9,7 @@ use Rattle.cmb_engine.specs.Shares.{IsDriven, IsGiven, TellsThose}
 use Rattle.cmb_words.specs.Changes.{RisesWithin, TellsNet, is_among}
 use Rattle.cmb_words.specs.declared.changed.Changed.{Changed}
 use Rattle.cmb_words.proofs.Rising.{rises_at}
-use Rattle.cmb_batch.specs.Merges.{AreOwn, AreOwnCrossing}
+use Rattle.cmb_batch.specs.Inner.Merges.{AreOwn, AreOwnCrossing}
 use Rattle.cmb_batch.specs.Shares.{Crosses, DesignShare, IsShare, Owns}
 use Rattle.cmb_batch.specs.Windows.{TellsMade}
 use Rattle.cmb_batch.proofs.MadeFacts.{TellsOwn}

@@ -6,7 +6,7 @@ ghost use Rattle.cmb_design.specs.Exact.{nets_of};
 ghost use Rattle.cmb_design.specs.Value.{value};
 ghost use Rattle.cmb_engine.specs.Engines.{window_end};
 ghost use Rattle.cmb_engine.specs.Shares.{IsDriven, IsGiven, TellsThose};
-ghost use Rattle.cmb_batch.specs.Ahead.{IsAlone, IsAt};
+ghost use Rattle.cmb_batch.specs.Inner.Ahead.{IsAlone, IsAt};
 ghost use Rattle.cmb_batch.specs.Makers.{IsEngineOf};
 ghost use Rattle.cmb_batch.specs.Windows.{AreDays, AreMade, IsStep, IsWindow, clock_at, last_of};
 ghost use Rattle.cmb_words.specs.Changes.{RisesWithin};
@@ -34,7 +34,7 @@ pub struct ShareMaker<'a> {
 }
 
 impl<'a> Model for ShareMaker<'a> {
-    ghost use Rattle.cmb_batch.specs.Ahead.{IsMaker};
+    ghost use Rattle.cmb_batch.specs.Inner.Ahead.{IsMaker};
     ghost use Rattle.cmb_batch.specs.Makers.{Maker};
 
     ghost Value = { Maker };

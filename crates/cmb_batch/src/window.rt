@@ -4,7 +4,7 @@ ghost use Rattle.std.specs.Prelude.{◌≡◌, ℕ, suc, ⊤, length, slice_inde
 ghost use Rattle.cmb_design.specs.Exact.{nets_of};
 ghost use Rattle.cmb_design.specs.Value.{value};
 ghost use Rattle.cmb_engine.specs.Shares.{IsDriven, TellsThose};
-ghost use Rattle.cmb_batch.specs.Merges.{AreOwn, AreOwnCrossing};
+ghost use Rattle.cmb_batch.specs.Inner.Merges.{AreOwn, AreOwnCrossing};
 ghost use Rattle.cmb_batch.specs.Shares.{DesignShare, IsShare};
 ghost use Rattle.cmb_batch.specs.Windows.{IsWindow};
 ghost use Rattle.cmb_words.specs.Changes.{RisesWithin};

@@ -8,4 +8,5 @@ pub mod Meaning
 pub mod FirstFault
 pub mod Listed
 -- what the functions inside the crate promise each other
+-- what the functions inside the crate promise each other
 pub mod Inner

@@ -9,7 +9,7 @@ use Rattle.std.proofs.lemmas.List.Edits.{swap_is}
 use Rattle.std.proofs.lemmas.List.{get_or-map, map-set, set-get_or, get_or-set_same, get_or-set_other, get_or_past, length-set}
 use Rattle.std.proofs.lemmas.List.Elements.{All-nil, All-push, All-contains, Contains-append_left, Contains-append_right, Contains-append_cases, Contains-push, Contains-push_cases}
 use Rattle.std.proofs.lemmas.Nat.{le-div}
-use Rattle.cmb_calendar.specs.Days.{AreDays, tells_of}
+use Rattle.cmb_calendar.specs.Inner.Days.{AreDays, tells_of}
 use Rattle.cmb_calendar.specs.declared.tell.Tell.{Tell}
 
 pub none-nil : (tell : Tell) → Contains [] tell → ⊥

@@ -22,7 +22,7 @@ impl Model for Calendar {
 
     ghost Value = { Calendar };
 
-    ghost use Rattle.cmb_calendar.specs.Days.{AreDays, tells_of};
+    ghost use Rattle.cmb_calendar.specs.Inner.Days.{AreDays, tells_of};
 
     ghost view = { λ a. record {
       width = a.width;

@@ -16,7 +16,7 @@ use Rattle.cmb_vcd.specs.Chosen.{vcd_of}
 use Rattle.cmb_words.specs.Changes.{Tells}
 use Rattle.cmb_words.specs.declared.changed.Changed.{Changed}
 use Rattle.cmb_vcd.proofs.ChosenFacts.{vcd_of-part}
-use Rattle.cmb_choice.specs.Runs.{shown_text}
+use Rattle.cmb_choice.specs.Inner.Runs.{shown_text}
 
 -- two calls went well
 pub both-ok : {T U E : Type 0} (r : Result T E) (s : Result U E) (y : U) (A : Type 0) → result_and r s ≡ Ok y → OnOk r A → A × (s ≡ Ok y)

@@ -5,7 +5,7 @@ ghost use Rattle.std.specs.Prelude.{All, IfOk};
 ghost use Rattle.cmb_wave.specs.declared.level.Level.TheVariants.{X};
 ghost use Rattle.cmb_design.specs.Exact.{nets_of};
 ghost use Rattle.cmb_design.specs.Value.{value};
-ghost use Rattle.cmb_choice.specs.Runs.{shown_text};
+ghost use Rattle.cmb_choice.specs.Inner.Runs.{shown_text};
 ghost use Rattle.cmb_dump.specs.Excerpts.{AreAmong};
 
 use cmb_design::Design;
@@ -59,7 +59,7 @@ pub(crate) struct Run<'a> {
 }
 
 impl<'a> Model for Run<'a> {
-    ghost use Rattle.cmb_choice.specs.Runs.{IsRun, Run};
+    ghost use Rattle.cmb_choice.specs.Inner.Runs.{IsRun, Run};
 
     ghost Value = { Run };
 

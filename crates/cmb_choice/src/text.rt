@@ -1,7 +1,7 @@
 //! The text of chosen nets.
 
 ghost use Rattle.std.specs.Prelude.{◌≡◌, ◌<◌, ◌≤◌, length, map, slice_index, All, IfOk};
-ghost use Rattle.cmb_choice.specs.Runs.{IsPartOf};
+ghost use Rattle.cmb_choice.specs.Parts.{IsPartOf};
 ghost use Rattle.cmb_design.specs.Exact.{nets_of};
 ghost use Rattle.cmb_dump.specs.Excerpts.{AreAmong};
 ghost use Rattle.cmb_vcd.specs.Chosen.{vcd_of};

@@ -7,7 +7,7 @@ use Rattle.cmb_wave.specs.declared.level.Level.{Level}
 use Rattle.cmb_wave.specs.declared.level.Change.{Change}
 use Rattle.cmb_wave.specs.Waveform.{IsTrace}
 use Rattle.cmb_wave.specs.Wave.{Wave, new_wave}
-use Rattle.cmb_core.specs.Spans.{changes_from}
+use Rattle.cmb_core.specs.Inner.Spans.{changes_from}
 use Rattle.cmb_core.specs.declared.process.Pin.{Pin}
 use Rattle.cmb_core.specs.declared.process.Rule.{Rule}
 use Rattle.cmb_core.specs.declared.process.Rule.TheVariants.{Given, Input, Gate, Flop}

@@ -16,11 +16,13 @@ use Rattle.cmb_design.specs.Timing.{delay, clock_of, stimulus, last_sample, next
 use Rattle.cmb_design.specs.Value.{pin_levels, flop_level, driven_level}
 use Rattle.cmb_core.specs.declared.process.Pin.{Pin}
 use Rattle.cmb_core.specs.declared.process.Rule.TheVariants.{Flop}
-use Rattle.cmb_core.specs.Rows.{Process, delayed_levels, sampled_wave, process_level, process_reach, gate_reach, slot_of}
+use Rattle.cmb_core.specs.Rows.{Process, slot_of}
+use Rattle.cmb_core.specs.Inner.Processes.{delayed_levels, sampled_wave, process_level, process_reach, gate_reach}
 use Rattle.cmb_core.specs.Reach.{pins_reach, driver_reach}
-use Rattle.cmb_core.specs.Spans.{changes_from}
+use Rattle.cmb_core.specs.Inner.Spans.{changes_from}
 use Rattle.cmb_core.specs.Step.{wave_at, told_level, told_upto, continued, step_changes, step_reach, step_piece}
-use Rattle.cmb_core.specs.Clusters.{Cluster, process_at, slot_wave, AreOperands, IsDrivenBy, new_part, new_waves_at, reach_at, changes_at, step_answer, step_waves}
+use Rattle.cmb_core.specs.Clusters.{Cluster, process_at, slot_wave, AreOperands, IsDrivenBy, step_answer, step_waves}
+use Rattle.cmb_core.specs.Inner.Spans.{new_part, new_waves_at, reach_at, changes_at}
 use Rattle.cmb_core.proofs.Slots.{slot_is, slot_net, set_with}
 use Rattle.cmb_core.proofs.ReachFacts.{driver_reach-within}
 

@@ -26,7 +26,8 @@ use Rattle.cmb_core.specs.declared.process.Rule.TheVariants.{Flop}
 use Rattle.cmb_core.specs.declared.delivery.DeliverFault.{DeliverFault}
 use Rattle.cmb_core.specs.declared.delivery.DeliverFault.TheVariants.{Stranger, Gap, Old, Clash, Memory}
 use Rattle.cmb_core.specs.Clustering.{Clustering, cluster_of}
-use Rattle.cmb_core.specs.Clusters.{Cluster, IsSound, IsSameButWaves, IsDrivenBy, AreOperands, process_at, slot_wave, new_waves_at, reach_at, step_answer, step_waves, as_delivery, delivered_at, delivered, RefusesDelivery}
+use Rattle.cmb_core.specs.Clusters.{Cluster, IsSound, IsSameButWaves, IsDrivenBy, AreOperands, process_at, slot_wave, step_answer, step_waves, as_delivery, delivered_at, delivered, RefusesDelivery}
+use Rattle.cmb_core.specs.Inner.Spans.{new_waves_at, reach_at}
 use Rattle.cmb_core.specs.Exactness.{IsExactCluster}
 use Rattle.cmb_core.specs.Opened.{IsClusterOf, held_nets}
 use Rattle.cmb_core.specs.Reach.{flop_need, AreKept, IsKept}

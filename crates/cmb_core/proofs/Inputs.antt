@@ -9,7 +9,8 @@ use Rattle.cmb_core.specs.declared.process.Rule.{Rule}
 use Rattle.cmb_core.specs.declared.process.Rule.TheVariants.{Given, Input, Gate, Flop}
 use Rattle.cmb_core.specs.Step.{wave_at, with_wave}
 use Rattle.cmb_core.specs.Rows.{slot_of, is_given}
-use Rattle.cmb_core.specs.Clusters.{Cluster, process_at, reach_at, slot_wave, given_only, driven_only, input_slot, output_slot, as_delivery, delivered_at, delivered, heard_at, RefusesDelivery}
+use Rattle.cmb_core.specs.Clusters.{Cluster, process_at, slot_wave, given_only, driven_only, input_slot, output_slot, as_delivery, delivered_at, delivered, heard_at, RefusesDelivery}
+use Rattle.cmb_core.specs.Inner.Spans.{reach_at}
 use Rattle.cmb_core.specs.Deliveries.{delivery_fault}
 use Rattle.cmb_core.proofs.Slots.{slot_is, slot_net, slot_there, set_slots, set_with}
 

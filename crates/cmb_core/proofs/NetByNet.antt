@@ -12,7 +12,8 @@ use Rattle.cmb_design.specs.Design.{Design}
 use Rattle.cmb_design.specs.Exact.{nets_of}
 use Rattle.cmb_core.specs.declared.process.Rule.TheVariants.{Given}
 use Rattle.cmb_core.specs.Clustering.{Clustering, cluster_of, has_input}
-use Rattle.cmb_core.specs.Clusters.{Cluster, IsSameButWaves, slot_wave, process_at, new_waves_at, reach_at, step_waves}
+use Rattle.cmb_core.specs.Clusters.{Cluster, IsSameButWaves, slot_wave, process_at, step_waves}
+use Rattle.cmb_core.specs.Inner.Spans.{new_waves_at, reach_at}
 use Rattle.cmb_core.specs.Opened.{IsProcessOf, AreProcessesOf, IsClusterOf, is_own, own_nets, held_nets}
 use Rattle.cmb_core.specs.Rows.{Process, slot_of}
 use Rattle.cmb_core.specs.Step.{wave_at, step_reach}

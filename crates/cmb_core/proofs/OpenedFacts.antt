@@ -13,7 +13,7 @@ use Rattle.cmb_core.specs.declared.process.Rule.TheVariants.{Given}
 use Rattle.cmb_core.specs.Clustering.{Clustering, cluster_of, has_input, some_below, net_reads}
 use Rattle.cmb_core.specs.Clusters.{IsSound, wave_nets}
 use Rattle.cmb_core.specs.Opened.{is_own, held_nets}
-use Rattle.cmb_core.specs.Opening.{AreRead, ArePlaced, AreAt, AreWhole, StartsOn, AllStartOn}
+use Rattle.cmb_core.specs.Inner.Opening.{AreRead, ArePlaced, AreAt, AreWhole, StartsOn, AllStartOn}
 use Rattle.cmb_core.specs.Rows.{Process, IsReadyFor}
 use Rattle.cmb_core.specs.Step.{wave_at}
 use Rattle.cmb_core.specs.Directory.{place_in}

@@ -20,7 +20,7 @@ use Rattle.cmb_core.specs.declared.process.Rule.TheVariants.{Input, Gate, Flop}
 use Rattle.cmb_core.specs.Clustering.{Clustering}
 use Rattle.cmb_core.specs.Clusters.{AreOperands}
 use Rattle.cmb_core.specs.Opened.{IsProcessOf, AreProcessesOf}
-use Rattle.cmb_core.specs.Opening.{ArePlaced, AreAt, AreWhole, StartsOn, AllStartOn}
+use Rattle.cmb_core.specs.Inner.Opening.{ArePlaced, AreAt, AreWhole, StartsOn, AllStartOn}
 use Rattle.cmb_core.specs.Rows.{Process, IsReadyFor, AreReady, is_given}
 use Rattle.cmb_core.specs.Directory.{place_in, driven_among, given_among}
 

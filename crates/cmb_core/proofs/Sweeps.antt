@@ -8,7 +8,8 @@ use Rattle.cmb_wave.specs.Wave.{Piece, Wave}
 use Rattle.cmb_design.specs.Design.{Design}
 use Rattle.cmb_design.specs.Exact.{IsExactWaveIn}
 use Rattle.cmb_core.specs.Clustering.{Clustering}
-use Rattle.cmb_core.specs.Clusters.{Cluster, IsSameButWaves, IsSound, changes_at, new_part, new_waves_at, reach_at, slot_wave}
+use Rattle.cmb_core.specs.Clusters.{Cluster, IsSameButWaves, IsSound, slot_wave}
+use Rattle.cmb_core.specs.Inner.Spans.{changes_at, new_part, new_waves_at, reach_at}
 use Rattle.cmb_core.specs.Exactness.{IsExactCluster}
 use Rattle.cmb_core.specs.Opened.{IsClusterOf, is_own, held_nets}
 use Rattle.cmb_core.specs.Sweep.{some_rises, stepped_waves}

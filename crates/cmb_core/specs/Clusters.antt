@@ -1,20 +1,16 @@
 -- A cluster: its processes and the waves that it has, and what a step does to it.
-use Rattle.std.specs.Prelude.{◌≡◌, ℕ, suc, ◌<◌, ◌-◌, nat_lt, nat_le, List, [], ◌∷◌, if◌then◌else◌, length, map, slice_index_or, slice_set, Option, Some, None, IsSome, Result, Ok, Err, IsOk, Bool, false, ◌==◌}
+use Rattle.std.specs.Prelude.{◌≡◌, ℕ, suc, ◌<◌, ◌-◌, nat_lt, List, [], ◌∷◌, if◌then◌else◌, length, map, slice_index_or, Option, Some, None, IsSome, Result, Ok, Err, IsOk, Bool, false, ◌==◌}
 use Rattle.std.specs.List.{list_all}
-use Rattle.cmb_core.specs.declared.span.Span.{Span}
-use Rattle.cmb_wave.specs.declared.level.Level.{Level}
-use Rattle.cmb_wave.specs.Waveform.{changes_between, last_level, level_at, level_before}
-use Rattle.cmb_wave.specs.Wave.{Wave, Piece, new_wave, grown, wave_with_piece}
+use Rattle.cmb_wave.specs.Waveform.{changes_between}
+use Rattle.cmb_wave.specs.Wave.{Wave, Piece, new_wave, wave_with_piece}
 use Rattle.cmb_bench.specs.declared.netlist.Driver.{Driver}
 use Rattle.cmb_bench.specs.declared.netlist.Driver.TheVariants.{Input as InputNet, Gate as GateNet, Flop as FlopNet}
 use Rattle.cmb_design.specs.Design.{Design}
 use Rattle.cmb_design.specs.Timing.{delay, clock_of, stimulus}
 use Rattle.cmb_core.specs.declared.process.Pin.{Pin}
 use Rattle.cmb_core.specs.declared.process.Rule.TheVariants.{Given, Input, Gate, Flop}
-use Rattle.cmb_core.specs.Rows.{Process, IsReadyFor, slot_of, process_level, process_reach, is_given}
+use Rattle.cmb_core.specs.Rows.{Process, IsReadyFor, slot_of, is_given}
 use Rattle.cmb_core.specs.Directory.{driven_among, given_among}
-use Rattle.cmb_core.specs.Spans.{changes_from}
-use Rattle.cmb_wave.specs.declared.level.Change.{Change}
 use Rattle.cmb_core.specs.Step.{wave_at, step_reach, step_piece, with_wave}
 use Rattle.cmb_wave.specs.Calls.{taken, hears}
 use Rattle.cmb_wave.specs.declared.level.Promise.{Promise}
@@ -83,38 +79,6 @@ IsDrivenBy design net (GateNet kind sources) process =
     (process.rule ≡ Gate kind) × AreOperands design net 1 sources process.operands
 IsDrivenBy design net (FlopNet source) process =
     (process.rule ≡ Flop (clock_of design net).first (clock_of design net).period design.init) × AreOperands design net 1 (source ∷ []) process.operands
-
--- the level that the process of a wave has at a tick
-abbrev pub row_at : Cluster → ℕ → ℕ → Level
-row_at s i t = process_level s.waves (process_at s i).rule (process_at s i).operands (process_at s i).stimulus t
-
--- up to here the process of a wave can go on, and the changes that it makes up to there
-abbrev pub reach_at : Cluster → ℕ → ℕ
-reach_at s i = process_reach s.horizon s.waves (process_at s i).rule (process_at s i).operands
-
-abbrev pub changes_at : Cluster → ℕ → List Change
-changes_at s i =
-    changes_from (row_at s i) (last_level (slot_wave s i).kept (slot_wave s i).changes)
-    (slot_wave s i).clock (reach_at s i - (slot_wave s i).clock)
-
--- the span of a wave's new ticks, and the level before it
-pub record IsNextSpan (s : Cluster) (i : ℕ) (span : Span) : Type 0 where
-  pub from : span.from ≡ (slot_wave s i).clock
-  pub until : span.until ≡ reach_at s i
-  pub before : span.before ≡ last_level (slot_wave s i).kept (slot_wave s i).changes
-  pub told : span.before ≡ level_before (level_at (slot_wave s i).kept (slot_wave s i).changes) (slot_wave s i).clock
-  pub later : span.from < span.until
-
--- the new part of a wave, and the waves with it
-abbrev pub new_part : Cluster → ℕ → Option Piece
-new_part s i =
-    if nat_le (reach_at s i) (slot_wave s i).clock then None
-    else Some (record { net = (slot_wave s i).net; from = (slot_wave s i).clock; to = reach_at s i; changes = changes_at s i })
-
-abbrev pub new_waves_at : Cluster → ℕ → List Wave
-new_waves_at s i =
-    if nat_le (reach_at s i) (slot_wave s i).clock then s.waves
-    else slice_set s.waves i (grown (slot_wave s i) (reach_at s i) (changes_at s i))
 
 -- what a step of a net answers, and the waves after it
 abbrev pub step_answer : Design → List Wave → Wave → Option Piece

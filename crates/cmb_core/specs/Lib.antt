@@ -1,4 +1,4 @@
-pub mod Arrivals
+-- what the public contracts rest on
 pub mod Assigns
 pub mod Clustering
 pub mod Clusters
@@ -8,10 +8,10 @@ pub mod Exactness
 pub mod Faults
 pub mod Onward
 pub mod Opened
-pub mod Opening
 pub mod Reach
 pub mod Rows
-pub mod Spans
 pub mod Step
 pub mod Sweep
 pub mod Trims
+-- what the functions inside the crate promise each other
+pub mod Inner

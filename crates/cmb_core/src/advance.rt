@@ -4,10 +4,11 @@ ghost use Rattle.std.specs.Prelude.{◌≡◌, ℕ, ◌+◌, ◌-◌, ◌≤◌,
 ghost use Rattle.cmb_wave.specs.Waveform.{level_at, same_level, Rises};
 ghost use Rattle.cmb_wave.specs.declared.level.Level.{Level};
 ghost use Rattle.cmb_wave.specs.declared.level.Level.TheVariants.{X};
-ghost use Rattle.cmb_core.specs.Spans.{changes_over};
+ghost use Rattle.cmb_core.specs.Inner.Spans.{changes_over};
 ghost use Rattle.cmb_bench.specs.Netlist.{MayTake};
 ghost use Rattle.cmb_design.specs.Timing.{sample_upto};
-ghost use Rattle.cmb_core.specs.Rows.{gate_reach, gate_row, flop_reach, flop_row, AreReady, IsThere};
+ghost use Rattle.cmb_core.specs.Rows.{AreReady, IsThere};
+ghost use Rattle.cmb_core.specs.Inner.Processes.{gate_reach, gate_row, flop_reach, flop_row};
 ghost use Rattle.cmb_core.specs.Step.{wave_at};
 
 use crate::merge::{Lag, differ, follow, merge};

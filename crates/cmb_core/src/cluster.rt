@@ -49,9 +49,11 @@ impl Cluster {
     ghost use Rattle.cmb_core.specs.Opened.{IsClusterOf, IsOwnNet, held_nets};
     ghost use Rattle.cmb_core.specs.Step.{wave_at, with_wave};
     ghost use Rattle.cmb_core.specs.Rows.{slot_of};
-    ghost use Rattle.cmb_core.specs.Clusters.{slot_wave, process_at, new_part, new_waves_at, step_answer, step_waves};
+    ghost use Rattle.cmb_core.specs.Clusters.{slot_wave, process_at, step_answer, step_waves};
+    ghost use Rattle.cmb_core.specs.Inner.Spans.{new_part, new_waves_at};
     ghost use Rattle.cmb_core.specs.Clusters.{IsSound, input_slot, output_slot, delivered, RefusesDelivery, heard_at};
-    ghost use Rattle.cmb_core.specs.Clusters.{IsSameButWaves, IsNextSpan, reach_at, row_at};
+    ghost use Rattle.cmb_core.specs.Clusters.{IsSameButWaves};
+    ghost use Rattle.cmb_core.specs.Inner.Spans.{IsNextSpan, reach_at, row_at};
     ghost use Rattle.cmb_wave.specs.Calls.{taken, RefusesAs, hears, heard_wave};
     ghost use Rattle.cmb_core.specs.declared.delivery.DeliverFault.TheVariants.{Clash};
 

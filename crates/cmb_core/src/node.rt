@@ -28,8 +28,9 @@ impl Model for Node {
 
 impl Node {
     ghost use Rattle.std.specs.Prelude.{◌≡◌, ◌≤◌, ◌-◌, ◌++◌, ℕ, OnOk};
-    ghost use Rattle.cmb_core.specs.Rows.{IsReadyFor, is_given, process_level, process_reach};
-    ghost use Rattle.cmb_core.specs.Spans.{changes_over};
+    ghost use Rattle.cmb_core.specs.Rows.{IsReadyFor, is_given};
+    ghost use Rattle.cmb_core.specs.Inner.Processes.{process_level, process_reach};
+    ghost use Rattle.cmb_core.specs.Inner.Spans.{changes_over};
 
     pub(crate) fn new(rule: Rule, operands: Vec<Pin>, stimulus: Vec<Change>) -> Node
         ensures { result ≡ record { rule = rule; operands = operands.items; stimulus = stimulus.items } }

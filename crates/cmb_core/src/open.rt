@@ -10,7 +10,7 @@ ghost use Rattle.cmb_design.specs.Exact.{nets_of};
 ghost use Rattle.cmb_core.specs.Clustering.{cluster_of};
 ghost use Rattle.cmb_core.specs.Clusters.{AreOperands, IsDrivenBy};
 ghost use Rattle.cmb_core.specs.Opened.{AreProcessesOf, IsProcessOf, held_nets};
-ghost use Rattle.cmb_core.specs.Opening.{AreRead, ArePlaced, AreAt, StartsOn, AllStartOn};
+ghost use Rattle.cmb_core.specs.Inner.Opening.{AreRead, ArePlaced, AreAt, StartsOn, AllStartOn};
 ghost use Rattle.cmb_core.specs.Directory.{place_in, driven_among, given_among};
 
 use crate::clustering::Clustering;

@@ -2,8 +2,9 @@
 
 ghost use Rattle.std.specs.Prelude.{◌≡◌, ℕ, ◌≤◌, IfOk, length};
 ghost use Rattle.cmb_wave.specs.Waveform.{level_at};
-ghost use Rattle.cmb_core.specs.Arrivals.{pin_at, pins_at};
-ghost use Rattle.cmb_core.specs.Rows.{delayed_wave, delayed_levels, IsReady, AreReady, IsThere};
+ghost use Rattle.cmb_core.specs.Inner.Arrivals.{pin_at, pins_at};
+ghost use Rattle.cmb_core.specs.Rows.{IsReady, AreReady, IsThere};
+ghost use Rattle.cmb_core.specs.Inner.Processes.{delayed_wave, delayed_levels};
 ghost use Rattle.cmb_core.specs.Step.{wave_at};
 
 use crate::merge::{Lag, PinCursor};

@@ -1,2 +1,4 @@
+-- what the public contracts rest on
 pub mod Sharings
-pub mod Shapes
+-- what the functions inside the crate promise each other
+pub mod Inner

@@ -3,7 +3,7 @@
 ghost use Rattle.std.specs.Prelude.{◌≡◌, ℕ, ◌<◌, true, length, All};
 ghost use Rattle.cmb_bench.specs.Netlist.{driver_of, pins_of};
 ghost use Rattle.cmb_cut.specs.Sharings.{Drives, IsSharing, Knows, KnowsAll, Owns};
-ghost use Rattle.cmb_cut.specs.Shapes.{IsShaped};
+ghost use Rattle.cmb_cut.specs.Inner.Shapes.{IsShaped};
 ghost use Rattle.cmb_cut.specs.declared.sharing.Share.{Share};
 
 use crate::sharing::Sharing;

@@ -2,7 +2,7 @@
 
 ghost use Rattle.std.specs.Prelude.{◌≡◌, ◌<◌, length, All, IfOk};
 ghost use Rattle.cmb_bench.specs.Netlist.{IsNetlist};
-ghost use Rattle.cmb_cut.specs.Shapes.{AreOf};
+ghost use Rattle.cmb_cut.specs.Inner.Shapes.{AreOf};
 
 use cmb_bench::Netlist;
 use cmb_loops::{Steps, strong_components, targets_from};

@@ -2,7 +2,7 @@
 
 ghost use Rattle.std.specs.Prelude.{◌≡◌, ◌<◌, length, IfOk};
 ghost use Rattle.cmb_bench.specs.Netlist.{IsNetlist};
-ghost use Rattle.cmb_cut.specs.Shapes.{AreOwners};
+ghost use Rattle.cmb_cut.specs.Inner.Shapes.{AreOwners};
 
 use crate::owners::Owners;
 use cmb_bench::{Driver, Netlist};

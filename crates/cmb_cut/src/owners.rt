@@ -1,7 +1,7 @@
 //! Which share owns which net.
 
 ghost use Rattle.std.specs.Prelude.{◌≡◌, ◌<◌, ◌≤◌, length, All, IfOk};
-ghost use Rattle.cmb_cut.specs.Shapes.{AreOwners};
+ghost use Rattle.cmb_cut.specs.Inner.Shapes.{AreOwners};
 
 use crate::components::{Component, Components, Weighed, components_of};
 use crate::limit::{Limits, least_limits};

@@ -2,7 +2,7 @@
 
 ghost use Rattle.std.specs.Prelude.{◌≡◌, ◌≤◌, true, length, All, IfOk};
 ghost use Rattle.cmb_cut.specs.Sharings.{AreEven, IsSharing, drives_count};
-ghost use Rattle.cmb_cut.specs.Shapes.{AreOwners, IsShaped};
+ghost use Rattle.cmb_cut.specs.Inner.Shapes.{AreOwners, IsShaped};
 
 use crate::check::is_lawful;
 use crate::crossing::crossing_of;

@@ -7,12 +7,13 @@ use Rattle.cmb_wave.specs.declared.level.Change.{Change}
 use Rattle.cmb_wave.specs.Waveform.{Rises, changes_between}
 use Rattle.cmb_wave.proofs.Spans.{RisesWithin}
 use Rattle.cmb_bench.specs.Netlist.{Netlist, number_of}
-use Rattle.cmb_design.specs.Told.{changes_in}
+use Rattle.cmb_design.specs.Inner.Told.{changes_in}
 use Rattle.cmb_design.specs.declared.told.Told.{Told}
 use Rattle.cmb_design.specs.Design.{Design}
 use Rattle.cmb_design.specs.Nets.{is_at}
-use Rattle.cmb_design.specs.Stimuli.{stimulus_changes}
-use Rattle.cmb_design.specs.Tables.{clock_of_row, clock_place, place_at}
+use Rattle.cmb_design.specs.Inner.Stimuli.{stimulus_changes}
+use Rattle.cmb_design.specs.Inner.Tables.{clock_place, place_at}
+use Rattle.cmb_design.specs.Timing.{clock_of_row}
 use Rattle.cmb_design.specs.Timing.{clock_of, common_clock, level_by, row_level}
 use Rattle.cmb_design.specs.declared.rows.Clock.{Clock}
 use Rattle.cmb_design.specs.declared.rows.ClockRow.{ClockRow}

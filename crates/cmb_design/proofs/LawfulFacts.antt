@@ -11,7 +11,7 @@ use Rattle.cmb_design.specs.Nets.{driver_cell, is_at}
 use Rattle.cmb_design.specs.Ranges.{AreRows, AreTicks, IsClockRow, IsDelay, IsDelayRow}
 use Rattle.cmb_design.specs.Rows.{clock_row_checks, delay_row_checks, stimulus_row_checks}
 use Rattle.cmb_design.specs.Settings.{design_checks, is_bad_clock, setting_checks}
-use Rattle.cmb_design.specs.Tables.{clock_of_row}
+use Rattle.cmb_design.specs.Timing.{clock_of_row}
 use Rattle.cmb_design.specs.Timing.{clock_of, common_clock, delay, delay_by, delay_in, is_of_kind, is_of_net, is_of_pin}
 use Rattle.cmb_design.specs.declared.rows.Clock.{Clock}
 use Rattle.cmb_design.specs.declared.rows.ClockRow.{ClockRow}

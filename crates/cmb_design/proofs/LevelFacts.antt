@@ -17,7 +17,7 @@ use Rattle.cmb_wave.proofs.Lists.{differs_of_test, same_level_refl, test_of_diff
 use Rattle.cmb_wave.proofs.Spans.{Alternates, RisesWithin}
 use Rattle.cmb_wave.proofs.Waveforms.{changes_between-unique}
 use Rattle.cmb_design.specs.Timing.{level_by}
-use Rattle.cmb_design.specs.Told.{Rises, Row, row_in}
+use Rattle.cmb_design.specs.Inner.Told.{Rises, Row, row_in}
 
 -- changes from a tick on and below another, each to another level than the one before
 unfoldable pub IsWave : Level → ℕ → ℕ → List Change → Type 0

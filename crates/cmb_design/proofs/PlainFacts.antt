@@ -21,7 +21,7 @@ use Rattle.cmb_bench.specs.Netlist.{Netlist, IsNetlist, IsWired, driver_of}
 use Rattle.cmb_design.specs.Design.{Design}
 use Rattle.cmb_design.specs.Exact.{IsExactWaveIn, nets_of}
 use Rattle.cmb_design.specs.Plain.{whole_wave, whole_waves}
-use Rattle.cmb_design.specs.PlainTable.{cell_level, HoldsCells, HoldsTicks}
+use Rattle.cmb_design.specs.Inner.PlainTable.{cell_level, HoldsCells, HoldsTicks}
 use Rattle.cmb_design.specs.Timing.{clock_of, delay, last_sample}
 use Rattle.cmb_design.specs.Value.{changes, delayed, flop_level, pin_levels, value}
 use Rattle.cmb_design.specs.declared.plain_table.Table.{Table}

@@ -5,7 +5,7 @@ use Rattle.std.proofs.lemmas.Bool.{cases_lt}
 use Rattle.std.proofs.lemmas.Option.{slice_get_within}
 use Rattle.std.proofs.Math.ListN.{length-set}
 use Rattle.cmb_wave.specs.declared.level.Change.{Change}
-use Rattle.cmb_design.specs.Told.{changes_in}
+use Rattle.cmb_design.specs.Inner.Told.{changes_in}
 use Rattle.cmb_design.specs.declared.told.Told.{Told}
 use Rattle.cmb_design.proofs.CheckFacts.{get_some}
 

@@ -8,7 +8,7 @@ use Rattle.cmb_wave.specs.declared.level.Level.TheVariants.{X}
 use Rattle.cmb_wave.specs.declared.level.Change.{Change}
 use Rattle.cmb_wave.specs.Waveform.{changes_between}
 use Rattle.cmb_design.specs.Timing.{level_by}
-use Rattle.cmb_design.specs.Told.{AreChanges, Below, Differs, Rises, Row, level_after, row_in, rows_of}
+use Rattle.cmb_design.specs.Inner.Told.{AreChanges, Below, Differs, Rises, Row, level_after, row_in, rows_of}
 use Rattle.cmb_design.proofs.CheckFacts.{take_one}
 use Rattle.cmb_design.proofs.LevelFacts.{keep, keep-changes, keep-kept}
 use Rattle.cmb_design.proofs.PlaceFacts.{same_or_not}

@@ -1,14 +1,11 @@
+-- what the public contracts rest on
 pub mod Checks
 pub mod Nets
 pub mod Rows
-pub mod Tables
 pub mod Design
 pub mod Timing
-pub mod Told
-pub mod Stimuli
 pub mod Settings
 pub mod Lawful
-pub mod Inside
 pub mod Gate
 pub mod Value
 pub mod Exact
@@ -16,5 +13,7 @@ pub mod Examples
 pub mod Faults
 pub mod Ranges
 pub mod Plain
-pub mod PlainTable
 pub mod Part
+-- what the functions inside the crate promise each other
+-- what the functions inside the crate promise each other
+pub mod Inner

@@ -7,8 +7,8 @@ ghost use Rattle.cmb_design.specs.Nets.{driver_cell, pins_at};
 ghost use Rattle.cmb_design.specs.Timing.{delay_by, delay_in, flat_delays, is_of_kind, net_delays};
 ghost use Rattle.cmb_bench.specs.Netlist.{driver_of, IsNetlist};
 ghost use Rattle.cmb_design.specs.Rows.{delay_row_checks, delayed_checks, is_about_input};
-ghost use Rattle.cmb_design.specs.Tables.{all_placed, delay_place, delay_places, pin_place, place_at, row_place};
-ghost use Rattle.cmb_design.specs.Tables.{starts_of, table_size};
+ghost use Rattle.cmb_design.specs.Inner.Tables.{all_placed, delay_place, delay_places, pin_place, place_at, row_place};
+ghost use Rattle.cmb_design.specs.Inner.Tables.{starts_of, table_size};
 
 use crate::fault::DesignFault;
 use crate::nets::{is_input_driver, number_of_cell, number_of_driver, pin_count};

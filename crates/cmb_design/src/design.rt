@@ -3,7 +3,7 @@
 ghost use Rattle.std.specs.Prelude.{◌≡◌, ◌<◌, ◌≤◌, length, option_map, IfOk, IfErr, IfSome, Some, Err};
 ghost use Rattle.cmb_design.specs.Checks.{IsFaultOf, FollowsChecks, first_fault};
 ghost use Rattle.cmb_design.specs.declared.fault.DesignFault.{DesignFault};
-ghost use Rattle.cmb_design.specs.Inside.{AreTables};
+ghost use Rattle.cmb_design.specs.Inner.Inside.{AreTables};
 ghost use Rattle.cmb_design.specs.Nets.{pins_at};
 ghost use Rattle.cmb_design.specs.Timing.{clock_of, delay as design_delay, last_sample, next_sample, stimulus};
 ghost use Rattle.cmb_design.specs.Lawful.{IsDesign};
@@ -90,7 +90,7 @@ impl Model for Design {
 
     ghost Value = { Design };
 
-    ghost use Rattle.cmb_design.specs.Inside.{AreTables, seen};
+    ghost use Rattle.cmb_design.specs.Inner.Inside.{AreTables, seen};
 
     ghost view = { seen };
 

@@ -6,7 +6,7 @@ ghost use Rattle.cmb_wave.specs.Waveform.{same_level};
 ghost use Rattle.cmb_bench.specs.Netlist.{IsNetlist};
 ghost use Rattle.cmb_design.specs.Exact.{nets_of, IsExactWaveIn};
 ghost use Rattle.cmb_design.specs.Plain.{cells_of, whole_wave, whole_waves};
-ghost use Rattle.cmb_design.specs.PlainTable.{HoldsCells, HoldsTicks};
+ghost use Rattle.cmb_design.specs.Inner.PlainTable.{HoldsCells, HoldsTicks};
 ghost use Rattle.cmb_design.specs.Value.{changes as changes_between};
 ghost use Rattle.cmb_design.specs.declared.fault.DesignFault.TheVariants as fault;
 

@@ -5,7 +5,7 @@ ghost use Rattle.cmb_bench.specs.Netlist.{IsNetlist, driver_of, pins_of};
 ghost use Rattle.cmb_bench.specs.declared.netlist.Driver.TheVariants.{Flop};
 ghost use Rattle.cmb_design.specs.Exact.{nets_of};
 ghost use Rattle.cmb_design.specs.Nets.{pins_at};
-ghost use Rattle.cmb_design.specs.PlainTable.{HoldsTicks};
+ghost use Rattle.cmb_design.specs.Inner.PlainTable.{HoldsTicks};
 ghost use Rattle.cmb_design.specs.Timing.{delay as design_delay};
 ghost use Rattle.cmb_design.specs.Value.{delayed, flop_level, pin_levels, value};
 

@@ -6,8 +6,8 @@ ghost use Rattle.cmb_wave.specs.Waveform.{changes_between};
 ghost use Rattle.cmb_design.specs.Checks.{IsFaultOf, checks_at, first_fault, rows_checks};
 ghost use Rattle.cmb_design.specs.Rows.{stimulus_row_checks};
 ghost use Rattle.cmb_design.specs.Timing.{level_by};
-ghost use Rattle.cmb_design.specs.Stimuli.{AllEmpty, AllTold, AreStimuli, stimulus_changes};
-ghost use Rattle.cmb_design.specs.Told.{changes_in, told_at};
+ghost use Rattle.cmb_design.specs.Inner.Stimuli.{AllEmpty, AllTold, AreStimuli, stimulus_changes};
+ghost use Rattle.cmb_design.specs.Inner.Told.{changes_in, told_at};
 
 use crate::fault::DesignFault;
 use crate::nets::is_input_driver;

@@ -7,7 +7,8 @@ ghost use Rattle.std.specs.BTreeMap.{get};
 ghost use Rattle.cmb_wave.specs.Waveform.{changes_between, same_level};
 ghost use Rattle.cmb_design.specs.declared.fault.DesignFault.TheVariants as fault;
 ghost use Rattle.cmb_design.specs.Timing.{level_by};
-ghost use Rattle.cmb_design.specs.Told.{AreChanges, Below, IsTold, changes_in, level_after, row_in, rows_of, told_at};
+ghost use Rattle.cmb_design.specs.Inner.Told.{AreChanges, Below, IsTold};
+ghost use Rattle.cmb_design.specs.Inner.Told.{changes_in, level_after, row_in, rows_of, told_at};
 ghost use Rattle.cmb_wave.specs.declared.level.Level.TheVariants.{X};
 
 use crate::fault::DesignFault;

@@ -10,7 +10,8 @@ use Rattle.cmb_wave.specs.declared.level.Level.{Level}
 use Rattle.cmb_design.proofs.LevelFacts.{push-rest}
 use Rattle.cmb_words.specs.declared.changed.Changed.{Changed}
 use Rattle.cmb_words.specs.Changes.{IsWindow, RisesWithin, Tells, TellsNet, is_among}
-use Rattle.cmb_dump.specs.Excerpts.{AreAmong, ArePlaces, levels_at, picked_of}
+use Rattle.cmb_dump.specs.Excerpts.{AreAmong, levels_at}
+use Rattle.cmb_dump.specs.Inner.Picks.{ArePlaces, picked_of}
 
 -- ---- places
 

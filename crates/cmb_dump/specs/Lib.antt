@@ -1,5 +1,5 @@
-pub mod Buckets
+-- what the public contracts rest on
 pub mod Dumps
 pub mod Excerpts
-pub mod Ready
-pub mod Tails
+-- what the functions inside the crate promise each other
+pub mod Inner

@@ -1,7 +1,8 @@
 //! The changes of chosen nets, picked out of those of all nets.
 
 ghost use Rattle.std.specs.Prelude.{◌≡◌, ◌≤◌, length, IfOk, OnOk};
-ghost use Rattle.cmb_dump.specs.Excerpts.{AreAmong, ArePlaces, picked_of};
+ghost use Rattle.cmb_dump.specs.Excerpts.{AreAmong};
+ghost use Rattle.cmb_dump.specs.Inner.Picks.{ArePlaces, picked_of};
 ghost use Rattle.cmb_words.specs.Changes.{RisesWithin};
 
 use cmb_words::Changed;

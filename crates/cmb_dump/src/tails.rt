@@ -2,7 +2,7 @@
 
 ghost use Rattle.std.specs.Prelude.{◌≡◌, ◌≤◌, length, IfOk};
 ghost use Rattle.cmb_vcd.specs.Vcd.{code, line};
-ghost use Rattle.cmb_dump.specs.Tails.{AreTails, tail_bytes};
+ghost use Rattle.cmb_dump.specs.Inner.Tails.{AreTails, tail_bytes};
 
 use crate::tail::Tail;
 use cmb_bench::MAX_NETS;

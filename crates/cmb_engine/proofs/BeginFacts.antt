@@ -2,9 +2,9 @@
 use Rattle.std.proofs.Common.{◌≡◌, ℕ, ◌+◌, ◌-◌, ◌<◌, ◌≤◌, ◌⊎◌, inl, inr, true, List, [], length, get_or, sym, subst, ◌∙◌, arith}
 use Rattle.std.proofs.lemmas.Bool.{cases_lt, false≢true}
 use Rattle.cmb_wave.specs.declared.level.Level.{Level}
-use Rattle.cmb_engine.specs.Bits.{has, HasNone}
-use Rattle.cmb_engine.specs.Cells.{AreMarked, IsSteadyFrom}
-use Rattle.cmb_engine.specs.Words.{levels_of}
+use Rattle.cmb_engine.specs.Inner.Bits.{has, HasNone}
+use Rattle.cmb_engine.specs.Inner.Cells.{AreMarked, IsSteadyFrom}
+use Rattle.cmb_engine.specs.Inner.Words.{levels_of}
 use Rattle.cmb_engine.proofs.WordFacts.{levels_of-read}
 use Rattle.cmb_words.specs.declared.word.Word.{Word}
 use Rattle.cmb_words.specs.Word.{level_at_place}

@@ -5,7 +5,7 @@ use Rattle.std.specs.List.{AllByRecursion}
 use Rattle.cmb_wave.specs.declared.level.Level.{Level}
 use Rattle.cmb_design.specs.Gate.{gate}
 use Rattle.cmb_engine.specs.Rows.{arrives_by}
-use Rattle.cmb_engine.specs.Cells.{Cell, Told, Gate, Flop, is_made, seen, cell_level, EachSeen, IsMade, IsSettled, IsSteady, IsReadable, IsReady, IsTrueBelow}
+use Rattle.cmb_engine.specs.Inner.Cells.{Cell, Told, Gate, Flop, is_made, seen, cell_level, EachSeen, IsMade, IsSettled, IsSteady, IsReadable, IsReady, IsTrueBelow}
 use Rattle.cmb_engine.specs.declared.cell.Pin.{Pin}
 
 pub all-weaker : (P Q : Pin → Type 0) (pins : List Pin) → ((pin : Pin) → P pin → Q pin) → AllByRecursion P pins → AllByRecursion Q pins

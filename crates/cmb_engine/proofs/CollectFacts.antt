@@ -11,9 +11,9 @@ use Rattle.cmb_words.specs.Changes.{RisesWithin, IsStill, Tells, is_among}
 use Rattle.cmb_words.specs.Word.{level_at_place}
 use Rattle.cmb_words.specs.declared.word.Word.{Word}
 use Rattle.cmb_words.proofs.Rising.{rises-push, rises-wider, rises_at}
-use Rattle.cmb_engine.specs.Cells.{IsSteadyFrom}
-use Rattle.cmb_engine.specs.Circuits.{AreQuiet, Shows}
-use Rattle.cmb_engine.specs.Words.{levels_of}
+use Rattle.cmb_engine.specs.Inner.Cells.{IsSteadyFrom}
+use Rattle.cmb_engine.specs.Inner.Circuits.{AreQuiet, Shows}
+use Rattle.cmb_engine.specs.Inner.Words.{levels_of}
 use Rattle.cmb_engine.proofs.MoveFacts.{quiet-same}
 use Rattle.cmb_engine.proofs.TruthFacts.{in_place-tick}
 use Rattle.cmb_engine.proofs.WordFacts.{levels_of-read}

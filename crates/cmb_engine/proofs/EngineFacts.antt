@@ -12,17 +12,17 @@ use Rattle.cmb_design.specs.Value.{value}
 use Rattle.cmb_words.specs.declared.changed.Changed.{Changed}
 use Rattle.cmb_words.specs.declared.word.Word.{Word}
 use Rattle.cmb_words.specs.Changes.{RisesWithin, Tells, is_among}
-use Rattle.cmb_engine.specs.Ahead.{TellsAhead}
-use Rattle.cmb_engine.specs.Cells.{cell_at, is_made, IsSteadyFrom}
-use Rattle.cmb_engine.specs.Circuits.{MeetsCells, Shows}
+use Rattle.cmb_engine.specs.Inner.Ahead.{TellsAhead}
+use Rattle.cmb_engine.specs.Inner.Cells.{cell_at, is_made, IsSteadyFrom}
+use Rattle.cmb_engine.specs.Inner.Circuits.{MeetsCells, Shows}
 use Rattle.cmb_engine.specs.Engines.{window_end}
-use Rattle.cmb_engine.specs.Gifts.{AreGiven}
-use Rattle.cmb_engine.specs.Lines.{IsAhead, IsOfLine, NotesEach}
-use Rattle.cmb_engine.specs.Roles.{AreToldNets, gives, level_in}
-use Rattle.cmb_engine.specs.States.{IsCircuit, IsState}
-use Rattle.cmb_engine.specs.Tells.{AreOfWindow}
-use Rattle.cmb_engine.specs.Traces.{trace_of}
-use Rattle.cmb_engine.specs.Words.{levels_of}
+use Rattle.cmb_engine.specs.Inner.Gifts.{AreGiven}
+use Rattle.cmb_engine.specs.Inner.Lines.{IsAhead, IsOfLine, NotesEach}
+use Rattle.cmb_engine.specs.Inner.Roles.{AreToldNets, gives, level_in}
+use Rattle.cmb_engine.specs.Inner.States.{IsCircuit, IsState}
+use Rattle.cmb_engine.specs.Inner.Tells.{AreOfWindow}
+use Rattle.cmb_engine.specs.Inner.Traces.{trace_of}
+use Rattle.cmb_engine.specs.Inner.Words.{levels_of}
 use Rattle.cmb_engine.specs.declared.circuit.Circuit.{Circuit}
 use Rattle.cmb_engine.specs.declared.state.State.{State}
 use Rattle.cmb_engine.proofs.CollectFacts.{HasWord, collected-tells}

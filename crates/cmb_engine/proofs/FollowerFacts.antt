@@ -5,7 +5,7 @@ use Rattle.std.proofs.lemmas.Bool.{cases_eq, cases_lt}
 use Rattle.std.proofs.lemmas.List.{get_or-set_same, get_or-set_other, get_or-take, length-replicate, length-set, length-take}
 use Rattle.std.proofs.lemmas.List.Elements.{Contains-append_left, Contains-push, Contains-push_cases}
 use Rattle.std.proofs.lemmas.Option.{slice_get-get_or, slice_get_within, get_or_from_slice_get}
-use Rattle.cmb_engine.specs.Lines.{AreFollowers, Follows}
+use Rattle.cmb_engine.specs.Inner.Lines.{AreFollowers, Follows}
 use Rattle.cmb_engine.specs.declared.cell.Pin.{Pin}
 
 -- an element of a list's begin

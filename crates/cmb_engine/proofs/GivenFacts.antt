@@ -12,14 +12,14 @@ use Rattle.cmb_words.specs.declared.changed.Changed.{Changed}
 use Rattle.cmb_words.specs.Changes.{IsStill, is_among}
 use Rattle.cmb_words.specs.declared.word.Word.{Word}
 use Rattle.cmb_words.specs.Word.{level_at_place}
-use Rattle.cmb_engine.specs.Bits.{has}
-use Rattle.cmb_engine.specs.Cells.{Cell, AreMarked, cell_at, is_made}
-use Rattle.cmb_engine.specs.Circuits.{Shows}
-use Rattle.cmb_engine.specs.Gifts.{AreGiven, AreWritten, is_written}
-use Rattle.cmb_engine.specs.Roles.{AreRoles, AreToldNets, gives}
-use Rattle.cmb_engine.specs.Tells.{told_level, AreOfWindow}
-use Rattle.cmb_engine.specs.Traces.{trace_of}
-use Rattle.cmb_engine.specs.Words.{levels_of, Writes}
+use Rattle.cmb_engine.specs.Inner.Bits.{has}
+use Rattle.cmb_engine.specs.Inner.Cells.{Cell, AreMarked, cell_at, is_made}
+use Rattle.cmb_engine.specs.Inner.Circuits.{Shows}
+use Rattle.cmb_engine.specs.Inner.Gifts.{AreGiven, AreWritten, is_written}
+use Rattle.cmb_engine.specs.Inner.Roles.{AreRoles, AreToldNets, gives}
+use Rattle.cmb_engine.specs.Inner.Tells.{told_level, AreOfWindow}
+use Rattle.cmb_engine.specs.Inner.Traces.{trace_of}
+use Rattle.cmb_engine.specs.Inner.Words.{levels_of, Writes}
 use Rattle.cmb_engine.specs.declared.cell.Pin.{Pin}
 use Rattle.cmb_engine.specs.declared.role.Role.{Role}
 use Rattle.cmb_engine.proofs.RoleFacts.{given-inside, given-known, level-present}

@@ -8,9 +8,9 @@ use Rattle.std.proofs.lemmas.List.Elements.{All-push, Contains-append_left, Cont
 use Rattle.std.proofs.lemmas.List.Sorted.{All-permutation, Contains-permutation}
 use Rattle.cmb_wave.specs.declared.level.Level.{Level}
 use Rattle.cmb_design.specs.declared.rows.Clock.{Clock}
-use Rattle.cmb_engine.specs.Cells.{Cell, Told, Gate, Flop, IsLawful, IsPace, IsSteady, cell_at, is_made}
-use Rattle.cmb_engine.specs.Bits.{has}
-use Rattle.cmb_engine.specs.Circuits.{AreFlops, AreMembers, Arrives, IsFlopOf, IsGroup, IsInGroup, IsMarkedOrRests, is_flop}
+use Rattle.cmb_engine.specs.Inner.Cells.{Cell, Told, Gate, Flop, IsLawful, IsPace, IsSteady, cell_at, is_made}
+use Rattle.cmb_engine.specs.Inner.Bits.{has}
+use Rattle.cmb_engine.specs.Inner.Circuits.{AreFlops, AreMembers, Arrives, IsFlopOf, IsGroup, IsInGroup, IsMarkedOrRests, is_flop}
 use Rattle.cmb_engine.specs.Rows.{arrives_by}
 use Rattle.cmb_engine.specs.declared.cell.Pin.{Pin}
 use Rattle.cmb_engine.specs.declared.group.Group.{Group}

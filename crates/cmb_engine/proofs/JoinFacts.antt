@@ -2,7 +2,7 @@
 use Rattle.std.proofs.Common.{◌≡◌, ℕ, zero, suc, ◌+◌, ◌-◌, ◌<◌, ◌≤◌, List, [], ◌∷◌, ◌++◌, length, take, drop, get_or, refl, ap, ap₂, subst, ◌∙◌, add-one, arith}
 use Rattle.std.specs.Prelude.{replicate}
 use Rattle.std.proofs.lemmas.List.{length-append}
-use Rattle.cmb_engine.specs.Lists.{lists_between, lists_from, AreStarts, RiseTo}
+use Rattle.cmb_engine.specs.Inner.Lists.{lists_between, lists_from, AreStarts, RiseTo}
 
 -- what stands behind a list
 pub still : {A : Type 0} (xs ys : List A) (first count : ℕ) → first + count ≤ length xs → take count (drop first (xs ++ ys)) ≡ take count (drop first xs)

@@ -15,7 +15,7 @@ use Rattle.cmb_words.specs.Bits.{is_set_at, places_set}
 use Rattle.cmb_words.specs.Word.{level_at_place}
 use Rattle.cmb_words.proofs.MaskFacts.{places-each, places-all}
 use Rattle.cmb_engine.specs.declared.cell.Pin.{Pin}
-use Rattle.cmb_engine.specs.Lines.{Follows, IsOfChange, IsOfFollower, IsOfLine, tell_of}
+use Rattle.cmb_engine.specs.Inner.Lines.{Follows, IsOfChange, IsOfFollower, IsOfLine, tell_of}
 use Rattle.cmb_engine.proofs.NoteFacts.{taken-before, taken-last, taken-cases}
 
 -- a tell is of one of some places

@@ -4,9 +4,9 @@ use Rattle.std.proofs.lemmas.Bool.{cases_eq, cases_lt, eqb-true, eq-eqb, ne_eqb,
 use Rattle.std.proofs.lemmas.List.{get_or_past}
 use Rattle.std.proofs.lemmas.Nat.Bits.{bit_at-zero}
 use Rattle.std.specs.Prelude.{IfNone}
-use Rattle.cmb_engine.specs.Bits.{has, HasNone, IsNext, Inserts, Removes, IsSummary}
+use Rattle.cmb_engine.specs.Inner.Bits.{has, HasNone, IsNext, Inserts, Removes, IsSummary}
 use Rattle.cmb_engine.specs.declared.walk.Walk.{Walk}
-use Rattle.cmb_engine.specs.Walks.{walked}
+use Rattle.cmb_engine.specs.Inner.Walks.{walked}
 
 -- a word that is zero has no number
 pub has-zero_word : (words : List ℕ) (m : ℕ) → get_or words (m / 64) 0 ≡ 0 → has words m ≡ false

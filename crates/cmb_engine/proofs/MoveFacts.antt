@@ -5,10 +5,10 @@ use Rattle.cmb_wave.specs.declared.level.Level.{Level}
 use Rattle.cmb_wave.specs.declared.level.Level.TheVariants.{X}
 use Rattle.cmb_words.specs.declared.word.Word.{Word}
 use Rattle.cmb_words.specs.Word.{level_at_place}
-use Rattle.cmb_engine.specs.Bits.{has, HasNone}
-use Rattle.cmb_engine.specs.Cells.{IsSteadyFrom}
-use Rattle.cmb_engine.specs.Circuits.{AreQuiet}
-use Rattle.cmb_engine.specs.Words.{levels_of}
+use Rattle.cmb_engine.specs.Inner.Bits.{has, HasNone}
+use Rattle.cmb_engine.specs.Inner.Cells.{IsSteadyFrom}
+use Rattle.cmb_engine.specs.Inner.Circuits.{AreQuiet}
+use Rattle.cmb_engine.specs.Inner.Words.{levels_of}
 use Rattle.cmb_engine.proofs.WordFacts.{levels_of-read, levels_of-set_same, levels_of-set_other}
 
 -- there is no such net

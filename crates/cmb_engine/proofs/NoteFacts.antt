@@ -5,7 +5,7 @@ use Rattle.std.proofs.lemmas.List.{take_more}
 use Rattle.std.proofs.lemmas.List.Elements.{Contains-append_left, Contains-push, Contains-push_cases}
 use Rattle.cmb_calendar.specs.Calendars.{Calendar, Notes, SameDays}
 use Rattle.cmb_calendar.specs.declared.tell.Tell.{Tell}
-use Rattle.cmb_engine.specs.Lines.{NotesEach}
+use Rattle.cmb_engine.specs.Inner.Lines.{NotesEach}
 
 pub days-same : (calendar : Calendar) → SameDays calendar calendar
 days-same calendar = record { width = refl; horizon = refl; day = refl }

@@ -7,14 +7,14 @@ use Rattle.cmb_wave.specs.declared.level.Level.{Level}
 use Rattle.cmb_design.specs.Design.{Design}
 use Rattle.cmb_design.specs.Exact.{nets_of}
 use Rattle.cmb_words.specs.declared.word.Word.{Word}
-use Rattle.cmb_engine.specs.Ahead.{TellsAhead}
-use Rattle.cmb_engine.specs.Cells.{Cell}
-use Rattle.cmb_engine.specs.Circuits.{Shows}
-use Rattle.cmb_engine.specs.Lines.{NotesEach}
-use Rattle.cmb_engine.specs.Starts.{IsOfInput, IsOfStart}
-use Rattle.cmb_engine.specs.States.{IsCircuit}
-use Rattle.cmb_engine.specs.Traces.{IsPlan, trace_of}
-use Rattle.cmb_engine.specs.Words.{levels_of}
+use Rattle.cmb_engine.specs.Inner.Ahead.{TellsAhead}
+use Rattle.cmb_engine.specs.Inner.Cells.{Cell}
+use Rattle.cmb_engine.specs.Inner.Circuits.{Shows}
+use Rattle.cmb_engine.specs.Inner.Lines.{NotesEach}
+use Rattle.cmb_engine.specs.Inner.Starts.{IsOfInput, IsOfStart}
+use Rattle.cmb_engine.specs.Inner.States.{IsCircuit}
+use Rattle.cmb_engine.specs.Inner.Traces.{IsPlan, trace_of}
+use Rattle.cmb_engine.specs.Inner.Words.{levels_of}
 use Rattle.cmb_engine.specs.declared.cell.Pin.{Pin}
 use Rattle.cmb_engine.specs.declared.circuit.Circuit.{Circuit}
 use Rattle.cmb_engine.specs.declared.role.Role.{Role}

@@ -20,12 +20,12 @@ use Rattle.cmb_design.specs.Gate.{gate}
 use Rattle.cmb_design.specs.Timing.{delay}
 use Rattle.cmb_design.specs.Value.{delayed, pin_levels, value}
 use Rattle.cmb_design.proofs.ValueFacts.{value-at_gate}
-use Rattle.cmb_engine.specs.Cells.{Cell, Told, Gate, Flop, cell_at, is_made, pins_of, IsLawful}
-use Rattle.cmb_engine.specs.Circuits.{MeetsCells, cell_row, seen_at}
-use Rattle.cmb_engine.specs.Plans.{pins_from, cell_as, cell_by, cell_in, AreCells, AreLines, CellStandsFor, Grows, Pushes, StandsFor}
-use Rattle.cmb_engine.specs.Roles.{AreRoles, drives, is_driven, lacks, level_in, role_of}
+use Rattle.cmb_engine.specs.Inner.Cells.{Cell, Told, Gate, Flop, cell_at, is_made, pins_of, IsLawful}
+use Rattle.cmb_engine.specs.Inner.Circuits.{MeetsCells, cell_row, seen_at}
+use Rattle.cmb_engine.specs.Inner.Plans.{pins_from, cell_as, cell_by, cell_in, AreCells, AreLines, CellStandsFor, Grows, Pushes, StandsFor}
+use Rattle.cmb_engine.specs.Inner.Roles.{AreRoles, drives, is_driven, lacks, level_in, role_of}
 use Rattle.cmb_engine.specs.Rows.{arrives, arrives_by, flop_row, row}
-use Rattle.cmb_engine.specs.Traces.{IsPlan, trace_of}
+use Rattle.cmb_engine.specs.Inner.Traces.{IsPlan, trace_of}
 use Rattle.cmb_engine.specs.declared.cell.Pin.{Pin}
 use Rattle.cmb_engine.specs.declared.role.Role.{Role}
 use Rattle.cmb_engine.specs.declared.role.Role.TheVariants.{Driven, Given, Absent}

@@ -5,7 +5,7 @@ use Rattle.std.specs.List.{list_any}
 use Rattle.std.proofs.lemmas.Bool.{cases_eq, cases_Bool, cases_lt, eqb-true, false≢true}
 use Rattle.std.proofs.lemmas.List.{length-append, get_or_append_left, get_or-append-add, get_or-set_same, get_or-set_other, get_or_past}
 use Rattle.std.proofs.lemmas.List.Folds.{list_any_more}
-use Rattle.cmb_engine.specs.Cells.{Cell, Told, AreBelow, AreReaders, IsListed, cell_at, reads}
+use Rattle.cmb_engine.specs.Inner.Cells.{Cell, Told, AreBelow, AreReaders, IsListed, cell_at, reads}
 use Rattle.cmb_engine.specs.declared.cell.Pin.{Pin}
 
 -- a number at the end of a list

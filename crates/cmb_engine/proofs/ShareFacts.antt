@@ -14,7 +14,7 @@ use Rattle.cmb_words.specs.declared.changed.Changed.{Changed}
 use Rattle.cmb_words.specs.Changes.{RisesWithin, Tells}
 use Rattle.cmb_words.proofs.Rising.{rises_at}
 use Rattle.cmb_engine.specs.Shares.{IsDriven, IsGiven, ShareEngine, TellsThose}
-use Rattle.cmb_engine.specs.States.{DrivesAll}
+use Rattle.cmb_engine.specs.Inner.States.{DrivesAll}
 use Rattle.cmb_engine.proofs.PlanFacts.{driver-wired}
 use Rattle.cmb_engine.proofs.RoleFacts.{only-among}
 

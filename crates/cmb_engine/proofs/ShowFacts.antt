@@ -6,8 +6,8 @@ use Rattle.std.proofs.lemmas.List.Elements.{Contains-get_or, Contains-append_rig
 use Rattle.cmb_wave.specs.declared.level.Level.{Level}
 use Rattle.cmb_calendar.specs.Calendars.{AreInOrder}
 use Rattle.cmb_calendar.specs.declared.tell.Tell.{Tell}
-use Rattle.cmb_engine.specs.Cells.{Cell, is_made}
-use Rattle.cmb_engine.specs.Tells.{told_level, IsTold, AreOfWindow}
+use Rattle.cmb_engine.specs.Inner.Cells.{Cell, is_made}
+use Rattle.cmb_engine.specs.Inner.Tells.{told_level, IsTold, AreOfWindow}
 
 first-among : (tell : Tell) (tells : List Tell) → Contains (tell ∷ tells) tell
 first-among tell tells = Contains-get_or (tell ∷ tells) 0 tell (omega arith)

@@ -7,11 +7,11 @@ use Rattle.cmb_wave.specs.declared.level.Level.{Level}
 use Rattle.cmb_design.specs.Design.{Design}
 use Rattle.cmb_design.specs.Exact.{nets_of}
 use Rattle.cmb_design.specs.Value.{delayed, value}
-use Rattle.cmb_engine.specs.Circuits.{Shows}
-use Rattle.cmb_engine.specs.Roles.{level_in}
-use Rattle.cmb_engine.specs.Tells.{reach_of}
-use Rattle.cmb_engine.specs.Traces.{line_level, trace_of}
-use Rattle.cmb_engine.specs.Windows.{in_place}
+use Rattle.cmb_engine.specs.Inner.Circuits.{Shows}
+use Rattle.cmb_engine.specs.Inner.Roles.{level_in}
+use Rattle.cmb_engine.specs.Inner.Tells.{reach_of}
+use Rattle.cmb_engine.specs.Inner.Traces.{line_level, trace_of}
+use Rattle.cmb_engine.specs.Inner.Windows.{in_place}
 use Rattle.cmb_engine.specs.declared.cell.Pin.{Pin}
 use Rattle.cmb_engine.specs.declared.role.Role.{Role}
 

@@ -15,13 +15,13 @@ use Rattle.cmb_design.specs.Design.{Design}
 use Rattle.cmb_design.specs.Exact.{nets_of}
 use Rattle.cmb_design.specs.Timing.{stimulus}
 use Rattle.cmb_design.proofs.ValueFacts.{value-at_input}
-use Rattle.cmb_engine.specs.Cells.{Cell, cell_at, is_made}
-use Rattle.cmb_engine.specs.Circuits.{Shows}
-use Rattle.cmb_engine.specs.Lines.{NotesEach}
-use Rattle.cmb_engine.specs.Roles.{drives, gives, level_in}
-use Rattle.cmb_engine.specs.Starts.{IsOfInput, IsOfStart, IsOfStimulus}
-use Rattle.cmb_engine.specs.Tells.{AreTold, IsRight, IsTold, reach_of}
-use Rattle.cmb_engine.specs.Traces.{IsPlan, line_level, trace_of}
+use Rattle.cmb_engine.specs.Inner.Cells.{Cell, cell_at, is_made}
+use Rattle.cmb_engine.specs.Inner.Circuits.{Shows}
+use Rattle.cmb_engine.specs.Inner.Lines.{NotesEach}
+use Rattle.cmb_engine.specs.Inner.Roles.{drives, gives, level_in}
+use Rattle.cmb_engine.specs.Inner.Starts.{IsOfInput, IsOfStart, IsOfStimulus}
+use Rattle.cmb_engine.specs.Inner.Tells.{AreTold, IsRight, IsTold, reach_of}
+use Rattle.cmb_engine.specs.Inner.Traces.{IsPlan, line_level, trace_of}
 use Rattle.cmb_engine.specs.declared.cell.Pin.{Pin}
 use Rattle.cmb_engine.specs.declared.role.Role.{Role}
 use Rattle.cmb_engine.proofs.RoleFacts.{driven-known, level-absent, level-present, other-lacks}

@@ -14,9 +14,9 @@ use Rattle.cmb_calendar.specs.declared.tell.Tell.{Tell}
 use Rattle.cmb_design.specs.Design.{Design}
 use Rattle.cmb_design.specs.Exact.{nets_of}
 use Rattle.cmb_design.specs.Timing.{stimulus}
-use Rattle.cmb_engine.specs.Lines.{NotesEach}
-use Rattle.cmb_engine.specs.Roles.{drives}
-use Rattle.cmb_engine.specs.Starts.{IsOfInput, IsOfStimulus}
+use Rattle.cmb_engine.specs.Inner.Lines.{NotesEach}
+use Rattle.cmb_engine.specs.Inner.Roles.{drives}
+use Rattle.cmb_engine.specs.Inner.Starts.{IsOfInput, IsOfStimulus}
 use Rattle.cmb_engine.specs.declared.role.Role.{Role}
 use Rattle.cmb_engine.proofs.NoteFacts.{notes-one, notes-as, notes-more, taken-before, taken-last, taken-cases}
 

@@ -3,9 +3,9 @@ use Rattle.std.proofs.Common.{◌≡◌, ◌≢◌, ℕ, zero, suc, ◌+◌, ◌
 use Rattle.std.proofs.lemmas.Bool.{cases_lt, cases_eq, eq-eqb, or_left, or_right, false≢true}
 use Rattle.std.proofs.lemmas.List.{get_or_past}
 use Rattle.cmb_wave.specs.declared.level.Level.{Level}
-use Rattle.cmb_engine.specs.Bits.{has, HasNone}
-use Rattle.cmb_engine.specs.Cells.{Cell, Told, is_made, IsMade, IsReadable, IsReady, IsTrueBelow, AreSettled, KeepsTold, cell_at}
-use Rattle.cmb_engine.specs.Sweeps.{Sweeps}
+use Rattle.cmb_engine.specs.Inner.Bits.{has, HasNone}
+use Rattle.cmb_engine.specs.Inner.Cells.{Cell, Told, is_made, IsMade, IsReadable, IsReady, IsTrueBelow, AreSettled, KeepsTold, cell_at}
+use Rattle.cmb_engine.specs.Inner.Sweeps.{Sweeps}
 use Rattle.cmb_engine.proofs.CellFacts.{each-weaker, made-true, settled-true}
 use Rattle.cmb_engine.proofs.VisitFacts.{kept-false}
 

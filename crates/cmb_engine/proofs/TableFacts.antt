@@ -4,9 +4,9 @@ use Rattle.std.proofs.lemmas.List.{length-append, length-map, length-take, take_
 use Rattle.cmb_bench.specs.declared.netlist.Kind.{Kind}
 use Rattle.cmb_design.specs.Design.{Design}
 use Rattle.cmb_design.specs.Timing.{delay}
-use Rattle.cmb_engine.specs.Plans.{pins_from}
-use Rattle.cmb_engine.specs.Cells.{Cell, Told, Gate}
-use Rattle.cmb_engine.specs.Tables.{cell_of, cells_of, pins_at, IsInside, AreInside}
+use Rattle.cmb_engine.specs.Inner.Plans.{pins_from}
+use Rattle.cmb_engine.specs.Inner.Cells.{Cell, Told, Gate}
+use Rattle.cmb_engine.specs.Inner.Tables.{cell_of, cells_of, pins_at, IsInside, AreInside}
 use Rattle.cmb_engine.specs.declared.cell.Pin.{Pin}
 use Rattle.cmb_engine.specs.declared.cells.PinRange.{PinRange}
 use Rattle.cmb_engine.specs.declared.cells.Rule.{Rule}

@@ -7,8 +7,8 @@ use Rattle.cmb_wave.specs.declared.level.Level.{Level}
 use Rattle.cmb_words.specs.declared.word.Word.{Word}
 use Rattle.cmb_words.specs.Word.{level_at_place}
 use Rattle.cmb_calendar.specs.declared.tell.Tell.{Tell}
-use Rattle.cmb_engine.specs.Tells.{told_level}
-use Rattle.cmb_engine.specs.Words.{levels_of}
+use Rattle.cmb_engine.specs.Inner.Tells.{told_level}
+use Rattle.cmb_engine.specs.Inner.Words.{levels_of}
 use Rattle.cmb_engine.proofs.WordFacts.{levels_of-set_same, levels_of-set_other}
 
 pub told-append : (early late : List Tell) (slot : ℕ) (held : Level) (tick : ℕ) → told_level (early ++ late) slot held tick ≡ told_level late slot (told_level early slot held tick) tick

@@ -17,12 +17,12 @@ use Rattle.cmb_design.specs.Value.{delayed}
 use Rattle.cmb_words.specs.declared.changed.Changed.{Changed}
 use Rattle.cmb_words.specs.Changes.{Tells, TellsNet, is_among}
 use Rattle.cmb_words.specs.Word.{level_at_place}
-use Rattle.cmb_engine.specs.Ahead.{TellsAhead}
-use Rattle.cmb_engine.specs.Cells.{Cell, cell_at, is_made}
-use Rattle.cmb_engine.specs.Lines.{IsAhead, IsOfLine, NotesEach}
-use Rattle.cmb_engine.specs.Roles.{gives, level_in}
-use Rattle.cmb_engine.specs.Tells.{AreTold, AreOfWindow, IsRight, IsTold, reach_of}
-use Rattle.cmb_engine.specs.Traces.{IsPlan, trace_of}
+use Rattle.cmb_engine.specs.Inner.Ahead.{TellsAhead}
+use Rattle.cmb_engine.specs.Inner.Cells.{Cell, cell_at, is_made}
+use Rattle.cmb_engine.specs.Inner.Lines.{IsAhead, IsOfLine, NotesEach}
+use Rattle.cmb_engine.specs.Inner.Roles.{gives, level_in}
+use Rattle.cmb_engine.specs.Inner.Tells.{AreTold, AreOfWindow, IsRight, IsTold, reach_of}
+use Rattle.cmb_engine.specs.Inner.Traces.{IsPlan, trace_of}
 use Rattle.cmb_engine.specs.declared.cell.Pin.{Pin}
 use Rattle.cmb_engine.specs.declared.role.Role.{Role}
 use Rattle.cmb_engine.proofs.SlotFacts.{trace-line, reach-net, reach-line}

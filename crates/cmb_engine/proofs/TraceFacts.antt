@@ -8,9 +8,9 @@ use Rattle.cmb_wave.specs.declared.level.Level.{Level}
 use Rattle.cmb_design.specs.declared.rows.Clock.{Clock}
 use Rattle.cmb_design.specs.Gate.{gate}
 use Rattle.cmb_engine.specs.Rows.{arrives_by}
-use Rattle.cmb_engine.specs.Cells.{Cell, Told, Gate, Flop, is_made, seen, cell_level, EachSeen, IsSettled, IsLawful, cell_at, pins_of}
-use Rattle.cmb_engine.specs.Circuits.{seen_at, cell_row, MeetsCells}
-use Rattle.cmb_engine.specs.Windows.{in_place}
+use Rattle.cmb_engine.specs.Inner.Cells.{Cell, Told, Gate, Flop, is_made, seen, cell_level, EachSeen, IsSettled, IsLawful, cell_at, pins_of}
+use Rattle.cmb_engine.specs.Inner.Circuits.{seen_at, cell_row, MeetsCells}
+use Rattle.cmb_engine.specs.Inner.Windows.{in_place}
 use Rattle.cmb_engine.specs.declared.cell.Pin.{Pin}
 use Rattle.cmb_engine.proofs.ArrivalFacts.{arrives_parts}
 use Rattle.cmb_engine.proofs.TruthFacts.{in_place-tick, in_place-before}

@@ -7,7 +7,7 @@ use Rattle.std.specs.Prelude.{bit_and}
 use Rattle.std.specs.Int.{bit_at}
 use Rattle.cmb_words.specs.Bits.{is_set_at, IsLowestSet}
 use Rattle.cmb_words.proofs.BitFacts.{shl_high, shl_low}
-use Rattle.cmb_engine.specs.Bits.{has, HasNone, IsNext, IsAhead}
+use Rattle.cmb_engine.specs.Inner.Bits.{has, HasNone, IsNext, IsAhead}
 use Rattle.cmb_engine.proofs.MarkFacts.{has-zero_word}
 
 pub ahead-all : IsAhead 0 (2 ^ 64 - 1)

@@ -5,10 +5,10 @@ use Rattle.std.proofs.lemmas.Bool.{cases_lt, cases_Bool, false≢true}
 use Rattle.cmb_wave.specs.declared.level.Level.{Level}
 use Rattle.cmb_design.specs.Gate.{gate}
 use Rattle.cmb_design.specs.Value.{delayed}
-use Rattle.cmb_engine.specs.Bits.{has}
-use Rattle.cmb_engine.specs.Cells.{Cell, Told, Gate, Flop, is_made, seen, IsSteady, IsSteadyFrom, IsReadable, IsReady, IsTrueBelow, IsWired, AreMarked, AreSettled, KeepsTold, cell_at, pins_of, reads}
-use Rattle.cmb_engine.specs.Circuits.{cell_row, Arrives, AreQuiet, IsMarkedOrRests, IsWiring, MeetsCells, Shows}
-use Rattle.cmb_engine.specs.Windows.{in_place}
+use Rattle.cmb_engine.specs.Inner.Bits.{has}
+use Rattle.cmb_engine.specs.Inner.Cells.{Cell, Told, Gate, Flop, is_made, seen, IsSteady, IsSteadyFrom, IsReadable, IsReady, IsTrueBelow, IsWired, AreMarked, AreSettled, KeepsTold, cell_at, pins_of, reads}
+use Rattle.cmb_engine.specs.Inner.Circuits.{cell_row, Arrives, AreQuiet, IsMarkedOrRests, IsWiring, MeetsCells, Shows}
+use Rattle.cmb_engine.specs.Inner.Windows.{in_place}
 use Rattle.cmb_engine.specs.declared.cell.Pin.{Pin}
 use Rattle.cmb_engine.specs.declared.group.Group.{Group}
 use Rattle.cmb_engine.proofs.CellFacts.{all-weaker, seen-same, settled-steady}

@@ -6,7 +6,7 @@ use Rattle.cmb_bench.specs.declared.netlist.Kind.{Kind}
 use Rattle.cmb_words.specs.declared.word.Word.{Word}
 use Rattle.cmb_words.specs.Word.{level_at_place}
 use Rattle.cmb_words.specs.Joint.{joint}
-use Rattle.cmb_engine.specs.Words.{levels_of}
+use Rattle.cmb_engine.specs.Inner.Words.{levels_of}
 use Rattle.cmb_engine.specs.declared.cell.Pin.{Pin}
 
 pub levels_of-get_or : (words : List Word) (net : ℕ) (word : Word) (place : ℕ) → net < length words → levels_of words net place ≡ level_at_place (get_or words net word) place

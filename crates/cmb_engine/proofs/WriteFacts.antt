@@ -3,8 +3,8 @@ use Rattle.std.proofs.Common.{◌≡◌, ℕ, true, ◌||◌, List, length, set,
 use Rattle.std.specs.Prelude.{◌==◌}
 use Rattle.std.proofs.lemmas.List.{length-set}
 use Rattle.cmb_words.specs.declared.word.Word.{Word}
-use Rattle.cmb_engine.specs.Bits.{has}
-use Rattle.cmb_engine.specs.Words.{Writes}
+use Rattle.cmb_engine.specs.Inner.Bits.{has}
+use Rattle.cmb_engine.specs.Inner.Words.{Writes}
 use Rattle.cmb_engine.proofs.SweepFacts.{inserted-keeps, inserted-other}
 use Rattle.cmb_engine.proofs.VisitFacts.{kept-false}
 use Rattle.cmb_engine.proofs.WordFacts.{levels_of-set_other}

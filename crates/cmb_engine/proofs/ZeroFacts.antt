@@ -21,11 +21,11 @@ use Rattle.cmb_design.proofs.ValueFacts.{value-at_gate, value-at_flop}
 use Rattle.cmb_words.specs.declared.word.Word.{Word}
 use Rattle.cmb_words.specs.Word.{level_at_place}
 use Rattle.cmb_design.specs.Exact.{nets_of}
-use Rattle.cmb_engine.specs.Circuits.{Shows}
-use Rattle.cmb_engine.specs.Roles.{level_in}
-use Rattle.cmb_engine.specs.Traces.{line_level, trace_of}
-use Rattle.cmb_engine.specs.Windows.{in_place}
-use Rattle.cmb_engine.specs.Words.{levels_of}
+use Rattle.cmb_engine.specs.Inner.Circuits.{Shows}
+use Rattle.cmb_engine.specs.Inner.Roles.{level_in}
+use Rattle.cmb_engine.specs.Inner.Traces.{line_level, trace_of}
+use Rattle.cmb_engine.specs.Inner.Windows.{in_place}
+use Rattle.cmb_engine.specs.Inner.Words.{levels_of}
 use Rattle.cmb_engine.specs.declared.cell.Pin.{Pin}
 use Rattle.cmb_engine.specs.declared.role.Role.{Role}
 use Rattle.cmb_engine.proofs.ArrivalFacts.{flop_level-start}

@@ -1,10 +1,10 @@
 //! When samples arrive in a window.
 
 ghost use Rattle.std.specs.Prelude.{◌≡◌, ℕ, ◌+◌, ◌-◌, ◌%◌, ◌<◌, ◌≤◌, ◌&&◌, ◌==◌, nat_le};
-ghost use Rattle.cmb_engine.specs.Arrivals.{IsArrival};
-ghost use Rattle.cmb_engine.specs.Cells.{IsPace};
+ghost use Rattle.cmb_engine.specs.Inner.Arrivals.{IsArrival};
+ghost use Rattle.cmb_engine.specs.Inner.Cells.{IsPace};
 ghost use Rattle.cmb_engine.specs.Rows.{arrives_by};
-ghost use Rattle.cmb_engine.specs.Windows.{HasWindow};
+ghost use Rattle.cmb_engine.specs.Inner.Windows.{HasWindow};
 
 use cmb_design::Clock;
 

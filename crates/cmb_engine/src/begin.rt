@@ -1,9 +1,9 @@
 //! Which nets have news when a window begins.
 
 ghost use Rattle.std.specs.Prelude.{◌≡◌, ℕ, ◌*◌, ◌<◌, ◌≤◌, ◌⊎◌, true, [], length, slice_index_or};
-ghost use Rattle.cmb_engine.specs.Bits.{has};
-ghost use Rattle.cmb_engine.specs.Cells.{AreBelow, AreMarked, IsSteadyFrom};
-ghost use Rattle.cmb_engine.specs.Words.{levels_of};
+ghost use Rattle.cmb_engine.specs.Inner.Bits.{has};
+ghost use Rattle.cmb_engine.specs.Inner.Cells.{AreBelow, AreMarked, IsSteadyFrom};
+ghost use Rattle.cmb_engine.specs.Inner.Words.{levels_of};
 
 use crate::marks::Marks;
 use crate::readers::Readers;

@@ -2,8 +2,8 @@
 
 ghost use Rattle.std.specs.Prelude.{◌≡◌, ℕ, ◌+◌, ◌*◌, ◌/◌, ◌%◌, ◌^◌, ◌<◌, ◌≤◌, ◌||◌, ◌&&◌, ◌==◌, false, not, length};
 ghost use Rattle.std.specs.Prelude.{slice_index, IfOk, IfNone, MatchOption};
-ghost use Rattle.cmb_engine.specs.Bits.{has, HasNone, IsNext, Inserts, Removes};
-ghost use Rattle.cmb_engine.specs.Walks.{walked};
+ghost use Rattle.cmb_engine.specs.Inner.Bits.{has, HasNone, IsNext, Inserts, Removes};
+ghost use Rattle.cmb_engine.specs.Inner.Walks.{walked};
 
 use crate::walk::Walk;
 use cmb_words::lowest;

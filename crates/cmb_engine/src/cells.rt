@@ -3,13 +3,14 @@
 ghost use Rattle.std.specs.Prelude.{◌≡◌, ℕ, ◌+◌, ◌^◌, ◌<◌, ◌++◌, ◌∷◌, [], true, false, All, IfOk, OnOk};
 ghost use Rattle.std.specs.Prelude.{MatchOption, length, map, replicate, slice_index_or};
 ghost use Rattle.cmb_words.specs.Word.{level_at_place};
-ghost use Rattle.cmb_engine.specs.Arrivals.{IsArrival};
-ghost use Rattle.cmb_engine.specs.Cells.{Told, Gate, Flop, cell_at, is_made, pins_of as pins_of_cell, reads, AreBelow};
-ghost use Rattle.cmb_engine.specs.Cells.{IsListed, IsMade, IsLawful};
-ghost use Rattle.cmb_engine.specs.Circuits.{is_flop};
-ghost use Rattle.cmb_engine.specs.Tables.{IsInside, cell_of};
-ghost use Rattle.cmb_engine.specs.Windows.{HasWindow};
-ghost use Rattle.cmb_engine.specs.Words.{levels_of};
+ghost use Rattle.cmb_engine.specs.Inner.Arrivals.{IsArrival};
+ghost use Rattle.cmb_engine.specs.Inner.Cells.{Told, Gate, Flop};
+ghost use Rattle.cmb_engine.specs.Inner.Cells.{cell_at, is_made, pins_of as pins_of_cell, reads, AreBelow};
+ghost use Rattle.cmb_engine.specs.Inner.Cells.{IsListed, IsMade, IsLawful};
+ghost use Rattle.cmb_engine.specs.Inner.Circuits.{is_flop};
+ghost use Rattle.cmb_engine.specs.Inner.Tables.{IsInside, cell_of};
+ghost use Rattle.cmb_engine.specs.Inner.Windows.{HasWindow};
+ghost use Rattle.cmb_engine.specs.Inner.Words.{levels_of};
 
 use crate::arrivals::Arrival;
 use crate::cell::Pin;
@@ -60,8 +61,8 @@ pub(crate) struct Cells {
 
 impl Model for Cells {
     ghost use Rattle.std.specs.Prelude.{List};
-    ghost use Rattle.cmb_engine.specs.Cells.{Cell};
-    ghost use Rattle.cmb_engine.specs.Tables.{cells_of, AreInside};
+    ghost use Rattle.cmb_engine.specs.Inner.Cells.{Cell};
+    ghost use Rattle.cmb_engine.specs.Inner.Tables.{cells_of, AreInside};
 
     ghost Value = { List Cell };
 

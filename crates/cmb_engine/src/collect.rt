@@ -3,10 +3,10 @@
 ghost use Rattle.std.specs.Prelude.{◌≡◌, ℕ, ◌*◌, ◌<◌, ◌≤◌, false, length, All, OnOk};
 ghost use Rattle.cmb_words.specs.Changes.{RisesWithin, is_among};
 ghost use Rattle.cmb_words.specs.Word.{level_at_place};
-ghost use Rattle.cmb_engine.specs.Bits.{has};
-ghost use Rattle.cmb_engine.specs.Cells.{IsSteadyFrom};
-ghost use Rattle.cmb_engine.specs.Circuits.{AreQuiet};
-ghost use Rattle.cmb_engine.specs.Words.{levels_of};
+ghost use Rattle.cmb_engine.specs.Inner.Bits.{has};
+ghost use Rattle.cmb_engine.specs.Inner.Cells.{IsSteadyFrom};
+ghost use Rattle.cmb_engine.specs.Inner.Circuits.{AreQuiet};
+ghost use Rattle.cmb_engine.specs.Inner.Words.{levels_of};
 
 use crate::marks::Marks;
 use crate::walk::Walk;

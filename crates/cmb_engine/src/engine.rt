@@ -26,7 +26,7 @@ pub struct Engine<'d> {
 
 impl<'d> Model for Engine<'d> {
     ghost use Rattle.cmb_engine.specs.Engines.{Engine};
-    ghost use Rattle.cmb_engine.specs.States.{DrivesAll};
+    ghost use Rattle.cmb_engine.specs.Inner.States.{DrivesAll};
 
     ghost Value = { Engine };
 

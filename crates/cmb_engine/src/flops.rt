@@ -3,12 +3,12 @@
 ghost use Rattle.std.specs.Prelude.{◌≡◌, ℕ, ◌+◌, ◌-◌, ◌*◌, ◌^◌, ◌<◌, ◌≤◌, List, false, true, All, Contains, IfOk, OnOk};
 ghost use Rattle.std.specs.Prelude.{length, slice_index_or};
 ghost use Rattle.cmb_design.specs.declared.rows.Clock.{Clock};
-ghost use Rattle.cmb_engine.specs.Bits.{has};
-ghost use Rattle.cmb_engine.specs.Cells.{Cell, IsLawful, IsPace, IsSteady, cell_at};
-ghost use Rattle.cmb_engine.specs.Circuits.{AreFlops, AreMembers, IsFlopOf, IsGroup, IsInGroup, IsMarkedOrRests};
+ghost use Rattle.cmb_engine.specs.Inner.Bits.{has};
+ghost use Rattle.cmb_engine.specs.Inner.Cells.{Cell, IsLawful, IsPace, IsSteady, cell_at};
+ghost use Rattle.cmb_engine.specs.Inner.Circuits.{AreFlops, AreMembers, IsFlopOf, IsGroup, IsInGroup, IsMarkedOrRests};
 ghost use Rattle.cmb_engine.specs.Rows.{arrives_by};
-ghost use Rattle.cmb_engine.specs.Windows.{HasWindow};
-ghost use Rattle.cmb_engine.specs.Words.{levels_of};
+ghost use Rattle.cmb_engine.specs.Inner.Windows.{HasWindow};
+ghost use Rattle.cmb_engine.specs.Inner.Words.{levels_of};
 
 use crate::arrivals::first_arrival;
 use crate::cells::Cells;

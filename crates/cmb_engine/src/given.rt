@@ -2,11 +2,11 @@
 
 ghost use Rattle.std.specs.Prelude.{◌≡◌, ℕ, ◌*◌, ◌<◌, ◌≤◌, true, [], ◌∷◌, All, length, slice_index_or};
 ghost use Rattle.cmb_words.specs.Word.{level_at_place};
-ghost use Rattle.cmb_engine.specs.Bits.{has};
-ghost use Rattle.cmb_engine.specs.Cells.{AreBelow, AreMarked};
-ghost use Rattle.cmb_engine.specs.Gifts.{is_written, AreWritten};
-ghost use Rattle.cmb_engine.specs.Roles.{gives};
-ghost use Rattle.cmb_engine.specs.Words.{levels_of, Writes};
+ghost use Rattle.cmb_engine.specs.Inner.Bits.{has};
+ghost use Rattle.cmb_engine.specs.Inner.Cells.{AreBelow, AreMarked};
+ghost use Rattle.cmb_engine.specs.Inner.Gifts.{is_written, AreWritten};
+ghost use Rattle.cmb_engine.specs.Inner.Roles.{gives};
+ghost use Rattle.cmb_engine.specs.Inner.Words.{levels_of, Writes};
 
 use crate::marks::Marks;
 use crate::readers::Readers;

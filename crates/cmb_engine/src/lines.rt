@@ -4,8 +4,8 @@
 ghost use Rattle.std.specs.Prelude.{◌≡◌, ◌+◌, ◌^◌, ◌<◌, ◌≤◌, All, IfOk, OnOk, length};
 ghost use Rattle.cmb_calendar.specs.Calendars.{day_begin, SameDays};
 ghost use Rattle.cmb_words.specs.Changes.{RisesWithin};
-ghost use Rattle.cmb_engine.specs.Lines.{AreFollowers, IsAhead, IsOfChange, IsOfFollower, IsOfLine, NotesEach};
-ghost use Rattle.cmb_engine.specs.Windows.{HasWindow};
+ghost use Rattle.cmb_engine.specs.Inner.Lines.{AreFollowers, IsAhead, IsOfChange, IsOfFollower, IsOfLine, NotesEach};
+ghost use Rattle.cmb_engine.specs.Inner.Windows.{HasWindow};
 
 use crate::cell::Pin;
 use crate::readers::{Readers, empty_lists, push_reader};

@@ -2,8 +2,8 @@
 
 ghost use Rattle.std.specs.Prelude.{◌≡◌, ℕ, ◌+◌, ◌*◌, ◌<◌, ◌≤◌, ◌||◌, ◌&&◌, ◌==◌, false, not, length, IfOk};
 ghost use Rattle.std.specs.Prelude.{MatchOption};
-ghost use Rattle.cmb_engine.specs.Bits.{has, HasNone, IsNext};
-ghost use Rattle.cmb_engine.specs.Walks.{walked};
+ghost use Rattle.cmb_engine.specs.Inner.Bits.{has, HasNone, IsNext};
+ghost use Rattle.cmb_engine.specs.Inner.Walks.{walked};
 
 use crate::bits::Bits;
 use crate::walk::Walk;
@@ -19,7 +19,7 @@ pub(crate) struct Marks {
 
 impl Model for Marks {
     ghost use Rattle.std.specs.Prelude.{List, ℕ};
-    ghost use Rattle.cmb_engine.specs.Bits.{IsSummary};
+    ghost use Rattle.cmb_engine.specs.Inner.Bits.{IsSummary};
 
     ghost Value = { List ℕ };
 

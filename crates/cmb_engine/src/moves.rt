@@ -1,9 +1,9 @@
 //! What stands in words where a window begins.
 
 ghost use Rattle.std.specs.Prelude.{◌≡◌, ℕ, ◌+◌, ◌*◌, ◌<◌, ◌≤◌, length, min};
-ghost use Rattle.cmb_engine.specs.Bits.{has};
-ghost use Rattle.cmb_engine.specs.Circuits.{AreQuiet};
-ghost use Rattle.cmb_engine.specs.Words.{levels_of};
+ghost use Rattle.cmb_engine.specs.Inner.Bits.{has};
+ghost use Rattle.cmb_engine.specs.Inner.Circuits.{AreQuiet};
+ghost use Rattle.cmb_engine.specs.Inner.Words.{levels_of};
 
 use crate::marks::Marks;
 use crate::walk::Walk;

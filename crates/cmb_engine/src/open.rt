@@ -1,13 +1,13 @@
 //! How an engine begins.
 
 ghost use Rattle.std.specs.Prelude.{◌≡◌, ℕ, ◌*◌, ◌^◌, ◌<◌, ◌≤◌, true, length, IfOk};
-ghost use Rattle.cmb_engine.specs.Ahead.{TellsAhead};
-ghost use Rattle.cmb_engine.specs.Bits.{has};
-ghost use Rattle.cmb_engine.specs.Circuits.{Shows};
-ghost use Rattle.cmb_engine.specs.Roles.{AreRoles};
-ghost use Rattle.cmb_engine.specs.States.{IsCircuit, IsState};
-ghost use Rattle.cmb_engine.specs.Traces.{trace_of};
-ghost use Rattle.cmb_engine.specs.Words.{levels_of};
+ghost use Rattle.cmb_engine.specs.Inner.Ahead.{TellsAhead};
+ghost use Rattle.cmb_engine.specs.Inner.Bits.{has};
+ghost use Rattle.cmb_engine.specs.Inner.Circuits.{Shows};
+ghost use Rattle.cmb_engine.specs.Inner.Roles.{AreRoles};
+ghost use Rattle.cmb_engine.specs.Inner.States.{IsCircuit, IsState};
+ghost use Rattle.cmb_engine.specs.Inner.Traces.{trace_of};
+ghost use Rattle.cmb_engine.specs.Inner.Words.{levels_of};
 
 use crate::circuit::Circuit;
 use crate::flops::flops_of;

@@ -6,9 +6,10 @@ ghost use Rattle.cmb_bench.specs.Netlist.{driver_of, pins_of, IsNetlist};
 ghost use Rattle.cmb_bench.specs.declared.netlist.Driver.TheVariants as driver;
 ghost use Rattle.cmb_design.specs.Exact.{nets_of};
 ghost use Rattle.cmb_design.specs.Ranges.{IsDelay};
-ghost use Rattle.cmb_engine.specs.Plans.{cell_as, cell_in, pins_from, AreCells, AreLines, Grows, Pushes, StandsFor};
-ghost use Rattle.cmb_engine.specs.Roles.{role_of, AreRoles};
-ghost use Rattle.cmb_engine.specs.Traces.{IsPlan};
+ghost use Rattle.cmb_engine.specs.Inner.Plans.{cell_as, cell_in, pins_from};
+ghost use Rattle.cmb_engine.specs.Inner.Plans.{AreCells, AreLines, Grows, Pushes, StandsFor};
+ghost use Rattle.cmb_engine.specs.Inner.Roles.{role_of, AreRoles};
+ghost use Rattle.cmb_engine.specs.Inner.Traces.{IsPlan};
 
 use crate::cell::Pin;
 use crate::cells::Cells;

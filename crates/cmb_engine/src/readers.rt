@@ -3,7 +3,7 @@
 ghost use Rattle.std.specs.Prelude.{◌≡◌, ℕ, ◌^◌, ◌<◌, ◌++◌, ◌∷◌, ◌==◌, [], true, All, IfOk, OnOk, length, map};
 ghost use Rattle.std.specs.Prelude.{replicate, slice_index_or, slice_set};
 ghost use Rattle.std.specs.List.{list_any};
-ghost use Rattle.cmb_engine.specs.Cells.{Told, AreBelow, AreReaders, IsListed, pins_of};
+ghost use Rattle.cmb_engine.specs.Inner.Cells.{Told, AreBelow, AreReaders, IsListed, pins_of};
 
 use crate::cell::Pin;
 use crate::cells::Cells;
@@ -26,7 +26,7 @@ pub(crate) struct Readers {
 
 impl Model for Readers {
     ghost use Rattle.std.specs.Prelude.{List, ℕ, length};
-    ghost use Rattle.cmb_engine.specs.Lists.{lists_between, AreStarts};
+    ghost use Rattle.cmb_engine.specs.Inner.Lists.{lists_between, AreStarts};
 
     ghost Value = { List (List ℕ) };
 

@@ -1,7 +1,7 @@
 //! What an engine does with each net.
 
 ghost use Rattle.std.specs.Prelude.{◌≡◌};
-ghost use Rattle.cmb_engine.specs.Roles.{drives, gives};
+ghost use Rattle.cmb_engine.specs.Inner.Roles.{drives, gives};
 
 /// What an engine does with a net: it drives it, is given it by others, or has nothing to do with it.
 #[derive(Clone, Copy)]

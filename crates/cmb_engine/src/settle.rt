@@ -3,13 +3,13 @@
 ghost use Rattle.std.specs.Prelude.{◌≡◌, ◌≢◌, ℕ, ◌+◌, ◌*◌, ◌<◌, ◌≤◌, true, [], All, length, slice_index};
 ghost use Rattle.std.specs.Prelude.{slice_index_or, slice_set};
 ghost use Rattle.cmb_wave.specs.declared.level.Level.{Level};
-ghost use Rattle.cmb_engine.specs.Arrivals.{IsArrival};
-ghost use Rattle.cmb_engine.specs.Bits.{has};
-ghost use Rattle.cmb_engine.specs.Cells.{Told, IsMade, IsLawful, IsReady, IsTrueBelow, AreReaders, AreSettled};
-ghost use Rattle.cmb_engine.specs.Cells.{cell_at, AreMarked};
-ghost use Rattle.cmb_engine.specs.Sweeps.{CanSweep, Sweeps};
-ghost use Rattle.cmb_engine.specs.Windows.{HasWindow};
-ghost use Rattle.cmb_engine.specs.Words.{levels_of, Writes};
+ghost use Rattle.cmb_engine.specs.Inner.Arrivals.{IsArrival};
+ghost use Rattle.cmb_engine.specs.Inner.Bits.{has};
+ghost use Rattle.cmb_engine.specs.Inner.Cells.{Told, IsMade, IsLawful, IsReady, IsTrueBelow, AreReaders, AreSettled};
+ghost use Rattle.cmb_engine.specs.Inner.Cells.{cell_at, AreMarked};
+ghost use Rattle.cmb_engine.specs.Inner.Sweeps.{CanSweep, Sweeps};
+ghost use Rattle.cmb_engine.specs.Inner.Windows.{HasWindow};
+ghost use Rattle.cmb_engine.specs.Inner.Words.{levels_of, Writes};
 
 use crate::arrivals::{Arrival, any_arrival};
 use crate::cells::Cells;

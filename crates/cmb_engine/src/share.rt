@@ -3,9 +3,9 @@
 ghost use Rattle.std.specs.Prelude.{◌≡◌, ◌+◌, ◌<◌, ◌≤◌, IfOk, length};
 ghost use Rattle.cmb_design.specs.Exact.{nets_of};
 ghost use Rattle.cmb_design.specs.Value.{value};
-ghost use Rattle.cmb_engine.specs.Roles.{driven_of, AreOf};
+ghost use Rattle.cmb_engine.specs.Inner.Roles.{driven_of, AreOf};
 ghost use Rattle.cmb_engine.specs.Shares.{share_clock, IsDriven, IsGiven, TellsThose};
-ghost use Rattle.cmb_engine.specs.States.{IsCircuit};
+ghost use Rattle.cmb_engine.specs.Inner.States.{IsCircuit};
 ghost use Rattle.cmb_words.specs.Changes.{IsWindow};
 
 use crate::circuit::Circuit;
@@ -30,9 +30,9 @@ pub struct ShareEngine<'d> {
 }
 
 impl<'d> Model for ShareEngine<'d> {
-    ghost use Rattle.cmb_engine.specs.Roles.{driven_of, AreOf};
+    ghost use Rattle.cmb_engine.specs.Inner.Roles.{driven_of, AreOf};
     ghost use Rattle.cmb_engine.specs.Shares.{ShareEngine};
-    ghost use Rattle.cmb_engine.specs.States.{IsCircuit, IsState};
+    ghost use Rattle.cmb_engine.specs.Inner.States.{IsCircuit, IsState};
 
     ghost Value = { ShareEngine };
 

@@ -3,7 +3,7 @@
 ghost use Rattle.std.specs.Prelude.{◌≡◌, ℕ, ◌<◌, ◌∷◌, [], false, All, IfOk, length};
 ghost use Rattle.cmb_bench.specs.Netlist.{driver_of, pins_of, IsNetlist};
 ghost use Rattle.cmb_design.specs.Exact.{nets_of};
-ghost use Rattle.cmb_engine.specs.Roles.{driven_of, gives, is_driven, is_given, AreOf, Gives};
+ghost use Rattle.cmb_engine.specs.Inner.Roles.{driven_of, gives, is_driven, is_given, AreOf, Gives};
 
 use crate::role::Role;
 use cmb_bench::Driver;

@@ -5,10 +5,10 @@ ghost use Rattle.cmb_wave.specs.declared.level.Level.{Level};
 ghost use Rattle.cmb_design.specs.Exact.{nets_of};
 ghost use Rattle.cmb_design.specs.Value.{value};
 ghost use Rattle.cmb_words.specs.Word.{level_at_place};
-ghost use Rattle.cmb_engine.specs.Circuits.{Shows};
-ghost use Rattle.cmb_engine.specs.Traces.{trace_of};
-ghost use Rattle.cmb_engine.specs.Windows.{in_place};
-ghost use Rattle.cmb_engine.specs.Words.{levels_of};
+ghost use Rattle.cmb_engine.specs.Inner.Circuits.{Shows};
+ghost use Rattle.cmb_engine.specs.Inner.Traces.{trace_of};
+ghost use Rattle.cmb_engine.specs.Inner.Windows.{in_place};
+ghost use Rattle.cmb_engine.specs.Inner.Words.{levels_of};
 ghost use Rattle.cmb_engine.specs.declared.role.Role.{Role};
 
 use crate::cell::Pin;

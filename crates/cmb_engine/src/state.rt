@@ -5,9 +5,9 @@ ghost use Rattle.cmb_design.specs.Exact.{nets_of};
 ghost use Rattle.cmb_design.specs.Value.{value};
 ghost use Rattle.cmb_words.specs.Changes.{IsWindow, Tells};
 ghost use Rattle.cmb_engine.specs.Engines.{window_end};
-ghost use Rattle.cmb_engine.specs.Gifts.{AreGiven};
-ghost use Rattle.cmb_engine.specs.Roles.{level_in};
-ghost use Rattle.cmb_engine.specs.States.{IsCircuit, IsState};
+ghost use Rattle.cmb_engine.specs.Inner.Gifts.{AreGiven};
+ghost use Rattle.cmb_engine.specs.Inner.Roles.{level_in};
+ghost use Rattle.cmb_engine.specs.Inner.States.{IsCircuit, IsState};
 
 use crate::circuit::Circuit;
 use crate::collect::collect;

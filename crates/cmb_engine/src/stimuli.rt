@@ -5,10 +5,10 @@ ghost use Rattle.cmb_bench.specs.Netlist.{driver_of};
 ghost use Rattle.cmb_bench.specs.declared.netlist.Driver.TheVariants.{Input};
 ghost use Rattle.cmb_calendar.specs.Calendars.{SameDays};
 ghost use Rattle.cmb_design.specs.Exact.{nets_of};
-ghost use Rattle.cmb_engine.specs.Lines.{NotesEach};
-ghost use Rattle.cmb_engine.specs.Roles.{drives};
-ghost use Rattle.cmb_engine.specs.Starts.{IsOfInput, IsOfStart, IsOfStimulus};
-ghost use Rattle.cmb_engine.specs.Words.{levels_of};
+ghost use Rattle.cmb_engine.specs.Inner.Lines.{NotesEach};
+ghost use Rattle.cmb_engine.specs.Inner.Roles.{drives};
+ghost use Rattle.cmb_engine.specs.Inner.Starts.{IsOfInput, IsOfStart, IsOfStimulus};
+ghost use Rattle.cmb_engine.specs.Inner.Words.{levels_of};
 
 use crate::cell::Pin;
 use crate::role::{Role, is_driven};

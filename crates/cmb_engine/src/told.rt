@@ -3,10 +3,10 @@
 ghost use Rattle.std.specs.Prelude.{◌≡◌, ℕ, ◌+◌, ◌-◌, ◌*◌, ◌<◌, ◌≤◌, [], ◌∷◌, All, Contains, length};
 ghost use Rattle.std.specs.Prelude.{slice_index_or};
 ghost use Rattle.cmb_calendar.specs.declared.tell.Tell.{Tell};
-ghost use Rattle.cmb_engine.specs.Bits.{has};
-ghost use Rattle.cmb_engine.specs.Cells.{AreBelow, AreMarked};
-ghost use Rattle.cmb_engine.specs.Tells.{told_level};
-ghost use Rattle.cmb_engine.specs.Words.{levels_of, Writes};
+ghost use Rattle.cmb_engine.specs.Inner.Bits.{has};
+ghost use Rattle.cmb_engine.specs.Inner.Cells.{AreBelow, AreMarked};
+ghost use Rattle.cmb_engine.specs.Inner.Tells.{told_level};
+ghost use Rattle.cmb_engine.specs.Inner.Words.{levels_of, Writes};
 
 use crate::marks::Marks;
 use crate::readers::Readers;

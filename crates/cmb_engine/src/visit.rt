@@ -3,11 +3,11 @@
 ghost use Rattle.std.specs.Prelude.{◌≡◌, ℕ, ◌+◌, ◌-◌, ◌<◌, ◌≤◌, List, [], ◌∷◌, All, length, map, if◌then◌else◌};
 ghost use Rattle.cmb_design.specs.Gate.{gate};
 ghost use Rattle.cmb_words.specs.Word.{level_at_place};
-ghost use Rattle.cmb_engine.specs.Arrivals.{IsArrival};
-ghost use Rattle.cmb_engine.specs.Cells.{seen, IsPace};
+ghost use Rattle.cmb_engine.specs.Inner.Arrivals.{IsArrival};
+ghost use Rattle.cmb_engine.specs.Inner.Cells.{seen, IsPace};
 ghost use Rattle.cmb_engine.specs.Rows.{arrives_by};
-ghost use Rattle.cmb_engine.specs.Windows.{HasWindow};
-ghost use Rattle.cmb_engine.specs.Words.{levels_of};
+ghost use Rattle.cmb_engine.specs.Inner.Windows.{HasWindow};
+ghost use Rattle.cmb_engine.specs.Inner.Words.{levels_of};
 
 use crate::arrivals::{Arrival, arrival_of};
 use crate::cell::Pin;

@@ -1,6 +1,6 @@
 //! How far one is that goes over a set of numbers by rising number.
 
-ghost use Rattle.cmb_engine.specs.Bits.{IsWalk};
+ghost use Rattle.cmb_engine.specs.Inner.Bits.{IsWalk};
 
 /// Where a walk over numbers is: the word that it is at, the first place of it that it hasn't passed, and the places
 /// from there on as bits. So the next number is found by one look at the word.
@@ -14,7 +14,7 @@ pub(crate) struct Walk {
 
 impl Walk {
     ghost use Rattle.std.specs.Prelude.{◌≡◌, ◌+◌, ◌*◌, ◌^◌, ◌<◌, ◌≤◌};
-    ghost use Rattle.cmb_engine.specs.Walks.{walked};
+    ghost use Rattle.cmb_engine.specs.Inner.Walks.{walked};
 
     /// The walk that begins with a word.
     pub(crate) fn at(word: usize) -> Walk

@@ -3,13 +3,13 @@
 ghost use Rattle.std.specs.Prelude.{◌≡◌, ℕ, ◌+◌, ◌-◌, ◌*◌, ◌<◌, ◌≤◌, false, length, Contains};
 ghost use Rattle.cmb_wave.specs.declared.level.Level.{Level};
 ghost use Rattle.cmb_calendar.specs.declared.tell.Tell.{Tell};
-ghost use Rattle.cmb_engine.specs.Bits.{has};
-ghost use Rattle.cmb_engine.specs.Cells.{cell_at, is_made};
-ghost use Rattle.cmb_engine.specs.Circuits.{AreQuiet, IsWiring, MeetsCells, Shows};
-ghost use Rattle.cmb_engine.specs.Gifts.{AreGiven};
-ghost use Rattle.cmb_engine.specs.Roles.{AreToldNets, gives};
-ghost use Rattle.cmb_engine.specs.Tells.{AreOfWindow};
-ghost use Rattle.cmb_engine.specs.Words.{levels_of};
+ghost use Rattle.cmb_engine.specs.Inner.Bits.{has};
+ghost use Rattle.cmb_engine.specs.Inner.Cells.{cell_at, is_made};
+ghost use Rattle.cmb_engine.specs.Inner.Circuits.{AreQuiet, IsWiring, MeetsCells, Shows};
+ghost use Rattle.cmb_engine.specs.Inner.Gifts.{AreGiven};
+ghost use Rattle.cmb_engine.specs.Inner.Roles.{AreToldNets, gives};
+ghost use Rattle.cmb_engine.specs.Inner.Tells.{AreOfWindow};
+ghost use Rattle.cmb_engine.specs.Inner.Words.{levels_of};
 
 use crate::begin::mark_news;
 use crate::cells::Cells;

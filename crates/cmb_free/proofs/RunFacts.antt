@@ -8,7 +8,7 @@ use Rattle.cmb_vcd.specs.declared.fault.CollectFault.{CollectFault}
 use Rattle.cmb_vcd.specs.Collector.{Collector, IsExactFrom, collected}
 use Rattle.cmb_vcd.proofs.ExactFacts.{collected_from}
 use Rattle.cmb_free.specs.FreeRuns.{IsStoppedAt}
-use Rattle.cmb_free.specs.Tellers.{IsDecided, IsUnfinished}
+use Rattle.cmb_free.specs.Inner.Tellers.{IsDecided, IsUnfinished}
 use Rattle.cmb_run.specs.declared.run_fault.RunFault.{RunFault}
 use Rattle.cmb_run.specs.declared.run_fault.RunFault.TheVariants.{Incomplete, Write, Memory}
 

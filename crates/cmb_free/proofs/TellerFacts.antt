@@ -15,7 +15,7 @@ use Rattle.cmb_vcd.proofs.ForgetFacts.{forgot_least}
 use Rattle.cmb_vcd.proofs.TextSizes.{part_text-fits}
 use Rattle.cmb_run.specs.declared.run_fault.RunFault.{RunFault}
 use Rattle.cmb_free.specs.FreeRuns.{IsCutAt}
-use Rattle.cmb_free.specs.Tellers.{Backlog, IsTeller, IsTold, IsToldTo, IsWithin, told}
+use Rattle.cmb_free.specs.Inner.Tellers.{Backlog, IsTeller, IsTold, IsToldTo, IsWithin, told}
 
 pub least-within : (design : Design) (from : ℕ) (collector : Collector) → IsExactFrom design from collector → least collector ≤ design.horizon
 least-within design from collector exact = omega (arith, least_clock_bound collector.horizon collector.waves, exact.opened.horizon)

@@ -7,7 +7,7 @@ use Rattle.cmb_vcd.specs.Beginnings.{HasBegun}
 use Rattle.cmb_vcd.specs.Collector.{Collector, IsComplete, IsExactFrom}
 use Rattle.cmb_vcd.specs.Vcd.{vcd}
 use Rattle.cmb_free.specs.FreeRuns.{IsCutAt, IsStoppedAt}
-use Rattle.cmb_free.specs.Tellers.{Backlog, IsGiven, IsTold, IsUnfinished}
+use Rattle.cmb_free.specs.Inner.Tellers.{Backlog, IsGiven, IsTold, IsUnfinished}
 use Rattle.cmb_run.specs.declared.run_fault.RunFault.{RunFault}
 use Rattle.cmb_run.specs.declared.run_fault.RunFault.TheVariants.{Incomplete, Write, Memory}
 use Rattle.cmb_free.proofs.TellerFacts.{HasBegun-told, told-whole as told-all}

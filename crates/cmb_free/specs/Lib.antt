@@ -1,2 +1,4 @@
+-- what the public contracts rest on
 pub mod FreeRuns
-pub mod Tellers
+-- what the functions inside the crate promise each other
+pub mod Inner

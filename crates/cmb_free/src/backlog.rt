@@ -22,7 +22,7 @@ pub struct Backlog<T: Terms> {
 impl<T: Terms> Model for Backlog<T> {
     ghost use Rattle.std.specs.Prelude.{unwrap_or};
     ghost use Rattle.cmb_vcd.specs.Collector.{IsExactFrom};
-    ghost use Rattle.cmb_free.specs.Tellers.{Backlog};
+    ghost use Rattle.cmb_free.specs.Inner.Tellers.{Backlog};
 
     ghost Value = { Backlog };
 

@@ -5,7 +5,7 @@ ghost use Rattle.cmb_design.specs.Exact.{nets_of};
 ghost use Rattle.cmb_vcd.specs.Collector.{IsComplete, IsExactFor};
 ghost use Rattle.cmb_free.specs.FreeRuns.{IsLeastBehind, IsStopped, IsStoppedAt};
 ghost use Rattle.cmb_run.specs.RunTerms.{AreTerms};
-ghost use Rattle.cmb_free.specs.Tellers.{decision, IsDecided, IsUnfinished};
+ghost use Rattle.cmb_free.specs.Inner.Tellers.{decision, IsDecided, IsUnfinished};
 
 use crate::backlog::Backlog;
 use crate::collect::{Collect, Nowhere};

@@ -4,7 +4,7 @@ ghost use Rattle.std.specs.Prelude.{◌≡◌, ◌-◌, ◌^◌, ◌<◌, List, 
 ghost use Rattle.std.specs.Io.KnownBytes.{Appends};
 ghost use Rattle.cmb_vcd.specs.Collector.{IsExactFrom, least};
 ghost use Rattle.cmb_free.specs.FreeRuns.{IsCutAt};
-ghost use Rattle.cmb_free.specs.Tellers.{IsToldTo, told};
+ghost use Rattle.cmb_free.specs.Inner.Tellers.{IsToldTo, told};
 
 use crate::backlog::Backlog;
 use crate::collect::{Found, take_round};
@@ -25,7 +25,7 @@ pub struct Teller<'a, T: Terms> {
 }
 
 impl<'a, T: Terms> Model for Teller<'a, T> {
-    ghost use Rattle.cmb_free.specs.Tellers.{Backlog, IsTeller};
+    ghost use Rattle.cmb_free.specs.Inner.Tellers.{Backlog, IsTeller};
 
     ghost Value = { Backlog };
 

@@ -25,7 +25,7 @@ const ROUNDS: u32 = 64;
 
 impl<'a, T: Terms, S: Sink> Collect<T, S> for Teller<'a, T> {
     ghost use Rattle.std.specs.Prelude.{◌≡◌, ◌-◌, ◌^◌, ◌<◌, None};
-    ghost use Rattle.cmb_free.specs.Tellers.{IsTold};
+    ghost use Rattle.cmb_free.specs.Inner.Tellers.{IsTold};
 
     ghost is_ready = { λ teller sink. (S.failures sink < 2 ^ 64 - 1) × (teller.written ≡ None) };
 

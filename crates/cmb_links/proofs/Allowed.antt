@@ -9,7 +9,8 @@ use Rattle.cmb_design.specs.Design.{Design}
 use Rattle.cmb_design.specs.Exact.{nets_of, IsRightIn}
 use Rattle.cmb_links.specs.Promises.{promise_of_word, newest}
 use Rattle.cmb_links.specs.Seats.{driver, after_publish, after_look, after_raise, after_check, after_finish, after_count, only, joined}
-use Rattle.cmb_links.specs.Boards.{IsBoard, seats_of, Leaves, Publishes, Looks, Raises, Checks, Finishes, Counts}
+use Rattle.cmb_links.specs.Boards.{IsBoard, seats_of}
+use Rattle.cmb_links.specs.Inner.BoardSteps.{Leaves, Publishes, Looks, Raises, Checks, Finishes, Counts}
 use Rattle.cmb_links.specs.declared.view.BoardTerms.{BoardTerms}
 use Rattle.cmb_links.specs.declared.view.View.{View}
 use Rattle.cmb_links.proofs.Joined.{place_of, at_joined, joined-set}

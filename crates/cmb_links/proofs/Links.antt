@@ -7,7 +7,7 @@ use Rattle.crossbeam_queue.specs.Fifo.{Pushes, Pops, Forks, Merges, Learns}
 use Rattle.cmb_wave.specs.Wave.{Piece}
 use Rattle.cmb_design.specs.Design.{Design}
 use Rattle.cmb_design.specs.Exact.{IsExactIn}
-use Rattle.cmb_links.specs.Links.{fresh, putting, taking, closing, spent, open_ends, joined_ends, IsBetween, IsLinked, Sends, Receives, Empties, Leaves}
+use Rattle.cmb_links.specs.Inner.Ends.{fresh, putting, taking, closing, spent, open_ends, joined_ends, IsBetween, IsLinked, Sends, Receives, Empties, Leaves}
 use Rattle.cmb_links.specs.declared.end.End.{End}
 use Rattle.cmb_links.specs.declared.end.Role.{Role}
 use Rattle.cmb_links.specs.declared.end.Role.TheVariants.{Fresh, Puts, Takes, Closes, Spent}

@@ -1,15 +1,15 @@
--- What holds of a board between any two of its atomic steps, and what a step tells the seat that makes it.
-use Rattle.std.specs.Prelude.{◌≡◌, ℕ, ◌+◌, ◌%◌, ◌^◌, ◌<◌, ◌≤◌, Bool, true, List, [], ◌∷◌, ◌⊎◌, map, length, slice_index, slice_index_or, if◌then◌else◌, ◌==◌, All}
+-- What holds of a board between any two of its atomic steps.
+use Rattle.std.specs.Prelude.{◌≡◌, ℕ, ◌+◌, ◌^◌, ◌<◌, ◌≤◌, Bool, true, List, [], ◌⊎◌, map, length, slice_index, slice_index_or, if◌then◌else◌, All}
 use Rattle.std.specs.List.{Contains, count_by, list_any}
 use mathlib.Core.Option.{some}
 use lib.ListN.{get_elem?}
-use Rattle.atomic_table.specs.Table.{State, Me, Step}
+use Rattle.atomic_table.specs.Table.{State}
 use Rattle.cmb_wave.specs.Calls.{word_of}
 use Rattle.cmb_wave.specs.declared.level.Promise.{Promise}
 use Rattle.cmb_design.specs.Design.{Design}
 use Rattle.cmb_design.specs.Exact.{nets_of, IsRightIn}
-use Rattle.cmb_links.specs.Promises.{promise, promise_of_word, newest, NeverFalls}
-use Rattle.cmb_links.specs.Seats.{driver, after_publish, after_look, after_raise, after_check, after_finish, after_count, only, joined}
+use Rattle.cmb_links.specs.Promises.{promise, newest, NeverFalls}
+use Rattle.cmb_links.specs.Seats.{driver, joined}
 use Rattle.cmb_links.specs.declared.view.BoardTerms.{BoardTerms}
 use Rattle.cmb_links.specs.declared.view.Stops.{Stops}
 use Rattle.cmb_links.specs.declared.view.Endings.{Endings}
@@ -96,32 +96,6 @@ seats_of s = record { words = s.words; homes = s.homes; views = joined s.views }
 -- some state of words and views that the board's rule allows has this view at the seat's place, and P holds of it
 abbrev pub Moment : View → (State (Unit {0}) View → Type 0) → Type 0
 Moment v P = (s : State (Unit {0}) View) × IsBoard v.terms s × (get_elem? s.views v.place ≡ some v) × P s
-
--- after its step on a word the seat has the view w, and some state that the rule allows has that view and x in the word
-abbrev pub Leaves : ℕ → ℕ → View → Me (Unit {0}) (List View) → Me (Unit {0}) (List View) → Type 0
-Leaves word x w m m' = (m' ≡ (w ∷ [], m.1)) × Moment w (λ s. slice_index s.words word ≡ x)
-
--- what the table keeps for the seat after its step, by the step, what it kept before and what the step found
-abbrev pub AfterStep : Type 1
-AfterStep = Step (Unit {0}) → Me (Unit {0}) (List View) → ℕ → Me (Unit {0}) (List View) → Type 0
-
-abbrev pub Publishes : AfterStep
-Publishes step m found m' = Leaves step.word step.first (after_publish (only m.0) (promise_of_word step.word step.first)) m m'
-
-abbrev pub Looks : AfterStep
-Looks step m found m' = Leaves step.word found (after_look (only m.0) (promise_of_word step.word found)) m m'
-
-abbrev pub Raises : AfterStep
-Raises step m found m' = Leaves step.word 1 (after_raise (only m.0)) m m'
-
-abbrev pub Checks : AfterStep
-Checks step m found m' = Leaves step.word found (after_check (only m.0) (found == 1)) m m'
-
-abbrev pub Finishes : AfterStep
-Finishes step m found m' = Leaves step.word ((found + 1) % 2 ^ 64) (after_finish (only m.0)) m m'
-
-abbrev pub Counts : AfterStep
-Counts step m found m' = Leaves step.word found (after_count (only m.0) found) m m'
 
 -- ---- the end
 

@@ -5,7 +5,7 @@ use Rattle.atomic_table.specs.Seated.{TableId}
 use Rattle.cmb_wave.specs.declared.level.Promise.{Promise}
 use Rattle.cmb_design.specs.Design.{Design}
 use Rattle.cmb_core.specs.Clustering.{Clustering, cluster_of}
-use Rattle.cmb_links.specs.Links.{no_design}
+use Rattle.cmb_links.specs.Inner.Ends.{no_design}
 use Rattle.cmb_links.specs.Workers.{worker_of}
 use Rattle.cmb_links.specs.declared.view.BoardTerms.{BoardTerms}
 use Rattle.cmb_links.specs.declared.view.Told.{Told}

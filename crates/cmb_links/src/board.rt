@@ -36,7 +36,7 @@ impl TableRule<(), Views, Told> for Law {
 struct Publish;
 
 impl Play<(), Views> for Publish {
-    ghost use Rattle.cmb_links.specs.Boards.{Publishes};
+    ghost use Rattle.cmb_links.specs.Inner.BoardSteps.{Publishes};
 
     ghost then = { Publishes };
 }
@@ -44,7 +44,7 @@ impl Play<(), Views> for Publish {
 struct Look;
 
 impl Play<(), Views> for Look {
-    ghost use Rattle.cmb_links.specs.Boards.{Looks};
+    ghost use Rattle.cmb_links.specs.Inner.BoardSteps.{Looks};
 
     ghost then = { Looks };
 }
@@ -52,7 +52,7 @@ impl Play<(), Views> for Look {
 struct Raise;
 
 impl Play<(), Views> for Raise {
-    ghost use Rattle.cmb_links.specs.Boards.{Raises};
+    ghost use Rattle.cmb_links.specs.Inner.BoardSteps.{Raises};
 
     ghost then = { Raises };
 }
@@ -60,7 +60,7 @@ impl Play<(), Views> for Raise {
 struct Check;
 
 impl Play<(), Views> for Check {
-    ghost use Rattle.cmb_links.specs.Boards.{Checks};
+    ghost use Rattle.cmb_links.specs.Inner.BoardSteps.{Checks};
 
     ghost then = { Checks };
 }
@@ -68,7 +68,7 @@ impl Play<(), Views> for Check {
 struct Finish;
 
 impl Play<(), Views> for Finish {
-    ghost use Rattle.cmb_links.specs.Boards.{Finishes};
+    ghost use Rattle.cmb_links.specs.Inner.BoardSteps.{Finishes};
 
     ghost then = { Finishes };
 }
@@ -76,7 +76,7 @@ impl Play<(), Views> for Finish {
 struct Count;
 
 impl Play<(), Views> for Count {
-    ghost use Rattle.cmb_links.specs.Boards.{Counts};
+    ghost use Rattle.cmb_links.specs.Inner.BoardSteps.{Counts};
 
     ghost then = { Counts };
 }

@@ -34,7 +34,7 @@ pub trait Naming {
 }
 
 impl Naming for Brand {
-    ghost use Rattle.cmb_links.specs.Links.{no_design};
+    ghost use Rattle.cmb_links.specs.Inner.Ends.{no_design};
 
     ghost design = { no_design };
 
@@ -44,7 +44,7 @@ impl Naming for Brand {
 pub struct InOrder;
 
 impl Protocol<Piece, End> for InOrder {
-    ghost use Rattle.cmb_links.specs.Links.{IsLinked, fresh};
+    ghost use Rattle.cmb_links.specs.Inner.Ends.{IsLinked, fresh};
 
     ghost holds = { IsLinked };
 
@@ -58,7 +58,7 @@ pub struct Ends<D> {
 
 impl<D: Naming> Split<End> for Ends<D> {
     ghost use Rattle.std.specs.Prelude.{[]};
-    ghost use Rattle.cmb_links.specs.Links.{putting, taking};
+    ghost use Rattle.cmb_links.specs.Inner.Ends.{putting, taking};
 
     ghost left = { λ v. putting D.design D.capacity [] };
 
@@ -69,7 +69,7 @@ impl<D: Naming> Split<End> for Ends<D> {
 pub struct Closing;
 
 impl Join<End> for Closing {
-    ghost use Rattle.cmb_links.specs.Links.{closing, spent};
+    ghost use Rattle.cmb_links.specs.Inner.Ends.{closing, spent};
 
     ghost both = { λ v w. closing v.design v.capacity v.sent w.received };
 
@@ -79,7 +79,7 @@ impl Join<End> for Closing {
 pub struct Sent;
 
 impl Outcome<Piece, End> for Sent {
-    ghost use Rattle.cmb_links.specs.Links.{Sends};
+    ghost use Rattle.cmb_links.specs.Inner.Ends.{Sends};
 
     ghost then = { Sends };
 }
@@ -93,7 +93,7 @@ impl Lesson<Piece, End> for Sent {
 pub struct Received;
 
 impl Outcome<Piece, End> for Received {
-    ghost use Rattle.cmb_links.specs.Links.{Receives};
+    ghost use Rattle.cmb_links.specs.Inner.Ends.{Receives};
 
     ghost then = { Receives };
 }
@@ -107,13 +107,13 @@ impl Lesson<Piece, End> for Received {
 pub struct Left;
 
 impl Outcome<Piece, End> for Left {
-    ghost use Rattle.cmb_links.specs.Links.{Empties};
+    ghost use Rattle.cmb_links.specs.Inner.Ends.{Empties};
 
     ghost then = { Empties };
 }
 
 impl Lesson<Piece, End> for Left {
-    ghost use Rattle.cmb_links.specs.Links.{Leaves};
+    ghost use Rattle.cmb_links.specs.Inner.Ends.{Leaves};
 
     ghost fact = { Leaves };
 }

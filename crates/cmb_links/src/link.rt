@@ -50,7 +50,8 @@ pub struct PutPass {
 impl Model for PutPass {
     ghost use Rattle.std.specs.Prelude.{◌≡◌, [], All};
     ghost use Rattle.cmb_design.specs.Exact.{IsExactIn};
-    ghost use Rattle.cmb_links.specs.Links.{PutData, putting};
+    ghost use Rattle.cmb_links.specs.Links.{PutData};
+    ghost use Rattle.cmb_links.specs.Inner.Ends.{putting};
 
     ghost Value = { PutData };
 
@@ -77,7 +78,8 @@ pub struct TakePass {
 impl Model for TakePass {
     ghost use Rattle.std.specs.Prelude.{◌≡◌, [], All};
     ghost use Rattle.cmb_design.specs.Exact.{IsExactIn};
-    ghost use Rattle.cmb_links.specs.Links.{TakeData, taking};
+    ghost use Rattle.cmb_links.specs.Links.{TakeData};
+    ghost use Rattle.cmb_links.specs.Inner.Ends.{taking};
 
     ghost Value = { TakeData };
 

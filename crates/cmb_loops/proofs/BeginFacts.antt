@@ -9,7 +9,7 @@ use Rattle.cmb_bench.specs.Netlist.{Netlist, IsNetlist, IsWired, driver_of}
 use Rattle.cmb_bench.specs.declared.netlist.Driver.{Driver}
 use Rattle.cmb_bench.specs.declared.netlist.Driver.TheVariants.{Input, Gate, Flop}
 use Rattle.cmb_loops.specs.Loops.{targets, targets_of}
-use Rattle.cmb_loops.specs.Search.{IsBegun, IsSearch, IsUnderWay, is_new}
+use Rattle.cmb_loops.specs.Inner.Search.{IsBegun, IsSearch, IsUnderWay, is_new}
 use Rattle.cmb_loops.specs.declared.steps.Steps.{Steps}
 use Rattle.cmb_loops.specs.declared.steps.Steps.TheVariants as kind
 use Rattle.cmb_loops.specs.declared.search.Search.{Search}

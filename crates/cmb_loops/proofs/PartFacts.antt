@@ -5,7 +5,7 @@ use Rattle.std.proofs.lemmas.Bool.{cases_eq, cases_lt}
 use Rattle.std.proofs.lemmas.List.{get_or-drop, get_or-take, get_or_default, length-drop, length-take}
 use Rattle.std.proofs.lemmas.List.Elements.{All-contains, All-weaker, Contains-append_left, Contains-get_or, Contains-push, Contains-push_cases}
 use Rattle.cmb_loops.specs.Loops.{Reaches, Walk, one, more}
-use Rattle.cmb_loops.specs.Search.{AreSet, IsFollowed, IsLeft, IsLooped, IsOnePart, IsSearch, seen_of}
+use Rattle.cmb_loops.specs.Inner.Search.{AreSet, IsFollowed, IsLeft, IsLooped, IsOnePart, IsSearch, seen_of}
 use Rattle.cmb_loops.specs.declared.search.Frame.{Frame}
 use Rattle.cmb_loops.specs.declared.search.Seen.{Seen}
 use Rattle.cmb_loops.specs.declared.search.Seen.TheVariants.{New, On, Done}

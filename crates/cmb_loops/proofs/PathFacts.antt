@@ -6,7 +6,7 @@ use Rattle.std.proofs.lemmas.List.{get_or_default, get_or_past, get_or_read, len
 use Rattle.std.proofs.lemmas.List.Elements.{All-contains, Contains-get_or}
 use Rattle.cmb_bench.specs.Netlist.{Netlist}
 use Rattle.cmb_loops.specs.Loops.{AreLoops, Reaches, Walk, one, targets}
-use Rattle.cmb_loops.specs.Search.{AreSet, IsEntered, IsLooped, IsScanned, IsSearch, IsStill, IsUnderWay, is_new, seen_of, targets_at}
+use Rattle.cmb_loops.specs.Inner.Search.{AreSet, IsEntered, IsLooped, IsScanned, IsSearch, IsStill, IsUnderWay, is_new, seen_of, targets_at}
 use Rattle.cmb_loops.specs.declared.search.Frame.{Frame}
 use Rattle.cmb_loops.specs.declared.search.Search.{Search}
 use Rattle.cmb_loops.specs.declared.search.Seen.{Seen}

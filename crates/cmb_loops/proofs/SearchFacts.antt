@@ -6,7 +6,7 @@ use Rattle.std.proofs.lemmas.List.{get_or_append_left, get_or_push, get_or-set_s
 use Rattle.std.proofs.lemmas.List.Elements.{All-push, All-weaker, All-contains, Contains-append_left, Contains-get_or, Contains-push, Contains-push_cases, Contains-append_cases}
 use Rattle.std.proofs.lemmas.List.Quantifiers.{all_pairs_push}
 use Rattle.cmb_loops.specs.Loops.{Reaches}
-use Rattle.cmb_loops.specs.Search.{IsFollowed, IsLeft, IsOnePart, IsSearch, seen_of}
+use Rattle.cmb_loops.specs.Inner.Search.{IsFollowed, IsLeft, IsOnePart, IsSearch, seen_of}
 use Rattle.cmb_loops.specs.declared.search.Frame.{Frame}
 use Rattle.cmb_loops.specs.declared.search.Seen.{Seen}
 use Rattle.cmb_loops.specs.declared.search.Seen.TheVariants.{New, On, Done}

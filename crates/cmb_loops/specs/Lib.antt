@@ -1,2 +1,4 @@
+-- what the public contracts rest on
 pub mod Loops
-pub mod Search
+-- what the functions inside the crate promise each other
+pub mod Inner

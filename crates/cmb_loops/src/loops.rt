@@ -2,7 +2,7 @@
 
 ghost use Rattle.std.specs.Prelude.{IfOk};
 ghost use Rattle.cmb_loops.specs.Loops.{AreLoops, AreStrongComponents};
-ghost use Rattle.cmb_loops.specs.Search.{IsBegun};
+ghost use Rattle.cmb_loops.specs.Inner.Search.{IsBegun};
 
 use crate::path::search_all;
 use crate::search::{Search, Seen};

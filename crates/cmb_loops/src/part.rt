@@ -3,7 +3,7 @@
 ghost use Rattle.std.specs.Prelude.{◌≡◌, ◌≢◌, ◌++◌, ◌-◌, ℕ, ◌<◌, ◌≤◌, List, true, false, length, slice_index};
 ghost use Rattle.std.specs.Prelude.{All, AllPairs};
 ghost use Rattle.cmb_loops.specs.Loops.{targets};
-ghost use Rattle.cmb_loops.specs.Search.{AreSet, HasEdge, IsLooped};
+ghost use Rattle.cmb_loops.specs.Inner.Search.{AreSet, HasEdge, IsLooped};
 
 use crate::steps::{Steps, targets_from};
 use cmb_bench::Netlist;

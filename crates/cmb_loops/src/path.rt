@@ -3,7 +3,7 @@
 ghost use Rattle.std.specs.Prelude.{◌≡◌, ◌++◌, ◌∷◌, [], ◌+◌, ◌-◌, ◌<◌, ◌≤◌, ◌≢◌, length, slice_index, count_by};
 ghost use Rattle.std.specs.Prelude.{OnOk};
 ghost use Rattle.cmb_loops.specs.Loops.{AreLoops, AreStrongComponents};
-ghost use Rattle.cmb_loops.specs.Search.{IsEntered, IsScanned, IsStill, IsUnderWay, is_new, seen_of};
+ghost use Rattle.cmb_loops.specs.Inner.Search.{IsEntered, IsScanned, IsStill, IsUnderWay, is_new, seen_of};
 ghost use Rattle.cmb_loops.specs.declared.search.Seen.TheVariants.{New};
 
 use crate::part::{ends_at, mark_loops, merge, set_all};

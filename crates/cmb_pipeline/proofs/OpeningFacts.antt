@@ -7,7 +7,7 @@ use Rattle.cmb_cut.specs.Sharings.{IsSharing}
 use Rattle.cmb_cut.specs.declared.sharing.Sharing.{Sharing}
 use Rattle.cmb_design.specs.Design.{Design}
 use Rattle.cmb_batch.specs.Makers.{Maker}
-use Rattle.cmb_pipeline.specs.Opened.{IsOf}
+use Rattle.cmb_pipeline.specs.Inner.Opened.{IsOf}
 use Rattle.cmb_batch.specs.Shares.{DesignShare}
 use Rattle.cmb_batch.specs.Sharings.{AreSharesOf}
 use Rattle.cmb_batch.specs.declared.makers.Makers.{Makers}

@@ -1,2 +1,2 @@
-pub mod Flows
-pub mod Opened
+-- what the functions inside the crate promise each other
+pub mod Inner

@@ -29,7 +29,7 @@ pub(crate) struct Flow<'a, T: Terms, R> {
 
 impl<'a, T: Terms, R> Model for Flow<'a, T, R> {
     ghost use Rattle.cmb_stream.specs.Parts.{Made};
-    ghost use Rattle.cmb_pipeline.specs.Flows.{IsFlow};
+    ghost use Rattle.cmb_pipeline.specs.Inner.Flows.{IsFlow};
 
     ghost Value = { Made };
 

@@ -1,7 +1,7 @@
 //! How a run begins: rings, a thread for each share, and the calling thread's ends of the rings.
 
 ghost use Rattle.std.specs.Prelude.{◌≡◌, ◌^◌, ◌<◌, length, All};
-ghost use Rattle.cmb_pipeline.specs.Opened.{IsMakerOf, IsOf};
+ghost use Rattle.cmb_pipeline.specs.Inner.Opened.{IsMakerOf, IsOf};
 
 use crate::parcel::Inlet;
 use crate::source::Source;

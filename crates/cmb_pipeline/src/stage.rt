@@ -1,7 +1,7 @@
 //! A thread's part of a run: it makes a share's windows of each batch that comes by.
 
 ghost use Rattle.std.specs.Prelude.{IfSome};
-ghost use Rattle.cmb_pipeline.specs.Opened.{IsMakerOf};
+ghost use Rattle.cmb_pipeline.specs.Inner.Opened.{IsMakerOf};
 
 use crate::parcel::{Inlet, Outlet, Parcel};
 use crate::terms::Terms;

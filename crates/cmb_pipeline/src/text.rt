@@ -3,7 +3,7 @@
 ghost use Rattle.std.specs.Prelude.{◌≡◌, ℕ, ◌-◌, ◌^◌, ◌<◌, IfOk};
 ghost use Rattle.cmb_cut.specs.Sharings.{IsSharing};
 ghost use Rattle.cmb_design.specs.Exact.{nets_of};
-ghost use Rattle.cmb_pipeline.specs.Opened.{IsOf};
+ghost use Rattle.cmb_pipeline.specs.Inner.Opened.{IsOf};
 ghost use Rattle.cmb_stream.specs.Parts.{IsAtEndOf};
 ghost use Rattle.cmb_stream.specs.Streams.{IsWrittenTo};
 ghost use Rattle.cmb_vcd.specs.Vcd.{vcd};

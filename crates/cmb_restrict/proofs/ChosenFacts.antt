@@ -11,8 +11,8 @@ use Rattle.std.proofs.lemmas.List.Folds.{list_any_at}
 use Rattle.std.proofs.lemmas.List.Kept.{IsStrictlyIncreasing-filter}
 use Rattle.cmb_design.proofs.RowFacts.{same_test}
 use Rattle.cmb_restrict.specs.Chosen.{each_once}
-use Rattle.cmb_restrict.specs.Found.{Gains, IsFound}
-use Rattle.cmb_restrict.specs.Places.{ArePlaces}
+use Rattle.cmb_restrict.specs.Inner.Found.{Gains, IsFound}
+use Rattle.cmb_restrict.specs.Inner.Places.{ArePlaces}
 use Rattle.cmb_restrict.specs.Restriction.{is_among}
 use Rattle.cmb_restrict.specs.declared.closed.Found.{Found}
 use Rattle.cmb_restrict.proofs.FoundFacts.{range_below, range_rises}

@@ -14,7 +14,7 @@ use Rattle.cmb_bench.specs.declared.netlist.Driver.TheVariants.{Input, Gate, Flo
 use Rattle.cmb_bench.specs.Netlist.{Netlist, IsNetlist, IsWired, driver_of, pins_of}
 use Rattle.cmb_restrict.proofs.ValueFacts.{wired_at}
 use Rattle.cmb_restrict.specs.Closed.{IsClosed, IsClosure, asked_by}
-use Rattle.cmb_restrict.specs.Found.{IsFound, Gains, Follows}
+use Rattle.cmb_restrict.specs.Inner.Found.{IsFound, Gains, Follows}
 use Rattle.cmb_restrict.specs.declared.closed.Found.{Found}
 
 -- ---- marks

@@ -16,7 +16,7 @@ use Rattle.cmb_bench.specs.declared.netlist.Driver.TheVariants.{Input, Gate, Flo
 use Rattle.cmb_bench.specs.Netlist.{Netlist, IsNetlist, IsWired, MayTake, driver_of, name_of, pins_of}
 use Rattle.cmb_design.proofs.RowFacts.{same_test}
 use Rattle.cmb_restrict.specs.Closed.{IsClosed, asked_by}
-use Rattle.cmb_restrict.specs.Places.{ArePlaces}
+use Rattle.cmb_restrict.specs.Inner.Places.{ArePlaces}
 use Rattle.cmb_restrict.specs.Restriction.{IsPart, is_among, with_nets}
 
 -- ---- rising numbers

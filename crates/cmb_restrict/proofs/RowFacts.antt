@@ -12,7 +12,7 @@ use Rattle.cmb_bench.proofs.Names.{number_name, number-name_of}
 use Rattle.cmb_design.specs.Design.{Design}
 use Rattle.cmb_design.specs.Nets.{driver_cell, is_at}
 use Rattle.cmb_design.specs.Part.{has_net, has_delayed, design_on}
-use Rattle.cmb_design.specs.Tables.{clock_of_row}
+use Rattle.cmb_design.specs.Timing.{clock_of_row}
 use Rattle.cmb_design.specs.Timing.{is_of_pin, is_of_net, is_of_kind, delay_in, delay_by, level_by, row_level, common_clock, clock_of}
 use Rattle.cmb_design.specs.declared.rows.Delayed.{Delayed}
 use Rattle.cmb_design.specs.declared.rows.Delayed.TheVariants.{Pin, Net, Kind as ByKind}

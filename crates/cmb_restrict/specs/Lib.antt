@@ -1,5 +1,6 @@
+-- what the public contracts rest on
 pub mod Closed
 pub mod Restriction
 pub mod Chosen
-pub mod Found
-pub mod Places
+-- what the functions inside the crate promise each other
+pub mod Inner

@@ -7,7 +7,7 @@ ghost use Rattle.std.specs.List.Sorted.{IsStrictlyIncreasing};
 ghost use Rattle.cmb_bench.specs.Netlist.{IsNetlist};
 ghost use Rattle.cmb_restrict.specs.Chosen.{each_once};
 ghost use Rattle.cmb_restrict.specs.Closed.{IsClosure, asked_by};
-ghost use Rattle.cmb_restrict.specs.Found.{IsFound, Gains, Follows};
+ghost use Rattle.cmb_restrict.specs.Inner.Found.{IsFound, Gains, Follows};
 
 use cmb_bench::{Driver, MAX_NETS, Netlist};
 use std::alloc::{AllocError, Global};
@@ -30,7 +30,7 @@ fn nothing(alloc: Global, count: usize) -> Result<Found, AllocError>
 }
 
 impl Found {
-    ghost use Rattle.cmb_restrict.specs.Found.{IsFound, Gains};
+    ghost use Rattle.cmb_restrict.specs.Inner.Found.{IsFound, Gains};
 
     /// Adds those nets of a list that aren't there.
     fn add_all(&mut self, nets: &[u32]) -> Result<(), AllocError>

@@ -24,7 +24,7 @@ use Rattle.cmb_core.proofs.NetByNet.{still_of}
 use Rattle.cmb_vcd.specs.Collector.{Collector, IsComplete, IsExactFor, wave_of}
 use Rattle.cmb_run.specs.Passed.{IsPassed}
 use Rattle.cmb_run.proofs.RunClocks.{least_clock-whole}
-use Rattle.cmb_rounds.specs.Rounds.{Hand, hand_at, known_to, known_at_home, AreHandsOf, AreKnownTo, AreComplete, IsExchanged, IsPassedOn, IsServed, HasWorked}
+use Rattle.cmb_rounds.specs.Inner.Rounds.{Hand, hand_at, known_to, known_at_home, AreHandsOf, AreKnownTo, AreComplete, IsExchanged, IsPassedOn, IsServed, HasWorked}
 use Rattle.cmb_core.proofs.NetReads.{cluster-there, has_input-not_own}
 
 -- ---- none met want of memory

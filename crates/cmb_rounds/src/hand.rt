@@ -11,7 +11,7 @@ ghost use Rattle.cmb_core.specs.Step.{wave_at};
 ghost use Rattle.cmb_vcd.specs.Collector.{wave_of};
 ghost use Rattle.cmb_run.specs.Passed.{IsPassed};
 ghost use Rattle.cmb_run.specs.RunTerms.{AreTerms};
-ghost use Rattle.cmb_rounds.specs.Rounds.{HasWorked};
+ghost use Rattle.cmb_rounds.specs.Inner.Rounds.{HasWorked};
 
 use crate::collected::Collected;
 use crate::gauge::Gauge;
@@ -31,7 +31,7 @@ pub struct Hand<T: Terms> {
 }
 
 impl<T: Terms> Model for Hand<T> {
-    ghost use Rattle.cmb_rounds.specs.Rounds.{Hand};
+    ghost use Rattle.cmb_rounds.specs.Inner.Rounds.{Hand};
 
     ghost Value = { Hand };
 

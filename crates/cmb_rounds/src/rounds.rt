@@ -7,8 +7,9 @@ ghost use Rattle.cmb_design.specs.Exact.{nets_of};
 ghost use Rattle.cmb_core.specs.Clustering.{cluster_of, has_input};
 ghost use Rattle.cmb_core.specs.Onward.{GoesOn};
 ghost use Rattle.cmb_vcd.specs.Collector.{IsComplete, IsExactFor, wave_of};
-ghost use Rattle.cmb_rounds.specs.Rounds.{AreComplete, AreHandsOf, AreKnownTo, HasWorked, IsExchanged, IsPassedOn};
-ghost use Rattle.cmb_rounds.specs.Rounds.{IsServed, hand_at, known_at_home};
+ghost use Rattle.cmb_rounds.specs.Inner.Rounds.{AreComplete, AreHandsOf, AreKnownTo};
+ghost use Rattle.cmb_rounds.specs.Inner.Rounds.{HasWorked, IsExchanged, IsPassedOn};
+ghost use Rattle.cmb_rounds.specs.Inner.Rounds.{IsServed, hand_at, known_at_home};
 ghost use Rattle.cmb_run.specs.RunTerms.{AreTerms};
 ghost use Rattle.cmb_run.specs.declared.run_fault.RunFault.TheVariants.{Memory};
 

@@ -14,7 +14,7 @@ pub trait Terms {
 
 impl Terms for Brand {
     ghost use Rattle.cmb_vcd.specs.Examples.{nothing};
-    ghost use Rattle.cmb_run.specs.Runs.{no_clustering};
+    ghost use Rattle.cmb_run.specs.Inner.Runs.{no_clustering};
 
     ghost design = { nothing };
 

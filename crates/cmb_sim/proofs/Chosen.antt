@@ -19,7 +19,8 @@ use Rattle.cmb_inputs.specs.Spelling.{HaveTextFault, SpellAny}
 use Rattle.cmb_inputs.specs.declared.texts.InputTexts.{InputTexts}
 use Rattle.cmb_sim.proofs.Outcomes.{IsAnswerOf-unspelled, IsOutcome-read, IsOutcome-unread, untouched}
 use Rattle.cmb_sim.proofs.RoundRuns.{no_checks}
-use Rattle.cmb_sim.specs.Choosing.{AreAllTexts, Choose, IsAnswerTo, IsChosenAnswer, IsChosenAnswerOf, IsChosenOutcome}
+use Rattle.cmb_sim.specs.Choosing.{AreAllTexts, Choose, IsChosenAnswer, IsChosenOutcome}
+use Rattle.cmb_sim.specs.Inner.Writing.{IsAnswerTo, IsChosenAnswerOf}
 use Rattle.cmb_sim.specs.Simulation.{mode_checks}
 use Rattle.cmb_sim.specs.Stages.{CanRun, IsUnrun}
 use Rattle.cmb_inout.specs.declared.fault.Fault.{Fault}

@@ -7,7 +7,8 @@ use Rattle.cmb_run.specs.declared.run_fault.RunFault.TheVariants.{Incomplete, Wr
 use Rattle.cmb_line.specs.declared.mode.Mode.TheVariants.{Free}
 use Rattle.cmb_inout.specs.Numbers.{run_as_fault}
 use Rattle.cmb_inputs.specs.Outputs.{output}
-use Rattle.cmb_sim.specs.Stages.{CanRun, IsUnwritten}
+use Rattle.cmb_sim.specs.Stages.{CanRun}
+use Rattle.cmb_sim.specs.Inner.Writing.{IsUnwritten}
 
 pub IsUnwritten-cut : (workers clusters : ℕ) (design : Design) (old new : Option (List ℕ)) (before after : ℕ) (f : RunFault)
     → CanRun (Free workers clusters) design → IsCutAt design old new before after f → IsUnwritten (Free workers clusters) design (output old new before after) (run_as_fault f)

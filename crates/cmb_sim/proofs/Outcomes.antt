@@ -14,7 +14,8 @@ use Rattle.cmb_inputs.specs.Outputs.{IsUntouched, Output, output}
 use Rattle.cmb_inputs.specs.Spelling.{FoundDesign, HaveTextFault, SpellAny, design_in, text_checks}
 use Rattle.cmb_inputs.specs.declared.texts.InputTexts.{InputTexts}
 use Rattle.cmb_sim.specs.Simulation.{HaveDesign, IsAnswer, IsOutcome, SpellDesign, mode_checks, report_of}
-use Rattle.cmb_sim.specs.Stages.{CanRun, IsAnswerOf, IsUnrun, IsUnwritten, IsWriting}
+use Rattle.cmb_sim.specs.Stages.{CanRun, IsUnrun}
+use Rattle.cmb_sim.specs.Inner.Writing.{IsAnswerOf, IsUnwritten, IsWriting}
 use Rattle.cmb_inout.specs.declared.fault.Fault.{Fault}
 use Rattle.cmb_inout.specs.declared.fault.Fault.TheVariants as fault
 use Rattle.cmb_inout.specs.declared.answer.Report.{Report}

@@ -2,7 +2,7 @@
 use Rattle.std.proofs.Common.{Err}
 use Rattle.cmb_design.specs.Design.{Design}
 use Rattle.cmb_inputs.specs.Outputs.{Output}
-use Rattle.cmb_sim.specs.Stages.{IsUnwritten, IsWriting}
+use Rattle.cmb_sim.specs.Inner.Writing.{IsUnwritten, IsWriting}
 use Rattle.cmb_line.specs.declared.mode.Mode.{Mode}
 use Rattle.cmb_inout.specs.declared.fault.Fault.{Fault}
 

@@ -14,7 +14,7 @@ use Rattle.cmb_inputs.specs.Inputs.{AreTexts, HasFailed, HasNotFailed, HasTooMan
 use Rattle.cmb_inputs.specs.Outputs.{HasTaken, IsCutAfter, IsUntouched, Output}
 use Rattle.cmb_inputs.specs.Spelling.{HaveTextFault, SpellAny}
 use Rattle.cmb_sim.specs.Simulation.{IsOutcome}
-use Rattle.cmb_sim.specs.Stages.{CanRun, IsAnswerOf, IsUnrun}
+use Rattle.cmb_sim.specs.Stages.{CanRun, IsUnrun}
 use Rattle.cmb_inout.specs.declared.fault.Fault.{Fault}
 use Rattle.cmb_inout.specs.declared.fault.Fault.TheVariants as fault
 use Rattle.cmb_inout.specs.declared.answer.Report.{Report}
@@ -67,21 +67,6 @@ IsChosenAnswer settings mode pick i list o (Err fault.Clusters) = HaveFaultOfMod
 IsChosenAnswer settings mode pick i list o (Err fault.Workers) = HaveFaultOfMode settings mode pick i list fault.Workers × IsUntouched o
 IsChosenAnswer settings mode pick i list o (Err fault.Memory) = IsUntouched o
 IsChosenAnswer settings mode pick i list o (Err (fault.Incomplete net upto)) = ⊥
-
--- what a simulation of texts answers, whichever inputs have them
-abbrev pub IsChosenAnswerOf : Settings → Mode → Pick → Texts → List ℕ → Output → Result Report Fault → Type 0
-IsChosenAnswerOf settings mode pick texts names o answer =
-    (i : Inputs) (list : Input) → AreAllTexts pick i list texts names → IsChosenAnswer settings mode pick i list o answer
-
--- the same, of all nets or of chosen ones
-abbrev pub IsAnswerTo : Settings → Mode → Choice → Texts → List ℕ → Output → Result Report Fault → Type 0
-IsAnswerTo settings mode All texts names o answer = IsAnswerOf settings mode texts o answer
-IsAnswerTo settings mode (Only pick) texts names o answer = IsChosenAnswerOf settings mode pick texts names o answer
-
--- what comes of a design, whichever texts spell it
-abbrev pub IsAnswerFor : Mode → Choice → Design → List ℕ → Output → Result Report Fault → Type 0
-IsAnswerFor mode choice design names o answer =
-    (texts : Texts) (settings : Settings) → SpellAny texts settings design → IsAnswerTo settings mode choice texts names o answer
 
 -- no read failed, but of the input with this number, the list being input 5
 abbrev pub NoneOfFiveFailedBut : ℕ → Inputs → Input → Type 0

@@ -4,7 +4,8 @@ ghost use Rattle.std.specs.Prelude.{◌-◌, ◌^◌, ◌<◌, ◌≤◌, length
 ghost use Rattle.cmb_inout.specs.Sources.{input_limit};
 ghost use Rattle.cmb_inputs.specs.Inputs.{CanBeInputs, HaveRoom, inputs_of, read_from, texts_in};
 ghost use Rattle.cmb_inputs.specs.Outputs.{written_to};
-ghost use Rattle.cmb_sim.specs.Choosing.{IsAnswerFor, IsAnswerTo, IsChosenOutcome};
+ghost use Rattle.cmb_sim.specs.Choosing.{IsChosenOutcome};
+ghost use Rattle.cmb_sim.specs.Inner.Writing.{IsAnswerFor, IsAnswerTo};
 
 use crate::modes::check_mode;
 use crate::running::write_report;

@@ -6,7 +6,8 @@ ghost use Rattle.cmb_design.specs.Plain.{whole_waves};
 ghost use Rattle.cmb_inputs.specs.Outputs.{written_to};
 ghost use Rattle.cmb_line.specs.Modes.{IsLawfulCount};
 ghost use Rattle.cmb_sim.specs.Simulation.{report_of};
-ghost use Rattle.cmb_sim.specs.Stages.{CanRun, IsWriting, IsWritten};
+ghost use Rattle.cmb_sim.specs.Stages.{CanRun};
+ghost use Rattle.cmb_sim.specs.Inner.Writing.{IsWriting, IsWritten};
 ghost use Rattle.cmb_vcd.specs.Vcd.{vcd};
 
 use crate::modes::{check_mode, threads_in};

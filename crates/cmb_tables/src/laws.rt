@@ -9,7 +9,7 @@ ghost use Rattle.cmb_design.specs.declared.rows.DelayRow.{DelayRow};
 ghost use Rattle.cmb_design.specs.Checks.{first_fault};
 ghost use Rattle.cmb_design.specs.Nets.{driver_cell};
 ghost use Rattle.cmb_design.specs.Settings.{is_bad_clock};
-ghost use Rattle.cmb_design.specs.Tables.{clock_of_row};
+ghost use Rattle.cmb_design.specs.Timing.{clock_of_row};
 ghost use Rattle.cmb_design.specs.Timing.{delay_by, delay_in, is_of_pin, is_of_net, is_of_kind, common_clock};
 ghost use Rattle.cmb_tables.specs.Readers.{clock_header, clock_record_checks, clock_row_of, delay_header};
 ghost use Rattle.cmb_tables.specs.Readers.{delay_record_checks, delay_row_of, table_checks, table_rows};

@@ -4,7 +4,7 @@ use Rattle.std.proofs.lemmas.Bool.{cases_eq}
 use Rattle.std.proofs.lemmas.List.{get_or-take, get_or_append_left, get_or_push, length-take-le, length_push}
 use Rattle.cmb_design.specs.Design.{Design}
 use Rattle.cmb_words.specs.declared.changed.Changed.{Changed}
-use Rattle.cmb_team.specs.Batches.{AreOf, Batch, AreIn, clock_at}
+use Rattle.cmb_team.specs.Inner.Batches.{AreOf, Batch, AreIn, clock_at}
 
 -- the last of them, once there is one more
 pub last-push : (clocks : List ℕ) (next : ℕ) → get_or (clocks ++ next ∷ []) (length (clocks ++ next ∷ []) - 1) 0 ≡ next

@@ -1,1 +1,2 @@
-pub mod Batches
+-- what the functions inside the crate promise each other
+pub mod Inner

@@ -1,7 +1,7 @@
 //! Windows of a run that follow one another.
 
 ghost use Rattle.std.specs.Prelude.{◌≡◌, ℕ, suc, ◌+◌, ◌-◌, ◌<◌, ◌≤◌, [], length, IfOk, OnOk};
-ghost use Rattle.cmb_team.specs.Batches.{AreIn, clock_at, last_clock};
+ghost use Rattle.cmb_team.specs.Inner.Batches.{AreIn, clock_at, last_clock};
 
 use cmb_design::Design;
 use cmb_engine::Engine;
@@ -32,7 +32,7 @@ pub struct Batch<'a> {
 }
 
 impl<'a> Model for Batch<'a> {
-    ghost use Rattle.cmb_team.specs.Batches.{AreOf, Batch};
+    ghost use Rattle.cmb_team.specs.Inner.Batches.{AreOf, Batch};
 
     ghost Value = { Batch };
 

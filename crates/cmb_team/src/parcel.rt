@@ -1,7 +1,7 @@
 //! What goes from thread to thread: a batch, and its text.
 
 ghost use Rattle.std.specs.Prelude.{◌≡◌};
-ghost use Rattle.cmb_team.specs.Batches.{IsTold};
+ghost use Rattle.cmb_team.specs.Inner.Batches.{IsTold};
 
 use crate::batch::Batch;
 use crate::terms::Terms;

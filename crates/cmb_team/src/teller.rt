@@ -2,7 +2,7 @@
 
 ghost use Rattle.std.specs.Prelude.{◌≡◌, suc, ◌+◌, ◌<◌, ◌≤◌, ◌++◌, length, OnOk};
 ghost use Rattle.cmb_stream.specs.Parts.{made_text};
-ghost use Rattle.cmb_team.specs.Batches.{IsTold, clock_at, last_clock};
+ghost use Rattle.cmb_team.specs.Inner.Batches.{IsTold, clock_at, last_clock};
 
 use crate::batch::Batch;
 use crate::parcel::{Inlet, Told};

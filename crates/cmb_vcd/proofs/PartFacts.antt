@@ -14,7 +14,7 @@ use Rattle.cmb_design.specs.Design.{Design}
 use Rattle.cmb_design.specs.Exact.{nets_of}
 use Rattle.cmb_design.specs.Value.{value}
 use Rattle.cmb_vcd.specs.Collector.{Collector, IsExactFor, IsExactFrom, collected_level, least, wave_of}
-use Rattle.cmb_vcd.specs.ValueChanges.{end_line, ticks_between}
+use Rattle.cmb_vcd.specs.Between.{end_line, ticks_between}
 use Rattle.cmb_vcd.specs.Writer.{IsNotBefore, begun_by, done_text}
 use Rattle.cmb_vcd.specs.Vcd.{header, part_text, tick_line, tick_text, ticks_text}
 use Rattle.cmb_vcd.proofs.SpanFacts.{same_flat_map, ticks_text-from}

@@ -10,7 +10,7 @@ use Rattle.cmb_wave.specs.declared.level.Change.{Change}
 use Rattle.cmb_wave.specs.Waveform.{IsTrace, Rises, below, at_or_after, changes_below, level_at, same_level}
 use Rattle.cmb_wave.proofs.Lists.{below_length, drop_below, take_below, same_level_refl, test_of_differs}
 use Rattle.cmb_vcd.specs.declared.value_changes.ValueChange.{ValueChange}
-use Rattle.cmb_vcd.specs.ValueChanges.{value_changes_of, is_at, within}
+use Rattle.cmb_vcd.specs.Inner.ValueChanges.{value_changes_of, is_at, within}
 use Rattle.cmb_vcd.specs.Vcd.{level_line}
 
 pub rises_take : (low count : ℕ) (cs : List Change) → Rises low cs → Rises low (take count cs)

@@ -1,11 +1,13 @@
+-- what the public contracts rest on
 pub mod Beginnings
 pub mod Chosen
 pub mod Collector
 pub mod Ends
-pub mod ValueChanges
 pub mod Examples
 pub mod Faults
 pub mod ReadyCodes
-pub mod Ticks
 pub mod Vcd
 pub mod Writer
+pub mod Between
+-- what the functions inside the crate promise each other
+pub mod Inner

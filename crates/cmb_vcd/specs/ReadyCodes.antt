@@ -1,4 +1,4 @@
--- Identifier codes that are made once. Only contracts inside the crate cite this.
+-- Identifier codes that are made once.
 use Rattle.std.specs.Prelude.{◌≡◌, ℕ, ◌<◌, List, [], ◌∷◌, length, slice_index_or}
 use Rattle.cmb_vcd.specs.declared.ready_codes.Code.{Code}
 use Rattle.cmb_vcd.specs.declared.ready_codes.Code.TheVariants.{One, Two, Three}

@@ -4,8 +4,9 @@ ghost use Rattle.std.specs.Prelude.{◌≡◌, ◌++◌, ◌<◌, ◌≤◌, ℕ
 ghost use Rattle.std.specs.List.{All};
 ghost use Rattle.cmb_wave.specs.Waveform.{level_at};
 ghost use Rattle.cmb_vcd.specs.Collector.{IsComplete, IsExactFor, IsFor, collected_level};
-ghost use Rattle.cmb_vcd.specs.ValueChanges.{end_line, value_changes_in, ticks_told};
-ghost use Rattle.cmb_vcd.specs.Ticks.{IsWithin, span_lines};
+ghost use Rattle.cmb_vcd.specs.Inner.ValueChanges.{value_changes_in, ticks_told};
+ghost use Rattle.cmb_vcd.specs.Between.{end_line};
+ghost use Rattle.cmb_vcd.specs.Inner.Ticks.{IsWithin, span_lines};
 ghost use Rattle.cmb_vcd.specs.Vcd.{level_lines, text_of, tick_text, vcd};
 
 use crate::collector::Collector;

@@ -3,9 +3,9 @@
 ghost use Rattle.std.specs.Prelude.{◌≡◌, ◌++◌, ◌≤◌, ℕ, drop, filter, length, IfOk, OnOk};
 ghost use Rattle.std.specs.List.Sorted.{IsNonDecreasingBy, IsPermutation};
 ghost use Rattle.cmb_wave.specs.Waveform.{IsTrace, Rises, below};
-ghost use Rattle.cmb_vcd.specs.ValueChanges.{AreTraces, all_value_changes, value_change_text};
-ghost use Rattle.cmb_vcd.specs.ValueChanges.{value_changes_of, value_changes_text, is_at};
-ghost use Rattle.cmb_vcd.specs.ValueChanges.{value_changes_in, tick_of, within};
+ghost use Rattle.cmb_vcd.specs.Inner.ValueChanges.{AreTraces, all_value_changes, value_change_text};
+ghost use Rattle.cmb_vcd.specs.Inner.ValueChanges.{value_changes_of, value_changes_text, is_at};
+ghost use Rattle.cmb_vcd.specs.Inner.ValueChanges.{value_changes_in, tick_of, within};
 
 use crate::lines::push_tick;
 use crate::ready_codes::Codes;

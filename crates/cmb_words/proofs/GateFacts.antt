@@ -6,7 +6,7 @@ use Rattle.cmb_bench.specs.declared.netlist.Kind.{Kind}
 use Rattle.cmb_bench.specs.declared.netlist.Kind.TheVariants.{And, Nand, Or, Nor, Xor, Xnor, Not, Buff}
 use Rattle.cmb_design.specs.Gate.{gate, conjunction, disjunction, parity, inverse_of}
 use Rattle.cmb_words.specs.Joint.{joint}
-use Rattle.cmb_words.specs.Masked.{inverse_if, inverts_operands, ignores_second, is_parity, inverts_result}
+use Rattle.cmb_words.specs.Inner.Masked.{inverse_if, inverts_operands, ignores_second, is_parity, inverts_result}
 use Rattle.std.specs.Int.{bit_at}
 use Rattle.std.proofs.lemmas.Nat.Bits.{bit_at-zero, bit_at-lt}
 use Rattle.cmb_words.specs.Bits.{level_of_bits, level_in}

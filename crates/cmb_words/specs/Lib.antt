@@ -1,6 +1,8 @@
+-- what the public contracts rest on
 pub mod Bits
 pub mod Changes
 pub mod Holds
 pub mod Joint
-pub mod Masked
 pub mod Word
+-- what the functions inside the crate promise each other
+pub mod Inner

@@ -6,7 +6,7 @@ ghost use Rattle.cmb_design.specs.Gate.{gate, conjunction, disjunction, parity, 
 ghost use Rattle.cmb_wave.specs.declared.level.Level.TheVariants.{One};
 ghost use Rattle.cmb_words.specs.Bits.{is_set_at, level_in};
 ghost use Rattle.cmb_words.specs.Joint.{joint};
-ghost use Rattle.cmb_words.specs.Masked.{inverse_if, inverts_operands, ignores_second, is_parity, inverts_result};
+ghost use Rattle.cmb_words.specs.Inner.Masked.{inverse_if, inverts_operands, ignores_second, is_parity, inverts_result};
 ghost use Rattle.cmb_words.specs.Word.{level_at_place};
 
 use crate::word::Word;

@@ -1,5 +1,5 @@
 use Rattle.std.proofs.Common.{◌≡◌, ◌≤◌, ◌-◌}
-use Rattle.cmb_choice.specs.Runs.{shown_text}
+use Rattle.cmb_choice.specs.Inner.Runs.{shown_text}
 use Rattle.cmb_choice.proofs.text.shown_text.Given as goal
 
 abbrev pub invariant-loop-run : goal.invariant-loop-run

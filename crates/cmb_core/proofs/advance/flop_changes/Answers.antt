@@ -1,7 +1,7 @@
 use Rattle.std.proofs.Common.{◌≡◌, ◌<◌, ◌≤◌, ◌+◌, ◌-◌, ◌&&◌, cond, not, nat_lt, sym, ◌∙◌, ap, arith, append_assoc, refl}
 use Rattle.cmb_wave.specs.Waveform.{same_level}
-use Rattle.cmb_core.specs.Spans.{changes_from}
-use Rattle.cmb_core.specs.Rows.{sampled_wave}
+use Rattle.cmb_core.specs.Inner.Spans.{changes_from}
+use Rattle.cmb_core.specs.Inner.Processes.{sampled_wave}
 use Rattle.cmb_core.specs.Step.{wave_at}
 use Rattle.cmb_core.proofs.AdvanceLemmas.{flop_halves}
 use Rattle.cmb_core.proofs.advance.flop_changes.Goals as goal

@@ -1,8 +1,8 @@
 use Rattle.std.proofs.Common.{◌≡◌, ◌-◌, ◌∙◌, ap}
-use Rattle.cmb_core.specs.Spans.{changes_from}
+use Rattle.cmb_core.specs.Inner.Spans.{changes_from}
 use Rattle.cmb_design.specs.Gate.{gate}
-use Rattle.cmb_core.specs.Arrivals.{gate_at, pins_at}
-use Rattle.cmb_core.specs.Rows.{gate_row}
+use Rattle.cmb_core.specs.Inner.Arrivals.{gate_at, pins_at}
+use Rattle.cmb_core.specs.Inner.Processes.{gate_row}
 use Rattle.cmb_core.proofs.Changes.{changes_from_same}
 use Rattle.cmb_core.proofs.advance.gate_changes.Goals as goal
 

@@ -3,8 +3,8 @@ use Rattle.cmb_wave.specs.declared.level.Level.{Level}
 use Rattle.cmb_wave.specs.Waveform.{level_at}
 use Rattle.cmb_wave.specs.declared.level.Level.TheVariants.{X}
 use Rattle.cmb_core.specs.declared.merge.Lag.TheVariants.{Delay}
-use Rattle.cmb_core.specs.Spans.{changes_from}
-use Rattle.cmb_core.specs.Arrivals.{arrived}
+use Rattle.cmb_core.specs.Inner.Spans.{changes_from}
+use Rattle.cmb_core.specs.Inner.Arrivals.{arrived}
 use Rattle.cmb_core.proofs.Changes.{changes_from_same}
 use Rattle.cmb_core.proofs.Skips.{stimulus_rest}
 use Rattle.cmb_core.proofs.advance.input_changes.Goals as goal

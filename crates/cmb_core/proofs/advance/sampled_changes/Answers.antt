@@ -2,10 +2,10 @@ use Rattle.std.proofs.Common.{◌≡◌, ◌-◌, ◌+◌, ◌≤◌, ℕ, ◌�
 use Rattle.cmb_wave.specs.declared.level.Level.{Level}
 use Rattle.cmb_wave.specs.Waveform.{level_at}
 use Rattle.cmb_core.specs.declared.merge.Lag.TheVariants.{Sampled}
-use Rattle.cmb_core.specs.Spans.{changes_from}
-use Rattle.cmb_core.specs.Arrivals.{arrived}
+use Rattle.cmb_core.specs.Inner.Spans.{changes_from}
+use Rattle.cmb_core.specs.Inner.Arrivals.{arrived}
 use Rattle.cmb_design.specs.Timing.{sample_upto}
-use Rattle.cmb_core.specs.Rows.{sampled_wave}
+use Rattle.cmb_core.specs.Inner.Processes.{sampled_wave}
 use Rattle.cmb_core.specs.Step.{wave_at}
 use Rattle.cmb_core.proofs.AdvanceLemmas.{sampled_span}
 use Rattle.cmb_core.proofs.Skips.{arrived_sampled}

@@ -1,6 +1,6 @@
 use Rattle.std.proofs.Common.{◌≡◌, ℕ, ◌≤◌, ◌<◌, take, length, arith, sym, ◌∙◌, ap}
 use Rattle.std.proofs.lemmas.List.{take_all}
-use Rattle.cmb_core.specs.Arrivals.{pins_at, levels, least_due}
+use Rattle.cmb_core.specs.Inner.Arrivals.{pins_at, levels, least_due}
 use Rattle.cmb_core.proofs.Merging.{same_step, steady_step, rest_step, due_step}
 use Rattle.cmb_core.proofs.merge.let_through.Goals as goal
 use Rattle.cmb_core.proofs.merge.let_through.Goals.{then-arrival-from, else-arrival-from}

@@ -1,5 +1,5 @@
 use Rattle.std.proofs.Common.{◌≡◌, take}
-use Rattle.cmb_core.specs.Arrivals.{levels}
+use Rattle.cmb_core.specs.Inner.Arrivals.{levels}
 use Rattle.cmb_core.proofs.merge.read_levels.Given as goal
 
 abbrev pub invariant-loop-pin : goal.invariant-loop-pin

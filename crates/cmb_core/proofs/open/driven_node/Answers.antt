@@ -1,6 +1,6 @@
 use Rattle.std.proofs.Common.{ℕ, List, Option, Result, Ok, Err, IfOk}
 use Rattle.std.specs.declared.alloc.AllocError.{AllocError}
-use Rattle.cmb_core.specs.Opening.{StartsOn}
+use Rattle.cmb_core.specs.Inner.Opening.{StartsOn}
 use Rattle.cmb_core.specs.Rows.{Process}
 use Rattle.cmb_core.proofs.open.driven_node.Goals as goal
 

@@ -1,4 +1,4 @@
-use Rattle.cmb_core.specs.Opening.{AreRead}
+use Rattle.cmb_core.specs.Inner.Opening.{AreRead}
 use Rattle.cmb_core.proofs.open.nets_read.Given as goal
 
 abbrev pub invariant-loop-net : goal.invariant-loop-net

@@ -1,6 +1,6 @@
 use Rattle.std.proofs.Common.{◌≡◌, take, length}
 use Rattle.cmb_core.specs.Opened.{AreProcessesOf}
-use Rattle.cmb_core.specs.Opening.{AllStartOn}
+use Rattle.cmb_core.specs.Inner.Opening.{AllStartOn}
 use Rattle.cmb_core.proofs.open.nodes_of.Given as goal
 
 abbrev pub invariant-loop-net : goal.invariant-loop-net

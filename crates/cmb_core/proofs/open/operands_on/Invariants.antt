@@ -1,6 +1,6 @@
 use Rattle.std.proofs.Common.{◌≡◌, take, length}
 use Rattle.cmb_core.specs.Clusters.{AreOperands}
-use Rattle.cmb_core.specs.Opening.{AreAt}
+use Rattle.cmb_core.specs.Inner.Opening.{AreAt}
 use Rattle.cmb_core.proofs.open.operands_on.Given as goal
 
 abbrev pub invariant-loop-i : goal.invariant-loop-i

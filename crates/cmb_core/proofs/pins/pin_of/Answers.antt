@@ -1,7 +1,7 @@
 use Rattle.std.proofs.Common.{◌≡◌, ◌<◌, ap, arith, sym, ◌∙◌}
 use Rattle.cmb_wave.specs.declared.level.Level.TheVariants.{X}
 use Rattle.cmb_wave.specs.Wave.{Wave}
-use Rattle.cmb_core.specs.Rows.{delayed_wave}
+use Rattle.cmb_core.specs.Inner.Processes.{delayed_wave}
 use Rattle.cmb_core.proofs.Skips.{delayed_rest}
 use Rattle.cmb_core.proofs.pins.pin_of.Goals as goal
 

@@ -1,6 +1,6 @@
 use Rattle.std.proofs.Common.{◌≡◌, ◌+◌, ◌∙◌, ◌∷◌, [], ap, sym, subst, arith, length, length-append}
 use Rattle.cmb_design.specs.declared.told.Told.{Told}
-use Rattle.cmb_design.specs.Told.{AreChanges, row_in, rows_of}
+use Rattle.cmb_design.specs.Inner.Told.{AreChanges, row_in, rows_of}
 use Rattle.cmb_design.specs.declared.told.Told.TheVariants.{Changes}
 use Rattle.cmb_design.proofs.StimulusFacts.{empty-push}
 use Rattle.cmb_design.proofs.ToldFacts.{no_changes, row_in-none}

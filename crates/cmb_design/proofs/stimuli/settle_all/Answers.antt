@@ -2,7 +2,7 @@ use Rattle.std.proofs.Common.{◌<◌, ◌∙◌, List, arith, length, sym}
 use Rattle.cmb_wave.specs.declared.level.Change.{Change}
 use Rattle.cmb_wave.specs.Waveform.{changes_between}
 use Rattle.cmb_design.specs.Timing.{level_by}
-use Rattle.cmb_design.specs.Told.{told_at}
+use Rattle.cmb_design.specs.Inner.Told.{told_at}
 use Rattle.cmb_design.specs.declared.told.Told.{Told}
 use Rattle.cmb_design.proofs.CheckFacts.{get_some}
 use Rattle.cmb_design.proofs.SettleFacts.{settling_end, settling_round, settling_start}

@@ -1,6 +1,6 @@
 use Rattle.cmb_wave.specs.Waveform.{changes_between}
 use Rattle.cmb_design.specs.Timing.{level_by}
-use Rattle.cmb_design.specs.Told.{told_at}
+use Rattle.cmb_design.specs.Inner.Told.{told_at}
 use Rattle.cmb_design.proofs.SettleFacts.{Settling}
 use Rattle.cmb_design.proofs.stimuli.settle_all.Given as goal
 

@@ -1,5 +1,5 @@
 use Rattle.std.proofs.Common.{◌∙◌, ap, sym, subst}
-use Rattle.cmb_design.specs.Told.{AreChanges, Below, row_in, rows_of}
+use Rattle.cmb_design.specs.Inner.Told.{AreChanges, Below, row_in, rows_of}
 use Rattle.cmb_design.proofs.ToldFacts.{row_in-beyond, row_in-push}
 use Rattle.cmb_design.proofs.told.add_level.Goals as goal
 

@@ -3,7 +3,7 @@ use Rattle.std.proofs.lemmas.List.{append-nil}
 use Rattle.cmb_wave.specs.declared.level.Level.TheVariants as level
 use Rattle.cmb_wave.proofs.Lists.{differs_of_test, test_of_same}
 use Rattle.cmb_design.proofs.LevelFacts.{push-rest, keep, keep-kept, keep-late, keep-same, map_changes}
-use Rattle.cmb_design.specs.Told.{Row}
+use Rattle.cmb_design.specs.Inner.Told.{Row}
 use Rattle.cmb_design.proofs.told.changes_of_map.Goals as goal
 use Rattle.cmb_design.proofs.told.changes_of_map.Goals.{else-tick-lt-ALL_TICKS-via-then-tick-lt-ALL_TICKS+else-not-is_same, else-tick-lt-ALL_TICKS-via-else-tick-lt-ALL_TICKS}
 

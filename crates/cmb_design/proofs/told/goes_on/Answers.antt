@@ -1,7 +1,7 @@
 use Rattle.std.proofs.Common.{◌≢◌, ◌∙◌, subst, sym, arith}
 use Rattle.cmb_wave.specs.declared.level.Level.{Level}
 use Rattle.cmb_wave.proofs.Lists.{differs_of_test}
-use Rattle.cmb_design.specs.Told.{rows_of}
+use Rattle.cmb_design.specs.Inner.Told.{rows_of}
 use Rattle.cmb_design.proofs.ToldFacts.{changes-push}
 use Rattle.cmb_design.proofs.told.goes_on.Goals as goal
 

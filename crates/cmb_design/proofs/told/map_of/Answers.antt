@@ -4,7 +4,7 @@ use Rattle.std.specs.Map.{lookup}
 use Rattle.std.specs.Ordering.{nat_cmp}
 use Rattle.std.specs.BTreeMap.{is_at}
 use Rattle.cmb_wave.specs.declared.level.Change.{Change}
-use Rattle.cmb_design.specs.Told.{Below, row_in, rows_of}
+use Rattle.cmb_design.specs.Inner.Told.{Below, row_in, rows_of}
 use Rattle.cmb_design.proofs.LevelFacts.{lookup_is}
 use Rattle.cmb_design.proofs.ToldFacts.{below-take, row_in-push, rows-take}
 use Rattle.cmb_design.proofs.told.map_of.Goals as goal

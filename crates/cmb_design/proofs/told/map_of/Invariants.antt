@@ -1,7 +1,7 @@
 use Rattle.std.proofs.Common.{◌≡◌, ℕ, take}
 use Rattle.std.specs.Ordering.{nat_cmp}
 use Rattle.std.specs.BTreeMap.{get}
-use Rattle.cmb_design.specs.Told.{row_in, rows_of}
+use Rattle.cmb_design.specs.Inner.Told.{row_in, rows_of}
 use Rattle.cmb_design.proofs.told.map_of.Given as goal
 
 abbrev pub invariant-loop-i : goal.invariant-loop-i

@@ -1,5 +1,5 @@
 use Rattle.std.proofs.Common.{subst}
-use Rattle.cmb_design.specs.Told.{IsTold}
+use Rattle.cmb_design.specs.Inner.Told.{IsTold}
 use Rattle.cmb_design.proofs.ToldFacts.{settled}
 use Rattle.cmb_design.proofs.told.settle.Goals as goal
 

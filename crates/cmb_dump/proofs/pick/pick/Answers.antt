@@ -2,7 +2,7 @@ use Rattle.std.proofs.Common.{◌∙◌, Vec, Global, ap, arith, length}
 use Rattle.cmb_vcd.proofs.LineFacts.{rest_none}
 use Rattle.cmb_words.specs.declared.changed.Changed.{Changed}
 use Rattle.cmb_words.proofs.Rising.{rises_at}
-use Rattle.cmb_dump.specs.Excerpts.{picked_of}
+use Rattle.cmb_dump.specs.Inner.Picks.{picked_of}
 use Rattle.cmb_dump.proofs.PickFacts.{picked_none, picked_one, picked_other}
 use Rattle.cmb_dump.proofs.pick.pick.Goals as goal
 use Rattle.cmb_dump.proofs.pick.pick.Goals.{then-place-count+in_ok-push, else-place-count}

@@ -1,5 +1,5 @@
 use Rattle.std.proofs.Common.{◌≡◌, ◌++◌, drop}
-use Rattle.cmb_dump.specs.Excerpts.{picked_of}
+use Rattle.cmb_dump.specs.Inner.Picks.{picked_of}
 use Rattle.cmb_dump.proofs.pick.pick.Given as goal
 
 abbrev pub invariant-loop-one : goal.invariant-loop-one

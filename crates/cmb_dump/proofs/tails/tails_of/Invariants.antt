@@ -1,5 +1,5 @@
 use Rattle.std.proofs.Common.{◌≡◌, length}
-use Rattle.cmb_dump.specs.Tails.{AreTails}
+use Rattle.cmb_dump.specs.Inner.Tails.{AreTails}
 use Rattle.cmb_dump.proofs.tails.tails_of.Given as goal
 
 abbrev pub invariant-loop-net : goal.invariant-loop-net

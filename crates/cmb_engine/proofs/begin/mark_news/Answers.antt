@@ -1,8 +1,8 @@
 use Rattle.std.proofs.Common.{◌<◌, ◌∙◌, ℕ, inl, inr, List, length, get_or, subst, sym, arith}
-use Rattle.cmb_engine.specs.Bits.{has}
-use Rattle.cmb_engine.specs.Cells.{AreMarked}
-use Rattle.cmb_engine.specs.Walks.{walked}
-use Rattle.cmb_engine.specs.Words.{levels_of}
+use Rattle.cmb_engine.specs.Inner.Bits.{has}
+use Rattle.cmb_engine.specs.Inner.Cells.{AreMarked}
+use Rattle.cmb_engine.specs.Inner.Walks.{walked}
+use Rattle.cmb_engine.specs.Inner.Words.{levels_of}
 use Rattle.cmb_engine.proofs.BeginFacts.{told-next, told-passes}
 use Rattle.cmb_engine.proofs.begin.mark_news.Goals as goal
 

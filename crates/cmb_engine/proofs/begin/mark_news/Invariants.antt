@@ -1,7 +1,7 @@
 use Rattle.std.proofs.Common.{◌≡◌, ◌-◌, ℕ, true, length}
-use Rattle.cmb_engine.specs.Bits.{has}
-use Rattle.cmb_engine.specs.Walks.{walked}
-use Rattle.cmb_engine.specs.Words.{levels_of}
+use Rattle.cmb_engine.specs.Inner.Bits.{has}
+use Rattle.cmb_engine.specs.Inner.Walks.{walked}
+use Rattle.cmb_engine.specs.Inner.Words.{levels_of}
 use Rattle.cmb_engine.proofs.BeginFacts.{AreTold}
 use Rattle.cmb_engine.proofs.begin.mark_news.Given as goal
 

@@ -1,6 +1,6 @@
 use Rattle.std.proofs.Common.{◌-◌, ◌≤◌}
-use Rattle.cmb_engine.specs.Walks.{walked}
-use Rattle.cmb_engine.specs.Words.{levels_of}
+use Rattle.cmb_engine.specs.Inner.Walks.{walked}
+use Rattle.cmb_engine.specs.Inner.Words.{levels_of}
 use Rattle.cmb_engine.proofs.CollectFacts.{IsCollected}
 use Rattle.cmb_engine.proofs.collect.collect.Given as goal
 

@@ -1,7 +1,7 @@
 use Rattle.std.proofs.Common.{◌≡◌, ℕ, List, length, sym, ap, subst, arith}
 use Rattle.std.specs.Prelude.{All}
-use Rattle.cmb_engine.specs.Circuits.{AreMembers, IsFlopOf}
-use Rattle.cmb_engine.specs.Cells.{cell_at}
+use Rattle.cmb_engine.specs.Inner.Circuits.{AreMembers, IsFlopOf}
+use Rattle.cmb_engine.specs.Inner.Cells.{cell_at}
 use Rattle.cmb_engine.specs.declared.group.Member.{Member}
 use Rattle.cmb_engine.proofs.GroupFacts.{AreGrouped, grouped-more, flops-whole}
 use Rattle.cmb_engine.proofs.flops.flops_of.Goals as goal

@@ -1,5 +1,5 @@
 use Rattle.std.specs.Prelude.{All}
-use Rattle.cmb_engine.specs.Circuits.{IsGroup}
+use Rattle.cmb_engine.specs.Inner.Circuits.{IsGroup}
 use Rattle.cmb_engine.proofs.GroupFacts.{AreGrouped}
 use Rattle.cmb_engine.proofs.flops.flops_of.Given as goal
 

@@ -1,9 +1,9 @@
 use Rattle.std.proofs.Common.{◌≡◌, ℕ, ◌+◌, ◌-◌, ◌<◌, ◌≤◌, true, length, get_or}
 use Rattle.std.specs.Prelude.{Contains}
-use Rattle.cmb_engine.specs.Bits.{has}
-use Rattle.cmb_engine.specs.Circuits.{IsMarkedOrRests}
+use Rattle.cmb_engine.specs.Inner.Bits.{has}
+use Rattle.cmb_engine.specs.Inner.Circuits.{IsMarkedOrRests}
 use Rattle.cmb_engine.specs.Rows.{arrives_by}
-use Rattle.cmb_engine.specs.Words.{levels_of}
+use Rattle.cmb_engine.specs.Inner.Words.{levels_of}
 use Rattle.cmb_engine.specs.declared.group.Group.{Group}
 use Rattle.cmb_engine.proofs.flops.mark_arrivals.Given as goal
 

@@ -1,6 +1,6 @@
 use Rattle.std.proofs.Common.{◌-◌, sym, subst, ◌∙◌, arith, length}
-use Rattle.cmb_engine.specs.Cells.{Cell, Flop, IsLawful, IsSteady}
-use Rattle.cmb_engine.specs.Words.{levels_of}
+use Rattle.cmb_engine.specs.Inner.Cells.{Cell, Flop, IsLawful, IsSteady}
+use Rattle.cmb_engine.specs.Inner.Words.{levels_of}
 use Rattle.cmb_engine.proofs.WordFacts.{levels_of-read}
 use Rattle.cmb_engine.proofs.flops.may_change.Goals as goal
 

@@ -1,7 +1,7 @@
 use Rattle.std.proofs.Common.{◌≡◌, ℕ, ◌-◌, List, [], ◌∷◌, length, get_or, refl, sym, ap, ap₂, subst, ◌∙◌, arith}
 use Rattle.std.specs.Prelude.{Contains}
 use Rattle.std.proofs.lemmas.List.Elements.{Contains-push}
-use Rattle.cmb_engine.specs.Circuits.{IsInGroup}
+use Rattle.cmb_engine.specs.Inner.Circuits.{IsInGroup}
 use Rattle.cmb_engine.specs.declared.group.Group.{Group}
 use Rattle.cmb_engine.proofs.GroupFacts.{group-kept, group-listed, group-added, group-new}
 use Rattle.cmb_engine.proofs.flops.push_member.Goals as goal

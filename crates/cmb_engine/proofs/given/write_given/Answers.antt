@@ -2,11 +2,11 @@ use Rattle.std.proofs.Common.{◌≡◌, ◌+◌, ◌<◌, inl, inr, ℕ, true, 
 use Rattle.std.proofs.lemmas.Bool.{cases_Bool}
 use Rattle.std.proofs.lemmas.List.{take_all, take_more}
 use Rattle.cmb_words.specs.declared.changed.Changed.{Changed}
-use Rattle.cmb_engine.specs.Bits.{has}
-use Rattle.cmb_engine.specs.Cells.{AreMarked}
-use Rattle.cmb_engine.specs.Gifts.{is_written, AreWritten}
-use Rattle.cmb_engine.specs.Roles.{gives}
-use Rattle.cmb_engine.specs.Words.{levels_of}
+use Rattle.cmb_engine.specs.Inner.Bits.{has}
+use Rattle.cmb_engine.specs.Inner.Cells.{AreMarked}
+use Rattle.cmb_engine.specs.Inner.Gifts.{is_written, AreWritten}
+use Rattle.cmb_engine.specs.Inner.Roles.{gives}
+use Rattle.cmb_engine.specs.Inner.Words.{levels_of}
 use Rattle.cmb_engine.specs.declared.role.Role.{Role}
 use Rattle.cmb_engine.proofs.GivenFacts.{IsTaken, taken-not, taken-put, written-first, written-on}
 use Rattle.cmb_engine.proofs.WordFacts.{levels_of-read}

@@ -1,8 +1,8 @@
 use Rattle.std.proofs.Common.{◌≡◌, ℕ, true, [], get_or, take}
-use Rattle.cmb_engine.specs.Bits.{has}
-use Rattle.cmb_engine.specs.Cells.{AreMarked}
-use Rattle.cmb_engine.specs.Gifts.{is_written, AreWritten}
-use Rattle.cmb_engine.specs.Words.{levels_of, Writes}
+use Rattle.cmb_engine.specs.Inner.Bits.{has}
+use Rattle.cmb_engine.specs.Inner.Cells.{AreMarked}
+use Rattle.cmb_engine.specs.Inner.Gifts.{is_written, AreWritten}
+use Rattle.cmb_engine.specs.Inner.Words.{levels_of, Writes}
 use Rattle.cmb_engine.proofs.given.write_given.Given as goal
 
 abbrev pub invariant-loop-one : goal.invariant-loop-one

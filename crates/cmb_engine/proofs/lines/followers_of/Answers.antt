@@ -5,7 +5,7 @@ use Rattle.std.proofs.lemmas.List.{length-map, nil_from_length, take_all, with_i
 use Rattle.std.proofs.lemmas.Result.{IfOk-weaker}
 use Rattle.smallvec.specs.SmallVec.{SmallVec}
 use Rattle.cmb_engine.specs.declared.cell.Pin.{Pin}
-use Rattle.cmb_engine.specs.Lines.{AreFollowers}
+use Rattle.cmb_engine.specs.Inner.Lines.{AreFollowers}
 use Rattle.cmb_engine.proofs.FollowerFacts.{followers-more, followers-none}
 use Rattle.cmb_engine.proofs.lines.followers_of.Goals as goal
 

@@ -1,5 +1,5 @@
 use Rattle.std.proofs.Common.{map, take}
-use Rattle.cmb_engine.specs.Lines.{AreFollowers}
+use Rattle.cmb_engine.specs.Inner.Lines.{AreFollowers}
 use Rattle.cmb_engine.proofs.lines.followers_of.Given as goal
 
 abbrev pub invariant-loop-number : goal.invariant-loop-number

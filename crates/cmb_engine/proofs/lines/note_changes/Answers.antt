@@ -4,7 +4,7 @@ use Rattle.std.proofs.lemmas.List.Elements.{All-rest, All-same}
 use Rattle.std.proofs.lemmas.Iterator.Consumers.{YieldsList-from_first, YieldsList-end}
 use Rattle.cmb_calendar.specs.declared.tell.Tell.{Tell}
 use Rattle.cmb_words.specs.Bits.{places_set}
-use Rattle.cmb_engine.specs.Lines.{NotesEach, IsOfChange, tell_of}
+use Rattle.cmb_engine.specs.Inner.Lines.{NotesEach, IsOfChange, tell_of}
 use Rattle.cmb_engine.proofs.LineFacts.{IsOfPlaces, change-of-place, place-of-change, place-parts, place-before, place-last, place-none, places-within, next-of, begin-same}
 use Rattle.cmb_engine.proofs.NoteFacts.{days-on, days-same, notes-none, notes-one, notes-as, notes-more}
 use Rattle.cmb_engine.proofs.lines.note_changes.Goals as goal

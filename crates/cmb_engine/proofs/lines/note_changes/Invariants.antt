@@ -2,7 +2,7 @@ use Rattle.std.proofs.Common.{◌<◌, ◌≤◌}
 use Rattle.std.specs.Prelude.{All}
 use Rattle.cmb_calendar.specs.Calendars.{SameDays}
 use Rattle.cmb_engine.proofs.LineFacts.{IsOfPlaces}
-use Rattle.cmb_engine.specs.Lines.{NotesEach}
+use Rattle.cmb_engine.specs.Inner.Lines.{NotesEach}
 use Rattle.cmb_engine.proofs.lines.note_changes.Given as goal
 
 abbrev pub invariant-loop-place : goal.invariant-loop-place

@@ -1,7 +1,7 @@
 use Rattle.std.proofs.Common.{◌+◌, ◌<◌, ℕ, List, length, get_or, take, subst, arith}
 use Rattle.std.proofs.lemmas.List.{take_all}
 use Rattle.cmb_engine.specs.declared.cell.Pin.{Pin}
-use Rattle.cmb_engine.specs.Lines.{NotesEach, IsOfChange, IsOfFollower}
+use Rattle.cmb_engine.specs.Inner.Lines.{NotesEach, IsOfChange, IsOfFollower}
 use Rattle.cmb_engine.proofs.LineFacts.{follower-parts, follower-before, follower-last}
 use Rattle.cmb_engine.proofs.NoteFacts.{days-on, notes-more}
 use Rattle.cmb_engine.proofs.lines.note_followers.Goals as goal

@@ -1,6 +1,6 @@
 use Rattle.std.proofs.Common.{take}
 use Rattle.cmb_calendar.specs.Calendars.{SameDays}
-use Rattle.cmb_engine.specs.Lines.{IsOfFollower, NotesEach}
+use Rattle.cmb_engine.specs.Inner.Lines.{IsOfFollower, NotesEach}
 use Rattle.cmb_engine.proofs.lines.note_followers.Given as goal
 
 abbrev pub invariant-loop-number : goal.invariant-loop-number

@@ -4,7 +4,7 @@ use Rattle.std.proofs.lemmas.List.{take_all}
 use Rattle.std.proofs.lemmas.List.Elements.{Contains-get_or}
 use Rattle.std.proofs.lemmas.Option.{slice_get_within}
 use Rattle.cmb_words.specs.declared.changed.Changed.{Changed}
-use Rattle.cmb_engine.specs.Lines.{NotesEach, Follows, IsOfFollower, IsOfLine}
+use Rattle.cmb_engine.specs.Inner.Lines.{NotesEach, Follows, IsOfFollower, IsOfLine}
 use Rattle.cmb_engine.proofs.LineFacts.{line-none, line-parts, line-before, line-last, rises-within}
 use Rattle.cmb_engine.proofs.NoteFacts.{days-on, days-same, notes-none, notes-more}
 use Rattle.cmb_engine.proofs.lines.note_lines.Goals as goal

@@ -1,6 +1,6 @@
 use Rattle.std.proofs.Common.{length, take}
 use Rattle.cmb_calendar.specs.Calendars.{SameDays}
-use Rattle.cmb_engine.specs.Lines.{IsOfLine, NotesEach}
+use Rattle.cmb_engine.specs.Inner.Lines.{IsOfLine, NotesEach}
 use Rattle.cmb_engine.proofs.lines.note_lines.Given as goal
 
 abbrev pub invariant-loop-one : goal.invariant-loop-one

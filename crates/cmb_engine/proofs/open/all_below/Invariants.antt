@@ -1,5 +1,5 @@
 use Rattle.std.proofs.Common.{◌≡◌, ℕ, ◌*◌, ◌<◌, true, length, List}
-use Rattle.cmb_engine.specs.Bits.{has}
+use Rattle.cmb_engine.specs.Inner.Bits.{has}
 use Rattle.cmb_engine.proofs.open.all_below.Given as goal
 
 -- all numbers so far are in, and there is room for all

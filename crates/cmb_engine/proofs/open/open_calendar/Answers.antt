@@ -1,11 +1,11 @@
 use Rattle.std.proofs.Common.{◌≡◌, ℕ, ◌+◌, List, length, ap, subst, ◌∙◌}
 use Rattle.cmb_wave.specs.declared.level.Level.{Level}
 use Rattle.cmb_design.specs.Exact.{nets_of}
-use Rattle.cmb_engine.specs.Circuits.{Shows}
-use Rattle.cmb_engine.specs.Lines.{NotesEach}
-use Rattle.cmb_engine.specs.Starts.{IsOfInput, IsOfStart}
-use Rattle.cmb_engine.specs.Traces.{trace_of}
-use Rattle.cmb_engine.specs.Words.{levels_of}
+use Rattle.cmb_engine.specs.Inner.Circuits.{Shows}
+use Rattle.cmb_engine.specs.Inner.Lines.{NotesEach}
+use Rattle.cmb_engine.specs.Inner.Starts.{IsOfInput, IsOfStart}
+use Rattle.cmb_engine.specs.Inner.Traces.{trace_of}
+use Rattle.cmb_engine.specs.Inner.Words.{levels_of}
 use Rattle.cmb_engine.specs.declared.cell.Pin.{Pin}
 use Rattle.cmb_engine.specs.declared.role.Role.{Role}
 use Rattle.cmb_engine.proofs.OpenFacts.{starts-ahead}

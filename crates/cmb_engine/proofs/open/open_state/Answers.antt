@@ -2,9 +2,9 @@ use Rattle.std.proofs.Common.{◌≡◌, ◌+◌, List, length, sym, ap, subst, 
 use Rattle.std.proofs.lemmas.Bool.{false≢true}
 use Rattle.cmb_design.specs.Exact.{nets_of}
 use Rattle.cmb_words.specs.declared.word.Word.{Word}
-use Rattle.cmb_engine.specs.Circuits.{Shows}
-use Rattle.cmb_engine.specs.Traces.{trace_of}
-use Rattle.cmb_engine.specs.Words.{levels_of}
+use Rattle.cmb_engine.specs.Inner.Circuits.{Shows}
+use Rattle.cmb_engine.specs.Inner.Traces.{trace_of}
+use Rattle.cmb_engine.specs.Inner.Words.{levels_of}
 use Rattle.cmb_engine.specs.declared.cell.Pin.{Pin}
 use Rattle.cmb_engine.proofs.OpenFacts.{words-show}
 use Rattle.cmb_engine.proofs.open.open_state.Goals as goal

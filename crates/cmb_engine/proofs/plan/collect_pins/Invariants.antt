@@ -1,6 +1,6 @@
 use Rattle.std.proofs.Common.{◌≡◌, take}
 use Rattle.std.specs.List.{AllZip}
-use Rattle.cmb_engine.specs.Plans.{pins_from, Grows, StandsFor}
+use Rattle.cmb_engine.specs.Inner.Plans.{pins_from, Grows, StandsFor}
 use Rattle.cmb_engine.proofs.plan.collect_pins.Given as goal
 
 abbrev pub invariant-loop-i : goal.invariant-loop-i

@@ -1,6 +1,6 @@
 use Rattle.std.proofs.Common.{◌≡◌}
 use Rattle.cmb_design.specs.Exact.{nets_of}
-use Rattle.cmb_engine.specs.Plans.{AreCells}
+use Rattle.cmb_engine.specs.Inner.Plans.{AreCells}
 use Rattle.cmb_engine.proofs.plan.net_cells.Given as goal
 
 abbrev pub invariant-loop-net : goal.invariant-loop-net

@@ -2,9 +2,9 @@ use Rattle.std.proofs.Common.{◌≡◌, ℕ, ◌≤◌, List, ◌++◌, length,
 use Rattle.std.specs.Prelude.{All, replicate}
 use Rattle.cmb_bench.specs.Netlist.{Netlist}
 use Rattle.cmb_design.specs.Exact.{nets_of}
-use Rattle.cmb_engine.specs.Cells.{Cell, Told}
-use Rattle.cmb_engine.specs.Plans.{AreLines}
-use Rattle.cmb_engine.specs.Traces.{IsPlan}
+use Rattle.cmb_engine.specs.Inner.Cells.{Cell, Told}
+use Rattle.cmb_engine.specs.Inner.Plans.{AreLines}
+use Rattle.cmb_engine.specs.Inner.Traces.{IsPlan}
 use Rattle.cmb_engine.specs.declared.cell.Pin.{Pin}
 use Rattle.cmb_engine.proofs.PlanFacts.{plan-is}
 use Rattle.cmb_engine.proofs.plan.plan_of.Goals as goal

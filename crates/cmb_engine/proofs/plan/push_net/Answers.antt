@@ -4,9 +4,9 @@ use Rattle.std.specs.List.{AllZip}
 use Rattle.std.proofs.lemmas.Result.{on_ok_weaker}
 use Rattle.cmb_bench.specs.Netlist.{Netlist, driver_of}
 use Rattle.cmb_bench.specs.declared.netlist.Driver.TheVariants as driver
-use Rattle.cmb_engine.specs.Cells.{Gate}
-use Rattle.cmb_engine.specs.Plans.{cell_as, pins_from, CellStandsFor, StandsFor}
-use Rattle.cmb_engine.specs.Roles.{role_of}
+use Rattle.cmb_engine.specs.Inner.Cells.{Gate}
+use Rattle.cmb_engine.specs.Inner.Plans.{cell_as, pins_from, CellStandsFor, StandsFor}
+use Rattle.cmb_engine.specs.Inner.Roles.{role_of}
 use Rattle.cmb_engine.specs.declared.cell.Pin.{Pin}
 use Rattle.cmb_engine.specs.declared.role.Role.{Role}
 use Rattle.cmb_engine.proofs.PlanFacts.{gate-stands, wired-flop, wired-gate}

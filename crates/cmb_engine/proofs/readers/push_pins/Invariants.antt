@@ -1,6 +1,6 @@
 use Rattle.std.proofs.Common.{◌≡◌, ◌==◌, ◌<◌, ℕ, true, length, map, take}
 use Rattle.std.specs.List.{list_any}
-use Rattle.cmb_engine.specs.Cells.{AreBelow, IsListed}
+use Rattle.cmb_engine.specs.Inner.Cells.{AreBelow, IsListed}
 use Rattle.cmb_engine.proofs.readers.push_pins.Given as goal
 
 abbrev pub invariant-loop-pin : goal.invariant-loop-pin

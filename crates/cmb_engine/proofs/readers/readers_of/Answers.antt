@@ -1,7 +1,7 @@
 use Rattle.std.proofs.Common.{◌≡◌, ℕ, length, List, ◌++◌, map, take, drop, arith, sym, subst, ◌∙◌, ap}
 use Rattle.std.proofs.lemmas.List.{take_at}
 use Rattle.smallvec.specs.SmallVec.{SmallVec}
-use Rattle.cmb_engine.specs.Cells.{AreBelow, IsListed}
+use Rattle.cmb_engine.specs.Inner.Cells.{AreBelow, IsListed}
 use Rattle.cmb_engine.proofs.ReaderFacts.{listed-more}
 use Rattle.cmb_engine.proofs.readers.readers_of.Goals as goal
 

@@ -1,5 +1,5 @@
 use Rattle.std.proofs.Common.{◌≡◌, ◌<◌, ℕ, true, length, map}
-use Rattle.cmb_engine.specs.Cells.{AreBelow, IsListed, cell_at, reads}
+use Rattle.cmb_engine.specs.Inner.Cells.{AreBelow, IsListed, cell_at, reads}
 use Rattle.cmb_engine.proofs.readers.readers_of.Given as goal
 
 abbrev pub invariant-loop-net : goal.invariant-loop-net

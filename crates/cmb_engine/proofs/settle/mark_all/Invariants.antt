@@ -1,5 +1,5 @@
 use Rattle.std.proofs.Common.{◌≡◌, ◌<◌, ℕ, true, length, get_or}
-use Rattle.cmb_engine.specs.Bits.{has}
+use Rattle.cmb_engine.specs.Inner.Bits.{has}
 use Rattle.cmb_engine.proofs.settle.mark_all.Given as goal
 
 abbrev pub invariant-loop-net : goal.invariant-loop-net

@@ -1,7 +1,7 @@
 use Rattle.std.proofs.Common.{◌*◌, ℕ, length, subst, arith}
-use Rattle.cmb_engine.specs.Bits.{HasNone}
-use Rattle.cmb_engine.specs.Cells.{cell_at}
-use Rattle.cmb_engine.specs.Words.{levels_of}
+use Rattle.cmb_engine.specs.Inner.Bits.{HasNone}
+use Rattle.cmb_engine.specs.Inner.Cells.{cell_at}
+use Rattle.cmb_engine.specs.Inner.Words.{levels_of}
 use Rattle.cmb_engine.proofs.SweepFacts.{ready-moves, none-marked, sweeps-on}
 use Rattle.cmb_engine.proofs.settle.settle.Goals as goal
 

@@ -1,9 +1,9 @@
 use Rattle.std.proofs.Common.{◌≤◌, ℕ}
 use Rattle.cmb_wave.specs.declared.level.Level.{Level}
-use Rattle.cmb_engine.specs.Bits.{has}
-use Rattle.cmb_engine.specs.Cells.{IsReady, IsTrueBelow, AreSettled, cell_at}
-use Rattle.cmb_engine.specs.Sweeps.{Sweeps}
-use Rattle.cmb_engine.specs.Words.{levels_of}
+use Rattle.cmb_engine.specs.Inner.Bits.{has}
+use Rattle.cmb_engine.specs.Inner.Cells.{IsReady, IsTrueBelow, AreSettled, cell_at}
+use Rattle.cmb_engine.specs.Inner.Sweeps.{Sweeps}
+use Rattle.cmb_engine.specs.Inner.Words.{levels_of}
 use Rattle.cmb_engine.proofs.settle.settle.Given as goal
 
 abbrev pub invariant-loop : goal.invariant-loop

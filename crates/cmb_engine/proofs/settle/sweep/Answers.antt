@@ -1,7 +1,7 @@
 use Rattle.std.proofs.Common.{ℕ, length, subst, sym, arith}
-use Rattle.cmb_engine.specs.Cells.{cell_at}
-use Rattle.cmb_engine.specs.Walks.{walked}
-use Rattle.cmb_engine.specs.Words.{levels_of}
+use Rattle.cmb_engine.specs.Inner.Cells.{cell_at}
+use Rattle.cmb_engine.specs.Inner.Walks.{walked}
+use Rattle.cmb_engine.specs.Inner.Words.{levels_of}
 use Rattle.cmb_engine.proofs.SweepFacts.{IsFurther, ready-moves, passes, further-visit, further-all, sweeps-on}
 use Rattle.cmb_engine.proofs.settle.sweep.Goals as goal
 

@@ -1,11 +1,11 @@
 use Rattle.std.proofs.Common.{◌-◌, ℕ, length}
 use Rattle.cmb_wave.specs.declared.level.Level.{Level}
-use Rattle.cmb_engine.specs.Arrivals.{IsArrival}
-use Rattle.cmb_engine.specs.Bits.{has}
-use Rattle.cmb_engine.specs.Cells.{cell_at}
-use Rattle.cmb_engine.specs.Sweeps.{Sweeps}
-use Rattle.cmb_engine.specs.Walks.{walked}
-use Rattle.cmb_engine.specs.Words.{levels_of}
+use Rattle.cmb_engine.specs.Inner.Arrivals.{IsArrival}
+use Rattle.cmb_engine.specs.Inner.Bits.{has}
+use Rattle.cmb_engine.specs.Inner.Cells.{cell_at}
+use Rattle.cmb_engine.specs.Inner.Sweeps.{Sweeps}
+use Rattle.cmb_engine.specs.Inner.Walks.{walked}
+use Rattle.cmb_engine.specs.Inner.Words.{levels_of}
 use Rattle.cmb_engine.proofs.SweepFacts.{IsFurther, IsBegun}
 use Rattle.cmb_engine.proofs.settle.sweep.Given as goal
 

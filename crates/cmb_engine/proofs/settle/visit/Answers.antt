@@ -1,9 +1,9 @@
 use Rattle.std.proofs.Common.{◌≡◌, ◌≢◌, ℕ, List, [], slice_index_or, subst, refl, sym, ◌∙◌}
 use Rattle.cmb_wave.specs.declared.level.Level.{Level}
 use Rattle.cmb_words.specs.Word.{level_at_place}
-use Rattle.cmb_engine.specs.Bits.{has}
-use Rattle.cmb_engine.specs.Cells.{Told, IsMade, AreMarked, cell_at}
-use Rattle.cmb_engine.specs.Words.{levels_of}
+use Rattle.cmb_engine.specs.Inner.Bits.{has}
+use Rattle.cmb_engine.specs.Inner.Cells.{Told, IsMade, AreMarked, cell_at}
+use Rattle.cmb_engine.specs.Inner.Words.{levels_of}
 use Rattle.cmb_engine.proofs.SweepFacts.{told-visit}
 use Rattle.cmb_engine.proofs.VisitFacts.{made-same, same-both, removed-false, kept-false, reader-marked, visit-keeps}
 use Rattle.cmb_engine.proofs.WordFacts.{levels_of-read, written-other, written-same}

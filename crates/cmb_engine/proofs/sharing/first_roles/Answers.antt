@@ -1,6 +1,6 @@
 use Rattle.std.proofs.Common.{◌≡◌, ℕ, false, List, sym, subst, ◌∙◌}
 use Rattle.std.proofs.lemmas.List.{take_all}
-use Rattle.cmb_engine.specs.Roles.{gives}
+use Rattle.cmb_engine.specs.Inner.Roles.{gives}
 use Rattle.cmb_engine.specs.declared.role.Role.{Role}
 use Rattle.cmb_engine.proofs.RoleFacts.{gives-push, roles-push}
 use Rattle.cmb_engine.proofs.sharing.first_roles.Goals as goal

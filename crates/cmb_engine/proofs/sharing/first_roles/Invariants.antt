@@ -1,5 +1,5 @@
 use Rattle.std.proofs.Common.{◌≡◌, ℕ, false, take}
-use Rattle.cmb_engine.specs.Roles.{driven_of, gives}
+use Rattle.cmb_engine.specs.Inner.Roles.{driven_of, gives}
 use Rattle.cmb_engine.proofs.sharing.first_roles.Given as goal
 
 abbrev pub invariant-loop-one : goal.invariant-loop-one

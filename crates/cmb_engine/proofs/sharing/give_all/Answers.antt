@@ -1,6 +1,6 @@
 use Rattle.std.proofs.Common.{ℕ, ◌<◌, List, [], ◌∷◌, length, get_or, subst, ap, ◌∙◌, arith}
 use Rattle.std.proofs.lemmas.List.{get_or_default, take_all}
-use Rattle.cmb_engine.specs.Roles.{Gives, is_absent, role_of}
+use Rattle.cmb_engine.specs.Inner.Roles.{Gives, is_absent, role_of}
 use Rattle.cmb_engine.specs.declared.role.Role.TheVariants.{Driven}
 use Rattle.cmb_engine.proofs.RoleFacts.{gives-known, gives-length, gives-more, gives-nothing, gives-written, not-absent}
 use Rattle.cmb_engine.proofs.sharing.give_all.Goals as goal

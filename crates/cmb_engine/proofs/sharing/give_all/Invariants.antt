@@ -1,5 +1,5 @@
 use Rattle.std.proofs.Common.{take}
-use Rattle.cmb_engine.specs.Roles.{Gives}
+use Rattle.cmb_engine.specs.Inner.Roles.{Gives}
 use Rattle.cmb_engine.proofs.sharing.give_all.Given as goal
 
 abbrev pub invariant-loop-net : goal.invariant-loop-net

@@ -8,9 +8,9 @@ use Rattle.cmb_wave.specs.declared.level.Level.{Level}
 use Rattle.cmb_wave.specs.declared.level.Level.TheVariants.{Zero, One, X}
 use Rattle.cmb_calendar.specs.Calendars.{Calendar, Notes, SameDays}
 use Rattle.cmb_calendar.specs.declared.tell.Tell.{Tell}
-use Rattle.cmb_engine.specs.Lines.{NotesEach}
-use Rattle.cmb_engine.specs.Starts.{IsOfStart}
-use Rattle.cmb_engine.specs.Words.{levels_of}
+use Rattle.cmb_engine.specs.Inner.Lines.{NotesEach}
+use Rattle.cmb_engine.specs.Inner.Starts.{IsOfStart}
+use Rattle.cmb_engine.specs.Inner.Words.{levels_of}
 use Rattle.cmb_engine.specs.declared.cell.Pin.{Pin}
 use Rattle.cmb_engine.proofs.NoteFacts.{days-on, notes-as, notes-more, notes-one}
 use Rattle.cmb_engine.proofs.WordFacts.{levels_of-read}

@@ -4,8 +4,8 @@ use Rattle.cmb_bench.specs.Netlist.{Netlist}
 use Rattle.cmb_calendar.specs.Calendars.{Calendar, SameDays}
 use Rattle.cmb_design.specs.Design.{Design}
 use Rattle.cmb_design.specs.Exact.{nets_of}
-use Rattle.cmb_engine.specs.Lines.{NotesEach}
-use Rattle.cmb_engine.specs.Starts.{IsOfInput}
+use Rattle.cmb_engine.specs.Inner.Lines.{NotesEach}
+use Rattle.cmb_engine.specs.Inner.Starts.{IsOfInput}
 use Rattle.cmb_engine.specs.declared.role.Role.{Role}
 use Rattle.cmb_engine.proofs.NoteFacts.{days-on}
 use Rattle.cmb_engine.proofs.StimulusFacts.{inputs-all, inputs-noted, inputs-passed}

@@ -1,7 +1,7 @@
 use Rattle.std.proofs.Common.{◌<◌}
 use Rattle.cmb_calendar.specs.Calendars.{SameDays}
-use Rattle.cmb_engine.specs.Lines.{NotesEach}
-use Rattle.cmb_engine.specs.Starts.{IsOfInput}
+use Rattle.cmb_engine.specs.Inner.Lines.{NotesEach}
+use Rattle.cmb_engine.specs.Inner.Starts.{IsOfInput}
 use Rattle.cmb_engine.proofs.stimuli.note_stimuli.Given as goal
 
 abbrev pub invariant-loop-net : goal.invariant-loop-net

@@ -3,7 +3,7 @@ use Rattle.std.proofs.lemmas.List.{take_all}
 use Rattle.cmb_wave.specs.declared.level.Change.{Change}
 use Rattle.cmb_wave.specs.declared.level.Level.TheVariants.{Zero}
 use Rattle.cmb_calendar.specs.Calendars.{Calendar, SameDays}
-use Rattle.cmb_engine.specs.Lines.{NotesEach}
+use Rattle.cmb_engine.specs.Inner.Lines.{NotesEach}
 use Rattle.cmb_engine.proofs.NoteFacts.{days-on}
 use Rattle.cmb_engine.proofs.StimulusFacts.{IsOfChanges, changes-noted, changes-passed, changes-are_stimulus}
 use Rattle.cmb_engine.proofs.stimuli.note_stimulus.Goals as goal

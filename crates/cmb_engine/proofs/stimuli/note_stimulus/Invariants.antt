@@ -1,6 +1,6 @@
 use Rattle.std.proofs.Common.{take}
 use Rattle.cmb_calendar.specs.Calendars.{SameDays}
-use Rattle.cmb_engine.specs.Lines.{NotesEach}
+use Rattle.cmb_engine.specs.Inner.Lines.{NotesEach}
 use Rattle.cmb_engine.proofs.StimulusFacts.{IsOfChanges}
 use Rattle.cmb_engine.proofs.stimuli.note_stimulus.Given as goal
 

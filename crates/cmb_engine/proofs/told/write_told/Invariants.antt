@@ -1,9 +1,9 @@
 use Rattle.std.proofs.Common.{◌≡◌, ◌+◌, ◌-◌, ◌<◌, ℕ, [], get_or, take}
 use Rattle.cmb_calendar.specs.declared.tell.Tell.{Tell}
-use Rattle.cmb_engine.specs.Bits.{has}
-use Rattle.cmb_engine.specs.Cells.{AreMarked}
-use Rattle.cmb_engine.specs.Tells.{told_level}
-use Rattle.cmb_engine.specs.Words.{levels_of, Writes}
+use Rattle.cmb_engine.specs.Inner.Bits.{has}
+use Rattle.cmb_engine.specs.Inner.Cells.{AreMarked}
+use Rattle.cmb_engine.specs.Inner.Tells.{told_level}
+use Rattle.cmb_engine.specs.Inner.Words.{levels_of, Writes}
 use Rattle.cmb_engine.proofs.told.write_told.Given as goal
 
 abbrev pub invariant-loop-tell : goal.invariant-loop-tell

@@ -2,9 +2,9 @@ use Rattle.std.proofs.Common.{◌≡◌, ℕ, ◌+◌, ◌-◌, ◌%◌, ◌&&�
 use Rattle.std.specs.Prelude.{◌==◌}
 use Rattle.cmb_design.specs.declared.rows.Clock.{Clock}
 use Rattle.cmb_words.specs.Word.{level_at_place}
-use Rattle.cmb_engine.specs.Cells.{seen}
+use Rattle.cmb_engine.specs.Inner.Cells.{seen}
 use Rattle.cmb_engine.specs.Rows.{arrives_by}
-use Rattle.cmb_engine.specs.Words.{levels_of}
+use Rattle.cmb_engine.specs.Inner.Words.{levels_of}
 use Rattle.cmb_engine.proofs.WordFacts.{levels_of-get_or}
 use Rattle.cmb_engine.proofs.visit.flop_word.Goals as goal
 

@@ -1,6 +1,6 @@
 use Rattle.std.proofs.Common.{◌≤◌, get_or, arith}
-use Rattle.cmb_engine.specs.Cells.{seen}
-use Rattle.cmb_engine.specs.Words.{levels_of}
+use Rattle.cmb_engine.specs.Inner.Cells.{seen}
+use Rattle.cmb_engine.specs.Inner.Words.{levels_of}
 use Rattle.cmb_engine.proofs.WordFacts.{joint-pins}
 use Rattle.cmb_engine.proofs.visit.gate_word.Goals as goal
 

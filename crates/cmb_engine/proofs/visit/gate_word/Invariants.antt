@@ -1,8 +1,8 @@
 use Rattle.std.proofs.Common.{◌≡◌, ◌<◌, ◌≤◌, ℕ, map, take}
 use Rattle.cmb_words.specs.Joint.{joint}
 use Rattle.cmb_words.specs.Word.{level_at_place}
-use Rattle.cmb_engine.specs.Cells.{seen}
-use Rattle.cmb_engine.specs.Words.{levels_of}
+use Rattle.cmb_engine.specs.Inner.Cells.{seen}
+use Rattle.cmb_engine.specs.Inner.Words.{levels_of}
 use Rattle.cmb_engine.proofs.visit.gate_word.Given as goal
 
 abbrev pub invariant-loop-k : goal.invariant-loop-k

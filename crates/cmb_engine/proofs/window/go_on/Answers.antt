@@ -1,12 +1,12 @@
 use Rattle.std.proofs.Common.{◌≡◌, ◌+◌, ◌-◌, ◌<◌, ◌≤◌, true, ℕ, List, [], length, get_or, sym, subst, arith}
 use Rattle.std.specs.Prelude.{All}
-use Rattle.cmb_engine.specs.Bits.{has}
-use Rattle.cmb_engine.specs.Cells.{Cell, IsPace, IsSteadyFrom, AreMarked, cell_at}
-use Rattle.cmb_engine.specs.Circuits.{IsInGroup, Shows}
-use Rattle.cmb_engine.specs.Gifts.{is_written, AreWritten}
-use Rattle.cmb_engine.specs.Roles.{AreToldNets, gives}
-use Rattle.cmb_engine.specs.Tells.{told_level, AreOfWindow}
-use Rattle.cmb_engine.specs.Words.{levels_of}
+use Rattle.cmb_engine.specs.Inner.Bits.{has}
+use Rattle.cmb_engine.specs.Inner.Cells.{Cell, IsPace, IsSteadyFrom, AreMarked, cell_at}
+use Rattle.cmb_engine.specs.Inner.Circuits.{IsInGroup, Shows}
+use Rattle.cmb_engine.specs.Inner.Gifts.{is_written, AreWritten}
+use Rattle.cmb_engine.specs.Inner.Roles.{AreToldNets, gives}
+use Rattle.cmb_engine.specs.Inner.Tells.{told_level, AreOfWindow}
+use Rattle.cmb_engine.specs.Inner.Words.{levels_of}
 use Rattle.cmb_engine.specs.declared.group.Group.{Group}
 use Rattle.cmb_engine.specs.declared.role.Role.{Role}
 use Rattle.cmb_engine.proofs.GivenFacts.{made-kept, unmarked-kept, written-true}

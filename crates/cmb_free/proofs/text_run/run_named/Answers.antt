@@ -3,7 +3,7 @@ use Rattle.std.proofs.lemmas.Result.{err_from_is_err_and}
 use Rattle.std.specs.Prelude.{unwrap_or}
 use Rattle.cmb_vcd.specs.Collector.{IsComplete, IsExactFrom}
 use Rattle.cmb_vcd.proofs.BeginFacts.{HasBegun-none}
-use Rattle.cmb_free.specs.Tellers.{IsUnfinished}
+use Rattle.cmb_free.specs.Inner.Tellers.{IsUnfinished}
 use Rattle.cmb_free.proofs.TextRuns.{IsCutAt-unfinished, told-whole}
 use Rattle.cmb_free.proofs.text_run.run_named.Goals as goal
 

@@ -1,5 +1,5 @@
 use Rattle.std.proofs.Common.{take}
-use Rattle.cmb_loops.specs.Search.{AreSet}
+use Rattle.cmb_loops.specs.Inner.Search.{AreSet}
 use Rattle.cmb_loops.proofs.part.set_all.Given as goal
 
 abbrev pub invariant-loop-place : goal.invariant-loop-place

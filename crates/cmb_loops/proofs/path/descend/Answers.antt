@@ -1,5 +1,5 @@
 use Rattle.std.proofs.Common.{◌≡◌, refl}
-use Rattle.cmb_loops.specs.Search.{targets_at}
+use Rattle.cmb_loops.specs.Inner.Search.{targets_at}
 use Rattle.cmb_loops.proofs.PathFacts.{descended, descended_fresh, descended_still, net_read, targets_read}
 use Rattle.std.proofs.lemmas.Result.{on_ok_weaker}
 use Rattle.cmb_loops.proofs.path.descend.Goals.{After-enter}

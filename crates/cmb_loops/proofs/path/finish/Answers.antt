@@ -4,7 +4,7 @@ use Rattle.std.specs.Vec.{with_items}
 use Rattle.std.proofs.lemmas.List.{with_items_is}
 use Rattle.std.proofs.lemmas.List.Elements.{All-drop}
 use Rattle.cmb_loops.specs.Loops.{targets}
-use Rattle.cmb_loops.specs.Search.{AreSet, IsLooped, IsUnderWay}
+use Rattle.cmb_loops.specs.Inner.Search.{AreSet, IsLooped, IsUnderWay}
 use Rattle.cmb_loops.specs.declared.search.Frame.{Frame}
 use Rattle.cmb_loops.specs.declared.search.Search.{Search}
 use Rattle.cmb_loops.specs.declared.search.Seen.TheVariants.{Done}

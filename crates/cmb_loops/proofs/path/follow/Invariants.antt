@@ -1,6 +1,6 @@
 use Rattle.std.proofs.Common.{◌+◌, ◌*◌, length}
 use Rattle.std.specs.Prelude.{count_by}
-use Rattle.cmb_loops.specs.Search.{IsStill, IsUnderWay, is_new}
+use Rattle.cmb_loops.specs.Inner.Search.{IsStill, IsUnderWay, is_new}
 use Rattle.cmb_loops.proofs.path.follow.Given as goal
 
 abbrev pub invariant-loop-frame : goal.invariant-loop-frame

@@ -1,5 +1,5 @@
 use Rattle.std.proofs.Common.{◌≡◌, ◌++◌, ◌∷◌, []}
-use Rattle.cmb_loops.specs.Search.{IsUnderWay}
+use Rattle.cmb_loops.specs.Inner.Search.{IsUnderWay}
 use Rattle.cmb_loops.proofs.path.scan.Given as goal
 
 abbrev pub invariant-loop-next : goal.invariant-loop-next

@@ -1,5 +1,5 @@
 use Rattle.std.proofs.Common.{◌≡◌, ◌<◌, ◌≤◌, ℕ, length, arith}
-use Rattle.cmb_loops.specs.Search.{seen_of}
+use Rattle.cmb_loops.specs.Inner.Search.{seen_of}
 use Rattle.cmb_loops.specs.declared.search.Seen.TheVariants.{Done}
 use Rattle.cmb_loops.proofs.NumberFacts.{numbered_all}
 use Rattle.cmb_loops.proofs.PathFacts.{all_done, looped_all}

@@ -1,5 +1,5 @@
 use Rattle.std.proofs.Common.{◌≡◌, ◌≢◌, ◌<◌, ℕ, []}
-use Rattle.cmb_loops.specs.Search.{IsUnderWay, seen_of}
+use Rattle.cmb_loops.specs.Inner.Search.{IsUnderWay, seen_of}
 use Rattle.cmb_loops.specs.declared.search.Seen.TheVariants.{New}
 use Rattle.cmb_loops.proofs.path.search_all.Given as goal
 

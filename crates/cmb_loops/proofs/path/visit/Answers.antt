@@ -1,6 +1,6 @@
 use Rattle.std.proofs.Common.{◌≡◌, sym, ◌∙◌, arith, length, ◌<◌}
 use Rattle.std.proofs.lemmas.List.{get_or_read}
-use Rattle.cmb_loops.specs.Search.{seen_of}
+use Rattle.cmb_loops.specs.Inner.Search.{seen_of}
 use Rattle.cmb_loops.specs.declared.search.Seen.TheVariants.{New}
 use Rattle.cmb_loops.proofs.PathFacts.{begun_under}
 use Rattle.cmb_loops.proofs.path.visit.Goals as goal

@@ -1,5 +1,5 @@
 use Rattle.std.proofs.Common.{◌≡◌, ◌-◌, length}
-use Rattle.cmb_restrict.specs.Found.{IsFound}
+use Rattle.cmb_restrict.specs.Inner.Found.{IsFound}
 use Rattle.cmb_restrict.proofs.FoundFacts.{Asked}
 use Rattle.cmb_restrict.proofs.closed.follow.Given as goal
 

@@ -1,6 +1,6 @@
 use Rattle.std.proofs.Common.{◌≡◌, ℕ, ◌<◌}
 use Rattle.cmb_core.specs.Opened.{IsOwnNet}
-use Rattle.cmb_rounds.specs.Rounds.{known_to}
+use Rattle.cmb_rounds.specs.Inner.Rounds.{known_to}
 use Rattle.cmb_rounds.proofs.rounds.all_complete.Given as goal
 
 -- the workers that were looked at know what they drive to the end

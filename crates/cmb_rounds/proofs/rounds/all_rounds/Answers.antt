@@ -1,6 +1,6 @@
 use Rattle.std.proofs.Common.{◌≡◌, ◌≤◌, ◌+◌, ℕ, suc, ap, arith, subst}
 use Rattle.cmb_design.specs.Design.{Design}
-use Rattle.cmb_rounds.specs.Rounds.{AreKnownTo}
+use Rattle.cmb_rounds.specs.Inner.Rounds.{AreKnownTo}
 use Rattle.cmb_rounds.proofs.rounds.all_rounds.Goals as goal
 
 pub loop-tick-init : goal.loop-tick-init

@@ -1,4 +1,4 @@
-use Rattle.cmb_rounds.specs.Rounds.{AreHandsOf, AreKnownTo}
+use Rattle.cmb_rounds.specs.Inner.Rounds.{AreHandsOf, AreKnownTo}
 use Rattle.cmb_rounds.proofs.rounds.all_rounds.Given as goal
 
 -- after so many rounds every clock is at that tick at least

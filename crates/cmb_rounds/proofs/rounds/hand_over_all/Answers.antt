@@ -1,7 +1,7 @@
 use Rattle.std.proofs.Common.{◌≡◌, [], ◌∷◌, ◌++◌, List, ap, subst, ◌∙◌}
 use Rattle.std.specs.Prelude.{option_to_list}
 use Rattle.cmb_vcd.specs.Collector.{wave_of}
-use Rattle.cmb_rounds.specs.Rounds.{Hand}
+use Rattle.cmb_rounds.specs.Inner.Rounds.{Hand}
 use Rattle.cmb_rounds.proofs.RoundFacts.{AreHandedOver, handed_more}
 use Rattle.cmb_rounds.proofs.rounds.hand_over_all.Goals as goal
 

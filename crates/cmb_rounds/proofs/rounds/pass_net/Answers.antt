@@ -1,6 +1,6 @@
 use Rattle.std.proofs.Common.{◌≡◌, ◌∙◌, Some, sym, set, OnOk}
 use Rattle.std.proofs.lemmas.Result.{on_ok_weaker}
-use Rattle.cmb_rounds.specs.Rounds.{AreHandsOf, IsPassedOn, known_to}
+use Rattle.cmb_rounds.specs.Inner.Rounds.{AreHandsOf, IsPassedOn, known_to}
 use Rattle.cmb_rounds.proofs.RoundFacts.{read_nothing, read_taken, told_any}
 use Rattle.cmb_rounds.proofs.rounds.pass_net.Goals as goal
 use Rattle.cmb_rounds.proofs.rounds.pass_net.Goals.{After-drop-new-inside}

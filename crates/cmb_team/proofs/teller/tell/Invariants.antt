@@ -1,6 +1,6 @@
 use Rattle.std.proofs.Common.{◌≡◌, ◌<◌, ◌≤◌, ◌++◌}
 use Rattle.cmb_stream.specs.Parts.{made_text}
-use Rattle.cmb_team.specs.Batches.{clock_at}
+use Rattle.cmb_team.specs.Inner.Batches.{clock_at}
 use Rattle.cmb_team.proofs.teller.tell.Given as goal
 
 abbrev pub invariant-loop-place : goal.invariant-loop-place

@@ -2,8 +2,8 @@ use Rattle.std.proofs.Common.{◌≡◌, ℕ, ◌∙◌, ◌++◌, ap}
 use Rattle.std.specs.Prelude.{filter}
 use Rattle.std.specs.List.Sorted.{IsPermutation}
 use Rattle.std.proofs.lemmas.Result.{on_ok_weaker}
-use Rattle.cmb_vcd.specs.Ticks.{span_lines}
-use Rattle.cmb_vcd.specs.ValueChanges.{value_changes_text, is_at, value_changes_in}
+use Rattle.cmb_vcd.specs.Inner.Ticks.{span_lines}
+use Rattle.cmb_vcd.specs.Inner.ValueChanges.{value_changes_text, is_at, value_changes_in}
 use Rattle.cmb_vcd.proofs.SpanFacts.{compared}
 use Rattle.cmb_vcd.proofs.text.push_compared.Goals as goal
 

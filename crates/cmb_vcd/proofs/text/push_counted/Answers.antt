@@ -1,6 +1,6 @@
 use Rattle.std.proofs.Common.{◌≡◌, ◌∙◌, ◌-◌, [], ap, length}
-use Rattle.cmb_vcd.specs.ValueChanges.{value_changes_in}
-use Rattle.cmb_vcd.specs.Ticks.{ArePlaced, span_lines}
+use Rattle.cmb_vcd.specs.Inner.ValueChanges.{value_changes_in}
+use Rattle.cmb_vcd.specs.Inner.Ticks.{ArePlaced, span_lines}
 use Rattle.cmb_vcd.proofs.text.push_counted.Goals as goal
 
 pub returns : goal.returns

@@ -1,8 +1,8 @@
 use Rattle.std.proofs.Common.{◌≡◌, ◌∙◌, ap}
 use Rattle.std.specs.List.{All}
 use Rattle.std.proofs.lemmas.Result.{on_ok_weaker}
-use Rattle.cmb_vcd.specs.Ticks.{IsWithin}
-use Rattle.cmb_vcd.specs.ValueChanges.{all_value_changes, value_changes_in}
+use Rattle.cmb_vcd.specs.Inner.Ticks.{IsWithin}
+use Rattle.cmb_vcd.specs.Inner.ValueChanges.{all_value_changes, value_changes_in}
 use Rattle.cmb_vcd.proofs.SpanFacts.{span_pushed, within_all}
 use Rattle.cmb_vcd.proofs.text.push_later.Goals as goal
 

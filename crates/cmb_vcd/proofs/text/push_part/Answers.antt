@@ -1,7 +1,7 @@
 use Rattle.std.proofs.Common.{length}
 use Rattle.std.proofs.lemmas.Result.{on_ok_weaker}
 use Rattle.cmb_vcd.specs.Collector.{collected_level}
-use Rattle.cmb_vcd.specs.ValueChanges.{end_line, ticks_between}
+use Rattle.cmb_vcd.specs.Between.{end_line, ticks_between}
 use Rattle.cmb_vcd.proofs.LineFacts.{joined}
 use Rattle.cmb_vcd.proofs.text.push_part.Goals as goal
 

@@ -2,7 +2,7 @@ use Rattle.std.proofs.Common.{◌≡◌, ◌∙◌, ◌++◌, ap, sym, arith, le
 use Rattle.std.proofs.lemmas.List.{append-nil}
 use Rattle.std.proofs.lemmas.Result.{on_ok_weaker}
 use Rattle.cmb_vcd.specs.Collector.{collected_level}
-use Rattle.cmb_vcd.specs.ValueChanges.{ticks_between}
+use Rattle.cmb_vcd.specs.Between.{ticks_between}
 use Rattle.cmb_vcd.specs.Vcd.{tick_text}
 use Rattle.cmb_vcd.proofs.LineFacts.{joined}
 use Rattle.cmb_vcd.proofs.PartFacts.{ticks_between-first, ticks_between-none}

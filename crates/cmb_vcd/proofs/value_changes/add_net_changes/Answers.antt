@@ -1,7 +1,7 @@
 use Rattle.std.proofs.Common.{◌≡◌, ◌∙◌, ◌++◌, [], sym, ap, arith, length}
 use Rattle.std.proofs.lemmas.Bool.Decides.{nat_tests}
 use Rattle.std.proofs.lemmas.List.{append-nil, nil_from_length}
-use Rattle.cmb_vcd.specs.ValueChanges.{value_changes_of, value_changes_in}
+use Rattle.cmb_vcd.specs.Inner.ValueChanges.{value_changes_of, value_changes_in}
 use Rattle.cmb_vcd.proofs.ValueChangeFacts.{value_changes_in-push}
 use Rattle.cmb_vcd.proofs.value_changes.add_net_changes.Goals as goal
 

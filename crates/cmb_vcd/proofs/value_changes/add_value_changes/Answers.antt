@@ -2,7 +2,7 @@ use Rattle.std.proofs.Common.{◌∙◌, ◌++◌, ◌+◌, List, [], ◌∷◌,
 use Rattle.cmb_wave.specs.declared.level.Change.{Change}
 use Rattle.cmb_wave.specs.declared.level.Level.TheVariants as level
 use Rattle.cmb_vcd.specs.declared.value_changes.ValueChange.{ValueChange}
-use Rattle.cmb_vcd.specs.ValueChanges.{value_changes_of}
+use Rattle.cmb_vcd.specs.Inner.ValueChanges.{value_changes_of}
 use Rattle.cmb_vcd.proofs.ValueChangeFacts.{value_changes_of-next}
 use Rattle.cmb_design.proofs.LevelFacts.{push-rest}
 use Rattle.cmb_vcd.proofs.LineFacts.{rest_none}

@@ -1,5 +1,5 @@
 use Rattle.std.proofs.Common.{◌≡◌, ◌++◌, drop}
-use Rattle.cmb_vcd.specs.ValueChanges.{value_changes_of}
+use Rattle.cmb_vcd.specs.Inner.ValueChanges.{value_changes_of}
 use Rattle.cmb_vcd.proofs.value_changes.add_value_changes.Given as goal
 
 abbrev pub invariant-loop-change : goal.invariant-loop-change

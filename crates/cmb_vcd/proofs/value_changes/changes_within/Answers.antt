@@ -1,5 +1,5 @@
 use Rattle.std.proofs.Common.{◌∙◌, ap, refl}
-use Rattle.cmb_vcd.specs.ValueChanges.{within}
+use Rattle.cmb_vcd.specs.Inner.ValueChanges.{within}
 use Rattle.cmb_vcd.proofs.TraceFacts.{between}
 use Rattle.cmb_vcd.proofs.value_changes.changes_within.Goals as goal
 

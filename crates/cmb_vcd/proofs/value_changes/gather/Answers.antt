@@ -1,5 +1,5 @@
 use Rattle.std.proofs.Common.{◌∙◌, ◌++◌, ◌+◌, sym, ap, arith, refl, drop}
-use Rattle.cmb_vcd.specs.ValueChanges.{value_changes_of, value_changes_in}
+use Rattle.cmb_vcd.specs.Inner.ValueChanges.{value_changes_of, value_changes_in}
 use Rattle.cmb_vcd.proofs.ValueChangeFacts.{part_at, value_changes_in-next}
 use Rattle.cmb_design.proofs.LevelFacts.{push-rest}
 use Rattle.cmb_vcd.proofs.LineFacts.{rest_none}

@@ -2,7 +2,7 @@ use Rattle.std.proofs.Common.{◌≡◌, ◌<◌, ◌∙◌, ◌++◌, ◌+◌, 
 use Rattle.cmb_wave.specs.Wave.{Wave}
 use Rattle.cmb_wave.specs.Waveform.{IsTrace}
 use Rattle.cmb_vcd.specs.Collector.{wave_of}
-use Rattle.cmb_vcd.specs.ValueChanges.{all_value_changes, value_changes_of, value_changes_in, within}
+use Rattle.cmb_vcd.specs.Inner.ValueChanges.{all_value_changes, value_changes_of, value_changes_in, within}
 use Rattle.cmb_vcd.proofs.ValueChangeFacts.{all_value_changes-next, wave_here}
 use Rattle.cmb_design.proofs.LevelFacts.{push-rest}
 use Rattle.cmb_vcd.proofs.LineFacts.{rest_none}

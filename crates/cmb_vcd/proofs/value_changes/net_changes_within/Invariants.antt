@@ -1,7 +1,7 @@
 use Rattle.std.proofs.Common.{◌≡◌, ◌<◌, ℕ, ◌++◌, drop}
 use Rattle.cmb_wave.specs.Waveform.{IsTrace}
 use Rattle.cmb_vcd.specs.Collector.{wave_of}
-use Rattle.cmb_vcd.specs.ValueChanges.{all_value_changes, value_changes_in}
+use Rattle.cmb_vcd.specs.Inner.ValueChanges.{all_value_changes, value_changes_in}
 use Rattle.cmb_vcd.proofs.value_changes.net_changes_within.Given as goal
 
 abbrev pub invariant-loop-net : goal.invariant-loop-net

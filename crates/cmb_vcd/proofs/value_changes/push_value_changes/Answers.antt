@@ -1,7 +1,7 @@
 use Rattle.std.proofs.Common.{◌∙◌, ◌++◌, ◌+◌, sym, ap, arith, refl, drop, get_or}
 use Rattle.cmb_vcd.specs.declared.value_changes.ValueChange.{ValueChange}
 use Rattle.cmb_wave.specs.declared.level.Level.TheVariants as level
-use Rattle.cmb_vcd.specs.ValueChanges.{value_change_text, value_changes_text}
+use Rattle.cmb_vcd.specs.Inner.ValueChanges.{value_change_text, value_changes_text}
 use Rattle.cmb_vcd.proofs.ValueChangeFacts.{value_changes_text-next}
 use Rattle.cmb_design.proofs.LevelFacts.{push-rest}
 use Rattle.cmb_vcd.proofs.LineFacts.{rest_none}

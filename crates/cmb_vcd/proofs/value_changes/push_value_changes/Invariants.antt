@@ -1,5 +1,5 @@
 use Rattle.std.proofs.Common.{◌≡◌, ◌++◌, drop}
-use Rattle.cmb_vcd.specs.ValueChanges.{value_changes_text}
+use Rattle.cmb_vcd.specs.Inner.ValueChanges.{value_changes_text}
 use Rattle.cmb_vcd.proofs.value_changes.push_value_changes.Given as goal
 
 abbrev pub invariant-loop-event : goal.invariant-loop-event

@@ -1,7 +1,7 @@
 use Rattle.std.proofs.Common.{rules}
 use Rattle.std.proofs.lemmas.List.Sorted.{IsNonDecreasingBy-from_sort_by_key}
 use Rattle.std.proofs.lemmas.Fn.{always_returns_same}
-use Rattle.cmb_vcd.specs.ValueChanges.{tick_of}
+use Rattle.cmb_vcd.specs.Inner.ValueChanges.{tick_of}
 use Rattle.cmb_vcd.proofs.OrderFacts.{stays_by_tick}
 use Rattle.cmb_vcd.proofs.value_changes.sort_value_changes.Goals as goal
 

@@ -1,6 +1,6 @@
 use Rattle.std.proofs.Common.{◌∙◌, ap, if◌then◌else◌}
 use Rattle.cmb_wave.specs.declared.level.Level.TheVariants.{One}
-use Rattle.cmb_words.specs.Masked.{inverse_if}
+use Rattle.cmb_words.specs.Inner.Masked.{inverse_if}
 use Rattle.cmb_words.specs.Word.{level_at_place}
 use Rattle.cmb_words.proofs.GateFacts.{gate-made}
 use Rattle.cmb_words.proofs.gates.gate2_any.Goals as goal

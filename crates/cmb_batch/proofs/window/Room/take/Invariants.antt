@@ -1,5 +1,5 @@
 use Rattle.std.proofs.Common.{take}
-use Rattle.cmb_batch.specs.Merges.{AreOwn, AreOwnCrossing}
+use Rattle.cmb_batch.specs.Inner.Merges.{AreOwn, AreOwnCrossing}
 use Rattle.cmb_batch.proofs.window.Room.take.Given as goal
 
 abbrev pub invariant-loop-one : goal.invariant-loop-one

@@ -2,7 +2,7 @@ use Rattle.std.proofs.Common.{◌≡◌, ◌≤◌, ◌*◌, ◌/◌, ◌++◌, 
 use Rattle.std.specs.Vec.{with_items}
 use Rattle.std.proofs.lemmas.List.{with_items_is}
 use Rattle.cmb_calendar.specs.Calendars.{Calendar, Notes, day_begin}
-use Rattle.cmb_calendar.specs.Days.{tells_of}
+use Rattle.cmb_calendar.specs.Inner.Days.{tells_of}
 use Rattle.cmb_calendar.specs.declared.tell.Tell.{Tell}
 use Rattle.cmb_calendar.proofs.DayFacts.{lists_of, days-more, tells-more}
 use Rattle.cmb_calendar.proofs.calendar.Calendar.note.Goals as goal

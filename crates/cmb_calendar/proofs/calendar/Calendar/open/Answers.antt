@@ -1,5 +1,5 @@
 use Rattle.std.proofs.Common.{◌+◌, ◌/◌, List, ap, ◌∙◌}
-use Rattle.cmb_calendar.specs.Days.{tells_of}
+use Rattle.cmb_calendar.specs.Inner.Days.{tells_of}
 use Rattle.cmb_calendar.specs.declared.tell.Tell.{Tell}
 use Rattle.cmb_calendar.proofs.DayFacts.{tells-none}
 use Rattle.cmb_calendar.proofs.calendar.Calendar.open.Goals as goal

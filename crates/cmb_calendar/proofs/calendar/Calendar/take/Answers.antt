@@ -4,7 +4,7 @@ use Rattle.std.specs.Prelude.{OnOk}
 use Rattle.std.specs.Vec.{with_items}
 use Rattle.std.proofs.lemmas.List.{with_items_is}
 use Rattle.cmb_calendar.specs.Calendars.{Calendar, Takes}
-use Rattle.cmb_calendar.specs.Days.{tells_of}
+use Rattle.cmb_calendar.specs.Inner.Days.{tells_of}
 use Rattle.cmb_calendar.specs.declared.tell.Tell.{Tell}
 use Rattle.cmb_calendar.proofs.DayFacts.{lists_of, tells-early, tells-late}
 use Rattle.cmb_calendar.proofs.calendar.Calendar.take.Goals as goal

@@ -1,6 +1,6 @@
 use Rattle.std.proofs.Common.{◌≡◌, ◌∙◌, ◌++◌, List, ℕ, Bool, if◌then◌else◌, ap, subst, sym}
 use Rattle.std.specs.Prelude.{is_ok}
-use Rattle.cmb_choice.specs.Runs.{Run, shown_text}
+use Rattle.cmb_choice.specs.Inner.Runs.{Run, shown_text}
 use Rattle.cmb_choice.proofs.RunFacts.{both-ok, shown-more, tells-as}
 use Rattle.cmb_design.specs.Value.{value}
 use Rattle.cmb_choice.proofs.excerpt_run.Run.step.Goals as goal

@@ -3,7 +3,8 @@ use Rattle.std.specs.Prelude.{is_some}
 use Rattle.std.proofs.lemmas.Bool.{lt-ltb, le-ltb}
 use Rattle.cmb_design.specs.Design.{Design}
 use Rattle.cmb_core.specs.declared.span.Span.{Span}
-use Rattle.cmb_core.specs.Clusters.{Cluster, IsNextSpan, output_slot, reach_at, slot_wave}
+use Rattle.cmb_core.specs.Clusters.{Cluster, output_slot, slot_wave}
+use Rattle.cmb_core.specs.Inner.Spans.{IsNextSpan, reach_at}
 use Rattle.cmb_core.specs.Step.{wave_at, step_reach}
 use Rattle.cmb_core.proofs.Driven.{Drives, wave_here, net_here, reach_is}
 use Rattle.cmb_core.proofs.Inputs.{output_slot_is}

@@ -5,7 +5,7 @@ use Rattle.std.proofs.lemmas.Bool.{ltb-false}
 use Rattle.cmb_wave.specs.Wave.{Wave, Piece}
 use Rattle.cmb_design.specs.Exact.{IsExactIn, IsExactWaveIn}
 use Rattle.cmb_core.specs.Rows.{slot_of}
-use Rattle.cmb_core.specs.Clusters.{new_part}
+use Rattle.cmb_core.specs.Inner.Spans.{new_part}
 use Rattle.cmb_core.proofs.Inputs.{other_still}
 use Rattle.cmb_core.proofs.Slots.{slot_there}
 use Rattle.cmb_core.proofs.Driven.{Drives, step_part_is, step_waves_are}

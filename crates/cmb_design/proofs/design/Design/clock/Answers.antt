@@ -1,5 +1,5 @@
 use Rattle.std.proofs.Common.{◌<◌, ◌∙◌, arith, length, sym}
-use Rattle.cmb_design.specs.Inside.{seen}
+use Rattle.cmb_design.specs.Inner.Inside.{seen}
 use Rattle.cmb_design.proofs.PlaceFacts.{slot, slot_within}
 use Rattle.cmb_design.proofs.AskFacts.{clock_read}
 use Rattle.cmb_design.proofs.design.Design.clock.Goals as goal

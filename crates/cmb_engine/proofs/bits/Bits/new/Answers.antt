@@ -1,5 +1,5 @@
 use Rattle.std.proofs.Common.{◌≡◌, ◌+◌, ◌/◌, replicate, ap, ◌∙◌, rules}
-use Rattle.cmb_engine.specs.Bits.{has}
+use Rattle.cmb_engine.specs.Inner.Bits.{has}
 use Rattle.cmb_engine.proofs.BitFacts.{has-none}
 use Rattle.cmb_engine.proofs.bits.Bits.new.Goals as goal
 

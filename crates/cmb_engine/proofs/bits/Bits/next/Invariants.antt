@@ -1,6 +1,6 @@
 use Rattle.std.proofs.Common.{◌*◌}
-use Rattle.cmb_engine.specs.Bits.{HasNone}
-use Rattle.cmb_engine.specs.Walks.{walked}
+use Rattle.cmb_engine.specs.Inner.Bits.{HasNone}
+use Rattle.cmb_engine.specs.Inner.Walks.{walked}
 use Rattle.cmb_engine.proofs.bits.Bits.next.Given as goal
 
 abbrev pub invariant-loop-k : goal.invariant-loop-k

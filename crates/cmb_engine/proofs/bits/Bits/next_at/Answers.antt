@@ -1,7 +1,7 @@
 use Rattle.std.proofs.Common.{◌≡◌, ◌+◌, ◌*◌, List, ℕ, get_or, subst, refl, sym, ◌∙◌, arith, rules}
 use Rattle.std.proofs.lemmas.List.{get_or_read}
-use Rattle.cmb_engine.specs.Bits.{HasNone, IsNext, IsAhead}
-use Rattle.cmb_engine.specs.Walks.{walked}
+use Rattle.cmb_engine.specs.Inner.Bits.{HasNone, IsNext, IsAhead}
+use Rattle.cmb_engine.specs.Inner.Walks.{walked}
 use Rattle.cmb_engine.proofs.WalkFacts.{walk-none, walk-some, walk-empty, walk-past}
 use Rattle.cmb_engine.proofs.bits.Bits.next_at.Goals as goal
 

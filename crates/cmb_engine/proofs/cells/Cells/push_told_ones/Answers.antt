@@ -1,7 +1,7 @@
 use Rattle.std.proofs.Common.{List, [], ◌∷◌, ◌++◌, append_assoc, ap, ◌∙◌}
 use Rattle.std.specs.Prelude.{replicate}
 use Rattle.std.proofs.lemmas.List.{replicate_more}
-use Rattle.cmb_engine.specs.Cells.{Cell, Told}
+use Rattle.cmb_engine.specs.Inner.Cells.{Cell, Told}
 use Rattle.cmb_engine.proofs.cells.Cells.push_told_ones.Goals as goal
 
 pub loop-preserved : goal.loop-preserved

@@ -1,8 +1,8 @@
 use Rattle.std.proofs.Common.{◌≡◌, List, [], ◌∷◌, length, get_or, sym, ap, subst, ◌∙◌, arith}
 use Rattle.cmb_words.specs.Word.{level_at_place}
-use Rattle.cmb_engine.specs.Cells.{Cell, Told, Gate, IsLawful, cell_level}
-use Rattle.cmb_engine.specs.Tables.{cell_of}
-use Rattle.cmb_engine.specs.Words.{levels_of}
+use Rattle.cmb_engine.specs.Inner.Cells.{Cell, Told, Gate, IsLawful, cell_level}
+use Rattle.cmb_engine.specs.Inner.Tables.{cell_of}
+use Rattle.cmb_engine.specs.Inner.Words.{levels_of}
 use Rattle.cmb_engine.specs.declared.cell.Pin.{Pin}
 use Rattle.cmb_engine.proofs.TableFacts.{read-cell}
 use Rattle.cmb_engine.proofs.WordFacts.{levels_of-read}

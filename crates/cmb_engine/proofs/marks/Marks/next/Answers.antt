@@ -1,6 +1,6 @@
 use Rattle.std.proofs.Common.{◌≡◌, ◌+◌, ◌*◌, ◌/◌, ◌%◌, List, ℕ, length, MatchOption, ap, subst, ◌∙◌, arith}
-use Rattle.cmb_engine.specs.Bits.{HasNone, IsNext}
-use Rattle.cmb_engine.specs.Walks.{walked}
+use Rattle.cmb_engine.specs.Inner.Bits.{HasNone, IsNext}
+use Rattle.cmb_engine.specs.Inner.Walks.{walked}
 use Rattle.cmb_engine.proofs.MarkFacts.{marks-none, marks-room, marks-in_word}
 use Rattle.cmb_engine.proofs.marks.Marks.next.Goals as goal
 

@@ -1,5 +1,5 @@
 use Rattle.std.proofs.Common.{◌≡◌, ◌+◌, ◌≤◌, ℕ, List, length, replicate, sym, subst, ap₂, ◌∙◌, arith, rules}
-use Rattle.cmb_engine.specs.Lists.{lists_between, AreStarts}
+use Rattle.cmb_engine.specs.Inner.Lists.{lists_between, AreStarts}
 use Rattle.cmb_engine.proofs.JoinFacts.{none-between, starts-none}
 use Rattle.cmb_engine.proofs.readers.Readers.empty.Goals as goal
 

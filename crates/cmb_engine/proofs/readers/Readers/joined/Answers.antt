@@ -1,7 +1,7 @@
 use Rattle.std.proofs.Common.{◌≡◌, ℕ, List, [], ◌∷◌, ◌++◌, length, map, take, sym, ap, ap₂, ◌∙◌, arith}
 use Rattle.std.proofs.lemmas.List.{map_more}
 use Rattle.smallvec.specs.SmallVec.{SmallVec}
-use Rattle.cmb_engine.specs.Lists.{lists_between}
+use Rattle.cmb_engine.specs.Inner.Lists.{lists_between}
 use Rattle.cmb_engine.proofs.JoinFacts.{lists_between-append, starts-append}
 use Rattle.cmb_engine.proofs.readers.Readers.joined.Goals as goal
 

@@ -1,5 +1,5 @@
 use Rattle.std.proofs.Common.{◌≡◌, length, map, take}
-use Rattle.cmb_engine.specs.Lists.{lists_between, AreStarts}
+use Rattle.cmb_engine.specs.Inner.Lists.{lists_between, AreStarts}
 use Rattle.cmb_engine.proofs.readers.Readers.joined.Given as goal
 
 abbrev pub invariant-loop-list : goal.invariant-loop-list

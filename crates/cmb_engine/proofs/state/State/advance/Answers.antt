@@ -8,13 +8,13 @@ use Rattle.cmb_design.specs.Value.{value}
 use Rattle.cmb_words.specs.declared.changed.Changed.{Changed}
 use Rattle.cmb_words.specs.declared.word.Word.{Word}
 use Rattle.cmb_words.specs.Changes.{RisesWithin, is_among}
-use Rattle.cmb_engine.specs.Bits.{has}
-use Rattle.cmb_engine.specs.Cells.{IsSteadyFrom}
-use Rattle.cmb_engine.specs.Circuits.{AreQuiet, Shows}
-use Rattle.cmb_engine.specs.Gifts.{AreGiven}
-use Rattle.cmb_engine.specs.Lines.{IsAhead, IsOfLine, NotesEach}
-use Rattle.cmb_engine.specs.Traces.{trace_of}
-use Rattle.cmb_engine.specs.Words.{levels_of}
+use Rattle.cmb_engine.specs.Inner.Bits.{has}
+use Rattle.cmb_engine.specs.Inner.Cells.{IsSteadyFrom}
+use Rattle.cmb_engine.specs.Inner.Circuits.{AreQuiet, Shows}
+use Rattle.cmb_engine.specs.Inner.Gifts.{AreGiven}
+use Rattle.cmb_engine.specs.Inner.Lines.{IsAhead, IsOfLine, NotesEach}
+use Rattle.cmb_engine.specs.Inner.Traces.{trace_of}
+use Rattle.cmb_engine.specs.Inner.Words.{levels_of}
 use Rattle.cmb_engine.specs.declared.cell.Pin.{Pin}
 use Rattle.cmb_engine.proofs.CollectFacts.{HasWord}
 use Rattle.cmb_engine.proofs.EngineFacts.{at-end, before-horizon, gift-slots, later, lines-ahead, next-ahead, next-shows, told-slots, window-changes}

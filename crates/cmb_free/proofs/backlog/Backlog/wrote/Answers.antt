@@ -3,7 +3,7 @@ use Rattle.std.specs.Prelude.{unwrap_or}
 use Rattle.cmb_vcd.specs.Collector.{IsExactFrom, least}
 use Rattle.cmb_vcd.specs.Writer.{IsNotBefore}
 use Rattle.cmb_vcd.proofs.ForgetFacts.{forgot_exact}
-use Rattle.cmb_free.specs.Tellers.{Backlog}
+use Rattle.cmb_free.specs.Inner.Tellers.{Backlog}
 use Rattle.cmb_free.proofs.TellerFacts.{later-from}
 use Rattle.cmb_free.proofs.backlog.Backlog.wrote.Goals as goal
 

@@ -3,7 +3,7 @@ use Rattle.std.specs.Io.KnownBytes.{Appends}
 use Rattle.std.specs.Prelude.{unwrap_or}
 use Rattle.std.proofs.lemmas.Result.{err_from_is_err_and}
 use Rattle.cmb_vcd.specs.Collector.{IsExactFrom, least}
-use Rattle.cmb_free.specs.Tellers.{Backlog, IsWithin, told}
+use Rattle.cmb_free.specs.Inner.Tellers.{Backlog, IsWithin, told}
 use Rattle.cmb_free.proofs.TellerFacts.{HasBegun-told, IsCutOff-told, teller-more, told-more-fits, told-to}
 use Rattle.cmb_free.proofs.teller.Teller.tell.Goals as goal
 

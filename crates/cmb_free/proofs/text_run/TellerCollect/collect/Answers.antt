@@ -1,7 +1,7 @@
 use Rattle.std.proofs.Common.{◌≡◌, ◌∙◌, ap}
 use Rattle.std.proofs.lemmas.Result.{err_from_is_err_and}
 use Rattle.std.specs.Io.KnownBytes.{Appends}
-use Rattle.cmb_free.specs.Tellers.{told}
+use Rattle.cmb_free.specs.Inner.Tellers.{told}
 use Rattle.cmb_free.proofs.TellerFacts.{HasBegun-told, told-last}
 use Rattle.cmb_free.proofs.text_run.TellerCollect.collect.Goals as goal
 use Rattle.cmb_free.proofs.text_run.TellerCollect.collect.Goals.{in-None, in-Some+in_ok-found+in-End}

@@ -1,6 +1,6 @@
 use Rattle.std.proofs.Common.{◌≡◌, ◌<◌}
 use Rattle.std.specs.Io.KnownBytes.{Appends}
-use Rattle.cmb_free.specs.Tellers.{IsWithin, told}
+use Rattle.cmb_free.specs.Inner.Tellers.{IsWithin, told}
 use Rattle.cmb_free.proofs.text_run.TellerCollect.collect.Given as goal
 
 -- the sink took what the teller gave

@@ -1,4 +1,4 @@
-use Rattle.cmb_pipeline.specs.Opened.{IsMakerOf}
+use Rattle.cmb_pipeline.specs.Inner.Opened.{IsMakerOf}
 use Rattle.cmb_pipeline.proofs.stage.Stage.run.Given as goal
 
 abbrev pub invariant-loop : goal.invariant-loop

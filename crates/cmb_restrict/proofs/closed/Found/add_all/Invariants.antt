@@ -1,5 +1,5 @@
 use Rattle.std.proofs.Common.{◌≡◌, length, take}
-use Rattle.cmb_restrict.specs.Found.{IsFound, Gains}
+use Rattle.cmb_restrict.specs.Inner.Found.{IsFound, Gains}
 use Rattle.cmb_restrict.proofs.closed.Found.add_all.Given as goal
 
 abbrev pub invariant-loop-net : goal.invariant-loop-net

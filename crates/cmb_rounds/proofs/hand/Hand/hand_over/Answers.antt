@@ -6,7 +6,7 @@ use Rattle.cmb_core.specs.Opened.{IsClusterOf}
 use Rattle.cmb_core.specs.Step.{wave_at}
 use Rattle.cmb_core.proofs.Steps.{wave_at-net}
 use Rattle.cmb_vcd.specs.Collector.{wave_of}
-use Rattle.cmb_rounds.specs.Rounds.{Hand}
+use Rattle.cmb_rounds.specs.Inner.Rounds.{Hand}
 use Rattle.cmb_rounds.proofs.HandFacts.{own_among}
 use Rattle.cmb_rounds.proofs.hand.Hand.hand_over.Goals as goal
 

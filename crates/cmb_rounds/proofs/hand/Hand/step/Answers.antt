@@ -1,5 +1,5 @@
 use Rattle.std.proofs.Common.{ap}
-use Rattle.cmb_rounds.specs.Rounds.{Hand}
+use Rattle.cmb_rounds.specs.Inner.Rounds.{Hand}
 use Rattle.cmb_rounds.proofs.HandFacts.{sweep_goes_on_as}
 use Rattle.cmb_rounds.proofs.hand.Hand.step.Goals as goal
 

@@ -1,5 +1,5 @@
 use Rattle.std.proofs.Common.{◌≡◌, ◌≤◌, ◌-◌, length}
-use Rattle.cmb_team.specs.Batches.{last_clock}
+use Rattle.cmb_team.specs.Inner.Batches.{last_clock}
 use Rattle.cmb_team.proofs.batch.Batch.fill.Given as goal
 
 abbrev pub invariant-loop-self : goal.invariant-loop-self

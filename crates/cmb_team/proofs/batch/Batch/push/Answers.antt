@@ -1,5 +1,5 @@
 use Rattle.std.proofs.Common.{◌≡◌, ◌∙◌, ◌≤◌, ◌-◌, length, take, ap, arith, subst, sym}
-use Rattle.cmb_team.specs.Batches.{Batch, AreIn, last_clock}
+use Rattle.cmb_team.specs.Inner.Batches.{Batch, AreIn, last_clock}
 use Rattle.cmb_team.proofs.BatchFacts.{AreOf-push}
 use Rattle.cmb_team.proofs.batch.Batch.push.Goals as goal
 

@@ -1,0 +1,20 @@
+-- What the functions inside the crate promise each other. No public contract cites it.
+pub mod Ahead
+pub mod Arrivals
+pub mod Bits
+pub mod Cells
+pub mod Circuits
+pub mod Gifts
+pub mod Lines
+pub mod Lists
+pub mod Plans
+pub mod Roles
+pub mod Starts
+pub mod States
+pub mod Sweeps
+pub mod Tables
+pub mod Tells
+pub mod Traces
+pub mod Walks
+pub mod Windows
+pub mod Words

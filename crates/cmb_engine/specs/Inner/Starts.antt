@@ -1,0 +1,36 @@
+-- What is told of told slots when an engine begins.
+use Rattle.std.specs.Prelude.{◌≡◌, ◌≢◌, ℕ, ◌+◌, ◌-◌, ◌<◌, ◌≤◌, true, List, Some, slice_get}
+use Rattle.cmb_wave.specs.declared.level.Level.{Level}
+use Rattle.cmb_wave.specs.declared.level.Level.TheVariants.{X}
+use Rattle.cmb_bench.specs.Netlist.{driver_of}
+use Rattle.cmb_bench.specs.declared.netlist.Driver.TheVariants.{Input}
+use Rattle.cmb_calendar.specs.declared.tell.Tell.{Tell}
+use Rattle.cmb_design.specs.Design.{Design}
+use Rattle.cmb_design.specs.Exact.{nets_of}
+use Rattle.cmb_design.specs.Timing.{stimulus}
+use Rattle.cmb_engine.specs.Inner.Roles.{drives}
+use Rattle.cmb_engine.specs.declared.cell.Pin.{Pin}
+use Rattle.cmb_engine.specs.declared.role.Role.{Role}
+
+-- a tell is of a change of a net's stimulus, after tick 0 and below the design's horizon
+pub record IsOfStimulus (design : Design) (net : ℕ) (tell : Tell) : Type 0 where
+  pub slot : tell.slot ≡ net
+  pub later : 1 ≤ tell.tick
+  pub within : tell.tick < design.horizon
+  pub differs : stimulus design net (tell.tick - 1) ≢ stimulus design net tell.tick
+  pub level : tell.level ≡ stimulus design net tell.tick
+
+-- a tell is of a change of a driven input
+pub record IsOfInput (design : Design) (roles : List Role) (tell : Tell) : Type 0 where
+  pub net : tell.slot < nets_of design
+  pub input : driver_of design.netlist tell.slot ≡ Input
+  pub driven : drives roles tell.slot ≡ true
+  pub change : IsOfStimulus design tell.slot tell
+
+-- a tell is of the first change of a line: to the level that its net has at tick 0, where that isn't x
+pub record IsOfStart (words : ℕ → ℕ → Level) (lines : List Pin) (nets : ℕ) (tell : Tell) : Type 0 where
+  pub number : ℕ
+  pub line : Pin
+  pub has_number : slice_get lines number ≡ Some line
+  pub known : words line.net 63 ≢ X
+  pub is : tell ≡ record { tick = line.delay; slot = nets + number; level = words line.net 63 }

@@ -1,0 +1,38 @@
+-- What an engine keeps, and what it is at a clock.
+use Rattle.std.specs.Prelude.{◌≡◌, ℕ, ◌*◌, ◌^◌, ◌<◌, ◌≤◌, length}
+use Rattle.cmb_design.specs.Design.{Design}
+use Rattle.cmb_design.specs.Exact.{nets_of}
+use Rattle.cmb_engine.specs.Inner.Ahead.{TellsAhead}
+use Rattle.cmb_engine.specs.Inner.Bits.{has}
+use Rattle.cmb_engine.specs.Inner.Circuits.{AreQuiet, IsWiring, Shows}
+use Rattle.cmb_engine.specs.Inner.Lines.{AreFollowers}
+use Rattle.cmb_engine.specs.Inner.Roles.{AreRoles}
+use Rattle.cmb_engine.specs.Shares.{ShareEngine, IsDriven, IsGiven}
+use Rattle.cmb_engine.specs.Inner.Traces.{IsPlan, trace_of}
+use Rattle.cmb_engine.specs.Inner.Words.{levels_of}
+use Rattle.cmb_engine.specs.declared.circuit.Circuit.{Circuit}
+use Rattle.cmb_engine.specs.declared.state.State.{State}
+
+-- a circuit is that of a design: what it does with each net, its plan, who reads each slot, and which lines follow each net
+pub record IsCircuit (design : Design) (circuit : Circuit) : Type 0 where
+  pub roles : AreRoles design circuit.wiring.roles.items
+  pub plan : IsPlan design circuit.wiring.roles.items circuit.lines.items circuit.wiring.most circuit.width circuit.wiring.cells
+  pub wires : IsWiring circuit.wiring.cells circuit.wiring.readers circuit.wiring.flops.items circuit.wiring.most
+  pub few : length circuit.wiring.cells < 2 ^ 32
+  pub follow : AreFollowers circuit.lines.items (nets_of design) circuit.followers
+
+-- the state of a design's engine: its words show what the slots show up to its clock, and its calendar what is told from there on
+pub record IsState (design : Design) (circuit : Circuit) (state : State) : Type 0 where
+  pub slots : length state.words.items ≡ length circuit.wiring.cells
+  pub live_room : length circuit.wiring.cells ≤ 64 * length state.live
+  pub marks_room : length circuit.wiring.cells ≤ 64 * length state.marks
+  pub shows : Shows (levels_of state.words.items) (trace_of design circuit.wiring.roles.items circuit.lines.items) (length circuit.wiring.cells) state.clock
+  pub quiet : AreQuiet (levels_of state.words.items) (has state.live) (length circuit.wiring.cells)
+  pub ahead : TellsAhead design circuit.wiring.roles.items circuit.lines.items circuit.width circuit.wiring.cells state.clock state.calendar
+  pub begun : 1 ≤ state.clock
+  pub within : state.clock ≤ design.horizon
+
+-- the engine of a share that is all nets, to which nothing is given
+pub record DrivesAll (share : ShareEngine) : Type 0 where
+  pub all : (net : ℕ) → net < nets_of share.design → IsDriven share.driven net
+  pub alone : (net : ℕ) → IsGiven share.design share.driven net → ⊥
