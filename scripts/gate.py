@@ -1,7 +1,8 @@
 #!/usr/bin/env python3
 """gate.py: the gate. It runs `rt ci` (every proof from nothing, the must-fail edits, the tests, the programs) and
-then the program on whole files and the tools on small ones, sees that docs/MODEL.md lists what has to be believed, and
-says at the end what each part came to and what it took. The last line is 'N passed, M failed' over all; the status is 0 where nothing failed.
+then the program on whole files and the tools on small ones, sees that docs/MODEL.md lists what has to be believed and that
+the other definitions stand apart, and says at the end what each part came to and what it took. The last line is
+'N passed, M failed' over all; the status is 0 where nothing failed.
 
 Each check gets one job, as many checks at a time as there are processors: more jobs for one check take up to twice as
 much of the processors, which other checks can use. Where RT_JOBS is set already it stays as it is.
@@ -148,13 +149,15 @@ def main():
     ran, wrong = run(["scripts/end_to_end.sh", built()], {})
     held, broken = run(["tools/test_tools.py"], {})
     untrue = subprocess.run(["scripts/believed.py", "--check"], cwd=TOP).returncode
+    apart, mixed = run(["scripts/inner.py"], {})
     meter.stopped.set()
     counts["end to end"] = ran
     show(meter, counts, [("rt ci", between - began), ("end to end", time.monotonic() - between)])
     print(f"end to end: {ran} passed")
     print(f"tools: {held} passed")
-    failed = unproved + wrong + broken + bool(untrue)
-    print(f"{proved + ran + held + (not untrue)} passed, {failed} failed")
+    print(f"files of definitions: {apart} passed")
+    failed = unproved + wrong + broken + mixed + bool(untrue)
+    print(f"{proved + ran + held + apart + (not untrue)} passed, {failed} failed")
     return 1 if failed else 0
 
 

@@ -8,8 +8,10 @@ use Rattle.cmb_wave.specs.declared.level.Promise.{Promise}
 use Rattle.cmb_design.specs.Design.{Design}
 use Rattle.cmb_design.specs.Exact.{nets_of, IsRightIn}
 use Rattle.cmb_links.specs.Promises.{promise_of_word, newest}
-use Rattle.cmb_links.specs.Seats.{driver, after_publish, after_look, after_raise, after_check, after_finish, after_count, only, joined}
-use Rattle.cmb_links.specs.Boards.{IsBoard, seats_of}
+use Rattle.cmb_links.specs.Seats.{driver, after_publish, after_look, after_raise, after_check, after_finish, after_count}
+use Rattle.cmb_links.specs.Inner.BoardSteps.{only, joined}
+use Rattle.cmb_links.specs.Boards.{IsBoard}
+use Rattle.cmb_links.specs.Inner.BoardSteps.{seats_of}
 use Rattle.cmb_links.specs.Inner.BoardSteps.{Leaves, Publishes, Looks, Raises, Checks, Finishes, Counts}
 use Rattle.cmb_links.specs.declared.view.BoardTerms.{BoardTerms}
 use Rattle.cmb_links.specs.declared.view.View.{View}

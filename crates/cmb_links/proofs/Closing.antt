@@ -12,7 +12,8 @@ use Rattle.atomic_table.proofs.Lists.{at_map}
 use Rattle.cmb_wave.specs.declared.level.Promise.{Promise}
 use Rattle.cmb_design.specs.Exact.{nets_of}
 use Rattle.cmb_links.specs.Promises.{promise, promise_of_word, newest}
-use Rattle.cmb_links.specs.Seats.{SeatData, driver, joined, AreAllSeats}
+use Rattle.cmb_links.specs.Seats.{SeatData, driver, AreAllSeats}
+use Rattle.cmb_links.specs.Inner.BoardSteps.{joined}
 use Rattle.cmb_links.specs.Boards.{IsBoard, IsKnown, EndsAs, published_at, promise_at, any_raised, some_raised, count_finished, number_finished}
 use Rattle.cmb_links.specs.declared.view.BoardTerms.{BoardTerms}
 use Rattle.cmb_links.specs.declared.view.View.{View}

@@ -2,7 +2,7 @@
 use Rattle.std.proofs.Common.{◌≡◌, ℕ, zero, suc, ◌+◌, ◌≤◌, List, [], ◌∷◌, ◌++◌, length, set, sym, refl, ap, ◌∙◌, arith, append_assoc, append-nil, length-append}
 use mathlib.Core.Option.{some, some-injective, some-ne-none}
 use lib.ListN.{get_elem?}
-use Rattle.cmb_links.specs.Seats.{joined}
+use Rattle.cmb_links.specs.Inner.BoardSteps.{joined}
 use Rattle.cmb_links.specs.declared.view.View.{View}
 
 -- the k-th place behind some views

@@ -8,7 +8,8 @@ use Rattle.cmb_wave.specs.Calls.{word_of}
 use Rattle.cmb_wave.specs.declared.level.Promise.{Promise}
 use Rattle.cmb_design.specs.Exact.{nets_of, IsRightIn}
 use Rattle.cmb_links.specs.Promises.{promise_of_word, newest}
-use Rattle.cmb_links.specs.Seats.{SeatData, driver, after_look, after_check, after_count, only}
+use Rattle.cmb_links.specs.Seats.{SeatData, driver, after_look, after_check, after_count}
+use Rattle.cmb_links.specs.Inner.BoardSteps.{only}
 use Rattle.cmb_links.specs.Boards.{IsKnown, Moment, published_at, some_raised, number_finished}
 use Rattle.cmb_links.specs.declared.view.Stops.{Stops}
 use Rattle.cmb_links.specs.declared.view.View.{View}

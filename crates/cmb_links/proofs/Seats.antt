@@ -15,8 +15,10 @@ use Rattle.cmb_wave.proofs.Waveforms.{changes_between-same}
 use Rattle.cmb_design.specs.Design.{Design}
 use Rattle.cmb_design.specs.Exact.{nets_of}
 use Rattle.cmb_design.specs.Value.{value, count}
-use Rattle.cmb_links.specs.Seats.{SeatData, driver, new_view, cut_left, cut_right, new_seat, new_seats, IsSeatOf, only, joined}
-use Rattle.cmb_links.specs.Boards.{MayPublish, IsSeated, IsKnown, IsBoard, published_at, seats_of}
+use Rattle.cmb_links.specs.Seats.{SeatData, driver, new_view, new_seat, new_seats, IsSeatOf}
+use Rattle.cmb_links.specs.Inner.BoardSteps.{cut_left, cut_right, only, joined}
+use Rattle.cmb_links.specs.Boards.{MayPublish, IsSeated, IsKnown, IsBoard, published_at}
+use Rattle.cmb_links.specs.Inner.BoardSteps.{seats_of}
 use Rattle.cmb_links.specs.declared.view.BoardTerms.{BoardTerms}
 use Rattle.cmb_links.specs.declared.view.View.{View}
 use Rattle.cmb_links.proofs.Allowed.{Law}

@@ -9,7 +9,7 @@ use Rattle.cmb_wave.specs.declared.level.Promise.{Promise}
 use Rattle.cmb_design.specs.Design.{Design}
 use Rattle.cmb_design.specs.Exact.{nets_of, IsRightIn}
 use Rattle.cmb_links.specs.Promises.{promise, newest, NeverFalls}
-use Rattle.cmb_links.specs.Seats.{driver, joined}
+use Rattle.cmb_links.specs.Seats.{driver}
 use Rattle.cmb_links.specs.declared.view.BoardTerms.{BoardTerms}
 use Rattle.cmb_links.specs.declared.view.Stops.{Stops}
 use Rattle.cmb_links.specs.declared.view.Endings.{Endings}
@@ -87,11 +87,7 @@ pub record IsBoard (t : BoardTerms) (s : State (Unit {0}) View) : Type 0 where
   pub stop : IsStopKept (slice_index s.words (nets_of t.design)) (map (λ (v : View). v.stops) s.views)
   pub finished : IsEndKept (slice_index s.words (nets_of t.design + 1)) (map (λ (v : View). v.endings) s.views)
 
--- the words, and the views of all seats in order
-abbrev pub seats_of : State (Unit {0}) (List View) → State (Unit {0}) View
-seats_of s = record { words = s.words; homes = s.homes; views = joined s.views }
-
--- ---- steps
+-- ---- between two steps
 
 -- some state of words and views that the board's rule allows has this view at the seat's place, and P holds of it
 abbrev pub Moment : View → (State (Unit {0}) View → Type 0) → Type 0

@@ -5,7 +5,6 @@ use Rattle.atomic_table.specs.Seated.{TableId}
 use Rattle.cmb_wave.specs.declared.level.Promise.{Promise}
 use Rattle.cmb_design.specs.Design.{Design}
 use Rattle.cmb_core.specs.Clustering.{Clustering, cluster_of}
-use Rattle.cmb_links.specs.Inner.Ends.{no_design}
 use Rattle.cmb_links.specs.Workers.{worker_of}
 use Rattle.cmb_links.specs.declared.view.BoardTerms.{BoardTerms}
 use Rattle.cmb_links.specs.declared.view.Told.{Told}
@@ -31,19 +30,6 @@ new_view t place last = record {
   stops = record { raised = false; loads = [] };
   endings = record { finished = false; loads = [] };
 }
-
--- What the table keeps for a seat is a list: its one view. The seat that closes the board has the views of all, and a seat that was
--- joined to it has none
-abbrev pub no_view : View
-no_view = new_view (terms no_design record { clusters = 0; assign = [] } 0) 0 false
-
-abbrev pub only : List View → View
-only [] = no_view
-only (v ∷ vs) = v
-
-abbrev pub joined : List (List View) → List View
-joined [] = []
-joined (x ∷ xs) = x ++ joined xs
 
 -- after it published p
 abbrev pub after_publish : View → Promise → View
@@ -94,10 +80,3 @@ pub record AreAllSeats (board : TableId) (seats : List SeatData) : Type 0 where
   pub same : All (λ (s : SeatData). s.board ≡ board) seats
   pub order : map (λ (s : SeatData). s.view.place) seats ≡ range_with_len 0 (length seats)
   pub all : All (λ (s : SeatData). length seats ≡ s.view.terms.workers + 1) seats
-
--- the last seat cuts another, which is then the last
-abbrev pub cut_left : View → View
-cut_left v = record v { is_last = false }
-
-abbrev pub cut_right : View → View
-cut_right v = new_view v.terms (v.place + 1) true

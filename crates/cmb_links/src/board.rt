@@ -25,7 +25,8 @@ struct Law;
 impl TableRule<(), Views, Told> for Law {
     ghost use Rattle.std.specs.Prelude.{true, [], ◌∷◌};
     ghost use Rattle.cmb_links.specs.Seats.{terms_of, new_view};
-    ghost use Rattle.cmb_links.specs.Boards.{IsBoard, seats_of};
+    ghost use Rattle.cmb_links.specs.Boards.{IsBoard};
+    ghost use Rattle.cmb_links.specs.Inner.BoardSteps.{seats_of};
 
     ghost holds = { λ told s. IsBoard (terms_of told) (seats_of s) };
 
@@ -86,7 +87,7 @@ struct Cut;
 
 impl Split<Views> for Cut {
     ghost use Rattle.std.specs.Prelude.{[], ◌∷◌};
-    ghost use Rattle.cmb_links.specs.Seats.{cut_left, cut_right, only};
+    ghost use Rattle.cmb_links.specs.Inner.BoardSteps.{cut_left, cut_right, only};
 
     ghost left = { λ v. cut_left (only v) ∷ [] };
 
@@ -139,7 +140,8 @@ pub struct Seat {
 impl Model for Seat {
     ghost use Rattle.std.specs.Prelude.{◌≡◌, ◌+◌, [], ◌∷◌};
     ghost use Rattle.cmb_design.specs.Exact.{nets_of};
-    ghost use Rattle.cmb_links.specs.Seats.{SeatData, only};
+    ghost use Rattle.cmb_links.specs.Seats.{SeatData};
+    ghost use Rattle.cmb_links.specs.Inner.BoardSteps.{only};
 
     ghost Value = { SeatData };
 

@@ -1,5 +1,5 @@
 use Rattle.std.proofs.Common.{◌≡◌, ◌+◌, ◌<◌, false, ap}
-use Rattle.cmb_links.specs.Seats.{only}
+use Rattle.cmb_links.specs.Inner.BoardSteps.{only}
 use Rattle.cmb_links.proofs.Allowed.{finish_allowed}
 use Rattle.cmb_links.proofs.Loads.{at_board}
 use Rattle.cmb_links.proofs.board.Board.finish.Goals as goal

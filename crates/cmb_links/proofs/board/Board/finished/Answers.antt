@@ -1,5 +1,6 @@
 use Rattle.std.proofs.Common.{◌≡◌, ◌+◌, rules, ap, sym}
-use Rattle.cmb_links.specs.Seats.{after_count, only}
+use Rattle.cmb_links.specs.Seats.{after_count}
+use Rattle.cmb_links.specs.Inner.BoardSteps.{only}
 use Rattle.cmb_links.proofs.Allowed.{count_allowed}
 use Rattle.cmb_links.proofs.Loads.{Counted, as_seen, at_board, looks_at_end}
 use Rattle.cmb_links.proofs.board.Board.finished.Goals as goal

@@ -1,6 +1,7 @@
 use Rattle.std.proofs.Common.{◌≡◌, ◌<◌, rules, arith, sym, subst}
 use Rattle.cmb_design.specs.Exact.{nets_of}
-use Rattle.cmb_links.specs.Seats.{after_look, only}
+use Rattle.cmb_links.specs.Seats.{after_look}
+use Rattle.cmb_links.specs.Inner.BoardSteps.{only}
 use Rattle.cmb_links.proofs.Allowed.{look_allowed}
 use Rattle.cmb_links.proofs.Loads.{Looked, as_seen, at_board, looks}
 use Rattle.cmb_links.proofs.board.Board.look.Goals as goal

@@ -1,7 +1,8 @@
 use Rattle.std.proofs.Common.{◌≡◌, ◌≤◌, rules, arith}
 use Rattle.cmb_design.specs.Exact.{IsRightIn}
 use Rattle.cmb_links.specs.Promises.{newest}
-use Rattle.cmb_links.specs.Seats.{driver, only}
+use Rattle.cmb_links.specs.Seats.{driver}
+use Rattle.cmb_links.specs.Inner.BoardSteps.{only}
 use Rattle.cmb_links.proofs.Allowed.{publish_allowed}
 use Rattle.cmb_links.proofs.Loads.{at_board}
 use Rattle.cmb_links.proofs.board.Board.publish.Goals as goal

@@ -1,5 +1,6 @@
 use Rattle.std.proofs.Common.{◌≡◌, ◌==◌, rules, arith, sym}
-use Rattle.cmb_links.specs.Seats.{after_check, only}
+use Rattle.cmb_links.specs.Seats.{after_check}
+use Rattle.cmb_links.specs.Inner.BoardSteps.{only}
 use Rattle.cmb_links.proofs.Allowed.{check_allowed}
 use Rattle.cmb_links.proofs.Loads.{Checked, as_seen, at_board, looks_at_stop}
 use Rattle.cmb_links.proofs.board.Board.raised.Goals as goal
