@@ -10,6 +10,7 @@ use Rattle.cmb_inputs.specs.Inputs.{AreTexts, Inputs, Texts, Input}
 use Rattle.cmb_inputs.specs.Outputs.{HasTaken, IsCutAfter, IsUntouched, Output}
 use Rattle.cmb_sim.specs.Simulation.{IsAnswer, IsFree}
 use Rattle.cmb_inout.specs.declared.fault.Fault.{Fault}
+use Rattle.cmb_inout.specs.declared.fault.Fault.TheVariants as fault
 use Rattle.cmb_inout.specs.declared.answer.Report.{Report}
 use Rattle.cmb_sim.specs.Stages.{CanRun, IsUnrun}
 use Rattle.cmb_line.specs.declared.choice.Choice.{Choice}
