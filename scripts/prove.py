@@ -1,7 +1,7 @@
 #!/usr/bin/env python3
 """prove.py NAME: proves and builds the libraries that a crate of the repository stands on, as far as they aren't built
 yet. Each begins once those below it are built, in a copy of the repository; first those on which the longest chain of
-others stands. All checks together have about as many jobs as processors (`jobs_for`). What the toolchain says goes
+others stands, by the seconds in seconds.txt. All checks together have about as many jobs as processors (`jobs_for`). What the toolchain says goes
 to standard error."""
 import concurrent.futures
 import os
@@ -14,7 +14,7 @@ import time
 import crates
 
 # On so much of the longest chain a library counts as one of those that the time goes by, and the most jobs of a check.
-NEARLY = 0.85
+NEARLY = 0.92
 MOST_JOBS = 4
 
 
@@ -49,11 +49,21 @@ def lines_of(name):
     return found
 
 
+def seconds(wanted):
+    """By library about how many seconds its proof takes with one job: as measured, or else by its lines."""
+    with open(f"{crates.TOP}/scripts/seconds.txt", encoding="utf-8") as lines:
+        rows = (it.partition("#")[0].split() for it in lines)
+        measured = {name: int(took) for name, took in filter(None, rows)}
+    known = [it for it in wanted if it in measured]
+    pace = sum(measured[it] for it in known) / max(1, sum(map(lines_of, known)))
+    return {it: measured.get(it, pace * lines_of(it)) for it in wanted}
+
+
 def chains(wanted, below):
-    """By library, the lines of the longest chain that begins with it, of libraries of which each stands on the one before."""
-    behind = {name: 0 for name in wanted}
+    """By library, the seconds of the longest chain that begins with it, of libraries of which each stands on the one before."""
+    behind, took = {name: 0 for name in wanted}, seconds(wanted)
     for name in reversed([it for it in below if it in wanted]):
-        behind[name] += lines_of(name)
+        behind[name] += took[name]
         for it in below[name]:
             behind[it] = max(behind[it], behind[name])
     return behind

@@ -327,8 +327,8 @@ def test_completions():
 
 def test_words():
     words = set()
-    for name in ("line", "explaining", "options"):
-        with open(f"{TOP}/crates/cmb_line/src/{name}.rt", encoding="utf-8") as file:
+    for name in ("reading", "explaining", "options"):
+        with open(f"{TOP}/crates/cmb_command/src/{name}.rt", encoding="utf-8") as file:
             words |= set(re.findall(r'(?:Command::new\(alloc, |name: )"([a-z-]+)"', file.read())) - {"cmbsim"}
     with open(f"{TOP}/docs/cmbsim.1", encoding="ascii") as file:
         manual = file.read().replace("\\-", "-")

@@ -1,16 +1,10 @@
-//! The program's command line: what its words ask for, and what is said of words that ask for nothing.
+//! What a command line asks for: the task, how it is run, which nets are written, and the files that it names.
 #![tactic(auto)]
 
 pub mod choice;
-mod clock;
-mod explaining;
-mod help;
 pub mod line;
 pub mod mode;
-mod options;
 
 pub use choice::{Choice, Pick};
-pub use cmb_design::Settings;
-pub use cmb_wave::Level;
-pub use line::{Line, LineFault, Task, line_message, read_line};
+pub use line::{Line, Task};
 pub use mode::Mode;

@@ -6,7 +6,9 @@ pub mod choosing;
 pub mod laws;
 mod modes;
 mod running;
+mod sharing;
 pub mod simulation;
+mod threads;
 
 pub use carrying::carry_out;
 pub use choosing::simulate_chosen;
@@ -17,7 +19,7 @@ pub use cmb_inout::{
     Done, Fault, FromBytes, FromReader, ReadFault, Report, Source, fault_line, read_whole,
 };
 pub use cmb_inputs::{InputTexts, check_design, read_texts};
-pub use cmb_line::{Choice, Line, LineFault, Mode, Pick, Task, line_message, read_line};
+pub use cmb_line::{Choice, Line, Mode, Pick, Task};
 pub use cmb_vcd::{Failed, Limited, Room, Sink, ToWriter, write_whole};
 pub use cmb_wave::Level;
 pub use simulation::simulate;

@@ -11,6 +11,7 @@ ghost use Rattle.cmb_sim.specs.Inner.Writing.{IsWriting, IsWritten};
 ghost use Rattle.cmb_vcd.specs.Vcd.{vcd};
 
 use crate::modes::{check_mode, threads_in};
+use crate::threads::{text_by_threads, write_by_threads};
 use cmb_core::{Clustering, ClusteringFault};
 use cmb_design::{Design, DesignFault, plain_waves};
 use cmb_free::{OpenGate, run_free_text};
@@ -19,7 +20,6 @@ use cmb_inputs::write_text;
 use cmb_line::Mode;
 use cmb_links::Workers;
 use cmb_rounds::run_rounds;
-use cmb_share::{text_by_threads, write_by_threads};
 use cmb_vcd::{Collector, Sink, vcd_text};
 use cmb_wave::Wave;
 use std::alloc::{AllocError, Global};

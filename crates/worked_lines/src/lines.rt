@@ -1,6 +1,8 @@
 //! Command lines.
 
-use cmb_line::{Choice, Level, Line, LineFault, Mode, Pick, Task, line_message, read_line};
+use cmb_command::{LineFault, line_message, read_line};
+use cmb_line::{Choice, Line, Mode, Pick, Task};
+use cmb_wave::Level;
 use std::alloc::{AllocError, Global};
 use std::process::Abort;
 use std::test::Fail;

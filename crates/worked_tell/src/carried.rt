@@ -1,6 +1,7 @@
 //! A line of the program, carried out over memory.
 
-use cmb_sim::{Done, Fault, FromBytes, Line, Room, carry_out, read_line};
+use cmb_command::read_line;
+use cmb_sim::{Done, Fault, FromBytes, Line, Room, carry_out};
 use cmb_tell::{Given, Kept, Tally, Timed, Watch, Watched, done_words, fault_words};
 use std::alloc::{AllocError, Global};
 use std::sync::Wait;

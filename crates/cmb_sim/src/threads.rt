@@ -17,7 +17,7 @@ use std::thread::Threads;
 /// The VCD text of a design's run, whole in memory, by so many threads at most; with one thread, or none, by
 /// `stream_text`. Threads are started only where there is enough to do for them. The text is the same for any number.
 /// Errors: memory or a thread was refused.
-pub fn text_by_threads<R: Threads + Wait + Sync>(
+pub(crate) fn text_by_threads<R: Threads + Wait + Sync>(
     rt: &R,
     alloc: Global,
     design: &Design,
@@ -37,7 +37,7 @@ pub fn text_by_threads<R: Threads + Wait + Sync>(
 /// thread, or none, by `write_stream`. What it needs of memory doesn't grow with the horizon. Whatever the fault, the
 /// sink took a beginning of the text. A failed write is the answer then and only then; else memory or a thread was
 /// refused.
-pub fn write_by_threads<R: Threads + Wait + Sync, S: Sink>(
+pub(crate) fn write_by_threads<R: Threads + Wait + Sync, S: Sink>(
     rt: &R,
     alloc: Global,
     design: &Design,

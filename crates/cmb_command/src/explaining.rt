@@ -1,7 +1,7 @@
 //! What `explain` asks for: one fault's explanation, or the list of all.
 
 use crate::help::{EXPLAIN, EXPLAIN_NUMBER};
-use crate::line::LineFault;
+use crate::reading::LineFault;
 use clap::{Arg, ArgMatches, Command};
 use cmb_explain::{explained, explanation_of, fault_list};
 use std::alloc::{AllocError, Global};

@@ -1,0 +1,329 @@
+//! The words of the program's command line, and what is said of words that ask for nothing.
+
+ghost use Rattle.std.specs.Prelude.{◌≡◌, ◌≤◌, IfOk};
+ghost use Rattle.cmb_line.specs.Modes.{IsLawful};
+
+use crate::clock::clock_of;
+use crate::explaining::{explain_command, explain_fault, explain_message};
+use crate::help::{ABOUT, BEGIN, CHECK, FILES, NETLIST_HINT, RUN, USUAL, VERSION};
+use crate::options::{RUNNING, SETTINGS, with_options};
+use clap::error::ErrorKind;
+use clap::{ArgMatches, Command, Error};
+use cmb_design::Settings;
+use cmb_line::{Choice, Line, Mode, Pick, Task};
+use cmb_wave::Level;
+use std::alloc::{AllocError, Global};
+
+/// Why the words ask for no run and no check.
+#[derive(Clone, Copy, Debug, PartialEq, Eq)]
+pub enum LineFault {
+    /// They ask for help, for the version, or for the explanation of a fault.
+    Help,
+    /// They aren't a line of the program. To ask for a fault that there isn't is none.
+    Wrong,
+    /// The value of `--clock` isn't `F:P`, in a line that isn't otherwise wrong.
+    Clock,
+    Memory,
+}
+
+impl From<AllocError> for LineFault {
+    ghost use Rattle.cmb_command.specs.declared.reading.LineFault.TheVariants.{Memory};
+
+    ghost from_gives = { λ _ e. e ≡ Memory };
+
+    fn from(_e: AllocError) -> LineFault {
+        LineFault::Memory
+    }
+}
+
+const MOST_TICKS: u32 = 1_000_000;
+
+const MOST_PARTS: u32 = 64;
+
+// The command line of `run`.
+fn run_command<'a>(alloc: Global) -> Result<Command<'a>, AllocError> {
+    let command = Command::new(alloc, "run")
+        .about(RUN)
+        .before_help(USUAL)
+        .after_help(FILES);
+    let command = with_options(alloc, command, SETTINGS)?;
+    with_options(alloc, command, RUNNING)
+}
+
+// The command line of `check`.
+fn check_command<'a>(alloc: Global) -> Result<Command<'a>, AllocError> {
+    let command = Command::new(alloc, "check").about(CHECK);
+    with_options(alloc, command, SETTINGS)
+}
+
+// The program's command line without its commands.
+fn bare_command<'a>(alloc: Global) -> Result<Command<'a>, AllocError> {
+    Ok(
+        Command::new(alloc, "cmbsim")
+            .version(VERSION)
+            .about(ABOUT)
+            .before_help(USUAL)
+            .after_help(FILES)
+            .bin_name("cmbsim")?
+            .no_binary_name(true)
+            .subcommand_required(true),
+    )
+}
+
+// A command line with one more command, where that could be made.
+fn with_command<'a>(
+    line: Command<'a>,
+    command: Result<Command<'a>, AllocError>,
+) -> Result<Command<'a>, AllocError> {
+    line.subcommand(command?)
+}
+
+// The whole command line.
+fn whole_command<'a>(alloc: Global) -> Result<Command<'a>, AllocError> {
+    let line = with_command(bare_command(alloc)?, run_command(alloc))?;
+    let line = with_command(line, check_command(alloc))?;
+    with_command(line, explain_command(alloc))
+}
+
+fn parse<'a>(alloc: Global, words: &'a [String]) -> Result<ArgMatches<'a>, Error> {
+    whole_command(alloc)?.try_get_matches_from(words)
+}
+
+fn fault_of(kind: ErrorKind) -> LineFault {
+    match kind {
+        ErrorKind::DisplayHelp | ErrorKind::DisplayVersion => LineFault::Help,
+        ErrorKind::OutOfMemory => LineFault::Memory,
+        _ => LineFault::Wrong,
+    }
+}
+
+// A number from 1 to `most`.
+fn number_up_to(text: &str, most: u32) -> Result<u32, LineFault>
+    ensures { IfOk result (λ n. (1 ≤ n) × (n ≤ most)) }
+{
+    match text.parse::<u32>() {
+        Ok(n) if 1 <= n && n <= most => Ok(n),
+        _ => Err(LineFault::Wrong),
+    }
+}
+
+fn horizon_of(matches: &ArgMatches<'_>) -> Result<u32, LineFault>
+    ensures { IfOk result (λ n. (1 ≤ n) × (n ≤ 1000000)) }
+{
+    match matches.get_str("horizon") {
+        Some(text) => number_up_to(text, MOST_TICKS),
+        None => Err(LineFault::Wrong),
+    }
+}
+
+// How many threads, workers or clusters there are, 1 where the line doesn't say.
+fn parts_of(matches: &ArgMatches<'_>, name: &str) -> Result<u32, LineFault>
+    ensures { IfOk result (λ n. (1 ≤ n) × (n ≤ 64)) }
+{
+    match matches.get_str(name) {
+        Some(text) => number_up_to(text, MOST_PARTS),
+        None => Ok(1),
+    }
+}
+
+// The mode's name. Where none is given it is rounds, but free where progress is to be seen.
+fn mode_name<'a>(matches: &ArgMatches<'a>) -> &'a str {
+    match matches.get_str("mode") {
+        Some(name) => name,
+        None if matches.get_flag("progress") => "free",
+        None => "rounds",
+    }
+}
+
+// How the design is run where threads share the work.
+fn shared_mode(matches: &ArgMatches<'_>) -> Result<Mode, LineFault>
+    ensures { IfOk result IsLawful }
+{
+    let threads = parts_of(matches, "threads")?;
+    match mode_name(matches) {
+        "plain" => Ok(Mode::Plain),
+        "free" => Ok(Mode::SharedFree { threads }),
+        _ => Ok(Mode::Shared { threads }),
+    }
+}
+
+// How the design is run.
+fn mode_of(matches: &ArgMatches<'_>) -> Result<Mode, LineFault>
+    ensures { IfOk result IsLawful }
+{
+    if matches.get_str("threads").is_some() {
+        return shared_mode(matches);
+    }
+    let workers = parts_of(matches, "workers")?;
+    let clusters = parts_of(matches, "clusters")?;
+    match mode_name(matches) {
+        "plain" => Ok(Mode::Plain),
+        "free" => Ok(Mode::Free { workers, clusters }),
+        _ => Ok(Mode::Rounds { workers, clusters }),
+    }
+}
+
+// Which nets are written.
+fn choice_of(matches: &ArgMatches<'_>) -> Choice {
+    if matches.get_str("only").is_some() {
+        Choice::Only(Pick::Listed)
+    } else if matches.get_flag("only-outputs") {
+        Choice::Only(Pick::Outputs)
+    } else {
+        Choice::All
+    }
+}
+
+fn init_of(matches: &ArgMatches<'_>) -> Level {
+    match matches.get_str("init") {
+        Some("0") => Level::Zero,
+        Some("1") => Level::One,
+        _ => Level::X,
+    }
+}
+
+fn common_clock(matches: &ArgMatches<'_>) -> Result<Option<(u32, u32)>, LineFault> {
+    match matches.get_str("clock") {
+        Some(text) => match clock_of(text) {
+            Some(clock) => Ok(Some(clock)),
+            None => Err(LineFault::Clock),
+        },
+        None => Ok(None),
+    }
+}
+
+fn file_of(
+    alloc: Global,
+    matches: &ArgMatches<'_>,
+    name: &str,
+) -> Result<Option<String>, AllocError> {
+    match matches.get_str(name) {
+        Some(text) => Ok(Some(String::from_str(alloc, text)?)),
+        None => Ok(None),
+    }
+}
+
+// The files that a line names.
+#[derive(Drop)]
+struct Files {
+    delays: Option<String>,
+    stimuli: Option<String>,
+    clocks: Option<String>,
+    only: Option<String>,
+}
+
+fn files_of(alloc: Global, matches: &ArgMatches<'_>) -> Result<Files, AllocError> {
+    Ok(Files {
+        delays: file_of(alloc, matches, "delays")?,
+        stimuli: file_of(alloc, matches, "stimuli")?,
+        clocks: file_of(alloc, matches, "clocks")?,
+        only: file_of(alloc, matches, "only")?,
+    })
+}
+
+fn settings_of(matches: &ArgMatches<'_>) -> Result<Settings, LineFault>
+    ensures { IfOk result (λ settings. (1 ≤ settings.horizon) × (settings.horizon ≤ 1000000)) }
+{
+    let horizon = horizon_of(matches)?;
+    let clock = common_clock(matches)?;
+    let init = init_of(matches);
+    Ok(Settings {
+        horizon,
+        clock,
+        init,
+    })
+}
+
+fn line_of(alloc: Global, task: Task, matches: &ArgMatches<'_>) -> Result<Line, LineFault>
+    ensures horizon { IfOk result (λ line. (1 ≤ line.settings.horizon) × (line.settings.horizon ≤ 1000000)) }
+    ensures mode { IfOk result (λ line. IsLawful line.mode) }
+{
+    let mode = mode_of(matches)?;
+    let settings = settings_of(matches)?;
+    let files = files_of(alloc, matches)?;
+    Ok(Line {
+        task,
+        explain: matches.get_flag("explain"),
+        progress: matches.get_flag("progress"),
+        stats: matches.get_flag("stats"),
+        settings,
+        mode,
+        choice: choice_of(matches),
+        delays: files.delays,
+        stimuli: files.stimuli,
+        clocks: files.clocks,
+        only: files.only,
+    })
+}
+
+// The line of the command that is met.
+fn line_in(alloc: Global, matches: &ArgMatches<'_>) -> Result<Line, LineFault>
+    ensures horizon { IfOk result (λ line. (1 ≤ line.settings.horizon) × (line.settings.horizon ≤ 1000000)) }
+    ensures mode { IfOk result (λ line. IsLawful line.mode) }
+{
+    if let Some(run) = matches.subcommand_matches("run") {
+        line_of(alloc, Task::Run, run)
+    } else if let Some(check) = matches.subcommand_matches("check") {
+        line_of(alloc, Task::Check, check)
+    } else if let Some(explain) = matches.subcommand_matches("explain") {
+        Err(explain_fault(explain))
+    } else {
+        Err(LineFault::Wrong)
+    }
+}
+
+/// Reads the words after the program's name: `run` or `check`, and its options. The horizon of a line is 1 to 1,000,000
+/// ticks, and it has 1 to 64 threads, or workers and clusters. Errors: `Help` where the words ask for help, the version
+/// or the explanation of a fault, `Wrong` where they aren't a line of the program, `Clock` where only the value of
+/// `--clock` has another form, and `Memory`.
+pub fn read_line(alloc: Global, words: &[String]) -> Result<Line, LineFault>
+    ensures horizon { IfOk result (λ line. (1 ≤ line.settings.horizon) × (line.settings.horizon ≤ 1000000)) }
+    ensures mode { IfOk result (λ line. IsLawful line.mode) }
+{
+    match parse(alloc, words) {
+        Ok(matches) => line_in(alloc, &matches),
+        Err(error) => Err(fault_of(error.kind())),
+    }
+}
+
+// What is said further of a wrong line, by what clap says of it.
+fn hint(kind: ErrorKind, text: &str) -> &'static str {
+    match kind {
+        ErrorKind::InvalidSubcommand => NETLIST_HINT,
+        ErrorKind::UnknownArgument if !text.starts_with("error: unexpected argument '-") => {
+            NETLIST_HINT
+        }
+        _ => "",
+    }
+}
+
+// What is said of words that aren't a line, or that ask for help or the version.
+fn error_message(alloc: Global, error: &Error) -> Result<String, AllocError> {
+    match error.kind() {
+        ErrorKind::OutOfMemory => Err(AllocError),
+        ErrorKind::MissingSubcommand => String::from_str(alloc, BEGIN),
+        kind => {
+            let mut text = format!(in alloc; "{error}")?;
+            let more = hint(kind, text.as_str());
+            text.push_str(more)?;
+            Ok(text)
+        }
+    }
+}
+
+// What is said of a line that was read: the explanation that it asks for.
+fn answer_message(alloc: Global, matches: &ArgMatches<'_>) -> Result<String, AllocError> {
+    match matches.subcommand_matches("explain") {
+        Some(explain) => explain_message(alloc, explain),
+        None => Ok(String::new(alloc)),
+    }
+}
+
+/// What the program says of words that ask for no run and no check: the text of help, the version or the explanation
+/// where they ask for that, else what is wrong with them and how they are written. Of other words it is empty.
+pub fn line_message(alloc: Global, words: &[String]) -> Result<String, AllocError> {
+    match parse(alloc, words) {
+        Ok(matches) => answer_message(alloc, &matches),
+        Err(error) => error_message(alloc, &error),
+    }
+}

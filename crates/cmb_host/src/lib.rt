@@ -1,0 +1,10 @@
+//! What the program does with the system: it opens files, prints, tells what a run took, and ends with a status.
+#![tactic(auto)]
+
+pub mod measures;
+pub mod statuses;
+pub mod tables;
+
+pub use measures::{Times, stats_of};
+pub use statuses::{help, no_words, refuse, status_of, tell};
+pub use tables::{Tables, Told, kept, open_tables, told_of};
