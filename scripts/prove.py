@@ -14,7 +14,7 @@ import time
 import crates
 
 # On so much of the longest chain a library counts as one of those that the time goes by, and the most jobs of a check.
-NEARLY = 0.92
+NEARLY = 0.94
 MOST_JOBS = 4
 
 
