@@ -1,0 +1,31 @@
+-- Places are set to one value, one after another.
+use Rattle.std.proofs.Common.{◌≡◌, ◌⊎◌, inl, inr, ℕ, ◌+◌, ◌<◌, List, [], ◌∷◌, ◌++◌, length, take, get_or, set, sym, ap, ◌∙◌, subst}
+use Rattle.std.specs.Prelude.{Contains}
+use Rattle.std.proofs.lemmas.Bool.{cases_eq}
+use Rattle.std.proofs.lemmas.List.{get_or-set_other, get_or-set_same, length-set, take_more}
+use Rattle.std.proofs.lemmas.List.Elements.{All-push, All-weaker, Contains-append_left, Contains-push}
+use Rattle.cmb_loops.specs.Inner.Search.{AreSet}
+
+-- one more place is set
+pub set_more : {A : Type 0} (value : A) (old now : List A) (places : List ℕ) (k : ℕ) → k < length places → get_or places k 0 < length now
+    → AreSet value old (take k places) now → AreSet value old (take (k + 1) places) (set now (get_or places k 0) value)
+set_more {A} value old now places k within inside is = rw (take_more places k 0 within) (record {
+  long = length-set now here value ∙ is.long;
+  all = λ beyond. All-push (λ place. get_or (set now here value) place beyond ≡ value) (take k places) here
+      (All-weaker (λ place. get_or now place beyond ≡ value) (λ place. get_or (set now here value) place beyond ≡ value) (λ place e. kept place beyond e (cases_eq place here))
+      (take k places) (is.all beyond)) (get_or-set_same now here value beyond inside);
+  others = λ place beyond. other place beyond (cases_eq place here) (is.others place beyond);
+})
+  where
+    here : ℕ
+    here = get_or places k 0
+
+    kept : (place : ℕ) (beyond : A) → get_or now place beyond ≡ value → (place ≡ here) ⊎ (place ≡ here → ⊥) → get_or (set now here value) place beyond ≡ value
+    kept place beyond e (inl same) = ap (λ p. get_or (set now here value) p beyond) same ∙ get_or-set_same now here value beyond inside
+    kept place beyond e (inr n) = get_or-set_other now here place value beyond n ∙ e
+
+    other : (place : ℕ) (beyond : A) → (place ≡ here) ⊎ (place ≡ here → ⊥) → Contains (take k places) place ⊎ (get_or now place beyond ≡ get_or old place beyond)
+        → Contains (take k places ++ here ∷ []) place ⊎ (get_or (set now here value) place beyond ≡ get_or old place beyond)
+    other place beyond (inl same) was = inl (subst (Contains (take k places ++ here ∷ [])) (sym same) (Contains-push (take k places) here))
+    other place beyond (inr n) (inl there) = inl (Contains-append_left (take k places) (here ∷ []) place there)
+    other place beyond (inr n) (inr e) = inr (get_or-set_other now here place value beyond n ∙ e)
