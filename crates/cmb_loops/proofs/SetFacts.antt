@@ -1,10 +1,10 @@
--- Places are set to one value, one after another.
-use Rattle.std.proofs.Common.{◌≡◌, ◌⊎◌, inl, inr, ℕ, ◌+◌, ◌<◌, List, [], ◌∷◌, ◌++◌, length, take, get_or, set, sym, ap, ◌∙◌, subst}
+-- Places are set to one value, one after another, and marks of a part to true.
+use Rattle.std.proofs.Common.{◌≡◌, ◌⊎◌, inl, inr, ℕ, ◌+◌, ◌<◌, Bool, true, false, List, [], ◌∷◌, ◌++◌, length, take, get_or, set, sym, ap, ◌∙◌, subst}
 use Rattle.std.specs.Prelude.{Contains}
 use Rattle.std.proofs.lemmas.Bool.{cases_eq}
 use Rattle.std.proofs.lemmas.List.{get_or-set_other, get_or-set_same, length-set, take_more}
-use Rattle.std.proofs.lemmas.List.Elements.{All-push, All-weaker, Contains-append_left, Contains-push}
-use Rattle.cmb_loops.specs.Inner.Search.{AreSet}
+use Rattle.std.proofs.lemmas.List.Elements.{All-contains, All-push, All-weaker, Contains-append_left, Contains-push}
+use Rattle.cmb_loops.specs.Inner.Search.{AreSet, HasEdge, IsLooped}
 
 -- one more place is set
 pub set_more : {A : Type 0} (value : A) (old now : List A) (places : List ℕ) (k : ℕ) → k < length places → get_or places k 0 < length now
@@ -29,3 +29,21 @@ set_more {A} value old now places k within inside is = rw (take_more places k 0 
     other place beyond (inl same) was = inl (subst (Contains (take k places ++ here ∷ [])) (sym same) (Contains-push (take k places) here))
     other place beyond (inr n) (inl there) = inl (Contains-append_left (take k places) (here ∷ []) place there)
     other place beyond (inr n) (inr e) = inr (get_or-set_other now here place value beyond n ∙ e)
+
+-- the nets of a part with an edge are marked
+pub looped_set : (next : ℕ → List ℕ) (old : List Bool) (part : List ℕ) (new : List Bool) → HasEdge next part → AreSet true old part new → IsLooped next old part new
+looped_set next old part new edge is = record {
+  long = is.long;
+  kept = λ net marked. by-kept net marked (is.others net false);
+  all = λ _. is.all false;
+  only = λ net marked. by-only net marked (is.others net false);
+}
+  where
+    by-kept : (net : ℕ) → get_or old net false ≡ true → Contains part net ⊎ (get_or new net false ≡ get_or old net false) → get_or new net false ≡ true
+    by-kept net marked (inl there) = All-contains (λ place. get_or new place false ≡ true) part net (is.all false) there
+    by-kept net marked (inr e) = e ∙ marked
+
+    by-only : (net : ℕ) → get_or new net false ≡ true → Contains part net ⊎ (get_or new net false ≡ get_or old net false)
+        → (get_or old net false ≡ true) ⊎ (Contains part net × HasEdge next part)
+    by-only net marked (inl there) = inr (there, edge)
+    by-only net marked (inr e) = inl (sym e ∙ marked)
