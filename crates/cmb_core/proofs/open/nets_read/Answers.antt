@@ -15,8 +15,8 @@ loop-net-preserved c =
           let long : length w.mark_pins.new.read ≡ length c.loop-net.read.items = w.mark_pins.auto.read ∙ ap length w.deref_mut.ensures.value in
           subst P (sym (ap items w.read-is ∙ with_items_is c.loop-net.read w.mark_pins.new.read (w.mark_pins.auto.read ∙ w.deref_mut.ensures.len)))
           (read_own c.args.design.now c.args.clustering.now c.args.cluster c.loop-net.net c.loop-net.read.items w.mark_pins.new.read w.driver.result.now c.loop-net.invariant
-            (sym c.of.ensures ∙ w.if-of-cluster.true) (w.driver.ensures ∙ ap (λ (n : Netlist). driver_of n c.loop-net.net) c.netlist-netlist.ensures) long
-            (rw w.deref_mut.ensures.value at w.mark_pins.ensures))
+          (sym c.of.ensures ∙ w.if-of-cluster.true) (w.driver.ensures ∙ ap (λ (n : Netlist). driver_of n c.loop-net.net) c.netlist-netlist.ensures) long
+          (rw w.deref_mut.ensures.value at w.mark_pins.ensures))
       | else-of-cluster w ↦
           subst P (sym (ap items w.read-is))
           (read_other c.args.design.now c.args.clustering.now c.args.cluster c.loop-net.net c.loop-net.read.items c.loop-net.invariant (λ own. w.if-of-cluster.false (c.of.ensures ∙ own)))
