@@ -1,5 +1,5 @@
 -- A cluster: its processes and the waves that it has, and what a step does to it.
-use Rattle.std.specs.Prelude.{◌≡◌, ℕ, suc, ◌<◌, nat_lt, List, [], ◌∷◌, if◌then◌else◌, length, map, slice_index_or, Option, Some, None, IsSome, Result, Ok, Err, IsOk, Bool, false, ◌==◌}
+use Rattle.std.specs.Prelude.{◌≡◌, ℕ, suc, ◌<◌, ◌-◌, nat_lt, List, [], ◌∷◌, if◌then◌else◌, length, map, slice_index_or, Option, Some, None, IsSome, Result, Ok, Err, IsOk, Bool, false, ◌==◌}
 use Rattle.std.specs.List.{list_all}
 use Rattle.cmb_wave.specs.Waveform.{changes_between}
 use Rattle.cmb_wave.specs.Wave.{Wave, Piece, new_wave, wave_with_piece}
