@@ -1,4 +1,4 @@
-use Rattle.std.proofs.Common.{◌≡◌, ◌+◌, ℕ, List, take, get_or, ap, subst, ◌∙◌}
+use Rattle.std.proofs.Common.{◌≡◌, ◌+◌, ℕ, List, take, get_or, ap, arith, subst, ◌∙◌}
 use Rattle.std.proofs.lemmas.List.{take_all, take_more, length_push}
 use Rattle.cmb_core.specs.Opened.{AreProcessesOf}
 use Rattle.cmb_core.proofs.OpeningFacts.{processes_more, starts_more}
@@ -23,3 +23,6 @@ pub returns-clause-processes : goal.returns-clause-processes
 returns-clause-processes c =
     subst (λ (nets : List ℕ). AreProcessesOf c.args.design.now c.args.clustering.now c.args.cluster nets c.loop-net.nodes.items)
     (take_all c.loop-net.net-index c.args.nets.now c.loop-net-test.false) c.loop-net.invariant.processes
+
+pub returns-clause-count : goal.returns-clause-count
+returns-clause-count c = omega (arith, c.loop-net.invariant.count, c.loop-net-test.false, c.loop-net.auto.net-index-end)
