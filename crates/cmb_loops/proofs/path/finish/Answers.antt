@@ -75,6 +75,14 @@ given c =
 more : (c : After-truncate) → c.args.search.now.done + length (take (length c.as_slice.result.now - c.args.place) (drop c.args.place c.as_slice.result.now)) ≡ c.args.search.now.done + length (drop c.args.place c.args.search.now.path.items)
 more c = ap (λ nets. c.args.search.now.done + length nets) (part c)
 
+pub overflow_add-search : goal.overflow_add-search
+overflow_add-search c =
+    let under = c.requires.scanned.2 in
+    let ok = c.args.search.now.seen.ok in
+    let small = c.args.search.now.seen.small in
+    rw (part_is c.as_slice.result.now c.args.search.now.path.items c.args.place c.as_slice.ensures.value)
+    (omega (arith, under.room, under.sized, ok.0, small, length-drop c.args.place c.args.search.now.path.items))
+
 pub returns-clause-under : goal.returns-clause-under
 returns-clause-under c =
     let long : vec_len c.args.search.now.starts ≡ length c.args.search.now.starts.items = let ok = c.args.search.now.starts.ok.0 in omega (arith, ok) in

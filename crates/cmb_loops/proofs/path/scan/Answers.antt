@@ -1,6 +1,7 @@
 use Rattle.std.proofs.Common.{◌≡◌, ◌∙◌, ap, arith}
 use Rattle.cmb_loops.specs.declared.search.Search.{Search}
-use Rattle.cmb_loops.proofs.PathFacts.{last_within, net_read, scan_done, scan_on, targets_read}
+use Rattle.cmb_loops.specs.declared.search.Seen.TheVariants.{New}
+use Rattle.cmb_loops.proofs.PathFacts.{last_within, net_read, scan_done, scan_on, seen_read, targets_read}
 use Rattle.cmb_loops.proofs.path.scan.Goals.{in-On, in-Done}
 use Rattle.cmb_loops.proofs.path.scan.Goals as goal
 
@@ -55,6 +56,17 @@ loop-next-preserved c =
             frames = ap (λ (s : Search). s.frames.items) same ∙ c.loop-next.invariant.frames;
           }
     ]
+
+pub returns-in-New-clause-scanned : goal.returns-in-New-clause-scanned
+returns-in-New-clause-scanned c =
+    let at = targets_read c.args.netlist.now c.args.steps c.args.search.now c.loop-next.search c.args.search.now.frames.items c.args.frame c.index.result.now c.targets_from-targets.result.now c.requires
+    c.index.ensures c.loop-next.invariant.path c.targets_from-targets.ensures in
+    let within = rw at at c.loop-next-test.true in (
+      within,
+      seen_read c.args.netlist.now c.args.steps c.loop-next.search _ _ c.loop-next.next c.index-in-loop-next.result.now New c.loop-next.invariant.under within
+          (rw at at c.index-in-loop-next.ensures) c.in-New.is,
+      c.loop-next.invariant.under,
+    )
 
 pub returns-clause-scanned : goal.returns-clause-scanned
 returns-clause-scanned c =
