@@ -1,4 +1,4 @@
-use Rattle.std.proofs.Common.{◌≡◌, ◌+◌, List, [], ◌∷◌, ◌++◌, arith, length, refl}
+use Rattle.std.proofs.Common.{◌≡◌, ◌+◌, List, [], ◌∷◌, ◌++◌, ◌<◌, arith, length, refl, rules}
 use Rattle.std.proofs.lemmas.List.{length_push}
 use Rattle.cmb_loops.specs.Inner.Search.{targets_at}
 use Rattle.cmb_loops.proofs.PathFacts.{descended, descended_fresh, descended_still, last_within, net_read, targets_read}
@@ -16,6 +16,13 @@ index-requires c =
 pub targets_from-targets-requires : goal.targets_from-targets-requires
 targets_from-targets-requires c =
     net_read c.args.netlist.now c.args.steps c.args.search.now c.args.search.now.frames.items (record { place = c.args.place; next = c.args.next }) c.index.result.now c.requires.2 c.index.ensures
+
+pub offset_bounds-targets-next : goal.offset_bounds-targets-next
+offset_bounds-targets-next c =
+    let at = targets_read c.args.netlist.now c.args.steps c.args.search.now c.args.search.now c.args.search.now.frames.items (record { place = c.args.place; next = c.args.next }) c.index.result.now
+    c.targets_from-targets.result.now c.requires.2 c.index.ensures refl c.targets_from-targets.ensures in
+    let within : c.args.next < length c.targets_from-targets.result.now = rw at c.requires.0 in
+    search (rules, within)
 
 pub bounds-targets-next : goal.bounds-targets-next
 bounds-targets-next c =

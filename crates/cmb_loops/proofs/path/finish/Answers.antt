@@ -1,4 +1,4 @@
-use Rattle.std.proofs.Common.{◌≡◌, ◌<◌, ◌+◌, ◌-◌, ◌∙◌, sym, ap, subst, arith, vec_len, List, ℕ, length, drop, take}
+use Rattle.std.proofs.Common.{rules, ◌≡◌, ◌<◌, ◌+◌, ◌-◌, ◌∙◌, sym, ap, subst, arith, vec_len, List, ℕ, length, drop, take}
 use Rattle.std.specs.Prelude.{All}
 use Rattle.std.specs.Vec.{with_items}
 use Rattle.std.proofs.lemmas.List.{length-drop, with_items_is}
@@ -14,6 +14,12 @@ use Rattle.cmb_loops.proofs.NewFacts.{fewer_new, still_closed}
 use Rattle.cmb_loops.proofs.PathFacts.{finished, last_within, part_is, path_inside}
 use Rattle.cmb_loops.proofs.path.finish.Goals.{After-truncate}
 use Rattle.cmb_loops.proofs.path.finish.Goals as goal
+
+pub offset_bounds-as_slice-place : goal.offset_bounds-as_slice-place
+offset_bounds-as_slice-place c =
+    let low = last_within c.args.netlist.now c.args.steps c.args.search.now c.args.search.now.frames.items (record { place = c.args.place; next = c.requires.scanned.0 }) c.requires.scanned.2 in
+    let within : c.args.place < length c.as_slice.result.now = rw c.as_slice.ensures.value low in
+    search (rules, within)
 
 pub slice_bounds-part-count : goal.slice_bounds-part-count
 slice_bounds-part-count c =
