@@ -1,8 +1,9 @@
 -- The parts of opening a cluster.
-use Rattle.std.proofs.Common.{◌≡◌, ℕ, zero, suc, ◌+◌, ◌<◌, ◌≤◌, Bool, true, false, ◌||◌, cond, eqb, List, [], ◌∷◌, ◌++◌, ◌⊎◌, inl, inr, length, get_or, set, drop, Option, Some, None, IsSome, refl, sym, ◌∙◌, ap, arith, get_or-set_same, get_or-set_other}
+use Rattle.std.proofs.Common.{◌≡◌, ℕ, zero, suc, add-one, ◌+◌, ◌<◌, ◌≤◌, Bool, true, false, ◌&&◌, ◌||◌, cond, eqb, List, [], ◌∷◌, ◌++◌, ◌⊎◌, inl, inr, length, get_or, set, take, drop, Option, Some, None, IsSome, refl, sym, ◌∙◌, ap, arith, get_or-set_same, get_or-set_other}
 use Rattle.std.specs.Prelude.{All, filter, option_map}
-use Rattle.std.specs.List.{AllByRecursion, range_with_len}
+use Rattle.std.specs.List.{AllByRecursion, list_any, range_with_len}
 use Rattle.std.proofs.lemmas.Bool.{eq-eqb, ne_eqb, cases_eq}
+use Rattle.std.proofs.lemmas.List.Folds.{list_any_more}
 use Rattle.std.proofs.lemmas.List.{drop_more}
 use Rattle.std.proofs.lemmas.List.Elements.{All-from_recursion}
 use Rattle.cmb_wave.specs.declared.level.Level.{Level}
@@ -11,16 +12,17 @@ use Rattle.cmb_wave.specs.Waveform.{changes_between}
 use Rattle.cmb_wave.specs.Wave.{Wave}
 use Rattle.cmb_wave.proofs.Waveforms.{changes_between-rises}
 use Rattle.cmb_bench.specs.declared.netlist.Kind.{Kind}
-use Rattle.cmb_bench.specs.Netlist.{MayTake}
+use Rattle.cmb_bench.specs.declared.netlist.Driver.{Driver}
+use Rattle.cmb_bench.specs.Netlist.{MayTake, driver_of, pins_of}
 use Rattle.cmb_design.specs.Design.{Design}
 use Rattle.cmb_design.specs.Timing.{delay}
 use Rattle.cmb_design.proofs.AskFacts.{rises-within}
 use Rattle.cmb_core.specs.declared.process.Pin.{Pin}
 use Rattle.cmb_core.specs.declared.process.Rule.TheVariants.{Input, Gate, Flop}
-use Rattle.cmb_core.specs.Clustering.{Clustering}
+use Rattle.cmb_core.specs.Clustering.{Clustering, cluster_of, net_reads, some_below}
 use Rattle.cmb_core.specs.Clusters.{AreOperands}
 use Rattle.cmb_core.specs.Opened.{IsProcessOf, AreProcessesOf}
-use Rattle.cmb_core.specs.Inner.Opening.{ArePlaced, AreAt, AreWhole, StartsOn, AllStartOn}
+use Rattle.cmb_core.specs.Inner.Opening.{ArePlaced, AreRead, AreAt, AreWhole, StartsOn, AllStartOn}
 use Rattle.cmb_core.specs.Rows.{Process, IsReadyFor, AreReady, is_given}
 use Rattle.cmb_core.specs.Directory.{place_in, driven_among, given_among}
 
@@ -29,6 +31,49 @@ use Rattle.cmb_core.specs.Directory.{place_in, driven_among, given_among}
 or_false : (a b : Bool) → ((a || false) || b) ≡ (a || b)
 or_false true b = refl
 or_false false b = refl
+
+or_true : (a b : Bool) → ((a || true) || b) ≡ true
+or_true true b = refl
+or_true false b = refl
+
+-- the net on one more pin is marked
+pub mark_more : (pins : List ℕ) (read : List Bool) (k : ℕ) (before : Bool) (net : ℕ) → k < length pins → get_or pins k 0 < length read
+    → get_or read net false ≡ (list_any (λ pin. eqb pin net) (take k pins) || before)
+    → get_or (set read (get_or pins k 0) true) net false ≡ (list_any (λ pin. eqb pin net) (take (k + 1) pins) || before)
+mark_more pins read k before net within inside e = rw (list_any_more (λ pin. eqb pin net) pins k 0 within) (go (cases_eq net (get_or pins k 0)))
+  where
+    any : Bool
+    any = list_any (λ pin. eqb pin net) (take k pins)
+
+    go : (net ≡ get_or pins k 0) ⊎ (net ≡ get_or pins k 0 → ⊥) → get_or (set read (get_or pins k 0) true) net false ≡ ((any || eqb (get_or pins k 0) net) || before)
+    go (inl same) =
+        ap (λ n. get_or (set read (get_or pins k 0) true) n false) same ∙ get_or-set_same read (get_or pins k 0) true false inside
+        ∙ sym (ap (λ b. (any || b) || before) (eq-eqb (get_or pins k 0) net (sym same)) ∙ or_true any before)
+    go (inr ne) =
+        get_or-set_other read (get_or pins k 0) net true false ne ∙ e
+        ∙ sym (ap (λ b. (any || b) || before) (ne_eqb (get_or pins k 0) net (λ q. ne (sym q))) ∙ or_false any before)
+
+-- one more net is looked at: one of the cluster's own, whose pins are marked, or another
+pub read_own : (design : Design) (clustering : Clustering) (cluster upto : ℕ) (old new : List Bool) (driver : Driver) → AreRead design clustering cluster upto old
+    → cluster_of clustering upto ≡ cluster → driver ≡ driver_of design.netlist upto → length new ≡ length old
+    → ((net : ℕ) → get_or new net false ≡ (list_any (λ pin. eqb pin net) (pins_of driver) || get_or old net false)) → AreRead design clustering cluster (upto + 1) new
+read_own design clustering cluster upto old new driver is own here long marked = record {
+  count = long ∙ is.count;
+  each = λ net within.
+      let reads = λ (reader : ℕ). eqb (cluster_of clustering reader) cluster && net_reads design reader net in
+      rw add-one (marked net ∙ ap (λ (d : Driver). list_any (λ pin. eqb pin net) (pins_of d) || get_or old net false) here
+      ∙ ap (λ (b : Bool). net_reads design upto net || b) (is.each net within)
+      ∙ ap (λ (b : Bool). (b && net_reads design upto net) || some_below reads upto) (sym (eq-eqb (cluster_of clustering upto) cluster own)));
+}
+
+pub read_other : (design : Design) (clustering : Clustering) (cluster upto : ℕ) (read : List Bool) → AreRead design clustering cluster upto read → (cluster_of clustering upto ≡ cluster → ⊥)
+    → AreRead design clustering cluster (upto + 1) read
+read_other design clustering cluster upto read is other = record {
+  count = is.count;
+  each = λ net within.
+      let reads = λ (reader : ℕ). eqb (cluster_of clustering reader) cluster && net_reads design reader net in
+      rw add-one (is.each net within ∙ ap (λ (b : Bool). (b && net_reads design upto net) || some_below reads upto) (sym (ne_eqb (cluster_of clustering upto) cluster other)));
+}
 
 -- ---- numbers that pass a test
 

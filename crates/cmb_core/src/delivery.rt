@@ -5,10 +5,11 @@ ghost use Rattle.cmb_core.specs.Deliveries.{delivery_fault};
 ghost use Rattle.cmb_core.specs.Faults.{number_of_deliver_fault};
 
 use cmb_wave::WaveFault;
+use std::fmt;
 use thiserror::Error;
 
 /// Why a cluster refuses a piece.
-#[derive(Clone, Copy, Debug, PartialEq, Eq, Error)]
+#[derive(Clone, Copy, PartialEq, Eq, Error)]
 pub enum DeliverFault {
     /// 44: the cluster has no input wave of the net.
     #[error("the cluster has no input wave of the net")]
@@ -39,6 +40,13 @@ impl DeliverFault {
             DeliverFault::Clash { .. } => 47,
             DeliverFault::Memory => 70,
         }
+    }
+}
+
+// In the words of `Display`: a derived one prints in each of five arms.
+impl fmt::Debug for DeliverFault {
+    fn fmt<W: fmt::Write>(&self, f: &mut fmt::Formatter<W>) -> fmt::Result {
+        fmt::Display::fmt(self, f)
     }
 }
 

@@ -9,7 +9,7 @@ use cmb_bench::{Driver, Kind, Netlist};
 use cmb_design::Design;
 
 /// What drives the nets that are counted together.
-#[derive(Clone, Copy, Debug, PartialEq, Eq)]
+#[derive(Clone, Copy)]
 pub enum DriverKind {
     /// INPUT statements.
     Inputs,

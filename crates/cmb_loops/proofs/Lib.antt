@@ -6,3 +6,4 @@ pub mod StartFacts
 pub mod NumberFacts
 pub mod PathFacts
 pub mod BeginFacts
+pub mod SetFacts

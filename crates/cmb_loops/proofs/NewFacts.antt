@@ -25,6 +25,13 @@ still_entered old new net place within e x h = by (cases_eq x net)
     by (inl same) = let f : seen_of new x ≡ On place = ap (seen_of new) same ∙ ap (λ s. seen_of s net) e ∙ get_or-set_same old net (On place) New within in absurd cc
     by (inr ne) = sym (ap (λ s. seen_of s x) e ∙ get_or-set_other old net x (On place) New ne) ∙ h
 
+-- a net that was entered is not new later on
+pub found_entered : (old new later : List Seen) (net place : ℕ) → net < length old → new ≡ set old net (On place) → IsStill new later → seen_of later net ≢ New
+found_entered old new later net place within e still x =
+    let on : seen_of new net ≡ On place = ap (λ s. seen_of s net) e ∙ get_or-set_same old net (On place) New within in
+    let fresh : seen_of new net ≡ New = still net x in
+    absurd cc
+
 -- where no net became new there are no more new ones
 pub fewer_new : (old new : List Seen) → length new ≡ length old → IsStill old new → count_by is_new new ≤ count_by is_new old
 fewer_new [] [] long still = omega arith

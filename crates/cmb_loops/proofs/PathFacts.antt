@@ -51,7 +51,7 @@ targets_read netlist steps begun search frames frame net read under at same is =
     let e : net ≡ get_or search.path.items frame.place 0 = get_or_read begun.path.items frame.place net within at 0 ∙ ap (λ path. get_or path frame.place 0) (sym same) in
     is ∙ ap (targets netlist steps) e
 
-seen_read : (netlist : Netlist) (steps : Steps) (search : Search) (frames : List Frame) (net next : ℕ) (read state : Seen) → IsUnderWay netlist steps search frames
+pub seen_read : (netlist : Netlist) (steps : Steps) (search : Search) (frames : List Frame) (net next : ℕ) (read state : Seen) → IsUnderWay netlist steps search frames
     → next < length (targets netlist steps net) → read ≡ get_or search.seen.items (get_or (targets netlist steps net) next 0) read → read ≡ state
     → seen_of search.seen.items (get_or (targets netlist steps net) next 0) ≡ state
 seen_read netlist steps search frames net next read state under within is e =

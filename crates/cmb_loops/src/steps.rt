@@ -7,7 +7,7 @@ use cmb_bench::{Driver, Netlist};
 use std::slice;
 
 /// Which steps count.
-#[derive(Clone, Copy, Debug, PartialEq, Eq)]
+#[derive(Clone, Copy)]
 pub enum Steps {
     /// Those from a gate to its operands, and from a flip-flop to its data.
     All,

@@ -1,11 +1,14 @@
 use Rattle.std.proofs.Common.{◌≡◌, ◌+◌, ◌<◌, ℕ, [], true, false, cond, take, get_or, length, ◌++◌, ◌∷◌, arith, sym, ◌∙◌, ap}
-use Rattle.std.proofs.lemmas.List.{take_more, length-take-le, get_or_read, append-nil}
+use Rattle.std.proofs.lemmas.List.{take_all, take_more, length-take-le, get_or_read, append-nil}
 use Rattle.cmb_core.specs.declared.process.Rule.TheVariants.{Given}
 use Rattle.cmb_core.specs.Rows.{Process, is_given}
 use Rattle.cmb_core.specs.Directory.{driven_among, given_among}
 use Rattle.cmb_core.proofs.OpeningFacts.{driven_more, given_more}
 use Rattle.cmb_core.proofs.open.sides_of.Goals as goal
 use Rattle.cmb_core.proofs.open.sides_of.Goals.{then-is_given+in_ok-push, else-is_given+in_ok-push-2}
+
+pub bounds-nodes-i : goal.bounds-nodes-i
+bounds-nodes-i c = omega (arith, c.requires, c.loop-i-test.true)
 
 pub loop-i-preserved : goal.loop-i-preserved
 loop-i-preserved c =
@@ -32,3 +35,9 @@ loop-i-preserved c =
             given = ap (λ v. v.items) w.given-is ∙ c.loop-i.invariant.given ∙ sym (given ∙ ap (λ b. given_among (take i c.args.nodes.now) (take i c.args.nets.now) ++ cond b (get_or c.args.nets.now i 0 ∷ []) []) test ∙ append-nil _);
           }
     ])
+
+pub returns : goal.returns
+returns c =
+    let nodes = take_all c.loop-i.i c.args.nodes.now (omega (arith, c.requires, c.loop-i-test.false)) in
+    let nets = take_all c.loop-i.i c.args.nets.now c.loop-i-test.false in
+    (rw (nodes, nets) at c.loop-i.invariant.driven, rw (nodes, nets) at c.loop-i.invariant.given)

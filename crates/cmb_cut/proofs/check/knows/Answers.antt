@@ -1,5 +1,5 @@
 use Rattle.std.proofs.Common.{◌≡◌, ◌<◌, inl, inr, false, get_or, sym, ◌∙◌, arith}
-use Rattle.std.proofs.lemmas.Bool.{ltb-true}
+use Rattle.std.proofs.lemmas.Bool.{false≢true, ltb-true}
 use Rattle.std.proofs.lemmas.List.{get_or_read}
 use Rattle.cmb_cut.proofs.ShareFacts.{share_drives}
 use Rattle.cmb_cut.proofs.check.knows.Goals.{then-index, else-index}
@@ -14,7 +14,7 @@ returns-then-is_given c = λ given. elim c.if-index.branch [
       let marked = get_or_read c.args.sharing.now.crossing.items c.args.net c.index.result.now (omega (arith, c.requires.shaped.crossed, c.requires.net)) c.index.ensures false in
       inr (omega (arith, e, l), sym marked ∙ w.if-index.true)
       )
-  | else-index w ↦ absurd (cc (c.if-is_given.true, w.is_given-is))
+  | else-index w ↦ absurd (false≢true (sym w.if-index.false ∙ sym w.is_given-is ∙ c.if-is_given.true))
 ]
 
 pub returns-else-is_given : goal.returns-else-is_given

@@ -1,7 +1,7 @@
-use Rattle.std.proofs.Common.{◌≡◌, ◌<◌, ◌+◌, ◌-◌, ◌∙◌, sym, ap, subst, arith, vec_len, List, ℕ, length, drop, take}
+use Rattle.std.proofs.Common.{rules, ◌≡◌, ◌<◌, ◌+◌, ◌-◌, ◌∙◌, sym, ap, subst, arith, vec_len, List, ℕ, length, drop, take}
 use Rattle.std.specs.Prelude.{All}
 use Rattle.std.specs.Vec.{with_items}
-use Rattle.std.proofs.lemmas.List.{with_items_is}
+use Rattle.std.proofs.lemmas.List.{length-drop, with_items_is}
 use Rattle.std.proofs.lemmas.List.Elements.{All-drop}
 use Rattle.cmb_loops.specs.Loops.{targets}
 use Rattle.cmb_loops.specs.Inner.Search.{AreSet, IsLooped, IsUnderWay}
@@ -11,9 +11,29 @@ use Rattle.cmb_loops.specs.declared.search.Seen.TheVariants.{Done}
 use Rattle.cmb_loops.specs.declared.steps.Steps.{Steps}
 use Rattle.cmb_bench.specs.Netlist.{Netlist}
 use Rattle.cmb_loops.proofs.NewFacts.{fewer_new, still_closed}
-use Rattle.cmb_loops.proofs.PathFacts.{finished, part_is, path_inside}
+use Rattle.cmb_loops.proofs.PathFacts.{finished, last_within, part_is, path_inside}
 use Rattle.cmb_loops.proofs.path.finish.Goals.{After-truncate}
 use Rattle.cmb_loops.proofs.path.finish.Goals as goal
+
+pub offset_bounds-as_slice-place : goal.offset_bounds-as_slice-place
+offset_bounds-as_slice-place c =
+    let low = last_within c.args.netlist.now c.args.steps c.args.search.now c.args.search.now.frames.items (record { place = c.args.place; next = c.requires.scanned.0 }) c.requires.scanned.2 in
+    let within : c.args.place < length c.as_slice.result.now = rw c.as_slice.ensures.value low in
+    search (rules, within)
+
+pub slice_bounds-part-count : goal.slice_bounds-part-count
+slice_bounds-part-count c =
+    let within = last_within c.args.netlist.now c.args.steps c.args.search.now c.args.search.now.frames.items (record { place = c.args.place; next = c.requires.scanned.0 }) c.requires.scanned.2 in
+    rw c.as_slice.ensures.value (omega (arith, within))
+
+pub mark_loops-requires-clause-some : goal.mark_loops-requires-clause-some
+mark_loops-requires-clause-some c =
+    let within = last_within c.args.netlist.now c.args.steps c.args.search.now c.args.search.now.frames.items (record { place = c.args.place; next = c.requires.scanned.0 }) c.requires.scanned.2 in
+    rw (part_is c.as_slice.result.now c.args.search.now.path.items c.args.place c.as_slice.ensures.value)
+    (omega (arith, within, length-drop c.args.place c.args.search.now.path.items))
+
+pub mark_loops-requires-clause-long : goal.mark_loops-requires-clause-long
+mark_loops-requires-clause-long c = ap length c.as_mut_slice.ensures.value ∙ c.requires.scanned.2.is.long ∙ c.requires.scanned.2.sized
 
 pub mark_loops-requires-clause-inside : goal.mark_loops-requires-clause-inside
 mark_loops-requires-clause-inside c =
@@ -60,6 +80,14 @@ given c =
 
 more : (c : After-truncate) → c.args.search.now.done + length (take (length c.as_slice.result.now - c.args.place) (drop c.args.place c.as_slice.result.now)) ≡ c.args.search.now.done + length (drop c.args.place c.args.search.now.path.items)
 more c = ap (λ nets. c.args.search.now.done + length nets) (part c)
+
+pub overflow_add-search : goal.overflow_add-search
+overflow_add-search c =
+    let under = c.requires.scanned.2 in
+    let ok = c.args.search.now.seen.ok in
+    let small = c.args.search.now.seen.small in
+    rw (part_is c.as_slice.result.now c.args.search.now.path.items c.args.place c.as_slice.ensures.value)
+    (omega (arith, under.room, under.sized, ok.0, small, length-drop c.args.place c.args.search.now.path.items))
 
 pub returns-clause-under : goal.returns-clause-under
 returns-clause-under c =

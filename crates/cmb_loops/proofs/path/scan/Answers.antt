@@ -1,8 +1,26 @@
-use Rattle.std.proofs.Common.{◌≡◌, ◌∙◌, ap}
+use Rattle.std.proofs.Common.{◌≡◌, ◌∙◌, ap, arith}
 use Rattle.cmb_loops.specs.declared.search.Search.{Search}
-use Rattle.cmb_loops.proofs.PathFacts.{net_read, scan_done, scan_on, targets_read}
+use Rattle.cmb_loops.specs.declared.search.Seen.TheVariants.{New}
+use Rattle.cmb_loops.proofs.PathFacts.{last_within, net_read, scan_done, scan_on, seen_read, targets_read}
 use Rattle.cmb_loops.proofs.path.scan.Goals.{in-On, in-Done}
 use Rattle.cmb_loops.proofs.path.scan.Goals as goal
+
+pub index-requires : goal.index-requires
+index-requires c =
+    let within = last_within c.args.netlist.now c.args.steps c.args.search.now c.args.search.now.frames.items c.args.frame c.requires in
+    let long = c.args.search.now.path.ok.0 in
+    omega (arith, within, long)
+
+pub bounds-targets-next : goal.bounds-targets-next
+bounds-targets-next c = c.loop-next-test.true
+
+pub index-requires-in-loop-next : goal.index-requires-in-loop-next
+index-requires-in-loop-next c =
+    let at = targets_read c.args.netlist.now c.args.steps c.args.search.now c.loop-next.search c.args.search.now.frames.items c.args.frame c.index.result.now c.targets_from-targets.result.now c.requires
+    c.index.ensures c.loop-next.invariant.path c.targets_from-targets.ensures in
+    let inside = c.requires.inside _ c.loop-next.next 0 (rw at at c.loop-next-test.true) in
+    let long = c.loop-next.search.seen.ok.0 in
+    rw at (omega (arith, inside, long, c.loop-next.invariant.under.sized))
 
 pub targets_from-targets-requires : goal.targets_from-targets-requires
 targets_from-targets-requires c = net_read c.args.netlist.now c.args.steps c.args.search.now c.args.search.now.frames.items c.args.frame c.index.result.now c.requires c.index.ensures
@@ -38,6 +56,17 @@ loop-next-preserved c =
             frames = ap (λ (s : Search). s.frames.items) same ∙ c.loop-next.invariant.frames;
           }
     ]
+
+pub returns-in-New-clause-scanned : goal.returns-in-New-clause-scanned
+returns-in-New-clause-scanned c =
+    let at = targets_read c.args.netlist.now c.args.steps c.args.search.now c.loop-next.search c.args.search.now.frames.items c.args.frame c.index.result.now c.targets_from-targets.result.now c.requires
+    c.index.ensures c.loop-next.invariant.path c.targets_from-targets.ensures in
+    let within = rw at at c.loop-next-test.true in (
+      within,
+      seen_read c.args.netlist.now c.args.steps c.loop-next.search _ _ c.loop-next.next c.index-in-loop-next.result.now New c.loop-next.invariant.under within
+          (rw at at c.index-in-loop-next.ensures) c.in-New.is,
+      c.loop-next.invariant.under,
+    )
 
 pub returns-clause-scanned : goal.returns-clause-scanned
 returns-clause-scanned c =

@@ -1,9 +1,11 @@
-use Rattle.std.proofs.Common.{◌≡◌, ◌≤◌, ◌∙◌, set, arith, refl, sym, ap, subst}
+use Rattle.std.proofs.Common.{◌≡◌, ◌≤◌, ◌∙◌, nat_le, set, true, arith, refl, sym, ap, subst}
+use Rattle.std.proofs.lemmas.Bool.{le-leb}
 use Rattle.std.proofs.lemmas.Result.{err_from_is_err_and}
 use Rattle.std.proofs.lemmas.List.{set-get_or}
 use Rattle.cmb_wave.specs.Waveform.{IsTrace, last_level}
 use Rattle.cmb_wave.specs.Wave.{Wave}
 use Rattle.cmb_core.specs.Clusters.{IsSameButWaves, slot_wave}
+use Rattle.cmb_core.specs.Inner.Spans.{reach_at}
 use Rattle.cmb_core.proofs.ClusterLemmas.{IsKept, kept_by_loan, kept_same, read_as, step_trace}
 use Rattle.cmb_core.proofs.cluster.Cluster.step_at.Goals as goal
 
@@ -51,3 +53,34 @@ returns-in_err-piece-clause-same c = subst (IsSameButWaves c.args.self.now) (sym
 
 pub returns-clause-same : goal.returns-clause-same
 returns-clause-same c = kept_same _ _ _ _ _ _ c.self.view_is (kept c)
+
+-- ---- where the process can't go on
+
+stands : (c : goal.In_default) → nat_le (reach_at c.args.self.now c.args.slot) (slot_wave c.args.self.now c.args.slot).clock ≡ true
+stands c = le-leb (reach_at c.args.self.now c.args.slot) (slot_wave c.args.self.now c.args.slot).clock c.in_default.ensures.span
+
+pub returns-in_default-clause-part : goal.returns-in_default-clause-part
+returns-in_default-clause-part c = rw (stands c) refl
+
+pub returns-in_default-clause-waves : goal.returns-in_default-clause-waves
+returns-in_default-clause-waves c = rw (stands c) refl
+
+pub returns-in_default-clause-before : goal.returns-in_default-clause-before
+returns-in_default-clause-before c = λ goes. absurd (omega (arith, goes, c.in_default.ensures.span))
+
+-- ---- where it can
+
+pub returns-in_err-changes-clause-before : goal.returns-in_err-changes-clause-before
+returns-in_err-changes-clause-before c = λ goes. sym c.in-Some.ensures.span.before ∙ c.in-Some.ensures.span.told
+
+pub returns-in_err-piece-clause-before : goal.returns-in_err-piece-clause-before
+returns-in_err-piece-clause-before c = λ goes. sym c.in-Some.ensures.span.before ∙ c.in-Some.ensures.span.told
+
+pub returns-clause-before : goal.returns-clause-before
+returns-clause-before c = λ goes. sym c.in-Some.ensures.span.before ∙ c.in-Some.ensures.span.told
+
+pub returns-clause-none : goal.returns-clause-none
+returns-clause-none c = λ idle. absurd (omega (arith, idle, c.in-Some.ensures.span.from, c.in-Some.ensures.span.until, c.in-Some.ensures.span.later))
+
+pub returns-clause-idle : goal.returns-clause-idle
+returns-clause-idle c = λ idle. absurd (omega (arith, idle, c.in-Some.ensures.span.from, c.in-Some.ensures.span.until, c.in-Some.ensures.span.later))

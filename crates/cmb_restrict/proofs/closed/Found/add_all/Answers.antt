@@ -4,6 +4,12 @@ use Rattle.cmb_restrict.proofs.FoundFacts.{IsAdded, added_new, added_there, gain
 use Rattle.cmb_restrict.proofs.closed.Found.add_all.Goals as goal
 use Rattle.cmb_restrict.proofs.closed.Found.add_all.Goals.{then-not-index+in_ok-push, else-not-index}
 
+pub index-requires : goal.index-requires
+index-requires c =
+    let there = c.requires.nets c.loop-net.net-index 0 c.loop-net-test.true in
+    let long = c.loop-net.self.marks.ok.0 in
+    omega (arith, there, long, c.loop-net.invariant.marks)
+
 pub loop-net-preserved : goal.loop-net-preserved
 loop-net-preserved c =
     let net : ℕ = get_or c.args.nets.now c.loop-net.net-index 0 in
