@@ -1,5 +1,5 @@
-use Rattle.std.proofs.Common.{subst}
-use Rattle.cmb_batch.proofs.MakersFacts.{AreBeingNarrowed, narrowing-more}
+use Rattle.std.proofs.Common.{arith, subst}
+use Rattle.cmb_batch.proofs.MakersFacts.{AreBeingNarrowed, narrowed-all, narrowing-more}
 use Rattle.cmb_batch.proofs.makers.all_narrowed.Goals as goal
 
 pub loop-maker-preserved : goal.loop-maker-preserved
@@ -10,3 +10,6 @@ loop-maker-preserved c =
     let new = c.in_ok-narrowed.ensures in
     rw c.in_ok-push.ensures.items
     (narrowing-more olds all c.next.new.self.rest.items c.args.width c.in-Some.maker c.in_ok-narrowed.field-0 was new.share new.width new.clock)
+
+pub returns-clause-shares : goal.returns-clause-shares
+returns-clause-shares c = narrowed-all _ _ _ _ c.loop-maker.invariant (omega (arith, c.loop-maker.maker-iterator.rest.ok.0, c.in-None.ensures.steps.0))
