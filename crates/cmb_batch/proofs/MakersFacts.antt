@@ -1,8 +1,8 @@
 -- Makers that were opened side by side, and made as narrow.
-use Rattle.std.proofs.Common.{◌≡◌, ◌∙◌, ℕ, ◌<◌, ◌≤◌, ◌++◌, ◌∷◌, [], List, Result, Ok, length, map, get_or, ap, subst, sym, arith}
+use Rattle.std.proofs.Common.{◌≡◌, ◌∙◌, ℕ, ◌<◌, ◌≤◌, ◌++◌, ◌∷◌, [], List, Result, Ok, length, map, get_or, ap, refl, subst, sym, arith}
 use Rattle.std.specs.Prelude.{All, IfOk}
 use Rattle.std.proofs.lemmas.List.{append-nil, append_assoc, get_or_default, get_or-map, length-map, map-append, nil_from_length, same_lists}
-use Rattle.std.proofs.lemmas.List.Elements.{All-push, All-tail}
+use Rattle.std.proofs.lemmas.List.Elements.{All-nil, All-push, All-tail}
 use Rattle.std.specs.declared.alloc.AllocError.{AllocError}
 use Rattle.cmb_batch.specs.Makers.{AreOpened, Maker}
 use Rattle.cmb_batch.specs.Shares.{DesignShare}
@@ -46,6 +46,15 @@ pub record AreBeingNarrowed (olds : List Maker) (width : ℕ) (all rest : List M
   pub begun : All (λ (m : Maker). m.clock ≡ 1) all
   pub wider : All (λ (m : Maker). width ≤ m.width) rest
   pub unbegun : All (λ (m : Maker). m.clock ≡ 1) rest
+
+pub narrowing-none : (olds : List Maker) (width : ℕ) → All (λ (m : Maker). width ≤ m.width) olds → All (λ (m : Maker). m.clock ≡ 1) olds → AreBeingNarrowed olds width [] olds
+narrowing-none olds width wider unbegun = record {
+  same = refl;
+  narrow = All-nil (λ (m : Maker). m.width ≡ width);
+  begun = All-nil (λ (m : Maker). m.clock ≡ 1);
+  wider = wider;
+  unbegun = unbegun;
+}
 
 -- one more
 pub narrowing-more : (olds all rest : List Maker) (width : ℕ) (maker new : Maker) → AreBeingNarrowed olds width all (maker ∷ rest) → new.share ≡ maker.share → new.width ≡ width → new.clock ≡ 1
