@@ -56,6 +56,7 @@ fn whole<'a, T: Terms, R: Wait>(
     if batch.made() == u64::from(shares) && batch.clock(0) == clock && batch.len() > 0 {
         Ok(parcel)
     } else {
+        drop(parcel);
         Err(AllocError)
     }
 }
@@ -129,12 +130,9 @@ impl<'a, T: Terms, R: Wait> Flow<'a, T, R> {
         self.source.feed()?;
         let before = kept.len();
         let parcel = whole(self.rt, &mut self.inlet, self.shares, kept.clock())?;
-        if let Err(error) = tell(&mut self.dump, &parcel.batch, kept) {
-            drop(parcel);
-            return Err(error);
-        }
-        self.source
-            .take_back(parcel, kept.len().saturating_sub(before))
+        let told = tell(&mut self.dump, &parcel.batch, kept);
+        let made = kept.len().saturating_sub(before);
+        told.and(self.source.take_back(parcel, made))
     }
 }
 
