@@ -14,7 +14,7 @@ use crate::terms::Terms;
 use cmb_batch::{Makers, open_makers, shares_of};
 use cmb_cut::Sharing;
 use cmb_design::Design;
-use cmb_stream::{Destination, InMemory, Kept, StreamFault};
+use cmb_stream::{Destination, InMemory, Kept, StreamFault, first_text};
 use cmb_vcd::Sink;
 use std::alloc::{AllocError, Global};
 use std::marker::Brand;
@@ -22,7 +22,8 @@ use std::sync::Wait;
 use std::thread;
 use std::thread::{Scope, Threads};
 
-// Starts the stages in threads of a scope, and begins the text, with which the calling thread then goes on.
+// Starts the stages in threads of a scope, hands out the first batches, and makes the text up to tick 1 while shares are
+// at work on them. The calling thread then goes on with it.
 fn begin<'s, 'a: 's, E, T: Terms + Send + Sync + 's, R: Threads + Wait + Sync>(
     rt: &'a R,
     alloc: Global,
@@ -36,7 +37,7 @@ fn begin<'s, 'a: 's, E, T: Terms + Send + Sync + 's, R: Threads + Wait + Sync>(
     ensures all { IfOk result (λ begun. begun.1.given ≡ 0) }
 {
     let Run {
-        source,
+        mut source,
         makers,
         inlet,
     } = run;
@@ -45,7 +46,19 @@ fn begin<'s, 'a: 's, E, T: Terms + Send + Sync + 's, R: Threads + Wait + Sync>(
         drop(source);
         return Err(AllocError);
     };
-    Flow::begin(rt, alloc, design, shares, source, inlet)
+    let fed = source.feed();
+    let Ok((dump, kept)) = fed.and(first_text(alloc, design)) else {
+        drop((source, inlet));
+        return Err(AllocError);
+    };
+    let flow = Flow {
+        rt,
+        shares,
+        source,
+        inlet,
+        dump,
+    };
+    Ok((flow, kept))
 }
 
 // Makes the text by the calling thread, while the stages are at work.
