@@ -61,33 +61,7 @@ fn begin<'s, 'a: 's, E, T: Terms + Send + Sync + 's, R: Threads + Wait + Sync>(
     Ok((flow, kept))
 }
 
-// Makes the text by the calling thread, while the stages are at work.
-fn text_within<
-    's,
-    'a: 's,
-    E,
-    T: Terms + Send + Sync + 's,
-    R: Threads + Wait + Sync,
-    D: Destination,
->(
-    rt: &'a R,
-    alloc: Global,
-    scope: &Scope<'s, E>,
-    design: &'a Design,
-    run: Run<'a, T>,
-    to: &mut D,
-) -> D::Answer
-    requires room { D.is_ready to.old }
-    requires design { design.now ≡ T.design }
-    ensures { D.is_told design.entry.now to.old to.new result }
-{
-    let Ok((flow, kept)) = begin(rt, alloc, scope, design, run) else {
-        return to.refused();
-    };
-    to.take_rest(flow, kept)
-}
-
-// The text of the design that T names.
+// The text of the design that T names, by the calling thread, while the stages are at work.
 fn text_named<'a, T: Terms + Send + Sync, R: Threads + Wait + Sync, D: Destination>(
     rt: &'a R,
     alloc: Global,
@@ -113,7 +87,10 @@ fn text_named<'a, T: Terms + Send + Sync, R: Threads + Wait + Sync, D: Destinati
             ensures name { result.0.ghost_name ≡ to.entry.ghost_name }
             ensures told { D.is_told design.entry.now to.entry.now result.0.now result.1 }
         {
-            let answer = text_within(rt, alloc, scope, design, run, to);
+            let answer = match begin(rt, alloc, scope, design, run) {
+                Ok((flow, kept)) => to.take_rest(flow, kept),
+                Err(AllocError) => to.refused(),
+            };
             (to, answer)
         },
     );
