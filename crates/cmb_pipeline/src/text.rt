@@ -46,8 +46,11 @@ fn begin<'s, 'a: 's, E, T: Terms + Send + Sync + 's, R: Threads + Wait + Sync>(
         drop(source);
         return Err(AllocError);
     };
-    let fed = source.feed();
-    let Ok((dump, kept)) = fed.and(first_text(alloc, design)) else {
+    if let Err(error) = source.feed() {
+        drop((source, inlet));
+        return Err(error);
+    }
+    let Ok((dump, kept)) = first_text(alloc, design) else {
         drop((source, inlet));
         return Err(AllocError);
     };
