@@ -46,8 +46,7 @@ fn opened<'a, R: Threads + Sync>(
                 × (maker.clock ≡ 1) × (2 ≤ maker.width) × (maker.width < 63)) }
         { ShareMaker::open(alloc, &shares[place]) },
     )?;
-    let makers = all_of(alloc, made)?;
-    Ok(makers)
+    all_of(alloc, made)
 }
 
 // The least of the makers' widths.
