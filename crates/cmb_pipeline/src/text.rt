@@ -22,8 +22,8 @@ use std::sync::Wait;
 use std::thread;
 use std::thread::{Scope, Threads};
 
-// Starts the stages in threads of a scope, hands out the first batches, and makes the text up to tick 1 while shares are
-// at work on them. The calling thread then goes on with it.
+// Starts the stages in threads of a scope, hands out the first batches, and makes the text up to tick 1 while shares
+// are at work on them. The calling thread then goes on with it.
 fn begin<'s, 'a: 's, E, T: Terms + Send + Sync + 's, R: Threads + Wait + Sync>(
     rt: &'a R,
     alloc: Global,
