@@ -1,9 +1,13 @@
 -- What a batch says of the share that comes next, and what that makes of it.
-use Rattle.std.proofs.Common.{◌≡◌, ℕ, suc, Bool, List, length, subst, arith}
+use Rattle.std.proofs.Common.{◌≡◌, ℕ, suc, ◌<◌, Bool, List, length, get_or, subst, sym, arith}
 use Rattle.cmb_design.specs.Design.{Design}
+use Rattle.cmb_design.specs.Exact.{nets_of}
+use Rattle.cmb_words.specs.Changes as Changes
+use Rattle.cmb_words.specs.Changes.{RisesWithin}
+use Rattle.cmb_words.specs.declared.changed.Changed.{Changed}
 use Rattle.cmb_batch.specs.Batches.{Batch, IsBatch}
 use Rattle.cmb_batch.specs.Makers.{IsNextOf, Maker}
-use Rattle.cmb_batch.specs.Windows.{AreDays, AreMade}
+use Rattle.cmb_batch.specs.Windows.{AreDays, AreMade, IsStep, clock_at}
 use Rattle.cmb_batch.specs.declared.window.Window.{Window}
 
 module _ (maker : Maker) (batch : Batch) (next : IsNextOf maker batch) where
@@ -39,3 +43,20 @@ module _ (maker : Maker) (batch : Batch) (next : IsNextOf maker batch) where
     marks = is.marks;
     each = of-batch (λ design owners marks made. AreMade design owners marks (suc made) batch.clocks more) made;
   }
+
+-- of a batch's window, as far as shares made it, the nets rise, and its ticks follow one another
+pub window-of : (batch : Batch) (windows : List Window) (place : ℕ) (window : Window) (told : List Changed) → IsBatch batch.design batch.owners batch.crossing batch.width batch.clocks batch.made windows
+    → window ≡ get_or windows place window → told ≡ window.changes.items → suc place < length batch.clocks
+    → Changes.IsWindow (nets_of batch.design) batch.design.horizon (clock_at batch.clocks place) (clock_at batch.clocks (suc place)) told
+window-of batch windows place window told is read are within = record {
+  late = step.late;
+  order = step.order;
+  short = step.short;
+  within = step.within;
+  nets =
+      subst (RisesWithin 0 (nets_of batch.design)) (sym are)
+      (subst (λ (w : Window). RisesWithin 0 (nets_of batch.design) w.changes.items) (sym read) (is.each place window (omega (arith, is.count, within))).told.rises);
+}
+  where
+    step : IsStep batch.width batch.design.horizon (clock_at batch.clocks place) (clock_at batch.clocks (suc place))
+    step = is.days place within

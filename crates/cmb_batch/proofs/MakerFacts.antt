@@ -1,8 +1,20 @@
 -- Windows that a maker makes one by one.
-use Rattle.std.proofs.Common.{◌≡◌, ◌⊎◌, inl, inr, ℕ, suc, ◌+◌, ◌<◌, ◌≤◌, Bool, List, length, get_or, set, sym, subst, arith}
+use Rattle.std.proofs.Common.{◌≡◌, ◌∙◌, ◌⊎◌, inl, inr, ℕ, suc, ◌+◌, ◌<◌, ◌≤◌, Bool, List, Result, Ok, Err, length, get_or, set, ap, sym, subst, arith}
+use Rattle.std.specs.Prelude.{IfOk}
+use Rattle.std.specs.declared.alloc.AllocError.{AllocError}
 use Rattle.std.proofs.lemmas.Bool.{cases_eq}
 use Rattle.std.proofs.lemmas.List.{get_or-set_other, get_or-set_same, length-set}
 use Rattle.cmb_design.specs.Design.{Design}
+use Rattle.cmb_design.specs.Exact.{nets_of}
+use Rattle.cmb_design.specs.Value.{value}
+use Rattle.cmb_engine.specs.Engines.{window_end}
+use Rattle.cmb_engine.specs.Shares.{IsDriven, ShareEngine, TellsThose, share_clock}
+use Rattle.cmb_words.specs.Changes as Changes
+use Rattle.cmb_words.specs.Changes.{RisesWithin}
+use Rattle.cmb_words.specs.declared.changed.Changed.{Changed}
+use Rattle.cmb_batch.specs.Inner.Ahead.{IsAt}
+use Rattle.cmb_batch.specs.Makers.{IsEngineOf}
+use Rattle.cmb_batch.specs.Shares.{DesignShare}
 use Rattle.cmb_batch.specs.Windows.{AreMade, IsWindow, clock_at}
 use Rattle.cmb_batch.specs.declared.window.Window.{Window}
 
@@ -36,3 +48,28 @@ module _ (design : Design) (owners : List ℕ) (crossing : List Bool) (made : �
       by k d h within (inr n) =
           subst (IsWindow design owners crossing (suc made) (clock_at clocks k) (clock_at clocks (suc k))) (sym (get_or-set_other windows place k window d n))
           (are.before k d (omega (arith, h, n)) within)
+
+-- an engine that goes on from a tick has made the window there
+pub went-ahead : (share : DesignShare) (engine : ShareEngine) (clock : ℕ) (told : List Changed) → IsEngineOf share engine → engine.clock ≡ clock → clock < share.design.horizon
+    → (result : Result ShareEngine AllocError) → IfOk result (λ it. it.design ≡ engine.design) → IfOk result (λ it. it.driven ≡ engine.driven) → IfOk result (λ it. it.width ≡ engine.width)
+    → IfOk result (λ it. it.clock ≡ share_clock engine) → IfOk result (λ it. Changes.IsWindow (nets_of engine.design) engine.design.horizon engine.clock it.clock told)
+    → IfOk result (λ it. TellsThose (IsDriven engine.driven) (value engine.design) engine.clock it.clock told) → IfOk result (λ it. IsAt share it clock told)
+went-ahead share engine clock told of stands below (Err error) design driven width next window tells = tt
+went-ahead share engine clock told of stands below (Ok it) design driven width next window tells = record {
+  of = record { lawful = of.lawful; engaged = design ∙ of.engaged; driven = driven ∙ of.driven };
+  made = inr (record {
+    step = record {
+      late = subst (λ n. 1 ≤ n) stands window.late;
+      below = below;
+      next = next ∙ ap (λ w. window_end w engine.design.horizon engine.clock) (sym width) ∙ ap (λ (d : Design). window_end it.width d.horizon engine.clock) of.engaged ∙ ap (window_end it.width share.design.horizon) stands;
+      order = subst (λ n. n < it.clock) stands window.order;
+      short = subst (λ n. it.clock ≤ n + 63) stands window.short;
+      within = subst (λ (d : Design). it.clock ≤ d.horizon) of.engaged window.within;
+    };
+    nets = subst (λ d. RisesWithin 0 (nets_of d) told) of.engaged window.nets;
+    tells =
+        subst (λ n. TellsThose (IsDriven share.driven) (value share.design) n it.clock told) stands
+        (subst (λ marks. TellsThose (IsDriven marks) (value share.design) engine.clock it.clock told) of.driven
+        (subst (λ d. TellsThose (IsDriven engine.driven) (value d) engine.clock it.clock told) of.engaged tells));
+  });
+}

@@ -1,8 +1,8 @@
 -- Makers that were opened side by side, and made as narrow.
-use Rattle.std.proofs.Common.{◌≡◌, ◌∙◌, ℕ, ◌<◌, ◌≤◌, ◌++◌, ◌∷◌, [], List, Result, Ok, length, map, get_or, ap, subst, sym, arith}
+use Rattle.std.proofs.Common.{◌≡◌, ◌∙◌, ℕ, ◌<◌, ◌≤◌, ◌++◌, ◌∷◌, [], List, Result, Ok, length, map, get_or, ap, refl, subst, sym, arith}
 use Rattle.std.specs.Prelude.{All, IfOk}
-use Rattle.std.proofs.lemmas.List.{append_assoc, get_or_default, get_or-map, length-map, map-append, same_lists}
-use Rattle.std.proofs.lemmas.List.Elements.{All-push, All-tail}
+use Rattle.std.proofs.lemmas.List.{append-nil, append_assoc, get_or_default, get_or-map, length-map, map-append, nil_from_length, same_lists}
+use Rattle.std.proofs.lemmas.List.Elements.{All-nil, All-push, All-tail}
 use Rattle.std.specs.declared.alloc.AllocError.{AllocError}
 use Rattle.cmb_batch.specs.Makers.{AreOpened, Maker}
 use Rattle.cmb_batch.specs.Shares.{DesignShare}
@@ -47,6 +47,15 @@ pub record AreBeingNarrowed (olds : List Maker) (width : ℕ) (all rest : List M
   pub wider : All (λ (m : Maker). width ≤ m.width) rest
   pub unbegun : All (λ (m : Maker). m.clock ≡ 1) rest
 
+pub narrowing-none : (olds : List Maker) (width : ℕ) → All (λ (m : Maker). width ≤ m.width) olds → All (λ (m : Maker). m.clock ≡ 1) olds → AreBeingNarrowed olds width [] olds
+narrowing-none olds width wider unbegun = record {
+  same = refl;
+  narrow = All-nil (λ (m : Maker). m.width ≡ width);
+  begun = All-nil (λ (m : Maker). m.clock ≡ 1);
+  wider = wider;
+  unbegun = unbegun;
+}
+
 -- one more
 pub narrowing-more : (olds all rest : List Maker) (width : ℕ) (maker new : Maker) → AreBeingNarrowed olds width all (maker ∷ rest) → new.share ≡ maker.share → new.width ≡ width → new.clock ≡ 1
     → AreBeingNarrowed olds width (all ++ new ∷ []) rest
@@ -61,3 +70,18 @@ narrowing-more olds all rest width maker new are share wide clock = record {
   wider = All-tail (λ (m : Maker). width ≤ m.width) maker rest are.wider;
   unbegun = All-tail (λ (m : Maker). m.clock ≡ 1) maker rest are.unbegun;
 }
+
+-- all of them
+pub narrowed-all : (olds all rest : List Maker) (width : ℕ) → AreBeingNarrowed olds width all rest → length rest ≡ 0 → map (λ (m : Maker). m.share) all ≡ map (λ (m : Maker). m.share) olds
+narrowed-all olds all rest width are none =
+    let shares : List Maker → List DesignShare = map (λ (m : Maker). m.share) in
+    sym (are.same ∙ ap (λ (l : List Maker). shares all ++ shares l) (nil_from_length rest none) ∙ append-nil (shares all))
+
+-- results that are, one by one, one more
+pub ok-more : {X E : Type 0} (made rest more : List (Result X E)) (all : List X) (result : Result X E) (one : X) → made ≡ map Ok all ++ rest → rest ≡ result ∷ more → result ≡ Ok one
+    → made ≡ map Ok (all ++ one ∷ []) ++ more
+ok-more {X = X} {E = E} made rest more all result one were first is =
+    were
+    ∙ ap (λ (l : List (Result X E)). map Ok all ++ l) (first ∙ ap (λ (r : Result X E). r ∷ more) is)
+    ∙ sym (append_assoc (map Ok all) (Ok one ∷ []) more)
+    ∙ ap (λ (l : List (Result X E)). l ++ more) (sym (map-append Ok all (one ∷ [])))

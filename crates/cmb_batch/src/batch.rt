@@ -140,7 +140,10 @@ impl<'a> Batch<'a> {
             mut windows,
             ..
         } = self;
-        let maker = maker.work(&clocks, &mut windows)?;
+        let Ok(maker) = maker.work(&clocks, &mut windows) else {
+            drop((clocks, windows));
+            return Err(AllocError);
+        };
         let batch = Batch {
             design,
             owners,

@@ -21,7 +21,7 @@ pub struct Makers<'a> {
 fn all_of<T: Drop>(alloc: Global, made: Vec<Result<T, AllocError>>) -> Result<Vec<T>, AllocError>
     ensures { IfOk result (λ all. made.items ≡ map Ok all.items) }
 {
-    let mut all = Vec::with_capacity(alloc, made.len())?;
+    let mut all = Vec::new(alloc);
     for one in made {
         all.push(one?)?;
     }
@@ -46,8 +46,7 @@ fn opened<'a, R: Threads + Sync>(
                 × (maker.clock ≡ 1) × (2 ≤ maker.width) × (maker.width < 63)) }
         { ShareMaker::open(alloc, &shares[place]) },
     )?;
-    let makers = all_of(alloc, made)?;
-    Ok(makers)
+    all_of(alloc, made)
 }
 
 // The least of the makers' widths.
@@ -94,7 +93,7 @@ fn all_narrowed<'a>(
     ensures width { IfOk result (λ all. All (λ maker. maker.width ≡ width) all.items) }
     ensures clocks { IfOk result (λ all. All (λ maker. maker.clock ≡ 1) all.items) }
 {
-    let mut all = Vec::with_capacity(alloc, makers.len())?;
+    let mut all = Vec::new(alloc);
     for maker in makers {
         all.push(narrowed(alloc, maker, width)?)?;
     }

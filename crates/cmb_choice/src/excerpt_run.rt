@@ -43,8 +43,13 @@ fn first_text<'a>(
     ensures text { IfOk result (λ first. first.1.items ≡ shown_text design.entry.now nets.entry.now 1) }
 {
     let levels = first_levels(alloc, design, nets)?;
-    let excerpt = Excerpt::open(alloc, design, nets, &levels)?;
-    let text = excerpt.text().to_vec(alloc)?;
+    let excerpt = Excerpt::open(alloc, design, nets, &levels);
+    drop(levels);
+    let excerpt = excerpt?;
+    let Ok(text) = excerpt.text().to_vec(alloc) else {
+        drop(excerpt);
+        return Err(AllocError);
+    };
     Ok((excerpt, text))
 }
 
@@ -86,8 +91,11 @@ impl<'a> Run<'a> {
         ensures text { IfOk result (λ run. run.text ≡ shown_text design.entry.now nets.entry.now run.clock) }
         ensures within { IfOk result (λ run. run.clock ≤ design.entry.now.horizon) }
     {
-        let (excerpt, text) = first_text(alloc, design, nets)?;
         let engine = Engine::open(alloc, design)?;
+        let Ok((excerpt, text)) = first_text(alloc, design, nets) else {
+            drop(engine);
+            return Err(AllocError);
+        };
         // Its contract tells that a tick is within the horizon.
         let _begun = engine.clock();
         Ok(Run {

@@ -8,11 +8,10 @@ use crate::parcel::{Inlet, Parcel};
 use crate::source::Source;
 use crate::terms::Terms;
 use cmb_batch::Batch;
-use cmb_design::Design;
 use cmb_dump::Dump;
 use cmb_idle::taken;
-use cmb_stream::{Kept, TextMaker, first_text, tell_window};
-use std::alloc::{AllocError, Global};
+use cmb_stream::{Kept, TextMaker, tell_window};
+use std::alloc::AllocError;
 use std::marker::Model;
 use std::sync::Wait;
 
@@ -56,6 +55,7 @@ fn whole<'a, T: Terms, R: Wait>(
     if batch.made() == u64::from(shares) && batch.clock(0) == clock && batch.len() > 0 {
         Ok(parcel)
     } else {
+        drop(parcel);
         Err(AllocError)
     }
 }
@@ -83,41 +83,6 @@ fn tell(dump: &mut Dump<'_>, batch: &Batch<'_>, kept: &mut Kept<'_>) -> Result<(
 }
 
 impl<'a, T: Terms, R: Wait> Flow<'a, T, R> {
-    /// Hands out the first batches, and makes the text up to tick 1 while shares are at work on them. Errors: memory
-    /// was refused.
-    pub(crate) fn begin(
-        rt: &'a R,
-        alloc: Global,
-        design: &'a Design,
-        shares: u32,
-        source: Source<'a, T>,
-        inlet: Inlet<'a, T>,
-    ) -> Result<(Flow<'a, T, R>, Kept<'a>), AllocError>
-        requires design { design.now ≡ T.design }
-        requires owned { All (λ owner. owner < shares) T.owners }
-        ensures here { IfOk result (λ begun. IsAtEndOf begun.1 begun.0) }
-        ensures design { IfOk result (λ begun. begun.1.design ≡ design.entry.now) }
-        ensures all { IfOk result (λ begun. begun.1.given ≡ 0) }
-    {
-        let mut source = source;
-        if let Err(error) = source.feed() {
-            drop((source, inlet));
-            return Err(error);
-        }
-        let Ok((dump, kept)) = first_text(alloc, design) else {
-            drop((source, inlet));
-            return Err(AllocError);
-        };
-        let flow = Flow {
-            rt,
-            shares,
-            source,
-            inlet,
-            dump,
-        };
-        Ok((flow, kept))
-    }
-
     // Makes the text of the next batch, which comes behind what is kept, and uses its room again.
     fn go_on(&mut self, kept: &mut Kept<'_>) -> Result<(), AllocError>
         requires { IsAtEndOf kept.old self.old }
@@ -129,12 +94,9 @@ impl<'a, T: Terms, R: Wait> Flow<'a, T, R> {
         self.source.feed()?;
         let before = kept.len();
         let parcel = whole(self.rt, &mut self.inlet, self.shares, kept.clock())?;
-        if let Err(error) = tell(&mut self.dump, &parcel.batch, kept) {
-            drop(parcel);
-            return Err(error);
-        }
-        self.source
-            .take_back(parcel, kept.len().saturating_sub(before))
+        let told = tell(&mut self.dump, &parcel.batch, kept);
+        let made = kept.len().saturating_sub(before);
+        told.and(self.source.take_back(parcel, made))
     }
 }
 

@@ -41,7 +41,10 @@ pub(crate) fn open_run<'a, T: Terms>(
 {
     let Makers { width, list } = makers;
     let most = list.len().saturating_add(1).saturating_mul(ROOM);
-    let (outlet, inlet) = RingBuffer::new(alloc, most)?;
+    let Ok((outlet, inlet)) = RingBuffer::new(alloc, most) else {
+        drop(list);
+        return Err(AllocError);
+    };
     let source = Source::new(alloc, design, owners, crossing, width, outlet, most);
     Ok(Run {
         source,

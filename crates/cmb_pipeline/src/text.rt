@@ -14,7 +14,7 @@ use crate::terms::Terms;
 use cmb_batch::{Makers, open_makers, shares_of};
 use cmb_cut::Sharing;
 use cmb_design::Design;
-use cmb_stream::{Destination, InMemory, Kept, StreamFault};
+use cmb_stream::{Destination, InMemory, Kept, StreamFault, first_text};
 use cmb_vcd::Sink;
 use std::alloc::{AllocError, Global};
 use std::marker::Brand;
@@ -22,7 +22,8 @@ use std::sync::Wait;
 use std::thread;
 use std::thread::{Scope, Threads};
 
-// Starts the stages in threads of a scope, and begins the text, with which the calling thread then goes on.
+// Starts the stages in threads of a scope, hands out the first batches, and makes the text up to tick 1 while shares
+// are at work on them. The calling thread then goes on with it.
 fn begin<'s, 'a: 's, E, T: Terms + Send + Sync + 's, R: Threads + Wait + Sync>(
     rt: &'a R,
     alloc: Global,
@@ -36,7 +37,7 @@ fn begin<'s, 'a: 's, E, T: Terms + Send + Sync + 's, R: Threads + Wait + Sync>(
     ensures all { IfOk result (λ begun. begun.1.given ≡ 0) }
 {
     let Run {
-        source,
+        mut source,
         makers,
         inlet,
     } = run;
@@ -45,36 +46,25 @@ fn begin<'s, 'a: 's, E, T: Terms + Send + Sync + 's, R: Threads + Wait + Sync>(
         drop(source);
         return Err(AllocError);
     };
-    Flow::begin(rt, alloc, design, shares, source, inlet)
-}
-
-// Makes the text by the calling thread, while the stages are at work.
-fn text_within<
-    's,
-    'a: 's,
-    E,
-    T: Terms + Send + Sync + 's,
-    R: Threads + Wait + Sync,
-    D: Destination,
->(
-    rt: &'a R,
-    alloc: Global,
-    scope: &Scope<'s, E>,
-    design: &'a Design,
-    run: Run<'a, T>,
-    to: &mut D,
-) -> D::Answer
-    requires room { D.is_ready to.old }
-    requires design { design.now ≡ T.design }
-    ensures { D.is_told design.entry.now to.old to.new result }
-{
-    let Ok((flow, kept)) = begin(rt, alloc, scope, design, run) else {
-        return to.refused();
+    if let Err(error) = source.feed() {
+        drop((source, inlet));
+        return Err(error);
+    }
+    let Ok((dump, kept)) = first_text(alloc, design) else {
+        drop((source, inlet));
+        return Err(AllocError);
     };
-    to.take_rest(flow, kept)
+    let flow = Flow {
+        rt,
+        shares,
+        source,
+        inlet,
+        dump,
+    };
+    Ok((flow, kept))
 }
 
-// The text of the design that T names.
+// The text of the design that T names, by the calling thread, while the stages are at work.
 fn text_named<'a, T: Terms + Send + Sync, R: Threads + Wait + Sync, D: Destination>(
     rt: &'a R,
     alloc: Global,
@@ -100,7 +90,10 @@ fn text_named<'a, T: Terms + Send + Sync, R: Threads + Wait + Sync, D: Destinati
             ensures name { result.0.ghost_name ≡ to.entry.ghost_name }
             ensures told { D.is_told design.entry.now to.entry.now result.0.now result.1 }
         {
-            let answer = text_within(rt, alloc, scope, design, run, to);
+            let answer = match begin(rt, alloc, scope, design, run) {
+                Ok((flow, kept)) => to.take_rest(flow, kept),
+                Err(AllocError) => to.refused(),
+            };
             (to, answer)
         },
     );

@@ -48,7 +48,10 @@ pub fn first_text<'a>(alloc: Global, design: &'a Design) -> Result<(Dump<'a>, Ke
     ensures given { IfOk result (λ first. first.1.given ≡ 0) }
 {
     let dump = first_dump(alloc, design)?;
-    let kept = Kept::open(alloc, design, &dump)?;
+    let Ok(kept) = Kept::open(alloc, design, &dump) else {
+        drop(dump);
+        return Err(AllocError);
+    };
     Ok((dump, kept))
 }
 

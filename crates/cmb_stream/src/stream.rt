@@ -43,8 +43,11 @@ impl<'a> Stream<'a> {
         ensures given { IfOk result (λ begun. begun.1.given ≡ 0) }
     {
         let changed = Vec::with_capacity(alloc, design.netlist().len())?;
-        let (dump, kept) = first_text(alloc, design)?;
         let engine = Engine::open(alloc, design)?;
+        let Ok((dump, kept)) = first_text(alloc, design) else {
+            drop((engine, changed));
+            return Err(AllocError);
+        };
         Ok((
             Stream {
                 engine,

@@ -34,9 +34,9 @@ invariant_of-batch c =
     let next : IsNextOf maker batch = subst (IsNextOf maker) (sym c.self.view_is) c.requires in
     let same : length more ≡ length b.windows.items = c.work.ensures.len ∙ ap length c.deref_mut.ensures.value in
     let made : AreMade maker.share.design maker.share.owners maker.share.crossing (suc maker.share.number) b.clocks.items more =
-    subst (λ clocks. AreMade maker.share.design maker.share.owners maker.share.crossing (suc maker.share.number) clocks more) c.deref.ensures.value c.in_ok-maker.ensures.made in
+    subst (λ clocks. AreMade maker.share.design maker.share.owners maker.share.crossing (suc maker.share.number) clocks more) c.deref.ensures.value c.in-Ok.ensures.made in
     let count : c.from.result + 1 ≡ suc b.made =
-    omega (arith, c.from.ensures, c.number.ensures, ap (λ (s : DesignShare). s.number) c.in_ok-maker.ensures.share, next.made) in
+    omega (arith, c.from.ensures, c.number.ensures, ap (λ (s : DesignShare). s.number) c.in-Ok.ensures.share, next.made) in
     let items : take b.windows.len (more ++ drop (length more) b.windows.items) ≡ more =
     take_at more (drop (length more) b.windows.items) b.windows.len (omega (arith, same, ap length c.deref_mut.ensures.value, c.deref_mut.ensures.len)) in
     subst (λ n. IsBatch batch.design batch.owners batch.crossing batch.width batch.clocks n (take b.windows.len (more ++ drop (length more) b.windows.items))) (sym count)

@@ -1,0 +1,17 @@
+use Rattle.cmb_pipeline.proofs.source.Source.fresh.Goals as goal
+
+pub invariant_of-self : goal.invariant_of-self
+invariant_of-self g c =
+    let was = c.args.self.now in
+    record {
+      same = was.same;
+      owned = was.owned;
+      crossed = was.crossed;
+      paced = was.paced;
+      wide = was.wide;
+      narrow = was.narrow;
+      nets = was.nets;
+      marks = was.marks;
+      late = was.late;
+      within = was.within;
+    }
