@@ -54,6 +54,7 @@ impl Passing {
             if to >= cluster.horizon() {
                 self.upto = to;
             }
+            drop(posted);
             return Ok(None);
         }
         self.upto = to;
@@ -284,7 +285,9 @@ impl<T: Terms> Worker<T> {
                 let Some(posted) = end.take(rt) else {
                     break;
                 };
-                self.cluster.deliver(&posted)?;
+                let delivered = self.cluster.deliver(&posted);
+                drop(posted);
+                delivered?;
                 self.is_new = true;
             }
         }
