@@ -261,7 +261,9 @@ impl<T: Terms> Worker<T> {
         self.look_all();
         let stepped = self.is_new;
         if stepped {
-            self.step()?;
+            // Where nothing goes on, a further step is of no use before something is taken or heard.
+            self.is_new = self.cluster.step()?;
+            self.is_complete = self.cluster.complete();
         }
         let is_left = self.put_all(rt)?;
         if stepped {
@@ -312,13 +314,6 @@ impl<T: Terms> Worker<T> {
             }
         }
         leave_out_done(&mut self.inlets, self.cluster.horizon());
-    }
-
-    // Steps the cluster. Where nothing goes on there, a further step is of no use before something is taken or heard.
-    fn step(&mut self) -> Result<(), AllocError> {
-        self.is_new = self.cluster.step()?;
-        self.is_complete = self.cluster.complete();
-        Ok(())
     }
 
     // Puts what is new into each link, that of the last step and what was left. Says whether something is left.
