@@ -25,7 +25,9 @@ fn take_some<T: Terms, R: Wait>(
         let Some(posted) = end.take(rt) else {
             break;
         };
-        backlog.take(&posted)?;
+        let taken = backlog.take(&posted);
+        drop(posted);
+        taken?;
         found = true;
     }
     Ok(found)

@@ -93,17 +93,12 @@ fn link_two<T: Terms>(
 ) -> Result<(), AllocError>
     requires { design.now ≡ T.design }
 {
-    let Some(worker) = workers.get_mut(from) else {
+    if from >= workers.len() || to >= workers.len() {
         return Ok(());
-    };
-    let end = worker.add_out(alloc, design, nets)?;
-    match workers.get_mut(to) {
-        Some(worker) => Ok(worker.ins.push(end)?),
-        None => {
-            drop(end);
-            Ok(())
-        }
     }
+    let end = workers[from].add_out(alloc, design, nets)?;
+    workers[to].ins.push(end)?;
+    Ok(())
 }
 
 // Links each worker that drives a net of another one to that.
@@ -171,8 +166,8 @@ fn add_workers<T: Terms>(
         ≡ drop workers (new_seats (arc_value board.now) (terms design.now clustering.now workers))) }
 {
     for number in 0..workers.count() {
-        let cluster = ExactCluster::open(alloc, design, clustering, number)?;
         let shared = Arc::try_clone(board)?;
+        let cluster = ExactCluster::open(alloc, design, clustering, number)?;
         let seat = seats.remove(0);
         let desk = Desk::new(shared, seat, design, workers, number);
         crew.push(Worker::new(alloc, desk, cluster))?;

@@ -175,7 +175,10 @@ fn run_named<T: Terms + Send + Sync, G: Turnstile + Sync, R: Threads + Wait + Sy
     ensures fault { IfErr result (IsStopped design.now) }
 {
     let backlog = Backlog::<T>::open(alloc, design)?;
-    let crew = Crew::<T>::open(alloc, design, clustering, workers)?;
+    let Ok(crew) = Crew::<T>::open(alloc, design, clustering, workers) else {
+        drop(backlog);
+        return Err(RunFault::Memory);
+    };
     let (backlog, given, refused) = run_crew(rt, alloc, crew, backlog, gate, &mut Nowhere);
     let (_, collector) = settled(given, refused, backlog.into_collector())?;
     Ok(collector)

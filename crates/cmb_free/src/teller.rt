@@ -43,7 +43,10 @@ impl<'a, T: Terms> Teller<'a, T> {
         // The proof learns here that the design is lawful.
         let _horizon = design.horizon();
         let backlog = Backlog::open(alloc, design)?;
-        let writer = VcdWriter::open(alloc, design)?;
+        let Ok(writer) = VcdWriter::open(alloc, design) else {
+            drop(backlog);
+            return Err(AllocError);
+        };
         Ok(Teller {
             backlog,
             writer,

@@ -77,9 +77,13 @@ fn run_named<T: Terms + Send + Sync, G: Turnstile + Sync, S: Sink, R: Threads + 
     ensures { IsTextRun S.Sink design.now sink.old sink.new result }
 {
     let teller = Teller::<T>::open(alloc, design)?;
-    let crew = Crew::<T>::open(alloc, design, clustering, workers)?;
+    let Ok(crew) = Crew::<T>::open(alloc, design, clustering, workers) else {
+        drop(teller);
+        return Err(RunFault::Memory);
+    };
     let (teller, given, refused) = run_crew(rt, alloc, crew, teller, gate, sink);
-    let (given, _) = settled(given, refused, teller.into_collector())?;
+    let (given, collector) = settled(given, refused, teller.into_collector())?;
+    drop(collector);
     Ok(given)
 }
 

@@ -54,6 +54,7 @@ impl Passing {
             if to >= cluster.horizon() {
                 self.upto = to;
             }
+            drop(posted);
             return Ok(None);
         }
         self.upto = to;
@@ -260,7 +261,9 @@ impl<T: Terms> Worker<T> {
         self.look_all();
         let stepped = self.is_new;
         if stepped {
-            self.step()?;
+            // Where nothing goes on, a further step is of no use before something is taken or heard.
+            self.is_new = self.cluster.step()?;
+            self.is_complete = self.cluster.complete();
         }
         let is_left = self.put_all(rt)?;
         if stepped {
@@ -284,7 +287,9 @@ impl<T: Terms> Worker<T> {
                 let Some(posted) = end.take(rt) else {
                     break;
                 };
-                self.cluster.deliver(&posted)?;
+                let delivered = self.cluster.deliver(&posted);
+                drop(posted);
+                delivered?;
                 self.is_new = true;
             }
         }
@@ -309,13 +314,6 @@ impl<T: Terms> Worker<T> {
             }
         }
         leave_out_done(&mut self.inlets, self.cluster.horizon());
-    }
-
-    // Steps the cluster. Where nothing goes on there, a further step is of no use before something is taken or heard.
-    fn step(&mut self) -> Result<(), AllocError> {
-        self.is_new = self.cluster.step()?;
-        self.is_complete = self.cluster.complete();
-        Ok(())
     }
 
     // Puts what is new into each link, that of the last step and what was left. Says whether something is left.

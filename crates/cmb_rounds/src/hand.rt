@@ -53,7 +53,10 @@ impl<T: Terms> Hand<T> {
             ≡ map new_wave (held_nets design.now clustering.now worker)) }
     {
         let cluster = ExactCluster::open(alloc, design, clustering, worker)?;
-        let gauge = Gauge::open(alloc, &cluster)?;
+        let Ok(gauge) = Gauge::open(alloc, &cluster) else {
+            drop(cluster);
+            return Err(AllocError);
+        };
         Ok(Hand {
             cluster,
             gauge,

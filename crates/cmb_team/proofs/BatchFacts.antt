@@ -51,3 +51,16 @@ AreOf-push design clocks windows window upto are some is = record {
 -- the text of one window more
 pub told-more : (first text now more next all : List ℕ) → now ≡ first ++ text → next ≡ now ++ more → all ≡ text ++ more → next ≡ first ++ all
 told-more first text now more next all a b e = b ∙ ap (λ t. t ++ more) a ∙ append_assoc first text more ∙ ap (λ t. first ++ t) (sym e)
+
+-- no window ends where there is one tick at most
+pub AreOf-few : (design : Design) (clocks : List ℕ) (windows : List (Vec Changed Global)) → length clocks ≤ 1 → AreOf (record { design = design; clocks = clocks }) windows
+AreOf-few design clocks windows few = record {
+  count = omega (arith, few);
+  each = λ k d h. absurd (omega (arith, h, few));
+}
+
+pub AreOf-none : (design : Design) (clocks : List ℕ) (windows : List (Vec Changed Global)) → clocks ≡ [] → AreOf (record { design = design; clocks = clocks }) windows
+AreOf-none design clocks windows none = AreOf-few design clocks windows (omega (arith, ap length none))
+
+pub AreOf-one : (design : Design) (clocks next : List ℕ) (clock : ℕ) (windows : List (Vec Changed Global)) → clocks ≡ [] → next ≡ clocks ++ clock ∷ [] → AreOf (record { design = design; clocks = next }) windows
+AreOf-one design clocks next clock windows none one = AreOf-few design next windows (omega (arith, ap length none, ap length one, length_push clocks clock))

@@ -1,1 +1,2 @@
 pub mod BatchFacts
+pub mod OkFacts

@@ -58,10 +58,9 @@ impl<'a, T: Terms> Desk<'a, T> {
                 Err(_) => false,
             };
             if !is_taken {
-                drop((teller, outlet));
-                return;
+                break;
             }
         }
-        unreachable!()
+        drop((teller, outlet));
     }
 }

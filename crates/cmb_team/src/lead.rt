@@ -65,7 +65,7 @@ impl<'a, T: Terms, R: Wait> Lead<'a, T, R> {
         let upto = batch.clock(batch.len());
         let grown = kept.grow(&parcel.text, upto);
         // Where nobody takes it any more it is dropped.
-        let _given = self.back.push(parcel);
+        drop(self.back.push(parcel));
         grown?;
         self.clock = upto;
         Ok(())

@@ -47,7 +47,11 @@ fn begin(alloc: Global, design: &Design) -> Result<(Stream<'_>, Kept<'_>, bool),
     let (mut stream, mut kept) = Stream::open(alloc, design)?;
     let first = kept.len();
     while !kept.is_done() && kept.len() < first.saturating_add(FIRST) {
-        stream = stream.step(&mut kept)?;
+        let Ok(next) = stream.step(&mut kept) else {
+            drop(kept);
+            return Err(AllocError);
+        };
+        stream = next;
     }
     let pays = pays(kept.len().saturating_sub(first), &kept, design);
     Ok((stream, kept, pays))

@@ -29,15 +29,6 @@ impl<'a, T: Terms> Others<'a, T> {
     pub(crate) fn new(inlets: Vec<TextInlet<'a, T>>) -> Others<'a, T> {
         Others { inlets, turn: 0 }
     }
-
-    // The next batch with its text. Errors: nobody hands it on.
-    fn next<R: Wait>(&mut self, rt: &R) -> Result<Told<'a, T>, AllocError> {
-        let turn = next_turn(&mut self.turn, self.inlets.len());
-        match self.inlets.get_mut(turn) {
-            Some(inlet) => taken(rt, inlet).ok_or(AllocError),
-            None => Err(AllocError),
-        }
-    }
 }
 
 impl<'a, T: Terms> Texts<'a, T> {
@@ -45,7 +36,13 @@ impl<'a, T: Terms> Texts<'a, T> {
     pub(crate) fn next<R: Wait>(&mut self, rt: &R) -> Result<Told<'a, T>, AllocError> {
         match self {
             Texts::Own(teller) => teller.next(rt),
-            Texts::Others(others) => others.next(rt),
+            Texts::Others(others) => {
+                let turn = next_turn(&mut others.turn, others.inlets.len());
+                match others.inlets.get_mut(turn) {
+                    Some(inlet) => taken(rt, inlet).ok_or(AllocError),
+                    None => Err(AllocError),
+                }
+            }
         }
     }
 }

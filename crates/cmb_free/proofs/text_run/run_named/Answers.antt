@@ -7,10 +7,8 @@ use Rattle.cmb_free.specs.Inner.Tellers.{IsUnfinished}
 use Rattle.cmb_free.proofs.TextRuns.{IsCutAt-unfinished, told-whole}
 use Rattle.cmb_free.proofs.text_run.run_named.Goals as goal
 
-pub returns-in_err-crew : goal.returns-in_err-crew
-returns-in_err-crew g c =
-    let p = err_from_is_err_and c.from_residual-in_err-crew.result c.from_residual-in_err-crew.ensures.1 in
-    rw (p.1, p.2) (record { told = tt; text = tt; no_failure = tt; fault = (HasBegun-none c.args.design.now (g.S.Sink.taken c.args.sink.now), refl) })
+pub returns-in_default : goal.returns-in_default
+returns-in_default g c = record { told = tt; text = tt; no_failure = tt; fault = (HasBegun-none c.args.design.now (g.S.Sink.taken c.args.sink.now), refl) }
 
 pub returns-in_err-given : goal.returns-in_err-given
 returns-in_err-given g c =
