@@ -119,6 +119,11 @@ pub(crate) fn build(
 {
     let mut drivers = Vec::with_capacity(alloc, names.len())?;
     let mut outputs = IndexSet::new(alloc);
-    add_items(alloc, &names, items, &mut drivers, &mut outputs)?;
-    Ok(Netlist::new(names, drivers, outputs))
+    match add_items(alloc, &names, items, &mut drivers, &mut outputs) {
+        Ok(()) => Ok(Netlist::new(names, drivers, outputs)),
+        Err(error) => {
+            drop((names, drivers, outputs));
+            Err(error)
+        }
+    }
 }

@@ -348,6 +348,11 @@ pub fn parse(alloc: Global, bytes: &[u8]) -> Result<Parsed<'_>, ReadError>
 {
     let mut items = Vec::with_capacity(alloc, likely_statements(bytes))?;
     let mut names = IndexSet::with_capacity(alloc, likely_nets(bytes))?;
-    read_statements(alloc, bytes, &mut items, &mut names)?;
-    Ok(Parsed { items, names })
+    match read_statements(alloc, bytes, &mut items, &mut names) {
+        Ok(()) => Ok(Parsed { items, names }),
+        Err(error) => {
+            drop((items, names));
+            Err(error)
+        }
+    }
 }
