@@ -97,7 +97,8 @@ fn add_items(
     requires few { length names.now.keys ≤ MAX_NETS }
     requires no_drivers { drivers.old.items ≡ [] }
     requires no_outputs { outputs.old.keys ≡ [] }
-    ensures { Gives (λ _. (drivers.new.items, outputs.new.keys)) result (built names.now.keys [] (map statement items.now)) }
+    ensures { Gives (λ _. (drivers.new.items, outputs.new.keys)) result
+        (built names.now.keys [] (map statement items.now)) }
 {
     for item in items {
         add_item(alloc, names, item, drivers, outputs)?;

@@ -1,4 +1,4 @@
-use Rattle.std.proofs.Common.{refl, ap, Ok, ◌∙◌, map}
+use Rattle.std.proofs.Common.{refl, map}
 use Rattle.cmb_bench.specs.Inner.Views.{statement}
 use Rattle.cmb_bench.proofs.Sound.{built_sound}
 use Rattle.cmb_bench.proofs.build.build.Goals as goal
