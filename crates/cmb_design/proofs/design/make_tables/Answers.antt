@@ -1,10 +1,8 @@
-use Rattle.std.proofs.Common.{◌≡◌, ◌∙◌, ap, Option, None, arith, length, inl, inr, ⊎_elim}
+use Rattle.std.proofs.Common.{◌≡◌, ◌∙◌, None, inl, inr, ⊎_elim}
 use Rattle.std.proofs.lemmas.Result.{err_from_is_err_and}
 use Rattle.cmb_design.specs.Checks.{first_fault}
 use Rattle.cmb_design.specs.Ranges.{AreRows, IsClockRow, IsDelayRow}
 use Rattle.cmb_design.specs.Design.{Design, design_of}
-use Rattle.cmb_design.specs.Settings.{range_checks}
-use Rattle.cmb_design.specs.declared.rows.Clock.{Clock}
 use Rattle.cmb_design.proofs.LawfulFacts.{lawful}
 use Rattle.cmb_design.proofs.WholeFacts.{in_clocks, in_delays, in_settings, in_stimuli, of_clocks, of_delays, of_settings, of_stimuli}
 use Rattle.cmb_design.proofs.design.make_tables.Goals as goal
@@ -63,36 +61,3 @@ returns-clause-ok c =
         lawful = lawful d c.in_ok-layout.ensures.lawful delay_rows clock_rows passes;
       },
     )
-
-pub returns-in_err-layout-clause-ranges : goal.returns-in_err-layout-clause-ranges
-returns-in_err-layout-clause-ranges c = λ e h.
-    let refused = c.in_ok-check_settings.ensures.ranges e (ap (λ (clock : Option Clock). first_fault (range_checks c.args.settings.horizon clock)) c.common_clock.ensures ∙ h) in
-    absurd cc
-
-pub returns-in_err-delays-clause-ranges : goal.returns-in_err-delays-clause-ranges
-returns-in_err-delays-clause-ranges c = λ e h.
-    let refused = c.in_ok-check_settings.ensures.ranges e (ap (λ (clock : Option Clock). first_fault (range_checks c.args.settings.horizon clock)) c.common_clock.ensures ∙ h) in
-    absurd cc
-
-pub returns-in_err-changes-clause-ranges : goal.returns-in_err-changes-clause-ranges
-returns-in_err-changes-clause-ranges c = λ e h.
-    let refused = c.in_ok-check_settings.ensures.ranges e (ap (λ (clock : Option Clock). first_fault (range_checks c.args.settings.horizon clock)) c.common_clock.ensures ∙ h) in
-    absurd cc
-
-pub returns-in_err-own_clocks-clause-ranges : goal.returns-in_err-own_clocks-clause-ranges
-returns-in_err-own_clocks-clause-ranges c = λ e h.
-    let refused = c.in_ok-check_settings.ensures.ranges e (ap (λ (clock : Option Clock). first_fault (range_checks c.args.settings.horizon clock)) c.common_clock.ensures ∙ h) in
-    absurd cc
-
-pub returns-clause-ranges : goal.returns-clause-ranges
-returns-clause-ranges c = λ e h.
-    let refused = c.in_ok-check_settings.ensures.ranges e (ap (λ (clock : Option Clock). first_fault (range_checks c.args.settings.horizon clock)) c.common_clock.ensures ∙ h) in
-    absurd cc
-
-pub pin_delays-requires : goal.pin_delays-requires
-pin_delays-requires c = record {
-  few = omega (arith, ap length c.as_slice-delay_rows.ensures.value, c.as_slice-delay_rows.ensures.lawful.few);
-  starts = c.in_ok-layout.ensures.ok.0;
-  size = c.in_ok-layout.ensures.ok.1;
-  room = c.in_ok-layout.ensures.ok.2;
-}
