@@ -86,6 +86,26 @@ fn add_item(
     }
 }
 
+/// Adds what the statements drive to an empty list, and the outputs that they name to an empty set.
+fn add_items(
+    alloc: Global,
+    names: &IndexSet<Name>,
+    items: &[Item],
+    drivers: &mut Vec<Driver>,
+    outputs: &mut IndexSet<u32>,
+) -> Result<(), ReadError>
+    requires few { length names.now.keys ≤ MAX_NETS }
+    requires no_drivers { drivers.old.items ≡ [] }
+    requires no_outputs { outputs.old.keys ≡ [] }
+    ensures { Gives (λ _. (drivers.new.items, outputs.new.keys)) result
+        (built names.now.keys [] (map statement items.now)) }
+{
+    for item in items {
+        add_item(alloc, names, item, drivers, outputs)?;
+    }
+    Ok(())
+}
+
 /// The netlist of the statements, where these nets are driven.
 pub(crate) fn build(
     alloc: Global,
@@ -100,8 +120,11 @@ pub(crate) fn build(
 {
     let mut drivers = Vec::with_capacity(alloc, names.len())?;
     let mut outputs = IndexSet::new(alloc);
-    for item in items {
-        add_item(alloc, &names, item, &mut drivers, &mut outputs)?;
+    match add_items(alloc, &names, items, &mut drivers, &mut outputs) {
+        Ok(()) => Ok(Netlist::new(names, drivers, outputs)),
+        Err(error) => {
+            drop((names, drivers, outputs));
+            Err(error)
+        }
     }
-    Ok(Netlist::new(names, drivers, outputs))
 }

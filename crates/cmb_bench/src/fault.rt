@@ -7,7 +7,7 @@ use std::fmt;
 use thiserror::Error;
 
 /// What is wrong with a text, at one of its tokens.
-#[derive(Clone, Copy, Debug, PartialEq, Eq)]
+#[derive(Clone, Copy)]
 pub enum FaultKind {
     /// 1: a byte that stands in no token, outside a comment.
     Byte,
@@ -69,10 +69,17 @@ impl fmt::Display for FaultKind {
     }
 }
 
+// In the words of `Display`, for the same reason.
+impl fmt::Debug for FaultKind {
+    fn fmt<W: fmt::Write>(&self, f: &mut fmt::Formatter<W>) -> fmt::Result {
+        fmt::Display::fmt(self, f)
+    }
+}
+
 impl std::error::Error for FaultKind {}
 
 /// Why a text has no netlist, and on which line, counted from 1; line 0 where memory ran out.
-#[derive(Clone, Copy, Debug, PartialEq, Eq, Error)]
+#[derive(Clone, Copy, Debug, Error)]
 #[error("line {line}: {kind}")]
 pub struct BenchFault {
     pub line: u32,

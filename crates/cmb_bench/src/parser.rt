@@ -155,7 +155,6 @@ fn add_net<'a>(names: &mut IndexSet<Name>, name: &'a [u8], place: Token) -> Resu
 }
 
 /// Reads the operands behind the opening mark, up to the closing one.
-#[tactic(auto, unfolding(crate::specs::Inner::Reading::operands_at))]
 fn read_operands<'a>(
     alloc: Global,
     cursor: &mut Cursor<'a>,
@@ -168,10 +167,8 @@ fn read_operands<'a>(
 {
     let mut operands = Uses::new(alloc);
     loop {
-        let token = cursor.next();
-        let name = short_name(token)?;
-        let line = token.line;
-        operands.push(Use { name, line })?;
+        let used = used_name(cursor)?;
+        operands.push(used)?;
         let after = cursor.next();
         if after.is(Class::Comma) {
             if takes_one(cell) {
@@ -319,21 +316,43 @@ fn likely_statements(bytes: &[u8]) -> usize {
     (bytes.len() / 16).min(2 * MAX_NETS)
 }
 
+/// Reads the statements of a text into an empty list, and the names of the nets that they drive into an empty set.
+fn read_statements<'a>(
+    alloc: Global,
+    bytes: &'a [u8],
+    items: &mut Vec<Item<'a>>,
+    names: &mut IndexSet<Name>,
+) -> Result<(), ReadError>
+    requires few { length bytes.now ≤ MAX_TEXT }
+    requires no_items { items.old.items ≡ [] }
+    requires no_names { names.old.keys ≡ [] }
+    ensures read { Stops (λ _. map statement items.new.items) result (tokens_of (snippets_of bytes.now)) }
+    ensures names { OnOk result (names.new.keys ≡ driven (map statement items.new.items)) }
+{
+    let mut cursor = Cursor::new(bytes);
+    loop {
+        let first = cursor.next();
+        if first.is(Class::End) {
+            return Ok(());
+        }
+        let item = read_statement(alloc, &mut cursor, names, first)?;
+        items.push(item)?;
+    }
+}
+
 /// Reads the statements of a text.
 pub fn parse(alloc: Global, bytes: &[u8]) -> Result<Parsed<'_>, ReadError>
     requires { length bytes.now ≤ MAX_TEXT }
     ensures read { Stops (λ p. map statement p.items.items) result (tokens_of (snippets_of bytes.now)) }
     ensures names { IfOk result (λ p. p.names.keys ≡ driven (map statement p.items.items)) }
 {
-    let mut cursor = Cursor::new(bytes);
     let mut items = Vec::with_capacity(alloc, likely_statements(bytes))?;
     let mut names = IndexSet::with_capacity(alloc, likely_nets(bytes))?;
-    loop {
-        let first = cursor.next();
-        if first.is(Class::End) {
-            return Ok(Parsed { items, names });
+    match read_statements(alloc, bytes, &mut items, &mut names) {
+        Ok(()) => Ok(Parsed { items, names }),
+        Err(error) => {
+            drop((items, names));
+            Err(error)
         }
-        let item = read_statement(alloc, &mut cursor, &mut names, first)?;
-        items.push(item)?;
     }
 }

@@ -120,7 +120,6 @@ fn take_delay(
 }
 
 /// For each kind, net and pin the delay of its row, if it has one.
-#[tactic(auto, using(crate::proofs::CheckFacts::pass_at))]
 fn take_delays(
     alloc: Global,
     netlist: &Netlist,

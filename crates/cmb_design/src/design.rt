@@ -10,7 +10,8 @@ ghost use Rattle.cmb_design.specs.Lawful.{IsDesign};
 ghost use Rattle.cmb_design.specs.Ranges.{IsDelay};
 ghost use Rattle.cmb_wave.specs.Waveform.{Rises, changes_between};
 ghost use Rattle.cmb_design.specs.Design.{clock_given, design_of};
-ghost use Rattle.cmb_design.specs.Part.{design_on};
+ghost use Rattle.std.specs.List.{filter};
+ghost use Rattle.cmb_design.specs.Part.{design_on, has_delayed, has_net};
 ghost use Rattle.cmb_design.specs.Settings.{design_checks, range_checks};
 
 use crate::clocks::take_clocks;
@@ -24,7 +25,7 @@ use crate::stimuli::stimuli_changes;
 use crate::told::Told;
 use cmb_bench::Netlist;
 use cmb_wave::{Change, Level};
-use std::alloc::Global;
+use std::alloc::{AllocError, Global};
 use std::marker::Model;
 
 /// The tables that a design is asked by.
@@ -115,17 +116,22 @@ impl Design {
         ensures ranges { let design = design_of netlist settings delays stimuli clocks in
             (e : DesignFault) → first_fault (range_checks design.horizon design.clock) ≡ Some e → result ≡ Err e }
     {
-        let tables = make_tables(alloc, &netlist, &delays, &stimuli, &clocks, settings)?;
-        Ok(Design {
-            netlist,
-            horizon: settings.horizon,
-            init: settings.init,
-            clock: settings.common_clock(),
-            delays,
-            stimuli,
-            clocks,
-            tables,
-        })
+        match make_tables(alloc, &netlist, &delays, &stimuli, &clocks, settings) {
+            Ok(tables) => Ok(Design {
+                netlist,
+                horizon: settings.horizon,
+                init: settings.init,
+                clock: settings.common_clock(),
+                delays,
+                stimuli,
+                clocks,
+                tables,
+            }),
+            Err(fault) => {
+                drop((netlist, delays, stimuli, clocks));
+                Err(fault)
+            }
+        }
     }
 
     /// What was given beside the netlist and the rows.
@@ -140,18 +146,36 @@ impl Design {
         }
     }
 
+    /// The rows of each table but for those that are about a net which the netlist lacks.
+    fn rows_on(
+        &self,
+        alloc: Global,
+        netlist: &Netlist,
+    ) -> Result<(DelayRows, StimulusRows, ClockRows), AllocError>
+        ensures { IfOk result (λ rows. (rows.0 ≡ filter (λ row. has_delayed netlist.now row.what) self.now.delays)
+            × (rows.1 ≡ filter (λ row. has_net netlist.now row.net) self.now.stimuli)
+            × (rows.2 ≡ filter (λ row. has_net netlist.now row.net) self.now.clocks)) }
+    {
+        let delays = rows_on(alloc, netlist, &self.delays)?;
+        let stimuli = rows_on(alloc, netlist, &self.stimuli)?;
+        let clocks = rows_on(alloc, netlist, &self.clocks)?;
+        Ok((delays, stimuli, clocks))
+    }
+
     /// The design of another netlist with this one's settings, and with its rows but for those that are about a net
     /// which the other netlist lacks; or the first fault there, as `new` answers it.
     pub fn on(&self, alloc: Global, netlist: Netlist) -> Result<Design, DesignFault>
         ensures { let design = design_on self.now netlist in FollowsChecks (design_checks design) design result }
     {
-        let delays = rows_on(alloc, &netlist, &self.delays);
-        let stimuli = rows_on(alloc, &netlist, &self.stimuli);
-        let clocks = rows_on(alloc, &netlist, &self.clocks);
-        let (Ok(delays), Ok(stimuli), Ok(clocks)) = (delays, stimuli, clocks) else {
-            return Err(DesignFault::Memory);
-        };
-        Design::new(alloc, netlist, delays, stimuli, clocks, self.settings())
+        match self.rows_on(alloc, &netlist) {
+            Ok((delays, stimuli, clocks)) => {
+                Design::new(alloc, netlist, delays, stimuli, clocks, self.settings())
+            }
+            Err(_) => {
+                drop(netlist);
+                Err(DesignFault::Memory)
+            }
+        }
     }
 
     /// The horizon in ticks, 1 to 1,000,000: the ticks below it are simulated.

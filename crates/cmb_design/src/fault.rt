@@ -1,13 +1,17 @@
 //! Why there is no design.
 
-ghost use Rattle.std.specs.Prelude.{◌≡◌};
+ghost use Rattle.std.specs.Prelude.{◌≡◌, ◌==◌};
+ghost use Rattle.std.proofs.Common.{rules};
+ghost use Rattle.std.specs.Cmp.Rules.{comparing};
+ghost use Rattle.std.specs.Ordering.{eq_of_both, on};
+ghost use Rattle.cmb_design.specs.Faults.{fault_number, fault_record};
 
 use std::error::Error;
 use std::fmt;
 
 /// Why a table, the settings or the rows make no design. A fault of a table or of its rows holds the number of the
 /// record at which it stands; the header is record 1.
-#[derive(Clone, Copy, PartialEq, Eq)]
+#[derive(Clone, Copy)]
 pub enum DesignFault {
     /// 20: the horizon isn't 1 to 1,000,000 ticks.
     Horizon,
@@ -50,8 +54,6 @@ pub enum DesignFault {
 }
 
 impl DesignFault {
-    ghost use Rattle.cmb_design.specs.Faults.{fault_number, fault_record};
-
     /// The fault's number: 20 to 37, or 70 where memory ran out.
     pub fn number(&self) -> u32
         ensures { result ≡ fault_number self.now }
@@ -136,6 +138,21 @@ impl DesignFault {
             DesignFault::Memory => "out of memory",
         }
     }
+}
+
+// By the two numbers that a fault is known by: a derived one has nineteen arms.
+impl PartialEq for DesignFault {
+    ghost eq = { eq_of_both (on fault_number ◌==◌) (on fault_record ◌==◌) };
+
+    ghost laws = { Prim.search (comparing, rules) };
+
+    fn eq(&self, other: &DesignFault) -> bool {
+        self.number() == other.number() && self.record() == other.record()
+    }
+}
+
+impl Eq for DesignFault {
+    ghost laws = { Prim.search (comparing, rules) };
 }
 
 impl fmt::Display for DesignFault {

@@ -82,7 +82,6 @@ fn settle_all(alloc: Global, table: &mut Vec<Told>) -> Result<(), AllocError>
 }
 
 /// For each net its changes, as an input with these rows.
-#[tactic(auto, using(crate::proofs::CheckFacts::pass_at))]
 pub(crate) fn stimuli_changes(
     alloc: Global,
     netlist: &Netlist,

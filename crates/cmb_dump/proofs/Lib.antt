@@ -1,3 +1,4 @@
 pub mod FillFacts
 pub mod WindowFacts
 pub mod PickFacts
+pub mod ReadyFacts

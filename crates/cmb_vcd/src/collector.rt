@@ -29,7 +29,6 @@ impl Model for Collector {
     ghost invariant = { λ c. AreInPlace c.horizon c.waves.items };
 }
 
-#[tactic(auto, using(crate::proofs::CollectorFacts::new_waves_more))]
 // The waves of so many nets, of which nothing is known.
 fn make_waves(alloc: Global, nets: u32) -> Result<Vec<Wave>, AllocError>
     ensures { IfOk result (λ waves. waves.items ≡ new_waves nets) }

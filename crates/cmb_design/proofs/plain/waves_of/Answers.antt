@@ -20,3 +20,11 @@ returns-clause-exact c =
     let nets : c.loop-net.net ≡ nets_of c.args.design.now = omega (arith, c.in_ok-table.ensures.nets) in
     let whole : c.loop-net.waves.items ≡ whole_waves c.args.design.now = c.loop-net.invariant ∙ ap (λ n. map (whole_wave c.args.design.now) (range_with_len 0 n)) nets in
     All-same (IsExactWaveIn c.args.design.now) c.loop-net.waves.items (whole_waves c.args.design.now) whole (whole-all c.args.design.now)
+
+pub wave_of-requires : goal.wave_of-requires
+wave_of-requires c = record { filled = c.in_ok-table.ensures; net = omega (arith, c.loop-net-test.true, c.in_ok-table.ensures.nets); few = c.requires.wired.few }
+
+pub returns-clause-waves : goal.returns-clause-waves
+returns-clause-waves c =
+    let nets : c.loop-net.net ≡ nets_of c.args.design.now = omega (arith, c.in_ok-table.ensures.nets) in
+    c.loop-net.invariant ∙ ap (λ n. map (whole_wave c.args.design.now) (range_with_len 0 n)) nets

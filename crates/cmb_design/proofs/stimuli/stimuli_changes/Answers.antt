@@ -3,7 +3,7 @@ use Rattle.std.proofs.lemmas.List.{take_all}
 use Rattle.std.proofs.lemmas.Result.{err_from_is_err_and}
 use Rattle.cmb_design.specs.Checks.{checks_after, first_fault}
 use Rattle.cmb_design.specs.Rows.{stimulus_row_checks}
-use Rattle.cmb_design.proofs.CheckFacts.{stops_at}
+use Rattle.cmb_design.proofs.CheckFacts.{pass_at, stops_at}
 use Rattle.cmb_design.proofs.StimulusFacts.{changes_of_stimuli, stimuli_none}
 use Rattle.cmb_design.proofs.stimuli.stimuli_changes.Goals as goal
 
@@ -22,3 +22,8 @@ returns-clause-ok c =
     let all : take c.loop-i.i rows ≡ rows = take_all c.loop-i.i rows (omega arith) in
     let taken = rw all at c.loop-i.invariant in
     (taken.1, c.in-Ok-settle_all.ensures ∙ changes_of_stimuli c.args.netlist.now rows c.loop-i.table.items 4294967296 taken.0)
+
+pub loop-i-preserved : goal.loop-i-preserved
+loop-i-preserved c =
+    let ok = c.in_ok-take_stimulus.ensures.ok in
+    (ok.1, pass_at (stimulus_row_checks c.args.netlist.now) c.args.rows.now c.loop-i.i (omega arith) c.loop-i.invariant.1 ok.0)

@@ -1,5 +1,6 @@
-use Rattle.std.proofs.Common.{◌≡◌, ℕ, length, List, ◌++◌, map, take, drop, arith, sym, subst, ◌∙◌, ap}
+use Rattle.std.proofs.Common.{◌≡◌, ◌<◌, ℕ, length, List, ◌++◌, map, take, drop, arith, sym, subst, ◌∙◌, ap}
 use Rattle.std.proofs.lemmas.List.{take_at}
+use Rattle.std.proofs.lemmas.Result.{IfOk-weaker}
 use Rattle.smallvec.specs.SmallVec.{SmallVec}
 use Rattle.cmb_engine.specs.Inner.Cells.{AreBelow, IsListed}
 use Rattle.cmb_engine.proofs.ReaderFacts.{listed-more}
@@ -23,3 +24,14 @@ loop-net-preserved c =
           (λ p number h. c.in_ok-list_net.ensures.kept p number (subst (λ (vs : List (SmallVec ℕ)). IsListed (items vs) p number) (sym before) h))
           c.in_ok-list_net.ensures.listed m place small read);
     }
+
+pub list_net-requires-clause-pins : goal.list_net-requires-clause-pins
+list_net-requires-clause-pins c = λ k d h.
+    let within : c.loop-net.net < length c.args.cells.now = omega (arith, c.loop-net-test.true, c.len-net-end.ensures) in
+    omega (arith, c.requires.pins c.loop-net.net within k d h, ap length c.deref_mut.ensures.value, c.loop-net.invariant.len)
+
+pub returns-clause-within : goal.returns-clause-within
+returns-clause-within c =
+    let items : List (SmallVec ℕ) → List (List ℕ) = λ vs. map (λ (v : SmallVec ℕ). v.items) vs in
+    let same : items c.deref.result.now ≡ items c.loop-net.lists.items = ap items c.deref.ensures.value in
+    IfOk-weaker c.joined.result _ _ (λ readers is. subst (λ (lists : List (List ℕ)). AreBelow (length c.args.cells.now) lists) (sym (is ∙ same)) c.loop-net.invariant.within) c.joined.ensures

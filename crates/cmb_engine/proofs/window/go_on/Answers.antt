@@ -1,7 +1,7 @@
-use Rattle.std.proofs.Common.{◌≡◌, ◌+◌, ◌-◌, ◌<◌, ◌≤◌, true, ℕ, List, [], length, get_or, sym, subst, arith}
+use Rattle.std.proofs.Common.{◌≡◌, ◌+◌, ◌-◌, ◌<◌, ◌≤◌, true, ℕ, List, [], length, get_or, sym, subst, ◌∙◌, arith}
 use Rattle.std.specs.Prelude.{All}
 use Rattle.cmb_engine.specs.Inner.Bits.{has}
-use Rattle.cmb_engine.specs.Inner.Cells.{Cell, IsPace, IsSteadyFrom, AreMarked, cell_at}
+use Rattle.cmb_engine.specs.Inner.Cells.{AreBelow, Cell, IsPace, IsSteadyFrom, AreMarked, cell_at}
 use Rattle.cmb_engine.specs.Inner.Circuits.{IsInGroup, Shows}
 use Rattle.cmb_engine.specs.Inner.Gifts.{is_written, AreWritten}
 use Rattle.cmb_engine.specs.Inner.Roles.{AreToldNets, gives}
@@ -109,3 +109,57 @@ returns-clause-shows c = λ trace meets shows right given slot place inside smal
     shown_before c.move_on.ensures.moved
     c.move_on.new.live c.mark_arrivals.new.marks begun (levels_of c.settle.new.words) c.settle.ensures.sweeps.told c.settle.ensures.exact
     slot place (omega (arith, inside, c.requires.nets)) small
+
+pub mark_news-requires-clause-lists : goal.mark_news-requires-clause-lists
+mark_news-requires-clause-lists c =
+    let nets : length c.args.wiring.now.cells ≡ length c.move_on.new.words = omega (arith, c.requires.nets, c.move_on.ensures.len) in
+    c.requires.wiring.lists ∙ nets
+
+pub mark_news-requires-clause-within : goal.mark_news-requires-clause-within
+mark_news-requires-clause-within c =
+    let nets : length c.args.wiring.now.cells ≡ length c.move_on.new.words = omega (arith, c.requires.nets, c.move_on.ensures.len) in
+    subst (λ (n : ℕ). AreBelow n c.args.wiring.now.readers) nets c.requires.wiring.within
+
+pub mark_news-requires-clause-room : goal.mark_news-requires-clause-room
+mark_news-requires-clause-room c = omega (arith, c.requires.room, c.move_on.ensures.len)
+
+pub mark_news-requires-clause-live : goal.mark_news-requires-clause-live
+mark_news-requires-clause-live c = omega (arith, c.requires.live, c.move_on.ensures.len, c.move_on.ensures.room)
+
+pub write_told-requires-clause-lists : goal.write_told-requires-clause-lists
+write_told-requires-clause-lists c =
+    let nets : length c.args.wiring.now.cells ≡ length c.move_on.new.words = omega (arith, c.requires.nets, c.move_on.ensures.len) in
+    c.requires.wiring.lists ∙ nets
+
+pub write_told-requires-clause-within : goal.write_told-requires-clause-within
+write_told-requires-clause-within c =
+    let nets : length c.args.wiring.now.cells ≡ length c.move_on.new.words = omega (arith, c.requires.nets, c.move_on.ensures.len) in
+    subst (λ (n : ℕ). AreBelow n c.args.wiring.now.readers) nets c.requires.wiring.within
+
+pub write_told-requires-clause-room : goal.write_told-requires-clause-room
+write_told-requires-clause-room c = omega (arith, c.requires.room, c.move_on.ensures.len, c.mark_news.ensures.room)
+
+pub write_told-requires-clause-live : goal.write_told-requires-clause-live
+write_told-requires-clause-live c = omega (arith, c.requires.live, c.move_on.ensures.len, c.move_on.ensures.room)
+
+pub write_given-requires-clause-lists : goal.write_given-requires-clause-lists
+write_given-requires-clause-lists c =
+    let nets : length c.args.wiring.now.cells ≡ length c.write_told.new.words = omega (arith, c.requires.nets, c.move_on.ensures.len, c.write_told.ensures.writes.len) in
+    c.requires.wiring.lists ∙ nets
+
+pub write_given-requires-clause-within : goal.write_given-requires-clause-within
+write_given-requires-clause-within c =
+    let nets : length c.args.wiring.now.cells ≡ length c.write_told.new.words = omega (arith, c.requires.nets, c.move_on.ensures.len, c.write_told.ensures.writes.len) in
+    subst (λ (n : ℕ). AreBelow n c.args.wiring.now.readers) nets c.requires.wiring.within
+
+pub write_given-requires-clause-room : goal.write_given-requires-clause-room
+write_given-requires-clause-room c = omega (arith, c.requires.room, c.move_on.ensures.len, c.mark_news.ensures.room, c.write_told.ensures.writes.len, c.write_told.ensures.writes.room)
+
+pub write_given-requires-clause-live : goal.write_given-requires-clause-live
+write_given-requires-clause-live c = omega (arith, c.requires.live, c.move_on.ensures.len, c.move_on.ensures.room, c.write_told.ensures.writes.len, c.write_told.ensures.writes.live_room)
+
+pub mark_arrivals-requires-clause-nets : goal.mark_arrivals-requires-clause-nets
+mark_arrivals-requires-clause-nets c = omega (arith, c.requires.nets, c.move_on.ensures.len, c.write_told.ensures.writes.len, c.write_given.ensures.writes.len)
+
+pub mark_arrivals-requires-clause-room : goal.mark_arrivals-requires-clause-room
+mark_arrivals-requires-clause-room c = omega (arith, c.requires.room, c.move_on.ensures.len, c.mark_news.ensures.room, c.write_told.ensures.writes.len, c.write_told.ensures.writes.room, c.write_given.ensures.writes.len, c.write_given.ensures.writes.room)

@@ -12,7 +12,7 @@ use Rattle.cmb_engine.specs.Inner.Bits.{has}
 use Rattle.cmb_engine.specs.Inner.Cells.{IsSteadyFrom}
 use Rattle.cmb_engine.specs.Inner.Circuits.{AreQuiet, Shows}
 use Rattle.cmb_engine.specs.Inner.Gifts.{AreGiven}
-use Rattle.cmb_engine.specs.Inner.Lines.{IsAhead, IsOfLine, NotesEach}
+use Rattle.cmb_engine.specs.Inner.Lines.{AreFollowers, IsAhead, IsOfLine, NotesEach}
 use Rattle.cmb_engine.specs.Inner.Traces.{trace_of}
 use Rattle.cmb_engine.specs.Inner.Words.{levels_of}
 use Rattle.cmb_engine.specs.declared.cell.Pin.{Pin}
@@ -36,6 +36,30 @@ note_lines-requires-clause-ahead c =
     subst (λ (lines : List Pin). All (IsAhead c.take.new.self c.next_day-to.result (64 - (c.next_day-to.result - c.args.self.now.clock))) lines) (sym c.deref-4.ensures.value)
     (lines-ahead c.args.design.now c.args.circuit.now c.args.self.now c.requires.circuit c.requires.state c.take.new.self c.take.new.taken.items c.next_day-to.result
     c.requires.below c.next_day-to.ensures c.in_ok-take.ensures.takes)
+
+pub go_on-requires-clause-wiring : goal.go_on-requires-clause-wiring
+go_on-requires-clause-wiring c = c.requires.circuit.wires
+
+pub go_on-requires-clause-quiet : goal.go_on-requires-clause-quiet
+go_on-requires-clause-quiet c =
+    let state = c.args.self.now in
+    subst (λ (ws : List Word). AreQuiet (levels_of ws) (has state.live) (length ws)) (sym c.deref_mut.ensures.value)
+    (subst (λ (n : ℕ). AreQuiet (levels_of state.words.items) (has state.live) n) (sym c.requires.state.slots) c.requires.state.quiet)
+
+pub go_on-requires-clause-nets : goal.go_on-requires-clause-nets
+go_on-requires-clause-nets c = sym (ap length c.deref_mut.ensures.value ∙ c.requires.state.slots)
+
+pub note_lines-requires-clause-followers : goal.note_lines-requires-clause-followers
+note_lines-requires-clause-followers c =
+    let circuit = c.args.circuit.now in
+    subst (λ (lines : List Pin). AreFollowers lines (length circuit.followers) circuit.followers) (sym c.deref-4.ensures.value)
+    (subst (λ (n : ℕ). AreFollowers circuit.lines.items n circuit.followers) (sym c.requires.circuit.follow.count) c.requires.circuit.follow)
+
+pub note_lines-requires-clause-changed : goal.note_lines-requires-clause-changed
+note_lines-requires-clause-changed c =
+    let nets : c.len.result ≡ length c.args.circuit.now.followers = c.len.ensures.value ∙ ap (λ n. length n.names) c.netlist.ensures ∙ sym c.requires.circuit.follow.count in
+    subst (λ (changed : List Changed). RisesWithin 0 (length c.args.circuit.now.followers) changed) (sym c.deref-3.ensures.value)
+    (subst (λ (n : ℕ). RisesWithin 0 n c.collect.new.changed.items) nets c.in_ok-collect.ensures.rises)
 
 pub collect-requires-clause-quiet : goal.collect-requires-clause-quiet
 collect-requires-clause-quiet c =

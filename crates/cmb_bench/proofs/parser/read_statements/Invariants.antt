@@ -3,7 +3,7 @@ use Rattle.cmb_bench.specs.Inner.Scan.{scan}
 use Rattle.cmb_bench.specs.Inner.Views.{statement}
 use Rattle.cmb_bench.specs.Statement.{driven}
 use Rattle.cmb_bench.specs.Inner.Building.{Parses}
-use Rattle.cmb_bench.proofs.parser.parse.Given as goal
+use Rattle.cmb_bench.proofs.parser.read_statements.Given as goal
 
 abbrev pub invariant-loop-cursor : goal.invariant-loop-cursor
 invariant-loop-cursor l = record {

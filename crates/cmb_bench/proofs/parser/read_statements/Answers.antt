@@ -5,7 +5,7 @@ use Rattle.cmb_bench.specs.Inner.Scan.{scan}
 use Rattle.cmb_bench.specs.Inner.Views.{statement}
 use Rattle.cmb_bench.specs.Inner.Building.{Parses}
 use Rattle.cmb_bench.proofs.Parsing.{parse_round, driven_more}
-use Rattle.cmb_bench.proofs.parser.parse.Goals as goal
+use Rattle.cmb_bench.proofs.parser.read_statements.Goals as goal
 
 pub loop-cursor-preserved : goal.loop-cursor-preserved
 loop-cursor-preserved c =
