@@ -7,7 +7,7 @@ use std::fmt;
 use thiserror::Error;
 
 /// What is wrong with a text, at one of its tokens.
-#[derive(Clone, Copy)]
+#[derive(Clone, Copy, PartialEq, Eq)]
 pub enum FaultKind {
     /// 1: a byte that stands in no token, outside a comment.
     Byte,
@@ -79,7 +79,7 @@ impl fmt::Debug for FaultKind {
 impl std::error::Error for FaultKind {}
 
 /// Why a text has no netlist, and on which line, counted from 1; line 0 where memory ran out.
-#[derive(Clone, Copy, Debug, Error)]
+#[derive(Clone, Copy, Debug, PartialEq, Eq, Error)]
 #[error("line {line}: {kind}")]
 pub struct BenchFault {
     pub line: u32,

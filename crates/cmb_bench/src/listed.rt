@@ -12,7 +12,7 @@ use std::alloc::Global;
 use thiserror::Error;
 
 /// Why a list names no nets.
-#[derive(Clone, Copy, Debug, Error)]
+#[derive(Clone, Copy, Debug, PartialEq, Eq, Error)]
 pub enum ListFault {
     /// 38: what stands on this line, counted from 1, is no net's name.
     #[error("line {line}: no net has this name")]

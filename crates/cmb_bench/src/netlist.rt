@@ -23,7 +23,7 @@ pub enum Kind {
 }
 
 /// What the word in the place of a kind names: one of the gates, or the flip-flop.
-#[derive(Clone, Copy, PartialEq, Eq)]
+#[derive(Clone, Copy, Debug, PartialEq, Eq)]
 pub enum Cell {
     Gate(Kind),
     Flop,

@@ -68,7 +68,7 @@ impl Row for ClockRow {
 }
 
 /// A sampling clock: its ticks are `first`, `first + period`, `first + 2 * period` and so on.
-#[derive(Clone, Copy, PartialEq, Eq)]
+#[derive(Clone, Copy, Debug, PartialEq, Eq)]
 pub struct Clock {
     /// The first sample tick.
     pub first: u32,

@@ -17,7 +17,7 @@ use cmb_wave::Level;
 use std::alloc::{AllocError, Global};
 
 /// What a design has beside its netlist and its rows.
-#[derive(Clone, Copy)]
+#[derive(Clone, Copy, Debug, PartialEq, Eq)]
 pub struct Settings {
     /// The ticks below it are simulated; 1 to 1,000,000.
     pub horizon: u32,
