@@ -5,7 +5,7 @@ use Rattle.std.proofs.lemmas.Bool.{cases_lt, false≢true}
 use Rattle.std.proofs.lemmas.List.{get_or_past}
 use Rattle.std.proofs.lemmas.List.Elements.{All-contains}
 use Rattle.std.proofs.lemmas.Option.{same_Some, slice_get_read}
-use Rattle.cmb_bench.specs.Netlist.{driver_of, pins_of}
+use Rattle.cmb_netlist.specs.Netlist.{driver_of, pins_of}
 use Rattle.cmb_cut.specs.Sharings.{Drives, IsSharing, Knows}
 use Rattle.cmb_cut.specs.declared.sharing.Share.{Share}
 use Rattle.cmb_cut.specs.declared.sharing.Sharing.{Sharing}

@@ -6,9 +6,9 @@ use Rattle.std.specs.Str.{str_to_ascii_lowercase}
 use Rattle.std.proofs.lemmas.List.{length-map}
 use Rattle.std.proofs.lemmas.Slice.Eq.{bytes_eq-Decides}
 use Rattle.cmb_bench.specs.declared.text.Class.TheVariants.{Equals}
-use Rattle.cmb_bench.specs.declared.netlist.Cell.{Cell}
+use Rattle.cmb_netlist.specs.declared.netlist.Cell.{Cell}
 use Rattle.cmb_bench.specs.Text.{Lexeme, name, mark}
-use Rattle.cmb_bench.specs.Kinds.{is_word}
+use Rattle.cmb_netlist.specs.Kinds.{is_word}
 use Rattle.cmb_bench.specs.Statement.{Statement, input, output, drive, Mention}
 use Rattle.cmb_bench.specs.Grammar.{at, IsNew, IsShort, AreShort, HasArity, SpellsOperands, Spells, IsLawful}
 use Rattle.cmb_bench.specs.Inner.Reading.{short_name, used_name, marked, with_net, operands_at, driver_at, input_at, output_at, keyword_at, statement_at}

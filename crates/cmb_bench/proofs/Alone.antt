@@ -10,10 +10,10 @@ use Rattle.cmb_bench.specs.declared.fault.FaultKind.{FaultKind}
 use Rattle.cmb_bench.specs.declared.fault.FaultKind.TheVariants as faults
 use Rattle.cmb_bench.specs.Text.{Lexeme, Word, name, mark, tokens_of}
 use Rattle.cmb_bench.specs.Inner.Snippet.{snippets_of}
-use Rattle.cmb_bench.specs.Kinds.{is_word}
+use Rattle.cmb_netlist.specs.Kinds.{is_word}
 use Rattle.cmb_bench.specs.Statement.{Statement, input, output, drive, Mention, driven_by, driven, used_by, is_member}
-use Rattle.cmb_bench.specs.declared.netlist.Driver.{Driver}
-use Rattle.cmb_bench.specs.Netlist.{Netlist}
+use Rattle.cmb_netlist.specs.declared.netlist.Driver.{Driver}
+use Rattle.cmb_netlist.specs.Netlist.{Netlist}
 use Rattle.cmb_bench.specs.Grammar.{at, said, SpellsOperands, Spells, SpellsAll}
 use Rattle.cmb_bench.specs.Meaning.{Reads}
 use Rattle.cmb_bench.specs.Inner.Building.{number_in, numbers_in, built}

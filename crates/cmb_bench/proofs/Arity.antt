@@ -1,9 +1,9 @@
 -- How many operands a kind takes, by whether it takes exactly one.
 use Rattle.std.proofs.Common.{◌≡◌, List, [], ◌∷◌, false, refl, arith}
-use Rattle.cmb_bench.specs.declared.netlist.Kind.TheVariants.{Not, Buff}
-use Rattle.cmb_bench.specs.declared.netlist.Cell.{Cell}
-use Rattle.cmb_bench.specs.declared.netlist.Cell.TheVariants.{Gate, Flop}
-use Rattle.cmb_bench.specs.Kinds.{takes_one}
+use Rattle.cmb_netlist.specs.declared.netlist.Kind.TheVariants.{Not, Buff}
+use Rattle.cmb_netlist.specs.declared.netlist.Cell.{Cell}
+use Rattle.cmb_netlist.specs.declared.netlist.Cell.TheVariants.{Gate, Flop}
+use Rattle.cmb_netlist.specs.Kinds.{takes_one}
 use Rattle.cmb_bench.specs.Statement.{Mention}
 use Rattle.cmb_bench.specs.Grammar.{HasArity}
 

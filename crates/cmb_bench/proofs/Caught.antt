@@ -6,10 +6,10 @@ use Rattle.cmb_bench.specs.declared.text.Class.TheVariants.{Open, Close, Comma, 
 use Rattle.cmb_bench.specs.declared.fault.BenchFault.{BenchFault}
 use Rattle.cmb_bench.specs.declared.fault.FaultKind.{FaultKind}
 use Rattle.cmb_bench.specs.declared.fault.FaultKind.TheVariants as faults
-use Rattle.cmb_bench.specs.declared.netlist.Cell.{Cell}
+use Rattle.cmb_netlist.specs.declared.netlist.Cell.{Cell}
 use Rattle.cmb_bench.specs.Text.{Lexeme, Word, name, mark, Snippet, tokens_from, is_token, word_of, line_feeds}
 use Rattle.cmb_bench.specs.Inner.Word.{is_end, has_class, name_in}
-use Rattle.cmb_bench.specs.Kinds.{is_word, cell_of, takes_one}
+use Rattle.cmb_netlist.specs.Kinds.{is_word, cell_of, takes_one}
 use Rattle.cmb_bench.specs.Statement.{Statement, input, output, drive, Mention, driven_by, is_member, driven}
 use Rattle.cmb_bench.specs.Grammar.{at, said, IsNew, IsShort, SpellsOperands, Spells}
 use Rattle.cmb_bench.specs.Inner.Reading.{fault_at, misplaced, next_in, named, cell_in, short_name, short, used_name, marked, with_net, with_first, operands_at, driver_at, input_at, output_at, keyword_at, statement_at, ◌>>=◌}

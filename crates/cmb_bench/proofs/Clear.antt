@@ -2,9 +2,9 @@
 use Rattle.std.proofs.Common.{◌≡◌, ℕ, ◌≤◌, List, [], ◌∷◌, ◌++◌, Bool, true, false, length, refl, sym, subst, arith, append-nil}
 use Rattle.std.specs.Prelude.{Some, None, option_map, find, cond}
 use Rattle.std.specs.List.{AllByRecursion}
-use Rattle.cmb_bench.specs.declared.netlist.Cell.{Cell}
+use Rattle.cmb_netlist.specs.declared.netlist.Cell.{Cell}
 use Rattle.cmb_bench.specs.Text.{Lexeme}
-use Rattle.cmb_bench.specs.Kinds.{is_word, cell_of, kind_words}
+use Rattle.cmb_netlist.specs.Kinds.{is_word, cell_of, kind_words}
 use Rattle.cmb_bench.specs.Statement.{Statement, input, output, drive, Mention, driven_by}
 use Rattle.cmb_bench.specs.Grammar.{IsNew, IsShort, AreShort, HasArity, SpellsOperands, Spells, SpellsAll, IsLawful, AreLawful}
 use Rattle.cmb_bench.specs.Meaning.{IsKind}

@@ -2,9 +2,9 @@
 use Rattle.std.proofs.Common.{◌≡◌, ℕ, List, [], ◌∷◌, ◌++◌, Bool, true, false, refl, sym, ap, subst, ⊎_elim}
 use Rattle.std.specs.Prelude.{Option, Some, None, option_and_then, if◌then◌else◌, codes}
 use Rattle.cmb_bench.specs.declared.text.Class.TheVariants.{Open, Close, Comma, Equals, End}
-use Rattle.cmb_bench.specs.declared.netlist.Cell.TheVariants.{Flop}
+use Rattle.cmb_netlist.specs.declared.netlist.Cell.TheVariants.{Flop}
 use Rattle.cmb_bench.specs.Text.{Lexeme, Word, name, mark}
-use Rattle.cmb_bench.specs.Kinds.{is_word}
+use Rattle.cmb_netlist.specs.Kinds.{is_word}
 use Rattle.cmb_bench.specs.Statement.{Statement, input, output, drive, Mention}
 use Rattle.cmb_bench.specs.Grammar.{at, said, SpellsOperands, SpellsAll}
 use Rattle.cmb_bench.specs.FirstFault.{AnyKind, Begins}

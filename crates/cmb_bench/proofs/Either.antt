@@ -9,8 +9,8 @@ use Rattle.cmb_bench.specs.Text.{Lexeme, Word, name, mark, Snippet, IsSnippet, I
 use Rattle.cmb_bench.specs.Inner.Word.{is_end}
 use Rattle.cmb_bench.specs.Inner.Snippet.{snippets_of}
 use Rattle.cmb_bench.specs.Statement.{Statement, input, output, drive, Mention, driven_by, driven}
-use Rattle.cmb_bench.specs.declared.netlist.Driver.{Driver}
-use Rattle.cmb_bench.specs.Netlist.{Netlist}
+use Rattle.cmb_netlist.specs.declared.netlist.Driver.{Driver}
+use Rattle.cmb_netlist.specs.Netlist.{Netlist}
 use Rattle.cmb_bench.specs.Inner.Reading.{statement_at}
 use Rattle.cmb_bench.specs.Inner.Building.{Parses, begins_more, built}
 use Rattle.cmb_bench.specs.Grammar.{at, SpellsOperands, Spells}

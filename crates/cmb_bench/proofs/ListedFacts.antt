@@ -5,7 +5,7 @@ use Rattle.cmb_bench.specs.Inner.Snippet.{snippets_of}
 use Rattle.cmb_bench.specs.Inner.Scan.{behind}
 use Rattle.cmb_bench.specs.Inner.Word.{is_end}
 use Rattle.cmb_bench.specs.Listed.{HasUnknown, Lists, is_unknown, named_by, named_numbers, unknown_line}
-use Rattle.cmb_bench.specs.Netlist.{Netlist}
+use Rattle.cmb_netlist.specs.Netlist.{Netlist}
 use Rattle.cmb_bench.specs.Text.{Lexeme, Word, mark, name, tokens_of}
 use Rattle.cmb_bench.proofs.Cutting.{cutting_is}
 

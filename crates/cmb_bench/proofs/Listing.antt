@@ -5,13 +5,13 @@ use Rattle.std.specs.Prelude.{if◌then◌else◌}
 use Rattle.cmb_bench.specs.declared.fault.BenchFault.{BenchFault}
 use Rattle.cmb_bench.specs.declared.fault.ReadError.{ReadError}
 use Rattle.cmb_bench.specs.declared.fault.ReadError.TheVariants as errors
-use Rattle.cmb_bench.specs.declared.netlist.Cell.{Cell}
+use Rattle.cmb_netlist.specs.declared.netlist.Cell.{Cell}
 use Rattle.cmb_bench.specs.Text.{Lexeme}
 use Rattle.cmb_bench.specs.declared.text.Class.TheVariants.{Close, Comma}
 use Rattle.cmb_bench.specs.declared.fault.FaultKind.TheVariants as faults
 use Rattle.cmb_bench.specs.Inner.Word.{is_end, has_class}
 use Rattle.cmb_bench.specs.Inner.Scan.{behind}
-use Rattle.cmb_bench.specs.Kinds.{takes_one}
+use Rattle.cmb_netlist.specs.Kinds.{takes_one}
 use Rattle.cmb_bench.specs.Statement.{Mention}
 use Rattle.cmb_bench.specs.Inner.Reading.{fault_at, misplaced, short_name, used_name, operands_at, with_first, Fails}
 

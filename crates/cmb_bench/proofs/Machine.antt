@@ -2,12 +2,12 @@
 use Rattle.std.specs.Prelude.{ℕ, List, [], ◌∷◌, ◌++◌, Bool, true, false, Option, Some, None, option_and_then, if◌then◌else◌, codes, length, nat_lt, nat_le}
 use Rattle.cmb_bench.specs.declared.fault.FaultKind.{FaultKind}
 use Rattle.cmb_bench.specs.declared.fault.FaultKind.TheVariants as faults
-use Rattle.cmb_bench.specs.declared.netlist.Cell.{Cell}
+use Rattle.cmb_netlist.specs.declared.netlist.Cell.{Cell}
 use Rattle.cmb_bench.specs.Inner.Word.{has_class}
 use Rattle.cmb_bench.specs.Statement.{is_member}
 use Rattle.cmb_bench.specs.declared.text.Class.TheVariants.{Open, Close, Comma, Equals, End, Bad}
 use Rattle.cmb_bench.specs.Text.{Lexeme, Word, name, mark}
-use Rattle.cmb_bench.specs.Kinds.{is_word, cell_of, takes_one}
+use Rattle.cmb_netlist.specs.Kinds.{is_word, cell_of, takes_one}
 
 pub data Place : Type 0 where
   start : Place

@@ -5,7 +5,7 @@ use Rattle.std.specs.List.{flat_map}
 use Rattle.std.specs.Str.{bytes_eq}
 use Rattle.indexmap.specs.IndexSet.{insert_key, insert_all}
 use Rattle.cmb_bench.specs.Statement.{Statement, input, output, drive, Mention}
-use Rattle.cmb_bench.specs.declared.netlist.Driver.{Driver}
+use Rattle.cmb_netlist.specs.declared.netlist.Driver.{Driver}
 use Rattle.cmb_bench.specs.Inner.Building.{numbered, number_in, numbers_in, built}
 use Rattle.cmb_bench.specs.Meaning.{Numbers, Drivers, named_outputs}
 use Rattle.cmb_bench.proofs.Inversion.{bind_ok, ok_is}

@@ -7,10 +7,10 @@ use Rattle.cmb_bench.specs.declared.parser.Use.{Use}
 use Rattle.std.specs.Prelude.{◌≤◌, nat_eq}
 use Rattle.indexmap.specs.IndexSet.{insert_key}
 use Rattle.cmb_bench.specs.declared.parser.Item.{Item}
-use Rattle.cmb_bench.specs.declared.netlist.Cell.{Cell}
+use Rattle.cmb_netlist.specs.declared.netlist.Cell.{Cell}
 use Rattle.cmb_bench.specs.Statement.{Mention, Statement, input, output, drive}
-use Rattle.cmb_bench.specs.declared.netlist.Driver.{Driver}
-use Rattle.cmb_bench.specs.declared.netlist.Driver.TheVariants.{Input}
+use Rattle.cmb_netlist.specs.declared.netlist.Driver.{Driver}
+use Rattle.cmb_netlist.specs.declared.netlist.Driver.TheVariants.{Input}
 use Rattle.cmb_bench.specs.Meaning.{driver_from}
 use Rattle.cmb_bench.specs.Inner.Views.{mention, mentions, statement}
 use Rattle.cmb_bench.specs.Inner.Building.{number_in, numbers_in, built, with_drivers}

@@ -4,11 +4,11 @@ use Rattle.std.specs.Prelude.{Option, Some, None, if◌then◌else◌, codes, na
 use Rattle.cmb_bench.specs.declared.text.Class.TheVariants.{Open, Close, Comma, Equals, Bad, End}
 use Rattle.cmb_bench.specs.declared.fault.FaultKind.{FaultKind}
 use Rattle.cmb_bench.specs.declared.fault.FaultKind.TheVariants as faults
-use Rattle.cmb_bench.specs.declared.netlist.Cell.{Cell}
-use Rattle.cmb_bench.specs.declared.netlist.Cell.TheVariants.{Flop}
+use Rattle.cmb_netlist.specs.declared.netlist.Cell.{Cell}
+use Rattle.cmb_netlist.specs.declared.netlist.Cell.TheVariants.{Flop}
 use Rattle.cmb_bench.specs.Text.{Lexeme, Word, name, mark}
 use Rattle.cmb_bench.specs.Inner.Word.{has_class}
-use Rattle.cmb_bench.specs.Kinds.{is_word, cell_of, takes_one}
+use Rattle.cmb_netlist.specs.Kinds.{is_word, cell_of, takes_one}
 use Rattle.cmb_bench.specs.Statement.{Statement, input, output, drive, Mention, driven_by, is_member, driven}
 use Rattle.cmb_bench.specs.Grammar.{at, said, SpellsOperands, Spells, SpellsAll}
 use Rattle.cmb_bench.specs.FirstFault.{AnyKind, Fronted, Begins, DrivenAt, StandsAt}

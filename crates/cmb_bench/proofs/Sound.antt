@@ -8,11 +8,11 @@ use Rattle.std.specs.Cmp.Lexicographic.{nat_list_eq_equiv}
 use Rattle.std.proofs.lemmas.Map.Keys.{IsDistinct-push}
 use Rattle.std.proofs.lemmas.List.Quantifiers.{position-Some}
 use Rattle.indexmap.specs.IndexSet.{insert_key, insert_all}
-use Rattle.cmb_bench.specs.declared.netlist.Cell.{Cell}
-use Rattle.cmb_bench.specs.declared.netlist.Cell.TheVariants.{Gate, Flop}
+use Rattle.cmb_netlist.specs.declared.netlist.Cell.{Cell}
+use Rattle.cmb_netlist.specs.declared.netlist.Cell.TheVariants.{Gate, Flop}
 use Rattle.cmb_bench.specs.Statement.{Statement, input, output, drive, Mention, driven_by, driven}
-use Rattle.cmb_bench.specs.declared.netlist.Driver.{Driver}
-use Rattle.cmb_bench.specs.Netlist.{Netlist, MayTake, IsWired, IsNetlist}
+use Rattle.cmb_netlist.specs.declared.netlist.Driver.{Driver}
+use Rattle.cmb_netlist.specs.Netlist.{Netlist, MayTake, IsWired, IsNetlist}
 use Rattle.cmb_bench.specs.Grammar.{HasArity, AreLawful}
 use Rattle.cmb_bench.specs.Meaning.{driver_from, Numbers, Drivers}
 use Rattle.cmb_bench.specs.Inner.Building.{built}

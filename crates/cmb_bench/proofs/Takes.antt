@@ -2,10 +2,10 @@
 use Rattle.std.proofs.Common.{◌≡◌, ℕ, List, [], ◌∷◌, Bool, true, false, refl, sym, ap, ◌∙◌, subst, Ok, inl, inr, ⊎_elim}
 use Rattle.std.specs.Prelude.{if◌then◌else◌, Option, Some, None, codes, ◌⊎◌}
 use Rattle.cmb_bench.specs.declared.text.Class.TheVariants.{Open, Comma, Equals, Close}
-use Rattle.cmb_bench.specs.declared.netlist.Cell.{Cell}
+use Rattle.cmb_netlist.specs.declared.netlist.Cell.{Cell}
 use Rattle.cmb_bench.specs.Text.{Lexeme, Word, name, mark}
 use Rattle.cmb_bench.specs.Inner.Word.{has_class, name_in}
-use Rattle.cmb_bench.specs.Kinds.{is_word, cell_of, takes_one}
+use Rattle.cmb_netlist.specs.Kinds.{is_word, cell_of, takes_one}
 use Rattle.cmb_bench.specs.Statement.{Statement, Mention}
 use Rattle.cmb_bench.specs.Grammar.{at, said, IsShort, AreShort, HasArity, SpellsOperands, Spells, IsLawful}
 use Rattle.cmb_bench.specs.Inner.Reading.{next_in, named, cell_in, short_name, used_name, marked, with_net, with_first, operands_at, driver_at, input_at, output_at, keyword_at, statement_at}

@@ -4,10 +4,10 @@ use Rattle.std.specs.Prelude.{Option, Some, None, if◌then◌else◌, nat_le}
 use Rattle.cmb_bench.specs.declared.text.Class.TheVariants.{Comma, Equals, Bad}
 use Rattle.cmb_bench.specs.declared.fault.FaultKind.{FaultKind}
 use Rattle.cmb_bench.specs.declared.fault.FaultKind.TheVariants as faults
-use Rattle.cmb_bench.specs.declared.netlist.Cell.{Cell}
+use Rattle.cmb_netlist.specs.declared.netlist.Cell.{Cell}
 use Rattle.cmb_bench.specs.Text.{Lexeme, Word, name, mark}
 use Rattle.cmb_bench.specs.Inner.Word.{has_class}
-use Rattle.cmb_bench.specs.Kinds.{cell_of}
+use Rattle.cmb_netlist.specs.Kinds.{cell_of}
 use Rattle.cmb_bench.specs.Statement.{Statement, is_member, driven}
 use Rattle.cmb_bench.specs.FirstFault.{AtEquals, AtInput, AtKind, AtComma, StandsAt, number_of_fault}
 use Rattle.cmb_bench.proofs.Machine.{Place, start, first, keyed, named, equalled, kinded, listing, listed, ended, Stand, go, run, or_else, name_check, net_check, kind_check, checked, if_taken, verdict}

@@ -8,8 +8,8 @@ use Rattle.cmb_bench.specs.declared.fault.BenchFault.{BenchFault}
 use Rattle.cmb_bench.specs.Text.{Lexeme, mark, tokens_of}
 use Rattle.cmb_bench.specs.Inner.Snippet.{snippets_of}
 use Rattle.cmb_bench.specs.Statement.{Statement, input, output, drive, driven_by, driven}
-use Rattle.cmb_bench.specs.declared.netlist.Driver.{Driver}
-use Rattle.cmb_bench.specs.Netlist.{Netlist}
+use Rattle.cmb_netlist.specs.declared.netlist.Driver.{Driver}
+use Rattle.cmb_netlist.specs.Netlist.{Netlist}
 use Rattle.cmb_bench.specs.Inner.Reading.{statement_at, short_name, Gives}
 use Rattle.cmb_bench.specs.Inner.Building.{Parses, begins_more, built, Fronts}
 use Rattle.cmb_bench.specs.Grammar.{at, SpellsAll, AreLawful}

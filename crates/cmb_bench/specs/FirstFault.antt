@@ -7,9 +7,9 @@ use Rattle.cmb_bench.specs.declared.text.Class.TheVariants.{Open, Comma, Equals,
 use Rattle.cmb_bench.specs.declared.fault.BenchFault.{BenchFault}
 use Rattle.cmb_bench.specs.declared.fault.FaultKind.{FaultKind}
 use Rattle.cmb_bench.specs.declared.fault.FaultKind.TheVariants as faults
-use Rattle.cmb_bench.specs.declared.netlist.Cell.{Cell}
+use Rattle.cmb_netlist.specs.declared.netlist.Cell.{Cell}
 use Rattle.cmb_bench.specs.Text.{Snippet, IsCutting, Lexeme, name, mark, tokens_of}
-use Rattle.cmb_bench.specs.Kinds.{is_word, cell_of, takes_one}
+use Rattle.cmb_netlist.specs.Kinds.{is_word, cell_of, takes_one}
 use Rattle.cmb_bench.specs.Statement.{Statement, Mention, used_by, is_member, driven}
 use Rattle.cmb_bench.specs.Grammar.{at, said, Spells, SpellsAll}
 

@@ -2,11 +2,11 @@
 -- `Spells.. tokens rest` says that the tokens are those of what is spelled, and then the rest.
 use Rattle.std.specs.Prelude.{◌≡◌, ℕ, ◌<◌, ◌≤◌, List, [], ◌∷◌, ◌++◌, length, true, false, codes}
 use Rattle.cmb_bench.specs.declared.text.Class.TheVariants.{Open, Close, Comma, Equals, End}
-use Rattle.cmb_bench.specs.declared.netlist.Cell.{Cell}
+use Rattle.cmb_netlist.specs.declared.netlist.Cell.{Cell}
 use Rattle.cmb_bench.specs.Text.{Lexeme, Word, name, mark}
-use Rattle.cmb_bench.specs.declared.netlist.Cell.TheVariants.{Gate, Flop}
-use Rattle.cmb_bench.specs.Kinds.{is_word}
-use Rattle.cmb_bench.specs.Netlist.{MayTake}
+use Rattle.cmb_netlist.specs.declared.netlist.Cell.TheVariants.{Gate, Flop}
+use Rattle.cmb_netlist.specs.Kinds.{is_word}
+use Rattle.cmb_netlist.specs.Netlist.{MayTake}
 use Rattle.cmb_bench.specs.Statement.{Statement, input, output, drive, Mention, driven_by, is_member}
 
 -- a token on a line

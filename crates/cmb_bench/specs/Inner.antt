@@ -6,4 +6,3 @@ pub mod Views
 pub mod Reading
 pub mod Building
 pub mod Faulty
-pub mod Hashing

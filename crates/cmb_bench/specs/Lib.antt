@@ -1,6 +1,4 @@
 -- what the public contracts rest on
-pub mod Kinds
-pub mod Netlist
 pub mod Text
 pub mod Statement
 pub mod Grammar

@@ -3,7 +3,7 @@ use Rattle.std.specs.Prelude.{◌≡◌, ℕ, Bool, true, false, List, [], ◌�
 use Rattle.cmb_bench.specs.declared.listed.ListFault.{ListFault}
 use Rattle.cmb_bench.specs.declared.listed.ListFault.TheVariants.{Memory, Unknown}
 use Rattle.cmb_bench.specs.declared.text.Class.TheVariants.{End}
-use Rattle.cmb_bench.specs.Netlist.{Netlist, number_of}
+use Rattle.cmb_netlist.specs.Netlist.{Netlist, number_of}
 use Rattle.cmb_bench.specs.Text.{IsCutting, Lexeme, Snippet, Word, mark, name, tokens_of}
 
 -- a token that is no net's name; the end of the list isn't meant as one

@@ -3,14 +3,14 @@ use Rattle.std.specs.Prelude.{◌≡◌, ℕ, List, [], ◌∷◌, Some, nat_eq,
 use Rattle.std.specs.List.{flat_map}
 use Rattle.std.specs.Str.{bytes_eq}
 use Rattle.indexmap.specs.IndexSet.{insert_all}
-use Rattle.cmb_bench.specs.declared.netlist.Cell.{Cell}
-use Rattle.cmb_bench.specs.declared.netlist.Cell.TheVariants as cells
+use Rattle.cmb_netlist.specs.declared.netlist.Cell.{Cell}
+use Rattle.cmb_netlist.specs.declared.netlist.Cell.TheVariants as cells
 use Rattle.cmb_bench.specs.Text.{Snippet, IsCutting, tokens_of}
-use Rattle.cmb_bench.specs.Kinds.{cell_of}
+use Rattle.cmb_netlist.specs.Kinds.{cell_of}
 use Rattle.cmb_bench.specs.Statement.{Statement, input, output, drive, Mention, driven}
-use Rattle.cmb_bench.specs.declared.netlist.Driver.{Driver}
-use Rattle.cmb_bench.specs.declared.netlist.Driver.TheVariants.{Input, Gate, Flop}
-use Rattle.cmb_bench.specs.Netlist.{Netlist}
+use Rattle.cmb_netlist.specs.declared.netlist.Driver.{Driver}
+use Rattle.cmb_netlist.specs.declared.netlist.Driver.TheVariants.{Input, Gate, Flop}
+use Rattle.cmb_netlist.specs.Netlist.{Netlist}
 use Rattle.cmb_bench.specs.Grammar.{SpellsAll, AreLawful}
 
 -- the numbers are those of the nets with these names: their places among the names of all nets

@@ -9,10 +9,8 @@ ghost use Rattle.cmb_bench.specs.Inner.Building.{number_in, numbers_in, built, A
 ghost use Rattle.cmb_bench.specs.Inner.Views.{mention, mentions, statement};
 
 use crate::fault::{BenchFault, FaultKind, ReadError};
-use crate::limits::MAX_NETS;
-use crate::name::{Name, Spelled};
-use crate::netlist::{Cell, Driver, Netlist, Operands, Pins};
 use crate::parser::{Item, Use};
+use cmb_netlist::{Cell, Driver, MAX_NETS, Name, Netlist, Operands, Pins, Spelled};
 use indexmap::IndexSet;
 use std::alloc::Global;
 

@@ -1,8 +1,8 @@
 //! Laws: each text has one cutting, and spells one netlist or has one first fault, and never both; numbers and names of
 //! nets belong together.
-ghost use Rattle.std.specs.Prelude.{◌≡◌, ◌<◌, ℕ, List, length, Some, ◌⊎◌};
+ghost use Rattle.std.specs.Prelude.{◌≡◌, ℕ, List, ◌⊎◌};
 ghost use Rattle.cmb_bench.specs.declared.fault.BenchFault.{BenchFault};
-ghost use Rattle.cmb_bench.specs.Netlist.{Netlist, IsNetlist, name_of, number_of};
+ghost use Rattle.cmb_netlist.specs.Netlist.{Netlist};
 ghost use Rattle.cmb_bench.specs.Meaning.{Reads};
 ghost use Rattle.cmb_bench.specs.FirstFault.{IsFirstFault};
 ghost use Rattle.cmb_bench.specs.Text.{Snippet, IsCutting};
@@ -31,12 +31,4 @@ pub fn one_first_fault()
 /// A text spells at most one netlist.
 pub fn one_netlist()
     ensures { (bytes : List ℕ) (c : Netlist) (d : Netlist) → Reads bytes c → Reads bytes d → c ≡ d }
-{}
-
-/// In a netlist the number of a net's name is the net, and a name that has a number is that net's.
-pub fn numbers_and_names()
-    ensures number { (netlist : Netlist) (net : ℕ) → IsNetlist netlist → net < length netlist.names
-        → number_of netlist (name_of netlist net) ≡ Some net }
-    ensures name { (netlist : Netlist) (name : List ℕ) (net : ℕ) → number_of netlist name ≡ Some net
-        → (net < length netlist.names) × (name_of netlist net ≡ name) }
 {}

@@ -5,9 +5,8 @@ ghost use Rattle.cmb_bench.specs.Inner.Scan.{lexeme};
 ghost use Rattle.cmb_bench.specs.Inner.Word.{is_end};
 ghost use Rattle.cmb_bench.specs.Listed.{IsRefused, Lists, is_unknown, named_by};
 
-use crate::limits::{MAX_NETS, MAX_TEXT};
-use crate::netlist::Netlist;
 use crate::text::{Class, Cursor, Token};
+use cmb_netlist::{MAX_NETS, MAX_TEXT, Netlist};
 use std::alloc::Global;
 use thiserror::Error;
 

@@ -15,11 +15,8 @@ ghost use Rattle.cmb_bench.specs.Text.{tokens_of};
 ghost use Rattle.cmb_bench.specs.Inner.Snippet.{snippets_of};
 
 use crate::fault::{BenchFault, FaultKind, ReadError};
-use crate::kinds::{cell_named, is_word, takes_one};
-use crate::limits::{MAX_NAME, MAX_NETS, MAX_TEXT};
-use crate::name::Name;
-use crate::netlist::Cell;
 use crate::text::{Class, Cursor, Token};
+use cmb_netlist::{Cell, MAX_NAME, MAX_NETS, MAX_TEXT, Name, cell_named, is_word, takes_one};
 use indexmap::IndexSet;
 use smallvec::SmallVec;
 use std::alloc::Global;

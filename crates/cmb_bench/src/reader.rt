@@ -2,15 +2,14 @@
 ghost use Rattle.std.specs.Prelude.{◌≡◌, ◌≤◌, length, IfOk, IfErr, MatchResult, ◌⊎◌};
 ghost use Rattle.cmb_bench.specs.declared.fault.BenchFault.{BenchFault};
 ghost use Rattle.cmb_bench.specs.FirstFault.{IsFirstFault, out_of_memory};
-ghost use Rattle.cmb_bench.specs.Netlist.{Netlist};
+ghost use Rattle.cmb_netlist.specs.Netlist.{Netlist};
 ghost use Rattle.cmb_bench.specs.Meaning.{Reads};
 ghost use Rattle.cmb_bench.specs.Inner.Faulty.{IsFaulty, AnswersOnly};
 
 use crate::build::build;
 use crate::fault::{BenchFault, FaultKind, ReadError};
-use crate::limits::MAX_TEXT;
-use crate::netlist::Netlist;
 use crate::parser::{Parsed, parse};
+use cmb_netlist::{MAX_TEXT, Netlist};
 use std::alloc::Global;
 
 // Statement by statement, and then what the statements mean.

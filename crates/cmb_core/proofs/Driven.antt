@@ -7,9 +7,9 @@ use Rattle.cmb_wave.specs.Waveform.{same_level, level_at, level_before, last_lev
 use Rattle.cmb_wave.specs.Wave.{Wave, new_wave, grown, wave_with_piece}
 use Rattle.cmb_wave.proofs.Lists.{test_of_same, same_level-sym}
 use Rattle.cmb_wave.proofs.Waveforms.{at_or_after-all, changes_between-rises, level_at-changes_between}
-use Rattle.cmb_bench.specs.declared.netlist.Driver.{Driver}
-use Rattle.cmb_bench.specs.declared.netlist.Driver.TheVariants.{Input as InputNet, Gate as GateNet, Flop as FlopNet}
-use Rattle.cmb_bench.specs.Netlist.{driver_of}
+use Rattle.cmb_netlist.specs.declared.netlist.Driver.{Driver}
+use Rattle.cmb_netlist.specs.declared.netlist.Driver.TheVariants.{Input as InputNet, Gate as GateNet, Flop as FlopNet}
+use Rattle.cmb_netlist.specs.Netlist.{driver_of}
 use Rattle.cmb_design.specs.Design.{Design}
 use Rattle.cmb_design.specs.Gate.{gate}
 use Rattle.cmb_design.specs.Timing.{delay, clock_of, stimulus, last_sample, next_sample}

@@ -13,9 +13,9 @@ use Rattle.cmb_wave.specs.Wave.{Piece, Wave, IsExactPiece, IsExactWave, IsRightP
 use Rattle.cmb_wave.specs.Calls.{joined, taken, heard_wave, cut}
 use Rattle.cmb_wave.proofs.Spans.{clash-none}
 use Rattle.cmb_wave.proofs.Waves.{with_piece-exact, added-alternates, heard-exact, from-exact, cut-exact}
-use Rattle.cmb_bench.specs.declared.netlist.Driver.{Driver}
-use Rattle.cmb_bench.specs.declared.netlist.Driver.TheVariants.{Input as InputNet, Gate as GateNet, Flop as FlopNet}
-use Rattle.cmb_bench.specs.Netlist.{driver_of}
+use Rattle.cmb_netlist.specs.declared.netlist.Driver.{Driver}
+use Rattle.cmb_netlist.specs.declared.netlist.Driver.TheVariants.{Input as InputNet, Gate as GateNet, Flop as FlopNet}
+use Rattle.cmb_netlist.specs.Netlist.{driver_of}
 use Rattle.cmb_design.specs.Design.{Design}
 use Rattle.cmb_design.specs.Exact.{nets_of, IsExactIn, IsExactWaveIn, IsRightIn}
 use Rattle.cmb_design.specs.Timing.{delay, clock_of, last_sample}

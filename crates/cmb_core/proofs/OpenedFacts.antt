@@ -5,7 +5,7 @@ use Rattle.std.specs.List.{AllByRecursion, range_with_len}
 use Rattle.std.proofs.lemmas.Bool.{eq-eqb, eqb-true, and_from}
 use Rattle.std.proofs.lemmas.List.Elements.{All-from_recursion}
 use Rattle.cmb_wave.specs.Wave.{new_wave}
-use Rattle.cmb_bench.specs.Netlist.{driver_of, pins_of, IsNetlist}
+use Rattle.cmb_netlist.specs.Netlist.{driver_of, pins_of, IsNetlist}
 use Rattle.cmb_design.specs.Design.{Design}
 use Rattle.cmb_design.specs.Exact.{nets_of}
 use Rattle.cmb_core.specs.declared.process.Pin.{Pin}

@@ -11,9 +11,9 @@ use Rattle.cmb_wave.specs.declared.level.Change.{Change}
 use Rattle.cmb_wave.specs.Waveform.{changes_between}
 use Rattle.cmb_wave.specs.Wave.{Wave}
 use Rattle.cmb_wave.proofs.Waveforms.{changes_between-rises}
-use Rattle.cmb_bench.specs.declared.netlist.Kind.{Kind}
-use Rattle.cmb_bench.specs.declared.netlist.Driver.{Driver}
-use Rattle.cmb_bench.specs.Netlist.{MayTake, driver_of, pins_of}
+use Rattle.cmb_netlist.specs.declared.netlist.Kind.{Kind}
+use Rattle.cmb_netlist.specs.declared.netlist.Driver.{Driver}
+use Rattle.cmb_netlist.specs.Netlist.{MayTake, driver_of, pins_of}
 use Rattle.cmb_design.specs.Design.{Design}
 use Rattle.cmb_design.specs.Timing.{delay}
 use Rattle.cmb_design.proofs.AskFacts.{rises-within}

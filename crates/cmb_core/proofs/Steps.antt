@@ -8,9 +8,9 @@ use Rattle.cmb_wave.specs.Waveform.{level_at, level_before, changes_between, cou
 use Rattle.cmb_wave.specs.Wave.{Wave, IsExactWave}
 use Rattle.cmb_wave.proofs.Waveforms.{changes_between-agree, changes_between-same}
 use Rattle.cmb_wave.proofs.Waves.{level_at-exact}
-use Rattle.cmb_bench.specs.declared.netlist.Driver.{Driver}
-use Rattle.cmb_bench.specs.declared.netlist.Driver.TheVariants.{Input, Gate, Flop}
-use Rattle.cmb_bench.specs.Netlist.{driver_of}
+use Rattle.cmb_netlist.specs.declared.netlist.Driver.{Driver}
+use Rattle.cmb_netlist.specs.declared.netlist.Driver.TheVariants.{Input, Gate, Flop}
+use Rattle.cmb_netlist.specs.Netlist.{driver_of}
 use Rattle.cmb_design.specs.Design.{Design}
 use Rattle.cmb_design.specs.Exact.{nets_of, IsExactIn, IsExactWaveIn}
 use Rattle.cmb_design.specs.Gate.{gate}

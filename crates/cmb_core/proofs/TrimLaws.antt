@@ -15,7 +15,7 @@ use Rattle.cmb_wave.proofs.Forgets.{at_or_after-later, changes_below-append, hea
 use Rattle.cmb_wave.proofs.Lists.{last_level_append, rises_of_trace}
 use Rattle.cmb_wave.proofs.Spans.{trace-both, trace-rises}
 use Rattle.cmb_wave.proofs.Waveforms.{changes_between-agree, changes_between-alternates, changes_between-rises}
-use Rattle.cmb_bench.specs.Netlist.{driver_of}
+use Rattle.cmb_netlist.specs.Netlist.{driver_of}
 use Rattle.cmb_design.specs.Design.{Design}
 use Rattle.cmb_design.specs.Exact.{IsExactWaveIn}
 use Rattle.cmb_design.specs.Value.{value}

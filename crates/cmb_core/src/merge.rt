@@ -3,12 +3,12 @@
 ghost use Rattle.std.specs.Prelude.{◌≡◌, ℕ, ◌-◌, ◌≤◌, ◌<◌, ◌++◌, OnOk, length, not};
 ghost use Rattle.cmb_wave.specs.Waveform.{same_level};
 ghost use Rattle.cmb_core.specs.Inner.Spans.{changes_over};
-ghost use Rattle.cmb_bench.specs.Netlist.{MayTake};
+ghost use Rattle.cmb_netlist.specs.Netlist.{MayTake};
 ghost use Rattle.cmb_core.specs.Inner.Arrivals.{arrived, arrives, due_of, gate_at, levels, Advanced, Passed};
 
 use crate::span::Span;
-use cmb_bench::netlist::Kind;
 use cmb_design::gates::gate;
+use cmb_netlist::netlist::Kind;
 use cmb_wave::{Change, Level};
 use std::alloc::AllocError;
 

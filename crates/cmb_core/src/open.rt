@@ -4,8 +4,8 @@ ghost use Rattle.std.specs.Prelude.{◌≡◌, ◌<◌, ◌≤◌, ◌==◌, ◌
 ghost use Rattle.std.specs.Prelude.{filter, map, slice_index_or, All};
 ghost use Rattle.std.specs.List.{list_any, range_with_len};
 ghost use Rattle.cmb_wave.specs.Wave.{new_wave};
-ghost use Rattle.cmb_bench.specs.declared.netlist.Driver.TheVariants.{Input, Gate, Flop};
-ghost use Rattle.cmb_bench.specs.Netlist.{driver_of, pins_of, MayTake, IsWired, IsNetlist};
+ghost use Rattle.cmb_netlist.specs.declared.netlist.Driver.TheVariants.{Input, Gate, Flop};
+ghost use Rattle.cmb_netlist.specs.Netlist.{driver_of, pins_of, MayTake, IsWired, IsNetlist};
 ghost use Rattle.cmb_design.specs.Exact.{nets_of};
 ghost use Rattle.cmb_core.specs.Clustering.{cluster_of};
 ghost use Rattle.cmb_core.specs.Clusters.{AreOperands, IsDrivenBy};
@@ -16,9 +16,9 @@ ghost use Rattle.cmb_core.specs.Directory.{place_in, driven_among, given_among};
 use crate::clustering::Clustering;
 use crate::node::Node;
 use crate::process::{Pin, Rule};
-use cmb_bench::MAX_NETS;
-use cmb_bench::netlist::{Driver, Kind};
 use cmb_design::Design;
+use cmb_netlist::MAX_NETS;
+use cmb_netlist::netlist::{Driver, Kind};
 use cmb_wave::Wave;
 use std::alloc::{AllocError, Global};
 

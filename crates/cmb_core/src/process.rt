@@ -1,6 +1,6 @@
 //! What a process is: its rule and the operands that it reads.
 
-use cmb_bench::netlist::Kind;
+use cmb_netlist::netlist::Kind;
 use cmb_wave::Level;
 
 /// A pin of a gate or flip-flop: the net on it, the place of the net's wave in the cluster, and the pin's delay. A

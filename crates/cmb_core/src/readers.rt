@@ -8,7 +8,7 @@ ghost use Rattle.cmb_core.specs.Directory.{pins_on, listed_readers, given_at};
 use crate::directory::Reader;
 use crate::node::Node;
 use crate::process::Pin;
-use cmb_bench::MAX_NETS;
+use cmb_netlist::MAX_NETS;
 use std::alloc::{AllocError, Global};
 
 // Adds a pin to the list of a place.

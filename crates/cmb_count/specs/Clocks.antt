@@ -1,6 +1,6 @@
 -- The clocks by which flip-flops sample.
 use Rattle.std.specs.Prelude.{ℕ, Bool, ◌==◌, ◌&&◌, not, length}
-use Rattle.cmb_bench.specs.Netlist.{driver_of}
+use Rattle.cmb_netlist.specs.Netlist.{driver_of}
 use Rattle.cmb_design.specs.Design.{Design}
 use Rattle.cmb_design.specs.Nets.{is_flop}
 use Rattle.cmb_design.specs.Settings.{any_below}

@@ -1,7 +1,7 @@
 -- What there is of each kind of driver in a design.
 use Rattle.std.specs.Prelude.{◌≡◌, length}
-use Rattle.cmb_bench.specs.Netlist.{Netlist}
-use Rattle.cmb_bench.specs.declared.netlist.Kind.TheVariants as kind
+use Rattle.cmb_netlist.specs.Netlist.{Netlist}
+use Rattle.cmb_netlist.specs.declared.netlist.Kind.TheVariants as kind
 use Rattle.cmb_design.specs.Design.{Design}
 use Rattle.cmb_loops.specs.declared.steps.Steps.TheVariants as steps
 use Rattle.cmb_count.specs.Clocks.{clock_count}

@@ -1,7 +1,7 @@
 -- Nets by what drives them.
 use Rattle.std.specs.Prelude.{ℕ, Bool, ◌==◌, ◌&&◌, length, nat_le}
-use Rattle.cmb_bench.specs.Netlist.{Netlist, driver_of}
-use Rattle.cmb_bench.specs.declared.netlist.Driver.{Driver}
+use Rattle.cmb_netlist.specs.Netlist.{Netlist, driver_of}
+use Rattle.cmb_netlist.specs.declared.netlist.Driver.{Driver}
 use Rattle.cmb_design.specs.Design.{Design}
 use Rattle.cmb_design.specs.Nets.{driver_cell, is_at, is_flop, is_input, kind_number}
 use Rattle.cmb_design.specs.Timing.{clock_of, stimulus}

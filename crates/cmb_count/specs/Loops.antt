@@ -1,6 +1,6 @@
 -- Nets in feedback loops.
 use Rattle.std.specs.Prelude.{◌≡◌, ℕ, Bool, List, count_by}
-use Rattle.cmb_bench.specs.Netlist.{Netlist}
+use Rattle.cmb_netlist.specs.Netlist.{Netlist}
 use Rattle.cmb_loops.specs.Loops.{AreLoops}
 use Rattle.cmb_loops.specs.declared.steps.Steps.{Steps}
 

@@ -8,9 +8,9 @@ use crate::drivers::{DriverKind, count_drivers, count_silent, count_still};
 use crate::largest::largest_delay;
 use crate::loops::count_loops;
 use crate::unused::count_unused;
-use cmb_bench::{Kind, Netlist};
 use cmb_design::Design;
 use cmb_loops::Steps;
+use cmb_netlist::{Kind, Netlist};
 use std::alloc::{AllocError, Global};
 
 /// How many gates of each kind there are.

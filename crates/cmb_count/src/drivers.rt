@@ -1,12 +1,12 @@
 //! Nets by what drives them.
 
 ghost use Rattle.std.specs.Prelude.{◌≡◌, ◌<◌, ◌≤◌, ◌==◌, length};
-ghost use Rattle.cmb_bench.specs.Netlist.{driver_of};
+ghost use Rattle.cmb_netlist.specs.Netlist.{driver_of};
 ghost use Rattle.cmb_design.specs.Nets.{driver_cell, is_at, kind_number};
 ghost use Rattle.cmb_count.specs.DriverKinds.{has_kind, is_silent, is_still, kind_count, silent_count, still_count};
 
-use cmb_bench::{Driver, Kind, Netlist};
 use cmb_design::Design;
+use cmb_netlist::{Driver, Kind, Netlist};
 
 /// What drives the nets that are counted together.
 #[derive(Clone, Copy)]

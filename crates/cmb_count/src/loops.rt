@@ -3,8 +3,8 @@
 ghost use Rattle.std.specs.Prelude.{IfOk};
 ghost use Rattle.cmb_count.specs.Loops.{IsLoopCount};
 
-use cmb_bench::Netlist;
 use cmb_loops::{Steps, nets_in_loops};
+use cmb_netlist::Netlist;
 use std::alloc::{AllocError, Global};
 
 /// How many nets are in feedback loops: through gates and flip-flops, or through gates alone.

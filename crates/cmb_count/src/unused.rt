@@ -1,11 +1,11 @@
 //! Nets that drive nothing.
 
 ghost use Rattle.std.specs.Prelude.{◌≡◌, ◌||◌, ℕ, ◌<◌, ◌≤◌, false, not, length, slice_index_or, All, IfOk};
-ghost use Rattle.cmb_bench.specs.Netlist.{IsNetlist, driver_of, pins_of};
+ghost use Rattle.cmb_netlist.specs.Netlist.{IsNetlist, driver_of, pins_of};
 ghost use Rattle.cmb_count.specs.Below.{count_below};
 ghost use Rattle.cmb_count.specs.Unused.{is_among, is_used_below, unused_count};
 
-use cmb_bench::{Driver, Netlist};
+use cmb_netlist::{Driver, Netlist};
 use std::alloc::{AllocError, Global};
 
 // Marks each of these nets.

@@ -5,7 +5,7 @@ use Rattle.std.proofs.lemmas.Bool.{cases_lt}
 use Rattle.std.proofs.lemmas.List.{get_or-replicate, get_or_read, length-replicate, take_all, take_more}
 use Rattle.std.proofs.lemmas.List.Elements.{All-push}
 use Rattle.std.proofs.lemmas.Option.{get_or_from_slice_get, slice_get_read, slice_get_within}
-use Rattle.cmb_bench.specs.Netlist.{Netlist, driver_of, pins_of}
+use Rattle.cmb_netlist.specs.Netlist.{Netlist, driver_of, pins_of}
 use Rattle.cmb_cut.specs.Sharings.{Drives, IsSharing, Owns, ShareDrives}
 use Rattle.cmb_cut.specs.declared.sharing.Share.{Share}
 use Rattle.cmb_cut.specs.declared.sharing.Sharing.{Sharing}

@@ -1,6 +1,6 @@
 -- The nets of a netlist shared out.
 use Rattle.std.specs.Prelude.{◌≡◌, ◌⊎◌, ℕ, ◌+◌, ◌/◌, ◌<◌, ◌≤◌, ◌^◌, true, false, length, count_by, slice_get, slice_index, slice_index_or, Some, IfSome, All}
-use Rattle.cmb_bench.specs.Netlist.{Netlist, driver_of, pins_of}
+use Rattle.cmb_netlist.specs.Netlist.{Netlist, driver_of, pins_of}
 use Rattle.cmb_cut.specs.declared.sharing.Share.{Share}
 use Rattle.cmb_cut.specs.declared.sharing.Sharing.{Sharing}
 

@@ -1,14 +1,14 @@
 //! Whether nets are shared out as they should be.
 
 ghost use Rattle.std.specs.Prelude.{◌≡◌, ℕ, ◌<◌, true, length, All};
-ghost use Rattle.cmb_bench.specs.Netlist.{driver_of, pins_of};
+ghost use Rattle.cmb_netlist.specs.Netlist.{driver_of, pins_of};
 ghost use Rattle.cmb_cut.specs.Sharings.{Drives, IsSharing, Knows, KnowsAll, Owns};
 ghost use Rattle.cmb_cut.specs.Inner.Shapes.{IsShaped};
 ghost use Rattle.cmb_cut.specs.declared.sharing.Share.{Share};
 
 use crate::sharing::Sharing;
-use cmb_bench::Netlist;
 use cmb_loops::{Steps, targets_from};
+use cmb_netlist::Netlist;
 
 // Whether each net's owner drives it.
 fn owners_drive(netlist: &Netlist, sharing: &Sharing) -> bool

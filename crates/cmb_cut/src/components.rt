@@ -1,11 +1,11 @@
 //! The strongly connected components of a netlist, what they weigh, and their order.
 
 ghost use Rattle.std.specs.Prelude.{◌≡◌, ◌<◌, length, All, IfOk};
-ghost use Rattle.cmb_bench.specs.Netlist.{IsNetlist};
+ghost use Rattle.cmb_netlist.specs.Netlist.{IsNetlist};
 ghost use Rattle.cmb_cut.specs.Inner.Shapes.{AreOf};
 
-use cmb_bench::Netlist;
 use cmb_loops::{Steps, strong_components, targets_from};
+use cmb_netlist::Netlist;
 use std::alloc::{AllocError, Global};
 
 // A net weighs as much as its pins and so many more: an estimate.

@@ -3,8 +3,8 @@
 ghost use Rattle.std.specs.Prelude.{◌≡◌, length, All, IfOk};
 
 use crate::sharing::Share;
-use cmb_bench::Netlist;
 use cmb_loops::{Steps, targets_from};
+use cmb_netlist::Netlist;
 use std::alloc::{AllocError, Global};
 
 // Marks what a share reads and doesn't drive.

@@ -1,12 +1,12 @@
 //! Which nets a share drives.
 
 ghost use Rattle.std.specs.Prelude.{◌≡◌, ◌<◌, length, IfOk};
-ghost use Rattle.cmb_bench.specs.Netlist.{IsNetlist};
+ghost use Rattle.cmb_netlist.specs.Netlist.{IsNetlist};
 ghost use Rattle.cmb_cut.specs.Inner.Shapes.{AreOwners};
 
 use crate::owners::Owners;
-use cmb_bench::{Driver, Netlist};
 use cmb_loops::{Steps, targets_from};
+use cmb_netlist::{Driver, Netlist};
 use std::alloc::{AllocError, Global};
 
 // Marks the inputs that a net reads.

@@ -5,7 +5,7 @@ ghost use Rattle.cmb_cut.specs.Inner.Shapes.{AreOwners};
 
 use crate::components::{Component, Components, Weighed, components_of};
 use crate::limit::{Limits, least_limits};
-use cmb_bench::Netlist;
+use cmb_netlist::Netlist;
 use std::alloc::{AllocError, Global};
 
 /// For each net the number of the share that owns it, below the count.

@@ -8,7 +8,7 @@ use crate::check::is_lawful;
 use crate::crossing::crossing_of;
 use crate::drives::driven_by;
 use crate::owners::{Owners, owners_of};
-use cmb_bench::Netlist;
+use cmb_netlist::Netlist;
 use std::alloc::{AllocError, Global};
 
 /// So many nets a netlist has at least, where sharing it out pays: an estimate.

@@ -6,7 +6,7 @@ use Rattle.std.proofs.lemmas.List.FromFn.{get_or-map-range_with_len, length-map-
 use Rattle.cmb_wave.specs.declared.level.Change.{Change}
 use Rattle.cmb_wave.specs.Waveform.{Rises, changes_between}
 use Rattle.cmb_wave.proofs.Spans.{RisesWithin}
-use Rattle.cmb_bench.specs.Netlist.{Netlist, number_of}
+use Rattle.cmb_netlist.specs.Netlist.{Netlist, number_of}
 use Rattle.cmb_design.specs.Inner.Told.{changes_in}
 use Rattle.cmb_design.specs.declared.told.Told.{Told}
 use Rattle.cmb_design.specs.Design.{Design}

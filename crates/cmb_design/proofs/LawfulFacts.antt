@@ -3,7 +3,7 @@ use Rattle.std.proofs.Common.{◌≡◌, ◌≤◌, ℕ, Bool, List, [], ◌∷�
 use Rattle.std.specs.Prelude.{All, find, max, option_map, unwrap_or}
 use Rattle.std.specs.Option.{option_or}
 use Rattle.std.proofs.lemmas.List.Elements.{All-head, All-tail}
-use Rattle.cmb_bench.specs.Netlist.{IsNetlist, driver_of, number_of}
+use Rattle.cmb_netlist.specs.Netlist.{IsNetlist, driver_of, number_of}
 use Rattle.cmb_design.specs.Checks.{first_fault, rows_checks}
 use Rattle.cmb_design.specs.Design.{Design}
 use Rattle.cmb_design.specs.Lawful.{IsDesign}

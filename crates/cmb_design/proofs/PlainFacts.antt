@@ -15,9 +15,9 @@ use Rattle.cmb_wave.specs.Waveform.{change_at, changes_between, count_below, lev
 use Rattle.cmb_wave.specs.Wave.{grown, new_wave}
 use Rattle.cmb_wave.proofs.Spans.{trace-both}
 use Rattle.cmb_wave.proofs.Waveforms.{changes_between-alternates, changes_between-rises, changes_between-suc}
-use Rattle.cmb_bench.specs.declared.netlist.Driver.{Driver}
-use Rattle.cmb_bench.specs.declared.netlist.Driver.TheVariants.{Input}
-use Rattle.cmb_bench.specs.Netlist.{Netlist, IsNetlist, IsWired, driver_of}
+use Rattle.cmb_netlist.specs.declared.netlist.Driver.{Driver}
+use Rattle.cmb_netlist.specs.declared.netlist.Driver.TheVariants.{Input}
+use Rattle.cmb_netlist.specs.Netlist.{Netlist, IsNetlist, IsWired, driver_of}
 use Rattle.cmb_design.specs.Design.{Design}
 use Rattle.cmb_design.specs.Exact.{IsExactWaveIn, nets_of}
 use Rattle.cmb_design.specs.Plain.{whole_wave, whole_waves}

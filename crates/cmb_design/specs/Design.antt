@@ -1,7 +1,7 @@
 -- What contracts see of a design: the netlist, the settings, and the rows of the three tables as they were read.
 use Rattle.std.specs.Prelude.{ℕ, List, Option, option_map}
 use Rattle.cmb_wave.specs.declared.level.Level.{Level}
-use Rattle.cmb_bench.specs.Netlist.{Netlist}
+use Rattle.cmb_netlist.specs.Netlist.{Netlist}
 use Rattle.cmb_design.specs.declared.rows.DelayRow.{DelayRow}
 use Rattle.cmb_design.specs.declared.rows.StimulusRow.{StimulusRow}
 use Rattle.cmb_design.specs.declared.rows.ClockRow.{ClockRow}

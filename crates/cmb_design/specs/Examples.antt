@@ -3,9 +3,9 @@ use Rattle.std.specs.Prelude.{ℕ, List, [], ◌∷◌, Option, Some, None, code
 use Rattle.cmb_wave.specs.declared.level.Level.{Level}
 use Rattle.cmb_wave.specs.declared.level.Level.TheVariants.{Zero, One, X}
 use Rattle.cmb_wave.specs.declared.level.Change.{Change}
-use Rattle.cmb_bench.specs.declared.netlist.Cell.TheVariants.{Flop as FlopCell}
-use Rattle.cmb_bench.specs.declared.netlist.Driver.TheVariants.{Input, Gate, Flop}
-use Rattle.cmb_bench.specs.declared.netlist.Kind.TheVariants.{And, Nor, Not}
+use Rattle.cmb_netlist.specs.declared.netlist.Cell.TheVariants.{Flop as FlopCell}
+use Rattle.cmb_netlist.specs.declared.netlist.Driver.TheVariants.{Input, Gate, Flop}
+use Rattle.cmb_netlist.specs.declared.netlist.Kind.TheVariants.{And, Nor, Not}
 use Rattle.cmb_design.specs.Design.{Design}
 use Rattle.cmb_design.specs.declared.rows.Clock.{Clock}
 use Rattle.cmb_design.specs.declared.rows.ClockRow.{ClockRow}

@@ -1,6 +1,6 @@
 -- What every design that was made keeps.
 use Rattle.std.specs.Prelude.{◌≡◌, ℕ, ◌≤◌, None}
-use Rattle.cmb_bench.specs.Netlist.{IsNetlist}
+use Rattle.cmb_netlist.specs.Netlist.{IsNetlist}
 use Rattle.cmb_design.specs.Checks.{first_fault}
 use Rattle.cmb_design.specs.Design.{Design}
 use Rattle.cmb_design.specs.Ranges.{AreTicks, IsDelay}

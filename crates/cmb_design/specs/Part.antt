@@ -1,7 +1,7 @@
 -- A design's settings and rows for another netlist.
 use Rattle.std.specs.Prelude.{ℕ, Bool, true, List, is_some}
 use Rattle.std.specs.List.{filter}
-use Rattle.cmb_bench.specs.Netlist.{Netlist, number_of}
+use Rattle.cmb_netlist.specs.Netlist.{Netlist, number_of}
 use Rattle.cmb_design.specs.Design.{Design}
 use Rattle.cmb_design.specs.declared.rows.Delayed.{Delayed}
 use Rattle.cmb_design.specs.declared.rows.Delayed.TheVariants.{Pin, Net, Kind as ByKind}

@@ -1,7 +1,7 @@
 -- The checks of rows against the netlist and the rows before them.
 use Rattle.std.specs.Prelude.{ℕ, Bool, false, not, ◌&&◌, ◌==◌, List, [], ◌∷◌, length, is_none, bytes_eq}
 use Rattle.std.specs.List.{list_any}
-use Rattle.cmb_bench.specs.Netlist.{Netlist, number_of, pins_of}
+use Rattle.cmb_netlist.specs.Netlist.{Netlist, number_of, pins_of}
 use Rattle.cmb_design.specs.Checks.{Check, check}
 use Rattle.cmb_design.specs.Nets.{cell_number, driver_named, is_flop, is_input, is_within}
 use Rattle.cmb_design.specs.declared.fault.DesignFault.TheVariants as fault

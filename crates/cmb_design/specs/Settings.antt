@@ -1,7 +1,7 @@
 -- The checks of settings, and all checks of a design in their order.
 use Rattle.std.specs.Prelude.{ℕ, zero, suc, Bool, false, not, ◌&&◌, ◌||◌, ◌++◌, nat_le, List, [], ◌∷◌, length, map, Option, Some, None}
 use Rattle.std.specs.List.{list_any, range_with_len}
-use Rattle.cmb_bench.specs.Netlist.{Netlist, driver_of, number_of}
+use Rattle.cmb_netlist.specs.Netlist.{Netlist, driver_of, number_of}
 use Rattle.cmb_design.specs.Checks.{Check, check, rows_checks}
 use Rattle.cmb_design.specs.Design.{Design}
 use Rattle.cmb_design.specs.Nets.{is_at, is_flop, is_within}

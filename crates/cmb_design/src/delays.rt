@@ -5,7 +5,7 @@ ghost use Rattle.cmb_design.specs.Checks.{IsFaultOf, checks_at, first_fault, row
 ghost use Rattle.cmb_design.specs.declared.fault.DesignFault.TheVariants as fault;
 ghost use Rattle.cmb_design.specs.Nets.{driver_cell, pins_at};
 ghost use Rattle.cmb_design.specs.Timing.{delay_by, delay_in, flat_delays, is_of_kind, net_delays};
-ghost use Rattle.cmb_bench.specs.Netlist.{driver_of, IsNetlist};
+ghost use Rattle.cmb_netlist.specs.Netlist.{driver_of, IsNetlist};
 ghost use Rattle.cmb_design.specs.Rows.{delay_row_checks, delayed_checks, is_about_input};
 ghost use Rattle.cmb_design.specs.Inner.Tables.{all_placed, delay_place, delay_places, pin_place, place_at, row_place};
 ghost use Rattle.cmb_design.specs.Inner.Tables.{starts_of, table_size};
@@ -13,7 +13,7 @@ ghost use Rattle.cmb_design.specs.Inner.Tables.{starts_of, table_size};
 use crate::fault::DesignFault;
 use crate::nets::{is_input_driver, number_of_cell, number_of_driver, pin_count};
 use crate::rows::{DelayRow, Delayed};
-use cmb_bench::{MAX_TEXT, Netlist};
+use cmb_netlist::{MAX_TEXT, Netlist};
 use std::alloc::{AllocError, Global};
 
 fn place_of_pin(netlist: &Netlist, starts: &[usize], net: usize, pin: u64) -> Option<usize>

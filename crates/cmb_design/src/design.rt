@@ -23,7 +23,7 @@ use crate::samples::{clock_for_all, last_at, level_told, next_at, told_before};
 use crate::settings::{Settings, check_settings};
 use crate::stimuli::stimuli_changes;
 use crate::told::Told;
-use cmb_bench::Netlist;
+use cmb_netlist::Netlist;
 use cmb_wave::{Change, Level};
 use std::alloc::{AllocError, Global};
 use std::marker::Model;

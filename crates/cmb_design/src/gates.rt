@@ -3,10 +3,10 @@
 ghost use Rattle.std.specs.Prelude.{◌≡◌, ◌%◌, ◌==◌, length, count_by};
 ghost use Rattle.std.specs.List.{list_any, list_all};
 ghost use Rattle.cmb_wave.specs.Waveform.{same_level};
-ghost use Rattle.cmb_bench.specs.Netlist.{MayTake};
+ghost use Rattle.cmb_netlist.specs.Netlist.{MayTake};
 ghost use Rattle.cmb_design.specs.Gate.{gate as gate_level, conjunction, disjunction, parity, inverse_of};
 
-use cmb_bench::Kind;
+use cmb_netlist::Kind;
 use cmb_wave::Level;
 
 fn any_is(level: Level, levels: &[Level]) -> bool

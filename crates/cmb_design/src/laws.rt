@@ -4,10 +4,10 @@ ghost use Rattle.std.specs.Prelude.{◌≡◌, ℕ, ◌+◌, ◌<◌, ◌≤◌,
 ghost use Rattle.cmb_wave.specs.Waveform.{changes_between};
 ghost use Rattle.cmb_wave.specs.declared.level.Level.{Level};
 ghost use Rattle.cmb_wave.specs.declared.level.Level.TheVariants.{X};
-ghost use Rattle.cmb_bench.specs.declared.netlist.Driver.{Driver};
-ghost use Rattle.cmb_bench.specs.declared.netlist.Driver.TheVariants.{Input, Gate, Flop};
-ghost use Rattle.cmb_bench.specs.declared.netlist.Kind.{Kind};
-ghost use Rattle.cmb_bench.specs.Netlist.{driver_of};
+ghost use Rattle.cmb_netlist.specs.declared.netlist.Driver.{Driver};
+ghost use Rattle.cmb_netlist.specs.declared.netlist.Driver.TheVariants.{Input, Gate, Flop};
+ghost use Rattle.cmb_netlist.specs.declared.netlist.Kind.{Kind};
+ghost use Rattle.cmb_netlist.specs.Netlist.{driver_of};
 ghost use Rattle.cmb_design.specs.declared.rows.Clock.{Clock};
 ghost use Rattle.cmb_design.specs.Design.{Design};
 ghost use Rattle.cmb_design.specs.Gate.{gate};

@@ -5,7 +5,7 @@ ghost use Rattle.std.specs.List.{filter};
 ghost use Rattle.cmb_design.specs.Part.{has_delayed, has_net};
 
 use crate::rows::{ClockRow, DelayRow, Delayed, Row, Rows, StimulusRow};
-use cmb_bench::{Name, Netlist};
+use cmb_netlist::{Name, Netlist};
 use std::alloc::{AllocError, Global};
 
 fn knows(netlist: &Netlist, name: &Name) -> bool
@@ -48,7 +48,7 @@ fn copy_delayed(alloc: Global, what: &Delayed) -> Result<Delayed, AllocError>
 
 /// A row of which a part of a netlist may have no use.
 pub(crate) trait PartRow: Row {
-    ghost use Rattle.cmb_bench.specs.Netlist.{Netlist};
+    ghost use Rattle.cmb_netlist.specs.Netlist.{Netlist};
 
     ghost is_of: { Netlist → Self → Bool };
 

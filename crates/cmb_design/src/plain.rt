@@ -3,7 +3,7 @@
 ghost use Rattle.std.specs.Prelude.{◌≡◌, ◌++◌, ◌∷◌, [], if◌then◌else◌, ◌⊎◌, ◌↔◌, ◌*◌, ◌+◌, ◌<◌, ◌≤◌, All, IfOk, IfErr};
 ghost use Rattle.std.specs.Prelude.{OnOk};
 ghost use Rattle.cmb_wave.specs.Waveform.{same_level};
-ghost use Rattle.cmb_bench.specs.Netlist.{IsNetlist};
+ghost use Rattle.cmb_netlist.specs.Netlist.{IsNetlist};
 ghost use Rattle.cmb_design.specs.Exact.{nets_of, IsExactWaveIn};
 ghost use Rattle.cmb_design.specs.Plain.{cells_of, whole_wave, whole_waves};
 ghost use Rattle.cmb_design.specs.Inner.PlainTable.{HoldsCells, HoldsTicks};
@@ -14,7 +14,7 @@ use crate::design::Design;
 use crate::fault::DesignFault;
 use crate::plain_cells::level_of_cell;
 use crate::plain_table::Table;
-use cmb_bench::MAX_NETS;
+use cmb_netlist::MAX_NETS;
 use cmb_wave::{Change, Level, Wave};
 use std::alloc::{AllocError, Global};
 

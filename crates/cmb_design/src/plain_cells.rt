@@ -1,8 +1,8 @@
 //! The level of one net at one tick, where the levels at all earlier ticks stand in a table.
 
 ghost use Rattle.std.specs.Prelude.{◌≡◌, ◌<◌, ◌≤◌, All, IfOk, OnOk};
-ghost use Rattle.cmb_bench.specs.Netlist.{IsNetlist, driver_of, pins_of};
-ghost use Rattle.cmb_bench.specs.declared.netlist.Driver.TheVariants.{Flop};
+ghost use Rattle.cmb_netlist.specs.Netlist.{IsNetlist, driver_of, pins_of};
+ghost use Rattle.cmb_netlist.specs.declared.netlist.Driver.TheVariants.{Flop};
 ghost use Rattle.cmb_design.specs.Exact.{nets_of};
 ghost use Rattle.cmb_design.specs.Nets.{pins_at};
 ghost use Rattle.cmb_design.specs.Inner.PlainTable.{HoldsTicks};
@@ -12,7 +12,7 @@ ghost use Rattle.cmb_design.specs.Value.{delayed, flop_level, pin_levels, value}
 use crate::design::Design;
 use crate::gates::gate;
 use crate::plain_table::Table;
-use cmb_bench::Driver;
+use cmb_netlist::Driver;
 use cmb_wave::Level;
 use std::alloc::AllocError;
 

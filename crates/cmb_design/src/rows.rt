@@ -2,7 +2,7 @@
 
 ghost use Rattle.std.specs.Prelude.{◌≡◌};
 
-use cmb_bench::{Cell, Name};
+use cmb_netlist::{Cell, Name};
 use cmb_wave::Level;
 use std::marker::Model;
 

@@ -2,7 +2,7 @@
 
 ghost use Rattle.std.specs.Prelude.{◌≡◌, ◌||◌, ◌&&◌, ◌<◌, not, length, IfOk, IfErr, OnOk, slice_index_or, false};
 ghost use Rattle.std.specs.Prelude.{Some, Err};
-ghost use Rattle.cmb_bench.specs.Netlist.{driver_of};
+ghost use Rattle.cmb_netlist.specs.Netlist.{driver_of};
 ghost use Rattle.cmb_design.specs.Checks.{IsFaultOf, first_fault};
 ghost use Rattle.cmb_design.specs.declared.fault.DesignFault.{DesignFault};
 ghost use Rattle.cmb_design.specs.Nets.{is_flop};
@@ -12,7 +12,7 @@ ghost use Rattle.cmb_design.specs.Settings.{range_checks, setting_checks};
 use crate::fault::DesignFault;
 use crate::nets::is_flop_driver;
 use crate::rows::{Clock, ClockRow};
-use cmb_bench::Netlist;
+use cmb_netlist::Netlist;
 use cmb_wave::Level;
 use std::alloc::{AllocError, Global};
 

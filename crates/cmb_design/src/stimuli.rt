@@ -1,7 +1,7 @@
 //! The changes of input nets, from the rows of their stimuli.
 
 ghost use Rattle.std.specs.Prelude.{◌≡◌, ◌+◌, ◌<◌, ◌≤◌, length, take, map, Some, IfOk, IfErr, MatchOption, OnOk};
-ghost use Rattle.cmb_bench.specs.Netlist.{number_of};
+ghost use Rattle.cmb_netlist.specs.Netlist.{number_of};
 ghost use Rattle.cmb_wave.specs.Waveform.{changes_between};
 ghost use Rattle.cmb_design.specs.Checks.{IsFaultOf, checks_at, first_fault, rows_checks};
 ghost use Rattle.cmb_design.specs.Rows.{stimulus_row_checks};
@@ -13,7 +13,7 @@ use crate::fault::DesignFault;
 use crate::nets::is_input_driver;
 use crate::rows::StimulusRow;
 use crate::told::{ALL_TICKS, Told, add_level, settle};
-use cmb_bench::{MAX_NETS, MAX_TEXT, Netlist};
+use cmb_netlist::{MAX_NETS, MAX_TEXT, Netlist};
 use std::alloc::{AllocError, Global};
 
 // The number of the net with a name. The net that is likely to have it is asked first, which spares the search.

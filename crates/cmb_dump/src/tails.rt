@@ -5,7 +5,7 @@ ghost use Rattle.cmb_vcd.specs.Vcd.{code, line};
 ghost use Rattle.cmb_dump.specs.Inner.Tails.{AreTails, tail_bytes};
 
 use crate::tail::Tail;
-use cmb_bench::MAX_NETS;
+use cmb_netlist::MAX_NETS;
 use cmb_vcd::ready_codes::{Code, code_of};
 use std::alloc::{AllocError, Global};
 

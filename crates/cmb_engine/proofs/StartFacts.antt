@@ -7,8 +7,8 @@ use Rattle.cmb_wave.specs.declared.level.Level.{Level}
 use Rattle.cmb_wave.specs.declared.level.Level.TheVariants.{X}
 use Rattle.cmb_wave.specs.Waveform.{same_level}
 use Rattle.cmb_wave.proofs.Lists.{differs_of_test, test_of_same}
-use Rattle.cmb_bench.specs.Netlist.{driver_of}
-use Rattle.cmb_bench.specs.declared.netlist.Driver.TheVariants.{Input}
+use Rattle.cmb_netlist.specs.Netlist.{driver_of}
+use Rattle.cmb_netlist.specs.declared.netlist.Driver.TheVariants.{Input}
 use Rattle.cmb_calendar.specs.Calendars.{Calendar}
 use Rattle.cmb_calendar.specs.declared.tell.Tell.{Tell}
 use Rattle.cmb_design.specs.Design.{Design}

@@ -7,8 +7,8 @@ use Rattle.cmb_wave.specs.declared.level.Level.{Level}
 use Rattle.cmb_wave.specs.declared.level.Change.{Change}
 use Rattle.cmb_wave.specs.Waveform.{level_before, change_at, changes_between}
 use Rattle.cmb_wave.proofs.Waveforms.{change_at-cases, changes_between-same, changes_between-suc}
-use Rattle.cmb_bench.specs.Netlist.{driver_of}
-use Rattle.cmb_bench.specs.declared.netlist.Driver.TheVariants.{Input}
+use Rattle.cmb_netlist.specs.Netlist.{driver_of}
+use Rattle.cmb_netlist.specs.declared.netlist.Driver.TheVariants.{Input}
 use Rattle.cmb_calendar.specs.Calendars.{Calendar, Notes}
 use Rattle.cmb_calendar.specs.declared.tell.Tell.{Tell}
 use Rattle.cmb_design.specs.Design.{Design}

@@ -8,10 +8,10 @@ use Rattle.std.specs.List.{list_any}
 use Rattle.cmb_wave.specs.declared.level.Level.{Level}
 use Rattle.cmb_wave.specs.declared.level.Level.TheVariants.{Zero, One, X}
 use Rattle.cmb_wave.specs.Waveform.{same_level}
-use Rattle.cmb_bench.specs.declared.netlist.Driver.TheVariants.{Gate, Flop}
-use Rattle.cmb_bench.specs.declared.netlist.Kind.{Kind}
-use Rattle.cmb_bench.specs.declared.netlist.Kind.TheVariants.{And, Nand, Or, Nor, Xor, Xnor, Not, Buff}
-use Rattle.cmb_bench.specs.Netlist.{driver_of, IsNetlist}
+use Rattle.cmb_netlist.specs.declared.netlist.Driver.TheVariants.{Gate, Flop}
+use Rattle.cmb_netlist.specs.declared.netlist.Kind.{Kind}
+use Rattle.cmb_netlist.specs.declared.netlist.Kind.TheVariants.{And, Nand, Or, Nor, Xor, Xnor, Not, Buff}
+use Rattle.cmb_netlist.specs.Netlist.{driver_of, IsNetlist}
 use Rattle.cmb_design.specs.Design.{Design}
 use Rattle.cmb_design.specs.Gate.{gate}
 use Rattle.cmb_design.specs.Timing.{delay}

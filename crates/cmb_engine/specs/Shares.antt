@@ -1,7 +1,7 @@
 -- A share of a design's nets, simulated by an engine of its own: it drives them, and what they read of other nets is given to it.
 use Rattle.std.specs.Prelude.{◌≡◌, ℕ, Bool, true, false, List, Contains, slice_index_or}
 use Rattle.cmb_wave.specs.declared.level.Level.{Level}
-use Rattle.cmb_bench.specs.Netlist.{driver_of, pins_of}
+use Rattle.cmb_netlist.specs.Netlist.{driver_of, pins_of}
 use Rattle.cmb_design.specs.Design.{Design}
 use Rattle.cmb_words.specs.declared.changed.Changed.{Changed}
 use Rattle.cmb_words.specs.Changes.{IsStill, TellsNet, is_among}

@@ -10,7 +10,7 @@ ghost use Rattle.cmb_engine.specs.Inner.Words.{levels_of};
 
 use crate::marks::Marks;
 use crate::walk::Walk;
-use cmb_bench::MAX_NETS;
+use cmb_netlist::MAX_NETS;
 use cmb_words::{Changed, Word};
 use std::alloc::AllocError;
 

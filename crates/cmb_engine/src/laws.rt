@@ -2,7 +2,7 @@
 
 ghost use Rattle.std.specs.Prelude.{◌≡◌, ℕ, ◌-◌, ◌<◌, ◌≤◌, ◌↔◌, suc, Bool, false, IsTrue};
 ghost use Rattle.cmb_wave.specs.declared.level.Level.{Level};
-ghost use Rattle.cmb_bench.specs.Netlist.{driver_of};
+ghost use Rattle.cmb_netlist.specs.Netlist.{driver_of};
 ghost use Rattle.cmb_design.specs.Design.{Design};
 ghost use Rattle.cmb_design.specs.Timing.{clock_of, delay, IsSample};
 ghost use Rattle.cmb_design.specs.Value.{flop_level, value};

@@ -2,8 +2,8 @@
 
 ghost use Rattle.std.specs.Prelude.{◌≡◌, ◌+◌, ◌^◌, ◌<◌, ◌≤◌, [], All, IfOk, OnOk, length};
 ghost use Rattle.std.specs.List.{AllZip};
-ghost use Rattle.cmb_bench.specs.Netlist.{driver_of, pins_of, IsNetlist};
-ghost use Rattle.cmb_bench.specs.declared.netlist.Driver.TheVariants as driver;
+ghost use Rattle.cmb_netlist.specs.Netlist.{driver_of, pins_of, IsNetlist};
+ghost use Rattle.cmb_netlist.specs.declared.netlist.Driver.TheVariants as driver;
 ghost use Rattle.cmb_design.specs.Exact.{nets_of};
 ghost use Rattle.cmb_design.specs.Ranges.{IsDelay};
 ghost use Rattle.cmb_engine.specs.Inner.Plans.{cell_as, cell_in, pins_from};
@@ -14,8 +14,8 @@ ghost use Rattle.cmb_engine.specs.Inner.Traces.{IsPlan};
 use crate::cell::Pin;
 use crate::cells::Cells;
 use crate::role::{Role, is_driven};
-use cmb_bench::{Driver, MAX_NETS};
 use cmb_design::{Clock, Design};
+use cmb_netlist::{Driver, MAX_NETS};
 use std::alloc::{AllocError, Global};
 
 /// The longest delay with which a pin looks back in words.

@@ -12,8 +12,8 @@ ghost use Rattle.cmb_engine.specs.Inner.Words.{levels_of};
 ghost use Rattle.cmb_engine.specs.declared.role.Role.{Role};
 
 use crate::cell::Pin;
-use cmb_bench::Driver;
 use cmb_design::Design;
+use cmb_netlist::Driver;
 use cmb_wave::Level;
 use cmb_words::Word;
 use std::alloc::{AllocError, Global};

@@ -1,8 +1,8 @@
 //! What is told of told slots when an engine begins.
 
 ghost use Rattle.std.specs.Prelude.{◌≡◌, ◌+◌, ◌^◌, ◌<◌, true, All, OnOk, length};
-ghost use Rattle.cmb_bench.specs.Netlist.{driver_of};
-ghost use Rattle.cmb_bench.specs.declared.netlist.Driver.TheVariants.{Input};
+ghost use Rattle.cmb_netlist.specs.Netlist.{driver_of};
+ghost use Rattle.cmb_netlist.specs.declared.netlist.Driver.TheVariants.{Input};
 ghost use Rattle.cmb_calendar.specs.Calendars.{SameDays};
 ghost use Rattle.cmb_design.specs.Exact.{nets_of};
 ghost use Rattle.cmb_engine.specs.Inner.Lines.{NotesEach};
@@ -12,9 +12,9 @@ ghost use Rattle.cmb_engine.specs.Inner.Words.{levels_of};
 
 use crate::cell::Pin;
 use crate::role::{Role, is_driven};
-use cmb_bench::Driver;
 use cmb_calendar::{Calendar, Tell};
 use cmb_design::Design;
+use cmb_netlist::Driver;
 use cmb_wave::Level;
 use cmb_words::Word;
 use std::alloc::AllocError;

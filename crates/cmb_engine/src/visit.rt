@@ -11,8 +11,8 @@ ghost use Rattle.cmb_engine.specs.Inner.Words.{levels_of};
 
 use crate::arrivals::{Arrival, arrival_of};
 use crate::cell::Pin;
-use cmb_bench::Kind;
 use cmb_design::Clock;
+use cmb_netlist::Kind;
 use cmb_words::{Word, completed, gate1, gate2, held, join};
 
 // What a pin sees.

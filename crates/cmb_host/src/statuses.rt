@@ -1,5 +1,5 @@
-//! What is printed at the end of a run, and its status: 0 where the line was done or help was asked for, 1 with a fault,
-//! 2 where the words are no line.
+//! What is printed at the end of a run, and its status: 0 where the line was done or help was asked for, 1 with a
+//! fault, 2 where the words are no line.
 
 ghost use Rattle.std.specs.Prelude.{◌≡◌, ◌≤◌, IfErr, IfOk};
 ghost use Rattle.std.specs.Process.{exit_status};

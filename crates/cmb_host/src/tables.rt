@@ -62,7 +62,8 @@ pub struct Tables {
 /// be opened, or where standard input, which has the netlist, is closed.
 pub fn open_tables(rt: &HostRuntime, line: &Line) -> Result<Tables, Told>
     ensures delays { IfOk result (λ tables. ⟦<Option<FromReader<File>> as Source>⟧.failures tables.delays ≡ 0) }
-    ensures stimuli { IfOk result (λ tables. ⟦<Option<FromReader<File>> as Source>⟧.failures tables.stimuli ≡ 0) }
+    ensures stimuli { IfOk result (λ tables.
+        ⟦<Option<FromReader<File>> as Source>⟧.failures tables.stimuli ≡ 0) }
     ensures clocks { IfOk result (λ tables. ⟦<Option<FromReader<File>> as Source>⟧.failures tables.clocks ≡ 0) }
     ensures list { IfOk result (λ tables. ⟦<Option<FromReader<File>> as Source>⟧.failures tables.list ≡ 0) }
     ensures fault { IfErr result (λ told. (input : ℕ) × (told.fault ≡ Read input)) }

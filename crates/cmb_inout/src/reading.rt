@@ -5,7 +5,7 @@ ghost use Rattle.std.specs.Io.KnownBytes.{IsAtEnd};
 ghost use Rattle.cmb_inout.specs.Sources.{IsWhole, IsTooLong};
 
 use crate::source::Source;
-use cmb_bench::MAX_TEXT;
+use cmb_netlist::MAX_TEXT;
 use std::alloc::{AllocError, Global};
 
 /// Why a source wasn't read whole.

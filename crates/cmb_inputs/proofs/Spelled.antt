@@ -1,7 +1,7 @@
 -- The checks of texts, part by part, and the design of rows that were read.
 use Rattle.std.proofs.Common.{◌≡◌, ◌⊎◌, inl, inr, List, ◌++◌, None, Some, refl, sym, subst, ◌∙◌}
 use Rattle.cmb_bench.specs.Meaning.{Reads}
-use Rattle.cmb_bench.specs.Netlist.{Netlist}
+use Rattle.cmb_netlist.specs.Netlist.{Netlist}
 use Rattle.cmb_design.proofs.CheckFacts.{first_fault-none, first_fault-some}
 use Rattle.cmb_design.specs.Checks.{Check, first_fault}
 use Rattle.cmb_design.specs.Design.{design_of}

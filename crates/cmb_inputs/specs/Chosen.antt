@@ -1,7 +1,7 @@
 -- Which nets are chosen of a design, the text of the list that names them, and what comes of writing their waveforms.
 use Rattle.std.specs.Prelude.{◌≡◌, ℕ, List, [], length, ⊤}
 use Rattle.cmb_bench.specs.Listed.{HasUnknown, Lists}
-use Rattle.cmb_bench.specs.Netlist.{Netlist}
+use Rattle.cmb_netlist.specs.Netlist.{Netlist}
 use Rattle.cmb_design.specs.Design.{Design}
 use Rattle.cmb_design.specs.Exact.{nets_of}
 use Rattle.cmb_inout.specs.Sources.{IsWhole}

@@ -2,7 +2,7 @@
 use Rattle.std.specs.Prelude.{◌≡◌, List, ◌++◌, None, Some, ⊤}
 use Rattle.cmb_bench.specs.FirstFault.{IsFirstFault}
 use Rattle.cmb_bench.specs.Meaning.{Reads}
-use Rattle.cmb_bench.specs.Netlist.{Netlist}
+use Rattle.cmb_netlist.specs.Netlist.{Netlist}
 use Rattle.cmb_design.specs.Checks.{Check, first_fault}
 use Rattle.cmb_design.specs.Design.{Design, design_of}
 use Rattle.cmb_design.specs.Settings.{design_checks}

@@ -4,7 +4,7 @@ use Rattle.std.specs.Prelude.{Contains}
 use Rattle.std.proofs.lemmas.Bool.{cases_eq, cases_lt}
 use Rattle.std.proofs.lemmas.List.{get_or_default, get_or-set_same, get_or-set_other, length-replicate, length-set}
 use Rattle.std.proofs.lemmas.List.Elements.{All-contains, Contains-get_or}
-use Rattle.cmb_bench.specs.Netlist.{Netlist}
+use Rattle.cmb_netlist.specs.Netlist.{Netlist}
 use Rattle.cmb_loops.specs.Loops.{AreStrongComponents, Reaches, targets}
 use Rattle.cmb_loops.specs.Inner.Search.{AreSet, IsNumbered, IsSearch, IsUnderWay, seen_of}
 use Rattle.cmb_loops.specs.declared.search.Frame.{Frame}

@@ -4,7 +4,7 @@ use Rattle.std.specs.Prelude.{All, AllPairs, count_by, Some, None}
 use Rattle.std.proofs.lemmas.Bool.{cases_lt}
 use Rattle.std.proofs.lemmas.List.{get_or_default, get_or_past, get_or_read, length-drop, length-set, length-take, length_push, take_all}
 use Rattle.std.proofs.lemmas.List.Elements.{All-contains, Contains-get_or}
-use Rattle.cmb_bench.specs.Netlist.{Netlist}
+use Rattle.cmb_netlist.specs.Netlist.{Netlist}
 use Rattle.cmb_loops.specs.Loops.{AreLoops, Reaches, Walk, one, targets}
 use Rattle.cmb_loops.specs.Inner.Search.{AreSet, IsEntered, IsLooped, IsScanned, IsSearch, IsStill, IsUnderWay, is_new, seen_of, targets_at}
 use Rattle.cmb_loops.specs.declared.search.Frame.{Frame}

@@ -1,8 +1,8 @@
 -- Feedback loops of a netlist, as a directed graph: a step leads from a net to each net that its driver reads.
 use Rattle.std.specs.Prelude.{◌≡◌, ◌⊎◌, ℕ, ◌<◌, ◌≤◌, Bool, true, false, List, [], length, slice_index, slice_index_or, All, Contains}
-use Rattle.cmb_bench.specs.Netlist.{Netlist, driver_of, pins_of}
-use Rattle.cmb_bench.specs.declared.netlist.Driver.{Driver}
-use Rattle.cmb_bench.specs.declared.netlist.Driver.TheVariants.{Input, Gate, Flop}
+use Rattle.cmb_netlist.specs.Netlist.{Netlist, driver_of, pins_of}
+use Rattle.cmb_netlist.specs.declared.netlist.Driver.{Driver}
+use Rattle.cmb_netlist.specs.declared.netlist.Driver.TheVariants.{Input, Gate, Flop}
 use Rattle.cmb_loops.specs.declared.steps.Steps.{Steps}
 use Rattle.cmb_loops.specs.declared.steps.Steps.TheVariants as kind
 

@@ -7,7 +7,7 @@ ghost use Rattle.cmb_loops.specs.Inner.Search.{IsBegun};
 use crate::path::search_all;
 use crate::search::{Search, Seen};
 use crate::steps::Steps;
-use cmb_bench::Netlist;
+use cmb_netlist::Netlist;
 use std::alloc::{AllocError, Global};
 
 /// A search of so many nets, of which none was found.

@@ -6,7 +6,7 @@ ghost use Rattle.cmb_loops.specs.Loops.{targets};
 ghost use Rattle.cmb_loops.specs.Inner.Search.{AreSet, HasEdge, IsLooped};
 
 use crate::steps::{Steps, targets_from};
-use cmb_bench::Netlist;
+use cmb_netlist::Netlist;
 
 // Whether the last part begins behind a place.
 fn ends_behind(starts: &[usize], place: usize) -> bool

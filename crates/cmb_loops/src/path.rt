@@ -9,7 +9,7 @@ ghost use Rattle.cmb_loops.specs.declared.search.Seen.TheVariants.{New};
 use crate::part::{ends_at, mark_loops, merge, set_all};
 use crate::search::{Frame, Search, Seen};
 use crate::steps::{Steps, targets_from};
-use cmb_bench::Netlist;
+use cmb_netlist::Netlist;
 use std::alloc::AllocError;
 
 /// Puts a new net at the end of the path.

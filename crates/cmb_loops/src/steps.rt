@@ -3,7 +3,7 @@
 ghost use Rattle.std.specs.Prelude.{◌≡◌, ◌<◌, length};
 ghost use Rattle.cmb_loops.specs.Loops.{targets, targets_of};
 
-use cmb_bench::{Driver, Netlist};
+use cmb_netlist::{Driver, Netlist};
 use std::slice;
 
 /// Which steps count.

@@ -11,9 +11,9 @@ use Rattle.std.proofs.lemmas.List.Folds.{list_any_none, list_any_at, Any-from_li
 use Rattle.std.proofs.lemmas.List.Kept.{AllPairs-from_increasing}
 use Rattle.std.proofs.lemmas.Map.Keys.{apart_from_distinct, IsDistinct-from_apart}
 use Rattle.std.specs.Cmp.Lexicographic.{nat_list_eq_equiv}
-use Rattle.cmb_bench.specs.declared.netlist.Driver.{Driver}
-use Rattle.cmb_bench.specs.declared.netlist.Driver.TheVariants.{Input, Gate, Flop}
-use Rattle.cmb_bench.specs.Netlist.{Netlist, IsNetlist, IsWired, MayTake, driver_of, name_of, pins_of}
+use Rattle.cmb_netlist.specs.declared.netlist.Driver.{Driver}
+use Rattle.cmb_netlist.specs.declared.netlist.Driver.TheVariants.{Input, Gate, Flop}
+use Rattle.cmb_netlist.specs.Netlist.{Netlist, IsNetlist, IsWired, MayTake, driver_of, name_of, pins_of}
 use Rattle.cmb_design.proofs.RowFacts.{same_test}
 use Rattle.cmb_restrict.specs.Closed.{IsClosed, asked_by}
 use Rattle.cmb_restrict.specs.Inner.Places.{ArePlaces}

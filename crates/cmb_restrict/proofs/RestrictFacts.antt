@@ -1,6 +1,6 @@
 -- A design on a part of its netlist is a restriction of it, and none of its checks stands.
 use Rattle.std.proofs.Common.{◌≡◌, ◌⊎◌, inl, inr, ℕ, List, Some, None, refl}
-use Rattle.cmb_bench.specs.Netlist.{Netlist, IsNetlist}
+use Rattle.cmb_netlist.specs.Netlist.{Netlist, IsNetlist}
 use Rattle.cmb_design.specs.Checks.{first_fault}
 use Rattle.cmb_design.specs.Design.{Design}
 use Rattle.cmb_design.specs.Lawful.{IsDesign}

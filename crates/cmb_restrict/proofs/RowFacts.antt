@@ -5,10 +5,10 @@ use Rattle.std.specs.Option.{option_or}
 use Rattle.std.specs.List.{filter, list_any}
 use Rattle.std.proofs.lemmas.List.{get_or-map}
 use Rattle.cmb_wave.specs.declared.level.Level.TheVariants.{X}
-use Rattle.cmb_bench.specs.declared.netlist.Driver.{Driver}
-use Rattle.cmb_bench.specs.declared.netlist.Driver.TheVariants.{Input, Gate, Flop}
-use Rattle.cmb_bench.specs.Netlist.{Netlist, IsNetlist, driver_of, name_of, number_of}
-use Rattle.cmb_bench.proofs.Names.{number_name, number-name_of}
+use Rattle.cmb_netlist.specs.declared.netlist.Driver.{Driver}
+use Rattle.cmb_netlist.specs.declared.netlist.Driver.TheVariants.{Input, Gate, Flop}
+use Rattle.cmb_netlist.specs.Netlist.{Netlist, IsNetlist, driver_of, name_of, number_of}
+use Rattle.cmb_netlist.proofs.Names.{number_name, number-name_of}
 use Rattle.cmb_design.specs.Design.{Design}
 use Rattle.cmb_design.specs.Nets.{driver_cell, is_at}
 use Rattle.cmb_design.specs.Part.{has_net, has_delayed, design_on}

@@ -1,7 +1,7 @@
 -- Sets of nets whose levels depend on no other net.
 use Rattle.std.specs.Prelude.{ℕ, ◌<◌, List, length, All, Contains}
 use Rattle.std.specs.List.Sorted.{IsStrictlyIncreasing}
-use Rattle.cmb_bench.specs.Netlist.{Netlist, driver_of, pins_of}
+use Rattle.cmb_netlist.specs.Netlist.{Netlist, driver_of, pins_of}
 
 -- the nets whose levels the value rule of a net asks for: a gate's operands, a flip-flop's data
 abbrev pub asked_by : Netlist → ℕ → List ℕ

@@ -4,12 +4,12 @@ ghost use Rattle.std.specs.Prelude.{◌≡◌, ◌∷◌, [], ℕ, ◌<◌, ◌�
 ghost use Rattle.std.specs.Prelude.{OnOk};
 ghost use Rattle.std.specs.List.{range_with_len};
 ghost use Rattle.std.specs.List.Sorted.{IsStrictlyIncreasing};
-ghost use Rattle.cmb_bench.specs.Netlist.{IsNetlist};
+ghost use Rattle.cmb_netlist.specs.Netlist.{IsNetlist};
 ghost use Rattle.cmb_restrict.specs.Chosen.{each_once};
 ghost use Rattle.cmb_restrict.specs.Closed.{IsClosure, asked_by};
 ghost use Rattle.cmb_restrict.specs.Inner.Found.{IsFound, Gains, Follows};
 
-use cmb_bench::{Driver, MAX_NETS, Netlist};
+use cmb_netlist::{Driver, MAX_NETS, Netlist};
 use std::alloc::{AllocError, Global};
 
 /// Nets in the order in which they were found, and for each net of the netlist whether it was.

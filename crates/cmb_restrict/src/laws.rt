@@ -1,7 +1,7 @@
 //! The law of parts: that one has the levels of the whole.
 
 ghost use Rattle.std.specs.Prelude.{◌≡◌, ℕ, ◌<◌, List, length, slice_index};
-ghost use Rattle.cmb_bench.specs.Netlist.{IsNetlist};
+ghost use Rattle.cmb_netlist.specs.Netlist.{IsNetlist};
 ghost use Rattle.cmb_design.specs.Design.{Design};
 ghost use Rattle.cmb_design.specs.Value.{value};
 ghost use Rattle.cmb_restrict.specs.Restriction.{IsRestriction};

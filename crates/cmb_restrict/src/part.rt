@@ -3,12 +3,12 @@
 ghost use Rattle.std.specs.Prelude.{◌≡◌, ℕ, ◌<◌, ◌≤◌, length, map, slice_index, nat_eq, All, Contains, IfOk};
 ghost use Rattle.std.specs.List.{IsDistinct, filter};
 ghost use Rattle.std.specs.List.Sorted.{IsStrictlyIncreasing};
-ghost use Rattle.cmb_bench.specs.Netlist.{IsNetlist, driver_of, name_of, pins_of};
+ghost use Rattle.cmb_netlist.specs.Netlist.{IsNetlist, driver_of, name_of, pins_of};
 ghost use Rattle.cmb_restrict.specs.Closed.{IsClosed};
 ghost use Rattle.cmb_restrict.specs.Restriction.{IsPart, is_among, with_nets};
 ghost use Rattle.cmb_restrict.specs.Inner.Places.{ArePlaces};
 
-use cmb_bench::{Driver, MAX_NETS, Name, Netlist, Operands};
+use cmb_netlist::{Driver, MAX_NETS, Name, Netlist, Operands};
 use indexmap::IndexSet;
 use std::alloc::{AllocError, Global};
 

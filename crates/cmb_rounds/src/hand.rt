@@ -1,7 +1,7 @@
 //! What a worker of a run in rounds has in its hands.
 
 ghost use Rattle.std.specs.Prelude.{◌≡◌, ◌<◌, ◌≤◌, ◌↔◌, ℕ, false, true, map, IfOk, IfSome, IsSome, OnOk};
-ghost use Rattle.cmb_bench.specs.Netlist.{IsNetlist};
+ghost use Rattle.cmb_netlist.specs.Netlist.{IsNetlist};
 ghost use Rattle.cmb_wave.specs.Wave.{cut_of, new_wave};
 ghost use Rattle.cmb_core.specs.Clustering.{has_input};
 ghost use Rattle.cmb_core.specs.Clusters.{IsDrivenHere, IsSameButWaves, input_slot, told_at};

@@ -1,6 +1,6 @@
 -- What a whole simulation answers, and what it writes.
 use Rattle.std.specs.Prelude.{◌≡◌, ◌<◌, ◌⊎◌, List, [], ◌∷◌, ◌++◌, length, nat_lt, None, Some, Result, Ok, Err, ⊤}
-use Rattle.cmb_bench.specs.Netlist.{Netlist}
+use Rattle.cmb_netlist.specs.Netlist.{Netlist}
 use Rattle.cmb_bench.specs.Meaning.{Reads}
 use Rattle.cmb_bench.specs.FirstFault.{IsFirstFault}
 use Rattle.cmb_design.specs.Checks.{Check, check, first_fault}

@@ -3,9 +3,9 @@
 ghost use Rattle.std.specs.Prelude.{◌≡◌, ◌<◌, ◌≤◌, IfOk, IfSome};
 ghost use Rattle.cmb_cut.specs.Sharings.{IsSharing};
 
-use cmb_bench::Driver;
 use cmb_cut::{LEAST_NETS, Sharing, pays, share_out};
 use cmb_design::Design;
+use cmb_netlist::Driver;
 use std::alloc::{AllocError, Global};
 
 // So many samples its flip-flops take at least, where shares pay: an estimate of how much changes in a run, and of how

@@ -2,12 +2,12 @@
 use Rattle.std.specs.Prelude.{◌++◌, ◌==◌, ◌&&◌, ◌||◌, ℕ, Bool, not, List, [], ◌∷◌, Option, Some, None, is_none, unwrap_or, option_map, option_and_then, slice_index_or, drop, map, length, codes, nat_le, if◌then◌else◌}
 use Rattle.std.specs.Str.{bytes_eq}
 use Rattle.std.specs.Cmp.Lexicographic.{pointwise}
-use Rattle.cmb_bench.specs.declared.netlist.Cell.TheVariants as cell
+use Rattle.cmb_netlist.specs.declared.netlist.Cell.TheVariants as cell
 use Rattle.cmb_wave.specs.declared.level.Level.{Level}
 use Rattle.cmb_wave.specs.declared.level.Level.TheVariants as level
 use Rattle.cmb_design.specs.Checks.{Check, check, checks_after}
 use Rattle.cmb_tables.specs.Fields.{number, split_pin}
-use Rattle.cmb_bench.specs.Kinds.{cell_of}
+use Rattle.cmb_netlist.specs.Kinds.{cell_of}
 use Rattle.cmb_design.specs.Nets.{is_within}
 use Rattle.cmb_design.specs.declared.fault.DesignFault.TheVariants as fault
 use Rattle.cmb_design.specs.declared.rows.Delayed.{Delayed}

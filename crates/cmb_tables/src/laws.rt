@@ -2,7 +2,7 @@
 
 ghost use Rattle.std.specs.Prelude.{◌≡◌, ℕ, ◌≤◌, false, List, All, Some, None, unwrap_or};
 ghost use Rattle.std.specs.Option.{option_or};
-ghost use Rattle.cmb_bench.specs.Netlist.{Netlist, driver_of};
+ghost use Rattle.cmb_netlist.specs.Netlist.{Netlist, driver_of};
 ghost use Rattle.cmb_design.specs.declared.rows.Clock.{Clock};
 ghost use Rattle.cmb_design.specs.declared.rows.ClockRow.{ClockRow};
 ghost use Rattle.cmb_design.specs.declared.rows.DelayRow.{DelayRow};

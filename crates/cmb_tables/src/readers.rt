@@ -14,11 +14,11 @@ ghost use Rattle.cmb_tables.specs.Records.{table_records};
 
 use crate::fields::{parse_number, split_at_colon, three_fields};
 use crate::table::{TableRow, read_table};
-use cmb_bench::{MAX_TEXT, Name, cell_named};
 use cmb_design::DesignFault;
 use cmb_design::rows::{
     ClockRow, ClockRows, DelayRow, DelayRows, Delayed, StimulusRow, StimulusRows,
 };
+use cmb_netlist::{MAX_TEXT, Name, cell_named};
 use cmb_wave::Level;
 use csv::ByteRecord;
 use std::alloc::Global;

@@ -11,9 +11,9 @@ ghost use Rattle.cmb_tables.specs.Readers.{record_checks, table_checks, table_ro
 ghost use Rattle.cmb_tables.specs.Records.{IsReading, records_left, table_records};
 
 use crate::records::{next_record, open_records};
-use cmb_bench::MAX_TEXT;
 use cmb_design::DesignFault;
 use cmb_design::rows::{Row, Rows};
+use cmb_netlist::MAX_TEXT;
 use csv::{ByteRecord, Reader};
 use std::alloc::Global;
 

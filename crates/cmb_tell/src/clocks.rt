@@ -1,7 +1,7 @@
 //! Which flip-flop has no clock.
 
 use crate::record::{reader_of, reads_next};
-use cmb_bench::{Driver, Netlist};
+use cmb_netlist::{Driver, Netlist};
 use csv::{ByteRecord, Reader};
 use std::alloc::Global;
 

@@ -3,8 +3,9 @@
 ghost use Rattle.std.specs.Prelude.{◌≤◌, length};
 
 use crate::words::Given;
-use cmb_bench::{MAX_TEXT, read_bench};
+use cmb_bench::read_bench;
 use cmb_design::{Design, DesignFault, Settings};
+use cmb_netlist::MAX_TEXT;
 use cmb_tables::{read_clocks, read_delays, read_stimuli};
 use std::alloc::Global;
 

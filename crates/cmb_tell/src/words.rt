@@ -7,11 +7,12 @@ use crate::clocks::unclocked;
 use crate::netlist::{line_at, undriven};
 use crate::record::{push_wrong, record_at};
 use crate::table::{Table, table_of, text_of};
-use cmb_bench::{MAX_TEXT, Netlist, read_bench};
+use cmb_bench::read_bench;
 use cmb_design::{DesignFault, Settings};
 use cmb_explain::{Explanation, Place, explanation_of};
 use cmb_inout::{Done, Fault};
 use cmb_line::Line;
+use cmb_netlist::{MAX_TEXT, Netlist};
 use std::alloc::{AllocError, Global};
 
 /// What a run or a check was given. A text that wasn't kept is empty.

@@ -9,7 +9,7 @@ use Rattle.cmb_wave.specs.declared.level.Change.{Change}
 use Rattle.cmb_wave.specs.Waveform.{IsTrace, level_at, level_before}
 use Rattle.cmb_wave.specs.Wave.{IsExactWave, Wave}
 use Rattle.cmb_wave.proofs.Waves.{level_at-exact}
-use Rattle.cmb_bench.specs.Netlist.{Netlist}
+use Rattle.cmb_netlist.specs.Netlist.{Netlist}
 use Rattle.cmb_design.specs.Design.{Design}
 use Rattle.cmb_design.specs.Exact.{nets_of}
 use Rattle.cmb_design.specs.Value.{value}

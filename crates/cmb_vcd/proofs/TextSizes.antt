@@ -4,7 +4,7 @@ use Rattle.std.specs.Prelude.{nat_lt}
 use Rattle.std.proofs.lemmas.Fmt.{length-decimal-le}
 use Rattle.cmb_wave.specs.declared.level.Level.{Level}
 use Rattle.cmb_wave.specs.Waveform.{same_level}
-use Rattle.cmb_bench.specs.Netlist.{Netlist, IsNetlist}
+use Rattle.cmb_netlist.specs.Netlist.{Netlist, IsNetlist}
 use Rattle.cmb_vcd.specs.Vcd.{change_lines, code, code_within, header, is_identifier, level_byte, level_line, level_lines, line, part_text, reference, tick_line, tick_text, ticks_text, under_tick, var_line, var_lines}
 
 cond-short : (b : Bool) (xs ys : List ℕ) (most : ℕ) → length xs ≤ most → length ys ≤ most → length (cond b xs ys) ≤ most

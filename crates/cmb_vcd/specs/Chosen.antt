@@ -1,6 +1,6 @@
 -- The text of some nets of a design.
 use Rattle.std.specs.Prelude.{ℕ, List, [], map, slice_index}
-use Rattle.cmb_bench.specs.Netlist.{Netlist, name_of}
+use Rattle.cmb_netlist.specs.Netlist.{Netlist, name_of}
 use Rattle.cmb_design.specs.Design.{Design}
 use Rattle.cmb_design.specs.Value.{value}
 use Rattle.cmb_vcd.specs.Vcd.{text_of}

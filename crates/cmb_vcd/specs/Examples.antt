@@ -1,7 +1,7 @@
 -- Texts of small designs.
 use Rattle.std.specs.Prelude.{ℕ, List, [], ◌∷◌, ◌++◌, None, codes}
 use Rattle.cmb_wave.specs.declared.level.Level.TheVariants.{X}
-use Rattle.cmb_bench.specs.declared.netlist.Driver.TheVariants.{Input}
+use Rattle.cmb_netlist.specs.declared.netlist.Driver.TheVariants.{Input}
 use Rattle.cmb_design.specs.Design.{Design}
 use Rattle.cmb_vcd.specs.Vcd.{line}
 

@@ -5,7 +5,7 @@ ghost use Rattle.std.specs.List.{range_with_len};
 ghost use Rattle.std.specs.Result.{result_map_both};
 ghost use Rattle.cmb_wave.specs.declared.level.Level.{Level};
 ghost use Rattle.cmb_wave.specs.Wave.{IsExactWave, Piece, Wave, cut_of};
-ghost use Rattle.cmb_bench.specs.Netlist.{Netlist, name_of};
+ghost use Rattle.cmb_netlist.specs.Netlist.{Netlist, name_of};
 ghost use Rattle.cmb_design.specs.Design.{Design};
 ghost use Rattle.cmb_design.specs.Exact.{IsExactIn, nets_of};
 ghost use Rattle.cmb_design.specs.Plain.{whole_waves};

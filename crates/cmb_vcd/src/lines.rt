@@ -2,12 +2,12 @@
 
 ghost use Rattle.std.specs.Prelude.{◌≡◌, ◌<◌, ◌≤◌, ◌++◌, length, map, All, OnOk};
 ghost use Rattle.std.specs.List.{list_all};
-ghost use Rattle.cmb_bench.specs.Netlist.{name_of};
+ghost use Rattle.cmb_netlist.specs.Netlist.{name_of};
 ghost use Rattle.cmb_vcd.specs.Chosen.{chosen_from};
 ghost use Rattle.cmb_vcd.specs.Vcd.{begins_identifier, code, continues_identifier, header, is_identifier, level_byte};
 ghost use Rattle.cmb_vcd.specs.Vcd.{reference, tick_line, var_line, var_lines};
 
-use cmb_bench::{MAX_NETS, Netlist};
+use cmb_netlist::{MAX_NETS, Netlist};
 use cmb_wave::Level;
 use itoa::Buffer;
 use std::alloc::AllocError;

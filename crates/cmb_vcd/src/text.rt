@@ -16,8 +16,8 @@ use crate::ticks::{by_ticks, count_of, push_by_ticks};
 use crate::value_changes::{
     NetChanges, gather, net_changes_within, push_value_changes, sort_value_changes,
 };
-use cmb_bench::MAX_NETS;
 use cmb_design::Design;
+use cmb_netlist::MAX_NETS;
 use cmb_wave::{Level, Wave};
 use std::alloc::{AllocError, Global};
 

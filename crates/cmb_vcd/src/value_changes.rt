@@ -9,7 +9,7 @@ ghost use Rattle.cmb_vcd.specs.Inner.ValueChanges.{value_changes_in, tick_of, wi
 
 use crate::lines::push_tick;
 use crate::ready_codes::Codes;
-use cmb_bench::MAX_NETS;
+use cmb_netlist::MAX_NETS;
 use cmb_wave::search::left_from;
 use cmb_wave::{Change, Level, Wave};
 use std::alloc::{AllocError, Global};

@@ -10,7 +10,7 @@ ghost use Rattle.cmb_words.specs.Inner.Masked.{inverse_if, inverts_operands, ign
 ghost use Rattle.cmb_words.specs.Word.{level_at_place};
 
 use crate::word::Word;
-use cmb_bench::Kind;
+use cmb_netlist::Kind;
 
 // AND of the levels at each place.
 #[inline]

@@ -2,7 +2,7 @@
 use Rattle.std.proofs.Common.{◌≡◌, ℕ, zero, suc, ◌+◌, ◌<◌, ◌≤◌, min, true, false, ◌&&◌, List, [], ◌∷◌, ◌++◌, ◌⊎◌, inl, inr, length, get_or, set, Some, refl, ap, sym, ◌∙◌, subst, arith, leb, ltb, eqb, get_or-set_same}
 use Rattle.std.specs.Prelude.{slice_get}
 use Rattle.std.proofs.lemmas.Bool.{lt-ltb, le-ltb, lt-leb, ltb-true, ltb-false, eqb-false, ne_eqb, cases_lt, cond_both}
-use Rattle.cmb_bench.specs.Netlist.{driver_of, IsNetlist}
+use Rattle.cmb_netlist.specs.Netlist.{driver_of, IsNetlist}
 use Rattle.cmb_design.specs.Design.{Design}
 use Rattle.cmb_design.specs.Exact.{nets_of}
 use Rattle.cmb_world.specs.declared.event.Event.TheVariants.{Step, Post, Deliver}

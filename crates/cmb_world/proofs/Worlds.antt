@@ -24,9 +24,9 @@ use Rattle.cmb_world.specs.declared.event.PlayFault.TheVariants.{Gap, Old}
 use Rattle.cmb_world.specs.Clocks.{Span, Bound, Clocks, Outcome, out_clock, in_clock, seen_clock, machine_reach, replied, start, stepped, posted, machine_delivered, machine_promised, looked, play, with_out, with_in, piece_of, promise_of}
 use Rattle.cmb_core.specs.Step.{wave_at, told_upto, told_from, step_reach, step_piece, with_wave}
 use Rattle.cmb_world.specs.World.{WorldWaves, Played, waves_of, world_with_wave, out_wave, in_wave, answered, step_in, post_in, deliver_in, taken_in, promise_in, look_in, play_world, world_after, world_replies, new_waves, new_clusters, new_world, Shows}
-use Rattle.cmb_bench.specs.declared.netlist.Driver.{Driver}
-use Rattle.cmb_bench.specs.declared.netlist.Driver.TheVariants.{Input, Gate, Flop}
-use Rattle.cmb_bench.specs.Netlist.{driver_of, pins_of, IsNetlist}
+use Rattle.cmb_netlist.specs.declared.netlist.Driver.{Driver}
+use Rattle.cmb_netlist.specs.declared.netlist.Driver.TheVariants.{Input, Gate, Flop}
+use Rattle.cmb_netlist.specs.Netlist.{driver_of, pins_of, IsNetlist}
 use Rattle.cmb_world.specs.Run.{clocks_after, replies_to}
 use Rattle.cmb_core.specs.Reach.{pins_reach, driver_reach}
 use Rattle.cmb_world.proofs.Machine.{zeros, rows_of_zeros, start-sound, play-goes, IsSound, IsPosted, IsPromised, in-cases}

@@ -2,7 +2,7 @@
 use Rattle.std.specs.Prelude.{◌≡◌, ℕ, ◌<◌, ◌&&◌, Bool, true, false, nat_lt, List, [], length, map, slice_index, slice_index_or, slice_set, Option, Some, None, is_some, Result, Ok, Err, OnErr, if◌then◌else◌}
 use Rattle.cmb_wave.specs.declared.level.Promise.{Promise}
 use Rattle.cmb_wave.specs.Wave.{Piece, Wave}
-use Rattle.cmb_bench.specs.Netlist.{IsNetlist}
+use Rattle.cmb_netlist.specs.Netlist.{IsNetlist}
 use Rattle.cmb_design.specs.Design.{Design}
 use Rattle.cmb_design.specs.Exact.{nets_of}
 use Rattle.cmb_world.specs.declared.event.Event.{Event}

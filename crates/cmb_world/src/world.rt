@@ -4,7 +4,7 @@ ghost use Rattle.std.specs.Prelude.{◌≡◌, ◌<◌, ℕ, List, min, [], leng
 ghost use Rattle.std.specs.Prelude.{IfSome, MatchOption, Some, None, if◌then◌else◌};
 ghost use Rattle.cmb_design.specs.Design.{Design};
 ghost use Rattle.cmb_design.specs.Exact.{nets_of};
-ghost use Rattle.cmb_bench.specs.Netlist.{IsNetlist};
+ghost use Rattle.cmb_netlist.specs.Netlist.{IsNetlist};
 ghost use Rattle.cmb_world.specs.declared.event.Event.{Event};
 ghost use Rattle.cmb_core.specs.Clustering.{Clustering, IsClustering};
 ghost use Rattle.cmb_world.specs.Play.{IsReached};

@@ -4,9 +4,10 @@ ghost use Rattle.std.specs.Prelude.{◌≡◌, ◌≤◌, IfOk, length};
 ghost use Rattle.cmb_design.specs.Exact.{nets_of};
 
 use crate::trouble::Trouble;
-use cmb_bench::{MAX_TEXT, Netlist, read_bench};
+use cmb_bench::read_bench;
 use cmb_core::Clustering;
 use cmb_design::{Design, DesignFault, Settings, plain_waves};
+use cmb_netlist::{MAX_TEXT, Netlist};
 use cmb_tables::{read_clocks, read_delays, read_stimuli};
 use cmb_wave::{Change, Level, Piece, Promise, Wave};
 use std::alloc::Global;

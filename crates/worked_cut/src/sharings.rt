@@ -1,7 +1,8 @@
 //! Sharings.
 
-use cmb_bench::{Netlist, read_bench};
+use cmb_bench::read_bench;
 use cmb_cut::{LEAST_NETS, Share, Sharing, pays, share_out};
+use cmb_netlist::Netlist;
 use std::alloc::{AllocError, Global};
 use std::test::Fail;
 

@@ -2,7 +2,8 @@
 
 ghost use Rattle.std.specs.Prelude.{◌<◌, ◌≤◌, length};
 
-use cmb_bench::{Cell, Driver, Kind, MAX_TEXT, Netlist, cell_named, read_bench};
+use cmb_bench::read_bench;
+use cmb_netlist::{Cell, Driver, Kind, MAX_TEXT, Netlist, cell_named};
 use std::alloc::{AllocError, Global};
 use std::process::Abort;
 use worked_inputs::{has_gate, has_input, has_name};

@@ -2,8 +2,9 @@
 
 ghost use Rattle.std.specs.Prelude.{◌≤◌, IfOk, length};
 
-use cmb_bench::{MAX_TEXT, Netlist, read_bench};
+use cmb_bench::read_bench;
 use cmb_design::{Design, DesignFault, Settings};
+use cmb_netlist::{MAX_TEXT, Netlist};
 use cmb_tables::{read_clocks, read_delays, read_stimuli};
 use cmb_wave::Level;
 use std::alloc::Global;

@@ -1,6 +1,6 @@
 //! What the nets of a netlist are.
 
-use cmb_bench::{Driver, Kind, Netlist, Operands};
+use cmb_netlist::{Driver, Kind, Netlist, Operands};
 
 fn is_gate(driver: &Driver, kind: Kind, operands: &[u32]) -> bool {
     match driver {

@@ -3,8 +3,8 @@
 ghost use Rattle.std.specs.Prelude.{◌≡◌, IfOk};
 ghost use Rattle.cmb_design.specs.Exact.{nets_of};
 
-use cmb_bench::{Driver, Kind, Netlist};
 use cmb_design::{Design, Settings};
+use cmb_netlist::{Driver, Kind, Netlist};
 use cmb_restrict::{closure, restrict};
 use cmb_wave::Level;
 use std::alloc::{AllocError, Global};

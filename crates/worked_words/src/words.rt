@@ -1,7 +1,7 @@
 //! The worked examples of words and gates. The tables of the gates are those of IEEE 1364-2005, 7.2 and 7.3; the other
 //! values follow by hand.
 
-use cmb_bench::Kind;
+use cmb_netlist::Kind;
 use cmb_wave::Level;
 use cmb_wave::Level::{One, X, Zero};
 use cmb_words::{Word, completed, gate1, gate2, gate2_known, held, join, spliced};

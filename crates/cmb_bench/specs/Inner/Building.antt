@@ -10,8 +10,8 @@ use Rattle.cmb_bench.specs.declared.text.Class.TheVariants.{End}
 use Rattle.cmb_bench.specs.Text.{Lexeme, mark}
 use Rattle.cmb_bench.specs.Inner.Word.{is_end}
 use Rattle.cmb_bench.specs.Statement.{Statement, input, output, drive, Mention, driven_by, driven}
-use Rattle.cmb_bench.specs.declared.netlist.Driver.{Driver}
-use Rattle.cmb_bench.specs.declared.netlist.Driver.TheVariants.{Input}
+use Rattle.cmb_netlist.specs.declared.netlist.Driver.{Driver}
+use Rattle.cmb_netlist.specs.declared.netlist.Driver.TheVariants.{Input}
 use Rattle.cmb_bench.specs.Meaning.{driver_from}
 use Rattle.cmb_bench.specs.Inner.Reading.{◌>>=◌, Fails, statement_at}
 

@@ -2,7 +2,7 @@
 use Rattle.std.specs.Prelude.{◌≡◌, ℕ, List, Result, Ok, Err}
 use Rattle.cmb_bench.specs.declared.fault.ReadError.{ReadError}
 use Rattle.cmb_bench.specs.declared.fault.ReadError.TheVariants as errors
-use Rattle.cmb_bench.specs.Netlist.{Netlist}
+use Rattle.cmb_netlist.specs.Netlist.{Netlist}
 use Rattle.cmb_bench.specs.FirstFault.{IsFirstFault}
 
 -- memory ran out, or this is the first fault

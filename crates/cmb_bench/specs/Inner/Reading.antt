@@ -5,12 +5,12 @@ use Rattle.cmb_bench.specs.declared.fault.FaultKind.{FaultKind}
 use Rattle.cmb_bench.specs.declared.fault.FaultKind.TheVariants as faults
 use Rattle.cmb_bench.specs.declared.fault.ReadError.{ReadError}
 use Rattle.cmb_bench.specs.declared.fault.ReadError.TheVariants as errors
-use Rattle.cmb_bench.specs.declared.netlist.Cell.{Cell}
+use Rattle.cmb_netlist.specs.declared.netlist.Cell.{Cell}
 use Rattle.cmb_bench.specs.declared.text.Class.{Class}
 use Rattle.cmb_bench.specs.declared.text.Class.TheVariants.{Open, Close, Bad, Comma, Equals}
 use Rattle.cmb_bench.specs.Text.{Lexeme}
 use Rattle.cmb_bench.specs.Inner.Word.{has_class, name_in}
-use Rattle.cmb_bench.specs.Kinds.{is_word, cell_of, takes_one}
+use Rattle.cmb_netlist.specs.Kinds.{is_word, cell_of, takes_one}
 use Rattle.cmb_bench.specs.Statement.{Statement, input, output, drive, Mention, is_member}
 
 infixl 10 ◌>>=◌

@@ -8,7 +8,7 @@ use Rattle.cmb_wave.specs.Wave.{Wave}
 use Rattle.cmb_core.specs.declared.process.Pin.{Pin}
 use Rattle.cmb_core.specs.declared.process.Rule.{Rule}
 use Rattle.cmb_core.specs.declared.process.Rule.TheVariants.{Given, Input, Gate, Flop}
-use Rattle.cmb_bench.specs.declared.netlist.Kind.{Kind}
+use Rattle.cmb_netlist.specs.declared.netlist.Kind.{Kind}
 use Rattle.cmb_design.specs.Gate.{gate}
 use Rattle.cmb_design.specs.Timing.{sample_from, sample_upto}
 use Rattle.cmb_core.specs.Step.{wave_at}

@@ -1,6 +1,6 @@
 -- Components and owners as they are counted: a number for each net.
 use Rattle.std.specs.Prelude.{◌≡◌, ◌<◌, ◌^◌, length, All}
-use Rattle.cmb_bench.specs.Netlist.{IsNetlist, Netlist}
+use Rattle.cmb_netlist.specs.Netlist.{IsNetlist, Netlist}
 use Rattle.cmb_cut.specs.declared.components.Components.{Components}
 use Rattle.cmb_cut.specs.declared.owners.Owners.{Owners}
 use Rattle.cmb_cut.specs.declared.sharing.Share.{Share}

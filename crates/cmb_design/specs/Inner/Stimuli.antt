@@ -3,7 +3,7 @@ use Rattle.std.specs.Prelude.{◌≡◌, ℕ, List, map, length, Some, None, sli
 use Rattle.std.specs.List.{range_with_len}
 use Rattle.cmb_wave.specs.declared.level.Change.{Change}
 use Rattle.cmb_wave.specs.Waveform.{changes_between}
-use Rattle.cmb_bench.specs.Netlist.{Netlist}
+use Rattle.cmb_netlist.specs.Netlist.{Netlist}
 use Rattle.cmb_design.specs.declared.rows.StimulusRow.{StimulusRow}
 use Rattle.cmb_design.specs.Timing.{level_by, row_level}
 use Rattle.cmb_design.specs.declared.told.Told.{Told}

@@ -1,7 +1,7 @@
 -- Tables with a place for each thing that a row may be about.
 use Rattle.std.specs.Prelude.{ℕ, zero, suc, ◌+◌, ◌-◌, Bool, List, map, length, find, Option, Some, None, is_some, option_map, option_and_then, if◌then◌else◌}
 use Rattle.std.specs.List.{list_all, range_with_len}
-use Rattle.cmb_bench.specs.Netlist.{Netlist, number_of}
+use Rattle.cmb_netlist.specs.Netlist.{Netlist, number_of}
 use Rattle.cmb_design.specs.Nets.{cell_number, is_at, is_within, pins_at}
 use Rattle.cmb_design.specs.declared.rows.Delayed.{Delayed}
 use Rattle.cmb_design.specs.declared.rows.Delayed.TheVariants.{Pin, Net, Kind as ByKind}

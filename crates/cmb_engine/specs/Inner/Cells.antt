@@ -2,7 +2,7 @@
 use Rattle.std.specs.Prelude.{◌≡◌, ℕ, ◌+◌, ◌-◌, ◌<◌, ◌≤◌, Bool, true, false, IsTrue, List, [], ◌∷◌, ◌==◌, slice_index, slice_index_or, All, map, length, if◌then◌else◌}
 use Rattle.std.specs.List.{AllByRecursion, list_any}
 use Rattle.cmb_wave.specs.declared.level.Level.{Level}
-use Rattle.cmb_bench.specs.declared.netlist.Kind.{Kind}
+use Rattle.cmb_netlist.specs.declared.netlist.Kind.{Kind}
 use Rattle.cmb_design.specs.declared.rows.Clock.{Clock}
 use Rattle.cmb_design.specs.Gate.{gate}
 use Rattle.cmb_engine.specs.Rows.{arrives_by}

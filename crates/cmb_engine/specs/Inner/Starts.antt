@@ -2,8 +2,8 @@
 use Rattle.std.specs.Prelude.{◌≡◌, ◌≢◌, ℕ, ◌+◌, ◌-◌, ◌<◌, ◌≤◌, true, List, Some, slice_get}
 use Rattle.cmb_wave.specs.declared.level.Level.{Level}
 use Rattle.cmb_wave.specs.declared.level.Level.TheVariants.{X}
-use Rattle.cmb_bench.specs.Netlist.{driver_of}
-use Rattle.cmb_bench.specs.declared.netlist.Driver.TheVariants.{Input}
+use Rattle.cmb_netlist.specs.Netlist.{driver_of}
+use Rattle.cmb_netlist.specs.declared.netlist.Driver.TheVariants.{Input}
 use Rattle.cmb_calendar.specs.declared.tell.Tell.{Tell}
 use Rattle.cmb_design.specs.Design.{Design}
 use Rattle.cmb_design.specs.Exact.{nets_of}

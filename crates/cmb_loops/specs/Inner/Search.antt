@@ -1,7 +1,7 @@
 -- A path-based search for strongly connected components (H. N. Gabow, Path-based depth-first search for strong and biconnected components,
 -- Information Processing Letters 74, 2000; the first of its kind is of P. Purdom, 1970).
 use Rattle.std.specs.Prelude.{◌≡◌, ◌⊎◌, ℕ, ◌<◌, ◌≤◌, Bool, true, false, Option, Some, None, List, [], ◌∷◌, ◌++◌, length, drop, slice_index, count_by, ◌+◌, slice_index_or, slice_set, replicate, All, AllPairs, Contains}
-use Rattle.cmb_bench.specs.Netlist.{Netlist}
+use Rattle.cmb_netlist.specs.Netlist.{Netlist}
 use Rattle.cmb_loops.specs.Loops.{Reaches, Walk, targets}
 use Rattle.cmb_loops.specs.declared.steps.Steps.{Steps}
 use Rattle.cmb_loops.specs.declared.search.Search.{Search}

@@ -1,6 +1,6 @@
 -- Nets as they are found.
 use Rattle.std.specs.Prelude.{◌≡◌, ℕ, true, false, List, ◌++◌, length, count_by, slice_index_or, All, Contains}
-use Rattle.cmb_bench.specs.Netlist.{Netlist}
+use Rattle.cmb_netlist.specs.Netlist.{Netlist}
 use Rattle.cmb_restrict.specs.Closed.{IsClosed, asked_by}
 use Rattle.cmb_restrict.specs.declared.closed.Found.{Found}
 

@@ -1,6 +1,6 @@
 -- The workers of a run in rounds: what each has in its hands, how far it knows its nets, and what an exchange comes to.
 use Rattle.std.specs.Prelude.{◌≡◌, ℕ, ◌<◌, ◌≤◌, Bool, false, true, List, [], length, slice_index_or}
-use Rattle.cmb_bench.specs.Netlist.{IsNetlist}
+use Rattle.cmb_netlist.specs.Netlist.{IsNetlist}
 use Rattle.cmb_design.specs.Design.{Design}
 use Rattle.cmb_design.specs.Exact.{nets_of}
 use Rattle.cmb_core.specs.Clustering.{Clustering, IsClustering, cluster_of, has_input}

@@ -1,8 +1,8 @@
 -- A gate with two operands made of one AND, one XOR and masks that are the same for all its places.
 use Rattle.std.specs.Prelude.{Bool, true, false, if◌then◌else◌}
 use Rattle.cmb_wave.specs.declared.level.Level.{Level}
-use Rattle.cmb_bench.specs.declared.netlist.Kind.{Kind}
-use Rattle.cmb_bench.specs.declared.netlist.Kind.TheVariants.{Nand, Or, Nor, Xor, Xnor, Not, Buff}
+use Rattle.cmb_netlist.specs.declared.netlist.Kind.{Kind}
+use Rattle.cmb_netlist.specs.declared.netlist.Kind.TheVariants.{Nand, Or, Nor, Xor, Xnor, Not, Buff}
 use Rattle.cmb_design.specs.Gate.{inverse_of}
 
 -- the level, inverted or not

@@ -1,7 +1,7 @@
 //! The gate functions on worked examples.
 
-use cmb_bench::Kind;
 use cmb_design::gate;
+use cmb_netlist::Kind;
 use cmb_wave::Level;
 
 // The gate's level, where the kind may have so many operands.

@@ -2,7 +2,7 @@ use Rattle.std.proofs.Common.{◌∙◌, ℕ, sym, subst}
 use Rattle.std.specs.Prelude.{All}
 use Rattle.std.proofs.lemmas.Bool.{false≢true}
 use borrow.Author.Count.{below_more}
-use Rattle.cmb_bench.specs.Netlist.{driver_of, pins_of}
+use Rattle.cmb_netlist.specs.Netlist.{driver_of, pins_of}
 use Rattle.cmb_engine.specs.Shares.{IsDriven}
 use Rattle.cmb_batch.proofs.maker.is_alone.Goals.{else-driven-reader-via-else-driven-reader, else-driven-reader-via-then-driven-reader+else-not-drives_all}
 use Rattle.cmb_batch.proofs.maker.is_alone.Goals as goal

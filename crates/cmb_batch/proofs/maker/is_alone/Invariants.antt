@@ -1,6 +1,6 @@
 use Rattle.std.proofs.Common.{ℕ, ◌<◌}
 use Rattle.std.specs.Prelude.{All}
-use Rattle.cmb_bench.specs.Netlist.{driver_of, pins_of}
+use Rattle.cmb_netlist.specs.Netlist.{driver_of, pins_of}
 use Rattle.cmb_engine.specs.Shares.{IsDriven}
 use Rattle.cmb_batch.proofs.maker.is_alone.Given as goal
 

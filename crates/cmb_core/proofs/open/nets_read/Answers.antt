@@ -1,6 +1,6 @@
 use Rattle.std.proofs.Common.{◌≡◌, ◌+◌, Bool, Global, Vec, length, ap, sym, subst, ◌∙◌}
 use Rattle.std.proofs.lemmas.List.{with_items_is}
-use Rattle.cmb_bench.specs.Netlist.{Netlist, driver_of}
+use Rattle.cmb_netlist.specs.Netlist.{Netlist, driver_of}
 use Rattle.cmb_core.specs.Inner.Opening.{AreRead}
 use Rattle.cmb_core.proofs.OpeningFacts.{read_other, read_own}
 use Rattle.cmb_core.proofs.open.nets_read.Goals as goal

@@ -1,5 +1,5 @@
 use Rattle.std.proofs.Common.{◌≡◌, ◌∙◌, ap, refl, sym}
-use Rattle.cmb_bench.specs.Netlist.{Netlist, driver_of}
+use Rattle.cmb_netlist.specs.Netlist.{Netlist, driver_of}
 use Rattle.cmb_design.specs.Nets.{is_flop}
 use Rattle.cmb_design.specs.Timing.{clock_of}
 use Rattle.cmb_count.proofs.ClockFacts.{met, met_count, none_before, passed, passed_count}

@@ -1,5 +1,5 @@
 use Rattle.std.proofs.Common.{length, ap, subst, ◌∙◌}
-use Rattle.cmb_bench.specs.Netlist.{Netlist}
+use Rattle.cmb_netlist.specs.Netlist.{Netlist}
 use Rattle.cmb_loops.specs.declared.steps.Steps.TheVariants as steps
 use Rattle.cmb_count.specs.declared.drivers.DriverKind.TheVariants.{Inputs, Flops}
 use Rattle.cmb_count.specs.Counting.{AreGateCounts}

@@ -1,5 +1,5 @@
 use Rattle.std.proofs.Common.{◌≡◌, ◌≤◌}
-use Rattle.cmb_bench.specs.Netlist.{driver_of}
+use Rattle.cmb_netlist.specs.Netlist.{driver_of}
 use Rattle.cmb_count.specs.Below.{count_below}
 use Rattle.cmb_count.specs.DriverKinds.{has_kind}
 use Rattle.cmb_count.proofs.drivers.count_drivers.Given as goal

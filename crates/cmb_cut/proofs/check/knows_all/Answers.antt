@@ -1,6 +1,6 @@
 use Rattle.std.proofs.Common.{ℕ, arith}
 use Rattle.std.specs.Prelude.{All}
-use Rattle.cmb_bench.specs.Netlist.{driver_of, pins_of}
+use Rattle.cmb_netlist.specs.Netlist.{driver_of, pins_of}
 use Rattle.cmb_cut.specs.Sharings.{Knows, ShareDrives}
 use Rattle.cmb_cut.proofs.ShareFacts.{share_drives_not, upto_more}
 use Rattle.cmb_cut.proofs.check.knows_all.Goals.{else-index-via-then-index+else-not-knows_asked, else-index-via-else-index}

@@ -1,6 +1,6 @@
 use Rattle.std.proofs.Common.{ℕ, ◌<◌}
 use Rattle.std.specs.Prelude.{All}
-use Rattle.cmb_bench.specs.Netlist.{driver_of, pins_of}
+use Rattle.cmb_netlist.specs.Netlist.{driver_of, pins_of}
 use Rattle.cmb_cut.specs.Sharings.{Knows, ShareDrives}
 use Rattle.cmb_cut.proofs.check.knows_all.Given as goal
 

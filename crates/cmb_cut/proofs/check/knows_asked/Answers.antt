@@ -1,6 +1,6 @@
 use Rattle.std.proofs.Common.{arith}
 use Rattle.cmb_cut.specs.Sharings.{Knows}
-use Rattle.cmb_bench.specs.Netlist.{driver_of, pins_of}
+use Rattle.cmb_netlist.specs.Netlist.{driver_of, pins_of}
 use Rattle.cmb_cut.proofs.ShareFacts.{all_more, all_taken}
 use Rattle.cmb_cut.proofs.check.knows_asked.Goals as goal
 

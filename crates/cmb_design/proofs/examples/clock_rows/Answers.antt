@@ -1,6 +1,6 @@
 use Rattle.std.proofs.Common.{refl}
 use Rattle.cmb_wave.specs.Waveform.{change_at, changes_in, changes_between}
-use Rattle.cmb_bench.specs.Netlist.{number_of}
+use Rattle.cmb_netlist.specs.Netlist.{number_of}
 use Rattle.cmb_design.specs.Timing.{delay_by, level_by, row_level, clock_of, last_sample}
 use Rattle.cmb_design.specs.Value.{level_within, value}
 use Rattle.cmb_design.proofs.examples.clock_rows.Goals as goal

@@ -1,5 +1,5 @@
 use Rattle.std.proofs.Common.{refl}
-use Rattle.cmb_bench.specs.Netlist.{number_of}
+use Rattle.cmb_netlist.specs.Netlist.{number_of}
 use Rattle.cmb_design.specs.Checks.{first_fault, checks_after}
 use Rattle.cmb_design.specs.Rows.{delayed_checks, delay_row_checks, stimulus_row_checks, clock_row_checks}
 use Rattle.cmb_design.specs.Settings.{any_below, setting_checks}

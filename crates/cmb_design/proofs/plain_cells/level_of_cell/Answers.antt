@@ -1,6 +1,6 @@
 use Rattle.std.proofs.Common.{◌≡◌, ◌∙◌, sym, ap, length}
-use Rattle.cmb_bench.specs.declared.netlist.Driver.TheVariants.{Input, Gate, Flop}
-use Rattle.cmb_bench.specs.Netlist.{IsWired, driver_of}
+use Rattle.cmb_netlist.specs.declared.netlist.Driver.TheVariants.{Input, Gate, Flop}
+use Rattle.cmb_netlist.specs.Netlist.{IsWired, driver_of}
 use Rattle.cmb_design.specs.Gate.{gate}
 use Rattle.cmb_design.specs.Value.{value, pin_levels}
 use Rattle.cmb_design.proofs.PlainFacts.{driver-wired, length-pin_levels}

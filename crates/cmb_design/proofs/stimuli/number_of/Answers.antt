@@ -1,7 +1,7 @@
 use Rattle.std.proofs.Common.{◌≡◌, ◌∙◌, ap, arith, sym}
 use Rattle.std.specs.Cmp.Lexicographic.{bytes_decides}
-use Rattle.cmb_bench.specs.Netlist.{number_of}
-use Rattle.cmb_bench.proofs.Names.{number-name_of}
+use Rattle.cmb_netlist.specs.Netlist.{number_of}
+use Rattle.cmb_netlist.proofs.Names.{number-name_of}
 use Rattle.cmb_design.proofs.stimuli.number_of.Goals as goal
 
 pub returns-then-eq-clause-value : goal.returns-then-eq-clause-value

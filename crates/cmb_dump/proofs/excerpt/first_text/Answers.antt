@@ -1,6 +1,6 @@
 use Rattle.std.proofs.Common.{ap, arith, length}
 use Rattle.std.proofs.lemmas.List.{length-map}
-use Rattle.cmb_bench.specs.Netlist.{name_of}
+use Rattle.cmb_netlist.specs.Netlist.{name_of}
 use Rattle.cmb_vcd.specs.Chosen.{chosen_from}
 use Rattle.cmb_dump.specs.Excerpts.{levels_at}
 use Rattle.cmb_dump.proofs.WindowFacts.{first_written}

@@ -2,8 +2,8 @@ use Rattle.std.proofs.Common.{◌≡◌, ℕ, ◌<◌, List, sym, subst, ap, ◌
 use Rattle.std.specs.Prelude.{All}
 use Rattle.std.specs.List.{AllZip}
 use Rattle.std.proofs.lemmas.Result.{on_ok_weaker}
-use Rattle.cmb_bench.specs.Netlist.{Netlist, driver_of}
-use Rattle.cmb_bench.specs.declared.netlist.Driver.TheVariants as driver
+use Rattle.cmb_netlist.specs.Netlist.{Netlist, driver_of}
+use Rattle.cmb_netlist.specs.declared.netlist.Driver.TheVariants as driver
 use Rattle.cmb_engine.specs.Inner.Cells.{Gate}
 use Rattle.cmb_engine.specs.Inner.Plans.{cell_as, pins_from, CellStandsFor, StandsFor}
 use Rattle.cmb_engine.specs.Inner.Roles.{role_of}

@@ -1,8 +1,8 @@
 use Rattle.std.proofs.Common.{◌≡◌, ℕ, ◌<◌, List, [], length, sym, subst, ap, ◌∙◌, arith}
 use Rattle.std.specs.Prelude.{All}
 use Rattle.std.proofs.lemmas.List.Elements.{All-push}
-use Rattle.cmb_bench.specs.Netlist.{Netlist, driver_of}
-use Rattle.cmb_bench.specs.declared.netlist.Driver.TheVariants as driver
+use Rattle.cmb_netlist.specs.Netlist.{Netlist, driver_of}
+use Rattle.cmb_netlist.specs.declared.netlist.Driver.TheVariants as driver
 use Rattle.cmb_engine.proofs.PlanFacts.{wired-flop, wired-gate}
 use Rattle.cmb_engine.proofs.sharing.give_pins.Goals as goal
 

@@ -9,7 +9,7 @@ use Rattle.cmb_loops.specs.declared.search.Frame.{Frame}
 use Rattle.cmb_loops.specs.declared.search.Search.{Search}
 use Rattle.cmb_loops.specs.declared.search.Seen.TheVariants.{Done}
 use Rattle.cmb_loops.specs.declared.steps.Steps.{Steps}
-use Rattle.cmb_bench.specs.Netlist.{Netlist}
+use Rattle.cmb_netlist.specs.Netlist.{Netlist}
 use Rattle.cmb_loops.proofs.NewFacts.{fewer_new, still_closed}
 use Rattle.cmb_loops.proofs.PathFacts.{finished, last_within, part_is, path_inside}
 use Rattle.cmb_loops.proofs.path.finish.Goals.{After-truncate}

@@ -1,6 +1,6 @@
 use Rattle.std.proofs.Common.{ℕ, List, sym, subst, ◌<◌, length}
 use Rattle.std.specs.Prelude.{All}
-use Rattle.cmb_bench.specs.declared.netlist.Driver.TheVariants.{Flop}
+use Rattle.cmb_netlist.specs.declared.netlist.Driver.TheVariants.{Flop}
 use Rattle.cmb_restrict.proofs.FoundFacts.{pins_below}
 use Rattle.cmb_restrict.proofs.closed.add_asked.Goals as goal
 

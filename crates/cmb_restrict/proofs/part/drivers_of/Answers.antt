@@ -1,6 +1,6 @@
 use Rattle.std.proofs.Common.{map, get_or, ap, ◌∙◌}
 use Rattle.std.proofs.lemmas.List.{take_all}
-use Rattle.cmb_bench.specs.Netlist.{driver_of}
+use Rattle.cmb_netlist.specs.Netlist.{driver_of}
 use Rattle.cmb_restrict.specs.Restriction.{with_nets}
 use Rattle.cmb_restrict.proofs.PartFacts.{map_step, pins_known}
 use Rattle.cmb_restrict.proofs.part.drivers_of.Goals as goal

@@ -1,5 +1,5 @@
 use Rattle.std.proofs.Common.{◌≡◌, map, take, get_or}
-use Rattle.cmb_bench.specs.Netlist.{driver_of}
+use Rattle.cmb_netlist.specs.Netlist.{driver_of}
 use Rattle.cmb_restrict.specs.Restriction.{with_nets}
 use Rattle.cmb_restrict.proofs.part.drivers_of.Given as goal
 

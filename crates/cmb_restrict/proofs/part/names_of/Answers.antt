@@ -1,6 +1,6 @@
 use Rattle.std.proofs.Common.{map, ap, ◌∙◌}
 use Rattle.std.proofs.lemmas.List.{take_all}
-use Rattle.cmb_bench.specs.Netlist.{name_of}
+use Rattle.cmb_netlist.specs.Netlist.{name_of}
 use Rattle.cmb_restrict.proofs.PartFacts.{names_more}
 use Rattle.cmb_restrict.proofs.part.names_of.Goals as goal
 

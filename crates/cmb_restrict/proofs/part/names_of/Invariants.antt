@@ -1,5 +1,5 @@
 use Rattle.std.proofs.Common.{◌≡◌, map, take}
-use Rattle.cmb_bench.specs.Netlist.{name_of}
+use Rattle.cmb_netlist.specs.Netlist.{name_of}
 use Rattle.cmb_restrict.proofs.part.names_of.Given as goal
 
 abbrev pub invariant-loop-net : goal.invariant-loop-net

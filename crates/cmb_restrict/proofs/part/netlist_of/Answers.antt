@@ -1,5 +1,5 @@
 use Rattle.std.proofs.Common.{sym, subst}
-use Rattle.cmb_bench.specs.Netlist.{Netlist, IsNetlist}
+use Rattle.cmb_netlist.specs.Netlist.{Netlist, IsNetlist}
 use Rattle.cmb_restrict.specs.Restriction.{IsPart}
 use Rattle.cmb_restrict.proofs.PartFacts.{nets_few, part_lawful, part_of}
 use Rattle.cmb_restrict.proofs.part.netlist_of.Goals as goal

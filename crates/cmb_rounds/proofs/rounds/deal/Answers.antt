@@ -1,6 +1,6 @@
 use Rattle.std.proofs.Common.{◌≡◌, ℕ, map, ap, arith, subst, ◌∙◌}
 use Rattle.cmb_wave.specs.Wave.{new_wave}
-use Rattle.cmb_bench.specs.Netlist.{IsNetlist}
+use Rattle.cmb_netlist.specs.Netlist.{IsNetlist}
 use Rattle.cmb_design.specs.Design.{Design}
 use Rattle.cmb_design.specs.Exact.{nets_of}
 use Rattle.cmb_core.specs.Clustering.{Clustering, IsClustering}

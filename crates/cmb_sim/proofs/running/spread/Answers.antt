@@ -1,5 +1,5 @@
 use Rattle.std.proofs.Common.{◌∙◌, ap, length}
-use Rattle.cmb_bench.specs.Netlist.{Netlist}
+use Rattle.cmb_netlist.specs.Netlist.{Netlist}
 use Rattle.cmb_sim.proofs.RoundRuns.{spread-stands}
 use Rattle.cmb_sim.proofs.running.spread.Goals as goal
 

@@ -1,5 +1,5 @@
 use Rattle.cmb_design.specs.Nets.{driver_cell}
-use Rattle.cmb_bench.specs.Netlist.{driver_of}
+use Rattle.cmb_netlist.specs.Netlist.{driver_of}
 use Rattle.cmb_design.specs.Timing.{delay_by, is_of_pin, is_of_net, is_of_kind}
 use Rattle.cmb_tables.proofs.BoundFacts.{delays_read, unbounded}
 use Rattle.cmb_tables.proofs.laws.read_delays_are_positive.Goals as goal

@@ -1,7 +1,7 @@
 use Rattle.std.proofs.Common.{refl}
 use Rattle.cmb_vcd.specs.Vcd.{code_within, code, reference, var_line, var_lines, header, tick_line, level_line, level_lines, change_lines, tick_text, ticks_text, part_text, vcd}
 use Rattle.std.specs.Fmt.{digits}
-use Rattle.cmb_bench.specs.Netlist.{number_of}
+use Rattle.cmb_netlist.specs.Netlist.{number_of}
 use Rattle.cmb_design.specs.Timing.{delay_by, level_by, row_level, clock_of, last_sample}
 use Rattle.cmb_design.specs.Value.{level_within, value}
 use Rattle.cmb_vcd.proofs.examples.toggle.Goals as goal

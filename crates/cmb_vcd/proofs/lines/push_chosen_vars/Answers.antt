@@ -1,6 +1,6 @@
 use Rattle.std.proofs.Common.{◌≤◌, ◌∙◌, [], sym, arith, length, map}
 use Rattle.std.proofs.lemmas.List.{get_or-map, length-map}
-use Rattle.cmb_bench.specs.Netlist.{name_of}
+use Rattle.cmb_netlist.specs.Netlist.{name_of}
 use Rattle.cmb_vcd.proofs.LineFacts.{vars-done, vars-more}
 use Rattle.cmb_vcd.proofs.lines.push_chosen_vars.Goals as goal
 

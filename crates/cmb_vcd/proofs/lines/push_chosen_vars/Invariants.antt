@@ -1,5 +1,5 @@
 use Rattle.std.proofs.Common.{◌≡◌, ◌++◌, drop, map}
-use Rattle.cmb_bench.specs.Netlist.{name_of}
+use Rattle.cmb_netlist.specs.Netlist.{name_of}
 use Rattle.cmb_vcd.specs.Vcd.{var_lines}
 use Rattle.cmb_vcd.proofs.lines.push_chosen_vars.Given as goal
 

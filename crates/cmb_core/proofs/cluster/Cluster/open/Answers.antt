@@ -3,7 +3,7 @@ use Rattle.std.specs.Prelude.{All}
 use Rattle.std.specs.List.{AllByRecursion}
 use Rattle.std.proofs.lemmas.List.Elements.{All-from_recursion}
 use Rattle.cmb_wave.specs.Wave.{Wave, new_wave}
-use Rattle.cmb_bench.specs.Netlist.{Netlist, IsNetlist}
+use Rattle.cmb_netlist.specs.Netlist.{Netlist, IsNetlist}
 use Rattle.cmb_design.specs.Exact.{nets_of, IsExactWaveIn}
 use Rattle.cmb_core.specs.Clusters.{IsSound, wave_nets}
 use Rattle.cmb_core.specs.Opened.{held_nets, AreProcessesOf}

@@ -1,11 +1,11 @@
 //! The words that are read without regard to case.
 ghost use Rattle.std.specs.Prelude.{◌≡◌};
-ghost use Rattle.cmb_bench.specs.Kinds.{is_word, cell_of, takes_one};
+ghost use Rattle.cmb_netlist.specs.Kinds.{is_word, cell_of, takes_one};
 
 use crate::netlist::{Cell, Kind};
 
 /// Whether a text is this word, in whichever case.
-pub(crate) fn is_word(text: &[u8], word: &[u8]) -> bool
+pub fn is_word(text: &[u8], word: &[u8]) -> bool
     ensures { result ≡ is_word text.now word.now }
 {
     text.eq_ignore_ascii_case(word)
@@ -41,7 +41,7 @@ pub fn cell_named(word: &[u8]) -> Option<Cell>
 }
 
 /// Whether a driver statement with this kind takes exactly one operand.
-pub(crate) fn takes_one(cell: Cell) -> bool
+pub fn takes_one(cell: Cell) -> bool
     ensures { result ≡ takes_one cell }
 {
     match cell {

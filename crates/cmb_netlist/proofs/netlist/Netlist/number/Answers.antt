@@ -1,8 +1,8 @@
 use Rattle.std.proofs.Common.{◌≡◌, ◌<◌, ◌≤◌, ℕ, List, ◌∙◌, ap, sym, subst, arith, length}
 use Rattle.std.specs.Prelude.{Option, Some, None, MatchOption}
-use Rattle.cmb_bench.specs.Netlist.{Netlist, number_of}
-use Rattle.cmb_bench.proofs.Names.{number_name}
-use Rattle.cmb_bench.proofs.netlist.Netlist.number.Goals as goal
+use Rattle.cmb_netlist.specs.Netlist.{Netlist, number_of}
+use Rattle.cmb_netlist.proofs.Names.{number_name}
+use Rattle.cmb_netlist.proofs.netlist.Netlist.number.Goals as goal
 
 bounded : (netlist : Netlist) (name : List ℕ) (r : Option ℕ) → r ≡ number_of netlist name → length netlist.names ≤ 65535 → MatchOption r (Unit {0}) (λ net. (net < length netlist.names) × (net < 65535))
 bounded netlist name None e h = tt

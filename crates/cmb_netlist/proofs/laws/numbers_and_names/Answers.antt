@@ -1,5 +1,5 @@
-use Rattle.cmb_bench.proofs.Names.{number-name_of, number_name}
-use Rattle.cmb_bench.proofs.laws.numbers_and_names.Goals as goal
+use Rattle.cmb_netlist.proofs.Names.{number-name_of, number_name}
+use Rattle.cmb_netlist.proofs.laws.numbers_and_names.Goals as goal
 
 pub returns : goal.returns
 returns c = record {

@@ -1,7 +1,7 @@
 use Rattle.std.proofs.Common.{◌∙◌, sym, arith}
 use Rattle.std.proofs.lemmas.List.{take_all}
 use Rattle.std.specs.Cmp.Lexicographic.{bytes_decides}
-use Rattle.cmb_bench.proofs.name.are_same.Goals as goal
+use Rattle.cmb_netlist.proofs.name.are_same.Goals as goal
 
 pub returns : goal.returns
 returns c =

@@ -2,10 +2,10 @@
 use Rattle.std.specs.Prelude.{◌≡◌, ℕ, ◌<◌, ◌≤◌, List, [], ◌∷◌, length, nat_eq, Option, position, slice_index_or, All}
 use Rattle.std.specs.List.{IsDistinct}
 use Rattle.std.specs.Str.{bytes_eq}
-use Rattle.cmb_bench.specs.declared.netlist.Kind.{Kind}
-use Rattle.cmb_bench.specs.declared.netlist.Kind.TheVariants.{Not, Buff}
-use Rattle.cmb_bench.specs.declared.netlist.Driver.{Driver}
-use Rattle.cmb_bench.specs.declared.netlist.Driver.TheVariants.{Input, Gate, Flop}
+use Rattle.cmb_netlist.specs.declared.netlist.Kind.{Kind}
+use Rattle.cmb_netlist.specs.declared.netlist.Kind.TheVariants.{Not, Buff}
+use Rattle.cmb_netlist.specs.declared.netlist.Driver.{Driver}
+use Rattle.cmb_netlist.specs.declared.netlist.Driver.TheVariants.{Input, Gate, Flop}
 
 pub record Netlist : Type 0 where
   pub names : List (List ℕ)

@@ -4,7 +4,7 @@ ghost use Rattle.std.specs.Prelude.{◌≡◌, bytes_eq, IfOk};
 ghost use Rattle.std.proofs.Common.{ap};
 ghost use Rattle.std.specs.Cmp.{on_equiv, on_per, partial_equiv_from_equiv};
 ghost use Rattle.std.specs.Cmp.Lexicographic.{bytes_decides, nat_list_eq_equiv};
-ghost use Rattle.cmb_bench.specs.Inner.Hashing.{fed_name};
+ghost use Rattle.cmb_netlist.specs.Inner.Hashing.{fed_name};
 
 use indexmap::Equivalent;
 use smallvec::SmallVec;
@@ -92,8 +92,9 @@ impl Hash for Name {
 
 /// A name as a text spells it, to look one up by.
 #[derive(Clone, Copy)]
-pub(crate) struct Spelled<'a> {
-    pub(crate) bytes: &'a [u8],
+pub struct Spelled<'a> {
+    /// Its bytes.
+    pub bytes: &'a [u8],
 }
 
 impl<'a> PartialEq for Spelled<'a> {

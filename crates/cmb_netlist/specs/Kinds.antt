@@ -1,9 +1,9 @@
 -- The words that are read without regard to case.
 use Rattle.std.specs.Prelude.{ℕ, List, [], ◌∷◌, Bool, true, false, Option, option_map, find, codes}
 use Rattle.std.specs.Str.{str_eq_ignore_ascii_case}
-use Rattle.cmb_bench.specs.declared.netlist.Kind.TheVariants.{And, Nand, Or, Nor, Xor, Xnor, Not, Buff}
-use Rattle.cmb_bench.specs.declared.netlist.Cell.{Cell}
-use Rattle.cmb_bench.specs.declared.netlist.Cell.TheVariants.{Gate, Flop}
+use Rattle.cmb_netlist.specs.declared.netlist.Kind.TheVariants.{And, Nand, Or, Nor, Xor, Xnor, Not, Buff}
+use Rattle.cmb_netlist.specs.declared.netlist.Cell.{Cell}
+use Rattle.cmb_netlist.specs.declared.netlist.Cell.TheVariants.{Gate, Flop}
 
 -- whether two texts are one, where an ASCII letter counts in either case as the same
 abbrev pub is_word : List ℕ → List ℕ → Bool

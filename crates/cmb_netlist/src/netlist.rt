@@ -30,7 +30,7 @@ pub enum Cell {
 }
 
 /// Numbers of nets. Up to four of them need no memory of their own.
-pub(crate) type Pins = SmallVec<u32, 4>;
+pub type Pins = SmallVec<u32, 4>;
 
 /// The nets on a gate's pins, in order.
 #[derive(Drop)]
@@ -48,7 +48,7 @@ impl Model for Operands {
 
 impl Operands {
     /// Operands by the numbers of their nets.
-    pub(crate) fn new(nets: Pins) -> Operands
+    pub fn new(nets: Pins) -> Operands
         ensures { result ≡ nets.items }
     {
         Operands { nets }
@@ -89,7 +89,7 @@ pub struct Netlist {
 }
 
 impl Model for Netlist {
-    ghost use Rattle.cmb_bench.specs.Netlist.{Netlist, IsNetlist};
+    ghost use Rattle.cmb_netlist.specs.Netlist.{Netlist, IsNetlist};
 
     ghost Value = { Netlist };
 
@@ -103,7 +103,7 @@ impl Model for Netlist {
 }
 
 impl Netlist {
-    ghost use Rattle.cmb_bench.specs.Netlist.{driver_of, name_of, number_of, IsNetlist};
+    ghost use Rattle.cmb_netlist.specs.Netlist.{driver_of, name_of, number_of, IsNetlist};
 
     /// A netlist of its parts: the nets' names and drivers, by number, and its outputs.
     pub fn new(names: IndexSet<Name>, drivers: Vec<Driver>, outputs: IndexSet<u32>) -> Netlist
