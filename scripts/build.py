@@ -34,7 +34,8 @@ def build(name, below, made):
     """Proves what has changed, and builds the program."""
     status = prove.prove(set(crates.all_below(name, below)), below)
     folder = f"{crates.TOP}/crates/{name}"
-    status = status or run(["rt", "run", "--jobs", str(len(os.sched_getaffinity(0))), "--", "--help"], folder)
+    # A program is little, and reads 4 GB of its libraries first: more jobs would be copies of a process that large.
+    status = status or run(["rt", "run", "--jobs", "1", "--", "--help"], folder)
     if status == 0:
         shutil.copy2(f"{folder}/out/{name}", made)
     return status

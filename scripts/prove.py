@@ -16,6 +16,8 @@ import crates
 # On so much of the longest chain a library counts as one of those that the time goes by, and the most jobs of a check.
 NEARLY = 0.94
 MOST_JOBS = 4
+# About how many seconds a library waits for a processor.
+WAIT = 20
 
 
 def build(room, name, below, jobs):
@@ -60,22 +62,24 @@ def seconds(wanted):
 
 
 def chains(wanted, below):
-    """By library, the seconds of the longest chain that begins with it, of libraries of which each stands on the one before."""
+    """By library, the seconds of the longest chain that begins with it, of libraries of which each stands on the one before and
+    waits a while for a processor."""
     behind, took = {name: 0 for name in wanted}, seconds(wanted)
     for name in reversed([it for it in below if it in wanted]):
-        behind[name] += took[name]
+        behind[name] += took[name] + WAIT
         for it in below[name]:
             behind[it] = max(behind[it], behind[name])
     return behind
 
 
-def jobs_for(ready, idle, lanes, behind, longest):
+def jobs_for(ready, idle, lanes, behind, longest, top):
     """How many jobs each of these libraries gets of those that are idle, by their order, as far as they go.
 
     A second job takes about a third more of the processors, and four take twice as much as one. So most get one. With
     more than two processors the time goes by the longest chain, and not by the work: so a library gets two on which
     nearly as long a chain stands as on any that isn't built yet, also where one processor alone is idle, since a check
-    keeps its jobs to its end. What is idle then goes to the first, up to four."""
+    keeps its jobs to its end. What is idle then goes to the first, up to four. The last of the longest chain, `top`, gets
+    as many whatever else runs: most of its time it reads, by one process."""
     jobs = {}
     for name in ready:
         if idle > 0:
@@ -86,7 +90,7 @@ def jobs_for(ready, idle, lanes, behind, longest):
             if idle > 0 and jobs[name] < MOST_JOBS:
                 jobs[name] += 1
                 idle -= 1
-    return jobs
+    return {name: min(MOST_JOBS, lanes) if name == top else it for name, it in jobs.items()}
 
 
 def prove(wanted, below):
@@ -94,13 +98,14 @@ def prove(wanted, below):
     os.makedirs(f"{crates.TOP}/out", exist_ok=True)
     behind, lanes = chains(wanted, below), len(os.sched_getaffinity(0))
     left, running, built = sorted(wanted, key=lambda it: -behind[it]), {}, set()
+    top = max(wanted - {low for it in wanted for low in below[it]}, key=behind.get, default=None)
     with tempfile.TemporaryDirectory(prefix="beside-", dir=f"{crates.TOP}/out") as rooms:
         with concurrent.futures.ThreadPoolExecutor(lanes) as pool:
             while left or running:
                 ready = [it for it in left if built.issuperset(below[it])]
                 idle = lanes - sum(jobs for _, jobs in running.values())
                 longest = max(behind[it] for it in [*left, *(name for name, _ in running.values())])
-                for name, jobs in jobs_for(ready, idle, lanes, behind, longest).items():
+                for name, jobs in jobs_for(ready, idle, lanes, behind, longest, top).items():
                     left.remove(name)
                     running[pool.submit(build, f"{rooms}/{name}", name, below, jobs)] = name, jobs
                 if not running:
