@@ -13,11 +13,9 @@ import time
 
 import crates
 
-# On so much of the longest chain a library counts as one of those that the time goes by, and the most jobs of a check.
-NEARLY = 0.94
-MOST_JOBS = 4
-# About how many seconds a library waits for a processor.
-WAIT = 20
+# The most jobs of a check, and about how many seconds a library waits for a processor once it could begin.
+MOST_JOBS = 3
+WAIT = 80
 
 
 def build(room, name, below, jobs):
@@ -72,25 +70,24 @@ def chains(wanted, below):
     return behind
 
 
-def jobs_for(ready, idle, lanes, behind, longest, top):
+def jobs_for(ready, idle, lanes, behind, longest):
     """How many jobs each of these libraries gets of those that are idle, by their order, as far as they go.
 
-    A second job takes about a third more of the processors, and four take twice as much as one. So most get one. With
-    more than two processors the time goes by the longest chain, and not by the work: so a library gets two on which
-    nearly as long a chain stands as on any that isn't built yet, also where one processor alone is idle, since a check
-    keeps its jobs to its end. What is idle then goes to the first, up to four. The last of the longest chain, `top`, gets
-    as many whatever else runs: most of its time it reads, by one process."""
+    A second job takes about two fifths more of the processors. So most get one. With more than two processors the time
+    goes by the longest chain too, and not by the work alone: so a library gets two on which as long a chain stands as on
+    any that isn't built yet, also where one processor alone is idle, since a check keeps its jobs to its end. What is
+    idle then goes to the first, up to three."""
     jobs = {}
     for name in ready:
         if idle > 0:
-            jobs[name] = 2 if lanes > 2 and behind[name] >= NEARLY * longest else 1
+            jobs[name] = 2 if lanes > 2 and behind[name] == longest else 1
             idle -= jobs[name]
     for _ in range(MOST_JOBS):
         for name in jobs:
             if idle > 0 and jobs[name] < MOST_JOBS:
                 jobs[name] += 1
                 idle -= 1
-    return {name: min(MOST_JOBS, lanes) if name == top else it for name, it in jobs.items()}
+    return jobs
 
 
 def prove(wanted, below):
@@ -98,14 +95,13 @@ def prove(wanted, below):
     os.makedirs(f"{crates.TOP}/out", exist_ok=True)
     behind, lanes = chains(wanted, below), len(os.sched_getaffinity(0))
     left, running, built = sorted(wanted, key=lambda it: -behind[it]), {}, set()
-    top = max(wanted - {low for it in wanted for low in below[it]}, key=behind.get, default=None)
     with tempfile.TemporaryDirectory(prefix="beside-", dir=f"{crates.TOP}/out") as rooms:
         with concurrent.futures.ThreadPoolExecutor(lanes) as pool:
             while left or running:
                 ready = [it for it in left if built.issuperset(below[it])]
                 idle = lanes - sum(jobs for _, jobs in running.values())
                 longest = max(behind[it] for it in [*left, *(name for name, _ in running.values())])
-                for name, jobs in jobs_for(ready, idle, lanes, behind, longest, top).items():
+                for name, jobs in jobs_for(ready, idle, lanes, behind, longest).items():
                     left.remove(name)
                     running[pool.submit(build, f"{rooms}/{name}", name, below, jobs)] = name, jobs
                 if not running:
