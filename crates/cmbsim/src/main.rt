@@ -15,6 +15,24 @@ use std::sync::Wait;
 use std::thread::Threads;
 use std::time::Instant;
 
+// What a run took is told where it was done, else the fault in words, each where the line asks for it.
+fn told_at_end(
+    rt: &HostRuntime,
+    given: &Given<'_>,
+    done: Result<Done, Fault>,
+    times: &Times,
+) -> Result<Done, Told> {
+    match done {
+        Ok(done) => {
+            if let Some(text) = stats_of(rt, given.line, &done, times) {
+                let _ = rt.stderr().write_all(text.as_bytes());
+            }
+            Ok(done)
+        }
+        Err(fault) => Err(told_of(rt, given, fault)),
+    }
+}
+
 // Opens the tables, and hands all over to what the line asks for. Only `main` may lend the runtime as one that starts
 // threads, so it comes once more as that.
 fn do_line<R: AllocGlobal + Threads + Wait + Sync>(
@@ -57,21 +75,13 @@ fn do_line<R: AllocGlobal + Threads + Wait + Sync>(
         clocks: clocks.source.given(),
         list: list.given(),
     };
-    match done {
-        Ok(done) => {
-            let times = Times {
-                began,
-                read: clocks.read,
-                tally: out.watch.tally,
-                writing: out.watch.writing,
-            };
-            if let Some(text) = stats_of(rt, line, &done, &times) {
-                let _ = rt.stderr().write_all(text.as_bytes());
-            }
-            Ok(done)
-        }
-        Err(fault) => Err(told_of(rt, &given, fault)),
-    }
+    let times = Times {
+        began,
+        read: clocks.read,
+        tally: out.watch.tally,
+        writing: out.watch.writing,
+    };
+    told_at_end(rt, &given, done, &times)
 }
 
 fn main(rt: HostRuntime) -> ExitCode {
