@@ -49,10 +49,13 @@ class Module:
         return [(self.name, it) for it in words if it in self.defined] + [self.taken[it] for it in words if it in self.taken and it not in self.defined]
 
 
-def believed():
-    """By file the definitions that the root stands on."""
-    modules = {it.name: it for it in map(Module, glob.glob(FILES, recursive=True))}
-    left = [(it.name, ROOT) for it in modules.values() if ROOT in it.defined]
+def all_modules():
+    """The files of definitions of all crates, by the names of their modules."""
+    return {it.name: it for it in map(Module, glob.glob(FILES, recursive=True))}
+
+
+def stood_on(modules, left):
+    """All definitions on which these stand, themselves among them: each by its module and its name."""
     found = set()
     while left:
         at = left.pop()
@@ -60,8 +63,13 @@ def believed():
             continue
         found.add(at)
         left += modules[at[0]].cited(at[1])
-    files = {}
-    for module, name in found:
+    return found
+
+
+def believed():
+    """By file the definitions that the root stands on."""
+    modules, files = all_modules(), {}
+    for module, name in stood_on(modules, [(it.name, ROOT) for it in modules.values() if ROOT in it.defined]):
         files.setdefault(modules[module].path, []).append(name)
     return files
 

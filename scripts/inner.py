@@ -73,18 +73,6 @@ def cited_in_public(path):
     return {taken[it] for it in WORD.findall(told) if it in taken}
 
 
-def stood_on(modules, left):
-    """All definitions on which these stand, themselves among them."""
-    found = set()
-    while left:
-        at = left.pop()
-        if at in found or at[0] not in modules or at[1] not in modules[at[0]].defined:
-            continue
-        found.add(at)
-        left += modules[at[0]].cited(at[1])
-    return found
-
-
 def cited_outside(modules):
     """The modules that a file of another crate cites, be it code, a definition or a proof."""
     found = set()
@@ -112,9 +100,9 @@ def faults(modules, public, outside):
 
 
 def main():
-    modules = {it.name: it for it in map(believed.Module, glob.glob(believed.FILES, recursive=True))}
+    modules = believed.all_modules()
     roots = set().union(*map(cited_in_public, glob.glob(f"{FOLDER}/cmb_*/src/**/*.rt", recursive=True)))
-    public = {module for module, _ in stood_on(modules, list(roots))}
+    public = {module for module, _ in believed.stood_on(modules, list(roots))}
     found = list(faults(modules, public, cited_outside(modules)))
     wrong = [(path, what) for path, what in sorted(found) if what]
     for path, what in wrong:

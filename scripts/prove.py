@@ -1,8 +1,8 @@
 #!/usr/bin/env python3
 """prove.py NAME: proves and builds the libraries that a crate of the repository stands on, as far as they aren't built
 yet. Each begins once those below it are built, in a copy of the repository; first those on which the longest chain of
-others stands, by the seconds in seconds.txt. All checks together have about as many jobs as processors (`jobs_for`). What the toolchain says goes
-to standard error."""
+others stands, by the seconds in seconds.txt. All checks together have about as many jobs as processors (`jobs_for`). What
+the toolchain says goes to standard error."""
 import concurrent.futures
 import os
 import shutil
