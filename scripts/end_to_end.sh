@@ -128,17 +128,24 @@ refused missing_file 1 run --horizon 10 --stimuli missing.csv
 refused netlist_as_a_table 1 run --horizon 10 --delays inverter.netlist.csv
 data+=(--data "inverter.netlist.csv=$examples/inverter/netlist.bench")
 
-(cd crates/cmbsim && rt try --cases "$cases" "${data[@]}") >"$report" 2>&1
+# The cases take one processor for about as long as all the rest.
+(cd crates/cmbsim && rt try --cases "$cases" "${data[@]}") >"$report" 2>&1 &
+tried=$!
 passed=0
 failed=0
-for name in "${!statuses[@]}"; do
-    if grep -q "^case=$name run=ended status=${statuses[$name]} .*output=expected" "$report"; then
-        passed=$((passed + 1))
-    else
-        failed=$((failed + 1))
-        echo "end to end: $name FAILED: $(grep "^case=$name " "$report")"
-    fi
-done
+
+tried_cases() { # each case ended as it should
+    local name
+    wait "$tried"
+    for name in "${!statuses[@]}"; do
+        if grep -q "^case=$name run=ended status=${statuses[$name]} .*output=expected" "$report"; then
+            passed=$((passed + 1))
+        else
+            failed=$((failed + 1))
+            echo "end to end: $name FAILED: $(grep "^case=$name " "$report")"
+        fi
+    done
+}
 
 real() { # real NAME WORDS..: the levels that are read off at the end are those of expected.txt
     local name=$1 names=() levels=() net level
@@ -436,5 +443,6 @@ shared_out "600 LFSRs of 16" 12000
 shared_out "clocked, local" 9000
 # It has no flip-flops, so its nets aren't shared out: with four threads one has the engine, and two make its 45 MB of text.
 shared_out "multiplier 104" 5024
+tried_cases
 echo "$passed passed, $failed failed"
 [ "$failed" = 0 ]

@@ -97,37 +97,3 @@ impl Calendar {
         put_in_order(taken)
     }
 }
-
-#[cfg(test)]
-mod tests {
-    use crate::{Calendar, Tell};
-    use cmb_wave::Level;
-    use std::test::Fail;
-
-    fn tell(tick: u32, slot: u32, level: Level) -> Tell {
-        Tell { tick, slot, level }
-    }
-
-    // Days of ten ticks up to tick 25. What days 0 and 1 have comes by rising ticks; the tell at tick 25 is gone.
-    #[test]
-    fn days_come_in_order(rt: HostRuntime) -> Result<(), Fail> {
-        let early = tell(1, 2, Level::X);
-        let next = tell(9, 1, Level::Zero);
-        let late = tell(12, 0, Level::One);
-        let outside = tell(25, 0, Level::Zero);
-        let mut calendar = Calendar::open(rt.alloc(), 10, 25)?;
-        for tell in [late, next, outside, early] {
-            calendar.note(tell)?;
-        }
-        assert_eq!(rt; calendar.next_day(), 10);
-        let mut taken = Vec::new(rt.alloc());
-        calendar.take(&mut taken)?;
-        assert_eq!(rt; taken.as_slice(), [early, next].as_slice());
-        calendar.take(&mut taken)?;
-        assert_eq!(rt; taken.as_slice(), [late].as_slice());
-        assert_eq!(rt; calendar.next_day(), 25);
-        calendar.take(&mut taken)?;
-        assert_eq!(rt; taken.as_slice(), [].as_slice());
-        Ok(())
-    }
-}

@@ -6,8 +6,8 @@ ghost use Rattle.cmb_design.specs.Exact.{nets_of};
 use crate::trouble::Trouble;
 use cmb_bench::read_bench;
 use cmb_core::Clustering;
-use cmb_design::{Design, DesignFault, Settings, plain_waves};
-use cmb_netlist::{MAX_TEXT, Netlist};
+use cmb_design::{Design, Settings, plain_waves};
+use cmb_netlist::MAX_TEXT;
 use cmb_tables::{read_clocks, read_delays, read_stimuli};
 use cmb_wave::{Change, Level, Piece, Promise, Wave};
 use std::alloc::Global;
@@ -31,25 +31,22 @@ fn settings(horizon: u32) -> Settings {
     }
 }
 
-/// The design of a netlist without rows.
-fn design_of(alloc: Global, netlist: Netlist, horizon: u32) -> Result<Design, DesignFault> {
-    let delays = read_delays(alloc, b"")?;
-    let stimuli = read_stimuli(alloc, b"")?;
-    let clocks = read_clocks(alloc, b"")?;
-    Design::new(alloc, netlist, delays, stimuli, clocks, settings(horizon))
+/// The design of a netlist's text without rows, if it is one.
+fn design_of(alloc: Global, netlist: &[u8], horizon: u32) -> Option<Design>
+    requires { length netlist.now ≤ MAX_TEXT }
+{
+    let delays = read_delays(alloc, b"").ok()?;
+    let stimuli = read_stimuli(alloc, b"").ok()?;
+    let clocks = read_clocks(alloc, b"").ok()?;
+    let netlist = read_bench(alloc, netlist).ok()?;
+    Design::new(alloc, netlist, delays, stimuli, clocks, settings(horizon)).ok()
 }
 
-/// The design of a netlist's text, without rows.
+/// The same, or the trouble that it is none.
 fn read_design(alloc: Global, netlist: &[u8], horizon: u32) -> Result<Design, Trouble>
     requires { length netlist.now ≤ MAX_TEXT }
 {
-    let Ok(netlist) = read_bench(alloc, netlist) else {
-        return Err(Trouble::Circuit);
-    };
-    match design_of(alloc, netlist, horizon) {
-        Ok(design) => Ok(design),
-        Err(_) => Err(Trouble::Circuit),
-    }
+    design_of(alloc, netlist, horizon).ok_or(Trouble::Circuit)
 }
 
 /// A clustering of the design. `clusters` has the cluster of each net.

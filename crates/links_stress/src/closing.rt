@@ -183,6 +183,43 @@ fn check_links(
     Err(Trouble::Left)
 }
 
+// What the closed board and links answer.
+#[derive(Drop)]
+struct Closed {
+    end: Ending,
+    there: Vec<Piece>,
+    back: Vec<Piece>,
+}
+
+// The answers together, where none is a trouble.
+fn closed(
+    end: Result<Ending, Trouble>,
+    there: Result<Vec<Piece>, Trouble>,
+    back: Result<Vec<Piece>, Trouble>,
+) -> Result<Closed, Trouble> {
+    Ok(Closed {
+        end: end?,
+        there: there?,
+        back: back?,
+    })
+}
+
+// What all that is closed has to tell.
+fn check_all(
+    circuit: &Circuit,
+    closed: &Closed,
+    notes: (&Notes, &Notes, &Notes),
+    sent: (&[u32], &[u32]),
+    came: (&[u32], &[u32]),
+) -> Result<(), Trouble> {
+    let (first, second, found) = notes;
+    if !are_all_known(first, second, found) {
+        return Err(Trouble::Unknown);
+    }
+    check_board(&closed.end, first, second, found)?;
+    check_links(circuit, &closed.there, &closed.back, sent, came)
+}
+
 /// Closes the board and the links of a run, and compares what they answer with what its threads noted.
 pub fn close_all<R: Wait>(
     rt: &R,
@@ -203,18 +240,14 @@ pub fn close_all<R: Wait>(
         last,
         found,
     } = rest;
-    let end = close_board(alloc, board, first.seat, second.seat, last)?;
-    let there = close_link(rt, alloc, there, first.put, second.take, capacity)?;
-    let back = close_link(rt, alloc, back, second.put, first.take, capacity)?;
-    if !are_all_known(&first.notes, &second.notes, &found) {
-        return Err(Trouble::Unknown);
+    let end = close_board(alloc, board, first.seat, second.seat, last);
+    let there = close_link(rt, alloc, there, first.put, second.take, capacity);
+    let back = close_link(rt, alloc, back, second.put, first.take, capacity);
+    let notes = (&first.notes, &second.notes, &found);
+    let sent = (first.sent.as_slice(), second.sent.as_slice());
+    let came = (first.came.as_slice(), second.came.as_slice());
+    match closed(end, there, back) {
+        Ok(closed) => check_all(circuit, &closed, notes, sent, came),
+        Err(trouble) => Err(trouble),
     }
-    check_board(&end, &first.notes, &second.notes, &found)?;
-    check_links(
-        circuit,
-        &there,
-        &back,
-        (&first.sent, &second.sent),
-        (&first.came, &second.came),
-    )
 }

@@ -98,10 +98,10 @@ fn design_of(alloc: Global, circuit: Circuit, horizon: u32) -> Option<Design> {
     if circuit.netlist.len() > LIMIT || circuit.stimuli.len() > LIMIT {
         return None;
     }
-    let netlist = read_bench(alloc, circuit.netlist.as_bytes()).ok()?;
     let delays = read_delays(alloc, b"").ok()?;
     let stimuli = read_stimuli(alloc, circuit.stimuli.as_bytes()).ok()?;
     let clocks = read_clocks(alloc, b"").ok()?;
+    let netlist = read_bench(alloc, circuit.netlist.as_bytes()).ok()?;
     let settings = Settings {
         horizon,
         clock: None,

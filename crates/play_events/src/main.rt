@@ -159,10 +159,10 @@ fn design_of(alloc: Global, case: Case<'_>) -> Option<Design> {
     if case.bench.len() > LIMIT || case.delays.len() > LIMIT || case.stimuli.len() > LIMIT {
         return None;
     }
-    let netlist = read_bench(alloc, case.bench.as_bytes()).ok()?;
     let delays = read_delays(alloc, case.delays.as_bytes()).ok()?;
     let stimuli = read_stimuli(alloc, case.stimuli.as_bytes()).ok()?;
     let clocks = read_clocks(alloc, b"").ok()?;
+    let netlist = read_bench(alloc, case.bench.as_bytes()).ok()?;
     Design::new(
         alloc,
         netlist,

@@ -1,15 +1,29 @@
 //! The worked examples of clusters. Their values follow by hand from the netlists, delays and stimuli.
 
+use crate::checks::{holds, same};
 use crate::toggle::{D, Q, TOGGLE, at, pair, pulse};
 use cmb_core::{Cluster, Clustering, ClusteringFault, DeliverFault};
-use cmb_design::Settings;
+use cmb_design::{Design, Settings};
 use cmb_wave::{Change, Heard, Level, Piece, Promise, Wave};
 use std::alloc::Global;
 use std::process::Abort;
 use std::test::Fail;
-use worked_inputs::{Inputs, bare, design_of, sampled, spread};
+use worked_inputs::{Inputs, bare, design_of, or_fail, sampled, spread};
 
-// The cluster with this number, where the nets of a design of these texts are spread over so many.
+// The cluster with this number, where the design's nets are spread over so many.
+fn cluster_in(
+    rt: &impl Abort,
+    alloc: Global,
+    design: &Design,
+    clusters: u32,
+    cluster: u32,
+) -> Result<Cluster, Fail> {
+    let clustering = spread(alloc, design, clusters)?;
+    holds(rt, cluster < clustering.clusters());
+    or_fail(Cluster::open(alloc, design, &clustering, cluster))
+}
+
+// The same of a design of these texts.
 fn cluster_of(
     rt: &impl Abort,
     alloc: Global,
@@ -19,9 +33,7 @@ fn cluster_of(
     cluster: u32,
 ) -> Result<Cluster, Fail> {
     let design = design_of(alloc, texts, settings)?;
-    let clustering = spread(alloc, &design, clusters)?;
-    assert!(rt; cluster < clustering.clusters());
-    Ok(Cluster::open(alloc, &design, &clustering, cluster)?)
+    cluster_in(rt, alloc, &design, clusters, cluster)
 }
 
 /// Of the toggle, whose flip-flop samples at ticks 2, 6 and 10.
@@ -60,9 +72,9 @@ pub fn is_piece(rt: &impl Abort, part: Option<Piece>, from: u32, to: u32, change
     let Some(piece) = part else {
         panic!(rt; "no part");
     };
-    assert_eq!(rt; piece.from(), from);
-    assert_eq!(rt; piece.to(), to);
-    assert!(rt; piece.changes() == changes);
+    same(rt, piece.from(), from);
+    same(rt, piece.to(), to);
+    holds(rt, piece.changes() == changes);
 }
 
 fn delivers(
@@ -71,11 +83,11 @@ fn delivers(
     piece: &Piece,
     answer: Result<u32, DeliverFault>,
 ) {
-    assert_eq!(rt; cluster.deliver(piece), answer);
+    same(rt, cluster.deliver(piece), answer);
 }
 
 fn hears(rt: &impl Abort, cluster: &mut Cluster, promise: Promise, answer: Heard) {
-    assert_eq!(rt; cluster.hear(promise), Ok(answer));
+    same(rt, cluster.hear(promise), Ok(answer));
 }
 
 // What a cluster posts of a net that it drives.
@@ -83,14 +95,14 @@ fn post(rt: &impl Abort, cluster: &Cluster, net: u32, from: u32) -> Result<Piece
     let Some(clock) = cluster.out_clock(net) else {
         panic!(rt; "a net that is driven elsewhere");
     };
-    assert!(rt; from <= clock);
+    holds(rt, from <= clock);
     let piece = cluster.post(net, from)?.ok_or("no piece")?;
     Ok(piece)
 }
 
 // What a cluster promises of a net that it drives.
 fn promise(rt: &impl Abort, cluster: &Cluster, net: u32) -> Promise {
-    assert!(rt; cluster.out_clock(net).is_some());
+    holds(rt, cluster.out_clock(net).is_some());
     cluster.promise(net)
 }
 
@@ -143,7 +155,7 @@ fn loop_steps(rt: &impl Abort, all: &mut Cluster) -> Result<(), Fail> {
     is_piece(rt, stepped(all, 0)?, 1, 2, &[]);
     is_piece(rt, stepped(all, 0)?, 2, 3, &[]);
     is_piece(rt, stepped(all, 0)?, 3, 4, &[]);
-    assert!(rt; stepped(all, 0)?.is_none());
+    holds(rt, stepped(all, 0)?.is_none());
     Ok(())
 }
 
@@ -156,15 +168,15 @@ fn steps_of_a_loop(rt: HostRuntime) -> Result<(), Fail> {
 }
 
 fn rounds(rt: &impl Abort, all: &mut Cluster) -> Result<(), Fail> {
-    assert!(rt; all_stepped(all)?);
-    assert_eq!(rt; clocks(all), (Some(3), Some(4)));
-    assert!(rt; all_stepped(all)?);
-    assert_eq!(rt; clocks(all), (Some(7), Some(8)));
-    assert!(rt; all_stepped(all)?);
-    assert_eq!(rt; clocks(all), (Some(11), Some(12)));
-    assert!(rt; all_stepped(all)?);
-    assert_eq!(rt; clocks(all), (Some(12), Some(12)));
-    assert!(rt; !all_stepped(all)?);
+    holds(rt, all_stepped(all)?);
+    same(rt, clocks(all), (Some(3), Some(4)));
+    holds(rt, all_stepped(all)?);
+    same(rt, clocks(all), (Some(7), Some(8)));
+    holds(rt, all_stepped(all)?);
+    same(rt, clocks(all), (Some(11), Some(12)));
+    holds(rt, all_stepped(all)?);
+    same(rt, clocks(all), (Some(12), Some(12)));
+    holds(rt, !all_stepped(all)?);
     Ok(())
 }
 
@@ -181,9 +193,9 @@ fn goes_to(
     after: (Option<u32>, Option<u32>),
     more: bool,
 ) -> Result<(), Fail> {
-    assert!(rt; all_stepped(cluster)?);
-    assert_eq!(rt; clocks(cluster), after);
-    assert_eq!(rt; all_stepped(cluster)?, more);
+    holds(rt, all_stepped(cluster)?);
+    same(rt, clocks(cluster), after);
+    same(rt, all_stepped(cluster)?, more);
     Ok(())
 }
 
@@ -195,14 +207,14 @@ fn loop_of_one_cluster(rt: HostRuntime) -> Result<(), Fail> {
 }
 
 fn is_wave(rt: &impl Abort, wave: &Wave, net: u32, changes: &[Change]) {
-    assert_eq!(rt; wave.net(), net);
-    assert_eq!(rt; wave.clock(), 12);
-    assert!(rt; wave.changes() == changes);
+    same(rt, wave.net(), net);
+    same(rt, wave.clock(), 12);
+    holds(rt, wave.changes() == changes);
 }
 
 // q shows at ticks 3, 7 and 11 what d was at 2, 6 and 10, and d is the inverse of q a tick before.
 fn are_toggling(rt: &impl Abort, waves: &[Wave]) {
-    assert_eq!(rt; waves.len(), 2);
+    holds(rt, waves.len() == 2);
     let q = [
         at(0, Level::Zero),
         at(3, Level::One),
@@ -258,7 +270,7 @@ fn trim_steps(rt: &impl Abort, alloc: Global, second: &mut Cluster) -> Result<()
     let first = pulse(alloc, Q, 0, 3, at(0, Level::Zero))?;
     delivers(rt, second, &first, Ok(3));
     is_piece(rt, stepped(second, 1)?, 0, 4, &[at(1, Level::One)]);
-    assert_eq!(rt; trimmed(second, 0), (Some(3), Some(3)));
+    same(rt, trimmed(second, 0), (Some(3), Some(3)));
     let next = pair(alloc, Q, 7, at(0, Level::Zero), at(3, Level::One))?;
     delivers(rt, second, &next, Ok(7));
     is_piece(rt, stepped(second, 1)?, 4, 8, &[at(4, Level::Zero)]);
@@ -303,7 +315,7 @@ fn row_steps(
 fn overtakes(rt: &impl Abort, flop: &Cluster, gate: &mut Cluster) -> Result<(), Fail> {
     let late = post(rt, flop, 1, 3)?;
     let told = promise(rt, flop, 1);
-    assert_eq!(rt; (told.net, told.count, told.upto), (1, 1, 12));
+    same(rt, (told.net, told.count, told.upto), (1, 1, 12));
     hears(rt, gate, told, Heard::Extended);
     delivers(rt, gate, &late, Err(DeliverFault::Old { clock: 12 }));
     Ok(())
@@ -333,16 +345,16 @@ fn promise_overtakes(rt: HostRuntime) -> Result<(), Fail> {
 fn refused_clusterings(rt: HostRuntime) -> Result<(), Fail> {
     let alloc = rt.alloc();
     let none = Clustering::new(2, 0, vec![in alloc; 0u32, 0]?).err();
-    assert_eq!(&rt; none, Some(ClusteringFault::Clusters));
+    same(&rt, none, Some(ClusteringFault::Clusters));
     let many = Clustering::new(2, 65, vec![in alloc; 0u32, 0]?).err();
-    assert_eq!(&rt; many, Some(ClusteringFault::Clusters));
+    same(&rt, many, Some(ClusteringFault::Clusters));
     let beyond = Clustering::new(2, 2, vec![in alloc; 0u32, 2]?).err();
-    assert_eq!(&rt; beyond, Some(ClusteringFault::Assign));
+    same(&rt, beyond, Some(ClusteringFault::Assign));
     let short = Clustering::new(2, 2, vec![in alloc; 0u32]?).err();
-    assert_eq!(&rt; short, Some(ClusteringFault::Assign));
+    same(&rt, short, Some(ClusteringFault::Assign));
     let spread = Clustering::spread(alloc, 2, 65).err();
-    assert_eq!(&rt; spread, Some(ClusteringFault::Clusters));
-    assert_eq!(&rt; ClusteringFault::Clusters.number(), 40);
-    assert_eq!(&rt; ClusteringFault::Assign.number(), 41);
+    same(&rt, spread, Some(ClusteringFault::Clusters));
+    same(&rt, ClusteringFault::Clusters.number(), 40);
+    same(&rt, ClusteringFault::Assign.number(), 41);
     Ok(())
 }

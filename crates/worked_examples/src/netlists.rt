@@ -2,6 +2,7 @@
 
 ghost use Rattle.std.specs.Prelude.{◌<◌, ◌≤◌, length};
 
+use crate::checks::holds;
 use cmb_bench::read_bench;
 use cmb_netlist::{Cell, Driver, Kind, MAX_TEXT, Netlist, cell_named};
 use std::alloc::{AllocError, Global};
@@ -34,55 +35,67 @@ fn spelling(rt: HostRuntime) {
         rt.alloc(),
         b"INPUT(a)\r\ninput(b) # caf\xe9\r\nOUTPUT(y)\r\nOUTPUT(y)\r\ny = nand(a,\r\n b)\r\nz = BUF(y)\r\n",
     );
-    assert!(&rt; netlist.len() == 4);
-    assert!(&rt; !netlist.is_empty());
-    assert!(&rt; netlist.outputs() == [2].as_slice());
-    assert!(&rt; has_name(&netlist, 0, b"a"));
-    assert!(&rt; has_name(&netlist, 1, b"b"));
-    assert!(&rt; has_name(&netlist, 2, b"y"));
-    assert!(&rt; has_name(&netlist, 3, b"z"));
-    assert!(&rt; netlist.number(b"z") == Some(3));
-    assert!(&rt; netlist.number(b"Z") == None);
-    assert!(&rt; has_input(&netlist, 0));
-    assert!(&rt; has_gate(&netlist, 2, Kind::Nand, &[0, 1]));
-    assert!(&rt; has_gate(&netlist, 3, Kind::Buff, &[2]));
+    holds(&rt, netlist.len() == 4);
+    holds(&rt, !netlist.is_empty());
+    holds(&rt, netlist.outputs() == [2].as_slice());
+    holds(&rt, has_name(&netlist, 0, b"a"));
+    holds(&rt, has_name(&netlist, 1, b"b"));
+    holds(&rt, has_name(&netlist, 2, b"y"));
+    holds(&rt, has_name(&netlist, 3, b"z"));
+    holds(&rt, netlist.number(b"z") == Some(3));
+    holds(&rt, netlist.number(b"Z") == None);
+    holds(&rt, has_input(&netlist, 0));
+    holds(&rt, has_gate(&netlist, 2, Kind::Nand, &[0, 1]));
+    holds(&rt, has_gate(&netlist, 3, Kind::Buff, &[2]));
 }
 
 #[test]
 fn flip_flops(rt: HostRuntime) {
     let netlist = netlist_of(&rt, rt.alloc(), b"q = DFF(d)\nd = NOT(q)\n");
-    assert!(&rt; netlist.len() == 2);
-    assert!(&rt; matches!(netlist.driver(0), Driver::Flop(1)));
-    assert!(&rt; has_gate(&netlist, 1, Kind::Not, &[0]));
+    holds(&rt, netlist.len() == 2);
+    holds(&rt, matches!(netlist.driver(0), Driver::Flop(1)));
+    holds(&rt, has_gate(&netlist, 1, Kind::Not, &[0]));
 }
 
 #[test]
 fn kind_words(rt: HostRuntime) {
-    assert!(&rt; cell_named(&b"XNOR"[..]) == Some(Cell::Gate(Kind::Xnor)));
-    assert!(&rt; cell_named(&b"buf"[..]) == Some(Cell::Gate(Kind::Buff)));
-    assert!(&rt; cell_named(&b"Buff"[..]) == Some(Cell::Gate(Kind::Buff)));
-    assert!(&rt; cell_named(&b"dFF"[..]) == Some(Cell::Flop));
-    assert!(&rt; cell_named(&b"INPUT"[..]) == None);
-    assert!(&rt; cell_named(&b""[..]) == None);
+    holds(
+        &rt,
+        cell_named(&b"XNOR"[..]) == Some(Cell::Gate(Kind::Xnor)),
+    );
+    holds(&rt, cell_named(&b"buf"[..]) == Some(Cell::Gate(Kind::Buff)));
+    holds(
+        &rt,
+        cell_named(&b"Buff"[..]) == Some(Cell::Gate(Kind::Buff)),
+    );
+    holds(&rt, cell_named(&b"dFF"[..]) == Some(Cell::Flop));
+    holds(&rt, cell_named(&b"INPUT"[..]) == None);
+    holds(&rt, cell_named(&b""[..]) == None);
 }
 
 #[test]
 fn cut_short(rt: HostRuntime) {
-    assert!(&rt; outcome(rt.alloc(), b"INPUT(a)\ny = AND(a") == (2, 2));
+    holds(&rt, outcome(rt.alloc(), b"INPUT(a)\ny = AND(a") == (2, 2));
 }
 
 #[test]
 fn driven_twice(rt: HostRuntime) {
-    assert!(&rt; outcome(rt.alloc(), b"INPUT(a)\na = NOT(a)\n") == (5, 2));
+    holds(
+        &rt,
+        outcome(rt.alloc(), b"INPUT(a)\na = NOT(a)\n") == (5, 2),
+    );
     let netlist = netlist_of(&rt, rt.alloc(), b"n = NOT(n)\n");
-    assert!(&rt; netlist.len() == 1);
-    assert!(&rt; has_gate(&netlist, 0, Kind::Not, &[0]));
+    holds(&rt, netlist.len() == 1);
+    holds(&rt, has_gate(&netlist, 0, Kind::Not, &[0]));
 }
 
 #[test]
 fn unknown_kind(rt: HostRuntime) {
-    assert!(&rt; outcome(rt.alloc(), b"OUTPUT(z)\nINPUT(a)\nb = FOO(a)\n") == (3, 3));
-    assert!(&rt; outcome(rt.alloc(), b"OUTPUT(z)\nINPUT(a)\n") == (6, 1));
+    holds(
+        &rt,
+        outcome(rt.alloc(), b"OUTPUT(z)\nINPUT(a)\nb = FOO(a)\n") == (3, 3),
+    );
+    holds(&rt, outcome(rt.alloc(), b"OUTPUT(z)\nINPUT(a)\n") == (6, 1));
 }
 
 // An input statement of a net whose name has so many bytes.
@@ -99,19 +112,19 @@ fn long_input(alloc: Global, bytes: usize) -> Result<Vec<u8>, AllocError> {
 #[test]
 fn names_and_operands(rt: HostRuntime) -> Result<(), AllocError> {
     let text = long_input(rt.alloc(), 255)?;
-    assert!(&rt; text.len() == 262);
-    assert!(&rt; outcome(rt.alloc(), &text) == (0, 0));
+    holds(&rt, text.len() == 262);
+    holds(&rt, outcome(rt.alloc(), &text) == (0, 0));
     let text = long_input(rt.alloc(), 256)?;
-    assert!(&rt; text.len() == 263);
-    assert!(&rt; outcome(rt.alloc(), &text) == (8, 1));
-    assert!(&rt; outcome(rt.alloc(), b"y = NOT(a, b)") == (4, 1));
-    assert!(&rt; outcome(rt.alloc(), b"y = AND()") == (2, 1));
-    assert!(&rt; outcome(rt.alloc(), b"FOO(a)") == (2, 1));
-    assert!(&rt; outcome(rt.alloc(), b"\xe9") == (1, 1));
+    holds(&rt, text.len() == 263);
+    holds(&rt, outcome(rt.alloc(), &text) == (8, 1));
+    holds(&rt, outcome(rt.alloc(), b"y = NOT(a, b)") == (4, 1));
+    holds(&rt, outcome(rt.alloc(), b"y = AND()") == (2, 1));
+    holds(&rt, outcome(rt.alloc(), b"FOO(a)") == (2, 1));
+    holds(&rt, outcome(rt.alloc(), b"\xe9") == (1, 1));
     let netlist = netlist_of(&rt, rt.alloc(), b"INPUT(a)\nINPUT(b)\nINPUT = AND(a, b)\n");
-    assert!(&rt; netlist.len() == 3);
-    assert!(&rt; has_name(&netlist, 2, b"INPUT"));
-    assert!(&rt; outcome(rt.alloc(), b"y = FOO(") == (3, 1));
+    holds(&rt, netlist.len() == 3);
+    holds(&rt, has_name(&netlist, 2, b"INPUT"));
+    holds(&rt, outcome(rt.alloc(), b"y = FOO(") == (3, 1));
     Ok(())
 }
 
@@ -139,11 +152,11 @@ fn nets_of_prefix(rt: &impl Abort, alloc: Global, n: usize) -> usize
 #[test]
 fn truncated_netlist(rt: HostRuntime) {
     for n in 0..31 {
-        assert!(&rt; outcome(rt.alloc(), &SMALL[..n]) == of_prefix(n));
+        holds(&rt, outcome(rt.alloc(), &SMALL[..n]) == of_prefix(n));
     }
-    assert!(&rt; netlist_of(&rt, rt.alloc(), b"").is_empty());
-    assert!(&rt; nets_of_prefix(&rt, rt.alloc(), 9) == 1);
-    assert!(&rt; nets_of_prefix(&rt, rt.alloc(), 30) == 2);
+    holds(&rt, netlist_of(&rt, rt.alloc(), b"").is_empty());
+    holds(&rt, nets_of_prefix(&rt, rt.alloc(), 9) == 1);
+    holds(&rt, nets_of_prefix(&rt, rt.alloc(), 30) == 2);
 }
 
 // The small netlist with another byte at a place.
@@ -157,19 +170,20 @@ fn damaged(at: usize, value: u8) -> [u8; 30]
 
 #[test]
 fn damaged_netlist(rt: HostRuntime) {
-    assert!(&rt; outcome(rt.alloc(), &damaged(0, 0)) == (1, 1));
-    assert!(&rt; outcome(rt.alloc(), &damaged(5, b'=')) == (3, 1));
-    assert!(&rt;
+    holds(&rt, outcome(rt.alloc(), &damaged(0, 0)) == (1, 1));
+    holds(&rt, outcome(rt.alloc(), &damaged(5, b'=')) == (3, 1));
+    holds(
+        &rt,
         netlist_of(&rt, rt.alloc(), &damaged(8, b'#'))
             .outputs()
-            .is_empty()
+            .is_empty(),
     );
-    assert!(&rt; outcome(rt.alloc(), &damaged(23, b'X')) == (3, 3));
-    assert!(&rt; outcome(rt.alloc(), &damaged(27, b'b')) == (6, 3));
+    holds(&rt, outcome(rt.alloc(), &damaged(23, b'X')) == (3, 3));
+    holds(&rt, outcome(rt.alloc(), &damaged(27, b'b')) == (6, 3));
     for at in 0..30 {
         for value in 0..=255 {
             let (number, line) = outcome(rt.alloc(), &damaged(at, value));
-            assert!(&rt; number == 0 || number <= 8 && line >= 1 && line <= 4);
+            holds(&rt, number == 0 || number <= 8 && line >= 1 && line <= 4);
         }
     }
 }
@@ -186,13 +200,13 @@ pub fn inputs(alloc: Global, count: usize) -> Result<String, AllocError> {
 #[test]
 fn largest_netlist(rt: HostRuntime) -> Result<(), AllocError> {
     let text = inputs(rt.alloc(), 65_535)?;
-    assert!(&rt; text.len() < 1_000_000);
+    holds(&rt, text.len() < 1_000_000);
     let netlist = netlist_of(&rt, rt.alloc(), text.as_bytes());
-    assert!(&rt; netlist.len() == 65_535);
-    assert!(&rt; netlist.number(&b"n65534"[..]) == Some(65_534));
+    holds(&rt, netlist.len() == 65_535);
+    holds(&rt, netlist.number(&b"n65534"[..]) == Some(65_534));
     let text = inputs(rt.alloc(), 65_536)?;
-    assert!(&rt; text.len() < 1_000_000);
-    assert!(&rt; outcome(rt.alloc(), text.as_bytes()) == (7, 65_536));
+    holds(&rt, text.len() < 1_000_000);
+    holds(&rt, outcome(rt.alloc(), text.as_bytes()) == (7, 65_536));
     Ok(())
 }
 
@@ -201,7 +215,10 @@ fn fault_text(rt: HostRuntime) -> Result<(), AllocError> {
     match read_bench(rt.alloc(), b"INPUT(a)\na = NOT(a)\n") {
         Ok(_) => panic!(&rt; "a netlist was read"),
         Err(fault) => {
-            assert!(&rt; format!(in rt.alloc(); "{fault}")?.as_str() == "line 2: driven twice");
+            holds(
+                &rt,
+                format!(in rt.alloc(); "{fault}")?.as_str() == "line 2: driven twice",
+            );
         }
     }
     Ok(())

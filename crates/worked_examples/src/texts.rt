@@ -2,6 +2,7 @@
 
 ghost use Rattle.std.specs.Prelude.{◌≡◌, ◌<◌, ◌≤◌, ◌^◌};
 
+use crate::checks::{holds, same};
 use crate::netlists::inputs;
 use crate::toggle::{D, Q, TOGGLE, at};
 use cmb_design::Design;
@@ -11,7 +12,7 @@ use cmb_wave::{Change, Level, Piece, Wave};
 use std::alloc::Global;
 use std::process::Abort;
 use std::test::Fail;
-use worked_inputs::{bare, design_of, sampled, text_of};
+use worked_inputs::{bare, design_of, or_fail, sampled, text_of};
 
 // The design of a netlist without rows, whose flip-flops sample at ticks 2, 6, 10 and so on.
 fn design_up_to(alloc: Global, netlist: &[u8], horizon: u32) -> Result<Design, Fail> {
@@ -19,7 +20,7 @@ fn design_up_to(alloc: Global, netlist: &[u8], horizon: u32) -> Result<Design, F
 }
 
 fn take(rt: &impl Abort, collector: &mut Collector, piece: &Piece) -> Result<u32, CollectFault> {
-    assert!(rt; piece.to() <= collector.horizon());
+    holds(rt, piece.to() <= collector.horizon());
     collector.take(piece)
 }
 
@@ -35,7 +36,7 @@ fn answers(
 ) -> Result<(), Fail> {
     let piece = Piece::new(net, from, to, changes)?;
     let found = take(rt, collector, &piece);
-    assert!(rt; found == answer, "{net} from {from} to {to}");
+    same(rt, (net, from, to, found == answer), (net, from, to, true));
     Ok(())
 }
 
@@ -45,9 +46,9 @@ fn whole_text(
     design: &Design,
     collector: &Collector,
 ) -> Result<Vec<u8>, Fail> {
-    assert!(rt; collector.complete());
-    assert!(rt; collector.waves().len() == design.netlist().len());
-    assert!(rt; collector.horizon() == design.horizon());
+    holds(rt, collector.complete());
+    holds(rt, collector.waves().len() == design.netlist().len());
+    holds(rt, collector.horizon() == design.horizon());
     Ok(vcd_text(alloc, design, collector)?)
 }
 
@@ -89,12 +90,12 @@ fn toggle_answers(rt: &impl Abort, alloc: Global, toggle: &mut Collector) -> Res
 
 fn opened(alloc: Global) -> Result<Collector, Fail> {
     let design = design_up_to(alloc, TOGGLE, 12)?;
-    Ok(Collector::open(alloc, &design)?)
+    or_fail(Collector::open(alloc, &design))
 }
 
 fn is_begun(rt: &impl Abort, toggle: &Collector) {
-    assert!(rt; toggle.least() == 0);
-    assert!(rt; !toggle.complete());
+    holds(rt, toggle.least() == 0);
+    holds(rt, !toggle.complete());
 }
 
 #[test]
@@ -106,9 +107,9 @@ fn collector(rt: HostRuntime) -> Result<(), Fail> {
 }
 
 fn adopt(rt: &impl Abort, collector: &mut Collector, wave: Wave) {
-    assert!(rt; (wave.net() as usize) < collector.waves().len());
-    assert!(rt; wave.base() == 0);
-    assert!(rt; wave.clock() <= collector.horizon());
+    holds(rt, (wave.net() as usize) < collector.waves().len());
+    holds(rt, wave.base() == 0);
+    holds(rt, wave.clock() <= collector.horizon());
     collector.adopt(wave);
 }
 
@@ -118,11 +119,12 @@ fn adopts_the_later(rt: &impl Abort, alloc: Global, toggle: &mut Collector) -> R
     later.take(&Piece::new(D, 0, 4, vec![in alloc; at(1, Level::One)]?)?)?;
     adopt(rt, toggle, later);
     adopt(rt, toggle, Wave::new(alloc, D));
-    assert!(rt;
+    holds(
+        rt,
         toggle
             .waves()
             .get(1)
-            .is_some_and(|wave| wave.promise().upto == 4)
+            .is_some_and(|wave| wave.promise().upto == 4),
     );
     let next = vec![in alloc; at(4, Level::Zero)]?;
     answers(rt, toggle, D, 4, 5, next, Ok(5))
@@ -136,11 +138,11 @@ fn waves_are_adopted(rt: HostRuntime) -> Result<(), Fail> {
 
 #[test]
 fn numbers(rt: HostRuntime) {
-    assert_eq!(rt; CollectFault::Clash { tick: 0 }.number(), 49);
-    assert_eq!(rt; CollectFault::Gap { clock: 0 }.number(), 50);
-    assert_eq!(rt; CollectFault::Double { clock: 0 }.number(), 51);
-    assert_eq!(rt; CollectFault::Stranger.number(), 52);
-    assert_eq!(rt; CollectFault::Memory.number(), 70);
+    same(&rt, CollectFault::Clash { tick: 0 }.number(), 49);
+    same(&rt, CollectFault::Gap { clock: 0 }.number(), 50);
+    same(&rt, CollectFault::Double { clock: 0 }.number(), 51);
+    same(&rt, CollectFault::Stranger.number(), 52);
+    same(&rt, CollectFault::Memory.number(), 70);
 }
 
 fn tells_inverted(rt: &impl Abort, alloc: Global, design: &Design) -> Result<(), Fail> {
@@ -150,7 +152,7 @@ fn tells_inverted(rt: &impl Abort, alloc: Global, design: &Design) -> Result<(),
     answers(rt, &mut inverter, 1, 0, 10, Vec::new(alloc), Ok(10))?;
     let text = whole_text(rt, alloc, design, &inverter)?;
     let wanted = text_of(alloc, "a y", "#0 1! x\" #10")?;
-    assert!(rt; text.as_slice() == wanted.as_bytes());
+    holds(rt, text.as_slice() == wanted.as_bytes());
     Ok(())
 }
 
@@ -188,12 +190,12 @@ fn goes_on(
     requires { writer.old.design ≡ design.now }
     ensures { writer.new.design ≡ design.now }
 {
-    assert!(rt; collector.waves().len() == design.netlist().len());
-    assert!(rt; collector.horizon() == design.horizon());
-    assert!(rt; writer.done().unwrap_or(0) <= collector.least());
+    holds(rt, collector.waves().len() == design.netlist().len());
+    holds(rt, collector.horizon() == design.horizon());
+    holds(rt, writer.done().unwrap_or(0) <= collector.least());
     let text = writer.extend(collector)?;
-    assert!(rt; text.as_slice() == part, "up to {upto}");
-    assert!(rt; writer.done() == Some(upto));
+    same(rt, (upto, text.as_slice() == part), (upto, true));
+    holds(rt, writer.done() == Some(upto));
     Ok(())
 }
 
@@ -262,8 +264,8 @@ fn text_in_parts(rt: HostRuntime) -> Result<(), Fail> {
 
 // Lets what lies below a tick be forgotten, where all is known up to it and no wave has forgotten more.
 fn forget(rt: &impl Abort, toggle: &mut Collector, upto: u32) {
-    assert!(rt; upto <= toggle.least());
-    assert!(rt; toggle.waves().iter().all(|wave| wave.base() <= upto));
+    holds(rt, upto <= toggle.least());
+    holds(rt, toggle.waves().iter().all(|wave| wave.base() <= upto));
     toggle.forget(upto);
 }
 
@@ -321,11 +323,11 @@ fn tells_period(
         (0, Level::Zero, Level::One)
     };
     collect_period(rt, alloc, toggle, from, q, d)?;
-    assert!(rt; keeps(toggle, 1, period + 2), "period {period}");
+    same(rt, (period, keeps(toggle, 1, period + 2)), (period, true));
     let lines = period_lines(alloc, from, digit)?;
     goes_on(rt, design, writer, toggle, lines.as_bytes(), from + 4)?;
     forget(rt, toggle, from + 4);
-    assert!(rt; keeps(toggle, 0, period + 2), "period {period}");
+    same(rt, (period, keeps(toggle, 0, period + 2)), (period, true));
     Ok(())
 }
 
@@ -361,8 +363,8 @@ fn tells_whole(rt: &impl Abort, alloc: Global, design: &Design) -> Result<(), Fa
     let toggle = collected_toggle(rt, alloc, design)?;
     let text = whole_text(rt, alloc, design, &toggle)?;
     let parts = [TOGGLE_HEADER, BELOW_3, BELOW_4, BELOW_12].concat(alloc)?;
-    assert!(rt; text.len() == 209);
-    assert!(rt; text == parts);
+    holds(rt, text.len() == 209);
+    holds(rt, text == parts);
     Ok(())
 }
 
@@ -403,8 +405,8 @@ fn ends_with(
     end: &[u8],
 ) -> Result<(), Fail> {
     let text = unknown_text(rt, alloc, design)?;
-    assert!(rt; text.len() == len);
-    assert!(rt; text.as_slice().ends_with(end));
+    holds(rt, text.len() == len);
+    holds(rt, text.as_slice().ends_with(end));
     Ok(())
 }
 
@@ -432,25 +434,25 @@ fn largest_netlist(rt: HostRuntime) -> Result<(), Fail> {
 #[test]
 fn room(rt: HostRuntime) -> Result<(), Fail> {
     let mut room = Room::new(rt.alloc(), 5)?;
-    assert!(rt; write_whole(&mut room, b"three") == Ok(()));
-    assert!(rt; room.bytes.as_slice() == b"three".as_slice());
+    holds(&rt, write_whole(&mut room, b"three") == Ok(()));
+    holds(&rt, room.bytes.as_slice() == b"three".as_slice());
     Ok(())
 }
 
 #[test]
 fn limited(rt: HostRuntime) {
     let mut limited = Limited::new(rt.alloc(), 3);
-    assert!(rt; limited.write(b"th") == Ok(2));
-    assert!(rt; limited.failures < 10);
-    assert!(rt; write_whole(&mut limited, b"ree") == Err(1));
-    assert!(rt; limited.bytes.as_slice() == b"thr".as_slice());
-    assert!(rt; limited.failures == 1);
+    holds(&rt, limited.write(b"th") == Ok(2));
+    holds(&rt, limited.failures < 10);
+    holds(&rt, write_whole(&mut limited, b"ree") == Err(1));
+    holds(&rt, limited.bytes.as_slice() == b"thr".as_slice());
+    holds(&rt, limited.failures == 1);
 }
 
 #[test]
 fn to_writer(rt: HostRuntime) {
     let mut list = ToWriter::new(Vec::new(rt.alloc()));
-    assert!(rt; write_whole(&mut list, b"three") == Ok(()));
-    assert!(rt; list.writer.as_slice() == b"three".as_slice());
-    assert!(rt; list.failures == 0);
+    holds(&rt, write_whole(&mut list, b"three") == Ok(()));
+    holds(&rt, list.writer.as_slice() == b"three".as_slice());
+    holds(&rt, list.failures == 0);
 }

@@ -10,6 +10,7 @@ ghost use Rattle.cmb_core.specs.Opened.{IsOwnNet};
 ghost use Rattle.cmb_core.specs.Step.{wave_at};
 ghost use Rattle.cmb_core.specs.Trims.{IsTrimOf};
 
+use crate::checks::same;
 use crate::clusters::{is_piece, toggle};
 use crate::toggle::{D, Q, at, pulse};
 use cmb_core::laws::trims_change_no_answer;
@@ -63,11 +64,11 @@ fn trim_and_hear(cluster: &mut Cluster, promise: Promise) -> Result<Heard, Stran
 
 fn trimmed_steps(rt: &impl Abort, alloc: Global, cluster: &mut Cluster) -> Result<(), Fail> {
     let first = pulse(alloc, Q, 0, 3, at(0, Level::Zero))?;
-    assert_eq!(rt; trim_and_deliver(cluster, &first), Ok(3));
+    same(rt, trim_and_deliver(cluster, &first), Ok(3));
     is_piece(rt, trim_and_step(cluster, D)?, 0, 4, &[at(1, Level::One)]);
     let second = pulse(alloc, Q, 3, 7, at(3, Level::One))?;
-    assert_eq!(rt; trim_and_deliver(cluster, &second), Ok(7));
-    assert_eq!(rt; cluster.base(Q), Some(3));
+    same(rt, trim_and_deliver(cluster, &second), Ok(7));
+    same(rt, cluster.base(Q), Some(3));
     is_piece(rt, trim_and_step(cluster, D)?, 4, 8, &[at(4, Level::Zero)]);
     Ok(())
 }
@@ -83,8 +84,8 @@ fn trimmed_answers(rt: &impl Abort, cluster: &mut Cluster) {
         count: 2,
         upto: 9,
     };
-    assert_eq!(rt; trim_and_hear(cluster, early), Ok(Heard::Old));
-    assert_eq!(rt; trim_and_hear(cluster, late), Ok(Heard::Extended));
+    same(rt, trim_and_hear(cluster, early), Ok(Heard::Old));
+    same(rt, trim_and_hear(cluster, late), Ok(Heard::Extended));
 }
 
 // The cluster of the inverter d is trimmed before each call, and answers as the same cluster that never is.

@@ -4,6 +4,7 @@ ghost use Rattle.std.specs.Prelude.{◌≡◌, IfOk, length};
 ghost use Rattle.cmb_design.specs.Exact.{nets_of};
 ghost use Rattle.cmb_core.specs.Opened.{IsClusterOf};
 
+use crate::checks::holds;
 use crate::toggle::{Q, TOGGLE, at, pulse};
 use cmb_core::{Cluster, Clustering, DeliverFault};
 use cmb_design::Design;
@@ -12,12 +13,12 @@ use cmb_world::{Event, PlayFault, Reply, World};
 use std::alloc::Global;
 use std::process::Abort;
 use std::test::Fail;
-use worked_inputs::{bare, design_of, sampled, spread, stimulated};
+use worked_inputs::{bare, design_of, or_fail, sampled, spread, stimulated};
 
 // A world of this design whose nets are spread over so many clusters.
 fn opened(alloc: Global, design: &Design, clusters: u32) -> Result<World, Fail> {
     let clustering = spread(alloc, design, clusters)?;
-    Ok(World::open(alloc, design, &clustering)?)
+    or_fail(World::open(alloc, design, &clustering))
 }
 
 fn toggle(alloc: Global, clusters: u32) -> Result<World, Fail> {
@@ -116,11 +117,14 @@ const WANTED_OF_TWO_CLUSTERS: [Told; 10] = [
 #[test]
 fn two_clusters(rt: HostRuntime) -> Result<(), Fail> {
     let mut world = toggle(rt.alloc(), 2)?;
-    assert!(&rt; replies_with(&mut world, &TWO_CLUSTERS, &WANTED_OF_TWO_CLUSTERS));
-    assert!(&rt; world.promised(0).is_some());
-    assert!(&rt; world.promised(1).is_none());
-    assert!(&rt; world.posted(0).is_some());
-    assert!(&rt; world.posted(1).is_none());
+    holds(
+        &rt,
+        replies_with(&mut world, &TWO_CLUSTERS, &WANTED_OF_TWO_CLUSTERS),
+    );
+    holds(&rt, world.promised(0).is_some());
+    holds(&rt, world.promised(1).is_none());
+    holds(&rt, world.posted(0).is_some());
+    holds(&rt, world.posted(1).is_none());
     Ok(())
 }
 
@@ -165,11 +169,14 @@ fn followed(alloc: Global) -> Result<World, Fail> {
 #[test]
 fn promise_overtakes(rt: HostRuntime) -> Result<(), Fail> {
     let mut world = followed(rt.alloc())?;
-    assert!(&rt; replies_with(&mut world, &PROMISE_OVERTAKES, &WANTED_OF_PROMISE_OVERTAKES));
-    assert!(&rt; world.in_clock(2, 1) == Some(12));
-    assert!(&rt; world.out_clock(2) == Some(0));
-    assert!(&rt; world.in_clock(0, 1) == None);
-    assert!(&rt; world.out_clock(3) == None);
+    holds(
+        &rt,
+        replies_with(&mut world, &PROMISE_OVERTAKES, &WANTED_OF_PROMISE_OVERTAKES),
+    );
+    holds(&rt, world.in_clock(2, 1) == Some(12));
+    holds(&rt, world.out_clock(2) == Some(0));
+    holds(&rt, world.in_clock(0, 1) == None);
+    holds(&rt, world.out_clock(3) == None);
     Ok(())
 }
 
@@ -219,9 +226,9 @@ fn together(q: u32, d: u32, done: bool) -> After {
 fn rounds_of_toggle(rt: HostRuntime) -> Result<(), Fail> {
     let mut world = toggle(rt.alloc(), 2)?;
     for (q, d) in [(3u32, 1u32), (3, 4), (7, 4), (7, 8), (11, 8), (11, 12)] {
-        assert!(&rt; after_round(&mut world)? == apart(q, d, false));
+        holds(&rt, after_round(&mut world)? == apart(q, d, false));
     }
-    assert!(&rt; after_round(&mut world)? == apart(12, 12, true));
+    holds(&rt, after_round(&mut world)? == apart(12, 12, true));
     Ok(())
 }
 
@@ -229,9 +236,9 @@ fn rounds_of_toggle(rt: HostRuntime) -> Result<(), Fail> {
 fn rounds_of_one_cluster(rt: HostRuntime) -> Result<(), Fail> {
     let mut world = toggle(rt.alloc(), 1)?;
     for (q, d) in [(3u32, 4u32), (7, 8), (11, 12)] {
-        assert!(&rt; after_round(&mut world)? == together(q, d, false));
+        holds(&rt, after_round(&mut world)? == together(q, d, false));
     }
-    assert!(&rt; after_round(&mut world)? == together(12, 12, true));
+    holds(&rt, after_round(&mut world)? == together(12, 12, true));
     Ok(())
 }
 
@@ -248,9 +255,12 @@ fn misled(
 {
     let mut cluster = Cluster::open(alloc, design, clustering, 1)?;
     let unknown = pulse(alloc, Q, 0, 3, at(0, Level::X))?;
-    assert!(rt; cluster.deliver(&unknown) == Err(DeliverFault::Clash { tick: 0 }));
+    holds(
+        rt,
+        cluster.deliver(&unknown) == Err(DeliverFault::Clash { tick: 0 }),
+    );
     let wrong = pulse(alloc, Q, 0, 3, at(0, Level::One))?;
-    assert!(rt; cluster.deliver(&wrong) == Ok(3));
+    holds(rt, cluster.deliver(&wrong) == Ok(3));
     Ok(cluster)
 }
 
@@ -269,7 +279,7 @@ fn world_with(
     let mut clusters = Vec::with_capacity(alloc, 2)?;
     clusters.push(first)?;
     clusters.push(second)?;
-    Ok(World::of(alloc, design, clustering, clusters)?)
+    or_fail(World::of(alloc, design, clustering, clusters))
 }
 
 const WORLD_OF: [Event; 4] = [
@@ -286,17 +296,37 @@ const WANTED_OF_WORLD_OF: [Told; 4] = [
     Told::Piece(0, 0, 7, 1, Some((0, Level::Zero))),
 ];
 
+// The same where the second one is misled.
+fn misled_with(
+    rt: &impl Abort,
+    alloc: Global,
+    design: &Design,
+    clustering: &Clustering,
+) -> Result<World, Fail>
+    requires nets { length clustering.now.assign ≡ nets_of design.now }
+    requires two { clustering.now.clusters ≡ 2 }
+{
+    let second = misled(rt, alloc, design, clustering)?;
+    world_with(alloc, design, clustering, second)
+}
+
+fn misled_in_two(rt: &impl Abort, alloc: Global, design: &Design) -> Result<World, Fail> {
+    let clustering = spread(alloc, design, 2)?;
+    holds(rt, clustering.clusters() == 2);
+    misled_with(rt, alloc, design, &clustering)
+}
+
 fn misled_world(rt: &impl Abort, alloc: Global) -> Result<World, Fail> {
     let design = design_of(alloc, bare(TOGGLE), sampled(12))?;
-    let clustering = spread(alloc, &design, 2)?;
-    assert!(rt; clustering.clusters() == 2);
-    let second = misled(rt, alloc, &design, &clustering)?;
-    world_with(alloc, &design, &clustering, second)
+    misled_in_two(rt, alloc, &design)
 }
 
 #[test]
 fn world_of(rt: HostRuntime) -> Result<(), Fail> {
     let mut world = misled_world(&rt, rt.alloc())?;
-    assert!(&rt; replies_with(&mut world, &WORLD_OF, &WANTED_OF_WORLD_OF));
+    holds(
+        &rt,
+        replies_with(&mut world, &WORLD_OF, &WANTED_OF_WORLD_OF),
+    );
     Ok(())
 }

@@ -5,9 +5,11 @@
 pub mod clusterings;
 pub mod designs;
 pub mod netlists;
+pub mod outcomes;
 pub mod texts;
 
 pub use clusterings::spread;
 pub use designs::{Inputs, bare, design_of, judged_design, sampled, stimulated};
 pub use netlists::{has_gate, has_input, has_name};
+pub use outcomes::or_fail;
 pub use texts::text_of;

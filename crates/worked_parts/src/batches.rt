@@ -4,6 +4,7 @@ ghost use Rattle.std.specs.Prelude.{◌≡◌, ◌<◌, ◌≤◌, All, IfOk, tr
 ghost use Rattle.cmb_cut.specs.Sharings.{IsSharing};
 ghost use Rattle.cmb_batch.specs.Makers.{IsFor};
 
+use crate::checks::holds;
 use cmb_batch::{Batch, Makers, ShareMaker, clocks_of, open_makers, shares_of};
 use cmb_cut::{Sharing, share_out};
 use cmb_design::Design;
@@ -23,15 +24,21 @@ fn three_nets(alloc: Global) -> Result<Design, Fail> {
     design_of(alloc, inputs, sampled(100))
 }
 
+/// Whether at most so many windows from a tick on, of a width of 5 and up to tick 12, meet at these ticks.
+fn meet_at(alloc: Global, from: u32, most: u32, ticks: &[u32]) -> Result<bool, AllocError>
+    requires above { 1 ≤ from }
+    requires below { from < 12 }
+{
+    let found = clocks_of(alloc, 5, 12, from, most)?;
+    Ok(found.as_slice() == ticks)
+}
+
 // With a width of 5 windows end at the multiples of 5, and at the horizon.
 #[test]
 fn ticks_where_windows_meet(rt: HostRuntime) -> Result<(), AllocError> {
-    let first = clocks_of(rt.alloc(), 5, 12, 1, 7)?;
-    assert!(&rt; first.as_slice() == [1, 5, 10].as_slice());
-    let last = clocks_of(rt.alloc(), 5, 12, 10, 100)?;
-    assert!(&rt; last.as_slice() == [10, 12].as_slice());
-    let least = clocks_of(rt.alloc(), 5, 12, 5, 0)?;
-    assert!(&rt; least.as_slice() == [5, 10].as_slice());
+    holds(&rt, meet_at(rt.alloc(), 1, 7, &[1, 5, 10])?);
+    holds(&rt, meet_at(rt.alloc(), 10, 100, &[10, 12])?);
+    holds(&rt, meet_at(rt.alloc(), 5, 0, &[5, 10])?);
     Ok(())
 }
 
@@ -49,7 +56,7 @@ fn is_unmade(batch: &Batch<'_>, clocks: &[u32]) -> bool {
 }
 
 /// Whether a batch is opened with the windows of 5 ticks up to tick 10, and renewed with those up to tick 20.
-fn is_renewed(alloc: Global, design: &Design, sharing: &Sharing) -> Result<bool, AllocError>
+fn is_renewed(alloc: Global, design: &Design, sharing: &Sharing) -> Result<bool, Fail>
     requires { IsSharing design.now.netlist sharing.now }
 {
     let horizon = design.horizon();
@@ -61,11 +68,21 @@ fn is_renewed(alloc: Global, design: &Design, sharing: &Sharing) -> Result<bool,
     Ok(is_opened && is_unmade(&batch, &[10, 15, 20]))
 }
 
+/// The same of the design's nets, shared out to two.
+fn is_renewed_for_two(alloc: Global, design: &Design) -> Result<bool, Fail> {
+    let sharing = share_out(alloc, design.netlist(), 2)?;
+    is_renewed(alloc, design, &sharing)
+}
+
+/// The same of the three nets.
+fn renews(alloc: Global) -> Result<bool, Fail> {
+    let design = three_nets(alloc)?;
+    is_renewed_for_two(alloc, &design)
+}
+
 #[test]
 fn windows_of_a_batch(rt: HostRuntime) -> Result<(), Fail> {
-    let design = three_nets(rt.alloc())?;
-    let sharing = share_out(rt.alloc(), design.netlist(), 2)?;
-    assert!(&rt; is_renewed(rt.alloc(), &design, &sharing)?);
+    holds(&rt, renews(rt.alloc())?);
     Ok(())
 }
 
@@ -92,15 +109,22 @@ fn passed<'a>(batch: Batch<'a>, maker: ShareMaker<'a>) -> Result<Batch<'a>, Fail
     ensures crossing { IfOk result (λ after. after.crossing ≡ batch.entry.crossing) }
     ensures width { IfOk result (λ after. after.width ≡ batch.entry.width) }
 {
-    let maker = maker.looked_ahead()?;
+    let Ok(maker) = maker.looked_ahead() else {
+        drop(batch);
+        return Err(Fail::new("no memory"));
+    };
     if batch.made() != u64::from(maker.number()) || batch.clock(0) != maker.clock() {
+        drop((batch, maker));
         return Err(Fail::new("a share that isn't the next one"));
     }
     let (batch, maker) = batch.passed(maker)?;
-    if maker.clock() != 100 {
-        return Err(Fail::new("a share that didn't make all windows"));
+    let is_made = maker.clock() == 100;
+    drop(maker);
+    if is_made {
+        return Ok(batch);
     }
-    Ok(batch)
+    drop(batch);
+    Err(Fail::new("a share that didn't make all windows"))
 }
 
 /// The windows as these shares made them, one after the other.
@@ -208,11 +232,21 @@ fn are_made<R: Threads + Sync>(
     Ok(tells(&batch, &sharing.owners))
 }
 
+/// The same of the design's nets, shared out to two.
+fn two_are_made<R: Threads + Sync>(rt: &R, alloc: Global, design: &Design) -> Result<bool, Fail> {
+    let sharing = share_out(alloc, design.netlist(), 2)?;
+    are_made(rt, alloc, design, &sharing)
+}
+
+/// The same of the three nets.
+fn makes<R: Threads + Sync>(rt: &R, alloc: Global) -> Result<bool, Fail> {
+    let design = three_nets(alloc)?;
+    two_are_made(rt, alloc, &design)
+}
+
 // The first share drives `a` and `b`, and the second `c`, which reads `b`.
 #[test]
 fn windows_of_two_shares(rt: HostRuntime) -> Result<(), Fail> {
-    let design = three_nets(rt.alloc())?;
-    let sharing = share_out(rt.alloc(), design.netlist(), 2)?;
-    assert!(&rt; are_made(&rt, rt.alloc(), &design, &sharing)?);
+    holds(&rt, makes(&rt, rt.alloc())?);
     Ok(())
 }

@@ -1,10 +1,21 @@
-//! Worked examples of parts of a design, of the text of chosen nets, and of shares of a design's nets, as tests.
+//! Worked examples of what the engine of words and its runs are made of, as tests: words, calendars, components and
+//! sharings, parts of a design, shares of its nets, dumps, and the text of chosen nets.
 #![tactic(auto)]
 
 #[cfg(test)]
 mod batches;
 #[cfg(test)]
+mod calendars;
+#[cfg(test)]
+mod checks;
+#[cfg(test)]
+mod components;
+#[cfg(test)]
 mod dumps;
+#[cfg(test)]
+mod inverter;
+#[cfg(test)]
+mod masks;
 #[cfg(test)]
 mod nets;
 #[cfg(test)]
@@ -12,4 +23,10 @@ mod parts;
 #[cfg(test)]
 mod pipeline;
 #[cfg(test)]
+mod sharings;
+#[cfg(test)]
 mod texts;
+#[cfg(test)]
+mod windows;
+#[cfg(test)]
+mod words;

@@ -3,11 +3,12 @@
 ghost use Rattle.std.specs.Prelude.{◌≡◌, IfOk};
 ghost use Rattle.cmb_design.specs.Exact.{nets_of};
 
+use crate::checks::holds;
 use cmb_design::{Design, Settings};
 use cmb_netlist::{Driver, Kind, Netlist};
 use cmb_restrict::{closure, restrict};
 use cmb_wave::Level;
-use std::alloc::{AllocError, Global};
+use std::alloc::Global;
 use std::process::Abort;
 use std::test::Fail;
 use worked_inputs::{Inputs, design_of, has_gate, has_input, has_name};
@@ -29,7 +30,7 @@ pub fn two_parts(rt: &impl Abort, alloc: Global) -> Result<Design, Fail>
         init: Level::X,
     };
     let design = design_of(alloc, inputs, settings)?;
-    assert!(rt; design.netlist().len() == 5);
+    holds(rt, design.netlist().len() == 5);
     Ok(design)
 }
 
@@ -46,7 +47,7 @@ fn is_second_part(netlist: &Netlist) -> bool {
 }
 
 /// Whether the closure of `y` is `a` and `y`, and that of `q` is `b`, `z` and `q`.
-fn are_closures(alloc: Global, design: &Design) -> Result<bool, AllocError>
+fn are_closures(alloc: Global, design: &Design) -> Result<bool, Fail>
     requires { nets_of design.now ≡ 5 }
 {
     let first = closure(alloc, design.netlist(), &[2])?;
@@ -55,25 +56,40 @@ fn are_closures(alloc: Global, design: &Design) -> Result<bool, AllocError>
 }
 
 /// The design of what `q` depends on.
-pub fn second_part(alloc: Global, design: &Design) -> Result<Design, AllocError>
+fn second_part(alloc: Global, design: &Design) -> Result<Design, Fail>
     requires { nets_of design.now ≡ 5 }
 {
     let nets = closure(alloc, design.netlist(), &[4])?;
-    restrict(alloc, design, &nets)
+    let part = restrict(alloc, design, &nets)?;
+    Ok(part)
+}
+
+/// Whether the closures of two nets are as they should be.
+fn has_closures(rt: &impl Abort, alloc: Global) -> Result<bool, Fail> {
+    let design = two_parts(rt, alloc)?;
+    are_closures(alloc, &design)
+}
+
+/// The design of what `q` depends on, alone.
+pub fn part_alone(rt: &impl Abort, alloc: Global) -> Result<Design, Fail> {
+    let design = two_parts(rt, alloc)?;
+    second_part(alloc, &design)
+}
+
+/// Whether it has the nets and the horizon that it should have.
+fn has_second_part(rt: &impl Abort, alloc: Global) -> Result<bool, Fail> {
+    let part = part_alone(rt, alloc)?;
+    Ok(is_second_part(part.netlist()) && part.horizon() == 8)
 }
 
 #[test]
 fn what_nets_depend_on(rt: HostRuntime) -> Result<(), Fail> {
-    let design = two_parts(&rt, rt.alloc())?;
-    assert!(&rt; are_closures(rt.alloc(), &design)?);
+    holds(&rt, has_closures(&rt, rt.alloc())?);
     Ok(())
 }
 
 #[test]
 fn design_of_a_part(rt: HostRuntime) -> Result<(), Fail> {
-    let design = two_parts(&rt, rt.alloc())?;
-    let part = second_part(rt.alloc(), &design)?;
-    assert!(&rt; is_second_part(part.netlist()));
-    assert_eq!(&rt; part.horizon(), 8);
+    holds(&rt, has_second_part(&rt, rt.alloc())?);
     Ok(())
 }

@@ -3,6 +3,7 @@
 ghost use Rattle.std.specs.Prelude.{◌≤◌, IfOk};
 ghost use Rattle.cmb_cut.specs.Sharings.{IsSharing};
 
+use crate::checks::holds;
 use cmb_cut::{Sharing, share_out};
 use cmb_design::{Design, Settings};
 use cmb_pipeline::{pipeline_text, write_pipeline};
@@ -117,7 +118,26 @@ fn is_shared<R: Threads + Wait + Sync>(
     }
 }
 
-/// Whether threads for so many shares of the four nets, and one engine of all, make the text of these lines.
+/// Whether one engine makes this text of the design.
+fn is_streamed(alloc: Global, design: &Design, text: &[u8]) -> Result<bool, Fail> {
+    let streamed = stream_text(alloc, design)?;
+    Ok(streamed.as_slice() == text)
+}
+
+/// Whether one engine makes this text of the design, and threads for so many shares of its nets do.
+fn is_told<R: Threads + Wait + Sync>(
+    rt: &R,
+    alloc: Global,
+    design: &Design,
+    shares: u32,
+    text: &[u8],
+) -> Result<bool, Fail>
+    requires { 1 ≤ shares }
+{
+    Ok(is_streamed(alloc, design, text)? && is_shared(rt, alloc, design, shares, text)?)
+}
+
+/// The same of the four nets and the text of these lines.
 fn are_lines<R: Threads + Wait + Sync>(
     rt: &R,
     alloc: Global,
@@ -127,44 +147,54 @@ fn are_lines<R: Threads + Wait + Sync>(
 ) -> Result<bool, Fail>
     requires { 1 ≤ shares }
 {
-    let design = four_nets(alloc, horizon)?;
     let text = text_of(alloc, "a b c q", lines)?;
-    let streamed = stream_text(alloc, &design)?;
-    Ok(
-        streamed.as_slice() == text.as_bytes()
-            && is_shared(rt, alloc, &design, shares, text.as_bytes())?,
-    )
+    let design = four_nets(alloc, horizon)?;
+    is_told(rt, alloc, &design, shares, text.as_bytes())
 }
 
 #[test]
 fn one_share(rt: HostRuntime) -> Result<(), Fail> {
-    assert!(&rt; are_lines(&rt, rt.alloc(), 100, 1, LINES)?);
+    holds(&rt, are_lines(&rt, rt.alloc(), 100, 1, LINES)?);
     Ok(())
 }
 
 #[test]
 fn two_shares(rt: HostRuntime) -> Result<(), Fail> {
-    assert!(&rt; are_lines(&rt, rt.alloc(), 100, 2, LINES)?);
+    holds(&rt, are_lines(&rt, rt.alloc(), 100, 2, LINES)?);
     Ok(())
 }
 
 #[test]
 fn three_shares(rt: HostRuntime) -> Result<(), Fail> {
-    assert!(&rt; are_lines(&rt, rt.alloc(), 100, 3, LINES)?);
+    holds(&rt, are_lines(&rt, rt.alloc(), 100, 3, LINES)?);
     Ok(())
 }
 
 #[test]
 fn no_window(rt: HostRuntime) -> Result<(), Fail> {
-    assert!(&rt; are_lines(&rt, rt.alloc(), 1, 2, NO_WINDOW)?);
+    holds(&rt, are_lines(&rt, rt.alloc(), 1, 2, NO_WINDOW)?);
     Ok(())
+}
+
+/// Whether threads for two shares make the same text of a design as one engine does.
+fn is_text_of_two<R: Threads + Wait + Sync>(
+    rt: &R,
+    alloc: Global,
+    design: &Design,
+) -> Result<bool, Fail> {
+    let text = stream_text(alloc, design)?;
+    is_shared(rt, alloc, design, 2, &text)
+}
+
+/// The same of the divider.
+fn is_divided<R: Threads + Wait + Sync>(rt: &R, alloc: Global) -> Result<bool, Fail> {
+    let design = divider(alloc)?;
+    is_text_of_two(rt, alloc, &design)
 }
 
 // The second share is given the inverse of the flip-flop. So long a run has several batches.
 #[test]
 fn several_batches(rt: HostRuntime) -> Result<(), Fail> {
-    let design = divider(rt.alloc())?;
-    let text = stream_text(rt.alloc(), &design)?;
-    assert!(&rt; is_shared(&rt, rt.alloc(), &design, 2, &text)?);
+    holds(&rt, is_divided(&rt, rt.alloc())?);
     Ok(())
 }

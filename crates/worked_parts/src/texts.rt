@@ -3,17 +3,19 @@
 ghost use Rattle.std.specs.Prelude.{◌≡◌};
 ghost use Rattle.cmb_design.specs.Exact.{nets_of};
 
-use crate::parts::{second_part, two_parts};
+use crate::checks::holds;
+use crate::parts::{part_alone, two_parts};
 use cmb_choice::chosen_text;
 use cmb_choice::text::part_of;
 use cmb_design::Design;
-use std::alloc::{AllocError, Global};
+use std::alloc::Global;
+use std::process::Abort;
 use std::test::Fail;
 use worked_inputs::text_of;
 
 /// Whether the text of `b` and `q` is as it should be. The inverter `z` of `b` is 1 from tick 2 on and 0 from tick 6
 /// on, and `q` shows what was sampled at tick 3 a tick later.
-fn shows_two(alloc: Global, design: &Design) -> Result<bool, AllocError>
+fn shows_two(alloc: Global, design: &Design) -> Result<bool, Fail>
     requires { nets_of design.now ≡ 5 }
 {
     let text = chosen_text(alloc, design, &[1, 4])?;
@@ -22,7 +24,7 @@ fn shows_two(alloc: Global, design: &Design) -> Result<bool, AllocError>
 }
 
 /// Whether the text of all nets of a design of three is that of `b`, `z` and `q`.
-fn shows_three(alloc: Global, part: &Design) -> Result<bool, AllocError> {
+fn shows_three(alloc: Global, part: &Design) -> Result<bool, Fail> {
     if part.netlist().len() == 3 {
         let text = chosen_text(alloc, part, &[0, 1, 2])?;
         let wanted = text_of(alloc, "b z q", "#0 0! x\" x# #2 1\" #4 1! 1# #6 0\" #8")?;
@@ -32,38 +34,45 @@ fn shows_three(alloc: Global, part: &Design) -> Result<bool, AllocError> {
 }
 
 /// Whether the part on which `b` and `q` depend has three nets, of which these are the first and the last.
-fn has_part(alloc: Global, design: &Design) -> Result<bool, AllocError>
+fn has_part(alloc: Global, design: &Design) -> Result<bool, Fail>
     requires { nets_of design.now ≡ 5 }
 {
     let part = part_of(alloc, design, &[1, 4])?;
     Ok(part.design.netlist().len() == 3 && part.nets.as_slice() == [0, 2].as_slice())
 }
 
+/// Whether the text of two nets is as it should be.
+fn two_are_shown(rt: &impl Abort, alloc: Global) -> Result<bool, Fail> {
+    let design = two_parts(rt, alloc)?;
+    shows_two(alloc, &design)
+}
+
+/// Whether the part on which two nets depend is as it should be.
+fn two_have_a_part(rt: &impl Abort, alloc: Global) -> Result<bool, Fail> {
+    let design = two_parts(rt, alloc)?;
+    has_part(alloc, &design)
+}
+
 /// Whether the part on which `q` depends has the text of its three nets.
-fn shows_part(alloc: Global, design: &Design) -> Result<bool, AllocError>
-    requires { nets_of design.now ≡ 5 }
-{
-    let part = second_part(alloc, design)?;
+fn part_is_shown(rt: &impl Abort, alloc: Global) -> Result<bool, Fail> {
+    let part = part_alone(rt, alloc)?;
     shows_three(alloc, &part)
 }
 
 #[test]
 fn two_nets(rt: HostRuntime) -> Result<(), Fail> {
-    let design = two_parts(&rt, rt.alloc())?;
-    assert!(&rt; shows_two(rt.alloc(), &design)?);
+    holds(&rt, two_are_shown(&rt, rt.alloc())?);
     Ok(())
 }
 
 #[test]
 fn part_of_two_nets(rt: HostRuntime) -> Result<(), Fail> {
-    let design = two_parts(&rt, rt.alloc())?;
-    assert!(&rt; has_part(rt.alloc(), &design)?);
+    holds(&rt, two_have_a_part(&rt, rt.alloc())?);
     Ok(())
 }
 
 #[test]
 fn all_nets_of_a_part(rt: HostRuntime) -> Result<(), Fail> {
-    let design = two_parts(&rt, rt.alloc())?;
-    assert!(&rt; shows_part(rt.alloc(), &design)?);
+    holds(&rt, part_is_shown(&rt, rt.alloc())?);
     Ok(())
 }

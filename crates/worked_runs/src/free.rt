@@ -4,6 +4,7 @@ ghost use Rattle.std.specs.Prelude.{◌≡◌, IfOk, Some, length};
 ghost use Rattle.std.specs.Prelude.{◌<◌, ◌-◌, ◌^◌};
 ghost use Rattle.cmb_design.specs.Exact.{nets_of};
 
+use crate::checks::{holds, same};
 use crate::rounds::{TOGGLE, TOGGLE_TEXT};
 use cmb_core::Clustering;
 use cmb_design::{Design, Settings};
@@ -193,8 +194,8 @@ impl Turnstile for ClosedGate {
 fn closed_gate(rt: HostRuntime) -> Result<(), Fail> {
     let alloc = rt.alloc();
     let stopped = Ended::Stopped { net: 0, upto: 0 };
-    assert_eq!(rt; toggle_by(&rt, alloc, 2, &ClosedGate)?, stopped);
-    assert_eq!(rt; toggle_by(&rt, alloc, 2, &OpenGate)?, Ended::Whole);
+    same(&rt, toggle_by(&rt, alloc, 2, &ClosedGate)?, stopped);
+    same(&rt, toggle_by(&rt, alloc, 2, &OpenGate)?, Ended::Whole);
     Ok(())
 }
 
@@ -225,8 +226,8 @@ fn workers_meet(rt: HostRuntime) -> Result<(), Fail> {
         flags: [AtomicU64::new(0), AtomicU64::new(0)],
         missed: AtomicU64::new(0),
     };
-    assert_eq!(rt; toggle_by(&rt, rt.alloc(), 2, &meeting)?, Ended::Whole);
-    assert_eq!(rt; meeting.missed.load(SeqCst), 0);
+    same(&rt, toggle_by(&rt, rt.alloc(), 2, &meeting)?, Ended::Whole);
+    same(&rt, meeting.missed.load(SeqCst), 0);
     Ok(())
 }
 
@@ -257,9 +258,9 @@ fn workers_without_clusters_meet_too(rt: HostRuntime) -> Result<(), Fail> {
         others: 4,
         missed: AtomicU64::new(0),
     };
-    assert_eq!(rt; toggle_by(&rt, rt.alloc(), 5, &assembly)?, Ended::Whole);
-    assert_eq!(rt; assembly.here.load(SeqCst), 5);
-    assert_eq!(rt; assembly.missed.load(SeqCst), 0);
+    same(&rt, toggle_by(&rt, rt.alloc(), 5, &assembly)?, Ended::Whole);
+    same(&rt, assembly.here.load(SeqCst), 5);
+    same(&rt, assembly.missed.load(SeqCst), 0);
     Ok(())
 }
 
@@ -287,10 +288,10 @@ fn turns_rise_by_one(rt: HostRuntime) -> Result<(), Fail> {
         next: [AtomicU64::new(0), AtomicU64::new(0), AtomicU64::new(0)],
         missed: AtomicU64::new(0),
     };
-    assert_eq!(rt; toggle_by(&rt, rt.alloc(), 3, &counted)?, Ended::Whole);
-    assert_eq!(rt; counted.missed.load(SeqCst), 0);
+    same(&rt, toggle_by(&rt, rt.alloc(), 3, &counted)?, Ended::Whole);
+    same(&rt, counted.missed.load(SeqCst), 0);
     for next in &counted.next {
-        assert!(rt; next.load(SeqCst) > 0);
+        holds(&rt, next.load(SeqCst) > 0);
     }
     Ok(())
 }
@@ -343,10 +344,13 @@ fn stops<R: Abort + Threads + Wait + Sync>(
 ) -> Result<(), Fail> {
     let gate = one_stops_at(stopped, at);
     let ended = toggle_by(rt, alloc, 2, &gate)?;
-    assert_eq!(rt; gate.missed.load(SeqCst), 0);
-    assert!(rt;
-        matches!(ended, Ended::Stopped { net: 0, upto } if least <= upto && upto <= most),
-        "worker {stopped} at {at}: {ended:?}"
+    same(rt, gate.missed.load(SeqCst), 0);
+    let is_known =
+        matches!(ended, Ended::Stopped { net: 0, upto } if least <= upto && upto <= most);
+    same(
+        rt,
+        (stopped, at, ended, is_known),
+        (stopped, at, ended, true),
     );
     Ok(())
 }
@@ -420,7 +424,7 @@ fn halved(rt: &impl Abort, alloc: Global, design: &Design) -> Result<Clustering,
     ensures { IfOk result (λ clustering. length clustering.assign ≡ nets_of design.now) }
 {
     let clustering = Clustering::new(140, 2, halves(alloc, 70)?)?;
-    assert!(rt; clustering.nets() == design.netlist().len());
+    holds(rt, clustering.nets() == design.netlist().len());
     Ok(clustering)
 }
 
@@ -434,7 +438,11 @@ fn halved_buffers(rt: &impl Abort, alloc: Global) -> Result<Clustered, Fail> {
 fn early_reader(rt: HostRuntime) -> Result<(), Fail> {
     let alloc = rt.alloc();
     let buffers = halved_buffers(&rt, alloc)?;
-    assert_eq!(rt; run_by(&rt, alloc, &buffers, 2, &Patience)?, Ended::Whole);
+    same(
+        &rt,
+        run_by(&rt, alloc, &buffers, 2, &Patience)?,
+        Ended::Whole,
+    );
     Ok(())
 }
 
@@ -487,9 +495,9 @@ fn early_text(rt: HostRuntime) -> Result<(), Fail> {
         taken: &taken,
     };
     let told = toggle_told(&rt, alloc, &gate, &mut sink)?;
-    assert_eq!(rt; gate.missed.load(SeqCst), 0);
-    assert_eq!(rt; told, Told::Whole(209));
-    assert!(rt; sink.room.bytes.as_slice() == text.as_bytes());
+    same(&rt, gate.missed.load(SeqCst), 0);
+    same(&rt, told, Told::Whole(209));
+    holds(&rt, sink.room.bytes.as_slice() == text.as_bytes());
     Ok(())
 }
 
@@ -514,10 +522,10 @@ fn ends_early<R: Abort + Threads + Wait + Sync>(
     let text = toggle_text(alloc)?;
     let mut sink = Limited::new(alloc, 1000);
     let told = toggle_told(rt, alloc, &ThreeTurns { worker }, &mut sink)?;
-    assert!(rt; text.as_bytes().starts_with(sink.bytes.as_slice()));
+    holds(rt, text.as_bytes().starts_with(sink.bytes.as_slice()));
     match told {
-        Told::Whole(written) => assert_eq!(rt; (written, sink.bytes.len()), (209, 209)),
-        _ => assert!(rt; matches!(told, Told::Stopped { .. })),
+        Told::Whole(written) => same(rt, (written, sink.bytes.len()), (209, 209)),
+        _ => holds(rt, matches!(told, Told::Stopped { .. })),
     }
     Ok(())
 }
@@ -584,12 +592,12 @@ fn stops_with_text<R: Abort + Threads + Wait + Sync>(
             written,
             keeps,
         } => {
-            assert_eq!(rt; (net, written, keeps), (0, sink.bytes.len(), true));
-            assert!(rt; 3 <= upto && upto <= most, "{at}: {upto}");
+            same(rt, (net, written, keeps), (0, sink.bytes.len(), true));
+            same(rt, (at, upto, 3 <= upto && upto <= most), (at, upto, true));
         }
-        _ => assert!(rt; false, "{at}"),
+        _ => holds(rt, false),
     }
-    assert!(rt; text.as_bytes().starts_with(sink.bytes.as_slice()));
+    holds(rt, text.as_bytes().starts_with(sink.bytes.as_slice()));
     Ok(())
 }
 
@@ -608,9 +616,9 @@ fn text_of_a_full_sink(rt: HostRuntime) -> Result<(), Fail> {
     for room in [0usize, 17, 144, 145, 208] {
         let mut sink = Limited::new(alloc, room);
         let told = toggle_told(&rt, alloc, &OpenGate, &mut sink)?;
-        assert_eq!(rt; told, Told::Broken(room as u64));
-        assert!(rt; text.as_bytes().starts_with(sink.bytes.as_slice()));
-        assert_eq!(rt; sink.bytes.len(), room);
+        same(&rt, told, Told::Broken(room as u64));
+        holds(&rt, text.as_bytes().starts_with(sink.bytes.as_slice()));
+        same(&rt, sink.bytes.len(), room);
     }
     Ok(())
 }

@@ -1,5 +1,6 @@
 //! Runs in rounds: the texts don't change with clusters and workers. They were made by another simulator.
 
+use crate::checks::{holds, same};
 use cmb_design::Design;
 use cmb_links::Workers;
 use cmb_rounds::run_rounds;
@@ -10,7 +11,7 @@ use std::process::Abort;
 use std::sync::Wait;
 use std::test::Fail;
 use std::thread::Threads;
-use worked_inputs::{Inputs, bare, design_of, sampled, spread, stimulated, text_of};
+use worked_inputs::{Inputs, bare, design_of, or_fail, sampled, spread, stimulated, text_of};
 
 // The text of a run in which the nets are spread over so many clusters.
 fn run_text<R: Threads + Wait + Sync>(
@@ -23,7 +24,7 @@ fn run_text<R: Threads + Wait + Sync>(
     let workers = Workers::new(workers)?;
     let clustering = spread(alloc, design, clusters)?;
     let collector = run_rounds(rt, alloc, design, &clustering, workers)?;
-    Ok(vcd_text(alloc, design, &collector)?)
+    or_fail(vcd_text(alloc, design, &collector))
 }
 
 // The text is the same by any workers, also where some have no cluster and some clusters no net.
@@ -35,7 +36,10 @@ fn all_alike<R: Abort + Threads + Wait + Sync>(
 ) -> Result<(), Fail> {
     for clusters in [1u32, 2, 64] {
         for workers in [1u32, 2, 3, 64] {
-            assert!(rt; run_text(rt, alloc, design, clusters, workers)?.as_slice() == text);
+            holds(
+                rt,
+                run_text(rt, alloc, design, clusters, workers)?.as_slice() == text,
+            );
         }
     }
     Ok(())
@@ -87,16 +91,21 @@ fn latch(rt: HostRuntime) -> Result<(), Fail> {
     writes(&rt, inputs, 12, "r s nq q", body)
 }
 
+// The text of no nets up to tick 1.
+fn text_of_none<R: Threads + Wait + Sync>(rt: &R, alloc: Global) -> Result<Vec<u8>, Fail> {
+    let design = design_of(alloc, bare(b""), sampled(1))?;
+    run_text(rt, alloc, &design, 2, 2)
+}
+
 #[test]
 fn no_nets(rt: HostRuntime) -> Result<(), Fail> {
-    let design = design_of(rt.alloc(), bare(b""), sampled(1))?;
-    let text = run_text(&rt, rt.alloc(), &design, 2, 2)?;
-    assert_eq!(rt; text.len(), 123);
+    let text = text_of_none(&rt, rt.alloc())?;
+    same(&rt, text.len(), 123);
     Ok(())
 }
 
 #[test]
 fn run_faults(rt: HostRuntime) {
-    assert_eq!(rt; RunFault::Write { written: 0 }.number(), 62);
-    assert_eq!(rt; RunFault::Memory.number(), 70);
+    same(&rt, RunFault::Write { written: 0 }.number(), 62);
+    same(&rt, RunFault::Memory.number(), 70);
 }

@@ -1,5 +1,6 @@
 //! What a simulation is given, and what is to come of it.
 
+use crate::checks::{holds, same};
 use cmb_sim::{Fault, FromBytes, Level, Limited, Mode, Report, Settings, simulate};
 use std::alloc::{AllocError, Global};
 use std::process::Abort;
@@ -156,12 +157,12 @@ pub fn takes(rt: &impl Abort, outcome: (Told, Vec<u8>), text: &str, room: usize)
     let (told, taken) = outcome;
     let answer = told.map(|report| report.written);
     if room < text.len() {
-        assert_eq!(rt; answer, Err((62, room as u64)));
+        same(rt, answer, Err((62, room as u64)));
     } else {
-        assert_eq!(rt; answer, Ok(room as u64));
+        same(rt, answer, Ok(room as u64));
     }
-    assert_eq!(rt; taken.len(), room);
-    assert!(rt; text.as_bytes().starts_with(taken.as_slice()));
+    same(rt, taken.len(), room);
+    holds(rt, text.as_bytes().starts_with(taken.as_slice()));
 }
 
 /// In every mode the text of this case is that of these references and this body, and the report tells its length.
@@ -179,8 +180,8 @@ pub fn writes<R: AllocGlobal + Abort + Threads + Wait + Sync>(
     };
     for mode in MODES {
         let (told, text) = run(rt, case, mode)?;
-        assert!(rt; text.as_slice() == want.as_bytes(), "{body}");
-        assert_eq!(rt; told, Ok(report), "{body}");
+        same(rt, (body, text.as_slice() == want.as_bytes()), (body, true));
+        same(rt, (body, told), (body, Ok(report)));
     }
     Ok(())
 }
@@ -204,7 +205,7 @@ pub fn refuses_in<R: AllocGlobal + Abort + Threads + Wait + Sync>(
     place: u64,
 ) -> Result<(), Fail> {
     let (told, text) = run(rt, case, mode)?;
-    assert_eq!(rt; told, Err((number, place)));
-    assert!(rt; text.is_empty());
+    same(rt, told, Err((number, place)));
+    holds(rt, text.is_empty());
     Ok(())
 }

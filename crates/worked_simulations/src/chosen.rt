@@ -3,6 +3,7 @@
 ghost use Rattle.std.specs.Prelude.{◌≡◌};
 
 use crate::cases::{Case, MODES, Told, bench_case, table, takes, told};
+use crate::checks::{holds, same};
 use crate::drips::{Drip, dripping};
 use cmb_sim::{Choice, FromBytes, Limited, Mode, Pick, Report, simulate_chosen};
 use std::alloc::AllocError;
@@ -68,8 +69,8 @@ fn shows<R: AllocGlobal + Abort + Threads + Wait + Sync>(
     };
     for mode in MODES {
         let (told, text) = run_chosen(rt, row(), mode, choice, &mut dripping(names, 1000), 1000)?;
-        assert!(rt; text.as_slice() == want.as_bytes(), "{body}");
-        assert_eq!(rt; told, Ok(report), "{body}");
+        same(rt, (body, text.as_slice() == want.as_bytes()), (body, true));
+        same(rt, (body, told), (body, Ok(report)));
     }
     Ok(())
 }
@@ -111,8 +112,8 @@ fn list_refused<R: AllocGlobal + Abort + Threads + Wait + Sync>(
 ) -> Result<(), Fail> {
     for mode in MODES {
         let (told, text) = run_chosen(rt, case, mode, LISTED, &mut dripping(names, left), 1000)?;
-        assert_eq!(rt; told, Err(want));
-        assert!(rt; text.is_empty());
+        same(rt, told, Err(want));
+        holds(rt, text.is_empty());
     }
     Ok(())
 }
@@ -133,7 +134,7 @@ fn each_read_of_a_list_fails(rt: HostRuntime) -> Result<(), Fail> {
     }
     let mut names = dripping(b"y\n", 3);
     let (told, _) = run_chosen(&rt, row(), Mode::Plain, LISTED, &mut names, 1000)?;
-    assert!(rt; told.is_ok());
+    holds(&rt, told.is_ok());
     Ok(())
 }
 

@@ -1,6 +1,7 @@
 //! Sources and sinks that fail, and inputs that are too large.
 
 use crate::cases::{MODES, Told, bench_case, clocked, refuses, run_within, takes, told};
+use crate::checks::{holds, same};
 use crate::drips::dripping;
 use crate::waves::{inverter, toggle};
 use cmb_sim::{FromBytes, Limited, Mode, simulate};
@@ -49,12 +50,12 @@ fn fails_at_each_read<R: AllocGlobal + Abort + Threads + Wait + Sync>(
         }
         let (told, text) = run_drips(rt, mode, reads);
         if let Ok(report) = told {
-            assert_eq!(rt; READS.get(index).copied(), Some(left));
-            assert_eq!(rt; report.written, 190);
+            same(rt, READS.get(index).copied(), Some(left));
+            same(rt, report.written, 190);
             return Ok(());
         }
-        assert_eq!(rt; told, Err((61, u64::from(input))));
-        assert!(rt; text.is_empty());
+        same(rt, told, Err((61, u64::from(input))));
+        holds(rt, text.is_empty());
     }
     Err(Fail::from("it always fails"))
 }
@@ -82,7 +83,7 @@ fn short_sink(rt: HostRuntime) -> Result<(), Fail> {
 fn each_write_fails(rt: HostRuntime) -> Result<(), Fail> {
     let body = "#0 0! x\" #1 1\" #3 1! #4 0\" #7 0! #8 1\" #11 1! #12";
     let text = text_of(rt.alloc(), "q d", body)?;
-    assert_eq!(rt; text.len(), 209);
+    same(&rt, text.len(), 209);
     for mode in MODES {
         for room in 0..=209usize {
             let outcome = run_within(&rt, clocked(toggle(), 2, 4), mode, room)?;
@@ -119,7 +120,7 @@ fn too_long<R: AllocGlobal + Abort + Threads + Wait + Sync>(rt: &R, long: &[u8],
         Mode::Plain,
         &mut out,
     );
-    assert_eq!(rt; told(&answer), Err((60, input)));
+    same(rt, told(&answer), Err((60, input)));
 }
 
 #[test]

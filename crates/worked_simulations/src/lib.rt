@@ -8,6 +8,8 @@ mod checks;
 #[cfg(test)]
 mod chosen;
 #[cfg(test)]
+mod counts;
+#[cfg(test)]
 mod drips;
 #[cfg(test)]
 mod ends;

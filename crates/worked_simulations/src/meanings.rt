@@ -1,5 +1,6 @@
 //! The library's texts of faults, beside their explanations.
 
+use crate::checks::{holds, same};
 use cmb_explain::explanation_of;
 use cmb_sim::{BenchFault, DesignFault, Fault, FaultKind, fault_line};
 use std::alloc::Global;
@@ -9,10 +10,9 @@ use std::test::Fail;
 // The library's text of a fault ends with what the explanation says of its number.
 fn same_meaning<R: Abort>(rt: &R, alloc: Global, fault: Fault) -> Result<(), Fail> {
     let text = format!(in alloc; "{fault}")?;
-    match explanation_of(fault.number()) {
-        Some(entry) => assert!(rt; text.as_str().ends_with(entry.meaning), "{text}"),
-        None => assert!(rt; false, "{text}"),
-    }
+    let entry = explanation_of(fault.number()).ok_or("a fault that isn't explained")?;
+    let ends = text.as_str().ends_with(entry.meaning);
+    same(rt, (text.as_str(), ends), (text.as_str(), true));
     Ok(())
 }
 
@@ -82,6 +82,9 @@ fn meanings_of_runs(rt: HostRuntime) -> Result<(), Fail> {
 #[test]
 fn line_of_a_fault(rt: HostRuntime) -> Result<(), Fail> {
     let line = fault_line(rt.alloc(), &Fault::Write { written: 70 })?;
-    assert!(rt; line.as_slice() == b"cmbsim: fault 62 at 70\n".as_slice());
+    holds(
+        &rt,
+        line.as_slice() == b"cmbsim: fault 62 at 70\n".as_slice(),
+    );
     Ok(())
 }

@@ -1,5 +1,6 @@
 //! The stages of a simulation, called one by one.
 
+use crate::checks::{holds, same};
 use crate::drips::dripping;
 use cmb_inputs::{
     chosen_nets, read_input, read_names, read_texts, show_nets, spelled_design, write_counts,
@@ -51,14 +52,14 @@ fn nets_by_stages(rt: HostRuntime) -> Result<(), Fail> {
     let body = "#0 x! x\" #1 1! #2 1\" #6 0! #7 0\" #10";
     let want = text_of(alloc, "y z", body)?;
     let (answer, text) = show_listed(alloc, b"z\ny # both\n", 1000)?;
-    assert!(rt; text.as_slice() == want.as_bytes());
+    holds(&rt, text.as_slice() == want.as_bytes());
     let report = answer?;
-    assert_eq!(rt; report.nets, 4);
-    assert_eq!(rt; report.horizon, 10);
-    assert_eq!(rt; report.written, want.len() as u64);
+    same(&rt, report.nets, 4);
+    same(&rt, report.horizon, 10);
+    same(&rt, report.written, want.len() as u64);
     let (cut, beginning) = show_listed(alloc, b"y z", 17)?;
-    assert_eq!(rt; place_of(&cut), (62, 17));
-    assert!(rt; beginning.as_slice() == b"$version cmbsim 1".as_slice());
+    same(&rt, place_of(&cut), (62, 17));
+    holds(&rt, beginning.as_slice() == b"$version cmbsim 1".as_slice());
     Ok(())
 }
 
@@ -73,12 +74,12 @@ fn place_of<T>(answer: &Result<T, Fault>) -> (u32, u64) {
 #[test]
 fn lists_by_stages(rt: HostRuntime) -> Result<(), Fail> {
     let alloc = rt.alloc();
-    assert_eq!(rt; place_of(&show_listed(alloc, b"y\nv\n", 1000)), (38, 2));
+    same(&rt, place_of(&show_listed(alloc, b"y\nv\n", 1000)), (38, 2));
     let mut list = dripping(b"y", 0);
     let names = read_names(alloc, Choice::Only(Pick::Outputs), &mut list)?;
-    assert!(rt; names.is_empty());
+    holds(&rt, names.is_empty());
     let listed = read_names(alloc, Choice::Only(Pick::Listed), &mut list);
-    assert_eq!(rt; place_of(&listed), (61, 5));
+    same(&rt, place_of(&listed), (61, 5));
     Ok(())
 }
 
@@ -86,9 +87,9 @@ fn lists_by_stages(rt: HostRuntime) -> Result<(), Fail> {
 fn inputs_by_number(rt: HostRuntime) -> Result<(), Fail> {
     let alloc = rt.alloc();
     let text = read_input(alloc, &mut FromBytes::new(b"a,b\n"), 3)?;
-    assert!(rt; text.as_slice() == b"a,b\n".as_slice());
+    holds(&rt, text.as_slice() == b"a,b\n".as_slice());
     let failed = read_input(alloc, &mut dripping(b"a,b\n", 2), 3);
-    assert_eq!(rt; place_of(&failed), (61, 3));
+    same(&rt, place_of(&failed), (61, 3));
     Ok(())
 }
 
@@ -105,16 +106,21 @@ fn counts_by_stages(rt: HostRuntime) -> Result<(), Fail> {
     )?;
     let mut out = Limited::new(alloc, 1000);
     write_counts(alloc, &counts, &mut out)?;
-    assert!(rt;
+    holds(
+        &rt,
         out.bytes
             .as_slice()
-            .starts_with(b"       4  nets\n       1  inputs\n")
+            .starts_with(b"       4  nets\n       1  inputs\n"),
     );
     let mut few = Limited::new(alloc, 9);
-    assert_eq!(rt; place_of(&write_counts(alloc, &counts, &mut few)), (62, 9));
-    assert!(rt; few.bytes.as_slice() == b"       4 ".as_slice());
+    same(
+        &rt,
+        place_of(&write_counts(alloc, &counts, &mut few)),
+        (62, 9),
+    );
+    holds(&rt, few.bytes.as_slice() == b"       4 ".as_slice());
     let mut two = Limited::new(alloc, 2);
-    assert_eq!(rt; place_of(&write_text(&mut two, b"abc")), (62, 2));
-    assert!(rt; two.bytes.as_slice() == b"ab".as_slice());
+    same(&rt, place_of(&write_text(&mut two, b"abc")), (62, 2));
+    holds(&rt, two.bytes.as_slice() == b"ab".as_slice());
     Ok(())
 }

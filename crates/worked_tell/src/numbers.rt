@@ -1,6 +1,7 @@
 //! What `--progress` and `--stats` say.
 
 use crate::carried::{Inputs, carried};
+use crate::checks::{holds, same};
 use cmb_tell::{Stats, Tally, peak_of, processor_of, stats_text};
 use std::test::Fail;
 use std::time::Duration;
@@ -16,18 +17,34 @@ const INVERTER: Inputs<'static> = Inputs {
 #[test]
 fn watched_text(rt: HostRuntime) -> Result<(), Fail> {
     let plain = carried(&rt, &rt, "run --horizon 10", INVERTER)?;
-    assert!(rt; plain.answer.is_ok());
-    assert!(rt; plain.screen.is_empty());
-    assert_eq!(rt; plain.tally, Tally::new());
+    holds(&rt, plain.answer.is_ok());
+    holds(&rt, plain.screen.is_empty());
+    same(&rt, plain.tally, Tally::new());
     for mode in ["plain", "rounds", "free"] {
         let line = format!(in rt.alloc(); "run --horizon 10 --stats --progress --mode {mode}")?;
         let told = carried(&rt, &rt, line.as_str(), INVERTER)?;
-        assert!(rt; told.answer.is_ok());
-        assert!(rt; told.text.as_slice() == plain.text.as_slice(), "{mode}");
-        assert_eq!(rt; told.tally.bytes, plain.text.len() as u64, "{mode}");
-        assert_eq!(rt; (told.tally.changes, told.tally.tick), (5, 10), "{mode}");
-        assert!(rt; told.was_timed);
-        assert!(rt; told.screen.ends_with(b"\r\x1b[K"), "{mode}");
+        holds(&rt, told.answer.is_ok());
+        same(
+            &rt,
+            (mode, told.text.as_slice() == plain.text.as_slice()),
+            (mode, true),
+        );
+        same(
+            &rt,
+            (mode, told.tally.bytes),
+            (mode, plain.text.len() as u64),
+        );
+        same(
+            &rt,
+            (mode, (told.tally.changes, told.tally.tick)),
+            (mode, (5, 10)),
+        );
+        holds(&rt, told.was_timed);
+        same(
+            &rt,
+            (mode, told.screen.ends_with(b"\r\x1b[K")),
+            (mode, true),
+        );
     }
     Ok(())
 }
@@ -35,18 +52,20 @@ fn watched_text(rt: HostRuntime) -> Result<(), Fail> {
 #[test]
 fn counts_and_empty_netlists(rt: HostRuntime) -> Result<(), Fail> {
     let counted = carried(&rt, &rt, "check --horizon 10", INVERTER)?;
-    assert!(rt; counted.answer.is_ok());
-    assert!(rt;
+    holds(&rt, counted.answer.is_ok());
+    holds(
+        &rt,
         counted
             .text
-            .starts_with(b"       2  nets\n       1  inputs\n")
+            .starts_with(b"       2  nets\n       1  inputs\n"),
     );
-    assert!(rt;
+    holds(
+        &rt,
         counted
             .text
-            .ends_with(b"       2  rows of stimuli\n       0  rows of clocks\n")
+            .ends_with(b"       2  rows of stimuli\n       0  rows of clocks\n"),
     );
-    assert!(rt; counted.words.is_empty());
+    holds(&rt, counted.words.is_empty());
     let none = Inputs {
         bench: b"",
         ..INVERTER
@@ -56,7 +75,10 @@ fn counts_and_empty_netlists(rt: HostRuntime) -> Result<(), Fail> {
         ..none
     };
     let told = carried(&rt, &rt, "check --horizon 10 --explain", none)?;
-    assert!(rt; told.words.starts_with("cmbsim: the netlist has no nets"));
+    holds(
+        &rt,
+        told.words.starts_with("cmbsim: the netlist has no nets"),
+    );
     Ok(())
 }
 
@@ -65,7 +87,7 @@ fn text_of_numbers(rt: HostRuntime) -> Result<(), Fail> {
     let mut tally = Tally::new();
     tally.add(b"#0\n$dumpvars\n0!\nx\"\n$end\n#1");
     tally.add(b"2\n1!\n#4000\n");
-    assert_eq!(rt; (tally.bytes, tally.changes, tally.tick), (37, 3, 4000));
+    same(&rt, (tally.bytes, tally.changes, tally.tick), (37, 3, 4000));
     let stats = Stats {
         nets: 2,
         ticks: 4000,
@@ -91,6 +113,6 @@ fn text_of_numbers(rt: HostRuntime) -> Result<(), Fail> {
         write!(want, "{number:>16}  {what}\n")?;
     }
     let text = stats_text(rt.alloc(), &stats)?;
-    assert!(rt; text.as_str() == want.as_str(), "{}", text.as_str());
+    same(&rt, text.as_str(), want.as_str());
     Ok(())
 }

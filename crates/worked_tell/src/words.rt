@@ -1,11 +1,20 @@
 //! What `--explain` says.
 
 use crate::carried::{Inputs, carried};
-use cmb_sim::Fault;
+use crate::checks::same;
+use cmb_sim::{Done, Fault};
 use std::process::Abort;
 use std::sync::Wait;
 use std::test::Fail;
 use std::thread::Threads;
+
+// The number of a fault and its place, or twice 0 where there is none.
+fn fault_of(answer: &Result<Done, Fault>) -> (u32, u64) {
+    match answer {
+        Ok(_) => (0, 0),
+        Err(fault) => (fault.number(), fault.place()),
+    }
+}
 
 // A line has this fault at this place and this text, and nothing is written.
 fn is_told<R: AllocGlobal + Abort + Threads + Wait + Sync>(
@@ -17,16 +26,9 @@ fn is_told<R: AllocGlobal + Abort + Threads + Wait + Sync>(
 ) -> Result<(), Fail> {
     let outcome = carried(rt, clock, line, inputs)?;
     let (number, place, words) = want;
-    match outcome.answer {
-        Ok(_) => assert!(rt; false, "no fault {number}"),
-        Err(fault) => assert_eq!(rt; (fault.number(), fault.place()), (number, place)),
-    }
-    assert!(rt;
-        outcome.words.as_str() == words,
-        "{}",
-        outcome.words.as_str()
-    );
-    assert_eq!(rt; outcome.text.len(), 0);
+    same(rt, fault_of(&outcome.answer), (number, place));
+    same(rt, outcome.words.as_str(), words);
+    same(rt, outcome.text.len(), 0);
     Ok(())
 }
 

@@ -1,5 +1,6 @@
 //! The plain program on worked examples.
 
+use crate::checks::same;
 use crate::netlists::inputs;
 use crate::toggle::{D, Q, TOGGLE, at};
 use cmb_design::{DesignFault, Settings, plain_waves};
@@ -7,12 +8,12 @@ use cmb_wave::{Change, Level, Wave};
 use std::alloc::Global;
 use std::process::Abort;
 use std::test::Fail;
-use worked_inputs::{Inputs, bare, design_of, sampled, stimulated};
+use worked_inputs::{Inputs, bare, design_of, or_fail, sampled, stimulated};
 
 // The waves of the design of these texts.
 fn waves_of(alloc: Global, inputs: Inputs<'_>, settings: Settings) -> Result<Vec<Wave>, Fail> {
     let design = design_of(alloc, inputs, settings)?;
-    Ok(plain_waves(alloc, &design)?)
+    or_fail(plain_waves(alloc, &design))
 }
 
 // The wave of a net is whole, and has these changes.
@@ -20,8 +21,12 @@ fn shows(rt: &impl Abort, waves: &[Wave], net: u32, horizon: u32, changes: &[Cha
     match waves.get(net as usize) {
         None => assert!(rt; false, "net {net} has no wave"),
         Some(wave) => {
-            assert_eq!(rt; (wave.net(), wave.base(), wave.clock()), (net, 0, horizon));
-            assert_eq!(rt; wave.changes(), changes);
+            same(
+                rt,
+                (wave.net(), wave.base(), wave.clock()),
+                (net, 0, horizon),
+            );
+            same(rt, wave.changes(), changes);
         }
     }
 }
@@ -39,7 +44,7 @@ fn toggle(rt: HostRuntime) -> Result<(), Fail> {
     shows(&rt, &waves, Q, 12, &q);
     let d = [at(1, Level::One), at(4, Level::Zero), at(8, Level::One)];
     shows(&rt, &waves, D, 12, &d);
-    assert_eq!(rt; waves.len(), 2);
+    same(&rt, waves.len(), 2);
     Ok(())
 }
 
@@ -77,6 +82,16 @@ fn far_ticks(rt: HostRuntime) -> Result<(), Fail> {
     Ok(())
 }
 
+// Why the design of these texts has no table, if it has none.
+fn fault_of(
+    alloc: Global,
+    inputs: Inputs<'_>,
+    settings: Settings,
+) -> Result<Option<DesignFault>, Fail> {
+    let design = design_of(alloc, inputs, settings)?;
+    Ok(plain_waves(alloc, &design).err())
+}
+
 #[test]
 fn too_large(rt: HostRuntime) -> Result<(), Fail> {
     let settings = Settings {
@@ -84,8 +99,7 @@ fn too_large(rt: HostRuntime) -> Result<(), Fail> {
         ..UNCLOCKED
     };
     let bench = inputs(rt.alloc(), 17)?;
-    let design = design_of(rt.alloc(), bare(bench.as_bytes()), settings)?;
-    let fault = plain_waves(rt.alloc(), &design).err();
-    assert_eq!(rt; fault, Some(DesignFault::TableTooLarge));
+    let fault = fault_of(rt.alloc(), bare(bench.as_bytes()), settings)?;
+    same(&rt, fault, Some(DesignFault::TableTooLarge));
     Ok(())
 }

@@ -1,5 +1,6 @@
 //! Tables as texts: laid out in odd ways, with far ticks, cut short and damaged at every byte.
 
+use crate::checks::{holds, same};
 use cmb_design::{ClockRow, Settings};
 use cmb_tables::read_clocks;
 use cmb_wave::Level;
@@ -27,9 +28,9 @@ fn outcome(alloc: Global, delays: &[u8], stimuli: &[u8]) -> Result<(u32, u32), F
         stimuli,
         clocks: b"",
     };
-    match judged_design(alloc, texts, SETTINGS)? {
-        Ok(_) => Ok((0, 0)),
-        Err(fault) => Ok((fault.number(), fault.record())),
+    match judged_design(alloc, texts, SETTINGS)?.err() {
+        None => Ok((0, 0)),
+        Some(fault) => Ok((fault.number(), fault.record())),
     }
 }
 
@@ -59,11 +60,11 @@ fn of_stimuli(n: usize) -> (u32, u32) {
 fn cut_tables(rt: HostRuntime) -> Result<(), Fail> {
     for n in 0..=DELAYS.len() {
         let found = outcome(rt.alloc(), &DELAYS[..n], STIMULI)?;
-        assert_eq!(rt; found, of_delays(n), "{n} bytes of delays");
+        same(&rt, (n, found), (n, of_delays(n)));
     }
     for n in 0..=STIMULI.len() {
         let found = outcome(rt.alloc(), DELAYS, &STIMULI[..n])?;
-        assert_eq!(rt; found, of_stimuli(n), "{n} bytes of stimuli");
+        same(&rt, (n, found), (n, of_stimuli(n)));
     }
     Ok(())
 }
@@ -94,17 +95,17 @@ fn damaged_delays(rt: HostRuntime) -> Result<(), Fail> {
         (30, b'9', (26, 3)),
     ] {
         let text = damaged(rt.alloc(), DELAYS, at, value)?;
-        assert_eq!(rt;
-            outcome(rt.alloc(), &text, STIMULI)?,
-            want,
-            "byte {at} to {value}"
+        same(
+            &rt,
+            (at, value, outcome(rt.alloc(), &text, STIMULI)?),
+            (at, value, want),
         );
     }
     for at in 0..DELAYS.len() {
         for value in 0..=255 {
             let text = damaged(rt.alloc(), DELAYS, at, value)?;
             let found = outcome(rt.alloc(), &text, STIMULI)?;
-            assert!(rt; is_of_record(found), "byte {at} to {value}");
+            same(&rt, (at, value, is_of_record(found)), (at, value, true));
         }
     }
     Ok(())
@@ -121,17 +122,17 @@ fn damaged_stimuli(rt: HostRuntime) -> Result<(), Fail> {
         (20, b'X', (0, 0)),
     ] {
         let text = damaged(rt.alloc(), STIMULI, at, value)?;
-        assert_eq!(rt;
-            outcome(rt.alloc(), DELAYS, &text)?,
-            want,
-            "byte {at} to {value}"
+        same(
+            &rt,
+            (at, value, outcome(rt.alloc(), DELAYS, &text)?),
+            (at, value, want),
         );
     }
     for at in 0..STIMULI.len() {
         for value in 0..=255 {
             let text = damaged(rt.alloc(), STIMULI, at, value)?;
             let found = outcome(rt.alloc(), DELAYS, &text)?;
-            assert!(rt; is_of_record(found), "byte {at} to {value}");
+            same(&rt, (at, value, is_of_record(found)), (at, value, true));
         }
     }
     Ok(())
@@ -152,7 +153,7 @@ fn layouts(rt: HostRuntime) -> Result<(), Fail> {
         ("by,name,delay\nnet,G9,3\nnet,G3,1000001", (28, 3)),
     ] {
         let found = outcome(rt.alloc(), delays.as_bytes(), b"")?;
-        assert_eq!(rt; found, want, "{delays}");
+        same(&rt, (delays, found), (delays, want));
     }
     Ok(())
 }
@@ -165,7 +166,7 @@ fn ticks_of_10_digits(rt: HostRuntime) -> Result<(), Fail> {
         ("tick,net,value\n10000000000,G0,0", (25, 2)),
     ] {
         let found = outcome(rt.alloc(), b"", stimuli.as_bytes())?;
-        assert_eq!(rt; found, want, "{stimuli}");
+        same(&rt, (stimuli, found), (stimuli, want));
     }
     Ok(())
 }
@@ -188,5 +189,5 @@ fn are_in_order(alloc: Global) -> bool {
 
 #[test]
 fn rows_as_they_were_read(rt: HostRuntime) {
-    assert!(&rt; are_in_order(rt.alloc()));
+    holds(&rt, are_in_order(rt.alloc()));
 }

@@ -1,5 +1,6 @@
 //! Command lines.
 
+use crate::checks::{contains, holds, same};
 use cmb_command::{LineFault, line_message, read_line};
 use cmb_line::{Choice, Line, Mode, Pick, Task};
 use cmb_wave::Level;
@@ -32,14 +33,14 @@ fn line_of(alloc: Global, line: &str) -> Result<Line, Fail> {
 // A line that isn't read, and why.
 fn refused(rt: &impl Abort, alloc: Global, line: &str, want: LineFault) -> Result<(), Fail> {
     let fault = answer_of(alloc, line)?.err();
-    assert_eq!(rt; fault, Some(want), "{line}");
+    same(rt, (line, fault), (line, Some(want)));
     Ok(())
 }
 
 // A line that asks for a run in this mode.
 fn runs(rt: &impl Abort, alloc: Global, line: &str, mode: Mode) -> Result<(), Fail> {
     let line = line_of(alloc, line)?;
-    assert_eq!(rt; (line.task, line.mode), (Task::Run, mode));
+    same(rt, (line.task, line.mode), (Task::Run, mode));
     Ok(())
 }
 
@@ -139,13 +140,17 @@ fn help_and_explanations(rt: HostRuntime) -> Result<(), Fail> {
 fn whole_line(rt: HostRuntime) -> Result<(), Fail> {
     let words = "run --horizon=012 --clock 2:4 --init 0 --mode plain --stimuli in.csv";
     let line = line_of(rt.alloc(), words)?;
-    assert_eq!(rt;
+    same(
+        &rt,
         (line.settings.horizon, line.settings.clock),
-        (12, Some((2, 4)))
+        (12, Some((2, 4))),
     );
-    assert_eq!(rt; line.settings.init, Level::Zero);
-    assert!(rt; line.stimuli.is_some_and(|name| name.as_str() == "in.csv"));
-    assert!(rt; line.delays.is_none() && line.clocks.is_none());
+    same(&rt, line.settings.init, Level::Zero);
+    holds(
+        &rt,
+        line.stimuli.is_some_and(|name| name.as_str() == "in.csv"),
+    );
+    holds(&rt, line.delays.is_none() && line.clocks.is_none());
     Ok(())
 }
 
@@ -158,7 +163,7 @@ fn asks_for(
     explain: bool,
 ) -> Result<(), Fail> {
     let line = line_of(alloc, line)?;
-    assert_eq!(rt; (line.task, line.explain), (task, explain));
+    same(rt, (line.task, line.explain), (task, explain));
     Ok(())
 }
 
@@ -197,7 +202,7 @@ fn tells(
     told: (bool, bool),
 ) -> Result<(), Fail> {
     let line = line_of(alloc, line)?;
-    assert_eq!(rt; (line.mode, (line.progress, line.stats)), (mode, told));
+    same(rt, (line.mode, (line.progress, line.stats)), (mode, told));
     Ok(())
 }
 
@@ -293,8 +298,8 @@ fn chooses(
     only: Option<&str>,
 ) -> Result<(), Fail> {
     let line = line_of(alloc, line)?;
-    assert_eq!(rt; line.choice, choice);
-    assert!(rt; line.only.as_ref().map(|name| name.as_str()) == only);
+    same(rt, line.choice, choice);
+    holds(rt, line.only.as_ref().map(|name| name.as_str()) == only);
     Ok(())
 }
 
@@ -342,7 +347,7 @@ fn messages(rt: HostRuntime) -> Result<(), Fail> {
         ("explain 9", "error: no fault has the number '9'\n"),
     ] {
         let message = message_of(alloc, line)?;
-        assert!(rt; message.as_str().contains(part), "{message}");
+        contains(&rt, message.as_str(), part);
     }
     Ok(())
 }
@@ -351,9 +356,9 @@ fn messages(rt: HostRuntime) -> Result<(), Fail> {
 fn version(rt: HostRuntime) -> Result<(), Fail> {
     let alloc = rt.alloc();
     let message = message_of(alloc, "--version")?;
-    assert_eq!(rt; message.as_str(), "cmbsim 0.9\n");
+    same(&rt, message.as_str(), "cmbsim 0.9\n");
     let message = message_of(alloc, "run --horizon 10 --slow")?;
-    assert!(rt; !message.as_str().contains("< netlist.bench"), "{message}");
+    holds(&rt, !message.as_str().contains("< netlist.bench"));
     Ok(())
 }
 
@@ -374,7 +379,7 @@ fn help_has_the_forms(rt: HostRuntime) -> Result<(), Fail> {
             "`cmbsim: fault N at P`",
             "\n    cmbsim run --horizon 10 --stimuli stimuli.csv < netlist.bench > inverter.vcd",
         ] {
-            assert!(rt; message.as_str().contains(part), "{line}: {part}");
+            contains(&rt, message.as_str(), part);
         }
     }
     Ok(())
@@ -401,7 +406,7 @@ fn help_has_each_option(rt: HostRuntime) -> Result<(), Fail> {
         "--only <FILE>",
         "--only-outputs",
     ] {
-        assert!(rt; message.as_str().contains(option), "{option}");
+        contains(&rt, message.as_str(), option);
     }
     Ok(())
 }

@@ -1,6 +1,7 @@
 //! The worked examples of words and gates. The tables of the gates are those of IEEE 1364-2005, 7.2 and 7.3; the other
 //! values follow by hand.
 
+use crate::checks::{holds, same};
 use cmb_netlist::Kind;
 use cmb_wave::Level;
 use cmb_wave::Level::{One, X, Zero};
@@ -11,20 +12,20 @@ use std::process::Abort;
 fn word_of(rt: &impl Abort, levels: &[Level]) -> Word {
     let mut word = Word::constant(X);
     for (place, level) in levels.iter().enumerate() {
-        assert!(rt; place < 64);
+        holds(rt, place < 64);
         word = word.with_from(place as u32, *level);
     }
     word
 }
 
 fn is_at(rt: &impl Abort, word: Word, place: u32, level: Level) {
-    assert!(rt; place < 64);
-    assert_eq!(rt; word.level(place), level);
+    holds(rt, place < 64);
+    same(rt, word.level(place), level);
 }
 
 fn begins_with(rt: &impl Abort, word: Word, levels: &[Level]) {
     for (place, level) in levels.iter().enumerate() {
-        assert!(rt; place < 64);
+        holds(rt, place < 64);
         is_at(rt, word, place as u32, *level);
     }
 }
@@ -93,9 +94,13 @@ fn three_operands(rt: HostRuntime) {
 
 #[test]
 fn known_operands(rt: HostRuntime) {
-    assert_eq!(rt; gate2_known(Kind::And, 0b1100, 0b1010), 0b1000);
-    assert_eq!(rt; gate2_known(Kind::Nor, 0b1100, 0b1010), u64::MAX - 0b1110);
-    assert_eq!(rt; gate2_known(Kind::Xor, 0b1100, 0b1010), 0b0110);
+    same(&rt, gate2_known(Kind::And, 0b1100, 0b1010), 0b1000);
+    same(
+        &rt,
+        gate2_known(Kind::Nor, 0b1100, 0b1010),
+        u64::MAX - 0b1110,
+    );
+    same(&rt, gate2_known(Kind::Xor, 0b1100, 0b1010), 0b0110);
 }
 
 #[test]
@@ -114,18 +119,18 @@ fn later_and_earlier(rt: HostRuntime) {
 #[test]
 fn places_that_change(rt: HostRuntime) {
     let word = word_of(&rt, &[X, One, One, Zero, X]);
-    assert_eq!(rt; word.changes(), 0b1_1010);
-    assert_eq!(rt; word.changes_from(4), 0b1_0000);
-    assert_eq!(rt; word.is_steady_from(4), false);
-    assert_eq!(rt; word.is_steady_from(5), true);
+    same(&rt, word.changes(), 0b1_1010);
+    same(&rt, word.changes_from(4), 0b1_0000);
+    same(&rt, word.is_steady_from(4), false);
+    same(&rt, word.is_steady_from(5), true);
 }
 
 #[test]
 fn words_put_together(rt: HostRuntime) {
     let word = spliced(Word::constant(One), Word::constant(X), 3);
     begins_with(&rt, word, &[One, One, One, X, X]);
-    assert_eq!(rt; word.differs_from(Word::constant(X), 3), false);
-    assert_eq!(rt; word.differs_from(Word::constant(X), 2), true);
+    same(&rt, word.differs_from(Word::constant(X), 3), false);
+    same(&rt, word.differs_from(Word::constant(X), 2), true);
     begins_with(&rt, word.repeated_from(2), &[One, One, One, One]);
 }
 

@@ -1,10 +1,14 @@
 //! Sharings.
 
+ghost use Rattle.std.specs.Prelude.{◌≤◌};
+
+use crate::checks::holds;
+use crate::components::two_rings;
 use cmb_bench::read_bench;
 use cmb_cut::{LEAST_NETS, Share, Sharing, pays, share_out};
-use cmb_netlist::Netlist;
 use std::alloc::{AllocError, Global};
 use std::test::Fail;
+use worked_inputs::or_fail;
 
 /// Whether a share drives just the nets with a mark.
 fn is_share(share: &Share, driven: &[bool]) -> bool {
@@ -29,26 +33,27 @@ fn is_ring_by_ring(sharing: &Sharing) -> bool {
         )
 }
 
-fn two_rings(alloc: Global) -> Result<Netlist, Fail> {
-    let text = b"INPUT(i)\na = DFF(b)\nb = NAND(i, a)\nc = DFF(d)\nd = NAND(i, c)\ny = AND(a, c)\n";
-    Ok(read_bench(alloc, text)?)
+/// The nets of two rings, shared out to so many threads at most.
+fn rings_for(alloc: Global, most: u32) -> Result<Sharing, Fail>
+    requires { 1 ≤ most }
+{
+    let netlist = two_rings(alloc)?;
+    or_fail(share_out(alloc, &netlist, most))
 }
 
 // A net weighs 2 and its pins. The input weighs 2, each ring 7 and y 4, together 20; so a share of three is heaviest
 // where the input goes with the first ring: 9.
 #[test]
 fn rings_and_their_reader(rt: HostRuntime) -> Result<(), Fail> {
-    let netlist = two_rings(rt.alloc())?;
-    let sharing = share_out(rt.alloc(), &netlist, 3)?;
-    assert!(&rt; is_ring_by_ring(&sharing));
+    let sharing = rings_for(rt.alloc(), 3)?;
+    holds(&rt, is_ring_by_ring(&sharing));
     Ok(())
 }
 
 #[test]
 fn one_thread(rt: HostRuntime) -> Result<(), Fail> {
-    let netlist = two_rings(rt.alloc())?;
-    let sharing = share_out(rt.alloc(), &netlist, 1)?;
-    assert!(&rt; is_whole(&sharing, &[true; 6]));
+    let sharing = rings_for(rt.alloc(), 1)?;
+    holds(&rt, is_whole(&sharing, &[true; 6]));
     Ok(())
 }
 
@@ -60,28 +65,36 @@ fn is_chain_in_halves(sharing: &Sharing) -> bool {
         && is_share(&sharing.shares[1], &[false, false, true, true])
 }
 
+/// The nets of that chain, shared out to two.
+fn chain_for_two(alloc: Global) -> Result<Sharing, Fail> {
+    let netlist = read_bench(alloc, b"INPUT(i)\np = NOT(i)\nq = NOT(p)\nr = NOT(q)\n")?;
+    or_fail(share_out(alloc, &netlist, 2))
+}
+
 // The input weighs 2 and each inverter 3, so the heavier of two shares weighs 6.
 #[test]
 fn chain(rt: HostRuntime) -> Result<(), Fail> {
-    let netlist = read_bench(
-        rt.alloc(),
-        b"INPUT(i)\np = NOT(i)\nq = NOT(p)\nr = NOT(q)\n",
-    )?;
-    let sharing = share_out(rt.alloc(), &netlist, 2)?;
-    assert!(&rt; is_chain_in_halves(&sharing));
+    let sharing = chain_for_two(rt.alloc())?;
+    holds(&rt, is_chain_in_halves(&sharing));
     Ok(())
+}
+
+/// Whether just the nets with a mark are read by shares that don't drive them, where the rings are shared out to so many.
+fn crosses(alloc: Global, most: u32, marks: &[bool]) -> Result<bool, Fail>
+    requires { 1 ≤ most }
+{
+    let sharing = rings_for(alloc, most)?;
+    Ok(sharing.crossing.as_slice() == marks)
 }
 
 // The last share reads a net of each ring. The second reads the input, but drives it itself.
 #[test]
 fn given(rt: HostRuntime) -> Result<(), Fail> {
-    let netlist = two_rings(rt.alloc())?;
-    let sharing = share_out(rt.alloc(), &netlist, 3)?;
-    assert!(&rt;
-        sharing.crossing.as_slice() == [false, true, false, true, false, false].as_slice()
+    holds(
+        &rt,
+        crosses(rt.alloc(), 3, &[false, true, false, true, false, false])?,
     );
-    let whole = share_out(rt.alloc(), &netlist, 1)?;
-    assert!(&rt; whole.crossing.as_slice() == [false; 6].as_slice());
+    holds(&rt, crosses(rt.alloc(), 1, &[false; 6])?);
     Ok(())
 }
 
@@ -97,18 +110,21 @@ fn of_nets(alloc: Global, count: usize, mark: bool) -> Result<Sharing, AllocErro
     })
 }
 
+/// Whether it pays.
+fn pays_for(alloc: Global, count: usize, mark: bool) -> Result<bool, AllocError> {
+    let sharing = of_nets(alloc, count, mark)?;
+    Ok(pays(&sharing))
+}
+
 #[test]
 fn what_pays(rt: HostRuntime) -> Result<(), Fail> {
-    let uneven = of_nets(rt.alloc(), LEAST_NETS, true)?;
-    assert!(&rt; !pays(&uneven));
-    let even = of_nets(rt.alloc(), LEAST_NETS, false)?;
-    assert!(&rt; pays(&even));
+    holds(&rt, !pays_for(rt.alloc(), LEAST_NETS, true)?);
+    holds(&rt, pays_for(rt.alloc(), LEAST_NETS, false)?);
     Ok(())
 }
 
 #[test]
 fn what_is_too_small(rt: HostRuntime) -> Result<(), Fail> {
-    let few = of_nets(rt.alloc(), 2_047, false)?;
-    assert!(&rt; !pays(&few));
+    holds(&rt, !pays_for(rt.alloc(), 2_047, false)?);
     Ok(())
 }
