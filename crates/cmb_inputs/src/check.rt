@@ -1,6 +1,7 @@
 //! What a simulation is given, counted and not simulated.
 
-ghost use Rattle.std.specs.Prelude.{◌-◌, ◌^◌, ◌<◌, IfOk, IfErr, OnOk};
+ghost use Rattle.std.specs.Prelude.{◌≡◌, ◌-◌, ◌^◌, ◌<◌, IfOk, IfErr, OnOk};
+ghost use Rattle.cmb_count.specs.Counting.{AreCounts};
 ghost use Rattle.cmb_count.specs.Texts.{counts_rows};
 ghost use Rattle.cmb_inputs.specs.Checking.{AreUnwritten, IsChecked, IsCountOf};
 ghost use Rattle.cmb_inputs.specs.Inputs.{CanBeInputs, HaveRoom, IsReading, inputs_of, read_from, texts_in};
@@ -10,10 +11,19 @@ ghost use Rattle.cmb_inputs.specs.Spelling.{HaveTextFault, LacksDesign};
 use crate::texts::{InputTexts, read_texts, spelled_design};
 use crate::writing::write_text;
 use cmb_count::{Counts, count_design, counts_text};
-use cmb_design::Settings;
+use cmb_design::{Design, Settings};
 use cmb_inout::{Fault, Source};
 use cmb_vcd::Sink;
 use std::alloc::Global;
+
+// What there is in a design.
+fn counts_of(alloc: Global, design: &Design) -> Result<Counts, Fault>
+    ensures ok { IfOk result (AreCounts design.now) }
+    ensures fault { IfErr result (λ fault. fault ≡ Fault.Memory) }
+{
+    let counts = count_design(alloc, design)?;
+    Ok(counts)
+}
 
 // What there is in the design that texts spell.
 fn count_texts(alloc: Global, texts: &InputTexts, settings: Settings) -> Result<Counts, Fault>
@@ -22,8 +32,7 @@ fn count_texts(alloc: Global, texts: &InputTexts, settings: Settings) -> Result<
     ensures fault { IfErr result (HaveTextFault (texts_in texts.now) settings) }
 {
     let design = spelled_design(alloc, texts, settings)?;
-    let counts = count_design(alloc, &design)?;
-    Ok(counts)
+    counts_of(alloc, &design)
 }
 
 /// Reads a netlist and the tables of delays, stimuli and clocks as `simulate` does, with the same faults, and counts

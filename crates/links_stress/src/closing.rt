@@ -192,7 +192,7 @@ struct Closed {
 }
 
 // The answers together, where none is a trouble.
-fn closed(
+fn put_together(
     end: Result<Ending, Trouble>,
     there: Result<Vec<Piece>, Trouble>,
     back: Result<Vec<Piece>, Trouble>,
@@ -246,7 +246,7 @@ pub fn close_all<R: Wait>(
     let notes = (&first.notes, &second.notes, &found);
     let sent = (first.sent.as_slice(), second.sent.as_slice());
     let came = (first.came.as_slice(), second.came.as_slice());
-    match closed(end, there, back) {
+    match put_together(end, there, back) {
         Ok(closed) => check_all(circuit, &closed, notes, sent, came),
         Err(trouble) => Err(trouble),
     }

@@ -4,7 +4,10 @@ use crate::cases::{Case, bench_case, clocked, refuses, refuses_in, writes};
 use crate::waves::{inverter, toggle};
 use cmb_sim::{Mode, Settings};
 use std::alloc::{AllocError, Global};
+use std::process::Abort;
+use std::sync::Wait;
 use std::test::Fail;
+use std::thread::Threads;
 
 #[test]
 fn cut_short(rt: HostRuntime) -> Result<(), Fail> {
@@ -37,20 +40,35 @@ fn name_of(alloc: Global, bytes: usize) -> Result<String, AllocError> {
     Ok(name)
 }
 
-#[test]
-fn names_and_operands(rt: HostRuntime) -> Result<(), Fail> {
-    let alloc = rt.alloc();
-    let name = name_of(alloc, 255)?;
-    let bench = format!(in alloc; "INPUT({name})")?;
+// A net may have a name of 255 bytes.
+fn longest_name<R: AllocGlobal + Abort + Threads + Wait + Sync>(rt: &R) -> Result<(), Fail> {
+    let name = name_of(rt.alloc(), 255)?;
+    let bench = format!(in rt.alloc(); "INPUT({name})")?;
     writes(
-        &rt,
+        rt,
         bench_case(bench.as_bytes(), 1),
         name.as_str(),
         "#0 x! #1",
-    )?;
-    let longer = name_of(alloc, 256)?;
-    let bench = format!(in alloc; "INPUT({longer})")?;
-    refuses(&rt, bench_case(bench.as_bytes(), 1), 8, 1)?;
+    )
+}
+
+// And none of one more.
+fn longer_name<R: AllocGlobal + Abort + Threads + Wait + Sync>(rt: &R) -> Result<(), Fail> {
+    let name = name_of(rt.alloc(), 256)?;
+    let bench = format!(in rt.alloc(); "INPUT({name})")?;
+    refuses(rt, bench_case(bench.as_bytes(), 1), 8, 1)
+}
+
+#[test]
+fn names(rt: HostRuntime) -> Result<(), Fail> {
+    longest_name(&rt)?;
+    longer_name(&rt)?;
+    let keyword = bench_case(b"INPUT(a) INPUT(b) INPUT = AND(a, b)", 1);
+    writes(&rt, keyword, "a b INPUT", "#0 x! x\" x# #1")
+}
+
+#[test]
+fn operands(rt: HostRuntime) -> Result<(), Fail> {
     for (bench, number) in [
         (b"y = NOT(a, b)".as_slice(), 4),
         (b"y = AND()".as_slice(), 2),
@@ -60,8 +78,7 @@ fn names_and_operands(rt: HostRuntime) -> Result<(), Fail> {
     ] {
         refuses(&rt, bench_case(bench, 1), number, 1)?;
     }
-    let keyword = bench_case(b"INPUT(a) INPUT(b) INPUT = AND(a, b)", 1);
-    writes(&rt, keyword, "a b INPUT", "#0 x! x\" x# #1")
+    Ok(())
 }
 
 #[test]

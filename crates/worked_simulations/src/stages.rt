@@ -1,12 +1,18 @@
 //! The stages of a simulation, called one by one.
 
+ghost use Rattle.std.specs.Prelude.{◌-◌, ◌^◌, ◌<◌};
+ghost use Rattle.cmb_inputs.specs.Inputs.{CanBeInputs, texts_in};
+
 use crate::checks::{holds, same};
 use crate::drips::dripping;
+use cmb_design::Design;
 use cmb_inputs::{
-    chosen_nets, read_input, read_names, read_texts, show_nets, spelled_design, write_counts,
-    write_text,
+    InputTexts, chosen_nets, read_input, read_names, read_texts, show_nets, spelled_design,
+    write_counts, write_text,
 };
-use cmb_sim::{Choice, Fault, FromBytes, Level, Limited, Pick, Report, Settings, check_design};
+use cmb_sim::{
+    Choice, Counts, Fault, FromBytes, Level, Limited, Pick, Report, Settings, check_design,
+};
 use std::alloc::Global;
 use std::test::Fail;
 use worked_inputs::text_of;
@@ -24,12 +30,39 @@ fn settings() -> Settings {
     }
 }
 
-// Reads the four inputs and a list, and writes the text of the nets that it names into a sink that takes so many bytes.
-fn show_listed(
+// Reads a list, and writes the text of the nets of the design that it names.
+fn show_named(
     alloc: Global,
+    design: &Design,
     list: &[u8],
-    room: usize,
-) -> Result<(Result<Report, Fault>, Vec<u8>), Fault> {
+    out: &mut Limited,
+) -> Result<Report, Fault>
+    requires { out.old.failures < 2 ^ 64 - 1 }
+{
+    let listed = Choice::Only(Pick::Listed);
+    let names = read_names(alloc, listed, &mut FromBytes::new(list))?;
+    let nets = chosen_nets(alloc, Pick::Listed, design, names.as_slice())?;
+    show_nets(alloc, design, nets.as_slice(), out)
+}
+
+// The same of the design that these texts spell.
+fn show_spelled(
+    alloc: Global,
+    texts: &InputTexts,
+    list: &[u8],
+    out: &mut Limited,
+) -> Result<Report, Fault>
+    requires texts { CanBeInputs (texts_in texts.now) }
+    requires out { out.old.failures < 2 ^ 64 - 1 }
+{
+    let design = spelled_design(alloc, texts, settings())?;
+    show_named(alloc, &design, list, out)
+}
+
+// The same of these inputs.
+fn show_read(alloc: Global, list: &[u8], out: &mut Limited) -> Result<Report, Fault>
+    requires { out.old.failures < 2 ^ 64 - 1 }
+{
     let texts = read_texts(
         alloc,
         &mut FromBytes::new(netlist()),
@@ -37,13 +70,14 @@ fn show_listed(
         &mut FromBytes::new(b"tick,net,value\n0,a,0\n5,a,1\n"),
         &mut FromBytes::new(b""),
     )?;
-    let design = spelled_design(alloc, &texts, settings())?;
-    let listed = Choice::Only(Pick::Listed);
-    let names = read_names(alloc, listed, &mut FromBytes::new(list))?;
-    let nets = chosen_nets(alloc, Pick::Listed, &design, names.as_slice())?;
+    show_spelled(alloc, &texts, list, out)
+}
+
+// The same, and what a sink that takes so many bytes took of it.
+fn show_listed(alloc: Global, list: &[u8], room: usize) -> (Result<Report, Fault>, Vec<u8>) {
     let mut out = Limited::new(alloc, room);
-    let answer = show_nets(alloc, &design, nets.as_slice(), &mut out);
-    Ok((answer, out.bytes))
+    let answer = show_read(alloc, list, &mut out);
+    (answer, out.bytes)
 }
 
 #[test]
@@ -51,13 +85,13 @@ fn nets_by_stages(rt: HostRuntime) -> Result<(), Fail> {
     let alloc = rt.alloc();
     let body = "#0 x! x\" #1 1! #2 1\" #6 0! #7 0\" #10";
     let want = text_of(alloc, "y z", body)?;
-    let (answer, text) = show_listed(alloc, b"z\ny # both\n", 1000)?;
+    let (answer, text) = show_listed(alloc, b"z\ny # both\n", 1000);
     holds(&rt, text.as_slice() == want.as_bytes());
     let report = answer?;
     same(&rt, report.nets, 4);
     same(&rt, report.horizon, 10);
     same(&rt, report.written, want.len() as u64);
-    let (cut, beginning) = show_listed(alloc, b"y z", 17)?;
+    let (cut, beginning) = show_listed(alloc, b"y z", 17);
     same(&rt, place_of(&cut), (62, 17));
     holds(&rt, beginning.as_slice() == b"$version cmbsim 1".as_slice());
     Ok(())
@@ -74,7 +108,11 @@ fn place_of<T>(answer: &Result<T, Fault>) -> (u32, u64) {
 #[test]
 fn lists_by_stages(rt: HostRuntime) -> Result<(), Fail> {
     let alloc = rt.alloc();
-    same(&rt, place_of(&show_listed(alloc, b"y\nv\n", 1000)), (38, 2));
+    same(
+        &rt,
+        place_of(&show_listed(alloc, b"y\nv\n", 1000).0),
+        (38, 2),
+    );
     let mut list = dripping(b"y", 0);
     let names = read_names(alloc, Choice::Only(Pick::Outputs), &mut list)?;
     holds(&rt, names.is_empty());
@@ -93,34 +131,41 @@ fn inputs_by_number(rt: HostRuntime) -> Result<(), Fail> {
     Ok(())
 }
 
-#[test]
-fn counts_by_stages(rt: HostRuntime) -> Result<(), Fail> {
-    let alloc = rt.alloc();
-    let counts = check_design(
+// What is counted of the netlist.
+fn counted(alloc: Global) -> Result<Counts, Fault> {
+    check_design(
         alloc,
         &mut FromBytes::new(netlist()),
         &mut FromBytes::new(b""),
         &mut FromBytes::new(b""),
         &mut FromBytes::new(b""),
         settings(),
-    )?;
-    let mut out = Limited::new(alloc, 1000);
-    write_counts(alloc, &counts, &mut out)?;
-    holds(
-        &rt,
-        out.bytes
-            .as_slice()
-            .starts_with(b"       4  nets\n       1  inputs\n"),
-    );
-    let mut few = Limited::new(alloc, 9);
-    same(
-        &rt,
-        place_of(&write_counts(alloc, &counts, &mut few)),
-        (62, 9),
-    );
-    holds(&rt, few.bytes.as_slice() == b"       4 ".as_slice());
-    let mut two = Limited::new(alloc, 2);
+    )
+}
+
+// How writing the counts into a sink that takes so many bytes ends, and what it took.
+fn counts_in(alloc: Global, counts: &Counts, room: usize) -> ((u32, u64), Vec<u8>) {
+    let mut out = Limited::new(alloc, room);
+    let answer = write_counts(alloc, counts, &mut out);
+    (place_of(&answer), out.bytes)
+}
+
+#[test]
+fn counts_by_stages(rt: HostRuntime) -> Result<(), Fail> {
+    let counts = counted(rt.alloc())?;
+    let (whole, text) = counts_in(rt.alloc(), &counts, 1000);
+    same(&rt, whole, (0, 0));
+    let begun = b"       4  nets\n       1  inputs\n".as_slice();
+    same(&rt, text.as_slice().get(..begun.len()), Some(begun));
+    let (few, text) = counts_in(rt.alloc(), &counts, 9);
+    same(&rt, few, (62, 9));
+    same(&rt, text.as_slice(), b"       4 ".as_slice());
+    Ok(())
+}
+
+#[test]
+fn text_by_stages(rt: HostRuntime) {
+    let mut two = Limited::new(rt.alloc(), 2);
     same(&rt, place_of(&write_text(&mut two, b"abc")), (62, 2));
     holds(&rt, two.bytes.as_slice() == b"ab".as_slice());
-    Ok(())
 }
