@@ -79,7 +79,8 @@ fn chain(rt: HostRuntime) -> Result<(), Fail> {
     Ok(())
 }
 
-/// Whether just the nets with a mark are read by shares that don't drive them, where the rings are shared out to so many.
+/// Whether just the nets with a mark are read by shares that don't drive them, where the rings are shared out to so
+/// many.
 fn crosses(alloc: Global, most: u32, marks: &[bool]) -> Result<bool, Fail>
     requires { 1 ≤ most }
 {

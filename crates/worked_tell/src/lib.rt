@@ -1,5 +1,5 @@
-//! Worked examples of command lines, and of what the program says beside its text, as tests: whole lines carried out over
-//! memory, and what faults are in words.
+//! Worked examples of command lines, and of what the program says beside its text, as tests: whole lines carried out
+//! over memory, and what faults are in words.
 #![tactic(auto)]
 
 #[cfg(test)]
