@@ -45,15 +45,14 @@ fn noted(alloc: Global) -> Result<Calendar, AllocError>
     Ok(calendar)
 }
 
-/// Whether these tells are those of the next day.
-fn takes(alloc: Global, calendar: &mut Calendar, tells: &[Tell]) -> Result<bool, AllocError>
+/// Whether these tells are those of the next day. What the list held before is forgotten.
+fn takes(calendar: &mut Calendar, taken: &mut Vec<Tell>, tells: &[Tell]) -> Result<bool, AllocError>
     requires { day_begin calendar.old < calendar.old.horizon }
     ensures width { OnOk result (calendar.new.width ≡ calendar.old.width) }
     ensures horizon { OnOk result (calendar.new.horizon ≡ calendar.old.horizon) }
     ensures day { OnOk result (calendar.new.day ≡ calendar.old.day + 1) }
 {
-    let mut taken = Vec::new(alloc);
-    calendar.take(&mut taken)?;
+    calendar.take(taken)?;
     Ok(taken.as_slice() == tells)
 }
 
@@ -63,11 +62,12 @@ fn goes_on(alloc: Global, calendar: &mut Calendar) -> Result<bool, AllocError>
     requires horizon { calendar.old.horizon ≡ 25 }
     requires day { calendar.old.day ≡ 0 }
 {
+    let mut taken = Vec::new(alloc);
     let begin = calendar.next_day();
-    let first = takes(alloc, calendar, &[EARLY, NEXT])?;
-    let second = takes(alloc, calendar, &[LATE])?;
+    let first = takes(calendar, &mut taken, &[EARLY, NEXT])?;
+    let second = takes(calendar, &mut taken, &[LATE])?;
     let end = calendar.next_day();
-    let last = takes(alloc, calendar, &[])?;
+    let last = takes(calendar, &mut taken, &[])?;
     Ok(first && second && last && begin == 10 && end == 25)
 }
 
