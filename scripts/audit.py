@@ -1,7 +1,8 @@
 #!/usr/bin/env python3
 """audit.py [NAME..]: tries every edit that the prover must refuse, those of crates/*/must-fail/ and those of
-crates/*/audit/, in a copy of the repository; with names, those of these crates alone. An edit is first checked in the
-function that it changes, and where that is still proved in the whole crate. Each edit gets a line:
+crates/*/audit/, in a copy of the repository; with names, those of these crates alone. Edits of different functions are
+tried at once, in these functions alone (edits.py). What isn't refused so is tried by itself, in the function that it
+changes, and where that is still proved in the whole crate. Each edit gets a line:
 
     CRATE/EDIT: refused by a goal of FUNCTION       the changed function doesn't meet its contract
     CRATE/EDIT: refused by a goal of its caller F   the changed function does, and what stands on it doesn't
@@ -20,111 +21,69 @@ import tempfile
 
 import crates
 import prove
+from edits import Edit, Source, is_open, left, open_functions, own, rounds
 
 MEMORY_OF_A_CHECK = 4_500_000_000
-NAMES = re.compile(r"has no field|is not in scope|has no `|was not admitted")
-OPEN = re.compile(r"(?m)^note: src/\S+: (?:it is not proved|`search` found no proof)|^(?:note: )?(?:\./)?src/\S+:\d+:\d+: error")
-ERROR = re.compile(r"(?m)^\./proofs/\S+:\d+:\d+: error.*$")
-LEFT = re.compile(r"(?m)^(?:fn|impl) (\S+): (?!proved\b|assumed)")
 
 
-class Edit:
-    """An edit's pairs of texts, by file, and the function in which the first of them stands."""
-
-    def __init__(self, crate, path):
-        self.crate, self.name = crate, os.path.basename(path).removesuffix(".edit")
-        self.pairs, file, old = [], None, None
-        with open(path, encoding="utf-8") as lines:
-            for line in lines.read().split("\n"):
-                key, _, text = line.partition(":")
-                if key == "file":
-                    file = text.strip()
-                elif key == "old":
-                    old = text[1:]
-                elif key == "new":
-                    self.pairs.append((file, old, text[1:]))
-
-    def changed(self, folder):
-        """The texts of the files that the edit changes, and the functions; None where a text isn't there once."""
-        texts, functions = {}, []
-        for file, old, new in self.pairs:
-            if file not in texts:
-                with open(f"{folder}/{file}", encoding="utf-8") as it:
-                    texts[file] = it.read()
-            if texts[file].count(old) != 1:
-                return None, []
-            functions.append(function_at(file, texts[file], texts[file].index(old)))
-            texts[file] = texts[file].replace(old, new)
-        return texts, [it for it in functions if it]
-
-
-def function_at(file, text, at):
-    """The path of the function that a place of a file stands in, as the prover names it, or None outside of all."""
-    owner = function = None
-    for line in text[:at].split("\n"):
-        impl = re.match(r"impl(?:<(.*?)>)? (?:(\w+)(?:<(\w+).*?>)? for )?(\w+)", line)
-        found = re.match(r"(?:    )?(?:pub(?:\(\w+\))? )?fn (\w+)", line)
-        if impl:
-            free = {it.partition(":")[0].strip() for it in (impl[1] or "").split(",")}
-            owner = ("Any" if impl[4] in free else impl[4]) + (impl[2] or "") + (impl[3] or "")
-        elif found:
-            function = found[1]
-        elif line == "}":
-            owner = function = None
-        elif line == "    }" and owner:
-            function = None
-    module = [it for it in file.removeprefix("src/").removesuffix(".rt").split("/") if it not in ("lib", "main")]
-    return "::".join([*module, *filter(None, [owner]), function]) if function else None
-
-
-def checked(folder, only=None):
-    """What a check of the crate, or of one function, says, and its status."""
-    words = ["rt", "check", "--jobs", "1", *(["--only", only] if only else [])]
+def checked(folder, functions=()):
+    """What a check of the crate, or of these functions alone, says, and its status."""
+    words = ["rt", "check", "--jobs", "1", *(it for function in functions for it in ("--only", function))]
     ran = subprocess.run(words, cwd=folder, stdin=subprocess.DEVNULL, stdout=subprocess.PIPE, stderr=subprocess.STDOUT, text=True, errors="replace")
     return ran.returncode, ran.stdout
 
 
-def is_open(said):
-    """Whether a goal is open, and not only a name gone that a proof cites."""
-    return bool(OPEN.search(said)) or any(not NAMES.search(it) for it in ERROR.findall(said))
-
-
-def own(functions, left):
-    """The first of the functions left that is one of the changed ones, or the impl of one, or None."""
-    ends = [f"::{it}" for function in functions for it in (function, function.rpartition("::")[0])]
-    return next((it for it in left if it.endswith(tuple(ends))), None)
-
-
-def verdict(edit, folder):
-    """Whether the prover refuses the edit by a goal, and the words for it."""
-    texts, functions = edit.changed(folder)
-    if texts is None:
-        return False, "FAILED: one of its old texts doesn't stand in the file exactly once"
-    kept = {file: open(f"{folder}/{file}", encoding="utf-8").read() for file in texts}
+def with_edits(source, edits, functions=()):
+    """What a check says with these edits made."""
+    texts = source.changed(edits)
     try:
-        write(folder, texts)
-        status, said = checked(folder, functions[-1]) if functions else (0, "")
-        if status == 1 and "only=" in said and is_open(said) and own(functions, LEFT.findall(said)):
-            return True, f"refused by a goal of {functions[-1]}"
-        status, said = checked(folder)
+        source.write(texts)
+        return checked(source.folder, functions)
     finally:
-        write(folder, kept)
+        source.write({file: source.text(file) for file in texts})
+
+
+def at_once(source, tried):
+    """Those of these edits of different functions of which a check of all of them says that a goal of their own is open, each
+    with the words for it."""
+    named = dict.fromkeys(function for _, functions in tried for function in functions)
+    status, said = with_edits(source, [edit for edit, _ in tried], named)
+    if status != 1 or "only=" not in said:
+        return {}
+    opened = open_functions(said, source)
+    refused = {edit: [it for it in functions if it in opened and own([it], said)] for edit, functions in tried}
+    return {edit: f"refused by a goal of {functions[-1]}" for edit, functions in refused.items() if functions}
+
+
+def alone(source, edit):
+    """Whether the prover refuses the edit by a goal, and the words for it."""
+    functions = edit.functions(source)
+    if functions is None:
+        return False, "FAILED: one of its old texts doesn't stand in the file exactly once"
+    functions = [it for it in functions if it]
+    status, said = with_edits(source, [edit], functions[-1:]) if functions else (0, "")
+    if status == 1 and "only=" in said and is_open(said) and own(functions, said):
+        return True, f"refused by a goal of {functions[-1]}"
+    status, said = with_edits(source, [edit])
     if status == 0:
         return False, "FAILED: the crate is still proved"
-    left = LEFT.findall(said)
-    if "logic=not-proved" not in said or not left:
+    if "logic=not-proved" not in said or not left(said):
         return False, "FAILED: the edited text isn't read: " + " / ".join(said.strip().split("\n")[:3])[:300]
     if not is_open(said):
-        return False, f"FAILED: no goal is open, and only a proof of {left[0]} names what the edit took away"
-    if own(functions, left):
-        return True, f"refused by a goal of {own(functions, left).partition('::')[2]}"
-    return True, f"refused by a goal of {'its caller ' if functions else ''}{left[0].partition('::')[2]}"
+        return False, f"FAILED: no goal is open, and only a proof of {left(said)[0]} names what the edit took away"
+    if own(functions, said):
+        return True, f"refused by a goal of {own(functions, said)}"
+    return True, f"refused by a goal of {'its caller ' if functions else ''}{left(said)[0]}"
 
 
-def write(folder, texts):
-    for file, text in texts.items():
-        with open(f"{folder}/{file}", "w", encoding="utf-8") as it:
-            it.write(text)
+def verdicts(source, edits):
+    """Each edit, whether a goal refuses it, and the words for that."""
+    tried, others = rounds(edits, source)
+    for those in tried:
+        refused = at_once(source, those)
+        yield from ((edit, True, words) for edit, words in refused.items())
+        others += [edit for edit, _ in those if edit not in refused]
+    yield from ((edit, *alone(source, edit)) for edit in others)
 
 
 def edits_of(crate):
@@ -147,11 +106,10 @@ def copy_of(room, name, below):
 
 
 def audit(room, name, below):
-    """Tries a crate's edits one after another in a copy of its own, and gives how many were refused by a goal, and not."""
-    folder = copy_of(room, name, below)
+    """Tries a crate's edits in a copy of its own, and gives how many were refused by a goal, and not."""
+    source = Source(copy_of(room, name, below))
     passed = failed = 0
-    for edit in edits_of(name):
-        well, words = verdict(edit, folder)
+    for edit, well, words in verdicts(source, edits_of(name)):
         print(f"{name}/{edit.name}: {words}", flush=True)
         passed, failed = passed + well, failed + (not well)
     shutil.rmtree(room, ignore_errors=True)

@@ -7,16 +7,23 @@ the other definitions stand apart, and says at the end what each part came to an
 Each check gets one job, as many checks at a time as there are processors: more jobs for one check take up to twice as
 much of the processors, which other checks can use. Where RT_JOBS is set already it stays as it is.
 
+The program is run on whole files as soon as `rt ci` has built it, in a copy of the repository, since the toolchain holds
+the crates' folders until it ends. What that run says is printed behind what `rt ci` says.
+
 Processor seconds are read from /proc once a second, of each of the toolchain's processes by its own command line,
 so a process that ends between two readings lacks what it did after the last one."""
 import os
 import re
+import shutil
 import subprocess
 import sys
+import tempfile
 import threading
 import time
 
-TOP = os.path.dirname(os.path.dirname(os.path.abspath(__file__)))
+import crates
+
+TOP = crates.TOP
 TICKS = os.sysconf("SC_CLK_TCK")
 CLOSING = re.compile(r"(\d+) passed, (\d+) failed")
 
@@ -81,18 +88,58 @@ class Meter:
         return rows
 
 
-def run(command, counts):
-    """Runs a command at the top of the repository, hands its lines on, and gives its status and its closing line's numbers."""
+def run(command, counts, hear=lambda line: None, status=0):
+    """Runs a command at the top of the repository, hands its lines on, and gives the numbers of its closing line. Where its
+    status, or one that is given, isn't 0, something failed."""
     passed = failed = 0
     child = subprocess.Popen(command, cwd=TOP, stdin=subprocess.DEVNULL, stdout=subprocess.PIPE, text=True, errors="replace")
     for line in child.stdout:
         print(line, end="", flush=True)
         count(line, counts)
+        hear(line)
         closing = CLOSING.fullmatch(line.strip())
         if closing:
             passed, failed = int(closing[1]), int(closing[2])
-    status = child.wait()
+    status = child.wait() or status
     return passed, failed + (status != 0 and failed == 0)
+
+
+class Whole:
+    """The program's run on whole files, which begins once `rt ci` says that the program is built."""
+
+    BUILT = re.compile(r"rt: cmbsim (proved|is kept)")
+    MADE = "crates/cmbsim/out/cmbsim"
+    READ = ("bench", "docs", "examples", "scripts", "tools")
+
+    def __init__(self, room):
+        self.room, self.said, self.child, self.took = f"{room}/copy", f"{room}/said", None, 0.0
+
+    def hear(self, line):
+        if self.child is None and self.BUILT.match(line) and os.access(f"{TOP}/{self.MADE}", os.X_OK):
+            crates.copy_sources(self.room)
+            for folder in self.READ:
+                shutil.copytree(f"{TOP}/{folder}", f"{self.room}/{folder}")
+            self.start(self.room, shutil.copy2(f"{TOP}/{self.MADE}", f"{self.room}/program"))
+
+    def start(self, top, program):
+        began = time.monotonic()
+        with open(self.said, "w", encoding="utf-8") as said:
+            self.child = subprocess.Popen([f"{top}/scripts/end_to_end.sh", program], stdin=subprocess.DEVNULL, stdout=said)
+
+        def wait():
+            self.child.wait()
+            self.took = time.monotonic() - began
+
+        self.waiter = threading.Thread(target=wait)
+        self.waiter.start()
+
+    def end(self):
+        """What the run came to; it begins here where `rt ci` built no program."""
+        if self.child is None:
+            subprocess.run(["scripts/build.py", "cmbsim"], cwd=TOP)
+            self.start(TOP, f"{TOP}/out/cmbsim")
+        self.waiter.join()
+        return run(["cat", self.said], {}, status=self.child.returncode)
 
 
 KINDS = [
@@ -130,29 +177,22 @@ def show(meter, counts, minutes):
         print(f"{part}: {took / 60:.1f} minutes on {len(os.sched_getaffinity(0))} processors")
 
 
-def built():
-    """The program as `rt ci` left it, or else as it is built over what that proved."""
-    made = "crates/cmbsim/out/cmbsim"
-    if os.access(os.path.join(TOP, made), os.X_OK):
-        return made
-    subprocess.run(["scripts/build.py", "cmbsim"], cwd=TOP)
-    return "out/cmbsim"
-
-
 def main():
     meter, counts = Meter(programs()), {}
     os.environ.setdefault("RT_JOBS", str(len(os.sched_getaffinity(0))))
     meter.thread.start()
     began = time.monotonic()
-    proved, unproved = run(["rt", "ci"], counts)
-    between = time.monotonic()
-    ran, wrong = run(["scripts/end_to_end.sh", built()], {})
+    with tempfile.TemporaryDirectory(prefix="gate-") as room:
+        whole = Whole(room)
+        proved, unproved = run(["rt", "ci"], counts, whole.hear)
+        between = time.monotonic()
+        ran, wrong = whole.end()
     held, broken = run(["tools/test_tools.py"], {})
     untrue = subprocess.run(["scripts/believed.py", "--check"], cwd=TOP).returncode
     apart, mixed = run(["scripts/inner.py"], {})
     meter.stopped.set()
     counts["end to end"] = ran
-    show(meter, counts, [("rt ci", between - began), ("end to end", time.monotonic() - between)])
+    show(meter, counts, [("rt ci", between - began), ("end to end, beside it,", whole.took), ("the rest", time.monotonic() - between)])
     print(f"end to end: {ran} passed")
     print(f"tools: {held} passed")
     print(f"files of definitions: {apart} passed")
