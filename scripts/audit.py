@@ -57,10 +57,9 @@ def at_once(source, tried):
 
 def alone(source, edit):
     """Whether the prover refuses the edit by a goal, and the words for it."""
-    functions = edit.functions(source)
-    if functions is None:
+    if not edit.lines(source):
         return False, "FAILED: one of its old texts doesn't stand in the file exactly once"
-    functions = [it for it in functions if it]
+    functions = [it for it in edit.functions(source) if it]
     status, said = with_edits(source, [edit], functions[-1:]) if functions else (0, "")
     if status == 1 and "only=" in said and is_open(said) and own(functions, said):
         return True, f"refused by a goal of {functions[-1]}"

@@ -30,12 +30,21 @@ class Edit:
                 elif key == "new":
                     self.pairs.append((file, old, text[1:]))
 
+    def lines(self, source):
+        """The lines that the edit changes, by file and number from 1; None where an old text isn't in its file exactly once when
+        its turn comes. Old and new texts are parts of one line."""
+        texts = {}
+        for file, old, new in self.pairs:
+            text = texts.get(file, source.text(file))
+            if text.count(old) != 1:
+                return None
+            texts[file] = text.replace(old, new)
+        both = ((file, zip(source.text(file).split("\n"), text.split("\n"))) for file, text in texts.items())
+        return {(file, i): new for file, pairs in both for i, (old, new) in enumerate(pairs, 1) if old != new}
+
     def functions(self, source):
-        """The function in which each pair's first text stands, None where it is in none; None for an edit of which a text isn't
-        in its file exactly once."""
-        if any(source.text(file).count(old) != 1 for file, old, _ in self.pairs):
-            return None
-        return [source.function_at(file, source.text(file).index(old)) for file, old, _ in self.pairs]
+        """The functions that the edit changes, None among them where a line of it is in no function."""
+        return list(dict.fromkeys(source.function_in(file, line) for file, line in self.lines(source)))
 
 
 class Source:
@@ -50,13 +59,9 @@ class Source:
                 self.texts[file] = it.read()
         return self.texts[file]
 
-    def function_at(self, file, at):
-        return function_at(file, self.text(file), at)
-
     def function_in(self, file, line):
         """The function that a line of a file belongs to, by its number from 1."""
-        starts = [0, *(it.end() for it in re.finditer("\n", self.text(file)))]
-        return self.function_at(file, starts[min(line, len(starts) - 1)])
+        return function_at(file, self.text(file).split("\n")[:line])
 
     def write(self, texts):
         for file, text in texts.items():
@@ -64,21 +69,19 @@ class Source:
                 it.write(text)
 
     def changed(self, edits):
-        """The texts of the files that these edits change; an old and a new text are one line each."""
+        """The texts of the files that these edits of different lines change."""
         texts = {}
-        for file in {file for edit in edits for file, _, _ in edit.pairs}:
-            text = self.text(file)
-            pairs = [(text.index(old), old, new) for edit in edits for it, old, new in edit.pairs if it == file]
-            for at, old, new in sorted(pairs, reverse=True):
-                text = text[:at] + new + text[at + len(old) :]
-            texts[file] = text
-        return texts
+        for edit in edits:
+            for (file, line), new in edit.lines(self).items():
+                texts.setdefault(file, self.text(file).split("\n"))[line - 1] = new
+        return {file: "\n".join(lines) for file, lines in texts.items()}
 
 
-def function_at(file, text, at):
-    """The path of the function that a place of a file stands in, as the prover names it, or None outside of all."""
+def function_at(file, lines):
+    """The path of the function that the last of these first lines of a file stands in, as the prover names it, or None outside of
+    all."""
     owner = function = None
-    for line in text[:at].split("\n"):
+    for line in lines:
         impl = re.match(r"impl(?:<(.*?)>)? (?:(\w+)(?:<(\w+).*?>)? for )?(\w+)", line)
         found = re.match(r"(?:    )?(?:pub(?:\(\w+\))? )?fn (\w+)", line)
         if impl:
@@ -99,8 +102,8 @@ def rounds(edits, source):
     the other edits."""
     found, others = [], []
     for edit in edits:
-        functions = edit.functions(source)
-        if not functions or None in functions:
+        functions = edit.functions(source) if edit.lines(source) else [None]
+        if None in functions:
             others.append(edit)
             continue
         fits = (it for it in found if len(it) < MOST_AT_ONCE and not any(set(functions) & set(was) for _, was in it))
