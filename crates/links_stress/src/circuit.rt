@@ -104,12 +104,17 @@ impl Circuit {
         requires { length netlist.now ≤ MAX_TEXT }
     {
         let design = read_design(alloc, netlist, horizon)?;
-        let (waves, clustering) = parts_of(alloc, &design, clusters)?;
-        Ok(Circuit {
-            design,
-            clustering,
-            waves,
-        })
+        match parts_of(alloc, &design, clusters) {
+            Ok((waves, clustering)) => Ok(Circuit {
+                design,
+                clustering,
+                waves,
+            }),
+            Err(trouble) => {
+                drop(design);
+                Err(trouble)
+            }
+        }
     }
 
     /// Whether the net has as many changes below the promise's tick as it says.

@@ -1,6 +1,7 @@
 //! The end of a run: the board and the links are closed, and what they answer is compared with what the threads noted.
 
-ghost use Rattle.std.specs.Prelude.{◌≡◌, [], ◌∷◌};
+ghost use Rattle.std.specs.Prelude.{◌≡◌, [], ◌∷◌, IfOk};
+ghost use Rattle.cmb_links.specs.Boards.{any_raised, count_finished};
 ghost use Rattle.cmb_links.specs.Seats.{AreAllSeats};
 
 use crate::circuit::Circuit;
@@ -108,8 +109,8 @@ fn check_board(end: &Ending, first: &Notes, second: &Notes, last: &Notes) -> Res
     Ok(())
 }
 
-// Closes the board with its three seats.
-fn close_board(
+/// Closes the board with its three seats.
+pub fn close_board(
     alloc: Global,
     board: Board,
     first: Seat,
@@ -117,6 +118,10 @@ fn close_board(
     last: Seat,
 ) -> Result<Ending, Trouble>
     requires { AreAllSeats board (first ∷ second ∷ last ∷ []) }
+    ensures raised { IfOk result (λ end. end.is_raised
+        ≡ any_raised (first.view.stops ∷ second.view.stops ∷ last.view.stops ∷ [])) }
+    ensures finished { IfOk result (λ end. end.finished
+        ≡ count_finished (first.view.endings ∷ second.view.endings ∷ last.view.endings ∷ [])) }
 {
     let mut seats = Vec::with_capacity(alloc, 3)?;
     seats.push_reserved(first);

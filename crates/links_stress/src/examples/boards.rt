@@ -1,10 +1,13 @@
 //! What two seats of a board find of one another's words, in one thread and in two.
 
 ghost use Rattle.std.specs.Prelude.{◌≡◌, true, false, IfOk};
-ghost use Rattle.cmb_links.specs.Seats.{new_seat, terms};
+ghost use Rattle.cmb_design.specs.Exact.{IsRightIn};
+ghost use Rattle.cmb_links.specs.Seats.{driver, new_seat};
+ghost use Rattle.links_stress.specs.Hands.{board_terms};
 
 use super::{expect, source};
 use crate::circuit::Circuit;
+use crate::closing::close_board;
 use crate::exact::ExactCluster;
 use crate::run::{Table, open_board};
 use crate::trouble::Trouble;
@@ -79,9 +82,9 @@ struct Setting<'a> {
     table: Table,
     cluster: ExactCluster,
     ghost two: { workers ≡ 2 },
-    ghost first: { table.first ≡ new_seat table.board (terms circuit.now.design circuit.now.clustering 2) false 0 },
-    ghost second: { table.second ≡ new_seat table.board (terms circuit.now.design circuit.now.clustering 2) false 1 },
-    ghost last: { table.last ≡ new_seat table.board (terms circuit.now.design circuit.now.clustering 2) true 2 },
+    ghost first: { table.first ≡ new_seat table.board (board_terms circuit.now) false 0 },
+    ghost second: { table.second ≡ new_seat table.board (board_terms circuit.now) false 1 },
+    ghost last: { table.last ≡ new_seat table.board (board_terms circuit.now) true 2 },
     ghost same: { cluster ≡ circuit.now.design },
 }
 
@@ -132,6 +135,54 @@ pub fn board_words(alloc: Global, circuit: &Circuit) -> Result<(), Trouble> {
     in_one_thread(alloc, setting)
 }
 
+// How far the first seat's net is known after a step.
+fn next_promise(
+    circuit: &Circuit,
+    workers: Workers,
+    cluster: &mut ExactCluster,
+) -> Result<Promise, Trouble>
+    requires two { workers ≡ 2 }
+    requires same { cluster.old ≡ circuit.now.design }
+    ensures right { IfOk result (IsRightIn circuit.now.design) }
+    ensures driven { IfOk result (λ promise. driver (board_terms circuit.now) promise.net ≡ 0) }
+{
+    cluster.step()?;
+    let Some(promise) = cluster.promise(0) else {
+        return Err(Trouble::NotDriven);
+    };
+    if workers.of(circuit.clustering.of(promise.net)) != 0 {
+        return Err(Trouble::NotDriven);
+    }
+    Ok(promise)
+}
+
+// Closes a new board on which the first seat published this promise, and finished, and the second one raised.
+fn close_after(
+    alloc: Global,
+    circuit: &Circuit,
+    table: Table,
+    promise: Promise,
+) -> Result<Ending, Trouble>
+    requires first { table.first ≡ new_seat table.board (board_terms circuit.now) false 0 }
+    requires second { table.second ≡ new_seat table.board (board_terms circuit.now) false 1 }
+    requires last { table.last ≡ new_seat table.board (board_terms circuit.now) true 2 }
+    requires right { IsRightIn circuit.now.design promise }
+    requires driven { driver (board_terms circuit.now) promise.net ≡ 0 }
+    ensures raised { IfOk result (λ end. end.is_raised ≡ true) }
+    ensures finished { IfOk result (λ end. end.finished ≡ 1) }
+{
+    let Table {
+        board,
+        mut first,
+        mut second,
+        last,
+    } = table;
+    board.publish(&mut first, promise);
+    board.finish(&mut first);
+    board.raise(&mut second);
+    close_board(alloc, board, first, second, last)
+}
+
 // Closes a board on which the first seat published how far its net is known, and finished, and the second one raised.
 fn close_over(alloc: Global, setting: Setting<'_>) -> Result<Ending, Trouble>
     ensures raised { IfOk result (λ end. end.is_raised ≡ true) }
@@ -143,27 +194,10 @@ fn close_over(alloc: Global, setting: Setting<'_>) -> Result<Ending, Trouble>
         table,
         mut cluster,
     } = setting;
-    let Table {
-        board,
-        mut first,
-        mut second,
-        last,
-    } = table;
-    cluster.step()?;
-    let Some(promise) = cluster.promise(0) else {
-        return Err(Trouble::NotDriven);
-    };
-    if workers.of(circuit.clustering.of(promise.net)) != 0 {
-        return Err(Trouble::NotDriven);
+    match next_promise(circuit, workers, &mut cluster) {
+        Ok(promise) => close_after(alloc, circuit, table, promise),
+        Err(trouble) => Err(trouble),
     }
-    board.publish(&mut first, promise);
-    board.finish(&mut first);
-    board.raise(&mut second);
-    let mut seats = Vec::with_capacity(alloc, 3)?;
-    seats.push_reserved(first);
-    seats.push_reserved(second);
-    seats.push_reserved(last);
-    Ok(board.close(alloc, seats)?)
 }
 
 /// A closed board tells what was published last of each net, that somebody raised, and how many workers finished.

@@ -1,8 +1,9 @@
 //! Links that hold one piece: what they do when they are full or empty, and what they hand from one thread to another.
 //! And which capacities of links and numbers of workers are refused.
 
-ghost use Rattle.std.specs.Prelude.{◌≡◌, [], ◌∷◌, IfOk};
+ghost use Rattle.std.specs.Prelude.{◌≡◌, [], ◌∷◌, IfOk, OnOk};
 ghost use Rattle.cmb_design.specs.Exact.{IsExactIn};
+ghost use Rattle.cmb_links.specs.Links.{after_put, after_take};
 
 use super::{expect, source};
 use crate::circuit::Circuit;
@@ -72,17 +73,28 @@ struct Pieces {
     longer: Piece,
 }
 
+fn pieces_by(cluster: &mut ExactCluster) -> Result<Pieces, Trouble>
+    ensures first { IfOk result (λ pieces. IsExactIn cluster.old pieces.first) }
+    ensures second { IfOk result (λ pieces. IsExactIn cluster.old pieces.second) }
+    ensures longer { IfOk result (λ pieces. IsExactIn cluster.old pieces.longer) }
+{
+    let first = next_piece(cluster, 0)?;
+    let second = next_piece(cluster, 3)?;
+    let longer = next_piece(cluster, 3)?;
+    Ok(Pieces {
+        first,
+        second,
+        longer,
+    })
+}
+
 fn pieces_of_q(alloc: Global, circuit: &Circuit) -> Result<Pieces, Trouble>
     ensures first { IfOk result (λ pieces. IsExactIn circuit.now.design pieces.first) }
     ensures second { IfOk result (λ pieces. IsExactIn circuit.now.design pieces.second) }
     ensures longer { IfOk result (λ pieces. IsExactIn circuit.now.design pieces.longer) }
 {
     let mut cluster = source(alloc, circuit)?;
-    Ok(Pieces {
-        first: next_piece(&mut cluster, 0)?,
-        second: next_piece(&mut cluster, 3)?,
-        longer: next_piece(&mut cluster, 3)?,
-    })
+    pieces_by(&mut cluster)
 }
 
 // Over a link that holds one: puts two pieces, takes twice, and puts the second piece again, or the longer one.
@@ -130,6 +142,35 @@ pub fn full_link<R: Wait>(rt: &R, alloc: Global, circuit: &Circuit) -> Result<()
     full_link_by(rt, alloc, circuit, true)
 }
 
+// Puts two pieces and takes one.
+fn put_and_take<R: Wait>(
+    rt: &R,
+    link: &Link,
+    put: &mut PutPass,
+    take: &mut TakePass,
+    pieces: Pieces,
+) -> Result<Piece, Trouble>
+    requires put { put.old.link ≡ link.now.link }
+    requires take { take.old.link ≡ link.now.link }
+    requires first { IsExactIn put.old.design pieces.first }
+    requires second { IsExactIn put.old.design pieces.second }
+    ensures put { OnOk result (put.new ≡ after_put (after_put put.old pieces.first) pieces.second) }
+    ensures take { IfOk result (λ taken. take.new ≡ after_take take.old taken) }
+{
+    let Pieces {
+        first,
+        second,
+        longer: _,
+    } = pieces;
+    if link.put(rt, put, first).is_err() || link.put(rt, put, second).is_err() {
+        return Err(Trouble::NoRoom);
+    }
+    match link.take(rt, take) {
+        Some(taken) => Ok(taken),
+        None => Err(Trouble::Empty),
+    }
+}
+
 // Over a link that holds two: puts two pieces and takes one, and closes it. What was taken and what is left is what was
 // put.
 fn close_over<R: Wait>(
@@ -146,29 +187,28 @@ fn close_over<R: Wait>(
     requires second { IsExactIn put.design pieces.second }
     ensures { IfOk result (λ taken. pieces.first ∷ pieces.second ∷ [] ≡ taken.0 ∷ taken.1.items) }
 {
-    let Pieces {
-        first,
-        second,
-        longer: _,
-    } = pieces;
     let (mut put, mut take) = (put, take);
-    if link.put(rt, &mut put, first).is_err() || link.put(rt, &mut put, second).is_err() {
-        return Err(Trouble::NoRoom);
-    }
-    let Some(taken) = link.take(rt, &mut take) else {
-        return Err(Trouble::Empty);
-    };
+    let taken = put_and_take(rt, &link, &mut put, &mut take, pieces)?;
     let left = link.close(rt, alloc, put, take)?;
     Ok((taken, left))
 }
 
+// What is taken and what is left where two pieces of q are put.
+fn taken_and_left<R: Wait>(
+    rt: &R,
+    alloc: Global,
+    circuit: &Circuit,
+) -> Result<(Piece, Vec<Piece>), Trouble> {
+    let pieces = pieces_of_q(alloc, circuit)?;
+    match Link::open(alloc, &circuit.design, 2) {
+        Ok((link, put, take)) => close_over(rt, alloc, link, put, take, pieces),
+        Err(_) => Err(Trouble::Memory),
+    }
+}
+
 /// A link that is closed gives what was put and not taken.
 pub fn closed_link<R: Wait>(rt: &R, alloc: Global, circuit: &Circuit) -> Result<(), Trouble> {
-    let pieces = pieces_of_q(alloc, circuit)?;
-    let Ok((link, put, take)) = Link::open(alloc, &circuit.design, 2) else {
-        return Err(Trouble::Memory);
-    };
-    let (taken, left) = close_over(rt, alloc, link, put, take, pieces)?;
+    let (taken, left) = taken_and_left(rt, alloc, circuit)?;
     let is_left = match left.first() {
         Some(piece) => is_span(piece, 3, 7, 1),
         None => false,
@@ -179,10 +219,15 @@ pub fn closed_link<R: Wait>(rt: &R, alloc: Global, circuit: &Circuit) -> Result<
     )
 }
 
+// Why a link of this capacity isn't opened, if it isn't.
+fn refusal(alloc: Global, design: &Design, capacity: usize) -> Option<LinkFault> {
+    Link::open(alloc, design, capacity).err()
+}
+
 fn are_capacities_right(alloc: Global, design: &Design) -> bool {
-    Link::open(alloc, design, 0).err() == Some(LinkFault::Capacity)
-        && Link::open(alloc, design, 65_537).err() == Some(LinkFault::Capacity)
-        && Link::open(alloc, design, 65_536).is_ok()
+    refusal(alloc, design, 0) == Some(LinkFault::Capacity)
+        && refusal(alloc, design, 65_537) == Some(LinkFault::Capacity)
+        && refusal(alloc, design, 65_536).is_none()
         && LinkFault::Capacity.number() == 48
 }
 
