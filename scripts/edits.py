@@ -11,6 +11,8 @@ NAMES = re.compile(r"has no field|is not in scope|has no `|was not admitted")
 NOTE = re.compile(r"(?m)^note: (src/\S+?):(\d+):\d+: (?:it is not proved|`search` found no proof)|^(?:note: )?(?:\./)?(src/\S+?):(\d+):\d+: error")
 ERROR = re.compile(r"(?m)^\./proofs/(\S+)/\w+\.antt:\d+:\d+: error(.*)$")
 LEFT = re.compile(r"(?m)^(?:fn|impl) (\S+): (?!proved\b|assumed)")
+HEAD = re.compile(r"(?:    )?(?:pub(?:\(\w+\))? )?fn (\w+)")
+OPENS = re.compile(r"(?!\s*(?:requires|ensures)\b).*\{$")
 MOST_AT_ONCE = 12
 
 
@@ -43,8 +45,8 @@ class Edit:
         return {(file, i): new for file, pairs in both for i, (old, new) in enumerate(pairs, 1) if old != new}
 
     def functions(self, source):
-        """The functions that the edit changes, None among them where a line of it is in no function."""
-        return list(dict.fromkeys(source.function_in(file, line) for file, line in self.lines(source)))
+        """The functions whose bodies the edit changes, None among them where a line of it is in no body."""
+        return list(dict.fromkeys(source.body_at(file, line) for file, line in self.lines(source)))
 
 
 class Source:
@@ -62,6 +64,12 @@ class Source:
     def function_in(self, file, line):
         """The function that a line of a file belongs to, by its number from 1."""
         return function_at(file, self.text(file).split("\n")[:line])
+
+    def body_at(self, file, line):
+        """The same, where the line stands in the function's body, and None where it is of what others see of it."""
+        lines = self.text(file).split("\n")[:line]
+        head = max((i for i, it in enumerate(lines) if HEAD.match(it)), default=line)
+        return function_at(file, lines) if any(map(OPENS.match, lines[head:-1])) else None
 
     def write(self, texts):
         for file, text in texts.items():
@@ -83,7 +91,7 @@ def function_at(file, lines):
     owner = function = None
     for line in lines:
         impl = re.match(r"impl(?:<(.*?)>)? (?:(\w+)(?:<(\w+).*?>)? for )?(\w+)", line)
-        found = re.match(r"(?:    )?(?:pub(?:\(\w+\))? )?fn (\w+)", line)
+        found = HEAD.match(line)
         if impl:
             free = {it.partition(":")[0].strip() for it in (impl[1] or "").split(",")}
             owner = ("Any" if impl[4] in free else impl[4]) + (impl[2] or "") + (impl[3] or "")
@@ -98,8 +106,8 @@ def function_at(file, lines):
 
 
 def rounds(edits, source):
-    """The edits that change nothing but functions, in as few rounds as they need to change each function once at most, and
-    the other edits."""
+    """The edits that change nothing but bodies, in as few rounds as they need to change each once at most, and the other
+    edits: what others see of a function may open a goal of theirs."""
     found, others = [], []
     for edit in edits:
         functions = edit.functions(source) if edit.lines(source) else [None]

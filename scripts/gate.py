@@ -104,7 +104,7 @@ def run(command, counts, hear=lambda line: None, status=0):
     return passed, failed + (status != 0 and failed == 0)
 
 
-class Whole:
+class EndToEnd:
     """The program's run on whole files, which begins once `rt ci` says that the program is built."""
 
     BUILT = re.compile(r"rt: cmbsim (proved|is kept)")
@@ -183,16 +183,16 @@ def main():
     meter.thread.start()
     began = time.monotonic()
     with tempfile.TemporaryDirectory(prefix="gate-") as room:
-        whole = Whole(room)
-        proved, unproved = run(["rt", "ci"], counts, whole.hear)
+        files = EndToEnd(room)
+        proved, unproved = run(["rt", "ci"], counts, files.hear)
         between = time.monotonic()
-        ran, wrong = whole.end()
+        ran, wrong = files.end()
     held, broken = run(["tools/test_tools.py"], {})
     untrue = subprocess.run(["scripts/believed.py", "--check"], cwd=TOP).returncode
     apart, mixed = run(["scripts/inner.py"], {})
     meter.stopped.set()
     counts["end to end"] = ran
-    show(meter, counts, [("rt ci", between - began), ("end to end, beside it,", whole.took), ("the rest", time.monotonic() - between)])
+    show(meter, counts, [("rt ci", between - began), ("end to end, beside it", files.took), ("the rest", time.monotonic() - between)])
     print(f"end to end: {ran} passed")
     print(f"tools: {held} passed")
     print(f"files of definitions: {apart} passed")
