@@ -5,8 +5,8 @@ The other scripts run small circuits, for which no threads are started where `--
 so large that they are: nets that are shared out to threads, with and without what one share gives another, and a text
 that threads make in turn. Where they aren't started, the script fails.
 
-- The text has to be that of one thread, by 2 to 64 threads, also where what reads it is slow, and beside twice as many
-  busy loops as there are processors.
+- The text has to be that of one thread, by 2 to 64 threads, also where what reads it is slow, with 128 KB of stack for
+  each thread, and beside twice as many busy loops as there are processors.
 - An output that fails after n bytes is fault 62 at n, with the first n bytes of the text.
 - Where a request for memory or for a thread is refused, alone or with all that follow it, the answer is fault 70, or
   the whole text where the request wasn't needed. Mode rounds has written nothing then, mode free a beginning. Some 150
@@ -89,6 +89,14 @@ def check_readers(tally, files, name, words, case):
             tally.check(right, lambda: f"{name}, {mode}, a reader that leaves after {most} bytes: {answer}")
 
 
+def check_stack(tally, name, words, case):
+    """Each thread has a small stack: its size is the limit of the first one's."""
+    small = ["bash", "-c", 'ulimit -s 128 && exec "$@"', "small"]
+    for mode in MODES:
+        answer = run(small + words_by(words, mode, 4), case.netlist, SECONDS)
+        tally.check(answer == Answer(0, case.expected, b""), lambda: f"{name}, {mode}, a small stack: {answer}")
+
+
 def check_busy(tally, name, words, case):
     """The machine has twice as many busy loops as processors."""
     busy = [subprocess.Popen([sys.executable, "-c", "while True: pass"]) for _ in range(2 * (os.cpu_count() or 2))]
@@ -164,6 +172,7 @@ def check(tally, files, case, streams, refuse):
         tally.check(started > 1, f"{case.name}, {mode}: no thread was started")
     check_texts(tally, case.name, words, case)
     check_readers(tally, files, case.name, words, case)
+    check_stack(tally, case.name, words, case)
     check_busy(tally, case.name, words, case)
     check_writes(tally, case.name, words, case, streams)
     check_refusals(tally, case.name, words, case, refuse)
