@@ -1,5 +1,5 @@
 #!/usr/bin/env bash
-# all.sh: builds the two programs and runs every script of this folder over them. It takes some twenty minutes on four processors.
+# all.sh: builds the two programs and runs every script of this folder over them. It takes some ten minutes on four processors.
 # ORACLE and REFERENCE name other simulators, as damaged.py and largest.py say. The last line is 'N passed, M failed'.
 set -uo pipefail
 cd "$(dirname "$0")/../.."
@@ -13,7 +13,7 @@ log=$(mktemp)
 trap 'rm -f "$log"' EXIT
 passed=0
 failed=0
-for script in ends.sh streams.py refuse_each.py damaged.py largest.py shared.py free_load.sh; do
+for script in ends.sh streams.py refuse_each.py damaged.py largest.py shared_runs.py free_load.sh; do
     echo "== $script"
     "scripts/hostile/$script" | tee "$log"
     last=$(tail -1 "$log")

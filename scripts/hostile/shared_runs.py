@@ -1,5 +1,5 @@
 #!/usr/bin/env -S python3 -B
-"""shared.py [CASE..]: makes it hard for runs that several threads share.
+"""shared_runs.py [CASE..]: makes it hard for runs that several threads share.
 
 The other scripts run small circuits, for which no threads are started where `--threads` is given. Here each circuit is
 so large that they are: nets that are shared out to threads, with and without what one share gives another, and a text
@@ -18,11 +18,12 @@ import errno
 import os
 import subprocess
 import sys
+import tempfile
 import time
 
 from refuse_each import is_right, refused
 from streams import line, streamed
-from tools import HERE, JOBS, PROGRAM, ROOT, TABLES, Answer, Case, Files, Tally, each, picked, run
+from tools import HERE, PROGRAM, ROOT, TABLES, Answer, Case, Files, Tally, each, picked, read, run
 
 sys.path.insert(0, os.path.join(ROOT, "bench"))
 import circuits
@@ -34,11 +35,10 @@ MODES = ("rounds", "free")
 
 def case_of(name, circuit):
     """A circuit of the benchmarks' kinds as a case."""
-    files = Files()
-    circuit.write(files.room.name)
-    read = lambda it: open(files.path(it), "rb").read()
-    tables = {it: read(it + ".csv") for it in TABLES if os.path.exists(files.path(it + ".csv"))}
-    return Case(name, read("netlist.bench"), read("options").decode().split(), tables)
+    with tempfile.TemporaryDirectory(prefix="cmbsim-hostile-") as folder:
+        circuit.write(folder)
+        tables = {it: read(folder, it + ".csv") for it in TABLES if os.path.exists(os.path.join(folder, it + ".csv"))}
+        return Case(name, read(folder, "netlist.bench"), read(folder, "options").decode().split(), tables)
 
 
 def cases():
@@ -58,10 +58,10 @@ def check_texts(tally, name, words, case):
             tally.check(answer == Answer(0, case.expected, b""), lambda: f"{name}, {mode} by {threads}: {answer}")
 
 
-def slowly(words, netlist_file, pause, most=1 << 30):
+def slowly(words, netlist, pause, most=1 << 30):
     """A run whose text is read with a pause before each 256 KB, and no further than so many bytes."""
-    with open(netlist_file, "rb") as netlist:
-        child = subprocess.Popen(words, stdin=netlist, stdout=subprocess.PIPE, stderr=subprocess.PIPE)
+    with open(netlist, "rb") as file:
+        child = subprocess.Popen(words, stdin=file, stdout=subprocess.PIPE, stderr=subprocess.PIPE)
     taken = b""
     while len(taken) < most:
         time.sleep(pause)
@@ -77,16 +77,20 @@ def slowly(words, netlist_file, pause, most=1 << 30):
         return Answer(None, taken, b"")
 
 
-def check_readers(tally, files, name, words, case):
+def is_cut_off(answer, whole):
+    """Whether this is the answer where the output took some bytes more than were read, and then failed."""
+    number, place = answer.fault() or (0, 0)
+    return number == 62 and len(answer.out) <= place < len(whole) and whole.startswith(answer.out)
+
+
+def check_readers(tally, netlist, name, words, case):
     """What reads the text is slow, or goes away."""
-    netlist = files.write("netlist", case.netlist)
     for mode in MODES:
         answer = slowly(words_by(words, mode, 4), netlist, 0.02)
         tally.check(answer == Answer(0, case.expected, b""), lambda: f"{name}, {mode}, a slow reader: {answer}")
         for most in (0, 1, 100_000):
             answer = slowly(words_by(words, mode, 4), netlist, 0.0, most)
-            right = answer.status == 1 and answer.fault() and answer.fault()[0] == 62 and case.expected.startswith(answer.out)
-            tally.check(right, lambda: f"{name}, {mode}, a reader that leaves after {most} bytes: {answer}")
+            tally.check(is_cut_off(answer, case.expected), lambda: f"{name}, {mode}, a reader that leaves after {most} bytes: {answer}")
 
 
 def check_stack(tally, name, words, case):
@@ -144,14 +148,14 @@ def check_refusals(tally, name, words, case, shim):
             for at, (answer, count) in each(lambda n: refused(by_four, case.netlist, n, more, shim), numbers):
                 met += count > 0
                 what = lambda: f"{name}, {mode}: request {at}{' and all later' if more else ''} refused: {answer}"
-                tally.check(is_right(answer, whole, more, mode == "free"), what)
+                tally.check(is_right(answer, whole, more, mode == "free") if count else answer == whole, what)
         print(f"{name}, {mode}: some {last} requests, of which one was refused in {met} runs", flush=True)
 
 
-def threads_of(words, netlist, files):
+def threads_of(words, netlist):
     """The most threads that a run had at once, as the system tells it."""
     most = 0
-    with open(files.write("netlist", netlist), "rb") as file:
+    with open(netlist, "rb") as file:
         child = subprocess.Popen(words, stdin=file, stdout=subprocess.DEVNULL)
     while child.poll() is None:
         try:
@@ -163,15 +167,15 @@ def threads_of(words, netlist, files):
 
 def check(tally, files, case, streams, refuse):
     before = tally.passed
-    words = [PROGRAM] + files.words(case)
+    words, netlist = [PROGRAM] + files.words(case), files.write("netlist", case.netlist)
     whole = run(words, case.netlist, SECONDS)
     case.expected = whole.out
     tally.check(whole.status == 0 and whole.err == b"", lambda: f"{case.name}: {whole}")
     for mode in MODES:
-        started = threads_of(words_by(words, mode, 4), case.netlist, files)
+        started = threads_of(words_by(words, mode, 4), netlist)
         tally.check(started > 1, f"{case.name}, {mode}: no thread was started")
     check_texts(tally, case.name, words, case)
-    check_readers(tally, files, case.name, words, case)
+    check_readers(tally, netlist, case.name, words, case)
     check_stack(tally, case.name, words, case)
     check_busy(tally, case.name, words, case)
     check_writes(tally, case.name, words, case, streams)
