@@ -1,11 +1,13 @@
 -- What writes to a word do to a set of numbers by bits.
-use Rattle.std.proofs.Common.{◌≡◌, ℕ, ◌*◌, ◌/◌, ◌%◌, ◌^◌, ◌<◌, ◌≤◌, ◌≢◌, ◌⊎◌, inl, inr, true, false, not, ◌&&◌, ◌||◌, ◌==◌, List, length, get_or, set, replicate, refl, sym, ap, subst, ◌∙◌, arith, w64}
-use Rattle.std.proofs.lemmas.Bool.{cases_eq, cases_lt, eq-eqb, ne_eqb}
+use Rattle.std.proofs.Common.{◌≡◌, ℕ, ◌*◌, ◌/◌, ◌%◌, ◌^◌, ◌<◌, ◌≤◌, ◌≢◌, ◌⊎◌, inl, inr, true, false, not, ◌&&◌, ◌||◌, ◌==◌, List, length, get_or, set, replicate, refl, sym, ap, subst, ◌∙◌, arith, w64, ◌+◌, min, ap₂}
+use Rattle.std.proofs.lemmas.Bool.{cases_eq, cases_lt, eq-eqb, eqb-true, false≢true, ne_eqb}
 use Rattle.std.proofs.lemmas.List.{get_or-set_same, get_or-set_other, get_or-replicate, get_or_past, length-replicate, length-set, get_or_read}
 use Rattle.std.proofs.lemmas.Nat.{and_le_l}
-use Rattle.std.proofs.lemmas.Nat.Bits.{bit_at-zero, bit_at_set_same, bit_at_set_other, bit_at_clear_same, bit_at_clear_other}
+use Rattle.std.proofs.lemmas.Nat.Bits.{bit_at-lt, bit_at-zero, bit_at_and, bit_at_not, bit_at_set_same, bit_at_set_other, bit_at_clear_same, bit_at_clear_other}
 use Rattle.std.specs.Prelude.{bit_and, bit_or}
 use Rattle.std.specs.Int.{bit_at, bit_not}
+use Rattle.cmb_words.specs.Bits.{is_set_at}
+use Rattle.cmb_engine.specs.Inner.Batches.{IsSetAt}
 use Rattle.cmb_engine.specs.Inner.Bits.{has, Inserts, Removes}
 
 -- two numbers with one word and one bit are one
@@ -101,3 +103,43 @@ module _ (words set_is : List ℕ) (view : words ≡ set_is) (n word : ℕ) (rea
   read-removes =
       subst (λ (s : List ℕ). Removes s (set words (n / 64) (bit_and word (bit_not w64 (1 * 2 ^ (n % 64) % 2 ^ 64)))) n) view
       (subst (λ (w : ℕ). Removes words (set words (n / 64) (bit_and w (bit_not w64 (1 * 2 ^ (n % 64) % 2 ^ 64)))) n) (sym read_is) (removes words n (omega (arith, room_is))))
+
+-- ---- some places of a word are taken out
+
+module _ (words set_is : List ℕ) (view : words ≡ set_is) (k word mask : ℕ) (read : word ≡ get_or words k word) (room : k < length set_is) (fits : mask < 2 ^ 64) where
+  inside : k < length words
+  inside = subst (λ (s : List ℕ). k < length s) (sym view) room
+
+  word_is : word ≡ get_or words k 0
+  word_is = get_or_read words k word inside read 0
+
+  pub take-left : (m : ℕ) → has set_is m ≡ true → has (set words k (bit_and word (bit_not w64 mask))) m ≡ false → IsSetAt (64 * k) (bit_and word mask) m
+  unfolding has is_set_at
+  take-left m old new = go (cases_eq (m / 64) k)
+    where
+      left : List ℕ
+      left = set words k (bit_and word (bit_not w64 mask))
+
+      was : bit_at (get_or words (m / 64) 0) (m % 64) ≡ 1
+      was = ap (λ (ws : List ℕ). bit_at (get_or ws (m / 64) 0) (m % 64)) view ∙ eqb-true _ _ old
+
+      go : (m / 64 ≡ k) ⊎ (m / 64 ≡ k → ⊥) → IsSetAt (64 * k) (bit_and word mask) m
+      go (inl e) =
+          let one : bit_at word (m % 64) ≡ 1 = ap (λ (w : ℕ). bit_at w (m % 64)) word_is ∙ ap (λ (n : ℕ). bit_at (get_or words n 0) (m % 64)) (sym e) ∙ was in
+          let gone : bit_at (bit_and word (bit_not w64 mask)) (m % 64) ≡ 1 → ⊥ =
+          λ one. false≢true (sym new ∙ eq-eqb _ _ (ap (λ (n : ℕ). bit_at (get_or left n 0) (m % 64)) e ∙ ap (λ (w : ℕ). bit_at w (m % 64)) (get_or-set_same words k _ 0 inside) ∙ one)) in
+          let bit : bit_at (bit_and word mask) (m % 64) ≡ 1 =
+          omega (arith, bit_at_and word mask (m % 64), bit_at_and word (bit_not w64 mask) (m % 64), bit_at_not w64 mask (m % 64) fits (omega arith), bit_at-lt mask (m % 64), one, gone) in
+          record { place = m % 64; small = omega arith; set = eq-eqb _ _ bit; is = omega (arith, e) }
+      go (inr n) = absurd (false≢true (sym new ∙ eq-eqb _ _ (ap (λ (w : ℕ). bit_at w (m % 64)) (get_or-set_other words k (m / 64) _ 0 n) ∙ was)))
+
+  pub take-taken : (place : ℕ) → place < 64 → is_set_at mask place ≡ true → has set_is (64 * k + place) ≡ true → is_set_at (bit_and word mask) place ≡ true
+  unfolding has is_set_at
+  take-taken place small on old =
+      let at : k ≡ (64 * k + place) / 64 = omega arith in
+      let rest : place ≡ (64 * k + place) % 64 = omega arith in
+      let was : bit_at word place ≡ 1 =
+      ap (λ (w : ℕ). bit_at w place) word_is ∙ ap (λ (ws : List ℕ). bit_at (get_or ws k 0) place) view
+      ∙ ap₂ (λ (a b : ℕ). bit_at (get_or set_is a 0) b) at rest ∙ eqb-true _ _ old in
+      let on_bit : bit_at mask place ≡ 1 = eqb-true _ _ on in
+      eq-eqb _ _ (bit_at_and word mask place ∙ ap₂ (λ (x y : ℕ). min x y) was on_bit)

@@ -73,22 +73,22 @@ module _ (words truth : ℕ → ℕ → Level) (cells : ℕ → Cell) (to first 
 
 -- a net stays settled where its own word and those that its cell reads stay
 pub settled-stays : (f g : ℕ → ℕ → Level) (to first net : ℕ) (cell : Cell) → is_made cell ≡ true → 1 ≤ first
-    → ((place : ℕ) → place < 64 → EachSeen (λ pin. seen f place pin ≡ seen g place pin) to cell place) → ((place : ℕ) → place < 64 → f net place ≡ g net place)
+    → ((place : ℕ) → first ≤ place → place < 64 → EachSeen (λ pin. seen f place pin ≡ seen g place pin) to cell place) → ((place : ℕ) → place < 64 → f net place ≡ g net place)
     → IsSettled f to first net cell → IsSettled g to first net cell
 settled-stays f g to first net cell made begun reads own settled place from small =
-    sym (own place small) ∙ settled place from small ∙ cell_level-same f g (f net) (g net) to place cell made (reads place small) (own (place - 1) (omega arith))
+    sym (own place small) ∙ settled place from small ∙ cell_level-same f g (f net) (g net) to place cell made (reads place from small) (own (place - 1) (omega arith))
 
 -- a net whose word was made is settled where its cell doesn't read it
-pub settled-made : (f g : ℕ → ℕ → Level) (to first net : ℕ) (cell : Cell) → is_made cell ≡ true → ((place : ℕ) → place < 64 → EachSeen (λ pin. seen f place pin ≡ seen g place pin) to cell place)
+pub settled-made : (f g : ℕ → ℕ → Level) (to first net : ℕ) (cell : Cell) → is_made cell ≡ true → ((place : ℕ) → first ≤ place → place < 64 → EachSeen (λ pin. seen f place pin ≡ seen g place pin) to cell place)
     → IsMade f (g net) to first cell → IsSettled g to first net cell
 settled-made f g to first net Told made reads h place from small = absurd (false≢true made)
-settled-made f g to first net (Gate kind pins) made reads h place from small = h place from small ∙ ap (gate kind) (seen-same f g place pins (reads place small))
+settled-made f g to first net (Gate kind pins) made reads h place from small = h place from small ∙ ap (gate kind) (seen-same f g place pins (reads place from small))
 settled-made f g to first net (Flop clock pin) made reads h place from small =
     h place from small ∙ go (cases_Bool (arrives_by clock pin.delay (to + place - 64)))
   where
     go : (arrives_by clock pin.delay (to + place - 64) ≡ true) ⊎ (arrives_by clock pin.delay (to + place - 64) ≡ false)
         → cell_level f (g net) to (Flop clock pin) place ≡ cell_level g (g net) to (Flop clock pin) place
-    go (inl a) = rw a (reads place small a)
+    go (inl a) = rw a (reads place from small a)
     go (inr a) = rw a refl
 
 -- a net that repeats its level is settled where what its cell sees repeats too, and no sample brings another level

@@ -8,9 +8,10 @@ use Rattle.std.proofs.lemmas.List.Elements.{All-push, Contains-append_left, Cont
 use Rattle.std.proofs.lemmas.List.Sorted.{All-permutation, Contains-permutation}
 use Rattle.cmb_wave.specs.declared.level.Level.{Level}
 use Rattle.cmb_design.specs.declared.rows.Clock.{Clock}
-use Rattle.cmb_engine.specs.Inner.Cells.{Cell, Told, Gate, Flop, IsLawful, IsPace, IsSteady, cell_at, is_made}
+use Rattle.cmb_engine.specs.Inner.Cells.{Cell, Told, Gate, Flop, IsLawful, IsPace, IsSteady, cell_at, is_flop, is_made}
 use Rattle.cmb_engine.specs.Inner.Bits.{has}
-use Rattle.cmb_engine.specs.Inner.Circuits.{AreFlops, AreMembers, Arrives, IsFlopOf, IsGroup, IsInGroup, IsMarkedOrRests, is_flop}
+use Rattle.cmb_engine.specs.Inner.Orders.{Order, is_marked, rank_in}
+use Rattle.cmb_engine.specs.Inner.Circuits.{AreFlops, AreMembers, Arrives, IsFlopOf, IsGroup, IsInGroup, IsMarkedOrRests}
 use Rattle.cmb_engine.specs.Rows.{arrives_by}
 use Rattle.cmb_engine.specs.declared.cell.Pin.{Pin}
 use Rattle.cmb_engine.specs.declared.group.Group.{Group}
@@ -197,43 +198,31 @@ flops-whole cells members groups right grouped each = record {
 }
 
 -- marks are kept
-pub rests-kept : (old new : List ℕ) (words : ℕ → ℕ → Level) (first : ℕ) (cells : List Cell) (slot : ℕ) → ((m : ℕ) → has old m ≡ true → has new m ≡ true)
-    → IsMarkedOrRests (has old) words first cells slot → IsMarkedOrRests (has new) words first cells slot
-rests-kept old new words first cells slot kept (inl marked) = inl (kept slot marked)
-rests-kept old new words first cells slot kept (inr rests) = inr rests
+pub rests-kept : (order : Order) (old new : List ℕ) (words : ℕ → ℕ → Level) (first : ℕ) (cells : List Cell) (slot : ℕ) → ((m : ℕ) → has old m ≡ true → has new m ≡ true)
+    → IsMarkedOrRests (is_marked order old) words first cells slot → IsMarkedOrRests (is_marked order new) words first cells slot
+rests-kept order old new words first cells slot kept (inl marked) = inl (kept (rank_in order slot) marked)
+rests-kept order old new words first cells slot kept (inr rests) = inr rests
 
 -- marks stay, and a flip-flop is marked or rests
-pub record MarksOne (old new : List ℕ) (words : ℕ → ℕ → Level) (first : ℕ) (cells : List Cell) (slot : ℕ) : Type 0 where
+pub record MarksOne (order : Order) (old new : List ℕ) (words : ℕ → ℕ → Level) (first : ℕ) (cells : List Cell) (slot : ℕ) : Type 0 where
   pub room : length new ≡ length old
   pub kept : (m : ℕ) → has old m ≡ true → has new m ≡ true
-  pub here : IsMarkedOrRests (has new) words first cells slot
+  pub here : IsMarkedOrRests (is_marked order new) words first cells slot
 
-pub marks-none : (marks : List ℕ) (words : ℕ → ℕ → Level) (first : ℕ) (cells : List Cell) (slot : ℕ) → ((to : ℕ) → IsSteady words to first slot (cell_at cells slot))
-    → MarksOne marks marks words first cells slot
-marks-none marks words first cells slot rests = record { room = refl; kept = λ m h. h; here = inr rests }
+pub marks-none : (order : Order) (marks : List ℕ) (words : ℕ → ℕ → Level) (first : ℕ) (cells : List Cell) (slot : ℕ) → ((to : ℕ) → IsSteady words to first slot (cell_at cells slot))
+    → MarksOne order marks marks words first cells slot
+marks-none order marks words first cells slot rests = record { room = refl; kept = λ m h. h; here = inr rests }
 
-pub marks-one : (old new : List ℕ) (words : ℕ → ℕ → Level) (first : ℕ) (cells : List Cell) (slot : ℕ) → length new ≡ length old → ((m : ℕ) → has new m ≡ (m == slot || has old m))
-    → MarksOne old new words first cells slot
-marks-one old new words first cells slot room inserted = record {
+pub marks-one : (order : Order) (old new : List ℕ) (words : ℕ → ℕ → Level) (first : ℕ) (cells : List Cell) (slot rank : ℕ) → rank ≡ rank_in order slot → length new ≡ length old
+    → ((m : ℕ) → has new m ≡ (m == rank || has old m)) → MarksOne order old new words first cells slot
+marks-one order old new words first cells slot rank is room inserted = record {
   room = room;
-  kept = λ m. inserted-keeps old new slot m (inserted m);
-  here = inl (inserted slot ∙ or_left (slot == slot) (has old slot) (eq-eqb slot slot refl));
+  kept = λ m. inserted-keeps old new rank m (inserted m);
+  here = inl (ap (has new) (sym is) ∙ inserted rank ∙ or_left (rank == rank) (has old rank) (eq-eqb rank rank refl));
 }
 
--- marks stay, and the flip-flops of a group are marked or rest, where a sample arrives
-pub record MarksGroup (old new : List ℕ) (words : ℕ → ℕ → Level) (to first : ℕ) (cells : List Cell) (group : Group) : Type 0 where
-  pub room : length new ≡ length old
-  pub kept : (m : ℕ) → has old m ≡ true → has new m ≡ true
-  pub arrivals : (slot place : ℕ) → Contains group.flops.items slot → first ≤ place → place < 64 → arrives_by group.clock group.delay (to + place - 64) ≡ true
-      → IsMarkedOrRests (has new) words first cells slot
-
--- in a window in which none arrives nothing is to be marked
-pub marks-no_group : (marks : List ℕ) (words : ℕ → ℕ → Level) (to first : ℕ) (cells : List Cell) (group : Group) (begin : ℕ) (others : ℕ → Bool) → 64 ≤ begin
-    → ((place : ℕ) → first ≤ place → place < 64 → arrives_by group.clock group.delay (to + place - 64) ≡ (nat_le begin place && others place))
-    → MarksGroup marks marks words to first cells group
-marks-no_group marks words to first cells group begin others late by = record {
-  room = refl;
-  kept = λ m h. h;
-  arrivals = λ slot place among from small arrives.
-      absurd (false≢true (sym (by place from small ∙ and_left (nat_le begin place) (others place) (lt-leb begin place (omega (arith, late, small)))) ∙ arrives));
-}
+-- no place of a window is one at which samples arrive that do so first behind it
+pub none-arrives : (clock : Clock) (delay to first arrival place : ℕ) (others : ℕ → Bool) → 64 ≤ arrival → place < 64
+    → arrives_by clock delay (to + place - 64) ≡ (nat_le arrival place && others place) → arrives_by clock delay (to + place - 64) ≡ true → ⊥
+none-arrives clock delay to first arrival place others late small by arrives =
+    false≢true (sym (by ∙ and_left (nat_le arrival place) (others place) (lt-leb arrival place (omega (arith, late, small)))) ∙ arrives)

@@ -1,4 +1,5 @@
 pub mod ArrivalFacts
+pub mod BatchFacts
 pub mod BeginFacts
 pub mod BitFacts
 pub mod CellFacts

@@ -1,10 +1,12 @@
 -- A set of numbers and the set of its words that aren't empty.
-use Rattle.std.proofs.Common.{◌≡◌, ◌≢◌, ℕ, ◌+◌, ◌*◌, ◌/◌, ◌%◌, ◌<◌, ◌≤◌, ◌⊎◌, inl, inr, true, false, not, Option, Some, None, MatchOption, ◌==◌, List, length, get_or, refl, sym, ap, subst, ◌∙◌, arith}
+use Rattle.std.proofs.Common.{◌≡◌, ◌≢◌, ℕ, ◌+◌, ◌-◌, ◌*◌, ◌/◌, ◌%◌, ◌<◌, ◌≤◌, ◌⊎◌, inl, inr, true, false, not, Option, Some, None, MatchOption, ◌==◌, List, length, get_or, refl, sym, ap, subst, ◌∙◌, arith}
 use Rattle.std.proofs.lemmas.Bool.{cases_eq, cases_lt, eqb-true, eq-eqb, ne_eqb, false≢true, not-false, eqb-false}
 use Rattle.std.proofs.lemmas.List.{get_or_past}
 use Rattle.std.proofs.lemmas.Nat.Bits.{bit_at-zero}
 use Rattle.std.specs.Prelude.{IfNone}
-use Rattle.cmb_engine.specs.Inner.Bits.{has, HasNone, IsNext, Inserts, Removes, IsSummary}
+use Rattle.cmb_words.specs.Bits.{is_set_at}
+use Rattle.cmb_engine.specs.Inner.Batches.{IsSetAt, IsTaken}
+use Rattle.cmb_engine.specs.Inner.Bits.{has, HasNone, IsNext, Inserts, Lessens, Removes, IsSummary}
 use Rattle.cmb_engine.specs.declared.walk.Walk.{Walk}
 use Rattle.cmb_engine.specs.Inner.Walks.{walked}
 
@@ -12,6 +14,67 @@ use Rattle.cmb_engine.specs.Inner.Walks.{walked}
 pub has-zero_word : (words : List ℕ) (m : ℕ) → get_or words (m / 64) 0 ≡ 0 → has words m ≡ false
 unfolding has
 has-zero_word words m none = rw (none, bit_at-zero (m % 64)) refl
+
+-- a number that is in the set is in one of its words
+pub has-inside : (words : List ℕ) (m : ℕ) → has words m ≡ true → m / 64 < length words
+has-inside words m is = go (cases_lt (m / 64) (length words))
+  where
+    go : (m / 64 < length words) ⊎ (length words ≤ m / 64) → m / 64 < length words
+    go (inl l) = l
+    go (inr l) = absurd (false≢true (sym (has-zero_word words m (get_or_past words (m / 64) 0 l)) ∙ is))
+
+-- a word has fewer numbers, and its bit stays where it has some
+pub summary-less : (low new high : List ℕ) (k : ℕ) → IsSummary low high → Lessens low new k → (get_or new k 0 == 0) ≡ false → IsSummary new high
+summary-less low new high k old less some =
+    record { room = omega (arith, old.room, less.len); summed = λ m. at m (cases_eq m k) }
+  where
+    at : (m : ℕ) → (m ≡ k) ⊎ (m ≡ k → ⊥) → has high m ≡ not (get_or new m 0 == 0)
+    at m (inl e) =
+        let left : (get_or low k 0 == 0) ≡ false = ne_eqb _ _ (λ z. eqb-false _ _ some (omega (arith, less.less, z))) in
+        let now : has high m ≡ true = old.summed m ∙ ap (λ i. not (get_or low i 0 == 0)) e ∙ ap not left in
+        now ∙ sym (ap (λ i. not (get_or new i 0 == 0)) e ∙ ap not some)
+    at m (inr e) = rw (less.others m e) (old.summed m)
+
+-- and where it has none its bit goes
+pub summary-gone : (low new high sums : List ℕ) (k : ℕ) → IsSummary low high → Lessens low new k → Removes high sums k → (get_or new k 0 == 0) ≡ true → IsSummary new sums
+summary-gone low new high sums k old less above none =
+    record { room = omega (arith, old.room, less.len, above.len); summed = λ m. at m (cases_eq m k) }
+  where
+    at : (m : ℕ) → (m ≡ k) ⊎ (m ≡ k → ⊥) → has sums m ≡ not (get_or new m 0 == 0)
+    at m (inl e) =
+        let here : (m == k) ≡ true = eq-eqb _ _ e in
+        let gone : has sums m ≡ false = rw here at (above.members m) in
+        gone ∙ sym (ap (λ i. not (get_or new i 0 == 0)) e ∙ ap not none)
+    at m (inr e) =
+        let here : (m == k) ≡ false = ne_eqb _ _ e in
+        let same : has sums m ≡ has high m = rw here at (above.members m) in
+        same ∙ rw (less.others m e) (old.summed m)
+
+-- the marks of a level in a word are taken out
+pub marks-taken : (old new : List ℕ) (from first end places : ℕ) → IsNext old from first → first % 64 < end → end ≤ 64 → Lessens old new (first / 64)
+    → ((m : ℕ) → has old m ≡ true → has new m ≡ false → IsSetAt (64 * (first / 64)) places m)
+    → ((place : ℕ) → place < 64 → first % 64 ≤ place → place < end → has old (64 * (first / 64) + place) ≡ true → is_set_at places place ≡ true)
+    → (upto : ℕ) → upto ≡ 64 * (first / 64) + end → IsTaken old new from upto (64 * (first / 64)) places
+marks-taken old new from first end places next late fits less left taken upto is =
+    let inside : first / 64 < length old = has-inside old first next.member in
+    record {
+      on = omega (arith, next.from, late, is);
+      within = omega (arith, inside, fits, is);
+      room = less.len;
+      left = left;
+      passed = λ m k l h. at m k l h (cases_lt m first);
+    }
+  where
+    at : (m : ℕ) → from ≤ m → m < upto → has old m ≡ true → (m < first) ⊎ (first ≤ m) → IsSetAt (64 * (first / 64)) places m
+    at m k l h (inl before) = absurd (false≢true (sym (next.least m k before) ∙ h))
+    at m k l h (inr behind) =
+        let e : m ≡ 64 * (first / 64) + (m - 64 * (first / 64)) = omega (arith, behind) in
+        record {
+          place = m - 64 * (first / 64);
+          small = omega (arith, l, is, fits, behind);
+          set = taken (m - 64 * (first / 64)) (omega (arith, l, is, fits, behind)) (omega (arith, behind)) (omega (arith, l, is, behind)) (ap (has old) (sym e) ∙ h);
+          is = e;
+        }
 
 pub summary-insert : (low new high sums : List ℕ) (n : ℕ) → IsSummary low high → Inserts low new n → Inserts high sums (n / 64) → IsSummary new sums
 summary-insert low new high sums n old insert above =

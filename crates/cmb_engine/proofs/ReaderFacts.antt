@@ -1,11 +1,13 @@
 -- Numbers in lists.
-use Rattle.std.proofs.Common.{◌≡◌, ◌≢◌, ℕ, zero, suc, ◌+◌, ◌<◌, ◌≤◌, ◌⊎◌, inl, inr, true, false, ◌==◌, ◌||◌, List, [], ◌∷◌, ◌++◌, length, get_or, set, take, sym, ap, subst, ◌∙◌, arith}
+use Rattle.std.proofs.Common.{◌≡◌, ◌≢◌, ℕ, zero, suc, ◌+◌, ◌<◌, ◌≤◌, ◌⊎◌, inl, inr, true, false, ◌==◌, ◌||◌, List, [], ◌∷◌, ◌++◌, length, get_or, set, take, sym, ap, subst, ◌∙◌, arith, map, refl, Bool}
 use Rattle.std.specs.Prelude.{All, replicate}
 use Rattle.std.specs.List.{list_any}
 use Rattle.std.proofs.lemmas.Bool.{cases_eq, cases_Bool, cases_lt, eqb-true, false≢true}
-use Rattle.std.proofs.lemmas.List.{length-append, get_or_append_left, get_or-append-add, get_or-set_same, get_or-set_other, get_or_past}
+use Rattle.std.proofs.lemmas.List.{length-append, length-map, get_or-map, get_or_append_left, get_or-append-add, get_or-set_same, get_or-set_other, get_or_past}
 use Rattle.std.proofs.lemmas.List.Folds.{list_any_more}
-use Rattle.cmb_engine.specs.Inner.Cells.{Cell, Told, AreBelow, AreReaders, IsListed, cell_at, reads}
+use Rattle.smallvec.specs.SmallVec.{SmallVec}
+use Rattle.cmb_engine.specs.Inner.Cells.{Cell, Told, AreBelow, AreFanout, AreLists, IsListed, cell_at, reads}
+use Rattle.cmb_engine.specs.Inner.Orders.{Order, IsOrder, rank_in}
 use Rattle.cmb_engine.specs.declared.cell.Pin.{Pin}
 
 -- a number at the end of a list
@@ -78,22 +80,76 @@ below-replicate bound (suc count) zero k d inside = absurd (omega arith)
 below-replicate bound (suc count) (suc m) k d inside = below-replicate bound count m k d inside
 
 -- what is told reads nothing
-pub readers-all : (cells : List Cell) (lists : List (List ℕ)) (upto : ℕ) → length cells ≤ upto
-    → ((m place : ℕ) → m < upto → reads (cell_at cells m) place ≡ true → IsListed lists place m) → (net : ℕ) → AreReaders cells net (get_or lists net [])
-readers-all cells lists upto all listed net m read = go (cases_lt m upto)
+pub lists-all : (is_such : Cell → Bool) (cells : List Cell) (lists : List (List ℕ)) (upto : ℕ) → length cells ≤ upto → length lists ≡ length cells → AreBelow (length cells) lists
+    → ((m place : ℕ) → m < upto → is_such (cell_at cells m) ≡ true → reads (cell_at cells m) place ≡ true → IsListed lists place m) → AreLists is_such cells lists
+lists-all is_such cells lists upto all count below listed = record {
+  count = count;
+  listed = λ m place such read. go m place such read (cases_lt m upto);
+  within = below;
+}
   where
-    go : (m < upto) ⊎ (upto ≤ m) → (k : ℕ) × (k < length (get_or lists net [])) × (get_or (get_or lists net []) k 0 ≡ m)
-    go (inl l) = listed m net l read
-    go (inr l) = absurd (false≢true (sym (ap (λ cell. reads cell net) (get_or_past cells m Told (omega arith))) ∙ read))
+    go : (m place : ℕ) → is_such (cell_at cells m) ≡ true → reads (cell_at cells m) place ≡ true → (m < upto) ⊎ (upto ≤ m) → IsListed lists place m
+    go m place such read (inl l) = listed m place l such read
+    go m place such read (inr l) = absurd (false≢true (sym (ap (λ cell. reads cell place) (get_or_past cells m Told (omega arith))) ∙ read))
 
 -- one more net's pins are listed
-pub listed-more : (cells : List Cell) (old new : List (List ℕ)) (net : ℕ) → ((m place : ℕ) → m < net → reads (cell_at cells m) place ≡ true → IsListed old place m)
-    → ((place number : ℕ) → IsListed old place number → IsListed new place number) → ((place : ℕ) → reads (cell_at cells net) place ≡ true → IsListed new place net)
-    → (m place : ℕ) → m < net + 1 → reads (cell_at cells m) place ≡ true → IsListed new place m
-listed-more cells old new net so_far kept listed m place small read = go (cases_lt m net)
+pub listed-more : (is_such : Cell → Bool) (cells : List Cell) (old new : List (List ℕ)) (net : ℕ)
+    → ((m place : ℕ) → m < net → is_such (cell_at cells m) ≡ true → reads (cell_at cells m) place ≡ true → IsListed old place m)
+    → ((place number : ℕ) → IsListed old place number → IsListed new place number)
+    → ((place : ℕ) → is_such (cell_at cells net) ≡ true → reads (cell_at cells net) place ≡ true → IsListed new place net)
+    → (m place : ℕ) → m < net + 1 → is_such (cell_at cells m) ≡ true → reads (cell_at cells m) place ≡ true → IsListed new place m
+listed-more is_such cells old new net so_far kept listed m place small such read = go (cases_lt m net)
   where
     go : (m < net) ⊎ (net ≤ m) → IsListed new place m
-    go (inl l) = kept place m (so_far m place l read)
+    go (inl l) = kept place m (so_far m place l such read)
     go (inr l) =
         let e : m ≡ net = omega (arith, l, small) in
-        subst (λ (n : ℕ). IsListed new place n) (sym e) (listed place (subst (λ (n : ℕ). reads (cell_at cells n) place ≡ true) e read))
+        subst (λ (n : ℕ). IsListed new place n) (sym e)
+        (listed place (subst (λ (n : ℕ). is_such (cell_at cells n) ≡ true) e such) (subst (λ (n : ℕ). reads (cell_at cells n) place ≡ true) e read))
+
+-- ---- ranks in the place of slots
+
+-- the lists of some vectors, each number in it replaced
+replaced : (f : ℕ → ℕ) (lists : List (SmallVec ℕ)) → map (λ (v : SmallVec ℕ). map f v.items) lists ≡ map (map f) (map (λ (v : SmallVec ℕ). v.items) lists)
+replaced f [] = refl
+replaced f (v ∷ lists) = ap (λ ls. map f v.items ∷ ls) (replaced f lists)
+
+pub ranked-fanout : (is_such : Cell → Bool) (cells : List Cell) (order : Order) (lists : List (SmallVec ℕ)) (ranked : List (List ℕ))
+    → ranked ≡ map (λ (v : SmallVec ℕ). map (rank_in order) v.items) lists → AreLists is_such cells (map (λ (v : SmallVec ℕ). v.items) lists) → IsOrder order
+    → length order.ranks ≡ length cells → AreFanout is_such cells order ranked
+ranked-fanout is_such cells order lists ranked is are ordered count = record {
+  count = ap length all ∙ length-map slots (map rank) ∙ are.count;
+  readers_of = λ slot m such read. go slot m (are.listed m slot such read);
+  within = λ place k d l. below place k d l;
+}
+  where
+    rank : ℕ → ℕ
+    rank = rank_in order
+
+    slots : List (List ℕ)
+    slots = map (λ (v : SmallVec ℕ). v.items) lists
+
+    all : ranked ≡ map (map rank) slots
+    all = is ∙ replaced rank lists
+
+    at : (place : ℕ) → get_or ranked place [] ≡ map rank (get_or slots place [])
+    at place = ap (λ ls. get_or ls place []) all ∙ mapped (cases_lt place (length slots))
+      where
+        mapped : (place < length slots) ⊎ (length slots ≤ place) → get_or (map (map rank) slots) place [] ≡ map rank (get_or slots place [])
+        mapped (inl l) = get_or-map (map rank) slots place [] [] l
+        mapped (inr l) =
+            get_or_past (map (map rank) slots) place [] (omega (arith, l, length-map slots (map rank))) ∙ ap (map rank) (sym (get_or_past slots place [] l))
+
+    go : (slot m : ℕ) → IsListed slots slot m → (k : ℕ) × (k < length (get_or ranked slot [])) × (get_or (get_or ranked slot []) k 0 ≡ rank m)
+    go slot m h =
+        subst (λ (xs : List ℕ). (k : ℕ) × (k < length xs) × (get_or xs k 0 ≡ rank m)) (sym (at slot))
+        (h.0, omega (arith, h.1, length-map (get_or slots slot []) rank), get_or-map rank (get_or slots slot []) h.0 0 0 h.1 ∙ ap rank h.2)
+
+    below : (place : ℕ) → All (λ number. number < length order.slots) (get_or ranked place [])
+    below place = subst (λ (xs : List ℕ). All (λ number. number < length order.slots) xs) (sym (at place)) each
+      where
+        each : All (λ number. number < length order.slots) (map rank (get_or slots place []))
+        each k d l =
+            let inside : k < length (get_or slots place []) = omega (arith, l, length-map (get_or slots place []) rank) in
+            let small : get_or (get_or slots place []) k 0 < length order.ranks = omega (arith, are.within place k 0 inside, count) in
+            subst (λ (n : ℕ). n < length order.slots) (sym (get_or-map rank (get_or slots place []) k 0 d inside)) (ordered.stands (get_or (get_or slots place []) k 0) small).below

@@ -1,11 +1,12 @@
 -- What a visit of a net leaves.
-use Rattle.std.proofs.Common.{◌≡◌, ◌≢◌, ℕ, ◌+◌, ◌-◌, ◌<◌, ◌≤◌, ◌⊎◌, inl, inr, true, false, not, ◌&&◌, ◌==◌, List, [], ◌∷◌, length, get_or, refl, sym, ap, subst, ◌∙◌, arith}
+use Rattle.std.proofs.Common.{◌≡◌, ◌≢◌, ℕ, ◌+◌, ◌-◌, ◌<◌, ◌≤◌, ◌⊎◌, inl, inr, Bool, true, false, not, ◌&&◌, ◌==◌, List, [], ◌∷◌, length, get_or, refl, sym, ap, subst, ◌∙◌, arith}
 use Rattle.std.proofs.lemmas.Bool.{ne_eqb, eq-eqb, cases_eq, cases_lt, cases_Bool, false≢true, or_left, or_right}
 use Rattle.std.specs.List.{AllByRecursion, list_any}
 use Rattle.cmb_wave.specs.declared.level.Level.{Level}
+use Rattle.cmb_design.specs.declared.rows.Clock.{Clock}
 use Rattle.cmb_engine.specs.Inner.Bits.{has}
 use Rattle.cmb_engine.specs.Rows.{arrives_by}
-use Rattle.cmb_engine.specs.Inner.Cells.{Cell, Told, Gate, Flop, is_made, seen, cell_level, EachSeen, IsMade, IsSettled, AreReaders, reads}
+use Rattle.cmb_engine.specs.Inner.Cells.{Cell, Told, Gate, Flop, is_made, seen, cell_level, EachSeen, IsMade, IsSettled, AreReaders, Relies, cell_at, reads}
 use Rattle.cmb_engine.specs.declared.cell.Pin.{Pin}
 use Rattle.cmb_engine.proofs.CellFacts.{settled-stays, settled-made}
 
@@ -46,46 +47,55 @@ kept-false old new m kept none = go (cases_Bool (has old m))
     go (inr a) = a
 
 -- a reader is marked where all readers are
-pub reader-marked : (cells : List Cell) (net : ℕ) (readers marks : List ℕ) → AreReaders cells net readers
-    → ((k : ℕ) → k < length readers → has marks (get_or readers k 0) ≡ true) → (m : ℕ) → has marks m ≡ false → reads (get_or cells m Told) net ≡ true → ⊥
-reader-marked cells net readers marks are marked m none read =
-    let among = are m read in
+pub reader-marked : (is_such : Cell → Bool) (cells : List Cell) (rank : ℕ → ℕ) (slot : ℕ) (readers marks : List ℕ) → AreReaders is_such cells rank slot readers
+    → ((k : ℕ) → k < length readers → has marks (get_or readers k 0) ≡ true) → (m : ℕ) → has marks (rank m) ≡ false
+    → is_such (cell_at cells m) ≡ true → reads (cell_at cells m) slot ≡ true → ⊥
+reader-marked is_such cells rank slot readers marks are marked m none such read =
+    let among = are m such read in
     false≢true (sym none ∙ ap (has marks) (sym among.2) ∙ marked among.0 among.1)
 
--- ---- a visit keeps every net settled that isn't marked
+-- ---- one word is another one from a place on
 
-module _ (f g : ℕ → ℕ → Level) (net : ℕ) (others : (m place : ℕ) → m ≢ net → g m place ≡ f m place) where
+module _ (f g : ℕ → ℕ → Level) (net to first : ℕ) (begun : 1 ≤ first) (others : (m place : ℕ) → m ≢ net → g m place ≡ f m place) (past : (place : ℕ) → place < first → g net place ≡ f net place) where
+  pin-agrees : (place : ℕ) (pin : Pin) → (pin.net ≡ net → g net (place - pin.delay) ≡ f net (place - pin.delay)) → seen f place pin ≡ seen g place pin
+  pin-agrees place pin here = go (cases_eq pin.net net)
+    where
+      go : (pin.net ≡ net) ⊎ (pin.net ≡ net → ⊥) → seen f place pin ≡ seen g place pin
+      go (inl e) = ap (λ n. f n (place - pin.delay)) e ∙ sym (here e) ∙ ap (λ n. g n (place - pin.delay)) (sym e)
+      go (inr other) = sym (others pin.net (place - pin.delay) other)
+
   pins-agree : (place : ℕ) → place < 64 → (pins : List Pin) → (list_any (λ pin. pin.net == net) pins ≡ true → (q : ℕ) → q < 64 → g net q ≡ f net q)
       → AllByRecursion (λ pin. seen f place pin ≡ seen g place pin) pins
   pins-agree place small [] news = tt
-  pins-agree place small (pin ∷ pins) news = (here (cases_eq pin.net net), pins-agree place small pins (λ a. news (or_right (pin.net == net) _ a)))
-    where
-      here : (pin.net ≡ net) ⊎ (pin.net ≡ net → ⊥) → seen f place pin ≡ seen g place pin
-      here (inl e) =
-          let same : g net (place - pin.delay) ≡ f net (place - pin.delay) = news (or_left (pin.net == net) _ (eq-eqb pin.net net e)) (place - pin.delay) (omega arith) in
-          ap (λ n. f n (place - pin.delay)) e ∙ sym same ∙ ap (λ n. g n (place - pin.delay)) (sym e)
-      here (inr other) = sym (others pin.net (place - pin.delay) other)
+  pins-agree place small (pin ∷ pins) news = (
+    pin-agrees place pin (λ e. news (or_left (pin.net == net) _ (eq-eqb pin.net net e)) (place - pin.delay) (omega arith)),
+    pins-agree place small pins (λ a. news (or_right (pin.net == net) _ a)),
+  )
 
-  cell-agrees : (to place : ℕ) → place < 64 → (cell : Cell) → (reads cell net ≡ true → (q : ℕ) → q < 64 → g net q ≡ f net q)
+  -- a cell sees the same in both, unless it relies on a word that is another one
+  pub cell-agrees : (opened : Bool) (cell : Cell)
+      → (opened ≡ false → (clock : Clock) (pin : Pin) → cell ≡ Flop clock pin → (place : ℕ) → first ≤ place → place < 64 → arrives_by clock pin.delay (to + place - 64) ≡ true
+      → place < first + pin.delay)
+      → (Relies opened cell net → (q : ℕ) → q < 64 → g net q ≡ f net q) → (place : ℕ) → first ≤ place → place < 64
       → EachSeen (λ pin. seen f place pin ≡ seen g place pin) to cell place
-  cell-agrees to place small Told news = tt
-  cell-agrees to place small (Gate kind pins) news = pins-agree place small pins news
-  cell-agrees to place small (Flop clock pin) news = λ a. (pins-agree place small (pin ∷ []) news).0
-
-  pub visit-keeps : (cells : List Cell) (old new : List ℕ) (to first : ℕ) → 1 ≤ first
-      → IsMade f (g net) to first (get_or cells net Told)
-      → ((m : ℕ) → has new m ≡ false → m ≢ net → has old m ≡ false)
-      → ((m place : ℕ) → has new m ≡ false → reads (get_or cells m Told) net ≡ true → place < 64 → g net place ≡ f net place)
-      → ((m : ℕ) → is_made (get_or cells m Told) ≡ true → has old m ≡ false → IsSettled f to first m (get_or cells m Told))
-      → (m : ℕ) → is_made (get_or cells m Told) ≡ true → has new m ≡ false → IsSettled g to first m (get_or cells m Told)
-  visit-keeps cells old new to first begun made marks news settled m is none = go (cases_eq m net)
+  cell-agrees opened Told closed news place from small = tt
+  cell-agrees opened (Gate kind pins) closed news place from small = pins-agree place small pins (λ a. news (a, inl refl))
+  cell-agrees opened (Flop clock pin) closed news place from small = λ a. pin-agrees place pin (λ e. go e a (cases_Bool opened))
     where
-      agrees : (place : ℕ) → place < 64 → EachSeen (λ pin. seen f place pin ≡ seen g place pin) to (get_or cells m Told) place
-      agrees place small = cell-agrees to place small (get_or cells m Told) (λ a q l. news m q none a l)
+      go : pin.net ≡ net → arrives_by clock pin.delay (to + place - 64) ≡ true → (opened ≡ true) ⊎ (opened ≡ false) → g net (place - pin.delay) ≡ f net (place - pin.delay)
+      go e a (inl is) = news (or_left (pin.net == net) _ (eq-eqb pin.net net e), inr (refl, is)) (place - pin.delay) (omega arith)
+      go e a (inr isnt) =
+          let before : place < first + pin.delay = closed isnt clock pin refl place from small a in
+          past (place - pin.delay) (omega (arith, before, begun))
 
-      go : (m ≡ net) ⊎ (m ≡ net → ⊥) → IsSettled g to first m (get_or cells m Told)
+  -- so the slot is settled whose word was made, and others are that were
+  pub visit-settles : (cells : ℕ → Cell) → IsMade f (g net) to first (cells net) → (m : ℕ) → is_made (cells m) ≡ true
+      → ((place : ℕ) → first ≤ place → place < 64 → EachSeen (λ pin. seen f place pin ≡ seen g place pin) to (cells m) place)
+      → (m ≢ net → IsSettled f to first m (cells m)) → IsSettled g to first m (cells m)
+  visit-settles cells made m is agrees settled = go (cases_eq m net)
+    where
+      go : (m ≡ net) ⊎ (m ≡ net → ⊥) → IsSettled g to first m (cells m)
       go (inl e) =
-          let here : IsMade f (g m) to first (get_or cells m Told) = subst (λ (n : ℕ). IsMade f (g n) to first (get_or cells n Told)) (sym e) made in
-          settled-made f g to first m (get_or cells m Told) is agrees here
-      go (inr other) =
-          settled-stays f g to first m (get_or cells m Told) is begun agrees (λ place small. sym (others m place other)) (settled m is (marks m none other))
+          let here : IsMade f (g m) to first (cells m) = subst (λ (n : ℕ). IsMade f (g n) to first (cells n)) (sym e) made in
+          settled-made f g to first m (cells m) is agrees here
+      go (inr other) = settled-stays f g to first m (cells m) is begun agrees (λ place small. sym (others m place other)) (settled other)

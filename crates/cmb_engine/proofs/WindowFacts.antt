@@ -3,11 +3,14 @@ use Rattle.std.proofs.Common.{◌≡◌, ℕ, ◌+◌, ◌-◌, ◌<◌, ◌≤�
 use Rattle.std.specs.List.{AllByRecursion}
 use Rattle.std.proofs.lemmas.Bool.{cases_lt, cases_Bool, false≢true}
 use Rattle.cmb_wave.specs.declared.level.Level.{Level}
+use Rattle.cmb_design.specs.declared.rows.Clock.{Clock}
 use Rattle.cmb_design.specs.Gate.{gate}
 use Rattle.cmb_design.specs.Value.{delayed}
 use Rattle.cmb_engine.specs.Inner.Bits.{has}
-use Rattle.cmb_engine.specs.Inner.Cells.{Cell, Told, Gate, Flop, is_made, seen, IsSteady, IsSteadyFrom, IsReadable, IsReady, IsTrueBelow, IsWired, AreMarked, AreSettled, KeepsTold, cell_at, pins_of, reads}
-use Rattle.cmb_engine.specs.Inner.Circuits.{cell_row, Arrives, AreQuiet, IsMarkedOrRests, IsWiring, MeetsCells, Shows}
+use Rattle.cmb_engine.specs.Inner.Cells.{Cell, Told, Gate, Flop, is_gate, is_made, seen, AreClosed, IsSteady, IsSteadyFrom, IsReadable, IsReady, IsTrueBelow, IsWired, AreMarked, AreSettled, KeepsTold, cell_at, pins_of, reads}
+use Rattle.cmb_engine.specs.Inner.Circuits.{cell_row, AreFlops, Arrives, AreQuiet, IsFlopOf, IsInGroup, IsMarkedOrRests, IsWiring, MeetsCells, Shows}
+use Rattle.cmb_engine.specs.Inner.Orders.{Order, is_marked, rank_in}
+use Rattle.cmb_engine.specs.Rows.{arrives_by}
 use Rattle.cmb_engine.specs.Inner.Windows.{in_place}
 use Rattle.cmb_engine.specs.declared.cell.Pin.{Pin}
 use Rattle.cmb_engine.specs.declared.group.Group.{Group}
@@ -38,16 +41,24 @@ pub record IsWindow (from ticks to first most : ℕ) : Type 0 where
   pub fits : most < first
 
 -- what settles the words of a window needs
-pub window-wired : (cells : List Cell) (readers : List (List ℕ)) (flops : List Group) (most : ℕ) → IsWiring cells readers flops most → (count first : ℕ) → length cells ≡ count → most ≤ first
-    → IsWired cells readers count first
-window-wired cells readers flops most wiring count first nets later =
-    subst (λ (n : ℕ). IsWired cells readers n first) nets (record {
+pub window-wired : (cells : List Cell) (order : Order) (gate_lists flop_lists : List (List ℕ)) (flops : List Group) (most : ℕ) → IsWiring cells order gate_lists flop_lists flops most
+    → (count first : ℕ) → length cells ≡ count → most ≤ first → IsWired cells order gate_lists flop_lists count first
+window-wired cells order gate_lists flop_lists flops most wiring count first nets later =
+    subst (λ (n : ℕ). IsWired cells order gate_lists flop_lists n first) nets (record {
       nets = refl;
-      lists = wiring.lists;
+      ranked = wiring.ranked;
+      ordered = wiring.ordered;
+      gates = wiring.gates;
+      flops = wiring.samplers;
       lawful = λ slot inside. lawful-later (length cells) most first (cell_at cells slot) later (wiring.lawful slot inside);
-      readers_of = wiring.readers_of;
-      within = wiring.within;
     })
+
+-- a window in which no sample arrives that is taken in it is closed
+pub window-closed : (cells : List Cell) (flops : List Group) → AreFlops cells flops → (to first : ℕ)
+    → ((clock : Clock) (delay slot place : ℕ) → IsInGroup clock delay slot flops → first ≤ place → place < 64 → arrives_by clock delay (to + place - 64) ≡ true → place < first + delay)
+    → AreClosed (cell_at cells) to first
+window-closed cells flops are to first closed slot clock pin is place from small arrives =
+    closed clock pin.delay slot place (are.all slot clock pin.delay (subst (λ (cell : Cell). IsFlopOf cell clock pin.delay) (sym is) (refl, refl))) from small arrives
 
 -- ---- words that moved on
 
@@ -74,18 +85,19 @@ module _ (trace : ℕ → ℕ → Level) (from ticks to first most count : ℕ) 
 
 -- what stands before words are settled: those that moved on, with what was told and given written into them, and marks of all that
 -- read something new
-pub record IsBegun (trace : ℕ → ℕ → Level) (cells : List Cell) (readers : List (List ℕ)) (most : ℕ) (moved told : ℕ → ℕ → Level) (live marks : List ℕ) (to first : ℕ) : Type 0 where
+pub record IsBegun (trace : ℕ → ℕ → Level) (cells : List Cell) (order : Order) (readers : List (List ℕ)) (most : ℕ) (moved told : ℕ → ℕ → Level) (live marks : List ℕ) (to first : ℕ) : Type 0 where
   pub quiet : AreQuiet moved (has live) (length cells)
   pub news : (slot : ℕ) → slot < length cells → has live slot ≡ true → IsSteadyFrom (moved slot) (first - most) ⊎ AreMarked (has marks) (get_or readers slot [])
   pub kept : (slot : ℕ) → slot < length cells → (AreMarked (has marks) (get_or readers slot []) → ⊥) → (place : ℕ) → place < 64 → told slot place ≡ moved slot place
   pub made : (slot place : ℕ) → is_made (cell_at cells slot) ≡ true → place < 64 → told slot place ≡ moved slot place
   pub told_true : (slot place : ℕ) → slot < length cells → is_made (cell_at cells slot) ≡ false → place < 64 → told slot place ≡ shown trace to slot place
-  pub arrivals : (slot place : ℕ) → first ≤ place → place < 64 → Arrives (cell_at cells slot) (to + place - 64) → IsMarkedOrRests (has marks) told first cells slot
+  pub arrivals : (slot place : ℕ) → first ≤ place → place < 64 → Arrives (cell_at cells slot) (to + place - 64) → IsMarkedOrRests (is_marked order marks) told first cells slot
 
-module _ (trace : ℕ → ℕ → Level) (cells : List Cell) (readers : List (List ℕ)) (flops : List Group) (most : ℕ) (wiring : IsWiring cells readers flops most)
+module _ (trace : ℕ → ℕ → Level) (cells : List Cell) (order : Order) (readers flop_lists : List (List ℕ)) (flops : List Group) (most : ℕ)
+    (wiring : IsWiring cells order readers flop_lists flops most)
     (meets : MeetsCells trace (cell_at cells)) (from ticks to first : ℕ) (window : IsWindow from ticks to first most) (old moved told : ℕ → ℕ → Level)
     (shows : Shows old trace (length cells) from) (moves : (slot place : ℕ) → place < 64 → moved slot place ≡ old slot (min (place + ticks) 63))
-    (live marks : List ℕ) (begun : IsBegun trace cells readers most moved told live marks to first) where
+    (live marks : List ℕ) (begun : IsBegun trace cells order readers most moved told live marks to first) where
   -- a slot of which nothing is new: nothing is told or given of it, and it repeats its level as far back as a pin looks
   abbrev IsCalm : ℕ → Type 0
   IsCalm slot = ((place : ℕ) → place < 64 → told slot place ≡ moved slot place) × IsSteadyFrom (moved slot) (first - most)
@@ -93,15 +105,15 @@ module _ (trace : ℕ → ℕ → Level) (cells : List Cell) (readers : List (Li
   quiet-steady : (slot : ℕ) → slot < length cells → has live slot ≡ false → IsSteadyFrom (moved slot) (first - most)
   quiet-steady slot inside none place late small = begun.quiet slot place inside none small ∙ sym (begun.quiet slot (first - most - 1) inside none (omega arith))
 
-  -- so is what a slot reads that isn't marked
-  calm : (reader slot : ℕ) → has marks reader ≡ false → reads (cell_at cells reader) slot ≡ true → slot < length cells → IsCalm slot
-  calm reader slot none read inside = (
+  -- so is what a gate reads that isn't marked
+  calm : (reader slot : ℕ) → is_gate (cell_at cells reader) ≡ true → is_marked order marks reader ≡ false → reads (cell_at cells reader) slot ≡ true → slot < length cells → IsCalm slot
+  calm reader slot gate none read inside = (
     begun.kept slot inside marked,
     go (cases_Bool (has live slot)),
   )
     where
       marked : AreMarked (has marks) (get_or readers slot []) → ⊥
-      marked h = reader-marked cells slot (get_or readers slot []) marks (wiring.readers_of slot) h reader none read
+      marked h = reader-marked is_gate cells (rank_in order) slot (get_or readers slot []) marks (wiring.gates.readers_of slot) h reader none gate read
 
       news : IsSteadyFrom (moved slot) (first - most) ⊎ AreMarked (has marks) (get_or readers slot []) → IsSteadyFrom (moved slot) (first - most)
       news (inl steady) = steady
@@ -115,11 +127,11 @@ module _ (trace : ℕ → ℕ → Level) (cells : List Cell) (readers : List (Li
   abbrev IsCalmPin : Pin → Type 0
   IsCalmPin pin = IsCalm pin.net × (pin.net < length cells) × (pin.delay ≤ most)
 
-  pins-calm : (slot : ℕ) → is_made (cell_at cells slot) ≡ true → has marks slot ≡ false → AllByRecursion IsCalmPin (pins_of (cell_at cells slot))
-  pins-calm slot made none =
+  pins-calm : (slot : ℕ) → is_made (cell_at cells slot) ≡ true → is_marked order marks slot ≡ false → is_gate (cell_at cells slot) ≡ true → AllByRecursion IsCalmPin (pins_of (cell_at cells slot))
+  pins-calm slot made none gate =
       all-both (λ pin. pin.net < length cells → IsCalm pin.net) (λ pin. (pin.net < length cells) × (pin.delay ≤ most)) IsCalmPin (pins_of (cell_at cells slot))
       (λ pin so l. (so l.0, l.0, l.1))
-      (pins-read (λ net. net < length cells → IsCalm net) (pins_of (cell_at cells slot)) (λ net read inside. calm slot net none read inside))
+      (pins-read (λ net. net < length cells → IsCalm net) (pins_of (cell_at cells slot)) (λ net read inside. calm slot net gate none read inside))
       (lawful-pins (length cells) most (cell_at cells slot) (wiring.lawful slot (made-inside cells slot made)))
 
   calm-seen : (pin : Pin) → IsCalmPin pin → (place : ℕ) → first ≤ place → place < 64 → seen told place pin ≡ seen told (first - 1) pin
@@ -133,16 +145,16 @@ module _ (trace : ℕ → ℕ → Level) (cells : List Cell) (readers : List (Li
   calm-shown pin so =
       so.0.0 (first - 1 - pin.delay) (omega arith) ∙ moved-below trace from ticks to first most (length cells) window old moved shows moves pin.net (first - 1 - pin.delay) so.1 (omega arith)
 
-  steady-cell : (slot : ℕ) (cell : Cell) → told slot (first - 1) ≡ cell_row trace slot (to + (first - 1) - 64) cell → AllByRecursion IsCalmPin (pins_of cell)
+  steady-cell : (slot : ℕ) (cell : Cell) → told slot (first - 1) ≡ cell_row trace slot (to + (first - 1) - 64) cell → (is_gate cell ≡ true → AllByRecursion IsCalmPin (pins_of cell))
       → ((place : ℕ) → first ≤ place → place < 64 → Arrives cell (to + place - 64) → IsSteady told to first slot cell) → IsSteady told to first slot cell
-  steady-cell slot Told row pins none = tt
-  steady-cell slot (Gate kind pins) row so none = (
+  steady-cell slot Told row calm none = tt
+  steady-cell slot (Gate kind pins) row calm none = (
     row
-        ∙ ap (gate kind) (sym (pins-shown trace to (first - 1) pins (omega arith) (all-weaker IsCalmPin (λ pin. pin.delay ≤ first - 1) pins (λ pin h. omega (arith, h.2)) so)))
-        ∙ ap (gate kind) (sym (seen-same told (shown trace to) (first - 1) pins (all-weaker IsCalmPin (λ pin. seen told (first - 1) pin ≡ seen (shown trace to) (first - 1) pin) pins calm-shown so))),
-    λ place late small. all-weaker IsCalmPin (λ pin. seen told place pin ≡ seen told (first - 1) pin) pins (λ pin h. calm-seen pin h place late small) so,
+        ∙ ap (gate kind) (sym (pins-shown trace to (first - 1) pins (omega arith) (all-weaker IsCalmPin (λ pin. pin.delay ≤ first - 1) pins (λ pin h. omega (arith, h.2)) (calm refl))))
+        ∙ ap (gate kind) (sym (seen-same told (shown trace to) (first - 1) pins (all-weaker IsCalmPin (λ pin. seen told (first - 1) pin ≡ seen (shown trace to) (first - 1) pin) pins calm-shown (calm refl)))),
+    λ place late small. all-weaker IsCalmPin (λ pin. seen told place pin ≡ seen told (first - 1) pin) pins (λ pin h. calm-seen pin h place late small) (calm refl),
   )
-  steady-cell slot (Flop clock pin) row so none = λ place late small a. none place late small a place late small a
+  steady-cell slot (Flop clock pin) row calm none = λ place late small a. none place late small a place late small a
 
   made-below : (slot place : ℕ) → is_made (cell_at cells slot) ≡ true → place < first → told slot place ≡ shown trace to slot place
   made-below slot place made below =
@@ -150,12 +162,12 @@ module _ (trace : ℕ → ℕ → Level) (cells : List Cell) (readers : List (Li
       ∙ moved-below trace from ticks to first most (length cells) window old moved shows moves slot place (made-inside cells slot made) below
 
   -- the samples of a slot that isn't marked bring the level that it has
-  rests : (slot : ℕ) → has marks slot ≡ false → IsMarkedOrRests (has marks) told first cells slot → IsSteady told to first slot (cell_at cells slot)
+  rests : (slot : ℕ) → is_marked order marks slot ≡ false → IsMarkedOrRests (is_marked order marks) told first cells slot → IsSteady told to first slot (cell_at cells slot)
   rests slot none (inl marked) = absurd (false≢true (sym none ∙ marked))
   rests slot none (inr steady) = steady to
 
   -- what isn't marked is settled
-  begun-settled : AreSettled told (has marks) (cell_at cells) to first
+  begun-settled : AreSettled told (is_marked order marks) (cell_at cells) to first
   begun-settled slot made none =
       settled-steady told to first slot (cell_at cells slot) made (omega arith)
       (λ place late small.
@@ -183,7 +195,7 @@ module _ (trace : ℕ → ℕ → Level) (cells : List Cell) (readers : List (Li
 
   -- what settles them shows the trace
   pub window-shows : (new : ℕ → ℕ → Level) → KeepsTold told new (cell_at cells)
-      → ((truth : ℕ → ℕ → Level) → IsReady told truth (cell_at cells) to first → AreSettled told (has marks) (cell_at cells) to first → IsTrueBelow told truth (cell_at cells) first
+      → ((truth : ℕ → ℕ → Level) → IsReady told truth (cell_at cells) to first → AreSettled told (is_marked order marks) (cell_at cells) to first → IsTrueBelow told truth (cell_at cells) first
       → IsTrueBelow new truth (cell_at cells) 64)
       → Shows new trace (length cells) to
   window-shows new kept exact slot place inside small = go (cases_Bool (is_made (cell_at cells slot)))

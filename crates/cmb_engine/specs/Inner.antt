@@ -1,12 +1,14 @@
 -- What the functions inside the crate promise each other. No public contract cites it.
 pub mod Ahead
 pub mod Arrivals
+pub mod Batches
 pub mod Bits
 pub mod Cells
 pub mod Circuits
 pub mod Gifts
 pub mod Lines
 pub mod Lists
+pub mod Orders
 pub mod Plans
 pub mod Roles
 pub mod Starts

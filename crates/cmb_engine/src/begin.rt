@@ -20,9 +20,8 @@ pub(crate) fn mark_news(
     first: u32,
 )
     requires lists { length readers.now ≡ length words.now }
-    requires room { length words.now ≤ 64 * length marks.old }
     requires live { length words.now ≤ 64 * length live.now }
-    requires within { AreBelow (length words.now) readers.now }
+    requires within { AreBelow (64 * length marks.old) readers.now }
     requires begun { 1 ≤ first }
     requires first { first < 64 }
     ensures room { length marks.new ≡ length marks.old }

@@ -1,8 +1,10 @@
 //! Sets of numbers by bits.
 
-ghost use Rattle.std.specs.Prelude.{◌≡◌, ℕ, ◌+◌, ◌*◌, ◌/◌, ◌%◌, ◌^◌, ◌<◌, ◌≤◌, ◌||◌, ◌&&◌, ◌==◌, false, not, length};
+ghost use Rattle.std.specs.Prelude.{◌≡◌, ℕ, ◌+◌, ◌*◌, ◌/◌, ◌%◌, ◌^◌, ◌<◌, ◌≤◌, ◌||◌, ◌&&◌, ◌==◌, false, not, length, true};
 ghost use Rattle.std.specs.Prelude.{slice_index, IfOk, IfNone, MatchOption};
-ghost use Rattle.cmb_engine.specs.Inner.Bits.{has, HasNone, IsNext, Inserts, Removes};
+ghost use Rattle.cmb_words.specs.Bits.{is_set_at};
+ghost use Rattle.cmb_engine.specs.Inner.Batches.{IsSetAt};
+ghost use Rattle.cmb_engine.specs.Inner.Bits.{has, HasNone, IsNext, Inserts, Lessens, Removes};
 ghost use Rattle.cmb_engine.specs.Inner.Walks.{walked};
 
 use crate::walk::Walk;
@@ -65,6 +67,31 @@ impl Bits {
         let left = self.words[n / 64] & !(1 << (n % 64));
         self.words[n / 64] = left;
         left == 0
+    }
+
+    /// A word of the set.
+    #[inline]
+    pub(crate) fn word(&self, k: usize) -> u64
+        ensures { result ≡ slice_index self.now k }
+    {
+        match self.words.get(k) {
+            Some(word) => *word,
+            None => 0,
+        }
+    }
+
+    /// Takes the numbers of a word out whose places a mask has, and says which places these are.
+    #[inline]
+    pub(crate) fn take(&mut self, k: usize, mask: u64) -> u64
+        requires { k < length self.old }
+        ensures less { Lessens self.old self.new k }
+        ensures left { (m : ℕ) → has self.old m ≡ true → has self.new m ≡ false → IsSetAt (64 * k) result m }
+        ensures taken { (place : ℕ) → place < 64 → is_set_at mask place ≡ true → has self.old (64 * k + place) ≡ true
+            → is_set_at result place ≡ true }
+    {
+        let word = self.words[k];
+        self.words[k] = word & !mask;
+        word & mask
     }
 
     /// The least one in the word of a walk that the walk hasn't passed, which it passes then.

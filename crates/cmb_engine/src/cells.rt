@@ -5,9 +5,8 @@ ghost use Rattle.std.specs.Prelude.{MatchOption, length, map, replicate, slice_i
 ghost use Rattle.cmb_words.specs.Word.{level_at_place};
 ghost use Rattle.cmb_engine.specs.Inner.Arrivals.{IsArrival};
 ghost use Rattle.cmb_engine.specs.Inner.Cells.{Told, Gate, Flop};
-ghost use Rattle.cmb_engine.specs.Inner.Cells.{cell_at, is_made, pins_of as pins_of_cell, reads, AreBelow};
+ghost use Rattle.cmb_engine.specs.Inner.Cells.{cell_at, is_flop, is_gate, is_made, pins_of as pins_of_cell, reads, AreBelow};
 ghost use Rattle.cmb_engine.specs.Inner.Cells.{IsListed, IsMade, IsLawful};
-ghost use Rattle.cmb_engine.specs.Inner.Circuits.{is_flop};
 ghost use Rattle.cmb_engine.specs.Inner.Tables.{IsInside, cell_of};
 ghost use Rattle.cmb_engine.specs.Inner.Windows.{HasWindow};
 ghost use Rattle.cmb_engine.specs.Inner.Words.{levels_of};
@@ -158,8 +157,20 @@ impl Cells {
         }
     }
 
-    /// Puts a net into the lists of the nets that its cell reads.
-    pub(crate) fn list_net(&self, net: usize, readers: &mut [Numbers]) -> Result<(), AllocError>
+    /// Whether a slot's word waits for no other slot of its window: it is told, or that of a flip-flop whose clock has such
+    /// a period at least.
+    pub(crate) fn is_source(&self, slot: usize, shortest: u32) -> bool
+        requires { slot < length self.now }
+    {
+        match self.rules[slot] {
+            Rule::Told => true,
+            Rule::Flop(clock, _) => shortest <= clock.period,
+            _ => false,
+        }
+    }
+
+    /// Puts a slot into the list of the slot that it reads, where it is a flip-flop.
+    pub(crate) fn list_flop(&self, net: usize, readers: &mut [Numbers]) -> Result<(), AllocError>
         requires net { net < length self.now }
         requires small { net < 2 ^ 32 }
         requires pins { All (λ pin. pin.net < length readers.old) (pins_of_cell (slice_index_or self.now net Told)) }
@@ -170,12 +181,35 @@ impl Cells {
             → IsListed (map (λ list. list.items) readers.old) place number
             → IsListed (map (λ list. list.items) readers.new) place number) }
         ensures listed { OnOk result ((place : ℕ)
+            → is_flop (slice_index_or self.now net Told) ≡ true
             → reads (slice_index_or self.now net Told) place ≡ true
             → IsListed (map (λ list. list.items) readers.new) place net) }
     {
         match self.rules[net] {
-            Rule::Told => Ok(()),
-            Rule::Single(_, pin) | Rule::Flop(_, pin) => push_pins(readers, &[pin], net as u32),
+            Rule::Flop(_, pin) => push_pins(readers, &[pin], net as u32),
+            _ => Ok(()),
+        }
+    }
+
+    /// Puts a slot into the lists of the slots that it reads, where it is a gate.
+    pub(crate) fn list_gate(&self, net: usize, readers: &mut [Numbers]) -> Result<(), AllocError>
+        requires net { net < length self.now }
+        requires small { net < 2 ^ 32 }
+        requires pins { All (λ pin. pin.net < length readers.old) (pins_of_cell (slice_index_or self.now net Told)) }
+        ensures len { length readers.new ≡ length readers.old }
+        ensures within { OnOk result (AreBelow (length self.now) (map (λ list. list.items) readers.old)
+            → AreBelow (length self.now) (map (λ list. list.items) readers.new)) }
+        ensures kept { OnOk result ((place number : ℕ)
+            → IsListed (map (λ list. list.items) readers.old) place number
+            → IsListed (map (λ list. list.items) readers.new) place number) }
+        ensures listed { OnOk result ((place : ℕ)
+            → is_gate (slice_index_or self.now net Told) ≡ true
+            → reads (slice_index_or self.now net Told) place ≡ true
+            → IsListed (map (λ list. list.items) readers.new) place net) }
+    {
+        match self.rules[net] {
+            Rule::Told | Rule::Flop(..) => Ok(()),
+            Rule::Single(_, pin) => push_pins(readers, &[pin], net as u32),
             Rule::Double(_, pin, other) => push_pins(readers, &[pin, other], net as u32),
             Rule::Gate(_, part) => {
                 let begin = part.first as usize;

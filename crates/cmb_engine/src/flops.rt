@@ -7,6 +7,7 @@ ghost use Rattle.cmb_engine.specs.Inner.Bits.{has};
 ghost use Rattle.cmb_engine.specs.Inner.Cells.{Cell, IsLawful, IsPace, IsSteady, cell_at};
 ghost use Rattle.cmb_engine.specs.Inner.Circuits.{AreFlops, AreMembers, IsFlopOf, IsGroup, IsInGroup, IsMarkedOrRests};
 ghost use Rattle.cmb_engine.specs.Rows.{arrives_by};
+ghost use Rattle.cmb_engine.specs.Inner.Orders.{is_marked, IsOrder};
 ghost use Rattle.cmb_engine.specs.Inner.Windows.{HasWindow};
 ghost use Rattle.cmb_engine.specs.Inner.Words.{levels_of};
 
@@ -14,6 +15,8 @@ use crate::arrivals::first_arrival;
 use crate::cells::Cells;
 use crate::group::{Group, Member};
 use crate::marks::Marks;
+use crate::order::Order;
+use cmb_design::Clock;
 use cmb_words::Word;
 use std::alloc::{AllocError, Global};
 
@@ -105,43 +108,110 @@ fn may_change(cells: &Cells, words: &[Word], slot: usize, first: u32) -> bool
 }
 
 // Marks those of some flip-flops that may get another level.
-fn mark_flops(cells: &Cells, words: &[Word], flops: &[u32], marks: &mut Marks, first: u32)
+fn mark_flops(
+    cells: &Cells,
+    order: &Order,
+    words: &[Word],
+    flops: &[u32],
+    marks: &mut Marks,
+    first: u32,
+)
     requires slots { All (λ slot. slot < length cells.now) flops.now }
     requires nets { length cells.now ≡ length words.now }
     requires lawful { (slot : ℕ) → slot < length words.now
         → IsLawful (length words.now) first (cell_at cells.now slot) }
-    requires room { length words.now ≤ 64 * length marks.old }
+    requires ranked { length order.now.ranks ≡ length words.now }
+    requires ordered { IsOrder order.now }
+    requires room { length order.now.slots ≤ 64 * length marks.old }
     requires begun { 1 ≤ first }
     requires first { first < 64 }
     ensures room { length marks.new ≡ length marks.old }
     ensures kept { (m : ℕ) → has marks.old m ≡ true → has marks.new m ≡ true }
-    ensures marked { All (IsMarkedOrRests (has marks.new) (levels_of words.now) first cells.now) flops.now }
+    ensures marked { All (IsMarkedOrRests (is_marked order.now marks.new) (levels_of words.now) first cells.now) flops.now }
 {
     for slot in flops {
         let slot = *slot as usize;
         if may_change(cells, words, slot, first) {
-            marks.insert(slot);
+            marks.insert(order.rank(slot) as usize);
         }
     }
 }
 
-/// Marks the flip-flops that get a sample in the window, from a place on, but those whose samples can only bring the
-/// level that they have.
-#[inline(never)]
-pub(crate) fn mark_arrivals(
-    groups: &[Group],
+// Whether a sample arrives in the window that is taken in it, from a place on.
+fn is_open(clock: Clock, delay: u32, to: u32, first: u32) -> bool
+    requires pace { IsPace clock }
+    requires delay { delay ≤ 1000000 }
+    requires window { HasWindow to first }
+    ensures { result ≡ false → (place : ℕ) → first ≤ place → place < 64
+        → arrives_by clock delay (to + place - 64) ≡ true → place < first + delay }
+{
+    let taken = first + delay;
+    if taken >= 64 {
+        return false;
+    }
+    first_arrival(clock, delay, to, taken) < 64
+}
+
+// Marks the flip-flops of a group where they get a sample in the window. Says whether a sample may arrive that is taken
+// in it.
+fn mark_group(
+    group: &Group,
     cells: &Cells,
+    order: &Order,
     words: &[Word],
     marks: &mut Marks,
     to: u32,
     first: u32,
-)
+) -> bool
+    requires pace { IsPace group.now.clock }
+    requires delay { group.now.delay ≤ 1000000 }
+    requires slots { All (λ slot. slot < length cells.now) group.now.flops.items }
+    requires nets { length cells.now ≡ length words.now }
+    requires lawful { (slot : ℕ) → slot < length words.now
+        → IsLawful (length words.now) first (cell_at cells.now slot) }
+    requires ranked { length order.now.ranks ≡ length words.now }
+    requires ordered { IsOrder order.now }
+    requires room { length order.now.slots ≤ 64 * length marks.old }
+    requires window { HasWindow to first }
+    ensures room { length marks.new ≡ length marks.old }
+    ensures kept { (m : ℕ) → has marks.old m ≡ true → has marks.new m ≡ true }
+    ensures arrivals { (slot place : ℕ) → Contains group.now.flops.items slot
+        → first ≤ place → place < 64
+        → arrives_by group.now.clock group.now.delay (to + place - 64) ≡ true
+        → IsMarkedOrRests (is_marked order.now marks.new) (levels_of words.now) first cells.now slot }
+    ensures closed { result ≡ false → (place : ℕ)
+        → first ≤ place → place < 64
+        → arrives_by group.now.clock group.now.delay (to + place - 64) ≡ true
+        → place < first + group.now.delay }
+{
+    let arrival = first_arrival(group.clock, group.delay, to, first);
+    if arrival >= 64 {
+        return false;
+    }
+    mark_flops(cells, order, words, group.flops.as_slice(), marks, first);
+    is_open(group.clock, group.delay, to, first)
+}
+
+/// Marks the flip-flops that get a sample in the window, from a place on, but those whose samples can only bring the
+/// level that they have. Says whether the window is open: whether a sample may arrive that is taken in it.
+#[inline(never)]
+pub(crate) fn mark_arrivals(
+    groups: &[Group],
+    cells: &Cells,
+    order: &Order,
+    words: &[Word],
+    marks: &mut Marks,
+    to: u32,
+    first: u32,
+) -> bool
     requires paces { All (λ group. IsPace group.clock × (group.delay ≤ 1000000)) groups.now }
     requires slots { All (λ group. All (λ slot. slot < length cells.now) group.flops.items) groups.now }
     requires nets { length cells.now ≡ length words.now }
     requires lawful { (slot : ℕ) → slot < length words.now
         → IsLawful (length words.now) first (cell_at cells.now slot) }
-    requires room { length words.now ≤ 64 * length marks.old }
+    requires ranked { length order.now.ranks ≡ length words.now }
+    requires ordered { IsOrder order.now }
+    requires room { length order.now.slots ≤ 64 * length marks.old }
     requires window { HasWindow to first }
     ensures room { length marks.new ≡ length marks.old }
     ensures kept { (m : ℕ) → has marks.old m ≡ true → has marks.new m ≡ true }
@@ -149,11 +219,17 @@ pub(crate) fn mark_arrivals(
         → IsInGroup clock delay slot groups.now
         → first ≤ place → place < 64
         → arrives_by clock delay (to + place - 64) ≡ true
-        → IsMarkedOrRests (has marks.new) (levels_of words.now) first cells.now slot }
+        → IsMarkedOrRests (is_marked order.now marks.new) (levels_of words.now) first cells.now slot }
+    ensures closed { result ≡ false → (clock : Clock) (delay slot place : ℕ)
+        → IsInGroup clock delay slot groups.now
+        → first ≤ place → place < 64
+        → arrives_by clock delay (to + place - 64) ≡ true
+        → place < first + delay }
 {
+    let mut opened = false;
     for group in groups {
-        if first_arrival(group.clock, group.delay, to, first) < 64 {
-            mark_flops(cells, words, group.flops.as_slice(), marks, first);
-        }
+        let opens = mark_group(group, cells, order, words, marks, to, first);
+        opened = opens || opened;
     }
+    opened
 }

@@ -28,8 +28,7 @@ pub(crate) fn write_given(
     requires slots { (slot : ℕ) → gives roles.now slot ≡ true → slot < length words.old }
     requires first { first < 64 }
     requires lists { length readers.now ≡ length words.old }
-    requires within { AreBelow (length words.old) readers.now }
-    requires room { length words.old ≤ 64 * length marks.old }
+    requires within { AreBelow (64 * length marks.old) readers.now }
     requires live { length words.old ≤ 64 * length live.old }
     ensures writes { Writes words.old words.new live.old live.new marks.old marks.new }
     ensures written { AreWritten roles.now given.now (levels_of words.old) (levels_of words.new) first }

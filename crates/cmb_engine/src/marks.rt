@@ -1,12 +1,15 @@
 //! The nets with news: a set of numbers, of which the next one is found quickly.
 
-ghost use Rattle.std.specs.Prelude.{◌≡◌, ℕ, ◌+◌, ◌*◌, ◌<◌, ◌≤◌, ◌||◌, ◌&&◌, ◌==◌, false, not, length, IfOk};
+ghost use Rattle.std.specs.Prelude.{◌≡◌, ℕ, ◌+◌, ◌*◌, ◌^◌, ◌<◌, ◌≤◌, ◌||◌, ◌&&◌, ◌==◌, false, true, not, length, IfOk};
 ghost use Rattle.std.specs.Prelude.{MatchOption};
+ghost use Rattle.cmb_words.specs.Bits.{is_set_at};
+ghost use Rattle.cmb_engine.specs.Inner.Batches.{IsTaken};
 ghost use Rattle.cmb_engine.specs.Inner.Bits.{has, HasNone, IsNext};
 ghost use Rattle.cmb_engine.specs.Inner.Walks.{walked};
 
 use crate::bits::Bits;
 use crate::walk::Walk;
+use cmb_words::lowest;
 use std::alloc::{AllocError, Global};
 use std::marker::Model;
 
@@ -26,6 +29,37 @@ impl Model for Marks {
     ghost view = { λ marks. marks.low };
 
     ghost invariant = { λ marks. IsSummary marks.low marks.high };
+}
+
+/// Some numbers: the set places of a word, counted from its first number on.
+#[derive(Clone, Copy)]
+pub(crate) struct Batch {
+    pub base: usize,
+    pub places: u64,
+    ghost fits: { base + 64 ≤ 2 ^ 64 },
+}
+
+// The place in a word behind a place at which the next level begins; its end, where none does.
+#[inline]
+fn level_end(begins: u64, place: u32) -> u32
+    requires { place < 64 }
+    ensures behind { place < result }
+    ensures within { result ≤ 64 }
+{
+    match lowest((begins >> place) >> 1) {
+        Some(more) => (place + 1 + more).min(64),
+        None => 64,
+    }
+}
+
+// The places from one on up to another one.
+#[inline]
+fn between(from: u32, to: u32) -> u64
+    requires some { from < to }
+    requires fits { to ≤ 64 }
+    ensures { (place : ℕ) → from ≤ place → place < to → is_set_at result place ≡ true }
+{
+    (u64::MAX << from) & (u64::MAX >> (64 - to))
 }
 
 impl Marks {
@@ -60,6 +94,30 @@ impl Marks {
         if self.low.remove(n) {
             self.high.remove(n / 64);
         }
+    }
+
+    /// Takes out those marks of one word of one level that a walk hasn't passed, of the first such word and level with marks.
+    /// The walk then has passed the level's numbers in the word. `levels` has the numbers with which a level begins.
+    #[inline]
+    pub(crate) fn take(&mut self, walk: &mut Walk, levels: &Bits) -> Option<Batch>
+        ensures { MatchOption result
+            (HasNone self.old (walked walk.old) (64 * length self.old) × (self.new ≡ self.old))
+            (λ batch. IsTaken self.old self.new (walked walk.old) (walked walk.new) batch.base batch.places) }
+    {
+        let mut ahead = *walk;
+        let first = self.next(&mut ahead)?;
+        let word = first / 64;
+        let place = (first % 64) as u32;
+        let end = level_end(levels.word(word), place);
+        let places = self.low.take(word, between(place, end));
+        if self.low.word(word) == 0 {
+            self.high.remove(word);
+        }
+        *walk = Walk::behind(word, end - 1);
+        Some(Batch {
+            base: 64 * word,
+            places,
+        })
     }
 
     /// The least marked number that a walk hasn't passed, which it passes then.

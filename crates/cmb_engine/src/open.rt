@@ -10,11 +10,11 @@ ghost use Rattle.cmb_engine.specs.Inner.Traces.{trace_of};
 ghost use Rattle.cmb_engine.specs.Inner.Words.{levels_of};
 
 use crate::circuit::Circuit;
+use crate::fanout::fanout_of;
 use crate::flops::flops_of;
 use crate::lines::followers_of;
 use crate::marks::Marks;
 use crate::plan::plan_of;
-use crate::readers::readers_of;
 use crate::role::Role;
 use crate::start::start_words;
 use crate::state::State;
@@ -36,14 +36,14 @@ pub(crate) fn open_circuit(
     ensures roles { IfOk result (λ circuit. circuit.wiring.roles.items ≡ roles.items) }
 {
     let plan = plan_of(alloc, design, roles.as_slice())?;
-    let readers = readers_of(alloc, &plan.cells)?;
+    let fanout = fanout_of(alloc, &plan.cells)?;
     let flops = flops_of(alloc, &plan.cells)?;
     let followers = followers_of(alloc, &plan.lines, design.netlist().len())?;
     Ok(Circuit {
         wiring: Wiring {
             roles,
             cells: plan.cells,
-            readers,
+            fanout,
             flops,
             most: plan.most,
         },
@@ -100,7 +100,7 @@ pub(crate) fn open_state(
     let words = start_words(alloc, design, &circuit.lines)?;
     let calendar = open_calendar(alloc, design, circuit, &words)?;
     let live = all_below(alloc, words.len())?;
-    let marks = Marks::new(alloc, words.len())?;
+    let marks = Marks::new(alloc, circuit.wiring.fanout.order.len())?;
     Ok(State {
         words,
         live,

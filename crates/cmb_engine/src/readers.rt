@@ -1,12 +1,14 @@
-//! Which nets read each net.
+//! Which slots read each slot.
 
 ghost use Rattle.std.specs.Prelude.{◌≡◌, ℕ, ◌^◌, ◌<◌, ◌++◌, ◌∷◌, ◌==◌, [], true, All, IfOk, OnOk, length, map};
 ghost use Rattle.std.specs.Prelude.{replicate, slice_index_or, slice_set};
 ghost use Rattle.std.specs.List.{list_any};
-ghost use Rattle.cmb_engine.specs.Inner.Cells.{Told, AreBelow, AreReaders, IsListed, pins_of};
+ghost use Rattle.cmb_engine.specs.Inner.Cells.{Told, is_flop, is_gate, AreBelow, AreLists, IsListed, pins_of};
+ghost use Rattle.cmb_engine.specs.Inner.Orders.{rank_in};
 
 use crate::cell::Pin;
 use crate::cells::Cells;
+use crate::order::Order;
 use smallvec::SmallVec;
 use std::alloc::{AllocError, Global};
 use std::marker::Model;
@@ -72,6 +74,22 @@ impl Readers {
         Ok(Readers { starts, nets })
     }
 
+    /// The same lists, with ranks in the place of slots.
+    pub(crate) fn ranked(alloc: Global, lists: &[Numbers], order: &Order) -> Result<Readers, AllocError>
+        ensures { IfOk result (λ readers. readers ≡ map (λ list. map (rank_in order.now) list.items) lists.now) }
+    {
+        let mut starts = vec![in alloc; 0; 1]?;
+        let mut nets = Vec::new(alloc);
+        for list in lists {
+            push_ranks(&mut nets, list.as_slice(), order)?;
+            let Ok(end) = u32::try_from(nets.len()) else {
+                return Err(AllocError);
+            };
+            starts.push(end)?;
+        }
+        Ok(Readers { starts, nets })
+    }
+
     /// The nets that read a slot.
     #[inline]
     pub(crate) fn of(&self, slot: usize) -> &[u32]
@@ -82,6 +100,16 @@ impl Readers {
         let end = self.starts[slot + 1] as usize;
         &self.nets[begin..end]
     }
+}
+
+// Adds the ranks of some slots.
+fn push_ranks(ranks: &mut Vec<u32>, slots: &[u32], order: &Order) -> Result<(), AllocError>
+    ensures { OnOk result (ranks.new.items ≡ ranks.old.items ++ map (rank_in order.now) slots.now) }
+{
+    for slot in slots {
+        ranks.push(order.rank(*slot as usize))?;
+    }
+    Ok(())
 }
 
 /// Adds a net to the list of a place.
@@ -127,18 +155,30 @@ pub(crate) fn empty_lists(alloc: Global, count: usize) -> Result<Vec<Numbers>, A
     Ok(lists)
 }
 
-/// For each net those whose cells read it.
-pub(crate) fn readers_of(alloc: Global, cells: &Cells) -> Result<Readers, AllocError>
+/// For each slot the gates that read it.
+pub(crate) fn gate_readers(alloc: Global, cells: &Cells) -> Result<Vec<Numbers>, AllocError>
     requires few { length cells.now < 2 ^ 32 }
     requires pins { (net : ℕ) → net < length cells.now
         → All (λ pin. pin.net < length cells.now) (pins_of (slice_index_or cells.now net Told)) }
-    ensures len { IfOk result (λ readers. length readers ≡ length cells.now) }
-    ensures readers { IfOk result (λ readers. (net : ℕ) → AreReaders cells.now net (slice_index_or readers net [])) }
-    ensures within { IfOk result (λ readers. AreBelow (length cells.now) readers) }
+    ensures { IfOk result (λ lists. AreLists is_gate cells.now (map (λ list. list.items) lists.items)) }
 {
     let mut lists = empty_lists(alloc, cells.len())?;
     for net in 0..cells.len() {
-        cells.list_net(net, &mut lists)?;
+        cells.list_gate(net, &mut lists)?;
     }
-    Readers::joined(alloc, &lists)
+    Ok(lists)
+}
+
+/// For each slot the flip-flops that read it.
+pub(crate) fn flop_readers(alloc: Global, cells: &Cells) -> Result<Vec<Numbers>, AllocError>
+    requires few { length cells.now < 2 ^ 32 }
+    requires pins { (net : ℕ) → net < length cells.now
+        → All (λ pin. pin.net < length cells.now) (pins_of (slice_index_or cells.now net Told)) }
+    ensures { IfOk result (λ lists. AreLists is_flop cells.now (map (λ list. list.items) lists.items)) }
+{
+    let mut lists = empty_lists(alloc, cells.len())?;
+    for net in 0..cells.len() {
+        cells.list_flop(net, &mut lists)?;
+    }
+    Ok(lists)
 }

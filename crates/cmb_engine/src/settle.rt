@@ -1,22 +1,26 @@
 //! Visits of nets with news.
 
-ghost use Rattle.std.specs.Prelude.{◌≡◌, ◌≢◌, ℕ, ◌+◌, ◌*◌, ◌<◌, ◌≤◌, true, [], All, length, slice_index};
+ghost use Rattle.std.specs.Prelude.{◌≡◌, ◌≢◌, ℕ, ◌+◌, ◌*◌, ◌<◌, ◌≤◌, ◌||◌, true, [], All, length, slice_index};
 ghost use Rattle.std.specs.Prelude.{slice_index_or, slice_set};
 ghost use Rattle.cmb_wave.specs.declared.level.Level.{Level};
 ghost use Rattle.cmb_engine.specs.Inner.Arrivals.{IsArrival};
 ghost use Rattle.cmb_engine.specs.Inner.Bits.{has};
-ghost use Rattle.cmb_engine.specs.Inner.Cells.{Told, IsMade, IsLawful, IsReady, IsTrueBelow, AreReaders, AreSettled};
-ghost use Rattle.cmb_engine.specs.Inner.Cells.{cell_at, AreMarked};
+ghost use Rattle.cmb_words.specs.Bits.{is_set_at};
+ghost use Rattle.cmb_engine.specs.Inner.Batches.{Makes, Passes};
+ghost use Rattle.cmb_engine.specs.Inner.Cells.{cell_at, AreBelow, AreMarked, AreSettled, IsLawful, IsReady, IsTrueBelow};
+ghost use Rattle.cmb_engine.specs.Inner.Orders.{is_marked, IsOrder};
 ghost use Rattle.cmb_engine.specs.Inner.Sweeps.{CanSweep, Sweeps};
 ghost use Rattle.cmb_engine.specs.Inner.Windows.{HasWindow};
 ghost use Rattle.cmb_engine.specs.Inner.Words.{levels_of, Writes};
 
 use crate::arrivals::{Arrival, any_arrival};
 use crate::cells::Cells;
-use crate::marks::Marks;
+use crate::fanout::Fanout;
+use crate::marks::{Batch, Marks};
+use crate::order::Order;
 use crate::readers::Readers;
 use crate::walk::Walk;
-use cmb_words::Word;
+use cmb_words::{Places, Word};
 
 /// Marks some nets.
 #[inline]
@@ -53,72 +57,117 @@ pub(crate) fn put_word(
     mark_all(marks, readers);
 }
 
-/// Makes the word of a net from a place on, and takes its mark away; where the word is another one than before, the net
-/// is put among the live ones, and those that read it are marked.
+// The places of a mask, and one more where it is wanted.
 #[inline]
-pub(crate) fn visit(
-    cells: &Cells,
-    readers: &Readers,
-    words: &mut [Word],
-    marks: &mut Marks,
-    live: &mut Marks,
-    last: &mut Arrival,
-    net: usize,
-    to: u32,
-    first: u32,
-)
-    requires last { IsArrival last.old to first }
-    requires net { net < length words.old }
-    requires cell { IsLawful (length words.old) first (slice_index_or cells.now net Told) }
-    requires nets { length cells.now ≡ length words.old }
-    requires lists { length readers.now ≡ length words.old }
-    requires room { length words.old ≤ 64 * length marks.old }
-    requires readers { AreReaders cells.now net (slice_index_or readers.now net []) }
-    requires within { All (λ reader. reader < 64 * length marks.old) (slice_index_or readers.now net []) }
-    requires live { length words.old ≤ 64 * length live.old }
-    requires window { HasWindow to first }
-    ensures last { IsArrival last.new to first }
-    ensures others { (m place : ℕ) → m ≢ net → levels_of words.new m place ≡ levels_of words.old m place }
-    ensures past { (place : ℕ) → place < first → levels_of words.new net place ≡ levels_of words.old net place }
-    ensures made { IsMade (levels_of words.old) (levels_of words.new net) to first (cell_at cells.now net) }
-    ensures sweeps { Sweeps (cell_at cells.now) to first (levels_of words.old) (levels_of words.new)
-        marks.old marks.new live.old live.new }
+fn with_place(mask: u64, place: u32, is_wanted: bool) -> u64
+    requires { place < 64 }
+    ensures here { is_set_at result place ≡ (is_wanted || is_set_at mask place) }
+    ensures others { (i : ℕ) → i ≢ place → is_set_at result i ≡ is_set_at mask i }
 {
-    marks.remove(net);
-    let made = cells.word(net, words, last, to, first);
-    if !made.differs_from(words[net], first) {
-        return;
-    }
-    put_word(net, made, readers.of(net), words, live, marks);
+    if is_wanted { mask | (1 << place) } else { mask }
 }
 
-/// Visits the marked nets by rising number, each once.
+// Makes the words of a batch of slots from a place on, and says at which places there is another word than before.
+//
+// Most slots of a batch are of one level, so none waits for what another one stores.
+fn make_words(
+    cells: &Cells,
+    order: &Order,
+    words: &mut [Word],
+    last: &mut Arrival,
+    batch: Batch,
+    to: u32,
+    first: u32,
+) -> u64
+    requires last { IsArrival last.old to first }
+    requires nets { length cells.now ≡ length words.old }
+    requires ranked { length order.now.ranks ≡ length words.old }
+    requires ordered { IsOrder order.now }
+    requires lawful { (slot : ℕ) → slot < length words.old → IsLawful (length words.old) first (cell_at cells.now slot) }
+    requires window { HasWindow to first }
+    ensures len { length words.new ≡ length words.old }
+    ensures last { IsArrival last.new to first }
+    ensures makes { Makes (cell_at cells.now) order.now to first batch.base batch.places result
+        (levels_of words.old) (levels_of words.new) }
+{
+    let mut news = 0;
+    for place in Places::of(batch.places) {
+        if let Some(slot) = order.slot(batch.base + place as usize) {
+            let made = cells.word(slot, words, last, to, first);
+            news = with_place(news, place, made.differs_from(words[slot], first));
+            words[slot] = made;
+        }
+    }
+    news
+}
+
+// Marks the flip-flops that read a slot, where a window is open.
+#[inline]
+fn mark_flops(marks: &mut Marks, flops: &Readers, slot: usize, opened: bool)
+    requires slot { slot < length flops.now }
+    requires within { AreBelow (64 * length marks.old) flops.now }
+    ensures len { length marks.new ≡ length marks.old }
+    ensures kept { (m : ℕ) → has marks.old m ≡ true → has marks.new m ≡ true }
+    ensures marked { opened ≡ true → AreMarked (has marks.new) (slice_index_or flops.now slot []) }
+{
+    if opened {
+        mark_all(marks, flops.of(slot));
+    }
+}
+
+// Puts the slots of a batch among the live ones, and marks those that read them.
+fn pass_on(fanout: &Fanout, news: Batch, opened: bool, live: &mut Marks, marks: &mut Marks)
+    requires within { (rank : ℕ) → rank < length fanout.now.order.slots
+        → slice_index fanout.now.order.slots rank < 64 * length live.old }
+    requires gates { AreBelow (64 * length marks.old) fanout.now.gates }
+    requires flops { AreBelow (64 * length marks.old) fanout.now.flops }
+    requires gate_lists { (rank : ℕ) → rank < length fanout.now.order.slots
+        → slice_index fanout.now.order.slots rank < length fanout.now.gates }
+    requires flop_lists { (rank : ℕ) → rank < length fanout.now.order.slots
+        → slice_index fanout.now.order.slots rank < length fanout.now.flops }
+    ensures { Passes fanout.now.order news.base news.places fanout.now.gates fanout.now.flops opened
+        marks.old marks.new live.old live.new }
+{
+    for place in Places::of(news.places) {
+        if let Some(slot) = fanout.order.slot(news.base + place as usize) {
+            live.insert(slot);
+            mark_all(marks, fanout.gates.of(slot));
+            mark_flops(marks, &fanout.flops, slot, opened);
+        }
+    }
+}
+
+/// Visits the marked slots by rising rank, each once: those of one level in a word of marks are made, and then what reads
+/// them is marked.
 pub(crate) fn sweep(
     cells: &Cells,
-    readers: &Readers,
+    fanout: &Fanout,
+    opened: bool,
     words: &mut [Word],
     marks: &mut Marks,
     live: &mut Marks,
     to: u32,
     first: u32,
 )
-    requires { CanSweep cells.now readers.now (length words.old) marks.old live.old to first }
-    ensures sweeps { Sweeps (cell_at cells.now) to first (levels_of words.old) (levels_of words.new)
+    requires { CanSweep cells.now fanout.now.order fanout.now.gates fanout.now.flops opened
+        (length words.old) marks.old live.old to first }
+    ensures sweeps { Sweeps (cell_at cells.now) fanout.now.order to first (levels_of words.old) (levels_of words.new)
         marks.old marks.new live.old live.new }
 
     // What the sweep passes becomes true one place further.
     ensures truer { (truth : ℕ → ℕ → Level) (upto : ℕ) → first ≤ upto → upto < 64
         → IsReady (levels_of words.old) truth (cell_at cells.now) to first
-        → AreSettled (levels_of words.old) (has marks.old) (cell_at cells.now) to first
+        → AreSettled (levels_of words.old) (is_marked fanout.now.order marks.old) (cell_at cells.now) to first
         → IsTrueBelow (levels_of words.old) truth (cell_at cells.now) upto
         → IsTrueBelow (levels_of words.new) truth (cell_at cells.now) (upto + 1) }
 {
     let mut last = any_arrival(to, first);
     let mut walk = Walk::at(0);
-    'nets: while let Some(net) = marks.next_below(&mut walk, words.len()) {
-        visit(
-            cells, readers, words, marks, live, &mut last, net, to, first,
-        );
+    'batches: while let Some(batch) = marks.take(&mut walk, fanout.order.levels()) {
+        let places = make_words(cells, &fanout.order, words, &mut last, batch, to, first);
+        let base = batch.base;
+        let news = Batch { base, places };
+        pass_on(fanout, news, opened, live, marks);
     }
 }
 
@@ -127,26 +176,28 @@ pub(crate) fn sweep(
 #[inline(never)]
 pub(crate) fn settle(
     cells: &Cells,
-    readers: &Readers,
+    fanout: &Fanout,
+    opened: bool,
     words: &mut [Word],
     marks: &mut Marks,
     live: &mut Marks,
     to: u32,
     first: u32,
 )
-    requires { CanSweep cells.now readers.now (length words.old) marks.old live.old to first }
-    ensures sweeps { Sweeps (cell_at cells.now) to first (levels_of words.old) (levels_of words.new)
+    requires { CanSweep cells.now fanout.now.order fanout.now.gates fanout.now.flops opened
+        (length words.old) marks.old live.old to first }
+    ensures sweeps { Sweeps (cell_at cells.now) fanout.now.order to first (levels_of words.old) (levels_of words.new)
         marks.old marks.new live.old live.new }
     ensures exact { (truth : ℕ → ℕ → Level)
         → IsReady (levels_of words.old) truth (cell_at cells.now) to first
-        → AreSettled (levels_of words.old) (has marks.old) (cell_at cells.now) to first
+        → AreSettled (levels_of words.old) (is_marked fanout.now.order marks.old) (cell_at cells.now) to first
         → IsTrueBelow (levels_of words.old) truth (cell_at cells.now) first
         → IsTrueBelow (levels_of words.new) truth (cell_at cells.now) 64 }
 {
     for _ in first..64 {
         match marks.next(&mut Walk::at(0)) {
             None => return,
-            Some(_) => sweep(cells, readers, words, marks, live, to, first),
+            Some(_) => sweep(cells, fanout, opened, words, marks, live, to, first),
         }
     }
 }

@@ -27,8 +27,7 @@ pub(crate) fn write_told(
     requires slots { (tell : Tell) → Contains tells.now tell
         → (tell.slot < length words.old) × (1 ≤ tell.tick) × (to ≤ tell.tick + 64) × (tell.tick < to) }
     requires lists { length readers.now ≡ length words.old }
-    requires within { AreBelow (length words.old) readers.now }
-    requires room { length words.old ≤ 64 * length marks.old }
+    requires within { AreBelow (64 * length marks.old) readers.now }
     requires live { length words.old ≤ 64 * length live.old }
     requires to { to ≤ 1000000 }
     ensures writes { Writes words.old words.new live.old live.new marks.old marks.new }

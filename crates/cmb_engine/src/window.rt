@@ -13,25 +13,25 @@ ghost use Rattle.cmb_engine.specs.Inner.Words.{levels_of};
 
 use crate::begin::mark_news;
 use crate::cells::Cells;
+use crate::fanout::Fanout;
 use crate::flops::mark_arrivals;
 use crate::given::write_given;
 use crate::group::Group;
 use crate::marks::Marks;
 use crate::moves::move_on;
-use crate::readers::Readers;
 use crate::role::Role;
 use crate::settle::settle;
 use crate::told::write_told;
 use cmb_calendar::Tell;
 use cmb_words::{Changed, Word};
 
-/// What stays as it is while an engine goes on: what it does with each net, its cells, who reads each slot, the groups
+/// What stays as it is while an engine goes on: what it does with each net, its cells, their fanout, the groups
 /// of flip-flops, and how many ticks back a pin looks at most.
 #[derive(Drop)]
 pub(crate) struct Wiring {
     pub roles: Vec<Role>,
     pub cells: Cells,
-    pub readers: Readers,
+    pub fanout: Fanout,
     pub flops: Vec<Group>,
     pub most: u32,
 }
@@ -48,11 +48,11 @@ pub(crate) fn go_on(
     ticks: u32,
     to: u32,
 )
-    requires wiring { IsWiring wiring.now.cells wiring.now.readers
+    requires wiring { IsWiring wiring.now.cells wiring.now.fanout.order wiring.now.fanout.gates wiring.now.fanout.flops
         wiring.now.flops.items wiring.now.most }
     requires gives { AreToldNets wiring.now.cells wiring.now.roles.items }
     requires nets { length wiring.now.cells ≡ length words.old }
-    requires room { length words.old ≤ 64 * length marks.old }
+    requires room { length wiring.now.fanout.order.slots ≤ 64 * length marks.old }
     requires live { length words.old ≤ 64 * length live.old }
     requires some { 1 ≤ ticks }
     requires fits { ticks + wiring.now.most ≤ 63 }
@@ -74,18 +74,19 @@ pub(crate) fn go_on(
         → Shows (levels_of words.new) trace (length words.old) to }
 {
     let first = 64 - ticks;
-    let readers = &wiring.readers;
+    let readers = &wiring.fanout.gates;
     move_on(words, live, ticks);
     mark_news(readers, words, live, marks, first - wiring.most);
     write_told(tells, readers, words, live, marks, to);
     write_given(given, &wiring.roles, readers, words, live, marks, first);
-    mark_arrivals(
+    let opened = mark_arrivals(
         wiring.flops.as_slice(),
         &wiring.cells,
+        &wiring.fanout.order,
         words,
         marks,
         to,
         first,
     );
-    settle(&wiring.cells, readers, words, marks, live, to, first);
+    settle(&wiring.cells, &wiring.fanout, opened, words, marks, live, to, first);
 }

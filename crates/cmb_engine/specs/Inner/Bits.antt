@@ -23,6 +23,12 @@ pub record Inserts (old new : List ℕ) (n : ℕ) : Type 0 where
   pub others : (k : ℕ) → k ≢ n / 64 → slice_index new k ≡ slice_index old k
   pub some : slice_index new (n / 64) ≢ 0
 
+-- a word lost numbers, and the others stay
+pub record Lessens (old new : List ℕ) (k : ℕ) : Type 0 where
+  pub len : length new ≡ length old
+  pub others : (other : ℕ) → other ≢ k → slice_index new other ≡ slice_index old other
+  pub less : slice_index new k ≤ slice_index old k
+
 -- the new set is the old one without n
 pub record Removes (old new : List ℕ) (n : ℕ) : Type 0 where
   pub len : length new ≡ length old

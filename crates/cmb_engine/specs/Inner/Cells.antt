@@ -1,11 +1,12 @@
 -- How the word of a net comes about, said in places of words: 64 levels a net, of which place i stands for tick to + i - 64.
-use Rattle.std.specs.Prelude.{◌≡◌, ℕ, ◌+◌, ◌-◌, ◌<◌, ◌≤◌, Bool, true, false, IsTrue, List, [], ◌∷◌, ◌==◌, slice_index, slice_index_or, All, map, length, if◌then◌else◌}
+use Rattle.std.specs.Prelude.{◌≡◌, ℕ, ◌+◌, ◌-◌, ◌<◌, ◌≤◌, ◌⊎◌, Bool, true, false, IsTrue, List, [], ◌∷◌, ◌==◌, slice_index, slice_index_or, All, map, length, if◌then◌else◌}
 use Rattle.std.specs.List.{AllByRecursion, list_any}
 use Rattle.cmb_wave.specs.declared.level.Level.{Level}
 use Rattle.cmb_netlist.specs.declared.netlist.Kind.{Kind}
 use Rattle.cmb_design.specs.declared.rows.Clock.{Clock}
 use Rattle.cmb_design.specs.Gate.{gate}
 use Rattle.cmb_engine.specs.Rows.{arrives_by}
+use Rattle.cmb_engine.specs.Inner.Orders.{Order, IsOrder, rank_in}
 use Rattle.cmb_engine.specs.declared.cell.Pin.{Pin}
 
 -- a word is told from outside, or made by a gate or a flip-flop of other words
@@ -13,6 +14,16 @@ pub data Cell : Type 0 where
   Told : Cell
   Gate : Kind → List Pin → Cell
   Flop : Clock → Pin → Cell
+
+abbrev pub is_gate : Cell → Bool
+is_gate Told = false
+is_gate (Gate kind pins) = true
+is_gate (Flop clock pin) = false
+
+abbrev pub is_flop : Cell → Bool
+is_flop Told = false
+is_flop (Gate kind pins) = false
+is_flop (Flop clock pin) = true
 
 abbrev pub is_made : Cell → Bool
 is_made Told = false
@@ -102,10 +113,11 @@ pins_of (Flop clock pin) = pin ∷ []
 abbrev pub reads : Cell → ℕ → Bool
 reads cell net = list_any (λ pin. pin.net == net) (pins_of cell)
 
--- each net whose cell reads this one is among the readers
-abbrev pub AreReaders : List Cell → ℕ → List ℕ → Type 0
-AreReaders cells net readers =
-    (m : ℕ) → IsTrue (reads (slice_index_or cells m Told) net) → (k : ℕ) × (k < length readers) × (slice_index readers k ≡ m)
+-- each slot with such a cell that reads this one is among the readers, by its rank
+abbrev pub AreReaders : (Cell → Bool) → List Cell → (ℕ → ℕ) → ℕ → List ℕ → Type 0
+AreReaders is_such cells rank slot readers =
+    (m : ℕ) → is_such (cell_at cells m) ≡ true → reads (cell_at cells m) slot ≡ true
+    → (k : ℕ) × (k < length readers) × (slice_index readers k ≡ rank m)
 
 -- a number stands in one of the lists
 abbrev pub IsListed : List (List ℕ) → ℕ → ℕ → Type 0
@@ -116,13 +128,37 @@ IsListed lists place number =
 abbrev pub AreBelow : ℕ → List (List ℕ) → Type 0
 AreBelow bound lists = (place : ℕ) → All (λ number. number < bound) (slice_index_or lists place [])
 
+-- for each slot a list of all such cells that read it
+pub record AreLists (is_such : Cell → Bool) (cells : List Cell) (lists : List (List ℕ)) : Type 0 where
+  pub count : length lists ≡ length cells
+  pub listed : (m place : ℕ) → is_such (cell_at cells m) ≡ true → reads (cell_at cells m) place ≡ true → IsListed lists place m
+  pub within : AreBelow (length cells) lists
+
+-- for each of some slots a list with the ranks of all such cells that read it
+pub record AreFanout (is_such : Cell → Bool) (cells : List Cell) (order : Order) (lists : List (List ℕ)) : Type 0 where
+  pub count : length lists ≡ length cells
+  pub readers_of : (slot : ℕ) → AreReaders is_such cells (rank_in order) slot (slice_index_or lists slot [])
+  pub within : AreBelow (length order.slots) lists
+
 -- cells of so many slots, of which none looks back beyond a place, and who reads each slot
-pub record IsWired (cells : List Cell) (readers : List (List ℕ)) (count first : ℕ) : Type 0 where
+pub record IsWired (cells : List Cell) (order : Order) (gate_lists flop_lists : List (List ℕ)) (count first : ℕ) : Type 0 where
   pub nets : length cells ≡ count
-  pub lists : length readers ≡ count
+  pub ranked : length order.ranks ≡ count
+  pub ordered : IsOrder order
+  pub gates : AreFanout is_gate cells order gate_lists
+  pub flops : AreFanout is_flop cells order flop_lists
   pub lawful : (net : ℕ) → net < count → IsLawful count first (cell_at cells net)
-  pub readers_of : (net : ℕ) → AreReaders cells net (slice_index_or readers net [])
-  pub within : AreBelow count readers
+
+-- in a window from a place on no flip-flop shows a sample that was taken in it
+abbrev pub AreClosed : (ℕ → Cell) → ℕ → ℕ → Type 0
+AreClosed cells to first =
+    (slot : ℕ) (clock : Clock) (pin : Pin) → cells slot ≡ Flop clock pin
+    → (place : ℕ) → first ≤ place → place < 64 → arrives_by clock pin.delay (to + place - 64) ≡ true → place < first + pin.delay
+
+-- what a cell makes in a window depends on what a slot shows in it: a gate's where it reads the slot, and a flip-flop's where
+-- samples that are taken in the window may show in it
+abbrev pub Relies : Bool → Cell → ℕ → Type 0
+Relies open_window cell slot = (reads cell slot ≡ true) × ((is_gate cell ≡ true) ⊎ ((is_flop cell ≡ true) × (open_window ≡ true)))
 
 -- a word repeats the level before a place from there on
 abbrev pub IsSteadyFrom : (ℕ → Level) → ℕ → Type 0

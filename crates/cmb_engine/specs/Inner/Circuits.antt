@@ -1,11 +1,12 @@
 -- Traces: the level of each slot at each tick, and when a circuit of cells allows them.
-use Rattle.std.specs.Prelude.{◌≡◌, ℕ, ◌-◌, ◌<◌, ◌≤◌, ◌⊎◌, Bool, true, false, List, [], All, Contains, length, map, slice_index_or, if◌then◌else◌}
+use Rattle.std.specs.Prelude.{◌≡◌, ℕ, ◌-◌, ◌<◌, ◌≤◌, ◌⊎◌, Bool, true, false, List, All, Contains, length, map, if◌then◌else◌}
 use Rattle.std.specs.List.{AllByRecursion}
 use Rattle.cmb_wave.specs.declared.level.Level.{Level}
 use Rattle.cmb_design.specs.declared.rows.Clock.{Clock}
 use Rattle.cmb_design.specs.Gate.{gate}
 use Rattle.cmb_design.specs.Value.{delayed}
-use Rattle.cmb_engine.specs.Inner.Cells.{Cell, Told, Gate, Flop, is_made, cell_at, pins_of, AreBelow, AreReaders, IsLawful, IsSteady}
+use Rattle.cmb_engine.specs.Inner.Cells.{Cell, Told, Gate, Flop, is_flop, is_gate, is_made, cell_at, pins_of, AreFanout, IsLawful, IsSteady}
+use Rattle.cmb_engine.specs.Inner.Orders.{Order, IsOrder}
 use Rattle.cmb_engine.specs.Rows.{arrives_by}
 use Rattle.cmb_engine.specs.Inner.Windows.{in_place}
 use Rattle.cmb_engine.specs.declared.cell.Pin.{Pin}
@@ -42,10 +43,6 @@ Arrives Told tick = ⊥
 Arrives (Gate kind pins) tick = ⊥
 Arrives (Flop clock pin) tick = arrives_by clock pin.delay tick ≡ true
 
-abbrev pub is_flop : Cell → Bool
-is_flop (Flop clock pin) = true
-is_flop _ = false
-
 -- a cell is a flip-flop with this clock and delay
 abbrev pub IsFlopOf : Cell → Clock → ℕ → Type 0
 IsFlopOf Told clock delay = ⊥
@@ -80,10 +77,11 @@ pub record AreMembers (cells : List Cell) (members : List Member) : Type 0 where
   pub each : All (λ member. IsFlopOf (cell_at cells member.slot) member.clock member.delay) members
 
 -- what stays as it is while an engine goes on: the cells, who reads each slot, and the flip-flops
-pub record IsWiring (cells : List Cell) (readers : List (List ℕ)) (flops : List Group) (most : ℕ) : Type 0 where
-  pub lists : length readers ≡ length cells
-  pub readers_of : (slot : ℕ) → AreReaders cells slot (slice_index_or readers slot [])
-  pub within : AreBelow (length cells) readers
+pub record IsWiring (cells : List Cell) (order : Order) (gate_lists flop_lists : List (List ℕ)) (flops : List Group) (most : ℕ) : Type 0 where
+  pub ranked : length order.ranks ≡ length cells
+  pub ordered : IsOrder order
+  pub gates : AreFanout is_gate cells order gate_lists
+  pub samplers : AreFanout is_flop cells order flop_lists
   pub flip_flops : AreFlops cells flops
   pub lawful : (slot : ℕ) → slot < length cells → IsLawful (length cells) most (cell_at cells slot)
   pub later : (slot : ℕ) → AllByRecursion (λ pin. is_made (cell_at cells pin.net) ≡ true → 1 ≤ pin.delay) (pins_of (cell_at cells slot))

@@ -17,7 +17,7 @@ use Rattle.cmb_engine.specs.declared.state.State.{State}
 pub record IsCircuit (design : Design) (circuit : Circuit) : Type 0 where
   pub roles : AreRoles design circuit.wiring.roles.items
   pub plan : IsPlan design circuit.wiring.roles.items circuit.lines.items circuit.wiring.most circuit.width circuit.wiring.cells
-  pub wires : IsWiring circuit.wiring.cells circuit.wiring.readers circuit.wiring.flops.items circuit.wiring.most
+  pub wires : IsWiring circuit.wiring.cells circuit.wiring.fanout.order circuit.wiring.fanout.gates circuit.wiring.fanout.flops circuit.wiring.flops.items circuit.wiring.most
   pub few : length circuit.wiring.cells < 2 ^ 32
   pub follow : AreFollowers circuit.lines.items (nets_of design) circuit.followers
 
@@ -25,7 +25,7 @@ pub record IsCircuit (design : Design) (circuit : Circuit) : Type 0 where
 pub record IsState (design : Design) (circuit : Circuit) (state : State) : Type 0 where
   pub slots : length state.words.items ≡ length circuit.wiring.cells
   pub live_room : length circuit.wiring.cells ≤ 64 * length state.live
-  pub marks_room : length circuit.wiring.cells ≤ 64 * length state.marks
+  pub marks_room : length circuit.wiring.fanout.order.slots ≤ 64 * length state.marks
   pub shows : Shows (levels_of state.words.items) (trace_of design circuit.wiring.roles.items circuit.lines.items) (length circuit.wiring.cells) state.clock
   pub quiet : AreQuiet (levels_of state.words.items) (has state.live) (length circuit.wiring.cells)
   pub ahead : TellsAhead design circuit.wiring.roles.items circuit.lines.items circuit.width circuit.wiring.cells state.clock state.calendar

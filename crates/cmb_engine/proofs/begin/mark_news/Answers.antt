@@ -1,4 +1,4 @@
-use Rattle.std.proofs.Common.{◌<◌, ◌∙◌, ℕ, inl, inr, List, length, get_or, subst, sym, arith}
+use Rattle.std.proofs.Common.{◌*◌, ◌<◌, ◌∙◌, ℕ, inl, inr, List, length, get_or, subst, sym, arith}
 use Rattle.cmb_engine.specs.Inner.Bits.{has}
 use Rattle.cmb_engine.specs.Inner.Cells.{AreMarked}
 use Rattle.cmb_engine.specs.Inner.Walks.{walked}
@@ -8,10 +8,10 @@ use Rattle.cmb_engine.proofs.begin.mark_news.Goals as goal
 
 pub mark_all-requires : goal.mark_all-requires
 mark_all-requires c = λ k d small.
-    let below : get_or c.of.result.now k d < length c.args.words.now =
-    subst (λ (xs : List ℕ). get_or xs k d < length c.args.words.now) (sym c.of.ensures)
+    let below : get_or c.of.result.now k d < 64 * length c.args.marks.now =
+    subst (λ (xs : List ℕ). get_or xs k d < 64 * length c.args.marks.now) (sym c.of.ensures)
     (c.requires.within c.in-Some.net k d (subst (λ (xs : List ℕ). k < length xs) c.of.ensures small)) in
-    omega (arith, below, c.requires.room, c.nets.invariant.room)
+    omega (arith, below, c.nets.invariant.room)
 
 pub nets-preserved-then-not-is_steady_from : goal.nets-preserved-then-not-is_steady_from
 nets-preserved-then-not-is_steady_from c =

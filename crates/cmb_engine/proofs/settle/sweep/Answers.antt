@@ -1,35 +1,37 @@
-use Rattle.std.proofs.Common.{ℕ, length, subst, sym, arith}
+use Rattle.std.proofs.Common.{ℕ, length, sym, ◌∙◌, arith}
 use Rattle.cmb_engine.specs.Inner.Cells.{cell_at}
 use Rattle.cmb_engine.specs.Inner.Walks.{walked}
 use Rattle.cmb_engine.specs.Inner.Words.{levels_of}
-use Rattle.cmb_engine.proofs.SweepFacts.{IsFurther, ready-moves, passes, further-visit, further-all, sweeps-on}
+use Rattle.cmb_engine.proofs.SweepFacts.{batch-further, batch-sweeps, further-all, ready-moves, sweeps-on}
 use Rattle.cmb_engine.proofs.settle.sweep.Goals as goal
 
-pub visit-requires-clause-within : goal.visit-requires-clause-within
-visit-requires-clause-within c = λ k d small.
-    omega (arith, c.requires.wired.within c.in-Some.net k d small, c.requires.room, c.nets.invariant.sweeps.room)
-
-pub nets-preserved : goal.nets-preserved
-nets-preserved c =
-    let found = c.in-Some.ensures in
-    let sweeps = c.nets.invariant.sweeps in
+pub batches-preserved : goal.batches-preserved
+batches-preserved c =
+    let fanout = c.args.fanout.now in
+    let sweeps = c.batches.invariant.sweeps in
+    let places : ℕ = c.in-Some.batch.places in
+    let base : ℕ = c.in-Some.batch.base in
+    let news : ℕ = c.make_words-places.result in
     record {
-      last = c.visit.ensures.last;
-      sweeps = sweeps-on (cell_at c.args.cells.now) c.args.to c.args.first (levels_of c.args.words.now) (levels_of c.nets.words) (levels_of c.visit.new.words)
-          c.args.marks.now c.nets.marks c.visit.new.marks c.args.live.now c.nets.live c.visit.new.live sweeps c.visit.ensures.sweeps;
+      last = c.make_words-places.ensures.last;
+      sweeps = sweeps-on (cell_at c.args.cells.now) fanout.order c.args.to c.args.first (levels_of c.args.words.now) (levels_of c.batches.words) (levels_of c.make_words-places.new.words)
+          c.args.marks.now c.batches.marks c.pass_on.new.marks c.args.live.now c.batches.live c.pass_on.new.live sweeps
+          (batch-sweeps c.args.cells.now fanout.order fanout.gates fanout.flops (length c.args.words.now) c.args.to c.args.first c.requires.wired c.args.opened c.requires.closed
+          (levels_of c.batches.words) (levels_of c.make_words-places.new.words) c.batches.marks c.take.new.self c.pass_on.new.marks c.batches.live c.pass_on.new.live
+          (walked c.batches.walk) (walked c.take.new.walk) base places news c.in-Some.ensures c.make_words-places.ensures.makes c.pass_on.ensures);
       truer = λ truth upto b.
-          let ready = ready-moves (levels_of c.args.words.now) (levels_of c.nets.words) truth (cell_at c.args.cells.now) c.args.to c.args.first sweeps.told b.ready in
-          subst (λ (n : ℕ). IsFurther (levels_of c.visit.new.words) truth (cell_at c.args.cells.now) upto n) (sym found.1)
-          (further-visit (levels_of c.nets.words) (levels_of c.visit.new.words) truth (cell_at c.args.cells.now) c.args.to c.args.first upto c.in-Some.net ready b.from b.small
-          c.visit.ensures.others c.visit.ensures.past c.visit.ensures.made
-          (passes (levels_of c.nets.words) truth (cell_at c.args.cells.now) c.nets.marks c.args.to c.args.first upto ready b.from b.small
-          (sweeps.settled b.settled) (walked c.nets.walk) c.in-Some.net found.0.least (c.nets.invariant.truer truth upto b)));
+          let ready = ready-moves (levels_of c.args.words.now) (levels_of c.batches.words) truth (cell_at c.args.cells.now) c.args.to c.args.first sweeps.told b.ready in
+          batch-further c.args.cells.now fanout.order fanout.gates fanout.flops (length c.args.words.now) c.args.to c.args.first c.requires.wired c.args.opened c.requires.closed
+          (levels_of c.batches.words) (levels_of c.make_words-places.new.words) c.batches.marks c.take.new.self c.pass_on.new.marks c.batches.live c.pass_on.new.live
+          (walked c.batches.walk) (walked c.take.new.walk) base places news c.in-Some.ensures c.make_words-places.ensures.makes c.pass_on.ensures
+          truth upto b.from b.small ready (sweeps.settled b.settled) (c.batches.invariant.truer truth upto b);
     }
 
 pub returns-clause-truer : goal.returns-clause-truer
 returns-clause-truer c = λ truth upto from small ready settled below.
-    let now = ready-moves (levels_of c.args.words.now) (levels_of c.nets.words) truth (cell_at c.args.cells.now) c.args.to c.args.first c.nets.invariant.sweeps.told ready in
-    further-all (levels_of c.nets.words) truth c.args.cells.now upto (length c.nets.words) (omega (arith, c.requires.wired.nets, c.nets.auto.words))
-    (passes (levels_of c.nets.words) truth (cell_at c.args.cells.now) c.nets.marks c.args.to c.args.first upto now from small
-    (c.nets.invariant.sweeps.settled settled) (walked c.nets.walk) (length c.nets.words) c.in_default.ensures
-    (c.nets.invariant.truer truth upto (record { from = from; small = small; ready = ready; settled = settled; below = below })))
+    let sweeps = c.batches.invariant.sweeps in
+    let now = ready-moves (levels_of c.args.words.now) (levels_of c.batches.words) truth (cell_at c.args.cells.now) c.args.to c.args.first sweeps.told ready in
+    further-all c.args.cells.now c.args.fanout.now.order c.requires.wired.ordered (c.requires.wired.ranked ∙ sym c.requires.wired.nets)
+    (levels_of c.batches.words) truth c.batches.marks c.args.to c.args.first upto (walked c.batches.walk) now from small (sweeps.settled settled)
+    (omega (arith, c.requires.room, sweeps.room)) c.in_default.ensures.0
+    (c.batches.invariant.truer truth upto (record { from = from; small = small; ready = ready; settled = settled; below = below }))

@@ -1,4 +1,4 @@
-use Rattle.std.proofs.Common.{◌≡◌, ◌+◌, ◌-◌, ◌<◌, inl, inr, ℕ, List, [], ◌∷◌, length, get_or, subst, sym, ap, ◌∙◌, arith}
+use Rattle.std.proofs.Common.{◌*◌, ◌≡◌, ◌+◌, ◌-◌, ◌<◌, inl, inr, ℕ, List, [], ◌∷◌, length, get_or, subst, sym, ap, ◌∙◌, arith}
 use Rattle.std.proofs.lemmas.Bool.{cases_lt}
 use Rattle.std.proofs.lemmas.List.{get_or_default, take_all}
 use Rattle.std.proofs.lemmas.List.Elements.{Contains-get_or}
@@ -55,10 +55,10 @@ put_word-requires c =
     record {
       slot = omega (arith, facts.0, c.loop-tell.invariant.writes.len);
       within = λ k d small.
-          let below : get_or c.of.result.now k d < length c.args.words.now =
-          subst (λ (readers : List ℕ). get_or readers k d < length c.args.words.now) (sym c.of.ensures)
+          let below : get_or c.of.result.now k d < 64 * length c.args.marks.now =
+          subst (λ (readers : List ℕ). get_or readers k d < 64 * length c.args.marks.now) (sym c.of.ensures)
           (c.requires.within place k d (subst (λ (readers : List ℕ). k < length readers) c.of.ensures small)) in
-          omega (arith, below, c.requires.room, c.loop-tell.invariant.writes.room);
+          omega (arith, below, c.loop-tell.invariant.writes.room);
       live = omega (arith, c.requires.live, c.loop-tell.invariant.writes.len, c.loop-tell.invariant.writes.live_room);
     }
 

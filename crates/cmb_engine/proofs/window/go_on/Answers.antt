@@ -1,7 +1,7 @@
 use Rattle.std.proofs.Common.{◌≡◌, ◌+◌, ◌-◌, ◌<◌, ◌≤◌, true, ℕ, List, [], length, get_or, sym, subst, ◌∙◌, arith}
 use Rattle.std.specs.Prelude.{All}
 use Rattle.cmb_engine.specs.Inner.Bits.{has}
-use Rattle.cmb_engine.specs.Inner.Cells.{AreBelow, Cell, IsPace, IsSteadyFrom, AreMarked, cell_at}
+use Rattle.cmb_engine.specs.Inner.Cells.{Cell, IsPace, IsSteadyFrom, AreMarked, cell_at}
 use Rattle.cmb_engine.specs.Inner.Circuits.{IsInGroup, Shows}
 use Rattle.cmb_engine.specs.Inner.Gifts.{is_written, AreWritten}
 use Rattle.cmb_engine.specs.Inner.Roles.{AreToldNets, gives}
@@ -12,7 +12,7 @@ use Rattle.cmb_engine.specs.declared.role.Role.{Role}
 use Rattle.cmb_engine.proofs.GivenFacts.{made-kept, unmarked-kept, written-true}
 use Rattle.cmb_engine.proofs.GroupFacts.{arrives-flop, groups-inside, groups-paced}
 use Rattle.cmb_engine.proofs.TraceFacts.{made-inside}
-use Rattle.cmb_engine.proofs.WindowFacts.{IsBegun, IsWindow, marked-kept, window-wired, window-shows}
+use Rattle.cmb_engine.proofs.WindowFacts.{IsBegun, IsWindow, marked-kept, window-closed, window-wired, window-shows}
 use Rattle.cmb_engine.proofs.window.go_on.Goals as goal
 
 pub write_told-requires-clause-slots : goal.write_told-requires-clause-slots
@@ -23,30 +23,34 @@ write_told-requires-clause-slots c = λ tell among.
 pub settle-requires : goal.settle-requires
 settle-requires c = record {
   wired =
-      window-wired c.args.wiring.now.cells c.args.wiring.now.readers c.args.wiring.now.flops.items c.args.wiring.now.most
-      c.requires.wiring
+      window-wired c.args.wiring.now.cells c.args.wiring.now.fanout.order c.args.wiring.now.fanout.gates c.args.wiring.now.fanout.flops c.args.wiring.now.flops.items
+      c.args.wiring.now.most c.requires.wiring
       (length c.write_given.new.words) (64 - c.args.ticks) (omega (arith, c.requires.nets, c.move_on.ensures.len, c.write_told.ensures.writes.len, c.write_given.ensures.writes.len)) (omega (arith, c.requires.fits));
-  room = omega (arith, c.requires.room, c.move_on.ensures.len, c.mark_news.ensures.room, c.write_told.ensures.writes.len, c.write_told.ensures.writes.room, c.write_given.ensures.writes.len, c.write_given.ensures.writes.room, c.mark_arrivals.ensures.room);
+  closed = λ shut.
+      window-closed c.args.wiring.now.cells c.args.wiring.now.flops.items c.requires.wiring.flip_flops c.args.to (64 - c.args.ticks)
+      (λ clock delay slot place among.
+      c.mark_arrivals-opened.ensures.closed shut clock delay slot place (subst (λ (groups : List Group). IsInGroup clock delay slot groups) (sym c.as_slice.ensures.value) among));
+  room = omega (arith, c.requires.room, c.mark_news.ensures.room, c.write_told.ensures.writes.room, c.write_given.ensures.writes.room, c.mark_arrivals-opened.ensures.room);
   live = omega (arith, c.requires.live, c.move_on.ensures.len, c.move_on.ensures.room, c.write_told.ensures.writes.len, c.write_told.ensures.writes.live_room, c.write_given.ensures.writes.len, c.write_given.ensures.writes.live_room);
   window = (omega (arith, c.requires.fits), omega (arith, c.requires.some), omega (arith, c.requires.later, c.requires.fits), c.requires.to);
 }
 
-pub mark_arrivals-requires-clause-paces : goal.mark_arrivals-requires-clause-paces
-mark_arrivals-requires-clause-paces c =
+pub mark_arrivals-opened-requires-clause-paces : goal.mark_arrivals-opened-requires-clause-paces
+mark_arrivals-opened-requires-clause-paces c =
     let paced : All (λ group. IsPace group.clock × (group.delay ≤ c.args.wiring.now.most)) c.as_slice.result.now =
     subst (λ (groups : List Group). All (λ group. IsPace group.clock × (group.delay ≤ c.args.wiring.now.most)) groups) (sym c.as_slice.ensures.value)
     (groups-paced c.args.wiring.now.cells c.args.wiring.now.flops.items c.requires.wiring.flip_flops c.args.wiring.now.most c.requires.wiring.lawful) in
     λ k d l. ((paced k d l).0, omega (arith, (paced k d l).1, c.requires.fits))
 
-pub mark_arrivals-requires-clause-slots : goal.mark_arrivals-requires-clause-slots
-mark_arrivals-requires-clause-slots c =
+pub mark_arrivals-opened-requires-clause-slots : goal.mark_arrivals-opened-requires-clause-slots
+mark_arrivals-opened-requires-clause-slots c =
     subst (λ (groups : List Group). All (λ group. All (λ slot. slot < length c.args.wiring.now.cells) group.flops.items) groups) (sym c.as_slice.ensures.value)
     (groups-inside c.args.wiring.now.cells c.args.wiring.now.flops.items c.requires.wiring.flip_flops)
 
-pub mark_arrivals-requires-clause-lawful : goal.mark_arrivals-requires-clause-lawful
-mark_arrivals-requires-clause-lawful c =
-    (window-wired c.args.wiring.now.cells c.args.wiring.now.readers c.args.wiring.now.flops.items c.args.wiring.now.most
-    c.requires.wiring
+pub mark_arrivals-opened-requires-clause-lawful : goal.mark_arrivals-opened-requires-clause-lawful
+mark_arrivals-opened-requires-clause-lawful c =
+    (window-wired c.args.wiring.now.cells c.args.wiring.now.fanout.order c.args.wiring.now.fanout.gates c.args.wiring.now.fanout.flops c.args.wiring.now.flops.items
+    c.args.wiring.now.most c.requires.wiring
     (length c.write_given.new.words) (64 - c.args.ticks) (omega (arith, c.requires.nets, c.move_on.ensures.len, c.write_told.ensures.writes.len, c.write_given.ensures.writes.len)) (omega (arith, c.requires.fits))).lawful
 
 pub write_given-requires-clause-slots : goal.write_given-requires-clause-slots
@@ -57,7 +61,7 @@ write_given-requires-clause-slots c = λ slot gift.
 
 pub returns-clause-shows : goal.returns-clause-shows
 returns-clause-shows c = λ trace meets shows right given slot place inside small.
-    let lists : List (List ℕ) = c.args.wiring.now.readers in
+    let lists : List (List ℕ) = c.args.wiring.now.fanout.gates in
     let cells : List Cell = c.args.wiring.now.cells in
     let roles : List Role = c.args.wiring.now.roles.items in
     let same_roles : roles ≡ c.deref.result.now = sym c.deref.ensures.value in
@@ -73,20 +77,20 @@ returns-clause-shows c = λ trace meets shows right given slot place inside smal
     c.write_given.ensures.written in
     let given_news : (s : ℕ) → is_written roles c.args.given.now s ≡ true → AreMarked (has c.write_given.new.marks) (get_or lists s []) =
     subst (λ (rs : List Role). (s : ℕ) → is_written rs c.args.given.now s ≡ true → AreMarked (has c.write_given.new.marks) (get_or lists s [])) (sym same_roles) c.write_given.ensures.news in
-    let begun : IsBegun trace cells lists c.args.wiring.now.most (levels_of c.move_on.new.words) (levels_of c.write_given.new.words)
-    c.move_on.new.live c.mark_arrivals.new.marks c.args.to (64 - c.args.ticks) =
+    let begun : IsBegun trace cells c.args.wiring.now.fanout.order lists c.args.wiring.now.most (levels_of c.move_on.new.words) (levels_of c.write_given.new.words)
+    c.move_on.new.live c.mark_arrivals-opened.new.marks c.args.to (64 - c.args.ticks) =
     record {
       quiet = λ s p l. c.move_on.ensures.quiet s p (omega (arith, l, c.requires.nets));
       news = λ s l is.
-          marked-kept (IsSteadyFrom (levels_of c.move_on.new.words s) (64 - c.args.ticks - c.args.wiring.now.most)) c.mark_news.new.marks c.mark_arrivals.new.marks (get_or lists s [])
-          (λ m h. c.mark_arrivals.ensures.kept m (c.write_given.ensures.writes.marks m (c.write_told.ensures.writes.marks m h)))
+          marked-kept (IsSteadyFrom (levels_of c.move_on.new.words s) (64 - c.args.ticks - c.args.wiring.now.most)) c.mark_news.new.marks c.mark_arrivals-opened.new.marks (get_or lists s [])
+          (λ m h. c.mark_arrivals-opened.ensures.kept m (c.write_given.ensures.writes.marks m (c.write_told.ensures.writes.marks m h)))
           (c.mark_news.ensures.news s (omega (arith, l, c.requires.nets, c.move_on.ensures.len)) is);
       kept =
           unmarked-kept trace cells roles (c.args.to - c.args.ticks) c.args.ticks c.args.to (64 - c.args.ticks) c.args.wiring.now.most window
           (levels_of c.args.words.now) (levels_of c.move_on.new.words) (levels_of c.write_told.new.words) (levels_of c.write_given.new.words)
-          shown_before c.move_on.ensures.moved c.args.tells.now tells c.args.given.now given c.requires.gives told_words writes lists c.mark_arrivals.new.marks
-          (λ tell among k l. c.mark_arrivals.ensures.kept _ (c.write_given.ensures.writes.marks _ (c.write_told.ensures.news tell among k l)))
-          (λ s h k l. c.mark_arrivals.ensures.kept _ (given_news s h k l));
+          shown_before c.move_on.ensures.moved c.args.tells.now tells c.args.given.now given c.requires.gives told_words writes lists c.mark_arrivals-opened.new.marks
+          (λ tell among k l. c.mark_arrivals-opened.ensures.kept _ (c.write_given.ensures.writes.marks _ (c.write_told.ensures.news tell among k l)))
+          (λ s h k l. c.mark_arrivals-opened.ensures.kept _ (given_news s h k l));
       made = λ s p m l.
           made-kept trace cells roles (c.args.to - c.args.ticks) c.args.ticks c.args.to (64 - c.args.ticks) c.args.wiring.now.most window
           (levels_of c.args.words.now) (levels_of c.move_on.new.words) (levels_of c.write_told.new.words) (levels_of c.write_given.new.words)
@@ -100,28 +104,23 @@ returns-clause-shows c = λ trace meets shows right given slot place inside smal
           let grouped : IsInGroup arrival.clock arrival.delay s c.as_slice.result.now =
           subst (λ (groups : List Group). IsInGroup arrival.clock arrival.delay s groups) (sym c.as_slice.ensures.value)
           (c.requires.wiring.flip_flops.all s arrival.clock arrival.delay arrival.flop) in
-          c.mark_arrivals.ensures.arrivals arrival.clock arrival.delay s p grouped late small arrival.arrives;
+          c.mark_arrivals-opened.ensures.arrivals arrival.clock arrival.delay s p grouped late small arrival.arrives;
     } in
-    window-shows trace cells lists c.args.wiring.now.flops.items c.args.wiring.now.most
+    window-shows trace cells c.args.wiring.now.fanout.order lists c.args.wiring.now.fanout.flops c.args.wiring.now.flops.items c.args.wiring.now.most
     c.requires.wiring
     meets (c.args.to - c.args.ticks) c.args.ticks c.args.to (64 - c.args.ticks) window
     (levels_of c.args.words.now) (levels_of c.move_on.new.words) (levels_of c.write_given.new.words)
     shown_before c.move_on.ensures.moved
-    c.move_on.new.live c.mark_arrivals.new.marks begun (levels_of c.settle.new.words) c.settle.ensures.sweeps.told c.settle.ensures.exact
+    c.move_on.new.live c.mark_arrivals-opened.new.marks begun (levels_of c.settle.new.words) c.settle.ensures.sweeps.told c.settle.ensures.exact
     slot place (omega (arith, inside, c.requires.nets)) small
 
 pub mark_news-requires-clause-lists : goal.mark_news-requires-clause-lists
 mark_news-requires-clause-lists c =
     let nets : length c.args.wiring.now.cells ≡ length c.move_on.new.words = omega (arith, c.requires.nets, c.move_on.ensures.len) in
-    c.requires.wiring.lists ∙ nets
+    c.requires.wiring.gates.count ∙ nets
 
 pub mark_news-requires-clause-within : goal.mark_news-requires-clause-within
-mark_news-requires-clause-within c =
-    let nets : length c.args.wiring.now.cells ≡ length c.move_on.new.words = omega (arith, c.requires.nets, c.move_on.ensures.len) in
-    subst (λ (n : ℕ). AreBelow n c.args.wiring.now.readers) nets c.requires.wiring.within
-
-pub mark_news-requires-clause-room : goal.mark_news-requires-clause-room
-mark_news-requires-clause-room c = omega (arith, c.requires.room, c.move_on.ensures.len)
+mark_news-requires-clause-within c = λ place k d small. omega (arith, c.requires.wiring.gates.within place k d small, c.requires.room)
 
 pub mark_news-requires-clause-live : goal.mark_news-requires-clause-live
 mark_news-requires-clause-live c = omega (arith, c.requires.live, c.move_on.ensures.len, c.move_on.ensures.room)
@@ -129,15 +128,10 @@ mark_news-requires-clause-live c = omega (arith, c.requires.live, c.move_on.ensu
 pub write_told-requires-clause-lists : goal.write_told-requires-clause-lists
 write_told-requires-clause-lists c =
     let nets : length c.args.wiring.now.cells ≡ length c.move_on.new.words = omega (arith, c.requires.nets, c.move_on.ensures.len) in
-    c.requires.wiring.lists ∙ nets
+    c.requires.wiring.gates.count ∙ nets
 
 pub write_told-requires-clause-within : goal.write_told-requires-clause-within
-write_told-requires-clause-within c =
-    let nets : length c.args.wiring.now.cells ≡ length c.move_on.new.words = omega (arith, c.requires.nets, c.move_on.ensures.len) in
-    subst (λ (n : ℕ). AreBelow n c.args.wiring.now.readers) nets c.requires.wiring.within
-
-pub write_told-requires-clause-room : goal.write_told-requires-clause-room
-write_told-requires-clause-room c = omega (arith, c.requires.room, c.move_on.ensures.len, c.mark_news.ensures.room)
+write_told-requires-clause-within c = λ place k d small. omega (arith, c.requires.wiring.gates.within place k d small, c.requires.room, c.mark_news.ensures.room)
 
 pub write_told-requires-clause-live : goal.write_told-requires-clause-live
 write_told-requires-clause-live c = omega (arith, c.requires.live, c.move_on.ensures.len, c.move_on.ensures.room)
@@ -145,21 +139,19 @@ write_told-requires-clause-live c = omega (arith, c.requires.live, c.move_on.ens
 pub write_given-requires-clause-lists : goal.write_given-requires-clause-lists
 write_given-requires-clause-lists c =
     let nets : length c.args.wiring.now.cells ≡ length c.write_told.new.words = omega (arith, c.requires.nets, c.move_on.ensures.len, c.write_told.ensures.writes.len) in
-    c.requires.wiring.lists ∙ nets
+    c.requires.wiring.gates.count ∙ nets
 
 pub write_given-requires-clause-within : goal.write_given-requires-clause-within
-write_given-requires-clause-within c =
-    let nets : length c.args.wiring.now.cells ≡ length c.write_told.new.words = omega (arith, c.requires.nets, c.move_on.ensures.len, c.write_told.ensures.writes.len) in
-    subst (λ (n : ℕ). AreBelow n c.args.wiring.now.readers) nets c.requires.wiring.within
-
-pub write_given-requires-clause-room : goal.write_given-requires-clause-room
-write_given-requires-clause-room c = omega (arith, c.requires.room, c.move_on.ensures.len, c.mark_news.ensures.room, c.write_told.ensures.writes.len, c.write_told.ensures.writes.room)
+write_given-requires-clause-within c = λ place k d small. omega (arith, c.requires.wiring.gates.within place k d small, c.requires.room, c.mark_news.ensures.room, c.write_told.ensures.writes.room)
 
 pub write_given-requires-clause-live : goal.write_given-requires-clause-live
 write_given-requires-clause-live c = omega (arith, c.requires.live, c.move_on.ensures.len, c.move_on.ensures.room, c.write_told.ensures.writes.len, c.write_told.ensures.writes.live_room)
 
-pub mark_arrivals-requires-clause-nets : goal.mark_arrivals-requires-clause-nets
-mark_arrivals-requires-clause-nets c = omega (arith, c.requires.nets, c.move_on.ensures.len, c.write_told.ensures.writes.len, c.write_given.ensures.writes.len)
+pub mark_arrivals-opened-requires-clause-nets : goal.mark_arrivals-opened-requires-clause-nets
+mark_arrivals-opened-requires-clause-nets c = omega (arith, c.requires.nets, c.move_on.ensures.len, c.write_told.ensures.writes.len, c.write_given.ensures.writes.len)
 
-pub mark_arrivals-requires-clause-room : goal.mark_arrivals-requires-clause-room
-mark_arrivals-requires-clause-room c = omega (arith, c.requires.room, c.move_on.ensures.len, c.mark_news.ensures.room, c.write_told.ensures.writes.len, c.write_told.ensures.writes.room, c.write_given.ensures.writes.len, c.write_given.ensures.writes.room)
+pub mark_arrivals-opened-requires-clause-room : goal.mark_arrivals-opened-requires-clause-room
+mark_arrivals-opened-requires-clause-room c = omega (arith, c.requires.room, c.mark_news.ensures.room, c.write_told.ensures.writes.room, c.write_given.ensures.writes.room)
+
+pub mark_arrivals-opened-requires-clause-ranked : goal.mark_arrivals-opened-requires-clause-ranked
+mark_arrivals-opened-requires-clause-ranked c = omega (arith, c.requires.wiring.ranked, c.requires.nets, c.move_on.ensures.len, c.write_told.ensures.writes.len, c.write_given.ensures.writes.len)

@@ -1,0 +1,10 @@
+use Rattle.cmb_engine.proofs.BitFacts.{take-left, take-taken}
+use Rattle.cmb_engine.proofs.bits.Bits.take.Goals as goal
+
+pub returns-clause-left : goal.returns-clause-left
+returns-clause-left c =
+    take-left c.self.inside.words.items c.args.self.now c.self.view_is c.args.k c.index-word.result.now c.args.mask c.index-word.ensures c.requires c.ranges.mask.fits
+
+pub returns-clause-taken : goal.returns-clause-taken
+returns-clause-taken c =
+    take-taken c.self.inside.words.items c.args.self.now c.self.view_is c.args.k c.index-word.result.now c.args.mask c.index-word.ensures c.requires c.ranges.mask.fits

@@ -1,0 +1,38 @@
+//! The fanout of slots: who is to be visited where a slot has another word.
+
+ghost use Rattle.std.specs.Prelude.{◌≡◌, ℕ, ◌^◌, ◌<◌, All, IfOk, length, slice_index_or};
+ghost use Rattle.cmb_engine.specs.Inner.Cells.{Told, is_flop, is_gate, AreFanout, pins_of};
+ghost use Rattle.cmb_engine.specs.Inner.Orders.{IsOrder};
+
+use crate::cells::Cells;
+use crate::order::{Order, order_of};
+use crate::readers::{Readers, flop_readers, gate_readers};
+use std::alloc::{AllocError, Global};
+
+/// In which order slots are visited, and for each slot the ranks of the gates and those of the flip-flops that read it.
+#[derive(Drop)]
+pub(crate) struct Fanout {
+    pub order: Order,
+    pub gates: Readers,
+    pub flops: Readers,
+}
+
+/// The fanout of the slots of cells.
+pub(crate) fn fanout_of(alloc: Global, cells: &Cells) -> Result<Fanout, AllocError>
+    requires few { length cells.now < 2 ^ 32 }
+    requires pins { (net : ℕ) → net < length cells.now
+        → All (λ pin. pin.net < length cells.now) (pins_of (slice_index_or cells.now net Told)) }
+    ensures ordered { IfOk result (λ fanout. IsOrder fanout.order) }
+    ensures ranked { IfOk result (λ fanout. length fanout.order.ranks ≡ length cells.now) }
+    ensures gates { IfOk result (λ fanout. AreFanout is_gate cells.now fanout.order fanout.gates) }
+    ensures flops { IfOk result (λ fanout. AreFanout is_flop cells.now fanout.order fanout.flops) }
+{
+    let gates = gate_readers(alloc, cells)?;
+    let flops = flop_readers(alloc, cells)?;
+    let order = order_of(alloc, cells, &gates, &flops)?;
+    Ok(Fanout {
+        gates: Readers::ranked(alloc, &gates, &order)?,
+        flops: Readers::ranked(alloc, &flops, &order)?,
+        order,
+    })
+}
