@@ -28,7 +28,7 @@ pub record IsState (design : Design) (circuit : Circuit) (state : State) : Type 
   pub marks_room : length circuit.wiring.cells ≤ 64 * length state.marks
   pub shows : Shows (levels_of state.words.items) (trace_of design circuit.wiring.roles.items circuit.lines.items) (length circuit.wiring.cells) state.clock
   pub quiet : AreQuiet (levels_of state.words.items) (has state.live) (length circuit.wiring.cells)
-  pub ahead : TellsAhead design circuit.wiring.roles.items circuit.lines.items circuit.width circuit.wiring.cells state.clock state.calendar
+  pub ahead : TellsAhead design circuit.wiring.roles.items circuit.lines.items circuit.wiring.cells state.clock state.calendar
   pub begun : 1 ≤ state.clock
   pub within : state.clock ≤ design.horizon
 
