@@ -4,6 +4,7 @@ pub mod Arrivals
 pub mod Bits
 pub mod Cells
 pub mod Circuits
+pub mod Ends
 pub mod Gifts
 pub mod Lines
 pub mod Lists

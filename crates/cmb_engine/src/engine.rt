@@ -6,6 +6,7 @@ ghost use Rattle.cmb_design.specs.Value.{value};
 ghost use Rattle.cmb_words.specs.Changes.{IsWindow, Tells};
 
 use crate::share::ShareEngine;
+use crate::windows::Windows;
 use cmb_design::Design;
 use cmb_words::Changed;
 use std::alloc::{AllocError, Global};
@@ -21,11 +22,12 @@ pub const LONGEST_WINDOW: u32 = 63;
 #[derive(Drop)]
 pub struct Engine<'d> {
     share: ShareEngine<'d>,
+    windows: Windows,
 }
 
 impl<'d> Model for Engine<'d> {
     ghost use Rattle.cmb_engine.specs.Engines.{Engine};
-    ghost use Rattle.cmb_engine.specs.Inner.States.{DrivesAll};
+    ghost use Rattle.cmb_engine.specs.Inner.States.{IsWhole};
 
     ghost Value = { Engine };
 
@@ -35,7 +37,7 @@ impl<'d> Model for Engine<'d> {
       clock = engine.share.clock;
     } };
 
-    ghost invariant = { λ engine. DrivesAll engine.share };
+    ghost invariant = { λ engine. IsWhole engine.share engine.windows };
 }
 
 impl<'d> Engine<'d> {
@@ -46,7 +48,13 @@ impl<'d> Engine<'d> {
     {
         let driven = vec![in alloc; true; design.netlist().len()]?;
         let share = ShareEngine::open(alloc, design, driven.as_slice())?;
-        Ok(Engine { share })
+        match Windows::of(alloc, design, share.width()) {
+            Ok(windows) => Ok(Engine { share, windows }),
+            Err(error) => {
+                drop(share);
+                Err(error)
+            }
+        }
     }
 
     /// The most ticks of a window.
@@ -67,6 +75,16 @@ impl<'d> Engine<'d> {
         self.share.clock()
     }
 
+    /// Where the next window may end to be made quickly.
+    pub fn next_end(&self) -> u32
+        requires { self.now.clock < self.now.design.horizon }
+        ensures later { self.now.clock < result }
+        ensures short { result ≤ self.now.clock + self.now.width }
+        ensures within { result ≤ self.now.design.horizon }
+    {
+        self.windows.end(self.share.clock())
+    }
+
     /// Goes on by a window up to the tick `upto`. `changed` gets the nets that changed in it, by rising number, each
     /// with its levels up to the window's end, in place of what it had.
     pub fn advance(self, upto: u32, changed: &mut Vec<Changed>) -> Result<Engine<'d>, AllocError>
@@ -81,8 +99,13 @@ impl<'d> Engine<'d> {
         ensures tells { IfOk result (λ engine. Tells (value self.entry.design) (nets_of self.entry.design)
             self.entry.clock engine.clock changed.new.items) }
     {
-        let Engine { share } = self;
-        let share = share.advance(upto, &[], changed)?;
-        Ok(Engine { share })
+        let Engine { share, windows } = self;
+        match share.advance(upto, &[], changed) {
+            Ok(share) => Ok(Engine { share, windows }),
+            Err(error) => {
+                drop(windows);
+                Err(error)
+            }
+        }
     }
 }

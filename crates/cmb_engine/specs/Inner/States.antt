@@ -10,6 +10,7 @@ use Rattle.cmb_engine.specs.Inner.Roles.{AreRoles}
 use Rattle.cmb_engine.specs.Shares.{ShareEngine, IsDriven, IsGiven}
 use Rattle.cmb_engine.specs.Inner.Traces.{IsPlan, trace_of}
 use Rattle.cmb_engine.specs.Inner.Words.{levels_of}
+use Rattle.cmb_engine.specs.Windows.{Windows}
 use Rattle.cmb_engine.specs.declared.circuit.Circuit.{Circuit}
 use Rattle.cmb_engine.specs.declared.state.State.{State}
 
@@ -36,3 +37,9 @@ pub record IsState (design : Design) (circuit : Circuit) (state : State) : Type 
 pub record DrivesAll (share : ShareEngine) : Type 0 where
   pub all : (net : ℕ) → net < nets_of share.design → IsDriven share.driven net
   pub alone : (net : ℕ) → IsGiven share.design share.driven net → ⊥
+
+-- that engine, and where windows end that it can make
+pub record IsWhole (share : ShareEngine) (windows : Windows) : Type 0 where
+  pub drives : DrivesAll share
+  pub width : windows.width ≡ share.width
+  pub horizon : windows.horizon ≡ share.design.horizon
