@@ -1,18 +1,19 @@
 //! Tells by days.
 
-use crate::days::{empty_days, push_tell, take_day};
+use crate::days::{collect_early, empty_days, push_tell, remove_early};
 use crate::order::put_in_order;
 use crate::tell::Tell;
 use std::alloc::{AllocError, Global};
 use std::marker::Model;
 
-/// What is told of the ticks from the next day on and below a horizon. A day is `width` ticks: day k has the ticks from
-/// k times the width on.
+/// The ticks of a day.
+const DAY: u32 = 64;
+
+/// What is told of the ticks from a clock on and below a horizon.
 #[derive(Drop)]
 pub struct Calendar {
-    width: u32,
     horizon: u32,
-    day: u32,
+    clock: u32,
     days: Vec<Vec<Tell>>,
 }
 
@@ -25,34 +26,29 @@ impl Model for Calendar {
     ghost use Rattle.cmb_calendar.specs.Inner.Days.{AreDays, tells_of};
 
     ghost view = { λ a. record {
-      width = a.width;
       horizon = a.horizon;
-      day = a.day;
+      clock = a.clock;
       tells = tells_of (map (λ list. list.items) a.days.items);
     } };
 
-    ghost invariant = { λ a. AreDays a.width a.horizon a.day (map (λ list. list.items) a.days.items) };
+    ghost invariant = { λ a. AreDays a.horizon a.clock (map (λ list. list.items) a.days.items) };
 }
 
 impl Calendar {
-    ghost use Rattle.std.specs.Prelude.{◌≡◌, ◌<◌, ◌≤◌, [], IfOk, OnOk, min};
-    ghost use Rattle.cmb_calendar.specs.Calendars.{AreInOrder, Notes, SameDays, Takes, day_begin, day_end};
+    ghost use Rattle.std.specs.Prelude.{◌≡◌, ◌<◌, ◌≤◌, [], IfOk, OnErr, OnOk};
+    ghost use Rattle.cmb_calendar.specs.Calendars.{AreInOrder, Notes, SameTicks, Takes};
 
-    /// A calendar with nothing in it, of which day 0 is the next one.
-    pub fn open(alloc: Global, width: u32, horizon: u32) -> Result<Calendar, AllocError>
-        requires some { 1 ≤ width }
-        requires narrow { width ≤ 64 }
+    /// A calendar with nothing in it, from tick 0 on.
+    pub fn open(alloc: Global, horizon: u32) -> Result<Calendar, AllocError>
         requires short { horizon ≤ 1000000 }
-        ensures width { IfOk result (λ calendar. calendar.width ≡ width) }
         ensures horizon { IfOk result (λ calendar. calendar.horizon ≡ horizon) }
-        ensures day { IfOk result (λ calendar. calendar.day ≡ 0) }
+        ensures clock { IfOk result (λ calendar. calendar.clock ≡ 0) }
         ensures tells { IfOk result (λ calendar. calendar.tells ≡ []) }
     {
-        let days = empty_days(alloc, (horizon / width) as usize + 1)?;
+        let days = empty_days(alloc, (horizon / DAY) as usize + 1)?;
         Ok(Calendar {
-            width,
             horizon,
-            day: 0,
+            clock: 0,
             days,
         })
     }
@@ -64,36 +60,34 @@ impl Calendar {
         self.horizon
     }
 
-    /// The tick at which the next day ends, or the horizon where that comes first.
-    pub fn next_day(&self) -> u32
-        requires { day_begin self.now < self.now.horizon }
-        ensures { result ≡ min (day_end self.now) self.now.horizon }
-    {
-        ((self.day + 1) * self.width).min(self.horizon)
-    }
-
-    /// Notes a tell of the next day or a later one. One at the horizon or behind it is forgotten.
+    /// Notes a tell of a tick from the clock on. One at the horizon or behind it is forgotten.
     pub fn note(&mut self, tell: Tell) -> Result<(), AllocError>
-        requires later { day_begin self.old ≤ tell.tick }
+        requires later { self.old.clock ≤ tell.tick }
         ensures notes { OnOk result (Notes self.old self.new tell) }
-        ensures days { SameDays self.old self.new }
+        ensures ticks { SameTicks self.old self.new }
     {
         if tell.tick < self.horizon {
-            let day = (tell.tick / self.width) as usize;
-            push_tell(&mut self.days, self.day as usize, day, tell)?;
+            let next = (self.clock / DAY) as usize;
+            push_tell(&mut self.days, next, (tell.tick / DAY) as usize, tell)?;
         }
         Ok(())
     }
 
-    /// Takes the tells of the next day out, in the order of their ticks. What `taken` held is forgotten, and its room
-    /// serves a later day.
-    pub fn take(&mut self, taken: &mut Vec<Tell>) -> Result<(), AllocError>
-        requires { day_begin self.old < self.old.horizon }
-        ensures takes { OnOk result (Takes self.old self.new taken.new.items) }
+    /// Takes out what is told below the tick `upto`, which is the clock then, in the order of the ticks. What `taken`
+    /// held is forgotten. It looks at the days of these ticks alone.
+    pub fn take(&mut self, upto: u32, taken: &mut Vec<Tell>) -> Result<(), AllocError>
+        requires later { self.old.clock ≤ upto }
+        requires within { upto ≤ self.old.horizon }
+        ensures takes { OnOk result (Takes upto self.old self.new taken.new.items) }
         ensures order { OnOk result (AreInOrder taken.new.items) }
+        ensures failed { OnErr result (self.new ≡ self.old) }
     {
-        take_day(&mut self.days, self.day as usize, taken);
-        self.day += 1;
-        put_in_order(taken)
+        let first = (self.clock / DAY) as usize;
+        let end = (upto / DAY) as usize + 1;
+        collect_early(&self.days, first, end, upto, taken)?;
+        put_in_order(taken)?;
+        remove_early(&mut self.days, first, end, upto);
+        self.clock = upto;
+        Ok(())
     }
 }

@@ -1,11 +1,12 @@
 //! The lists of tells, one for each day.
 
-ghost use Rattle.std.specs.Prelude.{◌≡◌, ℕ, ◌<◌, ◌≤◌, ◌++◌, ◌∷◌, [], IfOk, OnErr, OnOk, length, map, replicate};
-ghost use Rattle.std.specs.Prelude.{slice_index_or, slice_set};
+ghost use Rattle.std.specs.Prelude.{◌≡◌, ℕ, ◌<◌, ◌≤◌, ◌↔◌, ◌++◌, ◌∷◌, [], Contains, IfOk, OnErr, OnOk, length, map};
+ghost use Rattle.std.specs.Prelude.{replicate, slice_index_or, slice_set};
+ghost use Rattle.cmb_calendar.specs.Inner.Days.{early_of, Clears, IsEarly};
+ghost use Rattle.cmb_calendar.specs.declared.tell.Tell.{Tell};
 
 use crate::tell::Tell;
 use std::alloc::{AllocError, Global};
-use std::mem::swap;
 
 /// So many days of which nothing is told.
 pub(crate) fn empty_days(alloc: Global, count: usize) -> Result<Vec<Vec<Tell>>, AllocError>
@@ -51,12 +52,45 @@ pub(crate) fn push_tell(
     Ok(())
 }
 
-/// Takes the tells of a day, in place of what `taken` held.
-pub(crate) fn take_day(days: &mut [Vec<Tell>], day: usize, taken: &mut Vec<Tell>)
-    requires { day < length days.old }
-    ensures taken { taken.new.items ≡ slice_index_or (map (λ list. list.items) days.old) day [] }
-    ensures left { map (λ list. list.items) days.new ≡ slice_set (map (λ list. list.items) days.old) day [] }
+// Adds the tells of a list that are below a tick.
+fn push_early(list: &[Tell], upto: u32, taken: &mut Vec<Tell>) -> Result<(), AllocError>
+    ensures { OnOk result (taken.new.items ≡ taken.old.items ++ early_of upto list.now) }
+{
+    for tell in list {
+        if tell.tick < upto {
+            taken.push(*tell)?;
+        }
+    }
+    Ok(())
+}
+
+/// The tells of the days from one on and before another that are below a tick, in place of what `taken` held.
+pub(crate) fn collect_early(
+    days: &[Vec<Tell>],
+    first: usize,
+    end: usize,
+    upto: u32,
+    taken: &mut Vec<Tell>,
+) -> Result<(), AllocError>
+    requires order { first ≤ end }
+    requires within { end ≤ length days.now }
+    ensures { OnOk result ((tell : Tell) → Contains taken.new.items tell
+        ↔ IsEarly (map (λ list. list.items) days.now) first end upto tell) }
 {
     taken.clear();
-    swap(&mut days[day], taken);
+    for day in first..end {
+        push_early(&days[day], upto, taken)?;
+    }
+    Ok(())
+}
+
+/// Removes from the days from one on and before another what is told below a tick.
+pub(crate) fn remove_early(days: &mut [Vec<Tell>], first: usize, end: usize, upto: u32)
+    requires order { first ≤ end }
+    requires within { end ≤ length days.old }
+    ensures { Clears first end upto (map (λ list. list.items) days.old) (map (λ list. list.items) days.new) }
+{
+    for day in first..end {
+        days[day].retain(|tell| upto <= tell.tick);
+    }
 }

@@ -1,6 +1,5 @@
-//! A calendar of what lies ahead: tells, by the days in which their ticks are, where a day is so many ticks as a window
-//! of an engine at most has. It is the event list of an event-driven simulator as a timing wheel, with a place for each
-//! window.
+//! A calendar of what lies ahead: tells, by the days of 64 ticks in which their ticks are. It is the event list of an
+//! event-driven simulator as a timing wheel, of which what is told below a tick is taken out at once.
 #![tactic(auto)]
 
 pub mod calendar;

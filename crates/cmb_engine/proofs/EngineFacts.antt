@@ -1,9 +1,7 @@
 -- What an engine's state tells of its design, and how it goes on.
-use Rattle.std.proofs.Common.{◌≡◌, ℕ, ◌+◌, ◌-◌, ◌*◌, ◌/◌, ◌<◌, ◌≤◌, min, false, List, length, sym, ap, subst, ◌∙◌, arith}
+use Rattle.std.proofs.Common.{◌≡◌, ℕ, ◌+◌, ◌-◌, ◌<◌, ◌≤◌, false, List, length, sym, ap, subst, ◌∙◌, arith}
 use Rattle.std.specs.Prelude.{All, Contains}
-use Rattle.std.proofs.Math.Nat.{div-lt_iff_lt-mul}
-use Rattle.std.proofs.lemmas.Nat.{le-div}
-use Rattle.cmb_calendar.specs.Calendars.{Calendar, AreInOrder, Takes, day_end}
+use Rattle.cmb_calendar.specs.Calendars.{Calendar, AreInOrder, Takes}
 use Rattle.cmb_calendar.specs.declared.tell.Tell.{Tell}
 use Rattle.cmb_wave.specs.declared.level.Level.{Level}
 use Rattle.cmb_design.specs.Design.{Design}
@@ -15,7 +13,6 @@ use Rattle.cmb_words.specs.Changes.{RisesWithin, Tells, is_among}
 use Rattle.cmb_engine.specs.Inner.Ahead.{TellsAhead}
 use Rattle.cmb_engine.specs.Inner.Cells.{cell_at, is_made, IsSteadyFrom}
 use Rattle.cmb_engine.specs.Inner.Circuits.{MeetsCells, Shows}
-use Rattle.cmb_engine.specs.Engines.{window_end}
 use Rattle.cmb_engine.specs.Inner.Gifts.{AreGiven}
 use Rattle.cmb_engine.specs.Inner.Lines.{IsAhead, IsOfLine, NotesEach}
 use Rattle.cmb_engine.specs.Inner.Roles.{AreToldNets, gives, level_in}
@@ -38,45 +35,16 @@ module _ (design : Design) (circuit : Circuit) (state : State) (is_circuit : IsC
       let inside : slot < nets_of design = omega (arith, given-inside circuit.wiring.roles.items slot gift, is_circuit.roles.few) in
       (omega (arith, inside, is_circuit.plan.count), is_circuit.plan.others slot inside (given-other circuit.wiring.roles.items slot gift))
 
-  -- a window of the next day's ticks, of which the tells were taken out
-  module _ (between : Calendar) (taken : List Tell) (to : ℕ) (below : state.clock < design.horizon) (ends : to ≡ min (day_end state.calendar) state.calendar.horizon)
-      (takes : Takes state.calendar between taken) where
-    ends-soon : to ≡ min (day_end state.calendar) design.horizon
-    ends-soon = ends ∙ ap (λ n. min (day_end state.calendar) n) is_state.ahead.same_horizon
-
-    pub later : state.clock < to
-    later = omega (arith, ends-soon, below, (is_state.ahead.today (omega (arith, below))).1)
-
-    pub short : to ≤ state.clock + circuit.width
-    short = omega (arith, ends-soon, (is_state.ahead.today (omega (arith, below))).0, is_state.ahead.same_width)
-
-    -- the window goes on to the end of its day
-    pub at-end : to ≡ window_end circuit.width design.horizon state.clock
-    at-end =
-        let same : state.calendar.width ≡ circuit.width = is_state.ahead.same_width in
-        let today = is_state.ahead.today (omega (arith, below)) in
-        let some : 1 ≤ circuit.width = omega (arith, is_circuit.plan.wide) in
-        let begins : state.calendar.day * circuit.width ≤ state.clock = subst (λ (w : ℕ). state.calendar.day * w ≤ state.clock) same today.0 in
-        let over : state.clock < (state.calendar.day + 1) * circuit.width = subst (λ (w : ℕ). state.clock < (state.calendar.day + 1) * w) same today.1 in
-        let day : state.clock / circuit.width ≡ state.calendar.day =
-        omega (
-          arith,
-          le-div state.calendar.day state.clock circuit.width some begins,
-          (div-lt_iff_lt-mul {k = circuit.width} {x = state.clock} {y = state.calendar.day + 1} some).1 over,
-        ) in
-        ends-soon
-        ∙ ap (λ n. min n design.horizon) (ap (λ w. (state.calendar.day + 1) * w) same ∙ ap (λ d. (d + 1) * circuit.width) (sym day))
-
-    pub before-horizon : to ≤ design.horizon
-    before-horizon = omega (arith, ends-soon)
-
+  -- a window up to a tick, of which the tells were taken out
+  module _ (between : Calendar) (taken : List Tell) (to : ℕ) (later : state.clock < to) (short : to ≤ state.clock + circuit.width) (within : to ≤ design.horizon)
+      (takes : Takes to state.calendar between taken) where
     place : to + (64 - (to - state.clock)) ≡ state.clock + 64
     place = omega (arith, later, short, is_circuit.plan.fits)
 
     pub window-tells : AreInOrder taken → AreOfWindow (trace_of design circuit.wiring.roles.items circuit.lines.items) (cell_at circuit.wiring.cells) (gives circuit.wiring.roles.items) (length circuit.wiring.cells) state.clock to taken
     window-tells =
         taken-tells design circuit.wiring.roles.items circuit.lines.items circuit.wiring.most circuit.width circuit.wiring.cells is_circuit.plan state.calendar between taken state.clock to
-        (64 - (to - state.clock)) is_state.ahead is_state.begun below ends-soon place takes
+        (64 - (to - state.clock)) is_state.ahead is_state.begun later short within place takes
 
     pub told-slots : AreInOrder taken → (tell : Tell) → Contains taken tell
         → (tell.slot < length circuit.wiring.cells) × (is_made (cell_at circuit.wiring.cells tell.slot) ≡ false) × (to ≤ tell.tick + (to - state.clock)) × (tell.tick < to)
@@ -122,13 +90,13 @@ module _ (design : Design) (circuit : Circuit) (state : State) (is_circuit : IsC
           (shows-nets (levels_of words) design circuit.wiring.roles.items circuit.lines.items (length circuit.wiring.cells) to (omega (arith, is_circuit.plan.count)) shows)
           (omega arith) (omega (arith, short, is_circuit.plan.fits)) (omega (arith, place, is_state.begun)) rises right others)
 
-      pub next-ahead : (new : Calendar) → NotesEach (IsOfLine changed circuit.lines.items (nets_of design) to (64 - (to - state.clock))) between new → new.width ≡ between.width
-          → new.horizon ≡ between.horizon → new.day ≡ between.day → TellsAhead design circuit.wiring.roles.items circuit.lines.items circuit.width circuit.wiring.cells to new
-      next-ahead new noted same_width same_horizon same_day =
+      pub next-ahead : (new : Calendar) → NotesEach (IsOfLine changed circuit.lines.items (nets_of design) to (64 - (to - state.clock))) between new
+          → new.horizon ≡ between.horizon → new.clock ≡ between.clock → TellsAhead design circuit.wiring.roles.items circuit.lines.items circuit.wiring.cells to new
+      next-ahead new noted same_horizon same_clock =
           noted-tells design circuit.wiring.roles.items circuit.lines.items circuit.wiring.most circuit.width circuit.wiring.cells is_circuit.plan state.calendar between taken state.clock to
-          (64 - (to - state.clock)) is_state.ahead is_state.begun below ends-soon place takes new changed noted same_width same_horizon same_day window-changes
+          (64 - (to - state.clock)) is_state.ahead is_state.begun later short within place takes new changed noted same_horizon same_clock window-changes
 
     pub lines-ahead : All (IsAhead between to (64 - (to - state.clock))) circuit.lines.items
     lines-ahead =
         taken-ahead design circuit.wiring.roles.items circuit.lines.items circuit.wiring.most circuit.width circuit.wiring.cells is_circuit.plan state.calendar between taken state.clock to
-        (64 - (to - state.clock)) is_state.ahead is_state.begun below ends-soon place takes
+        (64 - (to - state.clock)) is_state.ahead is_state.begun later short within place takes

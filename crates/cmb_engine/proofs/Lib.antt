@@ -4,6 +4,7 @@ pub mod BeginFacts
 pub mod BitFacts
 pub mod CellFacts
 pub mod CollectFacts
+pub mod EndFacts
 pub mod EngineFacts
 pub mod FollowerFacts
 pub mod GivenFacts

@@ -1,12 +1,11 @@
 -- What is told of lines.
-use Rattle.std.proofs.Common.{◌≡◌, ◌≢◌, ℕ, suc, ◌+◌, ◌-◌, ◌*◌, ◌<◌, ◌≤◌, ◌⊎◌, ⊎_elim, inl, inr, true, false, List, [], ◌∷◌, ◌++◌, length, get_or, take, sym, ap, subst, ◌∙◌, arith}
+use Rattle.std.proofs.Common.{◌≡◌, ◌≢◌, ℕ, suc, ◌+◌, ◌-◌, ◌<◌, ◌≤◌, ◌⊎◌, ⊎_elim, inl, inr, true, false, List, [], ◌∷◌, ◌++◌, length, get_or, take, sym, ap, subst, ◌∙◌, arith}
 use Rattle.std.specs.Prelude.{◌↔◌, All, Contains, not}
 use Rattle.std.proofs.lemmas.Bool.{cases_Bool, cases_lt, false≢true}
 use Rattle.std.proofs.lemmas.Option.{slice_get-get_or, get_or_from_slice_get}
 use Rattle.std.proofs.lemmas.List.Elements.{All-contains, All-nil, All-cons, All-head, All-same, All-weaker, Contains-append_left, Contains-push, Contains-push_cases}
 use Rattle.cmb_wave.specs.Waveform.{same_level}
 use Rattle.cmb_wave.proofs.Lists.{same_level-same, test_of_same}
-use Rattle.cmb_calendar.specs.Calendars.{Calendar, day_begin}
 use Rattle.cmb_calendar.specs.declared.tell.Tell.{Tell}
 use Rattle.cmb_words.specs.declared.changed.Changed.{Changed}
 use Rattle.cmb_words.specs.declared.word.Word.{Word}
@@ -90,10 +89,6 @@ places-within word mask first below from =
 -- what holds of all that is left holds of the next one
 pub next-of : {X : Type 0} (P : X → Type 0) (left : List X) (x : X) (rest : List X) → left ≡ x ∷ rest → All P left → P x
 next-of P left x rest is all = All-head P x rest (All-same P (x ∷ rest) left (sym is) all)
-
--- the next day begins at the same tick
-pub begin-same : (old new : Calendar) → new.day ≡ old.day → new.width ≡ old.width → day_begin new ≡ day_begin old
-begin-same old new day width = ap (λ n. n * new.width) day ∙ ap (λ n. old.day * n) width
 
 -- no line
 pub follower-none : (word : Word) (lines : List Pin) (nets to first : ℕ) (tell : Tell) → IsOfFollower word [] lines nets to first tell → ⊥

@@ -3,15 +3,15 @@ use Rattle.std.proofs.Common.{◌≡◌, ℕ, ◌+◌, ◌<◌, ◌⊎◌, inl, 
 use Rattle.std.specs.Prelude.{Contains}
 use Rattle.std.proofs.lemmas.List.{take_more}
 use Rattle.std.proofs.lemmas.List.Elements.{Contains-append_left, Contains-push, Contains-push_cases}
-use Rattle.cmb_calendar.specs.Calendars.{Calendar, Notes, SameDays}
+use Rattle.cmb_calendar.specs.Calendars.{Calendar, Notes, SameTicks}
 use Rattle.cmb_calendar.specs.declared.tell.Tell.{Tell}
 use Rattle.cmb_engine.specs.Inner.Lines.{NotesEach}
 
-pub days-same : (calendar : Calendar) → SameDays calendar calendar
-days-same calendar = record { width = refl; horizon = refl; day = refl }
+pub ticks-same : (calendar : Calendar) → SameTicks calendar calendar
+ticks-same calendar = record { horizon = refl; clock = refl }
 
-pub days-on : (old between new : Calendar) → SameDays old between → SameDays between new → SameDays old new
-days-on old between new g h = record { width = h.width ∙ g.width; horizon = h.horizon ∙ g.horizon; day = h.day ∙ g.day }
+pub ticks-on : (old between new : Calendar) → SameTicks old between → SameTicks between new → SameTicks old new
+ticks-on old between new g h = record { horizon = h.horizon ∙ g.horizon; clock = h.clock ∙ g.clock }
 
 -- nothing is told
 pub notes-none : (IsNew : Tell → Type 0) (calendar : Calendar) → ((tell : Tell) → IsNew tell → ⊥) → NotesEach IsNew calendar calendar

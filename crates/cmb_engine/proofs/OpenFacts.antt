@@ -1,7 +1,7 @@
 -- What the calendar of an engine that begins has.
-use Rattle.std.proofs.Common.{◌≡◌, ◌⊎◌, inl, inr, ℕ, ◌+◌, ◌*◌, ◌<◌, List, [], length, sym, ap, subst, ◌∙◌, arith}
+use Rattle.std.proofs.Common.{◌≡◌, ◌⊎◌, inl, inr, ℕ, ◌+◌, ◌<◌, List, [], length, sym, ap, subst, ◌∙◌, arith}
 use Rattle.std.specs.Prelude.{Contains}
-use Rattle.cmb_calendar.specs.Calendars.{Calendar, SameDays, day_begin, day_end}
+use Rattle.cmb_calendar.specs.Calendars.{Calendar, SameTicks}
 use Rattle.cmb_calendar.specs.declared.tell.Tell.{Tell}
 use Rattle.cmb_wave.specs.declared.level.Level.{Level}
 use Rattle.cmb_design.specs.Design.{Design}
@@ -30,15 +30,9 @@ words-show design circuit words lines is same shows =
     (subst (λ (ls : List Pin). Shows (levels_of words) (trace_of design roles ls) (nets_of design + length ls) 1) same (shows roles))
 
 module _ (design : Design) (roles : List Role) (lines : List Pin) (most width : ℕ) (cells : List Cell) (plan : IsPlan design roles lines most width cells) (words : ℕ → ℕ → Level)
-    (shows : Shows words (trace_of design roles lines) (nets_of design + length lines) 1) (empty noted started : Calendar) (none : empty.tells ≡ []) (wide : empty.width ≡ width)
-    (ends : empty.horizon ≡ design.horizon) (zero_day : empty.day ≡ 0) (first : SameDays empty noted) (second : SameDays noted started)
+    (shows : Shows words (trace_of design roles lines) (nets_of design + length lines) 1) (empty noted started : Calendar) (none : empty.tells ≡ [])
+    (ends : empty.horizon ≡ design.horizon) (zero : empty.clock ≡ 0) (first : SameTicks empty noted) (second : SameTicks noted started)
     (inputs : NotesEach (IsOfInput design roles) empty noted) (starts : NotesEach (IsOfStart words lines (nets_of design)) noted started) where
-  day-zero : started.day ≡ 0
-  day-zero = second.day ∙ first.day ∙ zero_day
-
-  has-width : started.width ≡ width
-  has-width = second.width ∙ first.width ∙ wide
-
   noted-below : (tell : Tell) → Contains noted.tells tell → tell.tick < design.horizon
   noted-below tell h = go ((inputs tell).0 h)
     where
@@ -53,14 +47,10 @@ module _ (design : Design) (roles : List Role) (lines : List Pin) (most width : 
       go (inl h) = noted-below tell h
       go (inr h) = omega (arith, h.1, first.horizon, ends)
 
-  pub starts-ahead : TellsAhead design roles lines width cells 1 started
+  pub starts-ahead : TellsAhead design roles lines cells 1 started
   starts-ahead = record {
-    same_width = has-width;
     same_horizon = second.horizon ∙ first.horizon ∙ ends;
-    today = λ near.
-        let begins : day_begin started ≡ 0 * started.width = ap (λ n. n * started.width) day-zero in
-        let over : day_end started ≡ (0 + 1) * started.width = ap (λ n. (n + 1) * started.width) day-zero in
-        (omega (arith, begins), omega (arith, over, has-width, plan.wide));
+    before = omega (arith, second.clock, first.clock, zero);
     below = started-below;
     told = starts-told design roles lines most width cells plan words shows empty noted started none ends first.horizon inputs starts;
   }

@@ -1,6 +1,6 @@
--- What is told of a window, and of the ticks behind it once the calendar's day was taken and the changes that lines show later
--- were noted.
-use Rattle.std.proofs.Common.{◌≡◌, ℕ, suc, ◌+◌, ◌-◌, ◌*◌, ◌<◌, ◌≤◌, ◌⊎◌, inl, inr, min, true, false, List, length, get_or, refl, sym, ap, subst, ◌∙◌, arith, ltb}
+-- What is told of a window, and of the ticks behind it once that was taken from the calendar and the changes that lines
+-- show later were noted.
+use Rattle.std.proofs.Common.{◌≡◌, ℕ, suc, ◌+◌, ◌-◌, ◌<◌, ◌≤◌, ◌⊎◌, inl, inr, true, false, List, length, get_or, refl, sym, ap, subst, ◌∙◌, arith, ltb}
 use Rattle.std.specs.Prelude.{◌==◌, None, Some, All, Contains, slice_get}
 use Rattle.std.proofs.lemmas.Bool.{cases_Bool, cases_lt, eqb-true, false≢true, le-ltb}
 use Rattle.std.proofs.lemmas.List.Elements.{All-contains}
@@ -9,7 +9,7 @@ use Rattle.std.proofs.lemmas.Option.{slice_get_cases, slice_get_within, get_or_f
 use Rattle.cmb_wave.specs.declared.level.Level.{Level}
 use Rattle.cmb_wave.specs.Waveform.{same_level}
 use Rattle.cmb_wave.proofs.Lists.{same_level-same, test_of_same}
-use Rattle.cmb_calendar.specs.Calendars.{Calendar, Takes, AreInOrder, day_begin, day_end}
+use Rattle.cmb_calendar.specs.Calendars.{Calendar, Takes, AreInOrder}
 use Rattle.cmb_calendar.specs.declared.tell.Tell.{Tell}
 use Rattle.cmb_design.specs.Design.{Design}
 use Rattle.cmb_design.specs.Exact.{nets_of}
@@ -27,14 +27,13 @@ use Rattle.cmb_engine.specs.declared.cell.Pin.{Pin}
 use Rattle.cmb_engine.specs.declared.role.Role.{Role}
 use Rattle.cmb_engine.proofs.SlotFacts.{trace-line, reach-net, reach-line}
 
--- a window goes from the clock to the end of a calendar's next day, or to the horizon where that comes first
+-- a window goes from the clock on, so many ticks at most and not beyond the horizon
 pub record IsWindow (calendar : Calendar) (width horizon from to first : ℕ) : Type 0 where
-  pub same_width : calendar.width ≡ width
   pub same_horizon : calendar.horizon ≡ horizon
   pub begun : 1 ≤ from
-  pub begins : day_begin calendar ≤ from
-  pub ends : to ≡ min (day_end calendar) horizon
   pub some : from < to
+  pub short : to ≤ from + width
+  pub within : to ≤ horizon
   pub place : to + first ≡ from + 64
 
 -- ---- what lines show
@@ -66,22 +65,11 @@ tell-same : (tick tick' slot slot' : ℕ) (level level' : Level) → tick ≡ ti
 tell-same tick tick' slot slot' level level' a b c =
     ap (λ t. tell_at t slot level) a ∙ ap (λ s. tell_at tick' s level) b ∙ ap (λ l. tell_at tick' slot' l) c
 
--- a calendar's day is taken: `from` is the clock, `to` where it goes
+-- what is told of a window is taken: `from` is the clock, `to` where it goes
 module _ (design : Design) (roles : List Role) (lines : List Pin) (most width horizon : ℕ) (cells : List Cell) (plan : IsPlan design roles lines most width cells)
-    (old between : Calendar) (taken : List Tell) (from to first : ℕ) (window : IsWindow old width horizon from to first) (takes : Takes old between taken)
+    (old between : Calendar) (taken : List Tell) (from to first : ℕ) (window : IsWindow old width horizon from to first) (takes : Takes to old between taken)
     (below : (tell : Tell) → Contains old.tells tell → tell.tick < horizon)
     (told : AreTold (trace_of design roles lines) (cell_at cells) (gives roles) (length cells) (reach_of (nets_of design) lines horizon) horizon from old.tells) where
-  -- a window isn't longer than a day
-  short : to ≤ from + width
-  short = omega (arith, window.begins, window.ends, window.same_width)
-
-  within-day : to ≤ day_end old
-  within-day = omega (arith, window.ends)
-
-  -- what is ahead of a window below the horizon is of the days to come
-  ahead-day : (tick : ℕ) → to ≤ tick → tick < horizon → day_end old ≤ tick
-  ahead-day tick late small = omega (arith, window.ends)
-
   -- a line of a slot
   line-of : (slot : ℕ) → slot < length cells → nets_of design ≤ slot
       → (line : Pin) × (slice_get lines (slot - nets_of design) ≡ Some line) × (line.net < nets_of design) × (width ≤ line.delay)
@@ -101,10 +89,10 @@ module _ (design : Design) (roles : List Role) (lines : List Pin) (most width ho
   reached slot small = go (cases_lt slot (nets_of design))
     where
       go : (slot < nets_of design) ⊎ (nets_of design ≤ slot) → to ≤ from + reach_of (nets_of design) lines horizon slot
-      go (inl l) = omega (arith, reach-net (nets_of design) lines horizon slot l, window.ends)
+      go (inl l) = omega (arith, reach-net (nets_of design) lines horizon slot l, window.within)
       go (inr l) =
           let line = line-of slot small l in
-          omega (arith, reach-line (nets_of design) lines horizon slot line.0 l line.1, line.3, short)
+          omega (arith, reach-line (nets_of design) lines horizon slot line.0 l line.1, line.3, window.short)
 
   -- what was taken tells of the window
   pub window-told : AreInOrder taken → AreOfWindow (trace_of design roles lines) (cell_at cells) (gives roles) (length cells) from to taken
@@ -112,25 +100,23 @@ module _ (design : Design) (roles : List Role) (lines : List Pin) (most width ho
     right = λ tell h.
         let was = (takes.early tell).0 h in
         let right = told.right tell was.0 in
-        let small = below tell was.0 in
-        (right.0, right.1, omega (arith, was.1, small, window.ends));
+        (right.0, right.1, was.1);
     all = λ slot tick inside untold other late small.
         let reach = reached slot inside in
-        let near : tick < horizon = omega (arith, small, window.ends) in
+        let near : tick < horizon = omega (arith, small, window.within) in
         go slot tick small (told.all slot tick inside untold other late (omega (arith, small, reach)) near);
     order = order;
   }
     where
       go : (slot tick : ℕ) → tick < to → IsTold (trace_of design roles lines) old.tells slot tick → IsTold (trace_of design roles lines) taken slot tick
       go slot tick small (inl h) = inl h
-      go slot tick small (inr h) = inr ((takes.early _).1 (h, omega (arith, small, within-day)))
+      go slot tick small (inr h) = inr ((takes.early _).1 (h, small))
 
   -- the delays of lines are long enough for what they show of the window
   pub lines-ahead : All (IsAhead between to first) lines
   lines-ahead k d inside =
       let source = plan.sources k d inside in
-      let begins : day_begin between ≡ day_end old = ap (λ n. n * between.width) takes.day ∙ ap (λ n. (old.day + 1) * n) takes.width in
-      (source.2, omega (arith, begins, source.1, window.begins, window.same_width, window.place))
+      (source.2, omega (arith, takes.clock, source.1, window.short, window.place))
 
   -- the calendar then, of which the tells of lines were noted
   module _ (new : Calendar) (changed : List Changed) (noted : NotesEach (IsOfLine changed lines (nets_of design) to first) between new)
@@ -150,7 +136,7 @@ module _ (design : Design) (roles : List Role) (lines : List Pin) (most width ho
     noted-right : (tell : Tell) → IsOfLine changed lines (nets_of design) to first tell → IsRight (trace_of design roles lines) (cell_at cells) (length cells) tell × (to ≤ tell.tick)
     noted-right tell h =
         subst (λ (t : Tell). IsRight (trace_of design roles lines) (cell_at cells) (length cells) t × (to ≤ t.tick)) (sym h.change.is)
-        (record { slot = omega (arith, inside, plan.count); told = plan.told (nets_of design + h.number) (omega arith); level = level }, omega (arith, source.1, window.place, h.change.from, short))
+        (record { slot = omega (arith, inside, plan.count); told = plan.told (nets_of design + h.number) (omega arith); level = level }, omega (arith, source.1, window.place, h.change.from, window.short))
       where
         inside : h.number < length lines
         inside = slice_get_within lines h.number h.line h.has_number
@@ -177,7 +163,7 @@ module _ (design : Design) (roles : List Role) (lines : List Pin) (most width ho
     -- what was told is told still
     told-still : (slot tick : ℕ) → to ≤ tick → tick < horizon → IsTold (trace_of design roles lines) old.tells slot tick → IsTold (trace_of design roles lines) new.tells slot tick
     told-still slot tick late near (inl h) = inl h
-    told-still slot tick late near (inr h) = inr ((noted _).1 (inl ((takes.late _).1 (h, ahead-day tick late near))))
+    told-still slot tick late near (inr h) = inr ((noted _).1 (inl ((takes.late _).1 (h, late))))
 
     -- what a line shows of the window is told
     told-line : (slot tick past : ℕ) (line : Pin) → nets_of design ≤ slot → slice_get lines (slot - nets_of design) ≡ Some line → line.net < nets_of design
@@ -206,7 +192,7 @@ module _ (design : Design) (roles : List Role) (lines : List Pin) (most width ho
             word = All-contains (TellsNet (level_in design roles) from to) changed one tells.words among
 
             begins : 1 ≤ first
-            begins = omega (arith, window.place, short, plan.fits)
+            begins = omega (arith, window.place, window.short, plan.fits)
 
             here : level_at_place one.word (past + 64 - to) ≡ level_in design roles one.net past
             here =
@@ -264,7 +250,7 @@ module _ (design : Design) (roles : List Role) (lines : List Pin) (most width ho
         judged tell (inl a) =
             let late = (takes.late tell).0 a in
             let right = told.right tell late.0 in
-            (right.0, omega (arith, late.1, within-day))
+            (right.0, late.1)
         judged tell (inr a) = noted-right tell a.0
 
         split : (slot tick : ℕ) → slot < length cells → is_made (cell_at cells slot) ≡ false → gives roles slot ≡ false → to ≤ tick → tick < to + reach_of (nets_of design) lines horizon slot → tick < horizon
@@ -281,16 +267,15 @@ module _ (design : Design) (roles : List Role) (lines : List Pin) (most width ho
 -- ---- the same of an engine's calendar
 
 module _ (design : Design) (roles : List Role) (lines : List Pin) (most width : ℕ) (cells : List Cell) (plan : IsPlan design roles lines most width cells)
-    (old between : Calendar) (taken : List Tell) (from to first : ℕ) (kept : TellsAhead design roles lines width cells from old)
-    (begun : 1 ≤ from) (soon : from < design.horizon) (ends : to ≡ min (day_end old) design.horizon) (place : to + first ≡ from + 64) (takes : Takes old between taken) where
+    (old between : Calendar) (taken : List Tell) (from to first : ℕ) (kept : TellsAhead design roles lines cells from old)
+    (begun : 1 ≤ from) (some : from < to) (short : to ≤ from + width) (within : to ≤ design.horizon) (place : to + first ≡ from + 64) (takes : Takes to old between taken) where
   window : IsWindow old width design.horizon from to first
   window = record {
-    same_width = kept.same_width;
     same_horizon = kept.same_horizon;
     begun = begun;
-    begins = (kept.today soon).0;
-    ends = ends;
-    some = omega (arith, ends, soon, (kept.today soon).1);
+    some = some;
+    short = short;
+    within = within;
     place = place;
   }
 
@@ -303,18 +288,11 @@ module _ (design : Design) (roles : List Role) (lines : List Pin) (most width : 
   taken-ahead = lines-ahead design roles lines most width design.horizon cells plan old between taken from to first window takes kept.below kept.told
 
   -- and once they are, the calendar has what is told from the window's end on
-  pub noted-tells : (new : Calendar) (changed : List Changed) → NotesEach (IsOfLine changed lines (nets_of design) to first) between new → new.width ≡ between.width
-      → new.horizon ≡ between.horizon → new.day ≡ between.day → Tells (level_in design roles) (nets_of design) from to changed → TellsAhead design roles lines width cells to new
-  noted-tells new changed noted same_width same_horizon day tells = record {
-    same_width = same_width ∙ takes.width ∙ kept.same_width;
+  pub noted-tells : (new : Calendar) (changed : List Changed) → NotesEach (IsOfLine changed lines (nets_of design) to first) between new
+      → new.horizon ≡ between.horizon → new.clock ≡ between.clock → Tells (level_in design roles) (nets_of design) from to changed → TellsAhead design roles lines cells to new
+  noted-tells new changed noted same_horizon clock tells = record {
     same_horizon = same_horizon ∙ takes.horizon ∙ kept.same_horizon;
-    today = λ near. (omega (arith, begins, ends, near), omega (arith, begins, ends, near, wide));
+    before = omega (arith, clock, takes.clock);
     below = still-below design roles lines most width design.horizon cells plan old between taken from to first window takes kept.below kept.told new changed noted tells;
     told = told-ahead design roles lines most width design.horizon cells plan old between taken from to first window takes kept.below kept.told new changed noted tells;
   }
-    where
-      begins : day_begin new ≡ day_end old
-      begins = ap (λ n. n * new.width) (day ∙ takes.day) ∙ ap (λ n. (old.day + 1) * n) (same_width ∙ takes.width)
-
-      wide : 1 ≤ new.width
-      wide = omega (arith, same_width, takes.width, kept.same_width, plan.wide)

@@ -5,6 +5,7 @@ pub mod Batches
 pub mod Bits
 pub mod Cells
 pub mod Circuits
+pub mod Ends
 pub mod Gifts
 pub mod Lines
 pub mod Lists

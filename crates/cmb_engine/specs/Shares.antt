@@ -5,7 +5,6 @@ use Rattle.cmb_netlist.specs.Netlist.{driver_of, pins_of}
 use Rattle.cmb_design.specs.Design.{Design}
 use Rattle.cmb_words.specs.declared.changed.Changed.{Changed}
 use Rattle.cmb_words.specs.Changes.{IsStill, TellsNet, is_among}
-use Rattle.cmb_engine.specs.Engines.{window_end}
 
 -- a design, which of its nets are driven, the most ticks of a window, and the tick below which the driven nets are known
 pub record ShareEngine : Type 0 where
@@ -28,7 +27,3 @@ pub record IsGiven (design : Design) (driven : List Bool) (net : ℕ) : Type 0 w
 pub record TellsThose (Those : ℕ → Type 0) (level : ℕ → ℕ → Level) (from upto : ℕ) (changed : List Changed) : Type 0 where
   pub words : (one : Changed) → Contains changed one → Those one.net → TellsNet level from upto one
   pub others : (net : ℕ) → Those net → is_among net changed ≡ false → IsStill (level net) from upto
-
--- the tick below which the driven nets are known after the next window
-abbrev pub share_clock : ShareEngine → ℕ
-share_clock engine = window_end engine.width engine.design.horizon engine.clock

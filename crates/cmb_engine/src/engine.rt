@@ -3,10 +3,10 @@
 ghost use Rattle.std.specs.Prelude.{◌≡◌, ◌+◌, ◌<◌, ◌≤◌, IfOk};
 ghost use Rattle.cmb_design.specs.Exact.{nets_of};
 ghost use Rattle.cmb_design.specs.Value.{value};
-ghost use Rattle.cmb_engine.specs.Engines.{next_clock};
 ghost use Rattle.cmb_words.specs.Changes.{IsWindow, Tells};
 
 use crate::share::ShareEngine;
+use crate::windows::Windows;
 use cmb_design::Design;
 use cmb_words::Changed;
 use std::alloc::{AllocError, Global};
@@ -22,11 +22,12 @@ pub const LONGEST_WINDOW: u32 = 63;
 #[derive(Drop)]
 pub struct Engine<'d> {
     share: ShareEngine<'d>,
+    windows: Windows,
 }
 
 impl<'d> Model for Engine<'d> {
     ghost use Rattle.cmb_engine.specs.Engines.{Engine};
-    ghost use Rattle.cmb_engine.specs.Inner.States.{DrivesAll};
+    ghost use Rattle.cmb_engine.specs.Inner.States.{IsWhole};
 
     ghost Value = { Engine };
 
@@ -36,7 +37,7 @@ impl<'d> Model for Engine<'d> {
       clock = engine.share.clock;
     } };
 
-    ghost invariant = { λ engine. DrivesAll engine.share };
+    ghost invariant = { λ engine. IsWhole engine.share engine.windows };
 }
 
 impl<'d> Engine<'d> {
@@ -47,23 +48,16 @@ impl<'d> Engine<'d> {
     {
         let driven = vec![in alloc; true; design.netlist().len()]?;
         let share = ShareEngine::open(alloc, design, driven.as_slice())?;
-        Ok(Engine { share })
+        match Windows::of(alloc, design, share.width()) {
+            Ok(windows) => Ok(Engine { share, windows }),
+            Err(error) => {
+                drop(share);
+                Err(error)
+            }
+        }
     }
 
-    /// The engine begun anew, of which tick 0 is known, with windows of at most so many ticks.
-    pub fn narrowed(self, alloc: Global, width: u32) -> Result<Engine<'d>, AllocError>
-        requires some { 2 ≤ width }
-        requires narrower { width ≤ self.width }
-        ensures design { IfOk result (λ engine. engine.design ≡ self.entry.design) }
-        ensures width { IfOk result (λ engine. engine.width ≡ width) }
-        ensures clock { IfOk result (λ engine. engine.clock ≡ 1) }
-    {
-        let Engine { share } = self;
-        let share = share.narrowed(alloc, width)?;
-        Ok(Engine { share })
-    }
-
-    /// The most ticks of a window. Windows end at the multiples of it, and the last one at the horizon.
+    /// The most ticks of a window.
     pub fn width(&self) -> u32
         ensures value { result ≡ self.now.width }
         ensures some { 2 ≤ result }
@@ -81,21 +75,37 @@ impl<'d> Engine<'d> {
         self.share.clock()
     }
 
-    /// Goes on by a window of at least one tick and at most `LONGEST_WINDOW`, never beyond the horizon. `changed` gets
-    /// the nets that changed in it, by rising number, each with its levels up to the window's end, in place of what it
-    /// had.
-    pub fn advance(self, changed: &mut Vec<Changed>) -> Result<Engine<'d>, AllocError>
-        requires { self.clock < self.design.horizon }
+    /// Where the next window may end to be made quickly.
+    pub fn next_end(&self) -> u32
+        requires { self.now.clock < self.now.design.horizon }
+        ensures later { self.now.clock < result }
+        ensures short { result ≤ self.now.clock + self.now.width }
+        ensures within { result ≤ self.now.design.horizon }
+    {
+        self.windows.end(self.share.clock())
+    }
+
+    /// Goes on by a window up to the tick `upto`. `changed` gets the nets that changed in it, by rising number, each
+    /// with its levels up to the window's end, in place of what it had.
+    pub fn advance(self, upto: u32, changed: &mut Vec<Changed>) -> Result<Engine<'d>, AllocError>
+        requires later { self.clock < upto }
+        requires short { upto ≤ self.clock + self.width }
+        requires within { upto ≤ self.design.horizon }
         ensures design { IfOk result (λ engine. engine.design ≡ self.entry.design) }
         ensures width { IfOk result (λ engine. engine.width ≡ self.entry.width) }
-        ensures clock { IfOk result (λ engine. engine.clock ≡ next_clock self.entry) }
+        ensures clock { IfOk result (λ engine. engine.clock ≡ upto) }
         ensures window { IfOk result (λ engine. IsWindow (nets_of self.entry.design) self.entry.design.horizon
             self.entry.clock engine.clock changed.new.items) }
         ensures tells { IfOk result (λ engine. Tells (value self.entry.design) (nets_of self.entry.design)
             self.entry.clock engine.clock changed.new.items) }
     {
-        let Engine { share } = self;
-        let share = share.advance(&[], changed)?;
-        Ok(Engine { share })
+        let Engine { share, windows } = self;
+        match share.advance(upto, &[], changed) {
+            Ok(share) => Ok(Engine { share, windows }),
+            Err(error) => {
+                drop(windows);
+                Err(error)
+            }
+        }
     }
 }

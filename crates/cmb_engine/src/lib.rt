@@ -32,7 +32,9 @@ mod told;
 mod visit;
 mod walk;
 mod window;
+pub mod windows;
 
 pub use engine::Engine;
 pub use share::ShareEngine;
 pub use start::start_level;
+pub use windows::Windows;

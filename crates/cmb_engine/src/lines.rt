@@ -2,7 +2,7 @@
 //! ahead.
 
 ghost use Rattle.std.specs.Prelude.{◌≡◌, ◌+◌, ◌^◌, ◌<◌, ◌≤◌, All, IfOk, OnOk, length};
-ghost use Rattle.cmb_calendar.specs.Calendars.{day_begin, SameDays};
+ghost use Rattle.cmb_calendar.specs.Calendars.{SameTicks};
 ghost use Rattle.cmb_words.specs.Changes.{RisesWithin};
 ghost use Rattle.cmb_engine.specs.Inner.Lines.{AreFollowers, IsAhead, IsOfChange, IsOfFollower, IsOfLine, NotesEach};
 ghost use Rattle.cmb_engine.specs.Inner.Windows.{HasWindow};
@@ -39,10 +39,10 @@ fn note_changes(
     first: u32,
 ) -> Result<(), AllocError>
     requires delay { delay ≤ 1000000 }
-    requires ahead { day_begin calendar.old + 64 ≤ to + first + delay }
+    requires ahead { calendar.old.clock + 64 ≤ to + first + delay }
     requires window { HasWindow to first }
     ensures notes { OnOk result (NotesEach (IsOfChange word slot delay to first) calendar.old calendar.new) }
-    ensures days { SameDays calendar.old calendar.new }
+    ensures ticks { SameTicks calendar.old calendar.new }
 {
     let changes = word.changes_from(first);
     for place in Places::of(changes) {
@@ -72,7 +72,7 @@ fn note_followers(
     ensures notes { OnOk result (NotesEach
         (IsOfFollower word followers.now lines.now nets to first)
         calendar.old calendar.new) }
-    ensures days { SameDays calendar.old calendar.new }
+    ensures ticks { SameTicks calendar.old calendar.new }
 {
     for number in followers {
         let delay = lines[*number as usize].delay;
@@ -99,7 +99,7 @@ pub(crate) fn note_lines(
     ensures notes { OnOk result (NotesEach
         (IsOfLine changed.now lines.now (length followers.now) to first)
         calendar.old calendar.new) }
-    ensures days { SameDays calendar.old calendar.new }
+    ensures ticks { SameTicks calendar.old calendar.new }
 {
     if lines.is_empty() {
         return Ok(());

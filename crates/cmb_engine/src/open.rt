@@ -79,9 +79,9 @@ fn open_calendar(
         (length circuit.now.wiring.cells) 1 }
     ensures begun { 1 ≤ design.now.horizon }
     ensures ahead { IfOk result (TellsAhead design.now circuit.now.wiring.roles.items circuit.now.lines.items
-        circuit.now.width circuit.now.wiring.cells 1) }
+        circuit.now.wiring.cells 1) }
 {
-    let mut calendar = Calendar::open(alloc, circuit.width, design.horizon())?;
+    let mut calendar = Calendar::open(alloc, design.horizon())?;
     note_stimuli(design, circuit.wiring.roles.as_slice(), &mut calendar)?;
     note_starts(words, &circuit.lines, design.netlist().len(), &mut calendar)?;
     Ok(calendar)

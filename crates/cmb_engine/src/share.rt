@@ -4,7 +4,7 @@ ghost use Rattle.std.specs.Prelude.{◌≡◌, ◌+◌, ◌<◌, ◌≤◌, IfOk
 ghost use Rattle.cmb_design.specs.Exact.{nets_of};
 ghost use Rattle.cmb_design.specs.Value.{value};
 ghost use Rattle.cmb_engine.specs.Inner.Roles.{driven_of, AreOf};
-ghost use Rattle.cmb_engine.specs.Shares.{share_clock, IsDriven, IsGiven, TellsThose};
+ghost use Rattle.cmb_engine.specs.Shares.{IsDriven, IsGiven, TellsThose};
 ghost use Rattle.cmb_engine.specs.Inner.States.{IsCircuit};
 ghost use Rattle.cmb_words.specs.Changes.{IsWindow};
 
@@ -91,26 +91,7 @@ impl<'d> ShareEngine<'d> {
         ShareEngine::begin(alloc, design, circuit)
     }
 
-    /// The engine begun anew, of which tick 0 is known, with windows of at most so many ticks. Engines that are to give
-    /// each other what they read have windows of the same width.
-    pub fn narrowed(self, alloc: Global, width: u32) -> Result<ShareEngine<'d>, AllocError>
-        requires some { 2 ≤ width }
-        requires narrower { width ≤ self.width }
-        ensures design { IfOk result (λ engine. engine.design ≡ self.entry.design) }
-        ensures driven { IfOk result (λ engine. engine.driven ≡ self.entry.driven) }
-        ensures width { IfOk result (λ engine. engine.width ≡ width) }
-        ensures clock { IfOk result (λ engine. engine.clock ≡ 1) }
-    {
-        let ShareEngine {
-            design,
-            circuit,
-            state,
-        } = self;
-        drop(state);
-        ShareEngine::begin(alloc, design, Circuit { width, ..circuit })
-    }
-
-    /// The most ticks of a window. Windows end at the multiples of it, and the last one at the horizon.
+    /// The most ticks of a window.
     pub fn width(&self) -> u32
         ensures value { result ≡ self.now.width }
         ensures some { 2 ≤ result }
@@ -128,22 +109,25 @@ impl<'d> ShareEngine<'d> {
         self.state.clock
     }
 
-    /// Goes on by a window of at least one tick and at most `LONGEST_WINDOW`, never beyond the horizon. `given` has the
-    /// changes in it of the nets that driven nets read and this engine doesn't drive, in any order; what else it has is
-    /// passed over. `changed` gets the driven nets that changed, by rising number, each with its levels up to the
-    /// window's end, in place of what it had; given nets that changed stand among them.
+    /// Goes on by a window up to the tick `upto`. `given` has the changes in it of the nets that driven nets read and
+    /// this engine doesn't drive, in any order; what else it has is passed over. `changed` gets the driven nets that
+    /// changed, by rising number, each with its levels up to the window's end, in place of what it had; given nets that
+    /// changed stand among them.
     pub fn advance(
         self,
+        upto: u32,
         given: &[Changed],
         changed: &mut Vec<Changed>,
     ) -> Result<ShareEngine<'d>, AllocError>
-        requires below { self.clock < self.design.horizon }
+        requires later { self.clock < upto }
+        requires short { upto ≤ self.clock + self.width }
+        requires within { upto ≤ self.design.horizon }
         requires given { TellsThose (IsGiven self.design self.driven) (value self.design)
-            self.clock (share_clock self) given.now }
+            self.clock upto given.now }
         ensures design { IfOk result (λ engine. engine.design ≡ self.entry.design) }
         ensures driven { IfOk result (λ engine. engine.driven ≡ self.entry.driven) }
         ensures width { IfOk result (λ engine. engine.width ≡ self.entry.width) }
-        ensures clock { IfOk result (λ engine. engine.clock ≡ share_clock self.entry) }
+        ensures clock { IfOk result (λ engine. engine.clock ≡ upto) }
         ensures window { IfOk result (λ engine. IsWindow (nets_of self.entry.design) self.entry.design.horizon
             self.entry.clock engine.clock changed.new.items) }
         ensures tells { IfOk result (λ engine. TellsThose (IsDriven self.entry.driven) (value self.entry.design)
@@ -154,7 +138,7 @@ impl<'d> ShareEngine<'d> {
             circuit,
             mut state,
         } = self;
-        match state.advance(design, &circuit, given, changed) {
+        match state.advance(design, &circuit, upto, given, changed) {
             Ok(()) => Ok(ShareEngine {
                 design,
                 circuit,

@@ -1,10 +1,9 @@
 //! The state of an engine, and its way from window to window.
 
-ghost use Rattle.std.specs.Prelude.{◌≡◌, ◌<◌, OnOk};
+ghost use Rattle.std.specs.Prelude.{◌≡◌, ◌+◌, ◌<◌, ◌≤◌, OnOk};
 ghost use Rattle.cmb_design.specs.Exact.{nets_of};
 ghost use Rattle.cmb_design.specs.Value.{value};
 ghost use Rattle.cmb_words.specs.Changes.{IsWindow, Tells};
-ghost use Rattle.cmb_engine.specs.Engines.{window_end};
 ghost use Rattle.cmb_engine.specs.Inner.Gifts.{AreGiven};
 ghost use Rattle.cmb_engine.specs.Inner.Roles.{level_in};
 ghost use Rattle.cmb_engine.specs.Inner.States.{IsCircuit, IsState};
@@ -37,22 +36,24 @@ pub(crate) struct State {
 }
 
 impl State {
-    /// Goes on by a window, of which the given nets are told, and says which nets changed in it. After an Err it isn't
-    /// to be used again.
+    /// Goes on by a window up to a tick, of which the given nets are told, and says which nets changed in it. After an
+    /// Err it isn't to be used again.
     pub(crate) fn advance(
         &mut self,
         design: &Design,
         circuit: &Circuit,
+        upto: u32,
         given: &[Changed],
         changed: &mut Vec<Changed>,
     ) -> Result<(), AllocError>
         requires circuit { IsCircuit design.now circuit.now }
         requires state { IsState design.now circuit.now self.old }
-        requires below { self.old.clock < design.now.horizon }
-        requires given { AreGiven (value design.now) circuit.now.wiring.roles.items self.old.clock
-            (window_end circuit.now.width design.now.horizon self.old.clock) given.now }
+        requires later { self.old.clock < upto }
+        requires short { upto ≤ self.old.clock + circuit.now.width }
+        requires within { upto ≤ design.now.horizon }
+        requires given { AreGiven (value design.now) circuit.now.wiring.roles.items self.old.clock upto given.now }
         ensures state { OnOk result (IsState design.now circuit.now self.new) }
-        ensures clock { OnOk result (self.new.clock ≡ window_end circuit.now.width design.now.horizon self.old.clock) }
+        ensures clock { OnOk result (self.new.clock ≡ upto) }
         ensures window { OnOk result (IsWindow (nets_of design.now) design.now.horizon
             self.old.clock self.new.clock changed.new.items) }
         ensures tells { OnOk result (Tells
@@ -61,9 +62,8 @@ impl State {
     {
         // The proof learns here how late the horizon is at most.
         let _horizon = design.horizon();
-        let to = self.calendar.next_day();
-        let ticks = to - self.clock;
-        self.calendar.take(&mut self.tells)?;
+        let ticks = upto - self.clock;
+        self.calendar.take(upto, &mut self.tells)?;
         go_on(
             &circuit.wiring,
             &self.tells,
@@ -72,7 +72,7 @@ impl State {
             &mut self.live,
             &mut self.marks,
             ticks,
-            to,
+            upto,
         );
         collect(
             &self.words,
@@ -81,13 +81,13 @@ impl State {
             64 - ticks,
             changed,
         )?;
-        self.clock = to;
+        self.clock = upto;
         note_lines(
             changed,
             &circuit.followers,
             &circuit.lines,
             &mut self.calendar,
-            to,
+            upto,
             64 - ticks,
         )
     }

@@ -3,7 +3,7 @@
 ghost use Rattle.std.specs.Prelude.{◌≡◌, ◌+◌, ◌^◌, ◌<◌, true, All, OnOk, length};
 ghost use Rattle.cmb_netlist.specs.Netlist.{driver_of};
 ghost use Rattle.cmb_netlist.specs.declared.netlist.Driver.TheVariants.{Input};
-ghost use Rattle.cmb_calendar.specs.Calendars.{SameDays};
+ghost use Rattle.cmb_calendar.specs.Calendars.{SameTicks};
 ghost use Rattle.cmb_design.specs.Exact.{nets_of};
 ghost use Rattle.cmb_engine.specs.Inner.Lines.{NotesEach};
 ghost use Rattle.cmb_engine.specs.Inner.Roles.{drives};
@@ -23,9 +23,9 @@ use std::alloc::AllocError;
 fn note_stimulus(design: &Design, net: usize, calendar: &mut Calendar) -> Result<(), AllocError>
     requires net { net < nets_of design.now }
     requires few { nets_of design.now < 2 ^ 32 }
-    requires day { calendar.old.day ≡ 0 }
+    requires clock { calendar.old.clock ≡ 0 }
     ensures notes { OnOk result (NotesEach (IsOfStimulus design.now net) calendar.old calendar.new) }
-    ensures days { SameDays calendar.old calendar.new }
+    ensures ticks { SameTicks calendar.old calendar.new }
 {
     for change in design.stim_changes(net) {
         if change.tick > 0 {
@@ -57,9 +57,9 @@ pub(crate) fn note_stimuli(
     roles: &[Role],
     calendar: &mut Calendar,
 ) -> Result<(), AllocError>
-    requires { calendar.old.day ≡ 0 }
+    requires { calendar.old.clock ≡ 0 }
     ensures notes { OnOk result (NotesEach (IsOfInput design.now roles.now) calendar.old calendar.new) }
-    ensures days { SameDays calendar.old calendar.new }
+    ensures ticks { SameTicks calendar.old calendar.new }
 {
     for net in 0..design.netlist().len() {
         if is_driven_input(design, roles, net) {
@@ -79,9 +79,9 @@ pub(crate) fn note_starts(
 ) -> Result<(), AllocError>
     requires lines { All (λ line. line.net < length words.now) lines.now }
     requires few { nets + length lines.now < 2 ^ 32 }
-    requires day { calendar.old.day ≡ 0 }
+    requires clock { calendar.old.clock ≡ 0 }
     ensures notes { OnOk result (NotesEach (IsOfStart (levels_of words.now) lines.now nets) calendar.old calendar.new) }
-    ensures days { SameDays calendar.old calendar.new }
+    ensures ticks { SameTicks calendar.old calendar.new }
 {
     for (number, line) in lines.iter().enumerate() {
         let level = words[line.net as usize].level(63);

@@ -1,6 +1,6 @@
 -- What the calendar of a design's engine has.
 use Rattle.std.specs.Prelude.{◌≡◌, ◌<◌, ◌≤◌, ℕ, List, Contains, length}
-use Rattle.cmb_calendar.specs.Calendars.{Calendar, day_begin, day_end}
+use Rattle.cmb_calendar.specs.Calendars.{Calendar}
 use Rattle.cmb_calendar.specs.declared.tell.Tell.{Tell}
 use Rattle.cmb_design.specs.Design.{Design}
 use Rattle.cmb_design.specs.Exact.{nets_of}
@@ -11,10 +11,9 @@ use Rattle.cmb_engine.specs.Inner.Traces.{trace_of}
 use Rattle.cmb_engine.specs.declared.cell.Pin.{Pin}
 use Rattle.cmb_engine.specs.declared.role.Role.{Role}
 
--- it has what is told of the ticks from the clock on and below the horizon, and the clock is within its next day
-pub record TellsAhead (design : Design) (roles : List Role) (lines : List Pin) (width : ℕ) (cells : List Cell) (clock : ℕ) (calendar : Calendar) : Type 0 where
-  pub same_width : calendar.width ≡ width
+-- it has what is told of the ticks from the clock on and below the horizon
+pub record TellsAhead (design : Design) (roles : List Role) (lines : List Pin) (cells : List Cell) (clock : ℕ) (calendar : Calendar) : Type 0 where
   pub same_horizon : calendar.horizon ≡ design.horizon
-  pub today : clock < design.horizon → (day_begin calendar ≤ clock) × (clock < day_end calendar)
+  pub before : calendar.clock ≤ clock
   pub below : (tell : Tell) → Contains calendar.tells tell → tell.tick < design.horizon
   pub told : AreTold (trace_of design roles lines) (cell_at cells) (gives roles) (length cells) (reach_of (nets_of design) lines design.horizon) design.horizon clock calendar.tells

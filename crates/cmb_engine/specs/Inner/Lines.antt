@@ -1,6 +1,6 @@
 -- Lines: which net each of them follows, and what is told of them when nets changed.
 use Rattle.std.specs.Prelude.{◌≡◌, ◌≢◌, ℕ, ◌+◌, ◌-◌, ◌<◌, ◌≤◌, ◌⊎◌, ◌↔◌, List, [], Some, Contains, length, slice_get, slice_index_or}
-use Rattle.cmb_calendar.specs.Calendars.{Calendar, day_begin}
+use Rattle.cmb_calendar.specs.Calendars.{Calendar}
 use Rattle.cmb_calendar.specs.declared.tell.Tell.{Tell}
 use Rattle.cmb_words.specs.declared.changed.Changed.{Changed}
 use Rattle.cmb_words.specs.declared.word.Word.{Word}
@@ -50,6 +50,6 @@ pub record IsOfLine (changed : List Changed) (lines : List Pin) (nets to first :
 abbrev pub NotesEach : (Tell → Type 0) → Calendar → Calendar → Type 0
 NotesEach IsNew old new = (tell : Tell) → Contains new.tells tell ↔ (Contains old.tells tell ⊎ (IsNew tell × (tell.tick < old.horizon)))
 
--- a line's delay is so long that what it shows of a window is told of the days to come
+-- a line's delay is so long that what it shows of a window is told of the ticks from the calendar's clock on
 abbrev pub IsAhead : Calendar → ℕ → ℕ → Pin → Type 0
-IsAhead calendar to first line = (line.delay ≤ 1000000) × (day_begin calendar + 64 ≤ to + first + line.delay)
+IsAhead calendar to first line = (line.delay ≤ 1000000) × (calendar.clock + 64 ≤ to + first + line.delay)

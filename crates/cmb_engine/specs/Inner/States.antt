@@ -10,6 +10,7 @@ use Rattle.cmb_engine.specs.Inner.Roles.{AreRoles}
 use Rattle.cmb_engine.specs.Shares.{ShareEngine, IsDriven, IsGiven}
 use Rattle.cmb_engine.specs.Inner.Traces.{IsPlan, trace_of}
 use Rattle.cmb_engine.specs.Inner.Words.{levels_of}
+use Rattle.cmb_engine.specs.Windows.{Windows}
 use Rattle.cmb_engine.specs.declared.circuit.Circuit.{Circuit}
 use Rattle.cmb_engine.specs.declared.state.State.{State}
 
@@ -28,7 +29,7 @@ pub record IsState (design : Design) (circuit : Circuit) (state : State) : Type 
   pub marks_room : length circuit.wiring.fanout.order.slots ≤ 64 * length state.marks
   pub shows : Shows (levels_of state.words.items) (trace_of design circuit.wiring.roles.items circuit.lines.items) (length circuit.wiring.cells) state.clock
   pub quiet : AreQuiet (levels_of state.words.items) (has state.live) (length circuit.wiring.cells)
-  pub ahead : TellsAhead design circuit.wiring.roles.items circuit.lines.items circuit.width circuit.wiring.cells state.clock state.calendar
+  pub ahead : TellsAhead design circuit.wiring.roles.items circuit.lines.items circuit.wiring.cells state.clock state.calendar
   pub begun : 1 ≤ state.clock
   pub within : state.clock ≤ design.horizon
 
@@ -36,3 +37,9 @@ pub record IsState (design : Design) (circuit : Circuit) (state : State) : Type 
 pub record DrivesAll (share : ShareEngine) : Type 0 where
   pub all : (net : ℕ) → net < nets_of share.design → IsDriven share.driven net
   pub alone : (net : ℕ) → IsGiven share.design share.driven net → ⊥
+
+-- that engine, and where windows end that it can make
+pub record IsWhole (share : ShareEngine) (windows : Windows) : Type 0 where
+  pub drives : DrivesAll share
+  pub width : windows.width ≡ share.width
+  pub horizon : windows.horizon ≡ share.design.horizon

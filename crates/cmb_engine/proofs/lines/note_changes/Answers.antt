@@ -5,8 +5,8 @@ use Rattle.std.proofs.lemmas.Iterator.Consumers.{YieldsList-from_first, YieldsLi
 use Rattle.cmb_calendar.specs.declared.tell.Tell.{Tell}
 use Rattle.cmb_words.specs.Bits.{places_set}
 use Rattle.cmb_engine.specs.Inner.Lines.{NotesEach, IsOfChange, tell_of}
-use Rattle.cmb_engine.proofs.LineFacts.{IsOfPlaces, change-of-place, place-of-change, place-parts, place-before, place-last, place-none, places-within, next-of, begin-same}
-use Rattle.cmb_engine.proofs.NoteFacts.{days-on, days-same, notes-none, notes-one, notes-as, notes-more}
+use Rattle.cmb_engine.proofs.LineFacts.{IsOfPlaces, change-of-place, place-of-change, place-parts, place-before, place-last, place-none, places-within, next-of}
+use Rattle.cmb_engine.proofs.NoteFacts.{ticks-on, ticks-same, notes-none, notes-one, notes-as, notes-more}
 use Rattle.cmb_engine.proofs.lines.note_changes.Goals as goal
 
 pub overflow_add-to : goal.overflow_add-to
@@ -31,15 +31,14 @@ level-requires c =
 pub note-requires : goal.note-requires
 note-requires c =
     let at = next-of (λ (place : ℕ). (c.args.first ≤ place) × (place < 64)) c.loop-place.place-iterator c.in-Some.place c.next.new.self c.in-Some.ensures.steps c.loop-place.invariant.within in
-    let same = begin-same c.args.calendar.now c.loop-place.calendar c.loop-place.invariant.days.day c.loop-place.invariant.days.width in
-    record { later = omega (arith, same, at, c.requires.ahead) }
+    record { later = omega (arith, c.loop-place.invariant.ticks.clock, at, c.requires.ahead) }
 
 pub loop-place-init : goal.loop-place-init
 loop-place-init c = record {
   within = All-same (λ (place : ℕ). (c.args.first ≤ place) × (place < 64)) c.into_iter-place-iterator.result (places_set c.changes_from-changes.result) (cc)
       (places-within c.args.word c.changes_from-changes.result c.args.first c.changes_from-changes.ensures.below c.changes_from-changes.ensures.from);
   notes = notes-none (IsOfPlaces c.args.word c.args.slot c.args.delay c.args.to []) c.args.calendar.now (place-none c.args.word c.args.slot c.args.delay c.args.to);
-  days = days-same c.args.calendar.now;
+  ticks = ticks-same c.args.calendar.now;
 }
 
 pub loop-place-preserved : goal.loop-place-preserved
@@ -52,13 +51,13 @@ loop-place-preserved c =
       notes = notes-more
           (IsOfPlaces c.args.word c.args.slot c.args.delay c.args.to c.loop-place.yielded) (λ tell. tell ≡ one)
           (IsOfPlaces c.args.word c.args.slot c.args.delay c.args.to (c.loop-place.yielded ++ c.in-Some.place ∷ []))
-          c.args.calendar.now c.loop-place.calendar c.note.new.self c.loop-place.invariant.days.horizon
+          c.args.calendar.now c.loop-place.calendar c.note.new.self c.loop-place.invariant.ticks.horizon
           (place-parts c.args.word c.args.slot c.args.delay c.args.to c.loop-place.yielded c.in-Some.place one is)
           (place-before c.args.word c.args.slot c.args.delay c.args.to c.loop-place.yielded c.in-Some.place one is)
           (place-last c.args.word c.args.slot c.args.delay c.args.to c.loop-place.yielded c.in-Some.place one is)
           c.loop-place.invariant.notes
           (notes-one c.loop-place.calendar c.note.new.self one c.in_ok-note.ensures.notes);
-      days = days-on c.args.calendar.now c.loop-place.calendar c.note.new.self c.loop-place.invariant.days c.note.ensures.days;
+      ticks = ticks-on c.args.calendar.now c.loop-place.calendar c.note.new.self c.loop-place.invariant.ticks c.note.ensures.ticks;
     }
 
 pub returns-clause-notes : goal.returns-clause-notes

@@ -6,7 +6,7 @@ use Rattle.std.proofs.lemmas.Option.{slice_get_within}
 use Rattle.cmb_words.specs.declared.changed.Changed.{Changed}
 use Rattle.cmb_engine.specs.Inner.Lines.{NotesEach, Follows, IsOfFollower, IsOfLine}
 use Rattle.cmb_engine.proofs.LineFacts.{line-none, line-parts, line-before, line-last, rises-within}
-use Rattle.cmb_engine.proofs.NoteFacts.{days-on, days-same, notes-none, notes-more}
+use Rattle.cmb_engine.proofs.NoteFacts.{ticks-on, ticks-same, notes-none, notes-more}
 use Rattle.cmb_engine.proofs.lines.note_lines.Goals as goal
 
 pub of-numbers-requires : goal.of-numbers-requires
@@ -30,7 +30,7 @@ pub loop-one-init : goal.loop-one-init
 loop-one-init c = record {
   notes = notes-none (IsOfLine [] c.args.lines.now (length c.args.followers.now) c.args.to c.args.first) c.args.calendar.now
       (line-none c.args.lines.now (length c.args.followers.now) c.args.to c.args.first);
-  days = days-same c.args.calendar.now;
+  ticks = ticks-same c.args.calendar.now;
 }
 
 pub loop-one-preserved : goal.loop-one-preserved
@@ -50,14 +50,14 @@ loop-one-preserved c =
           (IsOfLine (take i c.args.changed.now) c.args.lines.now nets c.args.to c.args.first)
           (IsOfFollower one.word c.of-numbers.result.now c.args.lines.now nets c.args.to c.args.first)
           (IsOfLine (take (i + 1) c.args.changed.now) c.args.lines.now nets c.args.to c.args.first)
-          c.args.calendar.now c.loop-one.calendar c.note_followers.new.calendar c.loop-one.invariant.days.horizon
+          c.args.calendar.now c.loop-one.calendar c.note_followers.new.calendar c.loop-one.invariant.ticks.horizon
           (line-parts c.args.changed.now i one small c.one-item.is c.args.lines.now nets c.args.to c.args.first c.of-numbers.result.now follow)
           (line-before c.args.changed.now i one small c.one-item.is c.args.lines.now nets c.args.to c.args.first c.of-numbers.result.now follow)
           (line-last c.args.changed.now i one small c.one-item.is c.args.lines.now nets c.args.to c.args.first c.of-numbers.result.now follow)
           c.loop-one.invariant.notes
           (subst (λ (n : ℕ). NotesEach (IsOfFollower one.word c.of-numbers.result.now c.args.lines.now n c.args.to c.args.first) c.loop-one.calendar c.note_followers.new.calendar)
           c.len-nets.ensures c.in_ok-note_followers.ensures.notes);
-      days = days-on c.args.calendar.now c.loop-one.calendar c.note_followers.new.calendar c.loop-one.invariant.days c.note_followers.ensures.days;
+      ticks = ticks-on c.args.calendar.now c.loop-one.calendar c.note_followers.new.calendar c.loop-one.invariant.ticks c.note_followers.ensures.ticks;
     }
 
 pub returns-clause-notes : goal.returns-clause-notes

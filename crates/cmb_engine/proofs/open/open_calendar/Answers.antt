@@ -27,5 +27,5 @@ returns-clause-ahead c =
     subst (λ (n : ℕ). NotesEach (IsOfStart words lines n) c.note_stimuli.new.calendar c.note_starts.new.calendar) nets
     (subst (λ (ls : List Pin). NotesEach (IsOfStart words ls c.len.result) c.note_stimuli.new.calendar c.note_starts.new.calendar) c.deref.ensures.value c.in_ok-note_starts.ensures.notes) in
     starts-ahead design roles lines wiring.most c.args.circuit.now.width wiring.cells c.requires.circuit.plan words shows
-    c.in_ok-calendar.calendar c.note_stimuli.new.calendar c.note_starts.new.calendar c.in_ok-calendar.ensures.tells c.in_ok-calendar.ensures.width
-    (c.in_ok-calendar.ensures.horizon ∙ c.horizon.ensures.value) c.in_ok-calendar.ensures.day c.note_stimuli.ensures.days c.note_starts.ensures.days inputs starts
+    c.in_ok-calendar.calendar c.note_stimuli.new.calendar c.note_starts.new.calendar c.in_ok-calendar.ensures.tells
+    (c.in_ok-calendar.ensures.horizon ∙ c.horizon.ensures.value) c.in_ok-calendar.ensures.clock c.note_stimuli.ensures.ticks c.note_starts.ensures.ticks inputs starts

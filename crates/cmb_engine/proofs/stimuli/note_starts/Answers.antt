@@ -6,13 +6,13 @@ use denote.Enum.Bare.{sameb}
 use Rattle.cmb_wave.specs.contracts.level.Level.{the_type}
 use Rattle.cmb_wave.specs.declared.level.Level.{Level}
 use Rattle.cmb_wave.specs.declared.level.Level.TheVariants.{Zero, One, X}
-use Rattle.cmb_calendar.specs.Calendars.{Calendar, Notes, SameDays}
+use Rattle.cmb_calendar.specs.Calendars.{Calendar, Notes, SameTicks}
 use Rattle.cmb_calendar.specs.declared.tell.Tell.{Tell}
 use Rattle.cmb_engine.specs.Inner.Lines.{NotesEach}
 use Rattle.cmb_engine.specs.Inner.Starts.{IsOfStart}
 use Rattle.cmb_engine.specs.Inner.Words.{levels_of}
 use Rattle.cmb_engine.specs.declared.cell.Pin.{Pin}
-use Rattle.cmb_engine.proofs.NoteFacts.{days-on, notes-as, notes-more, notes-one}
+use Rattle.cmb_engine.proofs.NoteFacts.{ticks-on, notes-as, notes-more, notes-one}
 use Rattle.cmb_engine.proofs.WordFacts.{levels_of-read}
 use Rattle.cmb_engine.proofs.stimuli.note_starts.Goals as goal
 use Rattle.cmb_engine.proofs.stimuli.note_starts.Goals.{then-ne+in_ok-note, else-ne}
@@ -90,18 +90,18 @@ loop-number-preserved c =
           λ unknown. false≢true (sym (c.ne.ensures ∙ ap (λ (l : Level). not (sameb the_type l X)) (sym level ∙ unknown)) ∙ w.if-ne.true) in
           record {
             notes = subst (λ (calendar : Calendar). NotesEach (IsBelow words lines c.args.nets (c.loop-number.number + 1)) old calendar) (sym w.calendar-is)
-                (starts-noted words lines c.args.nets c.loop-number.number none c.loop-number-test.true old c.loop-number.calendar w.note.new.self c.loop-number.invariant.days.horizon
+                (starts-noted words lines c.args.nets c.loop-number.number none c.loop-number-test.true old c.loop-number.calendar w.note.new.self c.loop-number.invariant.ticks.horizon
                 c.loop-number.invariant.notes known
                 (subst (λ (l : Level). Notes c.loop-number.calendar w.note.new.self (start_to line c.args.nets c.loop-number.number l)) (sym level) w.in_ok-note.ensures.notes));
-            days = subst (λ (calendar : Calendar). SameDays old calendar) (sym w.calendar-is) (days-on old c.loop-number.calendar w.note.new.self c.loop-number.invariant.days w.note.ensures.days);
+            ticks = subst (λ (calendar : Calendar). SameTicks old calendar) (sym w.calendar-is) (ticks-on old c.loop-number.calendar w.note.new.self c.loop-number.invariant.ticks w.note.ensures.ticks);
           }
       | else-ne w ↦
           let unknown : words line.net 63 ≡ X = level ∙ x-where c.level-level.result (sym c.ne.ensures ∙ w.if-ne.false) in
           record {
             notes = subst (λ (calendar : Calendar). NotesEach (IsBelow words lines c.args.nets (c.loop-number.number + 1)) old calendar) (sym w.calendar-is)
-                (starts-passed words lines c.args.nets c.loop-number.number none c.loop-number-test.true old c.loop-number.calendar c.loop-number.calendar c.loop-number.invariant.days.horizon
+                (starts-passed words lines c.args.nets c.loop-number.number none c.loop-number-test.true old c.loop-number.calendar c.loop-number.calendar c.loop-number.invariant.ticks.horizon
                 c.loop-number.invariant.notes unknown);
-            days = subst (λ (calendar : Calendar). SameDays old calendar) (sym w.calendar-is) c.loop-number.invariant.days;
+            ticks = subst (λ (calendar : Calendar). SameTicks old calendar) (sym w.calendar-is) c.loop-number.invariant.ticks;
           }
     ]
 

@@ -1,13 +1,13 @@
 use Rattle.std.proofs.Common.{◌+◌, ◌<◌, List, subst, sym, ap, ◌∙◌, arith, length}
 use Rattle.std.proofs.lemmas.Bool.{false≢true}
 use Rattle.cmb_netlist.specs.Netlist.{Netlist}
-use Rattle.cmb_calendar.specs.Calendars.{Calendar, SameDays}
+use Rattle.cmb_calendar.specs.Calendars.{Calendar, SameTicks}
 use Rattle.cmb_design.specs.Design.{Design}
 use Rattle.cmb_design.specs.Exact.{nets_of}
 use Rattle.cmb_engine.specs.Inner.Lines.{NotesEach}
 use Rattle.cmb_engine.specs.Inner.Starts.{IsOfInput}
 use Rattle.cmb_engine.specs.declared.role.Role.{Role}
-use Rattle.cmb_engine.proofs.NoteFacts.{days-on}
+use Rattle.cmb_engine.proofs.NoteFacts.{ticks-on}
 use Rattle.cmb_engine.proofs.StimulusFacts.{inputs-all, inputs-noted, inputs-passed}
 use Rattle.cmb_engine.proofs.stimuli.note_stimuli.Goals as goal
 use Rattle.cmb_engine.proofs.stimuli.note_stimuli.Goals.{then-is_driven_input+in_ok-note_stimulus, else-is_driven_input}
@@ -22,15 +22,15 @@ loop-net-preserved c =
     elim c.if-is_driven_input.branch [
       | then-is_driven_input+in_ok-note_stimulus w ↦ record {
         notes = subst (λ (calendar : Calendar). NotesEach (λ tell. IsOfInput design roles tell × (tell.slot < c.loop-net.net + 1)) old calendar) (sym w.calendar-is)
-            (inputs-noted design roles c.loop-net.net old c.loop-net.calendar w.note_stimulus.new.calendar c.loop-net.invariant.days.horizon c.loop-net.invariant.notes inside
+            (inputs-noted design roles c.loop-net.net old c.loop-net.calendar w.note_stimulus.new.calendar c.loop-net.invariant.ticks.horizon c.loop-net.invariant.notes inside
             (c.is_driven_input.ensures.so w.if-is_driven_input.true) w.in_ok-note_stimulus.ensures.notes);
-        days = subst (λ (calendar : Calendar). SameDays old calendar) (sym w.calendar-is) (days-on old c.loop-net.calendar w.note_stimulus.new.calendar c.loop-net.invariant.days w.note_stimulus.ensures.days);
+        ticks = subst (λ (calendar : Calendar). SameTicks old calendar) (sym w.calendar-is) (ticks-on old c.loop-net.calendar w.note_stimulus.new.calendar c.loop-net.invariant.ticks w.note_stimulus.ensures.ticks);
       }
       | else-is_driven_input w ↦ record {
         notes = subst (λ (calendar : Calendar). NotesEach (λ tell. IsOfInput design roles tell × (tell.slot < c.loop-net.net + 1)) old calendar) (sym w.calendar-is)
-            (inputs-passed design roles c.loop-net.net old c.loop-net.calendar c.loop-net.calendar c.loop-net.invariant.days.horizon c.loop-net.invariant.notes
+            (inputs-passed design roles c.loop-net.net old c.loop-net.calendar c.loop-net.calendar c.loop-net.invariant.ticks.horizon c.loop-net.invariant.notes
             (λ is driven. false≢true (sym w.if-is_driven_input.false ∙ c.is_driven_input.ensures.all is driven)));
-        days = subst (λ (calendar : Calendar). SameDays old calendar) (sym w.calendar-is) c.loop-net.invariant.days;
+        ticks = subst (λ (calendar : Calendar). SameTicks old calendar) (sym w.calendar-is) c.loop-net.invariant.ticks;
       }
     ]
 

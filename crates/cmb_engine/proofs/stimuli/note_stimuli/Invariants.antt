@@ -1,5 +1,5 @@
 use Rattle.std.proofs.Common.{◌<◌}
-use Rattle.cmb_calendar.specs.Calendars.{SameDays}
+use Rattle.cmb_calendar.specs.Calendars.{SameTicks}
 use Rattle.cmb_engine.specs.Inner.Lines.{NotesEach}
 use Rattle.cmb_engine.specs.Inner.Starts.{IsOfInput}
 use Rattle.cmb_engine.proofs.stimuli.note_stimuli.Given as goal
@@ -7,5 +7,5 @@ use Rattle.cmb_engine.proofs.stimuli.note_stimuli.Given as goal
 abbrev pub invariant-loop-net : goal.invariant-loop-net
 invariant-loop-net l = record {
   notes : NotesEach (λ tell. IsOfInput l.design l.roles tell × (tell.slot < l.net)) l.initial.calendar l.calendar;
-  days : SameDays l.initial.calendar l.calendar;
+  ticks : SameTicks l.initial.calendar l.calendar;
 }

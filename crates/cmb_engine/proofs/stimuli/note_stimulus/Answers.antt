@@ -2,9 +2,9 @@ use Rattle.std.proofs.Common.{◌≡◌, ◌+◌, take, subst, sym, ◌∙◌, a
 use Rattle.std.proofs.lemmas.List.{take_all}
 use Rattle.cmb_wave.specs.declared.level.Change.{Change}
 use Rattle.cmb_wave.specs.declared.level.Level.TheVariants.{Zero}
-use Rattle.cmb_calendar.specs.Calendars.{Calendar, SameDays}
+use Rattle.cmb_calendar.specs.Calendars.{Calendar, SameTicks}
 use Rattle.cmb_engine.specs.Inner.Lines.{NotesEach}
-use Rattle.cmb_engine.proofs.NoteFacts.{days-on}
+use Rattle.cmb_engine.proofs.NoteFacts.{ticks-on}
 use Rattle.cmb_engine.proofs.StimulusFacts.{IsOfChanges, changes-noted, changes-passed, changes-are_stimulus}
 use Rattle.cmb_engine.proofs.stimuli.note_stimulus.Goals as goal
 use Rattle.cmb_engine.proofs.stimuli.note_stimulus.Goals.{then-change-gt0+in_ok-note, else-change-gt0}
@@ -20,15 +20,15 @@ loop-change-preserved c =
     elim c.if-change-gt0.branch [
       | then-change-gt0+in_ok-note w ↦ record {
         notes = subst (λ (calendar : Calendar). NotesEach (IsOfChanges (take (c.loop-change.change-index + 1) changes) c.args.net) old calendar) (sym w.calendar-is)
-            (changes-noted changes c.loop-change.change-index none c.args.net c.loop-change-test.true old c.loop-change.calendar w.note.new.self c.loop-change.invariant.days.horizon
+            (changes-noted changes c.loop-change.change-index none c.args.net c.loop-change-test.true old c.loop-change.calendar w.note.new.self c.loop-change.invariant.ticks.horizon
             c.loop-change.invariant.notes w.if-change-gt0.true w.in_ok-note.ensures.notes);
-        days = subst (λ (calendar : Calendar). SameDays old calendar) (sym w.calendar-is) (days-on old c.loop-change.calendar w.note.new.self c.loop-change.invariant.days w.note.ensures.days);
+        ticks = subst (λ (calendar : Calendar). SameTicks old calendar) (sym w.calendar-is) (ticks-on old c.loop-change.calendar w.note.new.self c.loop-change.invariant.ticks w.note.ensures.ticks);
       }
       | else-change-gt0 w ↦ record {
         notes = subst (λ (calendar : Calendar). NotesEach (IsOfChanges (take (c.loop-change.change-index + 1) changes) c.args.net) old calendar) (sym w.calendar-is)
-            (changes-passed changes c.loop-change.change-index none c.args.net c.loop-change-test.true old c.loop-change.calendar c.loop-change.calendar c.loop-change.invariant.days.horizon
+            (changes-passed changes c.loop-change.change-index none c.args.net c.loop-change-test.true old c.loop-change.calendar c.loop-change.calendar c.loop-change.invariant.ticks.horizon
             c.loop-change.invariant.notes (omega (arith, w.if-change-gt0.false)));
-        days = subst (λ (calendar : Calendar). SameDays old calendar) (sym w.calendar-is) c.loop-change.invariant.days;
+        ticks = subst (λ (calendar : Calendar). SameTicks old calendar) (sym w.calendar-is) c.loop-change.invariant.ticks;
       }
     ]
 

@@ -1,5 +1,5 @@
 use Rattle.std.proofs.Common.{take}
-use Rattle.cmb_calendar.specs.Calendars.{SameDays}
+use Rattle.cmb_calendar.specs.Calendars.{SameTicks}
 use Rattle.cmb_engine.specs.Inner.Lines.{NotesEach}
 use Rattle.cmb_engine.proofs.StimulusFacts.{IsOfChanges}
 use Rattle.cmb_engine.proofs.stimuli.note_stimulus.Given as goal
@@ -7,5 +7,5 @@ use Rattle.cmb_engine.proofs.stimuli.note_stimulus.Given as goal
 abbrev pub invariant-loop-change : goal.invariant-loop-change
 invariant-loop-change l = record {
   notes : NotesEach (IsOfChanges (take l.change-index l.change-items) l.net) l.initial.calendar l.calendar;
-  days : SameDays l.initial.calendar l.calendar;
+  ticks : SameTicks l.initial.calendar l.calendar;
 }

@@ -5,4 +5,4 @@ use Rattle.cmb_calendar.proofs.DayFacts.{tells-none}
 use Rattle.cmb_calendar.proofs.calendar.Calendar.open.Goals as goal
 
 pub returns-clause-tells : goal.returns-clause-tells
-returns-clause-tells c = ap (λ (lists : List (List Tell)). tells_of lists) c.in_ok-days.ensures ∙ tells-none (c.args.horizon / c.args.width + 1)
+returns-clause-tells c = ap (λ (lists : List (List Tell)). tells_of lists) c.in_ok-days.ensures ∙ tells-none (c.args.horizon / 64 + 1)

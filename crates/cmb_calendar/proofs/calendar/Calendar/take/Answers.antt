@@ -1,40 +1,57 @@
-use Rattle.std.proofs.Common.{◌≡◌, ◌+◌, ◌*◌, ◌<◌, ◌↔◌, [], List, Vec, Global, Result, Ok, Err, length, get_or, set, refl, subst, ap, ◌∙◌, arith}
+use Rattle.std.proofs.Common.{◌≡◌, ℕ, ◌+◌, ◌/◌, ◌<◌, ◌≤◌, ◌↔◌, List, Vec, Global, length, refl, sym, subst, ap, ◌∙◌, arith}
 use Rattle.std.specs.List.{Contains}
-use Rattle.std.specs.Prelude.{OnOk}
 use Rattle.std.specs.Vec.{with_items}
-use Rattle.std.proofs.lemmas.List.{with_items_is}
+use Rattle.std.proofs.lemmas.List.{length-map, with_items_is}
 use Rattle.cmb_calendar.specs.Calendars.{Calendar, Takes}
-use Rattle.cmb_calendar.specs.Inner.Days.{tells_of}
+use Rattle.cmb_calendar.specs.Inner.Days.{Clears, IsEarly, tells_of}
 use Rattle.cmb_calendar.specs.declared.tell.Tell.{Tell}
-use Rattle.cmb_calendar.proofs.DayFacts.{lists_of, tells-early, tells-late}
+use Rattle.cmb_calendar.proofs.DayFacts.{lists_of, days-less, tells-early, tells-late}
 use Rattle.cmb_calendar.proofs.calendar.Calendar.take.Goals as goal
 
-whether : {T E P : Type 0} (result : Result T E) → P → OnOk result P
-whether (Ok x) p = p
-whether (Err e) p = tt
+same-length : (old new : List (Vec Tell Global)) → length (lists_of new) ≡ length (lists_of old) → length new ≡ length old
+same-length old new e = sym (length-map new (λ (list : Vec Tell Global). list.items)) ∙ e ∙ length-map old (λ (list : Vec Tell Global). list.items)
+
+-- the lists of days that were written back
+cleared : (days : Vec (Vec Tell Global) Global) (old new : List (Vec Tell Global)) (first end upto : ℕ) → old ≡ days.items → Clears first end upto (lists_of old) (lists_of new)
+    → Clears first end upto (lists_of days.items) (lists_of (with_items days new).items)
+cleared days old new first end upto same clears =
+    let count : length new ≡ days.len = omega (arith, same-length old new clears.len, ap length same, days.ok) in
+    let back : (with_items days new).items ≡ new = with_items_is days new count in
+    subst (λ (items : List (Vec Tell Global)). Clears first end upto (lists_of days.items) (lists_of items)) (sym back)
+    (subst (λ (items : List (Vec Tell Global)). Clears first end upto (lists_of items) (lists_of new)) same clears)
+
+pub invariant_of-self : goal.invariant_of-self
+invariant_of-self c =
+    let within : c.args.upto ≤ c.self.inside.horizon = subst (λ (calendar : Calendar). c.args.upto ≤ calendar.horizon) (sym c.self.view_is) c.requires.within in
+    let later : c.self.inside.clock ≤ c.args.upto = subst (λ (calendar : Calendar). calendar.clock ≤ c.args.upto) (sym c.self.view_is) c.requires.later in
+    days-less c.self.inside.horizon c.self.inside.clock (lists_of c.self.inside.days.items) c.self.invariant c.args.upto later within
+    (lists_of (with_items c.self.inside.days c.remove_early.new.days).items)
+    (cleared c.self.inside.days c.deref_mut.result.now c.remove_early.new.days _ _ c.args.upto c.deref_mut.ensures.value c.remove_early.ensures)
 
 pub returns-clause-takes : goal.returns-clause-takes
 returns-clause-takes c =
-    let width = c.self.inside.width in
-    let day = c.self.inside.day in
+    let horizon = c.self.inside.horizon in
+    let clock = c.self.inside.clock in
+    let upto = c.args.upto in
+    let within : upto ≤ horizon = subst (λ (calendar : Calendar). upto ≤ calendar.horizon) (sym c.self.view_is) c.requires.within in
+    let later : clock ≤ upto = subst (λ (calendar : Calendar). calendar.clock ≤ upto) (sym c.self.view_is) c.requires.later in
     let before : List (List Tell) = lists_of c.self.inside.days.items in
-    let lists : List (List Tell) = lists_of (with_items c.self.inside.days c.take_day.new.days).items in
-    let new : Calendar = record { width = width; horizon = c.self.inside.horizon; day = day + 1; tells = tells_of lists } in
-    let left : lists ≡ set before day [] =
-    ap lists_of (with_items_is c.self.inside.days c.take_day.new.days (omega (arith, ap length c.deref_mut.ensures.value)))
-    ∙ c.take_day.ensures.left ∙ ap (λ (days : List (Vec Tell Global)). set (lists_of days) day []) c.deref_mut.ensures.value in
-    let list : c.take_day.new.taken.items ≡ get_or before day [] =
-    c.take_day.ensures.taken ∙ ap (λ (days : List (Vec Tell Global)). get_or (lists_of days) day []) c.deref_mut.ensures.value in
-    let early : (tell : Tell) → Contains (get_or before day []) tell ↔ (Contains (tells_of before) tell × (tell.tick < (day + 1) * width)) =
-    λ tell. tells-early width c.self.inside.horizon day before c.self.invariant lists left tell in
-    let taken : (tell : Tell) → Contains c.put_in_order.new.tells.items tell ↔ Contains (get_or before day []) tell =
-    λ tell. subst (λ (tells : List Tell). Contains c.put_in_order.new.tells.items tell ↔ Contains tells tell) list (c.put_in_order.ensures.same tell) in
-    whether c.put_in_order.result
-    (subst (λ (old : Calendar). Takes old new c.put_in_order.new.tells.items) c.self.view_is
+    let lists : List (List Tell) = lists_of (with_items c.self.inside.days c.remove_early.new.days).items in
+    let new : Calendar = record { horizon = horizon; clock = upto; tells = tells_of lists } in
+    let clears : Clears (clock / 64) (upto / 64 + 1) upto before lists =
+    cleared c.self.inside.days c.deref_mut.result.now c.remove_early.new.days _ _ upto c.deref_mut.ensures.value c.remove_early.ensures in
+    let collected : (tell : Tell) → Contains c.collect_early.new.taken.items tell ↔ IsEarly before (clock / 64) (upto / 64 + 1) upto tell =
+    subst (λ (days : List (Vec Tell Global)). (tell : Tell) → Contains c.collect_early.new.taken.items tell ↔ IsEarly (lists_of days) (clock / 64) (upto / 64 + 1) upto tell)
+    c.deref.ensures.value c.in_ok-collect_early.ensures in
+    let early : (tell : Tell) → IsEarly before (clock / 64) (upto / 64 + 1) upto tell ↔ (Contains (tells_of before) tell × (tell.tick < upto)) =
+    λ tell. tells-early horizon clock before c.self.invariant upto later within tell in
+    subst (λ (old : Calendar). Takes upto old new c.put_in_order.new.tells.items) c.self.view_is
     (record {
-      early = λ tell. (λ has. (early tell).0 ((taken tell).0 has), λ both. (taken tell).1 ((early tell).1 both));
-      late = λ tell. tells-late width c.self.inside.horizon day before c.self.invariant lists left tell;
-      day = refl;
-      width = refl;
+      early = λ tell. (
+        λ has. (early tell).0 ((collected tell).0 ((c.put_in_order.ensures.same tell).0 has)),
+        λ both. (c.put_in_order.ensures.same tell).1 ((collected tell).1 ((early tell).1 both)),
+      );
+      late = λ tell. tells-late horizon clock before c.self.invariant upto later within lists clears tell;
+      clock = refl;
       horizon = refl;
-    }))
+    })

@@ -1,19 +1,23 @@
-use Rattle.std.proofs.Common.{subst}
+use Rattle.std.proofs.Common.{sym, ap, subst, ◌∙◌}
+use Rattle.cmb_design.specs.Design.{Design}
 use Rattle.cmb_design.specs.Exact.{nets_of}
 use Rattle.cmb_design.specs.Value.{value}
 use Rattle.cmb_words.specs.Changes.{Tells}
 use Rattle.cmb_engine.specs.Engines.{Engine}
-use Rattle.cmb_engine.specs.Shares.{share_clock}
 use Rattle.cmb_engine.proofs.ShareFacts.{all-told, drives-on, none-given}
 use Rattle.cmb_engine.proofs.engine.Engine.advance.Goals as goal
 
 pub advance-requires-clause-given : goal.advance-requires-clause-given
-advance-requires-clause-given c = none-given c.self.inside.share (value c.self.inside.share.design) c.self.inside.share.clock (share_clock c.self.inside.share) c.self.invariant
+advance-requires-clause-given c = none-given c.self.inside.share (value c.self.inside.share.design) c.self.inside.share.clock c.args.upto c.self.invariant.drives
 
 pub invariant_of-result : goal.invariant_of-result
-invariant_of-result c = drives-on c.self.inside.share c.in_ok-share.share c.in_ok-share.ensures.design c.in_ok-share.ensures.driven c.self.invariant
+invariant_of-result c = record {
+  drives = drives-on c.self.inside.share c.in-Ok.share c.in-Ok.ensures.design c.in-Ok.ensures.driven c.self.invariant.drives;
+  width = c.self.invariant.width ∙ sym c.in-Ok.ensures.width;
+  horizon = c.self.invariant.horizon ∙ ap (λ (design : Design). design.horizon) (sym c.in-Ok.ensures.design);
+}
 
-pub returns-clause-tells : goal.returns-clause-tells
-returns-clause-tells c =
-    subst (λ (e : Engine). Tells (value e.design) (nets_of e.design) e.clock c.in_ok-share.share.clock c.advance.new.changed.items) c.self.view_is
-    (all-told c.self.inside.share c.self.inside.share.clock c.in_ok-share.share.clock c.advance.new.changed.items c.self.invariant c.in_ok-share.ensures.window.nets c.in_ok-share.ensures.tells)
+pub returns-in-Ok-clause-tells : goal.returns-in-Ok-clause-tells
+returns-in-Ok-clause-tells c =
+    subst (λ (e : Engine). Tells (value e.design) (nets_of e.design) e.clock c.in-Ok.share.clock c.advance.new.changed.items) c.self.view_is
+    (all-told c.self.inside.share c.self.inside.share.clock c.in-Ok.share.clock c.advance.new.changed.items c.self.invariant.drives c.in-Ok.ensures.window.nets c.in-Ok.ensures.tells)

@@ -1,8 +1,8 @@
-use Rattle.std.proofs.Common.{◌<◌, ◌∙◌, ap, subst, sym}
+use Rattle.std.proofs.Common.{◌+◌, ◌<◌, ◌≤◌, ap, subst, sym}
 use Rattle.cmb_design.specs.Exact.{nets_of}
 use Rattle.cmb_words.specs.Changes.{IsWindow}
 use Rattle.cmb_design.specs.Value.{value}
-use Rattle.cmb_engine.specs.Shares.{IsDriven, IsGiven, ShareEngine, TellsThose, share_clock}
+use Rattle.cmb_engine.specs.Shares.{IsDriven, IsGiven, ShareEngine, TellsThose}
 use Rattle.cmb_engine.proofs.RoleFacts.{share-tells}
 use Rattle.cmb_engine.proofs.share.ShareEngine.advance.Goals as goal
 
@@ -14,13 +14,19 @@ returns-in-Ok-clause-tells c =
 
 pub advance-requires-clause-given : goal.advance-requires-clause-given
 advance-requires-clause-given c =
-    let Told : ShareEngine → Type 0 = λ e. TellsThose (IsGiven e.design e.driven) (value e.design) e.clock (share_clock e) c.args.given.now in
+    let Told : ShareEngine → Type 0 = λ e. TellsThose (IsGiven e.design e.driven) (value e.design) e.clock c.args.upto c.args.given.now in
     let told = subst Told (sym c.self.view_is) c.requires.given in
     let given = c.self.invariant.2.gifts in
     record { words = λ one here gives. told.words one here (given one.net gives); others = λ net gives none. told.others net (given net gives) none }
 
-pub advance-requires-clause-below : goal.advance-requires-clause-below
-advance-requires-clause-below c = subst (λ (e : ShareEngine). e.clock < e.design.horizon) (sym c.self.view_is) c.requires.below
+pub advance-requires-clause-later : goal.advance-requires-clause-later
+advance-requires-clause-later c = subst (λ (e : ShareEngine). e.clock < c.args.upto) (sym c.self.view_is) c.requires.later
+
+pub advance-requires-clause-short : goal.advance-requires-clause-short
+advance-requires-clause-short c = subst (λ (e : ShareEngine). c.args.upto ≤ e.clock + e.width) (sym c.self.view_is) c.requires.short
+
+pub advance-requires-clause-within : goal.advance-requires-clause-within
+advance-requires-clause-within c = subst (λ (e : ShareEngine). c.args.upto ≤ e.design.horizon) (sym c.self.view_is) c.requires.within
 
 pub returns-in-Ok-clause-design : goal.returns-in-Ok-clause-design
 returns-in-Ok-clause-design c = ap (λ (e : ShareEngine). e.design) c.self.view_is
@@ -30,9 +36,6 @@ returns-in-Ok-clause-driven c = ap (λ (e : ShareEngine). e.driven) c.self.view_
 
 pub returns-in-Ok-clause-width : goal.returns-in-Ok-clause-width
 returns-in-Ok-clause-width c = ap (λ (e : ShareEngine). e.width) c.self.view_is
-
-pub returns-in-Ok-clause-clock : goal.returns-in-Ok-clause-clock
-returns-in-Ok-clause-clock c = c.in-Ok.ensures.clock ∙ ap share_clock c.self.view_is
 
 pub returns-in-Ok-clause-window : goal.returns-in-Ok-clause-window
 returns-in-Ok-clause-window c =

@@ -4,27 +4,25 @@ use Rattle.std.proofs.lemmas.List.{with_items_is}
 use Rattle.std.proofs.lemmas.Result.{on_ok_weaker}
 use Rattle.cmb_calendar.specs.declared.tell.Tell.{Tell}
 use Rattle.cmb_design.specs.Exact.{nets_of}
-use Rattle.cmb_design.specs.Value.{value}
 use Rattle.cmb_words.specs.declared.changed.Changed.{Changed}
 use Rattle.cmb_words.specs.declared.word.Word.{Word}
 use Rattle.cmb_words.specs.Changes.{RisesWithin, is_among}
 use Rattle.cmb_engine.specs.Inner.Bits.{has}
 use Rattle.cmb_engine.specs.Inner.Cells.{IsSteadyFrom}
 use Rattle.cmb_engine.specs.Inner.Circuits.{AreQuiet, Shows}
-use Rattle.cmb_engine.specs.Inner.Gifts.{AreGiven}
 use Rattle.cmb_engine.specs.Inner.Lines.{AreFollowers, IsAhead, IsOfLine, NotesEach}
 use Rattle.cmb_engine.specs.Inner.Traces.{trace_of}
 use Rattle.cmb_engine.specs.Inner.Words.{levels_of}
 use Rattle.cmb_engine.specs.declared.cell.Pin.{Pin}
 use Rattle.cmb_engine.proofs.CollectFacts.{HasWord}
-use Rattle.cmb_engine.proofs.EngineFacts.{at-end, before-horizon, gift-slots, later, lines-ahead, next-ahead, next-shows, told-slots, window-changes}
+use Rattle.cmb_engine.proofs.EngineFacts.{gift-slots, lines-ahead, next-ahead, next-shows, told-slots, window-changes}
 use Rattle.cmb_engine.proofs.state.State.advance.Goals as goal
 use Rattle.cmb_engine.proofs.state.State.advance.Goals.{After-note_lines}
 
 pub go_on-requires-clause-told : goal.go_on-requires-clause-told
 go_on-requires-clause-told c = λ tell h.
     let told = told-slots c.args.design.now c.args.circuit.now c.args.self.now c.requires.circuit c.requires.state c.take.new.self c.take.new.taken.items
-    c.next_day-to.result c.requires.below c.next_day-to.ensures c.in_ok-take.ensures.takes c.in_ok-take.ensures.order tell
+    c.args.upto c.requires.later c.requires.short c.requires.within c.in_ok-take.ensures.takes c.in_ok-take.ensures.order tell
     (subst (λ (xs : List Tell). Contains xs tell) c.deref.ensures.value h) in
     (omega (arith, told.0, c.requires.state.slots, ap length c.deref_mut.ensures.value), told.1, told.2, told.3)
 
@@ -33,9 +31,9 @@ go_on-requires-clause-gives c = gift-slots c.args.design.now c.args.circuit.now 
 
 pub note_lines-requires-clause-ahead : goal.note_lines-requires-clause-ahead
 note_lines-requires-clause-ahead c =
-    subst (λ (lines : List Pin). All (IsAhead c.take.new.self c.next_day-to.result (64 - (c.next_day-to.result - c.args.self.now.clock))) lines) (sym c.deref-4.ensures.value)
-    (lines-ahead c.args.design.now c.args.circuit.now c.args.self.now c.requires.circuit c.requires.state c.take.new.self c.take.new.taken.items c.next_day-to.result
-    c.requires.below c.next_day-to.ensures c.in_ok-take.ensures.takes)
+    subst (λ (lines : List Pin). All (IsAhead c.take.new.self c.args.upto (64 - (c.args.upto - c.args.self.now.clock))) lines) (sym c.deref-4.ensures.value)
+    (lines-ahead c.args.design.now c.args.circuit.now c.args.self.now c.requires.circuit c.requires.state c.take.new.self c.take.new.taken.items c.args.upto
+    c.requires.later c.requires.short c.requires.within c.in_ok-take.ensures.takes)
 
 pub go_on-requires-clause-wiring : goal.go_on-requires-clause-wiring
 go_on-requires-clause-wiring c = c.requires.circuit.wires
@@ -86,17 +84,10 @@ module _ (c : After-note_lines) where
   nets : c.len.result ≡ nets_of c.args.design.now
   nets = c.len.ensures.value ∙ ap (λ n. length n.names) c.netlist.ensures
 
-  -- what is given is given up to the window's end
-  given : AreGiven (value c.args.design.now) c.args.circuit.now.wiring.roles.items c.args.self.now.clock c.next_day-to.result c.args.given.now
-  given =
-      subst (λ (to : ℕ). AreGiven (value c.args.design.now) c.args.circuit.now.wiring.roles.items c.args.self.now.clock to c.args.given.now)
-      (sym (at-end c.args.design.now c.args.circuit.now c.args.self.now c.requires.circuit c.requires.state c.take.new.self c.take.new.taken.items c.next_day-to.result
-      c.requires.below c.next_day-to.ensures c.in_ok-take.ensures.takes)) c.requires.given
-
-  shows : Shows (levels_of c.go_on.new.words) (trace_of c.args.design.now c.args.circuit.now.wiring.roles.items c.args.circuit.now.lines.items) (length c.args.circuit.now.wiring.cells) c.next_day-to.result
+  shows : Shows (levels_of c.go_on.new.words) (trace_of c.args.design.now c.args.circuit.now.wiring.roles.items c.args.circuit.now.lines.items) (length c.args.circuit.now.wiring.cells) c.args.upto
   shows =
-      next-shows c.args.design.now c.args.circuit.now c.args.self.now c.requires.circuit c.requires.state c.take.new.self c.take.new.taken.items c.next_day-to.result
-      c.requires.below c.next_day-to.ensures c.in_ok-take.ensures.takes c.deref_mut.result.now c.go_on.new.words c.deref.result.now c.args.given.now given c.deref_mut.ensures.value
+      next-shows c.args.design.now c.args.circuit.now c.args.self.now c.requires.circuit c.requires.state c.take.new.self c.take.new.taken.items c.args.upto
+      c.requires.later c.requires.short c.requires.within c.in_ok-take.ensures.takes c.deref_mut.result.now c.go_on.new.words c.deref.result.now c.args.given.now c.requires.given c.deref_mut.ensures.value
       c.deref.ensures.value c.in_ok-take.ensures.order c.go_on.ensures.shows
 
   rises : RisesWithin 0 (nets_of c.args.design.now) c.collect.new.changed.items
@@ -106,21 +97,21 @@ module _ (c : After-note_lines) where
   right = subst (λ (ws : List Word). All (HasWord (levels_of ws)) c.collect.new.changed.items) collected c.in_ok-collect.ensures.words
 
   others : (net : ℕ) → net < nets_of c.args.design.now → is_among net c.collect.new.changed.items ≡ false
-      → IsSteadyFrom (levels_of c.go_on.new.words net) (64 - (c.next_day-to.result - c.args.self.now.clock))
+      → IsSteadyFrom (levels_of c.go_on.new.words net) (64 - (c.args.upto - c.args.self.now.clock))
   others net small none =
-      subst (λ (ws : List Word). IsSteadyFrom (levels_of ws net) (64 - (c.next_day-to.result - c.args.self.now.clock))) collected
+      subst (λ (ws : List Word). IsSteadyFrom (levels_of ws net) (64 - (c.args.upto - c.args.self.now.clock))) collected
       (c.in_ok-collect.ensures.others net (omega (arith, small, nets)) none)
 
-  noted : NotesEach (IsOfLine c.deref-3.result.now c.deref-4.result.now (length c.args.circuit.now.followers) c.next_day-to.result (64 - (c.next_day-to.result - c.args.self.now.clock)))
+  noted : NotesEach (IsOfLine c.deref-3.result.now c.deref-4.result.now (length c.args.circuit.now.followers) c.args.upto (64 - (c.args.upto - c.args.self.now.clock)))
       c.take.new.self c.note_lines.new.calendar
-      → NotesEach (IsOfLine c.collect.new.changed.items c.args.circuit.now.lines.items (nets_of c.args.design.now) c.next_day-to.result (64 - (c.next_day-to.result - c.args.self.now.clock)))
+      → NotesEach (IsOfLine c.collect.new.changed.items c.args.circuit.now.lines.items (nets_of c.args.design.now) c.args.upto (64 - (c.args.upto - c.args.self.now.clock)))
       c.take.new.self c.note_lines.new.calendar
   noted notes =
-      subst (λ (n : ℕ). NotesEach (IsOfLine c.collect.new.changed.items c.args.circuit.now.lines.items n c.next_day-to.result (64 - (c.next_day-to.result - c.args.self.now.clock)))
+      subst (λ (n : ℕ). NotesEach (IsOfLine c.collect.new.changed.items c.args.circuit.now.lines.items n c.args.upto (64 - (c.args.upto - c.args.self.now.clock)))
       c.take.new.self c.note_lines.new.calendar) c.requires.circuit.follow.count
-      (subst (λ (lines : List Pin). NotesEach (IsOfLine c.collect.new.changed.items lines (length c.args.circuit.now.followers) c.next_day-to.result (64 - (c.next_day-to.result - c.args.self.now.clock)))
+      (subst (λ (lines : List Pin). NotesEach (IsOfLine c.collect.new.changed.items lines (length c.args.circuit.now.followers) c.args.upto (64 - (c.args.upto - c.args.self.now.clock)))
       c.take.new.self c.note_lines.new.calendar) c.deref-4.ensures.value
-      (subst (λ (changed : List Changed). NotesEach (IsOfLine changed c.deref-4.result.now (length c.args.circuit.now.followers) c.next_day-to.result (64 - (c.next_day-to.result - c.args.self.now.clock)))
+      (subst (λ (changed : List Changed). NotesEach (IsOfLine changed c.deref-4.result.now (length c.args.circuit.now.followers) c.args.upto (64 - (c.args.upto - c.args.self.now.clock)))
       c.take.new.self c.note_lines.new.calendar) c.deref-3.ensures.value notes))
 
 pub returns-clause-state : goal.returns-clause-state
@@ -130,30 +121,19 @@ returns-clause-state c =
       slots = ap length same ∙ c.go_on.ensures.len ∙ count c;
       live_room = omega (arith, c.go_on.ensures.live, c.requires.state.live_room);
       marks_room = omega (arith, c.go_on.ensures.room, c.requires.state.marks_room);
-      shows = subst (λ (ws : List Word). Shows (levels_of ws) (trace_of c.args.design.now c.args.circuit.now.wiring.roles.items c.args.circuit.now.lines.items) (length c.args.circuit.now.wiring.cells) c.next_day-to.result) (sym same) (shows c);
+      shows = subst (λ (ws : List Word). Shows (levels_of ws) (trace_of c.args.design.now c.args.circuit.now.wiring.roles.items c.args.circuit.now.lines.items) (length c.args.circuit.now.wiring.cells) c.args.upto) (sym same) (shows c);
       quiet = subst (λ (ws : List Word). AreQuiet (levels_of ws) (has c.go_on.new.live) (length c.args.circuit.now.wiring.cells)) (sym same)
           (subst (λ (n : ℕ). AreQuiet (levels_of c.go_on.new.words) (has c.go_on.new.live) n) (count c) c.go_on.ensures.quiet);
-      ahead = next-ahead c.args.design.now c.args.circuit.now c.args.self.now c.requires.circuit c.requires.state c.take.new.self c.take.new.taken.items c.next_day-to.result
-          c.requires.below c.next_day-to.ensures c.in_ok-take.ensures.takes c.go_on.new.words (shows c) c.collect.new.changed.items (rises c) (right c) (others c)
-          c.note_lines.new.calendar (noted c notes) c.note_lines.ensures.days.width c.note_lines.ensures.days.horizon c.note_lines.ensures.days.day;
-      begun = omega (
-        arith,
-        c.requires.state.begun,
-        later c.args.design.now c.args.circuit.now c.args.self.now c.requires.circuit c.requires.state c.take.new.self c.take.new.taken.items c.next_day-to.result c.requires.below c.next_day-to.ensures c.in_ok-take.ensures.takes,
-      );
-      within = before-horizon c.args.design.now c.args.circuit.now c.args.self.now c.requires.circuit c.requires.state c.take.new.self c.take.new.taken.items c.next_day-to.result c.requires.below c.next_day-to.ensures c.in_ok-take.ensures.takes;
+      ahead = next-ahead c.args.design.now c.args.circuit.now c.args.self.now c.requires.circuit c.requires.state c.take.new.self c.take.new.taken.items c.args.upto
+          c.requires.later c.requires.short c.requires.within c.in_ok-take.ensures.takes c.go_on.new.words (shows c) c.collect.new.changed.items (rises c) (right c) (others c)
+          c.note_lines.new.calendar (noted c notes) c.note_lines.ensures.ticks.horizon c.note_lines.ensures.ticks.clock;
+      begun = omega (arith, c.requires.state.begun, c.requires.later);
+      within = c.requires.within;
     }) c.note_lines.ensures.notes
 
 pub returns-clause-tells : goal.returns-clause-tells
 returns-clause-tells c =
     on_ok_weaker c.note_lines.result
-    (λ notes. window-changes c.args.design.now c.args.circuit.now c.args.self.now c.requires.circuit c.requires.state c.take.new.self c.take.new.taken.items c.next_day-to.result
-    c.requires.below c.next_day-to.ensures c.in_ok-take.ensures.takes c.go_on.new.words (shows c) c.collect.new.changed.items (rises c) (right c) (others c))
-    c.note_lines.ensures.notes
-
-pub returns-clause-clock : goal.returns-clause-clock
-returns-clause-clock c =
-    on_ok_weaker c.note_lines.result
-    (λ notes. at-end c.args.design.now c.args.circuit.now c.args.self.now c.requires.circuit c.requires.state c.take.new.self c.take.new.taken.items c.next_day-to.result
-    c.requires.below c.next_day-to.ensures c.in_ok-take.ensures.takes)
+    (λ notes. window-changes c.args.design.now c.args.circuit.now c.args.self.now c.requires.circuit c.requires.state c.take.new.self c.take.new.taken.items c.args.upto
+    c.requires.later c.requires.short c.requires.within c.in_ok-take.ensures.takes c.go_on.new.words (shows c) c.collect.new.changed.items (rises c) (right c) (others c))
     c.note_lines.ensures.notes

@@ -1,0 +1,178 @@
+//! Where windows end. Any end serves, and these are quick: a flip-flop whose sample was taken before a window is known
+//! when the window begins, so windows end where samples arrive.
+
+ghost use Rattle.std.specs.Prelude.{◌≡◌, ◌<◌, ◌≤◌, All, IfOk};
+ghost use Rattle.cmb_design.specs.Exact.{nets_of};
+ghost use Rattle.cmb_design.specs.Nets.{pins_at};
+ghost use Rattle.cmb_engine.specs.Inner.Ends.{IsPaced};
+ghost use Rattle.cmb_engine.specs.Windows.{arrival_from};
+
+use cmb_design::Design;
+use cmb_netlist::Driver;
+use std::alloc::{AllocError, Global};
+use std::marker::Model;
+
+// A clock with a shorter period ends no window: its flip-flops are visited as gates are.
+const SHORTEST: u32 = 12;
+
+// A clock whose period is as long as this, and which is the only one, ends a window however soon it arrives.
+const LONG: u32 = 36;
+
+// Where there are more clocks and delays no arrival ends a window.
+const MOST: usize = 64;
+
+/// When the samples of flip-flops with one clock and delay arrive: at a tick first, and then every so many ticks. An
+/// arrival ends a window only where it is at least `lead` ticks behind the window's beginning.
+#[derive(Clone, Copy, PartialEq, Eq)]
+pub struct Pace {
+    pub first: u32,
+    pub period: u32,
+    pub lead: u32,
+}
+
+impl Pace {
+    // That of a flip-flop. Samples that were taken before a window don't end it.
+    fn of(design: &Design, net: usize) -> Pace
+        requires net { net < nets_of design.now }
+        requires pin { 1 ≤ pins_at design.now.netlist net }
+        ensures { IsPaced result }
+    {
+        let clock = design.clock(net);
+        let delay = design.delay(net, 1);
+        Pace {
+            first: clock.first + delay,
+            period: clock.period,
+            lead: delay,
+        }
+    }
+
+    // The same, where windows have so many ticks at most. Those of several clocks would be cut too short by arrivals
+    // that come soon.
+    fn spaced(self, several: bool, width: u32) -> Pace
+        requires paced { IsPaced self }
+        requires width { width ≤ 63 }
+        ensures { IsPaced result }
+    {
+        let soon = several || self.period < LONG;
+        let least = if soon { width / 8 + 1 } else { 1 };
+        Pace {
+            lead: self.lead.max(least),
+            ..self
+        }
+    }
+
+    // The first tick from one on at which samples arrive.
+    fn arrival_from(self, tick: u32) -> u32
+        requires paced { IsPaced self }
+        requires tick { tick ≤ 2000000 }
+        ensures value { result ≡ arrival_from self tick }
+        ensures later { tick ≤ result }
+    {
+        if self.first < tick {
+            tick + self.period - 1 - (tick - 1 - self.first) % self.period
+        } else {
+            self.first
+        }
+    }
+}
+
+// Adds a pace that isn't among them, as long as they aren't too many.
+fn add(paces: &mut Vec<Pace>, pace: Pace) -> Result<(), AllocError>
+    requires paces { All IsPaced paces.old.items }
+    requires pace { IsPaced pace }
+    ensures { All IsPaced paces.new.items }
+{
+    if paces.len() <= MOST && !paces.contains(&pace) {
+        paces.push(pace)?;
+    }
+    Ok(())
+}
+
+// The paces of a design's flip-flops, or some of them where they are too many.
+fn paces_of(alloc: Global, design: &Design) -> Result<Vec<Pace>, AllocError>
+    ensures { IfOk result (λ paces. All IsPaced paces.items) }
+{
+    let netlist = design.netlist();
+    let mut paces = Vec::new(alloc);
+    for net in 0..netlist.len() {
+        if let Driver::Flop(_) = netlist.driver(net) {
+            add(&mut paces, Pace::of(design, net))?;
+        }
+    }
+    Ok(paces)
+}
+
+// Those that end windows of so many ticks at most.
+fn ending(alloc: Global, paces: &[Pace], width: u32) -> Result<Vec<Pace>, AllocError>
+    requires paces { All IsPaced paces.now }
+    requires width { width ≤ 63 }
+    ensures { IfOk result (λ ending. All IsPaced ending.items) }
+{
+    let mut ending = Vec::new(alloc);
+    if paces.len() > MOST {
+        return Ok(ending);
+    }
+    for pace in paces {
+        if pace.period >= SHORTEST {
+            ending.push(pace.spaced(paces.len() > 1, width))?;
+        }
+    }
+    Ok(ending)
+}
+
+/// Where the windows of a design's run end: a function of the tick at which one begins. Shares of one design have the
+/// same.
+#[derive(Drop)]
+pub struct Windows {
+    width: u32,
+    horizon: u32,
+    paces: Vec<Pace>,
+}
+
+impl Model for Windows {
+    ghost use Rattle.std.specs.Prelude.{◌≤◌, All};
+    ghost use Rattle.cmb_engine.specs.Inner.Ends.{IsPaced};
+    ghost use Rattle.cmb_engine.specs.Windows.{Windows};
+
+    ghost Value = { Windows };
+
+    ghost view = { λ w. record { width = w.width; horizon = w.horizon; paces = w.paces.items } };
+
+    ghost invariant = { λ w. (1 ≤ w.width) × (w.width ≤ 63) × (w.horizon ≤ 1000000) × All IsPaced w.paces.items };
+}
+
+impl Windows {
+    ghost use Rattle.std.specs.Prelude.{◌≡◌, ◌+◌, ◌<◌, ◌≤◌, IfOk};
+    ghost use Rattle.cmb_engine.specs.Windows.{end_of};
+
+    /// Windows of a design, of at most so many ticks.
+    pub fn of(alloc: Global, design: &Design, width: u32) -> Result<Windows, AllocError>
+        requires some { 1 ≤ width }
+        requires narrow { width ≤ 63 }
+        ensures width { IfOk result (λ windows. windows.width ≡ width) }
+        ensures horizon { IfOk result (λ windows. windows.horizon ≡ design.now.horizon) }
+    {
+        let paces = paces_of(alloc, design)?;
+        let paces = ending(alloc, &paces, width)?;
+        Ok(Windows {
+            width,
+            horizon: design.horizon(),
+            paces,
+        })
+    }
+
+    /// Where a window ends that begins at a tick.
+    pub fn end(&self, clock: u32) -> u32
+        requires { clock < self.now.horizon }
+        ensures value { result ≡ end_of self.now clock }
+        ensures later { clock < result }
+        ensures short { result ≤ clock + self.now.width }
+        ensures within { result ≤ self.now.horizon }
+    {
+        let mut end = (clock + self.width).min(self.horizon);
+        for pace in &self.paces {
+            end = end.min(pace.arrival_from(clock + pace.lead));
+        }
+        end
+    }
+}
