@@ -129,10 +129,10 @@ fn pass_on(fanout: &Fanout, news: Batch, opened: bool, live: &mut Marks, marks: 
         marks.old marks.new live.old live.new }
 {
     for place in Places::of(news.places) {
-        if let Some(slot) = fanout.order.slot(news.base + place as usize) {
-            live.insert(slot);
-            mark_all(marks, fanout.gates.of(slot));
-            mark_flops(marks, &fanout.flops, slot, opened);
+        if let Some(changed) = fanout.order.slot(news.base + place as usize) {
+            live.insert(changed);
+            mark_all(marks, fanout.gates.of(changed));
+            mark_flops(marks, &fanout.flops, changed, opened);
         }
     }
 }

@@ -22,7 +22,7 @@ loop-place-preserved-in-Some-slot c = record {
   small = All-rest (λ (place : ℕ). place < 64) c.in-Some.place c.next.new.self c.loop-place.place-iterator c.in-Some.ensures.steps c.loop-place.invariant.small;
   passing = passing-on c.args.fanout.now.order c.args.news.base c.args.news.places c.in-Some.place c.next.new.self c.loop-place.place-iterator c.in-Some.ensures.steps
       c.args.fanout.now.gates c.args.fanout.now.flops c.args.opened c.args.marks.now c.loop-place.marks c.mark_all.new.marks c.mark_flops.new.marks
-      c.args.live.now c.loop-place.live c.insert.new.self c.in-Some-slot.slot c.in-Some-slot.ensures.1 c.insert.ensures.len c.insert.ensures.has
+      c.args.live.now c.loop-place.live c.insert.new.self c.in-Some-slot.changed c.in-Some-slot.ensures.1 c.insert.ensures.len c.insert.ensures.has
       c.mark_all.ensures.len c.mark_all.ensures.kept (subst (λ (xs : List ℕ). AreMarked (has c.mark_all.new.marks) xs) c.of.ensures c.mark_all.ensures.marked)
       c.mark_flops.ensures.len c.mark_flops.ensures.kept c.mark_flops.ensures.marked c.loop-place.invariant.passing;
 }
