@@ -7,7 +7,7 @@ use Rattle.cmb_words.specs.Changes.{RisesWithin}
 use Rattle.cmb_words.specs.declared.changed.Changed.{Changed}
 use Rattle.cmb_batch.specs.Batches.{Batch, IsBatch}
 use Rattle.cmb_batch.specs.Makers.{IsNextOf, Maker}
-use Rattle.cmb_batch.specs.Windows.{AreDays, AreMade, IsStep, clock_at}
+use Rattle.cmb_batch.specs.Windows.{AreMade, AreSteps, IsStep, clock_at}
 use Rattle.cmb_batch.specs.declared.window.Window.{Window}
 
 module _ (maker : Maker) (batch : Batch) (next : IsNextOf maker batch) where
@@ -23,21 +23,19 @@ module _ (maker : Maker) (batch : Batch) (next : IsNextOf maker batch) where
   of-batch : (P : Design → List ℕ → List Bool → ℕ → Type 0) → P maker.share.design maker.share.owners maker.share.crossing maker.share.number → P batch.design batch.owners batch.crossing batch.made
   of-batch P is = of-share (λ design owners marks made. P design owners marks made → P batch.design batch.owners batch.crossing batch.made) (λ same. same) is
 
-  pub given-days : AreDays batch.width batch.design.horizon batch.clocks → AreDays maker.width maker.share.design.horizon batch.clocks
-  given-days days =
-      subst (λ w. AreDays w maker.share.design.horizon batch.clocks) next.same.width
-      (of-share (λ design owners marks made. AreDays batch.width design.horizon batch.clocks) days)
+  pub given-steps : AreSteps batch.design.horizon batch.clocks → AreSteps maker.share.design.horizon batch.clocks
+  given-steps steps = of-share (λ design owners marks made. AreSteps design.horizon batch.clocks) steps
 
   pub given-made : (windows : List Window) → AreMade batch.design batch.owners batch.crossing batch.made batch.clocks windows
       → AreMade maker.share.design maker.share.owners maker.share.crossing maker.share.number batch.clocks windows
   given-made windows made = of-share (λ design owners marks made. AreMade design owners marks made batch.clocks windows) made
 
-  pub batch-more : (windows more : List Window) → IsBatch batch.design batch.owners batch.crossing batch.width batch.clocks batch.made windows → length more ≡ length windows
+  pub batch-more : (windows more : List Window) → IsBatch batch.design batch.owners batch.crossing batch.clocks batch.made windows → length more ≡ length windows
       → AreMade maker.share.design maker.share.owners maker.share.crossing (suc maker.share.number) batch.clocks more
-      → IsBatch batch.design batch.owners batch.crossing batch.width batch.clocks (suc batch.made) more
+      → IsBatch batch.design batch.owners batch.crossing batch.clocks (suc batch.made) more
   batch-more windows more is same made = record {
     count = omega (arith, is.count, same);
-    days = is.days;
+    steps = is.steps;
     within = is.within;
     nets = is.nets;
     marks = is.marks;
@@ -45,7 +43,7 @@ module _ (maker : Maker) (batch : Batch) (next : IsNextOf maker batch) where
   }
 
 -- of a batch's window, as far as shares made it, the nets rise, and its ticks follow one another
-pub window-of : (batch : Batch) (windows : List Window) (place : ℕ) (window : Window) (told : List Changed) → IsBatch batch.design batch.owners batch.crossing batch.width batch.clocks batch.made windows
+pub window-of : (batch : Batch) (windows : List Window) (place : ℕ) (window : Window) (told : List Changed) → IsBatch batch.design batch.owners batch.crossing batch.clocks batch.made windows
     → window ≡ get_or windows place window → told ≡ window.changes.items → suc place < length batch.clocks
     → Changes.IsWindow (nets_of batch.design) batch.design.horizon (clock_at batch.clocks place) (clock_at batch.clocks (suc place)) told
 window-of batch windows place window told is read are within = record {
@@ -58,5 +56,5 @@ window-of batch windows place window told is read are within = record {
       (subst (λ (w : Window). RisesWithin 0 (nets_of batch.design) w.changes.items) (sym read) (is.each place window (omega (arith, is.count, within))).told.rises);
 }
   where
-    step : IsStep batch.width batch.design.horizon (clock_at batch.clocks place) (clock_at batch.clocks (suc place))
-    step = is.days place within
+    step : IsStep batch.design.horizon (clock_at batch.clocks place) (clock_at batch.clocks (suc place))
+    step = is.steps place within

@@ -1,5 +1,5 @@
 pub mod BatchFacts
-pub mod DayFacts
+pub mod StepFacts
 pub mod MadeFacts
 pub mod MakerFacts
 pub mod MakersFacts

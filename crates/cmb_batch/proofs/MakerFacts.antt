@@ -1,5 +1,5 @@
 -- Windows that a maker makes one by one.
-use Rattle.std.proofs.Common.{◌≡◌, ◌∙◌, ◌⊎◌, inl, inr, ℕ, suc, ◌+◌, ◌<◌, ◌≤◌, Bool, List, Result, Ok, Err, length, get_or, set, ap, sym, subst, arith}
+use Rattle.std.proofs.Common.{◌≡◌, ◌∙◌, ◌⊎◌, inl, inr, ℕ, suc, ◌+◌, ◌<◌, ◌≤◌, Bool, List, Result, Ok, Err, length, get_or, set, sym, subst, arith}
 use Rattle.std.specs.Prelude.{IfOk}
 use Rattle.std.specs.declared.alloc.AllocError.{AllocError}
 use Rattle.std.proofs.lemmas.Bool.{cases_eq}
@@ -7,8 +7,8 @@ use Rattle.std.proofs.lemmas.List.{get_or-set_other, get_or-set_same, length-set
 use Rattle.cmb_design.specs.Design.{Design}
 use Rattle.cmb_design.specs.Exact.{nets_of}
 use Rattle.cmb_design.specs.Value.{value}
-use Rattle.cmb_engine.specs.Engines.{window_end}
-use Rattle.cmb_engine.specs.Shares.{IsDriven, ShareEngine, TellsThose, share_clock}
+use Rattle.cmb_engine.specs.Shares.{IsDriven, ShareEngine, TellsThose}
+use Rattle.cmb_engine.specs.Windows.{Windows, end_of}
 use Rattle.cmb_words.specs.Changes as Changes
 use Rattle.cmb_words.specs.Changes.{RisesWithin}
 use Rattle.cmb_words.specs.declared.changed.Changed.{Changed}
@@ -50,22 +50,23 @@ module _ (design : Design) (owners : List ℕ) (crossing : List Bool) (made : �
           (are.before k d (omega (arith, h, n)) within)
 
 -- an engine that goes on from a tick has made the window there
-pub went-ahead : (share : DesignShare) (engine : ShareEngine) (clock : ℕ) (told : List Changed) → IsEngineOf share engine → engine.clock ≡ clock → clock < share.design.horizon
-    → (result : Result ShareEngine AllocError) → IfOk result (λ it. it.design ≡ engine.design) → IfOk result (λ it. it.driven ≡ engine.driven) → IfOk result (λ it. it.width ≡ engine.width)
-    → IfOk result (λ it. it.clock ≡ share_clock engine) → IfOk result (λ it. Changes.IsWindow (nets_of engine.design) engine.design.horizon engine.clock it.clock told)
-    → IfOk result (λ it. TellsThose (IsDriven engine.driven) (value engine.design) engine.clock it.clock told) → IfOk result (λ it. IsAt share it clock told)
-went-ahead share engine clock told of stands below (Err error) design driven width next window tells = tt
-went-ahead share engine clock told of stands below (Ok it) design driven width next window tells = record {
+pub went-ahead : (share : DesignShare) (windows : Windows) (engine : ShareEngine) (clock upto : ℕ) (told : List Changed) → IsEngineOf share engine → engine.clock ≡ clock → clock < share.design.horizon
+    → upto ≡ end_of windows clock
+    → (result : Result ShareEngine AllocError) → IfOk result (λ it. it.design ≡ engine.design) → IfOk result (λ it. it.driven ≡ engine.driven)
+    → IfOk result (λ it. it.clock ≡ upto) → IfOk result (λ it. Changes.IsWindow (nets_of engine.design) engine.design.horizon engine.clock it.clock told)
+    → IfOk result (λ it. TellsThose (IsDriven engine.driven) (value engine.design) engine.clock it.clock told) → IfOk result (λ it. IsAt share windows it clock told)
+went-ahead share windows engine clock upto told of stands below ends (Err error) design driven next window tells = tt
+went-ahead share windows engine clock upto told of stands below ends (Ok it) design driven next window tells = record {
   of = record { lawful = of.lawful; engaged = design ∙ of.engaged; driven = driven ∙ of.driven };
   made = inr (record {
     step = record {
       late = subst (λ n. 1 ≤ n) stands window.late;
       below = below;
-      next = next ∙ ap (λ w. window_end w engine.design.horizon engine.clock) (sym width) ∙ ap (λ (d : Design). window_end it.width d.horizon engine.clock) of.engaged ∙ ap (window_end it.width share.design.horizon) stands;
       order = subst (λ n. n < it.clock) stands window.order;
       short = subst (λ n. it.clock ≤ n + 63) stands window.short;
       within = subst (λ (d : Design). it.clock ≤ d.horizon) of.engaged window.within;
     };
+    end = next ∙ ends;
     nets = subst (λ d. RisesWithin 0 (nets_of d) told) of.engaged window.nets;
     tells =
         subst (λ n. TellsThose (IsDriven share.driven) (value share.design) n it.clock told) stands

@@ -3,7 +3,7 @@ use Rattle.std.specs.Prelude.{◌≡◌, ℕ, suc, ◌+◌, ◌-◌, ◌<◌, �
 use Rattle.cmb_design.specs.Design.{Design}
 use Rattle.cmb_design.specs.Exact.{nets_of}
 use Rattle.cmb_design.specs.Value.{value}
-use Rattle.cmb_engine.specs.Engines.{window_end}
+use Rattle.cmb_engine.specs.Windows.{Windows, end_of}
 use Rattle.cmb_words.specs.Changes.{IsStill, RisesWithin, TellsNet, is_among}
 use Rattle.cmb_words.specs.declared.changed.Changed.{Changed}
 use Rattle.cmb_batch.specs.Shares.{Crosses, IsMade}
@@ -17,17 +17,24 @@ clock_at clocks k = slice_index_or clocks k 0
 abbrev pub last_of : List ℕ → ℕ
 last_of clocks = slice_index_or clocks (length clocks - 1) 0
 
--- a window of a run with a horizon, of an engine whose windows have so many ticks at most
-pub record IsStep (width horizon from upto : ℕ) : Type 0 where
+-- a window of a run with a horizon
+pub record IsStep (horizon from upto : ℕ) : Type 0 where
   pub late : 1 ≤ from
   pub below : from < horizon
-  pub next : upto ≡ window_end width horizon from
   pub order : from < upto
   pub short : upto ≤ from + 63
   pub within : upto ≤ horizon
 
-abbrev pub AreDays : ℕ → ℕ → List ℕ → Type 0
-AreDays width horizon clocks = (k : ℕ) → suc k < length clocks → IsStep width horizon (clock_at clocks k) (clock_at clocks (suc k))
+abbrev pub AreSteps : ℕ → List ℕ → Type 0
+AreSteps horizon clocks = (k : ℕ) → suc k < length clocks → IsStep horizon (clock_at clocks k) (clock_at clocks (suc k))
+
+-- a window ends where it is to
+pub record IsEnd (windows : Windows) (from upto : ℕ) : Type 0 where
+  pub next : upto ≡ end_of windows from
+  pub short : upto ≤ from + windows.width
+
+abbrev pub AreEnds : Windows → List ℕ → Type 0
+AreEnds windows clocks = (k : ℕ) → suc k < length clocks → IsEnd windows (clock_at clocks k) (clock_at clocks (suc k))
 
 -- ---- what the first shares made of a window
 

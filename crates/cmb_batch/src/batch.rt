@@ -6,7 +6,7 @@ ghost use Rattle.cmb_design.specs.Design.{Design};
 ghost use Rattle.cmb_design.specs.Exact.{nets_of};
 ghost use Rattle.cmb_design.specs.Value.{value};
 ghost use Rattle.cmb_batch.specs.Makers.{HasWorked, IsNextOf};
-ghost use Rattle.cmb_batch.specs.Windows.{AreDays, AreMade, IsUnmade, clock_at, last_of};
+ghost use Rattle.cmb_batch.specs.Windows.{AreMade, AreSteps, IsUnmade, clock_at, last_of};
 ghost use Rattle.cmb_words.specs.Changes.{IsWindow, Tells};
 
 use crate::maker::ShareMaker;
@@ -22,7 +22,6 @@ pub struct Batch<'a> {
     design: &'a Design,
     owners: &'a [u32],
     crossing: &'a [bool],
-    width: u32,
     clocks: Vec<u32>,
     windows: Vec<Window>,
     /// How many shares made them.
@@ -38,12 +37,11 @@ impl<'a> Model for Batch<'a> {
       design = b.design.now;
       owners = b.owners.now;
       crossing = b.crossing.now;
-      width = b.width;
       clocks = b.clocks.items;
       made = b.made;
     } };
 
-    ghost invariant = { λ b. IsBatch b.design.now b.owners.now b.crossing.now b.width b.clocks.items b.made
+    ghost invariant = { λ b. IsBatch b.design.now b.owners.now b.crossing.now b.clocks.items b.made
         b.windows.items };
 }
 
@@ -79,18 +77,16 @@ impl<'a> Batch<'a> {
         design: &'a Design,
         owners: &'a [u32],
         crossing: &'a [bool],
-        width: u32,
         clocks: Vec<u32>,
     ) -> Result<Batch<'a>, AllocError>
         requires nets { length owners.now ≡ nets_of design.now }
         requires marks { length crossing.now ≡ nets_of design.now }
         requires some { 1 ≤ length clocks.items }
-        requires days { AreDays width design.now.horizon clocks.items }
+        requires steps { AreSteps design.now.horizon clocks.items }
         requires within { last_of clocks.items ≤ design.now.horizon }
         ensures design { IfOk result (λ batch. batch.design ≡ design.entry.now) }
         ensures owners { IfOk result (λ batch. batch.owners ≡ owners.entry.now) }
         ensures crossing { IfOk result (λ batch. batch.crossing ≡ crossing.entry.now) }
-        ensures width { IfOk result (λ batch. batch.width ≡ width) }
         ensures clocks { IfOk result (λ batch. batch.clocks ≡ clocks.items) }
         ensures made { IfOk result (λ batch. batch.made ≡ 0) }
     {
@@ -100,7 +96,6 @@ impl<'a> Batch<'a> {
             design,
             owners,
             crossing,
-            width,
             clocks,
             windows,
             made: 0,
@@ -110,12 +105,11 @@ impl<'a> Batch<'a> {
     /// Other windows of the same run, of which no share made anything. They use the room of these.
     pub fn renewed(self, alloc: Global, clocks: Vec<u32>) -> Result<Batch<'a>, AllocError>
         requires some { 1 ≤ length clocks.items }
-        requires days { AreDays self.width self.design.horizon clocks.items }
+        requires steps { AreSteps self.design.horizon clocks.items }
         requires within { last_of clocks.items ≤ self.design.horizon }
         ensures design { IfOk result (λ batch. batch.design ≡ self.entry.design) }
         ensures owners { IfOk result (λ batch. batch.owners ≡ self.entry.owners) }
         ensures crossing { IfOk result (λ batch. batch.crossing ≡ self.entry.crossing) }
-        ensures width { IfOk result (λ batch. batch.width ≡ self.entry.width) }
         ensures clocks { IfOk result (λ batch. batch.clocks ≡ clocks.items) }
         ensures made { IfOk result (λ batch. batch.made ≡ 0) }
     {
@@ -135,7 +129,6 @@ impl<'a> Batch<'a> {
             design,
             owners,
             crossing,
-            width,
             clocks,
             mut windows,
             ..
@@ -148,7 +141,6 @@ impl<'a> Batch<'a> {
             design,
             owners,
             crossing,
-            width,
             clocks,
             windows,
             made: u64::from(maker.number()) + 1,

@@ -2,7 +2,7 @@
 #![tactic(auto)]
 
 mod batch;
-mod days;
+mod clocks;
 mod maker;
 mod makers;
 mod merge;
@@ -11,7 +11,7 @@ mod sharing;
 mod window;
 
 pub use batch::Batch;
-pub use days::clocks_of;
+pub use clocks::clocks_of;
 pub use maker::ShareMaker;
 pub use makers::{Makers, open_makers};
 pub use share::DesignShare;

@@ -133,7 +133,8 @@ impl<'a> Run<'a> {
             mut changed,
             mut text,
         } = self;
-        let Ok(engine) = engine.advance(&mut changed) else {
+        let upto = engine.next_end();
+        let Ok(engine) = engine.advance(upto, &mut changed) else {
             drop((excerpt, changed, text));
             return Err(AllocError);
         };

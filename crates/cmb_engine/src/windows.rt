@@ -161,6 +161,31 @@ impl Windows {
         })
     }
 
+    /// The same windows. Errors: memory was refused.
+    pub fn copy(&self) -> Result<Windows, AllocError>
+        ensures { IfOk result (λ windows. windows ≡ self.now) }
+    {
+        let paces = self.paces.clone()?;
+        Ok(Windows { paces, ..*self })
+    }
+
+    /// The most ticks of a window.
+    pub fn width(&self) -> u32
+        ensures value { result ≡ self.now.width }
+        ensures some { 1 ≤ result }
+        ensures most { result ≤ 63 }
+    {
+        self.width
+    }
+
+    /// The tick at which the last window ends.
+    pub fn horizon(&self) -> u32
+        ensures value { result ≡ self.now.horizon }
+        ensures most { result ≤ 1000000 }
+    {
+        self.horizon
+    }
+
     /// Where a window ends that begins at a tick.
     pub fn end(&self, clock: u32) -> u32
         requires { clock < self.now.horizon }

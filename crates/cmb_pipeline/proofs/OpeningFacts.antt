@@ -29,15 +29,14 @@ module _ (design : Design) (sharing : Sharing) (shares : List DesignShare) (make
   share-at k d h = sym (get_or-map (λ (m : Maker). m.share) makers.list.items k d d.share h) ∙ ap (λ (l : List DesignShare). get_or l k d.share) same
 
   -- they begin a run of the design and its sharing
-  pub is-run : All (λ (m : Maker). m.width ≡ makers.width) makers.list.items → 2 ≤ makers.width → makers.width < 63
-      → IsOf design sharing.owners.items sharing.crossing.items makers design sharing.owners.items sharing.crossing.items makers.width
-  is-run width wide narrow = record {
+  pub is-run : All (λ (m : Maker). m.windows ≡ makers.windows) makers.list.items → makers.windows.horizon ≡ design.horizon
+      → IsOf design sharing.owners.items sharing.crossing.items makers design sharing.owners.items sharing.crossing.items makers.windows
+  is-run windows horizon = record {
     same = refl;
     owned = refl;
     crossed = refl;
-    paced = refl;
-    wide = wide;
-    narrow = narrow;
+    same_windows = refl;
+    horizon = horizon;
     nets = is.nets;
     marks = is.crossed;
     few = rw count is.few;
@@ -48,6 +47,6 @@ module _ (design : Design) (sharing : Sharing) (shares : List DesignShare) (make
           whole = ap (λ (s : DesignShare). s.design) at ∙ here.whole;
           owned = ap (λ (s : DesignShare). s.owners) at ∙ here.owned;
           crossed = ap (λ (s : DesignShare). s.crossing) at ∙ here.crossed;
-          wide = width k d h;
+          same_windows = windows k d h;
         };
   }

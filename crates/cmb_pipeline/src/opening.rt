@@ -25,7 +25,7 @@ pub(crate) struct Run<'a, T: Terms> {
     pub inlet: Inlet<'a, T>,
     ghost few: { length makers.items < 2 ^ 32 },
     ghost owned: { All (λ owner. owner < length makers.items) T.owners },
-    ghost each: { All (IsMakerOf T.design T.owners T.crossing T.width) makers.items },
+    ghost each: { All (IsMakerOf T.design T.owners T.crossing T.windows) makers.items },
 }
 
 /// What the run of the design begins with that `T` names. The first ring holds all batches that may be on their way, so
@@ -37,15 +37,15 @@ pub(crate) fn open_run<'a, T: Terms>(
     crossing: &'a [bool],
     makers: Makers<'a>,
 ) -> Result<Run<'a, T>, AllocError>
-    requires { IsOf design.now owners.now crossing.now makers T.design T.owners T.crossing T.width }
+    requires { IsOf design.now owners.now crossing.now makers T.design T.owners T.crossing T.windows }
 {
-    let Makers { width, list } = makers;
+    let Makers { windows, list } = makers;
     let most = list.len().saturating_add(1).saturating_mul(ROOM);
     let Ok((outlet, inlet)) = RingBuffer::new(alloc, most) else {
-        drop(list);
+        drop((windows, list));
         return Err(AllocError);
     };
-    let source = Source::new(alloc, design, owners, crossing, width, outlet, most);
+    let source = Source::new(alloc, design, owners, crossing, windows, outlet, most);
     Ok(Run {
         source,
         makers: list,
@@ -63,7 +63,7 @@ pub(crate) fn start<'s, 'a: 's, E, T: Terms + Send + Sync + 's, R: Threads + Wai
     makers: Vec<ShareMaker<'a>>,
     inlet: Inlet<'a, T>,
 ) -> Result<Inlet<'a, T>, AllocError>
-    requires { All (IsMakerOf T.design T.owners T.crossing T.width) makers.items }
+    requires { All (IsMakerOf T.design T.owners T.crossing T.windows) makers.items }
 {
     let mut inlet = inlet;
     for maker in makers {

@@ -1,6 +1,7 @@
 //! A batch on its way from thread to thread, and the rings on which it goes.
 
 ghost use Rattle.std.specs.Prelude.{◌≡◌};
+ghost use Rattle.cmb_batch.specs.Windows.{AreEnds};
 
 use crate::terms::Terms;
 use cmb_batch::Batch;
@@ -15,7 +16,7 @@ pub struct Parcel<'a, T: Terms> {
     ghost design: { batch.design ≡ T.design },
     ghost owners: { batch.owners ≡ T.owners },
     ghost crossing: { batch.crossing ≡ T.crossing },
-    ghost width: { batch.width ≡ T.width },
+    ghost ends: { AreEnds T.windows batch.clocks },
 }
 
 impl<'a, T: Terms> Parcel<'a, T> {
@@ -24,7 +25,7 @@ impl<'a, T: Terms> Parcel<'a, T> {
         requires design { batch.design ≡ T.design }
         requires owners { batch.owners ≡ T.owners }
         requires crossing { batch.crossing ≡ T.crossing }
-        requires width { batch.width ≡ T.width }
+        requires ends { AreEnds T.windows batch.clocks }
         ensures { result.batch ≡ batch.entry }
     {
         Parcel {

@@ -2,12 +2,13 @@
 
 ghost use Rattle.std.specs.Prelude.{◌≡◌, ℕ, ◌<◌, ◌≤◌, length, IfOk, IfSome, OnOk};
 ghost use Rattle.cmb_design.specs.Exact.{nets_of};
-ghost use Rattle.cmb_batch.specs.Windows.{AreDays, last_of};
+ghost use Rattle.cmb_batch.specs.Windows.{AreEnds, AreSteps, last_of};
 
 use crate::parcel::{Outlet, Parcel};
 use crate::terms::Terms;
 use cmb_batch::{Batch, clocks_of};
 use cmb_design::Design;
+use cmb_engine::Windows;
 use rtrb::PushError;
 use std::alloc::{AllocError, Global};
 
@@ -25,7 +26,7 @@ pub(crate) struct Source<'a, T: Terms> {
     design: &'a Design,
     owners: &'a [u32],
     crossing: &'a [bool],
-    width: u32,
+    windows: Windows,
     outlet: Outlet<'a, T>,
     /// Where the next batch begins, in ticks.
     next: u32,
@@ -37,9 +38,8 @@ pub(crate) struct Source<'a, T: Terms> {
     ghost same: { design.now ≡ T.design },
     ghost owned: { owners.now ≡ T.owners },
     ghost crossed: { crossing.now ≡ T.crossing },
-    ghost paced: { width ≡ T.width },
-    ghost wide: { 2 ≤ width },
-    ghost narrow: { width < 63 },
+    ghost same_windows: { windows ≡ T.windows },
+    ghost horizon: { windows.horizon ≡ design.now.horizon },
     ghost nets: { length owners.now ≡ nets_of design.now },
     ghost marks: { length crossing.now ≡ nets_of design.now },
     ghost late: { 1 ≤ next },
@@ -53,43 +53,43 @@ impl<'a, T: Terms> Source<'a, T> {
         design: &'a Design,
         owners: &'a [u32],
         crossing: &'a [bool],
-        width: u32,
+        windows: Windows,
         outlet: Outlet<'a, T>,
         most: usize,
     ) -> Source<'a, T>
         requires design { design.now ≡ T.design }
         requires owners { owners.now ≡ T.owners }
         requires crossing { crossing.now ≡ T.crossing }
-        requires width { width ≡ T.width }
-        requires wide { 2 ≤ width }
-        requires narrow { width < 63 }
+        requires windows { windows ≡ T.windows }
+        requires horizon { windows.horizon ≡ design.now.horizon }
         requires nets { length owners.now ≡ nets_of design.now }
         requires marks { length crossing.now ≡ nets_of design.now }
     {
         // Its contract tells that there is a tick at least.
         let _horizon = design.horizon();
+        let ticks = windows.width();
         Source {
             alloc,
             design,
             owners,
             crossing,
-            width,
+            windows,
             outlet,
             next: 1,
-            ticks: width,
+            ticks,
             waiting: None,
             left: most,
         }
     }
 
     // The ticks at which the windows of the next batch meet.
-    fn days(&mut self) -> Result<Vec<u32>, AllocError>
+    fn clocks(&mut self) -> Result<Vec<u32>, AllocError>
         ensures some { IfOk result (λ clocks. 1 ≤ length clocks.items) }
-        ensures days { IfOk result (λ clocks. AreDays T.width T.design.horizon clocks.items) }
+        ensures steps { IfOk result (λ clocks. AreSteps T.design.horizon clocks.items) }
+        ensures ends { IfOk result (λ clocks. AreEnds T.windows clocks.items) }
         ensures within { IfOk result (λ clocks. last_of clocks.items ≤ T.design.horizon) }
     {
-        let horizon = self.design.horizon();
-        let clocks = clocks_of(self.alloc, self.width, horizon, self.next, self.ticks)?;
+        let clocks = clocks_of(self.alloc, &self.windows, self.next, self.ticks)?;
         self.next = clocks[clocks.len() - 1];
         Ok(clocks)
     }
@@ -100,13 +100,12 @@ impl<'a, T: Terms> Source<'a, T> {
             return Ok(None);
         }
         self.left -= 1;
-        let clocks = self.days()?;
+        let clocks = self.clocks()?;
         let batch = Batch::open(
             self.alloc,
             self.design,
             self.owners,
             self.crossing,
-            self.width,
             clocks,
         )?;
         Ok(Some(Parcel::new(batch)))
@@ -138,7 +137,7 @@ impl<'a, T: Terms> Source<'a, T> {
     fn pace(&mut self, ticks: u32, made: usize) {
         let dense = (made / ticks.max(1) as usize).max(1);
         let even = (PART / dense) as u32;
-        self.ticks = even.min(ticks.saturating_mul(2)).max(self.width);
+        self.ticks = even.min(ticks.saturating_mul(2)).max(self.windows.width());
     }
 
     /// Takes a batch back of which so many bytes of text were made.
@@ -155,7 +154,7 @@ impl<'a, T: Terms> Source<'a, T> {
             drop(batch);
             return Ok(());
         }
-        let Ok(clocks) = self.days() else {
+        let Ok(clocks) = self.clocks() else {
             drop(batch);
             return Err(AllocError);
         };

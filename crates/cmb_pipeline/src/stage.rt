@@ -15,7 +15,7 @@ pub struct Stage<'a, T: Terms> {
     maker: ShareMaker<'a>,
     inlet: Inlet<'a, T>,
     outlet: Outlet<'a, T>,
-    ghost of: { IsMakerOf T.design T.owners T.crossing T.width maker },
+    ghost of: { IsMakerOf T.design T.owners T.crossing T.windows maker },
 }
 
 // Takes a batch, makes the share's windows of it and hands it on. There is no maker any more where nobody hands batches
@@ -26,8 +26,8 @@ fn step<'a, T: Terms, R: Wait>(
     inlet: &mut Inlet<'a, T>,
     outlet: &mut Outlet<'a, T>,
 ) -> Option<ShareMaker<'a>>
-    requires { IsMakerOf T.design T.owners T.crossing T.width maker }
-    ensures { IfSome result (IsMakerOf T.design T.owners T.crossing T.width) }
+    requires { IsMakerOf T.design T.owners T.crossing T.windows maker }
+    ensures { IfSome result (IsMakerOf T.design T.owners T.crossing T.windows) }
 {
     let Ok(maker) = maker.looked_ahead() else {
         return None;
@@ -58,7 +58,7 @@ impl<'a, T: Terms> Stage<'a, T> {
         inlet: Inlet<'a, T>,
         outlet: Outlet<'a, T>,
     ) -> Stage<'a, T>
-        requires { IsMakerOf T.design T.owners T.crossing T.width maker }
+        requires { IsMakerOf T.design T.owners T.crossing T.windows maker }
     {
         Stage {
             maker,

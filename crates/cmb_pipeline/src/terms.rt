@@ -2,11 +2,12 @@
 
 use std::marker::Brand;
 
-/// Names the design of a run, how its nets are shared out, and the most ticks of a window. `Brand` stands for any that
+/// Names the design of a run, how its nets are shared out, and where windows end. `Brand` stands for any that
 /// a call picks. So what goes from thread to thread says what it is of by its type.
 pub trait Terms {
     ghost use Rattle.std.specs.Prelude.{ℕ, Bool, List};
     ghost use Rattle.cmb_design.specs.Design.{Design};
+    ghost use Rattle.cmb_engine.specs.Windows.{Windows};
 
     ghost design: { Design };
 
@@ -14,7 +15,7 @@ pub trait Terms {
 
     ghost crossing: { List Bool };
 
-    ghost width: { ℕ };
+    ghost windows: { Windows };
 }
 
 impl Terms for Brand {
@@ -27,5 +28,5 @@ impl Terms for Brand {
 
     ghost crossing = { [] };
 
-    ghost width = { 2 };
+    ghost windows = { record { width = 1; horizon = 1; paces = [] } };
 }

@@ -75,7 +75,7 @@ fn text_named<'a, T: Terms + Send + Sync, R: Threads + Wait + Sync, D: Destinati
 ) -> D::Answer
     requires room { D.is_ready to.old }
     requires of { IsOf design.now sharing.now.owners.items sharing.now.crossing.items makers
-        T.design T.owners T.crossing T.width }
+        T.design T.owners T.crossing T.windows }
     ensures { D.is_told design.now to.old to.new result }
 {
     let Ok(run) = open_run::<T>(alloc, design, &sharing.owners, &sharing.crossing, makers) else {
@@ -117,7 +117,7 @@ fn text_by<R: Threads + Wait + Sync, D: Destination>(
     let Ok(shares) = shares_of(alloc, design, sharing) else {
         return to.refused();
     };
-    let Ok(makers) = open_makers(rt, alloc, &shares) else {
+    let Ok(makers) = open_makers(rt, alloc, design, &shares) else {
         return to.refused();
     };
     text_named::<Brand, R, D>(rt, alloc, design, sharing, makers, to)

@@ -81,7 +81,8 @@ impl<'a> TextMaker for Stream<'a> {
             mut dump,
             mut changed,
         } = self;
-        let Ok(engine) = engine.advance(&mut changed) else {
+        let upto = engine.next_end();
+        let Ok(engine) = engine.advance(upto, &mut changed) else {
             drop((dump, changed));
             return Err(AllocError);
         };

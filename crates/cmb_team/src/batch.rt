@@ -138,7 +138,8 @@ impl<'a> Batch<'a> {
         ensures later { IfOk result (λ it. engine.entry.clock < it.clock) }
     {
         let mut changed = self.take_room();
-        let engine = engine.advance(&mut changed)?;
+        let upto = engine.next_end();
+        let engine = engine.advance(upto, &mut changed)?;
         let pushed = self.push(changed, engine.clock());
         pushed.and(Ok(engine))
     }

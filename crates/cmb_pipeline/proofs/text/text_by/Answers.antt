@@ -6,5 +6,5 @@ pub text_named-requires-clause-of : goal.text_named-requires-clause-of
 text_named-requires-clause-of g c κs within =
     let made = c.in-Ok-open_makers.ensures in
     let same = made.shares ∙ c.deref.ensures.value in
-    is-run c.args.design.now c.args.sharing.now c.in-Ok.shares.items c.in-Ok-open_makers.makers c.requires.sharing c.in-Ok.ensures same made.width
-    made.wide made.narrow
+    is-run c.args.design.now c.args.sharing.now c.in-Ok.shares.items c.in-Ok-open_makers.makers c.requires.sharing c.in-Ok.ensures same made.windows
+    made.horizon

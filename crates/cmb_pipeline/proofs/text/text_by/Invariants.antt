@@ -5,5 +5,5 @@ ghosts-text_named g a = record {
   design = a.design.now;
   owners = a.sharing.now.owners.items;
   crossing = a.sharing.now.crossing.items;
-  width = a.makers.width;
+  windows = a.makers.windows;
 }

@@ -9,7 +9,7 @@ use Rattle.cmb_batch.proofs.batch.Batch.changes.Goals as goal
 pub returns-clause-window : goal.returns-clause-window
 returns-clause-window c =
     let b = c.self.inside in
-    let batch : Batch = record { design = b.design.now; owners = b.owners.now; crossing = b.crossing.now; width = b.width; clocks = b.clocks.items; made = b.made } in
+    let batch : Batch = record { design = b.design.now; owners = b.owners.now; crossing = b.crossing.now; clocks = b.clocks.items; made = b.made } in
     let place = c.args.place in
     let told = c.deref.result.now in
     subst

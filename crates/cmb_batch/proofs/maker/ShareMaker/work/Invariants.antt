@@ -6,7 +6,7 @@ use Rattle.cmb_batch.proofs.maker.ShareMaker.work.Given as goal
 abbrev pub invariant-loop-place : goal.invariant-loop-place
 invariant-loop-place l = record {
   share : l.maker.share ≡ l.fn.self.share;
-  width : l.maker.width ≡ l.fn.self.width;
+  windows : l.maker.windows ≡ l.fn.self.windows;
   clock : l.maker.clock ≡ clock_at l.clocks l.place;
   len : length l.windows ≡ length l.fn.windows;
   made : AreBeingMade l.fn.self.share.design l.fn.self.share.owners l.fn.self.share.crossing l.fn.self.share.number l.clocks l.windows l.place;

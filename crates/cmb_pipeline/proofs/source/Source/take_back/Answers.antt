@@ -7,9 +7,8 @@ invariant_of-self g c =
       same = was.same;
       owned = was.owned;
       crossed = was.crossed;
-      paced = was.paced;
-      wide = was.wide;
-      narrow = was.narrow;
+      same_windows = was.same_windows;
+      horizon = was.horizon;
       nets = was.nets;
       marks = was.marks;
       late = was.late;
@@ -18,14 +17,13 @@ invariant_of-self g c =
 
 pub invariant_of-self-2 : goal.invariant_of-self-2
 invariant_of-self-2 g c =
-    let was = c.days.new.self in
+    let was = c.clocks.new.self in
     record {
       same = was.same;
       owned = was.owned;
       crossed = was.crossed;
-      paced = was.paced;
-      wide = was.wide;
-      narrow = was.narrow;
+      same_windows = was.same_windows;
+      horizon = was.horizon;
       nets = was.nets;
       marks = was.marks;
       late = was.late;
