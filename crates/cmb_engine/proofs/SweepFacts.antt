@@ -118,7 +118,7 @@ module _ (cells : List Cell) (order : Order) (ordered : IsOrder order) (ranked :
 
 -- ---- a batch was taken, made and passed on
 
-module _ (cells : List Cell) (order : Order) (gates flops : List (List ℕ)) (count to first : ℕ) (wired : IsWired cells order gates flops count first) (opened : Bool)
+module _ (cells : List Cell) (order : Order) (nodes : List Cell) (gates flops : List (List ℕ)) (count to first : ℕ) (wired : IsWired cells order nodes gates flops count first) (opened : Bool)
     (closed : opened ≡ false → AreClosed (cell_at cells) to first) (f g : ℕ → ℕ → Level) (marks taken marked live more : List ℕ) (from upto base places news : ℕ)
     (take : IsTaken marks taken from upto base places) (makes : Makes (cell_at cells) order to first base places news f g)
     (passes : Passes order base news gates flops opened taken marked live more) where

@@ -41,13 +41,14 @@ pub record IsWindow (from ticks to first most : ℕ) : Type 0 where
   pub fits : most < first
 
 -- what settles the words of a window needs
-pub window-wired : (cells : List Cell) (order : Order) (gate_lists flop_lists : List (List ℕ)) (flops : List Group) (most : ℕ) → IsWiring cells order gate_lists flop_lists flops most
-    → (count first : ℕ) → length cells ≡ count → most ≤ first → IsWired cells order gate_lists flop_lists count first
-window-wired cells order gate_lists flop_lists flops most wiring count first nets later =
-    subst (λ (n : ℕ). IsWired cells order gate_lists flop_lists n first) nets (record {
+pub window-wired : (cells : List Cell) (order : Order) (nodes : List Cell) (gate_lists flop_lists : List (List ℕ)) (flops : List Group) (most : ℕ) → IsWiring cells order nodes gate_lists flop_lists flops most
+    → (count first : ℕ) → length cells ≡ count → most ≤ first → IsWired cells order nodes gate_lists flop_lists count first
+window-wired cells order nodes gate_lists flop_lists flops most wiring count first nets later =
+    subst (λ (n : ℕ). IsWired cells order nodes gate_lists flop_lists n first) nets (record {
       nets = refl;
       ranked = wiring.ranked;
       ordered = wiring.ordered;
+      in_order = wiring.in_order;
       gates = wiring.gates;
       flops = wiring.samplers;
       lawful = λ slot inside. lawful-later (length cells) most first (cell_at cells slot) later (wiring.lawful slot inside);
@@ -93,8 +94,8 @@ pub record IsBegun (trace : ℕ → ℕ → Level) (cells : List Cell) (order : 
   pub told_true : (slot place : ℕ) → slot < length cells → is_made (cell_at cells slot) ≡ false → place < 64 → told slot place ≡ shown trace to slot place
   pub arrivals : (slot place : ℕ) → first ≤ place → place < 64 → Arrives (cell_at cells slot) (to + place - 64) → IsMarkedOrRests (is_marked order marks) told first cells slot
 
-module _ (trace : ℕ → ℕ → Level) (cells : List Cell) (order : Order) (readers flop_lists : List (List ℕ)) (flops : List Group) (most : ℕ)
-    (wiring : IsWiring cells order readers flop_lists flops most)
+module _ (trace : ℕ → ℕ → Level) (cells : List Cell) (order : Order) (nodes : List Cell) (readers flop_lists : List (List ℕ)) (flops : List Group) (most : ℕ)
+    (wiring : IsWiring cells order nodes readers flop_lists flops most)
     (meets : MeetsCells trace (cell_at cells)) (from ticks to first : ℕ) (window : IsWindow from ticks to first most) (old moved told : ℕ → ℕ → Level)
     (shows : Shows old trace (length cells) from) (moves : (slot place : ℕ) → place < 64 → moved slot place ≡ old slot (min (place + ticks) 63))
     (live marks : List ℕ) (begun : IsBegun trace cells order readers most moved told live marks to first) where

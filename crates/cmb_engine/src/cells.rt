@@ -9,6 +9,7 @@ ghost use Rattle.cmb_engine.specs.Inner.Cells.{cell_at, is_flop, is_gate, is_mad
 ghost use Rattle.cmb_engine.specs.Inner.Cells.{IsListed, IsMade, IsLawful};
 ghost use Rattle.cmb_engine.specs.Inner.Tables.{IsInside, cell_of};
 ghost use Rattle.cmb_engine.specs.Inner.Windows.{HasWindow};
+ghost use Rattle.cmb_engine.specs.declared.cells.Rule.{Rule};
 ghost use Rattle.cmb_engine.specs.Inner.Words.{levels_of};
 
 use crate::arrivals::Arrival;
@@ -49,6 +50,27 @@ pub(crate) enum Rule {
     Double(Kind, Pin, Pin),
     Gate(Kind, PinRange),
     Flop(Clock, Pin),
+}
+
+// The rule of a slot.
+fn rule_of(rules: &[Rule], slot: usize) -> Rule
+    requires { slot < length rules.now }
+    ensures { (d : Rule) → result ≡ slice_index_or rules.now slot d }
+{
+    rules[slot]
+}
+
+// The rules of some slots, one after another.
+fn picked_rules(alloc: Global, rules: &[Rule], slots: &[u32]) -> Result<Vec<Rule>, AllocError>
+    requires { All (λ slot. slot < length rules.now) slots.now }
+    ensures { IfOk result (λ picked. (d : Rule)
+        → picked.items ≡ map (λ slot. slice_index_or rules.now slot d) slots.now) }
+{
+    let mut picked = Vec::with_capacity(alloc, slots.len())?;
+    for slot in slots {
+        picked.push(rule_of(rules, *slot as usize))?;
+    }
+    Ok(picked)
 }
 
 /// The cells of nets, by their numbers.
@@ -222,30 +244,42 @@ impl Cells {
         }
     }
 
-    /// What the cell of a net makes of the words from a place on, with what stands below it.
+    /// The cells of some slots, one after another.
+    pub(crate) fn picked(&self, alloc: Global, slots: &[u32]) -> Result<Cells, AllocError>
+        requires { All (λ slot. slot < length self.now) slots.now }
+        ensures { IfOk result (λ cells. cells ≡ map (cell_at self.now) slots.now) }
+    {
+        let rules = picked_rules(alloc, &self.rules, slots)?;
+        let mut pins = Vec::new(alloc);
+        pins.extend_from_slice(&self.pins)?;
+        Ok(Cells { rules, pins })
+    }
+
+    /// What a cell, given by its number, makes of the words from a place on, with what stands below it in a slot's word.
     #[inline]
     pub(crate) fn word(
         &self,
-        net: usize,
+        number: usize,
+        slot: usize,
         words: &[Word],
         last: &mut Arrival,
         to: u32,
         first: u32,
     ) -> Word
-        requires net { net < length words.now }
+        requires number { number < length self.now }
+        requires slot { slot < length words.now }
         requires last { IsArrival last.old to first }
-        requires cell { IsLawful (length words.now) first (slice_index_or self.now net Told) }
-        requires nets { length self.now ≡ length words.now }
+        requires cell { IsLawful (length words.now) first (slice_index_or self.now number Told) }
         requires window { HasWindow to first }
         ensures last { IsArrival last.new to first }
-        ensures below { (place : ℕ) → place < first → level_at_place result place ≡ levels_of words.now net place }
+        ensures below { (place : ℕ) → place < first → level_at_place result place ≡ levels_of words.now slot place }
         ensures made { IsMade (levels_of words.now) (level_at_place result) to first
-            (slice_index_or self.now net Told) }
-        ensures told { is_made (slice_index_or self.now net Told) ≡ false
-            → (place : ℕ) → level_at_place result place ≡ levels_of words.now net place }
+            (slice_index_or self.now number Told) }
+        ensures told { is_made (slice_index_or self.now number Told) ≡ false
+            → (place : ℕ) → level_at_place result place ≡ levels_of words.now slot place }
     {
-        let own = words[net];
-        match self.rules[net] {
+        let own = words[slot];
+        match self.rules[number] {
             Rule::Told => own,
             Rule::Single(kind, pin) => spliced(own, single_word(kind, pin, words), first),
             Rule::Double(kind, pin, other) => {

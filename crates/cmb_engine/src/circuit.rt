@@ -2,7 +2,7 @@
 
 use crate::cell::Pin;
 use crate::readers::Readers;
-use crate::window::Wiring;
+use crate::wiring::Wiring;
 
 /// The slots of a design and how they hang together.
 #[derive(Drop)]

@@ -1,7 +1,7 @@
 //! The fanout of slots: who is to be visited where a slot has another word.
 
-ghost use Rattle.std.specs.Prelude.{◌≡◌, ℕ, ◌^◌, ◌<◌, All, IfOk, length, slice_index_or};
-ghost use Rattle.cmb_engine.specs.Inner.Cells.{Told, is_flop, is_gate, AreFanout, pins_of};
+ghost use Rattle.std.specs.Prelude.{◌≡◌, ℕ, ◌^◌, ◌<◌, All, IfOk, length, map, slice_index_or};
+ghost use Rattle.cmb_engine.specs.Inner.Cells.{Told, cell_at, is_flop, is_gate, AreFanout, pins_of};
 ghost use Rattle.cmb_engine.specs.Inner.Orders.{IsOrder};
 
 use crate::cells::Cells;
@@ -9,10 +9,12 @@ use crate::order::{Order, order_of};
 use crate::readers::{Readers, flop_readers, gate_readers};
 use std::alloc::{AllocError, Global};
 
-/// In which order slots are visited, and for each slot the ranks of the gates and those of the flip-flops that read it.
+/// In which order slots are visited, the cells in this order, so that those that are visited one after another stand side
+/// by side, and for each slot the ranks of the gates and those of the flip-flops that read it.
 #[derive(Drop)]
 pub(crate) struct Fanout {
     pub order: Order,
+    pub nodes: Cells,
     pub gates: Readers,
     pub flops: Readers,
 }
@@ -24,6 +26,7 @@ pub(crate) fn fanout_of(alloc: Global, cells: &Cells) -> Result<Fanout, AllocErr
         → All (λ pin. pin.net < length cells.now) (pins_of (slice_index_or cells.now net Told)) }
     ensures ordered { IfOk result (λ fanout. IsOrder fanout.order) }
     ensures ranked { IfOk result (λ fanout. length fanout.order.ranks ≡ length cells.now) }
+    ensures nodes { IfOk result (λ fanout. fanout.nodes ≡ map (cell_at cells.now) fanout.order.slots) }
     ensures gates { IfOk result (λ fanout. AreFanout is_gate cells.now fanout.order fanout.gates) }
     ensures flops { IfOk result (λ fanout. AreFanout is_flop cells.now fanout.order fanout.flops) }
 {
@@ -31,6 +34,7 @@ pub(crate) fn fanout_of(alloc: Global, cells: &Cells) -> Result<Fanout, AllocErr
     let flops = flop_readers(alloc, cells)?;
     let order = order_of(alloc, cells, &gates, &flops)?;
     Ok(Fanout {
+        nodes: cells.picked(alloc, order.slots())?,
         gates: Readers::ranked(alloc, &gates, &order)?,
         flops: Readers::ranked(alloc, &flops, &order)?,
         order,

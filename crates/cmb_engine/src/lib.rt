@@ -33,6 +33,7 @@ mod visit;
 mod walk;
 mod window;
 pub mod windows;
+mod wiring;
 
 pub use engine::Engine;
 pub use share::ShareEngine;

@@ -19,7 +19,7 @@ use crate::role::Role;
 use crate::start::start_words;
 use crate::state::State;
 use crate::stimuli::{note_starts, note_stimuli};
-use crate::window::Wiring;
+use crate::wiring::Wiring;
 use cmb_calendar::Calendar;
 use cmb_design::Design;
 use cmb_words::Word;

@@ -62,6 +62,13 @@ impl Order {
         self.slots.len()
     }
 
+    /// The slots by rank.
+    pub(crate) fn slots(&self) -> &[u32]
+        ensures { result.now ≡ self.now.slots }
+    {
+        self.slots.as_slice()
+    }
+
     /// The slot of a rank, where there is one.
     #[inline]
     pub(crate) fn slot(&self, rank: usize) -> Option<usize>

@@ -75,7 +75,11 @@ impl Readers {
     }
 
     /// The same lists, with ranks in the place of slots.
-    pub(crate) fn ranked(alloc: Global, lists: &[Numbers], order: &Order) -> Result<Readers, AllocError>
+    pub(crate) fn ranked(
+        alloc: Global,
+        lists: &[Numbers],
+        order: &Order,
+    ) -> Result<Readers, AllocError>
         ensures { IfOk result (λ readers. readers ≡ map (λ list. map (rank_in order.now) list.items) lists.now) }
     {
         let mut starts = vec![in alloc; 0; 1]?;

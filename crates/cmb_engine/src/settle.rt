@@ -1,13 +1,13 @@
 //! Visits of nets with news.
 
-ghost use Rattle.std.specs.Prelude.{◌≡◌, ◌≢◌, ℕ, ◌+◌, ◌*◌, ◌<◌, ◌≤◌, ◌||◌, true, [], All, length, slice_index};
+ghost use Rattle.std.specs.Prelude.{◌≡◌, ◌≢◌, ℕ, ◌+◌, ◌*◌, ◌<◌, ◌≤◌, ◌||◌, true, List, [], All, length, map, slice_index};
 ghost use Rattle.std.specs.Prelude.{slice_index_or, slice_set};
 ghost use Rattle.cmb_wave.specs.declared.level.Level.{Level};
 ghost use Rattle.cmb_engine.specs.Inner.Arrivals.{IsArrival};
 ghost use Rattle.cmb_engine.specs.Inner.Bits.{has};
 ghost use Rattle.cmb_words.specs.Bits.{is_set_at};
 ghost use Rattle.cmb_engine.specs.Inner.Batches.{Makes, Passes};
-ghost use Rattle.cmb_engine.specs.Inner.Cells.{cell_at, AreBelow, AreMarked, AreSettled, IsLawful, IsReady, IsTrueBelow};
+ghost use Rattle.cmb_engine.specs.Inner.Cells.{Cell, cell_at, AreBelow, AreMarked, AreSettled, IsLawful, IsReady, IsTrueBelow};
 ghost use Rattle.cmb_engine.specs.Inner.Orders.{is_marked, IsOrder};
 ghost use Rattle.cmb_engine.specs.Inner.Sweeps.{CanSweep, Sweeps};
 ghost use Rattle.cmb_engine.specs.Inner.Windows.{HasWindow};
@@ -20,6 +20,7 @@ use crate::marks::{Batch, Marks};
 use crate::order::Order;
 use crate::readers::Readers;
 use crate::walk::Walk;
+use crate::wiring::Wiring;
 use cmb_words::{Places, Word};
 
 /// Marks some nets.
@@ -71,7 +72,7 @@ fn with_place(mask: u64, place: u32, is_wanted: bool) -> u64
 //
 // Most slots of a batch are of one level, so none waits for what another one stores.
 fn make_words(
-    cells: &Cells,
+    nodes: &Cells,
     order: &Order,
     words: &mut [Word],
     last: &mut Arrival,
@@ -80,20 +81,22 @@ fn make_words(
     first: u32,
 ) -> u64
     requires last { IsArrival last.old to first }
-    requires nets { length cells.now ≡ length words.old }
     requires ranked { length order.now.ranks ≡ length words.old }
     requires ordered { IsOrder order.now }
-    requires lawful { (slot : ℕ) → slot < length words.old → IsLawful (length words.old) first (cell_at cells.now slot) }
+    requires nodes { length nodes.now ≡ length order.now.slots }
+    requires lawful { (rank : ℕ) → rank < length nodes.now → IsLawful (length words.old) first (cell_at nodes.now rank) }
     requires window { HasWindow to first }
     ensures len { length words.new ≡ length words.old }
     ensures last { IsArrival last.new to first }
-    ensures makes { Makes (cell_at cells.now) order.now to first batch.base batch.places result
+    ensures makes { (cells : List Cell) → nodes.now ≡ map (cell_at cells) order.now.slots
+        → Makes (cell_at cells) order.now to first batch.base batch.places result
         (levels_of words.old) (levels_of words.new) }
 {
     let mut news = 0;
     for place in Places::of(batch.places) {
-        if let Some(slot) = order.slot(batch.base + place as usize) {
-            let made = cells.word(slot, words, last, to, first);
+        let rank = batch.base + place as usize;
+        if let Some(slot) = order.slot(rank) {
+            let made = nodes.word(rank, slot, words, last, to, first);
             news = with_place(news, place, made.differs_from(words[slot], first));
             words[slot] = made;
         }
@@ -140,8 +143,7 @@ fn pass_on(fanout: &Fanout, news: Batch, opened: bool, live: &mut Marks, marks: 
 /// Visits the marked slots by rising rank, each once: those of one level in a word of marks are made, and then what reads
 /// them is marked.
 pub(crate) fn sweep(
-    cells: &Cells,
-    fanout: &Fanout,
+    wiring: &Wiring,
     opened: bool,
     words: &mut [Word],
     marks: &mut Marks,
@@ -149,22 +151,31 @@ pub(crate) fn sweep(
     to: u32,
     first: u32,
 )
-    requires { CanSweep cells.now fanout.now.order fanout.now.gates fanout.now.flops opened
-        (length words.old) marks.old live.old to first }
-    ensures sweeps { Sweeps (cell_at cells.now) fanout.now.order to first (levels_of words.old) (levels_of words.new)
+    requires { CanSweep wiring.now.cells wiring.now.fanout.order wiring.now.fanout.nodes wiring.now.fanout.gates
+        wiring.now.fanout.flops opened (length words.old) marks.old live.old to first }
+    ensures sweeps { Sweeps (cell_at wiring.now.cells) wiring.now.fanout.order to first (levels_of words.old) (levels_of words.new)
         marks.old marks.new live.old live.new }
 
     // What the sweep passes becomes true one place further.
     ensures truer { (truth : ℕ → ℕ → Level) (upto : ℕ) → first ≤ upto → upto < 64
-        → IsReady (levels_of words.old) truth (cell_at cells.now) to first
-        → AreSettled (levels_of words.old) (is_marked fanout.now.order marks.old) (cell_at cells.now) to first
-        → IsTrueBelow (levels_of words.old) truth (cell_at cells.now) upto
-        → IsTrueBelow (levels_of words.new) truth (cell_at cells.now) (upto + 1) }
+        → IsReady (levels_of words.old) truth (cell_at wiring.now.cells) to first
+        → AreSettled (levels_of words.old) (is_marked wiring.now.fanout.order marks.old) (cell_at wiring.now.cells) to first
+        → IsTrueBelow (levels_of words.old) truth (cell_at wiring.now.cells) upto
+        → IsTrueBelow (levels_of words.new) truth (cell_at wiring.now.cells) (upto + 1) }
 {
+    let fanout = &wiring.fanout;
     let mut last = any_arrival(to, first);
     let mut walk = Walk::at(0);
     'batches: while let Some(batch) = marks.take(&mut walk, fanout.order.levels()) {
-        let places = make_words(cells, &fanout.order, words, &mut last, batch, to, first);
+        let places = make_words(
+            &fanout.nodes,
+            &fanout.order,
+            words,
+            &mut last,
+            batch,
+            to,
+            first,
+        );
         let base = batch.base;
         let news = Batch { base, places };
         pass_on(fanout, news, opened, live, marks);
@@ -175,8 +186,7 @@ pub(crate) fn sweep(
 /// words below the place is true in all of them.
 #[inline(never)]
 pub(crate) fn settle(
-    cells: &Cells,
-    fanout: &Fanout,
+    wiring: &Wiring,
     opened: bool,
     words: &mut [Word],
     marks: &mut Marks,
@@ -184,20 +194,20 @@ pub(crate) fn settle(
     to: u32,
     first: u32,
 )
-    requires { CanSweep cells.now fanout.now.order fanout.now.gates fanout.now.flops opened
-        (length words.old) marks.old live.old to first }
-    ensures sweeps { Sweeps (cell_at cells.now) fanout.now.order to first (levels_of words.old) (levels_of words.new)
+    requires { CanSweep wiring.now.cells wiring.now.fanout.order wiring.now.fanout.nodes wiring.now.fanout.gates
+        wiring.now.fanout.flops opened (length words.old) marks.old live.old to first }
+    ensures sweeps { Sweeps (cell_at wiring.now.cells) wiring.now.fanout.order to first (levels_of words.old) (levels_of words.new)
         marks.old marks.new live.old live.new }
     ensures exact { (truth : ℕ → ℕ → Level)
-        → IsReady (levels_of words.old) truth (cell_at cells.now) to first
-        → AreSettled (levels_of words.old) (is_marked fanout.now.order marks.old) (cell_at cells.now) to first
-        → IsTrueBelow (levels_of words.old) truth (cell_at cells.now) first
-        → IsTrueBelow (levels_of words.new) truth (cell_at cells.now) 64 }
+        → IsReady (levels_of words.old) truth (cell_at wiring.now.cells) to first
+        → AreSettled (levels_of words.old) (is_marked wiring.now.fanout.order marks.old) (cell_at wiring.now.cells) to first
+        → IsTrueBelow (levels_of words.old) truth (cell_at wiring.now.cells) first
+        → IsTrueBelow (levels_of words.new) truth (cell_at wiring.now.cells) 64 }
 {
     for _ in first..64 {
         match marks.next(&mut Walk::at(0)) {
             None => return,
-            Some(_) => sweep(cells, fanout, opened, words, marks, live, to, first),
+            Some(_) => sweep(wiring, opened, words, marks, live, to, first),
         }
     }
 }

@@ -12,29 +12,16 @@ ghost use Rattle.cmb_engine.specs.Inner.Tells.{AreOfWindow};
 ghost use Rattle.cmb_engine.specs.Inner.Words.{levels_of};
 
 use crate::begin::mark_news;
-use crate::cells::Cells;
-use crate::fanout::Fanout;
 use crate::flops::mark_arrivals;
 use crate::given::write_given;
-use crate::group::Group;
 use crate::marks::Marks;
 use crate::moves::move_on;
 use crate::role::Role;
 use crate::settle::settle;
 use crate::told::write_told;
+use crate::wiring::Wiring;
 use cmb_calendar::Tell;
 use cmb_words::{Changed, Word};
-
-/// What stays as it is while an engine goes on: what it does with each net, its cells, their fanout, the groups
-/// of flip-flops, and how many ticks back a pin looks at most.
-#[derive(Drop)]
-pub(crate) struct Wiring {
-    pub roles: Vec<Role>,
-    pub cells: Cells,
-    pub fanout: Fanout,
-    pub flops: Vec<Group>,
-    pub most: u32,
-}
 
 /// Goes on by a window of so many ticks, up to the clock `to`, where the tells are those of its ticks, and what others
 /// drive is given: words that show what the slots do up to the clock before show it up to this one then.
@@ -48,8 +35,8 @@ pub(crate) fn go_on(
     ticks: u32,
     to: u32,
 )
-    requires wiring { IsWiring wiring.now.cells wiring.now.fanout.order wiring.now.fanout.gates wiring.now.fanout.flops
-        wiring.now.flops.items wiring.now.most }
+    requires wiring { IsWiring wiring.now.cells wiring.now.fanout.order wiring.now.fanout.nodes wiring.now.fanout.gates
+        wiring.now.fanout.flops wiring.now.flops.items wiring.now.most }
     requires gives { AreToldNets wiring.now.cells wiring.now.roles.items }
     requires nets { length wiring.now.cells ≡ length words.old }
     requires room { length wiring.now.fanout.order.slots ≤ 64 * length marks.old }
@@ -88,5 +75,5 @@ pub(crate) fn go_on(
         to,
         first,
     );
-    settle(&wiring.cells, &wiring.fanout, opened, words, marks, live, to, first);
+    settle(wiring, opened, words, marks, live, to, first);
 }

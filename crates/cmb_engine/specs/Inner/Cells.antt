@@ -141,10 +141,11 @@ pub record AreFanout (is_such : Cell → Bool) (cells : List Cell) (order : Orde
   pub within : AreBelow (length order.slots) lists
 
 -- cells of so many slots, of which none looks back beyond a place, and who reads each slot
-pub record IsWired (cells : List Cell) (order : Order) (gate_lists flop_lists : List (List ℕ)) (count first : ℕ) : Type 0 where
+pub record IsWired (cells : List Cell) (order : Order) (nodes : List Cell) (gate_lists flop_lists : List (List ℕ)) (count first : ℕ) : Type 0 where
   pub nets : length cells ≡ count
   pub ranked : length order.ranks ≡ count
   pub ordered : IsOrder order
+  pub in_order : nodes ≡ map (cell_at cells) order.slots
   pub gates : AreFanout is_gate cells order gate_lists
   pub flops : AreFanout is_flop cells order flop_lists
   pub lawful : (net : ℕ) → net < count → IsLawful count first (cell_at cells net)

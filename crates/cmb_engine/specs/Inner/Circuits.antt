@@ -77,9 +77,10 @@ pub record AreMembers (cells : List Cell) (members : List Member) : Type 0 where
   pub each : All (λ member. IsFlopOf (cell_at cells member.slot) member.clock member.delay) members
 
 -- what stays as it is while an engine goes on: the cells, who reads each slot, and the flip-flops
-pub record IsWiring (cells : List Cell) (order : Order) (gate_lists flop_lists : List (List ℕ)) (flops : List Group) (most : ℕ) : Type 0 where
+pub record IsWiring (cells : List Cell) (order : Order) (nodes : List Cell) (gate_lists flop_lists : List (List ℕ)) (flops : List Group) (most : ℕ) : Type 0 where
   pub ranked : length order.ranks ≡ length cells
   pub ordered : IsOrder order
+  pub in_order : nodes ≡ map (cell_at cells) order.slots
   pub gates : AreFanout is_gate cells order gate_lists
   pub samplers : AreFanout is_flop cells order flop_lists
   pub flip_flops : AreFlops cells flops

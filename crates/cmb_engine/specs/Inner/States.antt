@@ -18,7 +18,7 @@ use Rattle.cmb_engine.specs.declared.state.State.{State}
 pub record IsCircuit (design : Design) (circuit : Circuit) : Type 0 where
   pub roles : AreRoles design circuit.wiring.roles.items
   pub plan : IsPlan design circuit.wiring.roles.items circuit.lines.items circuit.wiring.most circuit.width circuit.wiring.cells
-  pub wires : IsWiring circuit.wiring.cells circuit.wiring.fanout.order circuit.wiring.fanout.gates circuit.wiring.fanout.flops circuit.wiring.flops.items circuit.wiring.most
+  pub wires : IsWiring circuit.wiring.cells circuit.wiring.fanout.order circuit.wiring.fanout.nodes circuit.wiring.fanout.gates circuit.wiring.fanout.flops circuit.wiring.flops.items circuit.wiring.most
   pub few : length circuit.wiring.cells < 2 ^ 32
   pub follow : AreFollowers circuit.lines.items (nets_of design) circuit.followers
 

@@ -8,8 +8,8 @@ use Rattle.cmb_engine.specs.Inner.Windows.{HasWindow}
 
 -- what a sweep over the marked slots asks for: cells that are wired, a window, which is open where samples may be taken in it that
 -- show in it, and a place for each slot among the marks and the live ones
-pub record CanSweep (cells : List Cell) (order : Order) (gates flops : List (List ℕ)) (open_window : Bool) (nets : ℕ) (marks' live' : List ℕ) (to first : ℕ) : Type 0 where
-  pub wired : IsWired cells order gates flops nets first
+pub record CanSweep (cells : List Cell) (order : Order) (nodes : List Cell) (gates flops : List (List ℕ)) (open_window : Bool) (nets : ℕ) (marks' live' : List ℕ) (to first : ℕ) : Type 0 where
+  pub wired : IsWired cells order nodes gates flops nets first
   pub closed : open_window ≡ false → AreClosed (cell_at cells) to first
   pub room : length order.slots ≤ 64 * length marks'
   pub live : nets ≤ 64 * length live'

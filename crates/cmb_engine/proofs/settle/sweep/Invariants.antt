@@ -12,10 +12,10 @@ use Rattle.cmb_engine.proofs.settle.sweep.Given as goal
 abbrev pub invariant-batches : goal.invariant-batches
 invariant-batches l = record {
   last : IsArrival l.last l.to l.first;
-  sweeps : Sweeps (cell_at l.cells) l.fanout.order l.to l.first (levels_of l.initial.words) (levels_of l.words) l.initial.marks l.marks l.initial.live l.live;
+  sweeps : Sweeps (cell_at l.wiring.cells) l.wiring.fanout.order l.to l.first (levels_of l.initial.words) (levels_of l.words) l.initial.marks l.marks l.initial.live l.live;
   truer : (truth : ℕ → ℕ → Level) (upto : ℕ)
-      → IsBegun (levels_of l.initial.words) truth (is_marked l.fanout.order l.initial.marks) (cell_at l.cells) l.to l.first upto
-      → IsFurther (levels_of l.words) truth (cell_at l.cells) l.fanout.order upto (walked l.walk);
+      → IsBegun (levels_of l.initial.words) truth (is_marked l.wiring.fanout.order l.initial.marks) (cell_at l.wiring.cells) l.to l.first upto
+      → IsFurther (levels_of l.words) truth (cell_at l.wiring.cells) l.wiring.fanout.order upto (walked l.walk);
 }
 
 abbrev pub decreases-batches : goal.decreases-batches

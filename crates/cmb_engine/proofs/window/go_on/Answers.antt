@@ -23,7 +23,7 @@ write_told-requires-clause-slots c = λ tell among.
 pub settle-requires : goal.settle-requires
 settle-requires c = record {
   wired =
-      window-wired c.args.wiring.now.cells c.args.wiring.now.fanout.order c.args.wiring.now.fanout.gates c.args.wiring.now.fanout.flops c.args.wiring.now.flops.items
+      window-wired c.args.wiring.now.cells c.args.wiring.now.fanout.order c.args.wiring.now.fanout.nodes c.args.wiring.now.fanout.gates c.args.wiring.now.fanout.flops c.args.wiring.now.flops.items
       c.args.wiring.now.most c.requires.wiring
       (length c.write_given.new.words) (64 - c.args.ticks) (omega (arith, c.requires.nets, c.move_on.ensures.len, c.write_told.ensures.writes.len, c.write_given.ensures.writes.len)) (omega (arith, c.requires.fits));
   closed = λ shut.
@@ -49,7 +49,7 @@ mark_arrivals-opened-requires-clause-slots c =
 
 pub mark_arrivals-opened-requires-clause-lawful : goal.mark_arrivals-opened-requires-clause-lawful
 mark_arrivals-opened-requires-clause-lawful c =
-    (window-wired c.args.wiring.now.cells c.args.wiring.now.fanout.order c.args.wiring.now.fanout.gates c.args.wiring.now.fanout.flops c.args.wiring.now.flops.items
+    (window-wired c.args.wiring.now.cells c.args.wiring.now.fanout.order c.args.wiring.now.fanout.nodes c.args.wiring.now.fanout.gates c.args.wiring.now.fanout.flops c.args.wiring.now.flops.items
     c.args.wiring.now.most c.requires.wiring
     (length c.write_given.new.words) (64 - c.args.ticks) (omega (arith, c.requires.nets, c.move_on.ensures.len, c.write_told.ensures.writes.len, c.write_given.ensures.writes.len)) (omega (arith, c.requires.fits))).lawful
 
@@ -106,7 +106,7 @@ returns-clause-shows c = λ trace meets shows right given slot place inside smal
           (c.requires.wiring.flip_flops.all s arrival.clock arrival.delay arrival.flop) in
           c.mark_arrivals-opened.ensures.arrivals arrival.clock arrival.delay s p grouped late small arrival.arrives;
     } in
-    window-shows trace cells c.args.wiring.now.fanout.order lists c.args.wiring.now.fanout.flops c.args.wiring.now.flops.items c.args.wiring.now.most
+    window-shows trace cells c.args.wiring.now.fanout.order c.args.wiring.now.fanout.nodes lists c.args.wiring.now.fanout.flops c.args.wiring.now.flops.items c.args.wiring.now.most
     c.requires.wiring
     meets (c.args.to - c.args.ticks) c.args.ticks c.args.to (64 - c.args.ticks) window
     (levels_of c.args.words.now) (levels_of c.move_on.new.words) (levels_of c.write_given.new.words)
