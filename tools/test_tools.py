@@ -164,17 +164,6 @@ def test_gtkw():
     see("gtkw, no such net", run(".", ["gtkw.py", "carry"], BITS), (2, "", "gtkw: there is no net carry\n"))
 
 
-# ---- stimuli.py
-
-def test_stimuli():
-    given = "# a line of words alone\n0 go=0 word=0x2a  # hexadecimal\n\n10 go=1 word[1]=x pair=0b1x nibble=0xx\n"
-    wanted = ["tick,net,value", "0,go,0", *(f"0,word[{bit}],{level}" for bit, level in enumerate("01010100"))]
-    wanted += ["10,go,1", "10,word[1],x", "10,pair[0],x", "10,pair[1],1", *(f"10,nibble[{bit}],x" for bit in range(4))]
-    see("stimuli", run(".", ["stimuli.py"], given), (0, "\n".join(wanted) + "\n", ""))
-    see("a value of another form", run(".", ["stimuli.py"], "0 a=1\n1 a=2\n"), (2, "", "stimuli: line 2: 2 is no value\n"))
-    see("a word without a value", run(".", ["stimuli.py"], "0 a\n"), (2, "", "stimuli: line 1: a isn't NAME=VALUE\n"))
-
-
 # ---- from_yosys.py
 
 def gate(kind, output, *operands):
@@ -340,7 +329,7 @@ def test_words():
 
 
 def main():
-    for test in (test_compare, test_compare_names, test_unreadable, test_read, test_gtkw, test_stimuli, test_convert, test_clocks, test_refusals, test_loops,
+    for test in (test_compare, test_compare_names, test_unreadable, test_read, test_gtkw, test_convert, test_clocks, test_refusals, test_loops,
                  test_completions, test_words):
         test()
     print(f"{COUNTS['passed']} passed, {COUNTS['failed']} failed")
