@@ -151,6 +151,7 @@ def test_read():
             ("a time", BITS, ["--at", "20", "count"], (0, "1\n", "")),
             ("what isn't known", BITS, ["--at", "9", "count", "count[1]"], (0, "x\nx\n", "")),
             ("a bus that counts from the left", REAL, ["word[0]", "word[2]"], (0, "0\nx\n", "")),
+            ("the whole of it", REAL.replace("b1x w", "b110 w"), ["word"], (0, "6\n", "")),
             ("no such net", BITS, ["clear", "carry"], (2, "", "read_vcd: there is no net carry\n"))):
         see(f"read_vcd, {name}", run(".", ["read_vcd.py", *words], text), wanted)
 
@@ -162,6 +163,68 @@ def test_gtkw():
     ran = run(".", ["gtkw.py", "--width", "430", "clear", "count", "count[0]"], BITS)
     see("gtkw", (ran[0], ran[1].split("\n"), ran[2]), (0, wanted, ""))
     see("gtkw, no such net", run(".", ["gtkw.py", "carry"], BITS), (2, "", "gtkw: there is no net carry\n"))
+
+
+# What is left of a bus pc[31:1] of which yosys made bit 0 a constant, of a state whose bits 4 and 6 went, and of a bus [0:3].
+PARTS = """\
+$timescale 1 ns $end
+$scope module top $end
+""" + "".join(f"$var wire 1 p{bit} \\pc[{bit}] $end\n" for bit in range(1, 32)) + "".join(
+    f"$var wire 1 s{bit} \\state[{bit}] $end\n" for bit in (0, 1, 2, 3, 5, 7)) + "".join(
+    f"$var wire 1 u{bit} \\up[{bit}] $end\n" for bit in range(4)) + """\
+$upscope $end
+$enddefinitions $end
+#0
+""" + "".join(f"{int(bit in (4, 6, 31))}p{bit}\n" for bit in range(1, 32)) + "".join(
+    f"{int(bit in (1, 5))}s{bit}\n" for bit in (0, 1, 2, 3, 5, 7)) + "0u0\n0u1\n0u2\n1u3\n#12345678\n"
+PART_NAMES = "bit,is,net\npc[0],0,\nstate[4],not,state[1]\nstate[6],gone,\nhigh[11],x,\nhigh[10],1,\nhigh[9],net,up[3]\nhigh[8],0,\n"
+PART_BUSES = "name,left,right\nup,0,3\nhigh,11,8\n"
+
+
+def read_parts(tool, words, names=PART_NAMES, buses=PART_BUSES):
+    with tempfile.TemporaryDirectory() as folder:
+        put(folder, {"names.csv": names, "buses.csv": buses})
+        return run(folder, [tool, *words], PARTS)
+
+
+def test_parts():
+    tables = ["--names", "names.csv"]
+    for name, words, wanted in (
+            ("no bit 0", ["pc"], (0, "8000005?\n", "read_vcd: pc[0] has no net, and is shown as ?\n")),
+            ("bits that went", ["state", "pc"], (0, "?2\n8000005?\n", "read_vcd: state[6], state[4], pc[0] has no net, and is shown as ?\n")),
+            ("a bit 0 that the table tells of", tables + ["pc", "pc[0]"], (0, "80000050\n0\n", "")),
+            ("the opposite of a net", tables + ["state[4]", "state[6]", "state"],
+             (0, "0\n?\n?2\n", "read_vcd: state[6], state[6] has no net, and is shown as ?\n")),
+            ("a bus that ends with bit 8", tables + ["high", "high[9]"], (0, "x\n1\n", "")),
+            ("a bus that begins with bit 0", tables + ["up"], (0, "1\n", "")),
+            ("no such bus", tables + ["low"], (2, "", "read_vcd: there is no net low\n"))):
+        see(f"read_vcd, {name}", read_parts("read_vcd.py", words), wanted)
+    see("a table of another kind", read_parts("read_vcd.py", tables + ["pc"], "bit,is,net\npc[0],2,\n"),
+        (2, "", "read_vcd: names.csv, line 2: not a row of bit,is,net, as from_yosys.py writes it\n"))
+    see("buses of another kind", read_parts("read_vcd.py", tables + ["pc"], buses="name,left,right\npc,a,0\n"),
+        (2, "", "read_vcd: buses.csv, line 2: not a row of name,left,right, as from_yosys.py writes it\n"))
+    see("buses of another design", read_parts("read_vcd.py", tables + ["pc"], buses="name,left,right\npc,9,2\n"),
+        (0, "80000050\n", ""))
+
+
+def test_gtkw_parts():
+    def body(words):
+        ran = read_parts("gtkw.py", words)
+        return ran[0], ran[1].split("\n")[7:-3], ran[2]
+    pc = [f"top.\\pc[{bit}]" for bit in range(31, 0, -1)]
+    see("gtkw, no bit 0", body(["pc"]), (0, ["@22", " ".join(["#{pc[31:4]}", *pc[:-3]]), "@28", " ".join(["#{pc[3:1]}", *pc[-3:]])],
+                                        "gtkw: pc[0] has no net to show, and is left out\n"))
+    bits = ["#{state[7],state[5]} top.\\state[7] top.\\state[5]", "#{state[3:0]} " + " ".join(f"top.\\state[{bit}]" for bit in (3, 2, 1, 0))]
+    see("gtkw, bits that went", body(["state"]), (0, ["@28", bits[0], "@22", bits[1]], "gtkw: state[6], state[4] has no net to show, and is left out\n"))
+    see("gtkw, a bit that is another net", body(["--names", "names.csv", "high[9]", "up", "pc[0]"]),
+        (0, ["@28", "+{high[9]} top.\\up[3]", "@22", "#{up[0:3]} " + " ".join(f"top.\\up[{bit}]" for bit in range(4))],
+         "gtkw: pc[0] has no net to show, and is left out\n"))
+    see("gtkw, the last time", read_parts("gtkw.py", ["up"])[1].split("\n")[3][:12], "*-21.068021 ")
+    with tempfile.TemporaryDirectory() as folder:
+        put(folder, {"long.vcd": PARTS + "#12345679\n" + "0u0\n" * 600000})
+        with open(f"{folder}/long.vcd", encoding="ascii") as file:
+            ran = subprocess.run([sys.executable, f"{HERE}/gtkw.py", "up"], stdin=file, stdout=subprocess.PIPE, universal_newlines=True, timeout=60)
+        see("gtkw, a last time that stands far from the end", ran.stdout.split("\n")[3][:12], "*-21.068021 ")
 
 
 # ---- from_yosys.py
@@ -346,7 +409,7 @@ def test_words():
 
 
 def main():
-    for test in (test_compare, test_compare_names, test_unreadable, test_read, test_gtkw, test_convert, test_kept, test_clocks, test_refusals, test_loops,
+    for test in (test_compare, test_compare_names, test_unreadable, test_read, test_gtkw, test_parts, test_gtkw_parts, test_convert, test_kept, test_clocks, test_refusals, test_loops,
                  test_completions, test_words):
         test()
     print(f"{COUNTS['passed']} passed, {COUNTS['failed']} failed")
