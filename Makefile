@@ -14,7 +14,7 @@ try:
 
 # The main job: the inverter's waveforms as VCD on standard output, by the proved program.
 example: build
-	@scripts/run_example.sh $(PROGRAM) inverter
+	@CMBSIM=$(PROGRAM) tools/simulate.sh examples/inverter
 
 # Proves whatever isn't proved yet, and builds the program.
 build:
