@@ -66,7 +66,7 @@ LATCHES
 gates=${latches:+"techmap -map \"$room/latches.v\"; simplemap"}
 # -script has abc make short paths; without it abc looks for few gates first.
 yosys -q -f "$language" -p "$library
-hierarchy -check -top $top; proc; flatten; write_json \"$room/source.json\"
+design -push-copy; hierarchy -check -top $top; proc; flatten; write_json \"$room/source.json\"; design -pop
 synth -flatten -noabc $fsm -top $top; $async; dffunmap; $zero; write_json \"$room/gates.json\"
 abc -g AND,NAND,OR,NOR,XOR,XNOR -script +strash;dch;map
 $gates

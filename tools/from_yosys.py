@@ -33,6 +33,7 @@ from yosys_json import Cell, Refused, bits_by_name, cells_of, first_levels, in_o
 
 OPTIONS = {"rising": "--clock", "falling": "--falling"}
 TO_BEGIN = ("stimuli.csv", "options")
+INSIDE = "$func$"  # in the names that yosys gives to what is inside a call of a function
 MOST_NETS = 65535
 MOST_TICKS = 1000000
 
@@ -186,15 +187,15 @@ def netlist_of(design, ordered):
 
 # ---- the tables and the options
 
-def table(header, rows):
+def table(*rows):
     text = io.StringIO()
-    csv.writer(text, lineterminator="\n").writerows([header, *rows])
+    csv.writer(text, lineterminator="\n").writerows(rows)
     return text.getvalue()
 
 
 def levels_of(levels):
     """The table of stimuli that gives nets a level from tick 0 on."""
-    return table(["tick", "net", "value"], [(0, name, level) for name, level in levels if level != "x"])
+    return table(["tick", "net", "value"], *((0, name, level) for name, level in levels if level != "x"))
 
 
 def declared_of(wires):
@@ -210,29 +211,29 @@ def ports_table(design, module):
     nets = design.nets()
     rows = [(clean(name), it["direction"], *ends) for name, it, ends in declared_of(module["ports"])
             if all(nets.get(clean(name)) in (bit, ("copy", name)) for bit, name in named_bits(name, it))]
-    return table(["name", "direction", "left", "right"], rows)
+    return table(["name", "direction", "left", "right"], *rows)
 
 
 def buses_table(wires):
     """The buses whose rightmost bit isn't bit 0."""
-    return table(["name", "left", "right"], [(clean(name), *ends) for name, it, ends in declared_of(wires) if ends[1]])
+    return table(["name", "left", "right"], *((clean(name), *ends) for name, _, ends in declared_of(wires) if ends[1]))
 
 
 def names_table(design, wires, bits, lost):
     """What became of each bit that the source names and that has no net of its own."""
     nets = design.nets()
-    has_net = set(nets.values())
-
-    def row(name):
+    has_net, rows = set(nets.values()), [NAMES]
+    for name in dict.fromkeys(name for _, name in wires_of({"netnames": wires})):
         bit = bits.get(name)
         kind, bit = ("net", bit) if bit in has_net else (bit, None) if bit in LEVELS else lost.get(name, ("gone", None))
-        return name, kind, "" if bit is None else design.names.of(bit)
-    return table(NAMES, [row(name) for name in dict.fromkeys(name for _, name in wires_of({"netnames": wires})) if name not in nets])
+        if name not in nets and INSIDE not in name:
+            rows.append([name, kind, "" if bit is None else design.names.of(bit)])
+    return table(*rows)
 
 
 def clocks_of(design, given):
     name = design.names.of
-    return table(["net", "first", "period"], [(name(it.output), *given[name(it.clock[0]), it.clock[1]]) for it in design.cells if it.clock])
+    return table(["net", "first", "period"], *((name(it.output), *given[name(it.clock[0]), it.clock[1]]) for it in design.cells if it.clock))
 
 
 def init_of(design):
