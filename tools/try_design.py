@@ -24,7 +24,8 @@ LOW = re.compile(r"^n|n$|_ni?$|_?n_", re.IGNORECASE)  # what the name of a reset
 LIMIT = 120  # as many seconds may a command take
 UNTIMED = 60  # the period where loops of gates have no longest path
 # What from_verilog.sh says, and the option that helps.
-HELP = [("--async", "from_verilog.sh --async"), ("--latches", "from_verilog.sh --latches"), ("--zero-init", "begin with different levels")]
+HELP = [("--async", "from_verilog.sh --async"), ("--latches", "from_verilog.sh --latches"),
+        ("--zero-init", "begin with different levels")]
 
 
 class Refused(Exception):
@@ -128,7 +129,8 @@ def resets_of(ports):
 def vector_of(ports, reset, chance):
     """The levels of the inputs in a cycle, in which one reset may be active."""
     resets = resets_of(ports)
-    return [(name, width, int((name == reset) != bool(LOW.search(name))) if name in resets else chance.getrandbits(width)) for name, width in ports]
+    levels = [int((name == reset) != bool(LOW.search(name))) if name in resets else chance.getrandbits(width) for name, width in ports]
+    return [(name, width, level) for (name, width), level in zip(ports, levels)]
 
 
 def resets_in_cycles(ports, cycles, chance):
@@ -173,10 +175,11 @@ def held(gates, ports, clocks, period, line, has_resets):
         words = re.sub(r"--horizon \d+", f"--horizon {period * line.cycles}", file.read())
     with open(f"{folder}/options", "w", encoding="utf-8") as file:
         file.write(words)
-    need(["bash", "-c", '"$1"/vcd_to_stimuli.py --ports "$2"/ports.csv --scope try_bench.dut <rtl.vcd >"$2"/stimuli.csv', "-", HERE, folder], room, "stimuli")
+    stimuli = '"$1"/vcd_to_stimuli.py --ports "$2"/ports.csv --scope try_bench.dut <rtl.vcd >"$2"/stimuli.csv'
+    need(["bash", "-c", stimuli, "-", HERE, folder], room, "stimuli")
     need(["bash", "-c", '"$1"/simulate.sh "$2" >gates.vcd', "-", HERE, folder], room, "cmbsim")
-    return run([f"{HERE}/compare_vcd.py", "--common", "--names", f"{folder}/names.csv", "--sample", f"{period - 1}:{period}", "--x-matches", "both",
-                "--scope-b", "try_bench.dut", "gates.vcd", "rtl.vcd"], room)
+    words = ["--common", "--names", f"{folder}/names.csv", "--sample", f"{period - 1}:{period}", "--x-matches", "both"]
+    return run([f"{HERE}/compare_vcd.py", *words, "--scope-b", "try_bench.dut", "gates.vcd", "rtl.vcd"], room)
 
 
 def arguments():
