@@ -17,8 +17,6 @@ high,input,11,4
 go,input,,
 q,output,3,0
 """
-
-
 NETLIST = """\
 input ( w[4] ) # INPUT(v)
 INPUT(w[6]) INPUT(w[5])
@@ -37,7 +35,7 @@ WRONG = """\
 9 a[6]=1 | there is no input a[6]
 9 a | a isn't NAME=VALUE
 9 =1 | =1 isn't NAME=VALUE
-9 a= |  is no value
+9 a= | a= isn't NAME=VALUE
 9 a=0x | 0x is no value
 9 a=0b12 | 0b12 is no value
 9 a=6'o8 | 6'o8 is no value
