@@ -179,7 +179,10 @@ def held(gates, ports, clocks, period, line, has_resets):
     need(["bash", "-c", stimuli, "-", HERE, folder], room, "stimuli")
     need(["bash", "-c", '"$1"/simulate.sh "$2" >gates.vcd', "-", HERE, folder], room, "cmbsim")
     words = ["--common", "--names", f"{folder}/names.csv", "--sample", f"{period - 1}:{period}", "--x-matches", "both"]
-    return run([f"{HERE}/compare_vcd.py", *words, "--scope-b", "try_bench.dut", "gates.vcd", "rtl.vcd"], room)
+    status, said = run([f"{HERE}/compare_vcd.py", *words, "--scope-b", "try_bench.dut", "gates.vcd", "rtl.vcd"], room)
+    if status > 1:
+        raise Refused(said.strip())
+    return status, said
 
 
 def arguments():
