@@ -20,7 +20,7 @@ import tempfile
 
 HERE = os.path.dirname(os.path.abspath(__file__))
 RESET = re.compile(r"rst|reset|clear|clr", re.IGNORECASE)
-LOW = re.compile(r"^n|n$|_ni?$|_?n_", re.IGNORECASE)  # what the name of a reset has that is active at 0
+LOW = re.compile(r"^n|_n_|_ni?$|(rst|reset|clear|clr)n$", re.IGNORECASE)  # what the name of a reset has that is active at 0
 LIMIT = 120  # as many seconds may a command take
 UNTIMED = 60  # the period where loops of gates have no longest path
 # What from_verilog.sh says, and the option that helps.
