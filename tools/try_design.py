@@ -22,7 +22,7 @@ HERE = os.path.dirname(os.path.abspath(__file__))
 RESET = re.compile(r"rst|reset|clear|clr", re.IGNORECASE)
 LOW = re.compile(r"^n|_n_|_ni?$|(rst|reset|clear|clr)n$", re.IGNORECASE)  # what the name of a reset has that is active at 0
 LIMIT = 120  # as many seconds may a command take
-UNTIMED = 60  # the period where loops of gates have no longest path
+UNTIMED = 500  # the ticks of half a period where no longest path is told
 # What from_verilog.sh says, and the option that helps.
 HELP = [("--async", "from_verilog.sh --async"), ("--latches", "from_verilog.sh --latches"),
         ("--zero-init", "begin with different levels")]
@@ -103,7 +103,7 @@ class Gates:
         self.make_by_help()
         clocks = self.clocks(ports)
         path = re.search(r"shortest period is of (\d+) ticks", self.said)
-        period = 2 * (int(path[1]) + 10) if path else 2 * UNTIMED
+        period = 2 * (int(path[1]) + 10 if path else UNTIMED)
         ticks = {"--clock": f"{period - 1}:{period}", "--falling": f"{period + period // 2 - 1}:{period}"}
         if clocks and not self.make([word for edge, name in clocks for word in (edge, f"{name}={ticks[edge]}")]):
             clocks = [("--falling", name) for _, name in clocks]
