@@ -50,6 +50,7 @@ while [ $# -gt 0 ] && [ "$1" != -- ]; do
     files+=("$1")
     shift
 done
+command -v yosys >/dev/null || { echo "from_verilog.sh: yosys isn't installed" >&2 && exit 2; }
 room=$(mktemp -d)
 trap 'rm -rf "$room"' EXIT
 library=
