@@ -291,13 +291,15 @@ def read_text(folder, name):
         return file.read()
 
 
-def said_of_kept(design, folder, shortest):
+def said_of_kept(design, given, folder, shortest):
     """What files that are left as they are lack."""
     lines, options, stimuli = [], read_text(folder, "options"), read_text(folder, "stimuli.csv")
     if options is not None:
-        period = re.search(r"--clock[\s=]+\d+:(\d+)", options)
-        lines += [f"{folder}/options has a period of {period[1]} ticks, which is shorter"] if period and int(period[1]) < shortest else []
-        level, init = init_of(design)[0], re.search(r"--init[\s=]+([01])", options)
+        clock, init = (re.search(form, options) for form in (r"--clock[\s=]+(\d+):(\d+)", r"--init[\s=]+([01])"))
+        level, ticks = init_of(design)[0], clock and (int(clock[1]), int(clock[2]))
+        if ticks and len(design.clocks) == 1 and ticks not in (list(given.values()) or [ticks]):
+            lines += [f"{folder}/options has the clock {ticks[0]}:{ticks[1]}"]
+        lines += [f"{folder}/options has a period of {ticks[1]} ticks, which is shorter"] if ticks and ticks[1] < shortest else []
         lines += [f"{folder}/options hasn't the --init {level} that the design asks for"] if level not in ("x", init and init[1]) else []
     if stimuli is not None:
         told = {row[1] for row in csv.reader(stimuli.splitlines()) if len(row) > 1}
@@ -368,7 +370,7 @@ def convert(line):
     check_given(design, given)
     files, said, shortest = files_of(design, given)
     files.update(tables_of(design, module, source, before))
-    return said + said_of_kept(design, line.folder, shortest) + write(line.folder, files)
+    return said + said_of_kept(design, given, line.folder, shortest) + write(line.folder, files)
 
 
 def main():

@@ -332,6 +332,9 @@ def test_kept():
             ("clocks of earlier", {"stimuli.csv": FILES["stimuli.csv"], "options": "--init 0", "clocks.csv": "mine\n"},
              "d/clocks.csv is there, and the design has no two clocks\n")):
         see(name, converted(WHOLE, files=mine), ((0, SAID + said + left, ""), {**FILES, **mine}))
+    mine = {"stimuli.csv": FILES["stimuli.csv"], "options": "--clock 3:4 --init 0\n"}
+    for ticks, said in (("3:4", ""), ("3:5", "d/options has the clock 3:4\n")):
+        see(f"a clock {ticks}", converted(WHOLE, ["--clock", f"clk={ticks}"], mine), ((0, SAID + said + left, ""), {**FILES, **mine}))
 
 
 def test_clocks():
