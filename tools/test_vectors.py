@@ -171,6 +171,8 @@ def test_dump():
         command = ["vcd_to_stimuli.py", "--netlist", "n.bench"]
         see("inputs of a netlist", run(folder, [*command, "--scope", "test.dut"], DUMP),
             (0, "tick,net,value\n10,go,1\n", "vcd_to_stimuli: the dump has no one: x at all ticks\n"))
+        put(folder, {"o.bench": "y = NOT(y)\n"})
+        see("no inputs", run(folder, ["vcd_to_stimuli.py", "--netlist", "o.bench"], DUMP), (0, "tick,net,value\n", ""))
         none = "vcd_to_stimuli: the dump has none of the inputs: --scope says where they are\n"
         see("another scope", run(folder, command, DUMP), (2, "", none))
         between = "vcd_to_stimuli: clk changes between two ticks: give a shorter --tick, and delays and clocks to match\n"

@@ -38,7 +38,7 @@ def rows_of(dump, inputs, tick):
 def told(names, inputs):
     """Says on standard error which inputs the dump doesn't have."""
     lacking = [net for net in inputs if net not in names]
-    if len(lacking) == len(inputs):
+    if inputs and len(lacking) == len(inputs):
         raise Unknown("the dump has none of the inputs: --scope says where they are")
     if lacking:
         more = f" and {len(lacking) - NAMED} more" if len(lacking) > NAMED else ""
