@@ -223,8 +223,8 @@ def names_table(design, wires, bits, lost):
     """What became of each bit that the source names and that has no net of its own."""
     nets = design.nets()
     has_net, rows = set(nets.values()), [NAMES]
-    for name in dict.fromkeys(name for _, name in wires_of({"netnames": wires})):
-        bit = bits.get(name)
+    for name, declared in {name: bit for bit, name in wires_of({"netnames": wires})}.items():
+        bit = bits.get(name, declared if declared in LEVELS else None)
         kind, bit = ("net", bit) if bit in has_net else (bit, None) if bit in LEVELS else lost.get(name, ("gone", None))
         if name not in nets and INSIDE not in name:
             rows.append([name, kind, "" if bit is None else design.names.of(bit)])
@@ -304,7 +304,7 @@ def said_of_kept(design, given, folder, shortest):
     if stimuli is not None:
         told = {row[1] for row in csv.reader(stimuli.splitlines()) if len(row) > 1}
         without = [name for name in design.data_inputs() if name not in told]
-        lines += [f"{folder}/stimuli.csv has no row of {', '.join(without)}, so this is x"] if without else []
+        lines += [f"{folder}/stimuli.csv has no row of {', '.join(without)}: x at all ticks"] if without else []
     if len(design.clocks) < 2 and read_text(folder, "clocks.csv") is not None:
         lines += [f"{folder}/clocks.csv is there, and the design has no two clocks"]
     return lines

@@ -151,12 +151,14 @@ def test_lost():
                    {"$made$1": {"bits": [21], "hide_name": 1}})
     after["modules"]["d"]["ports"] = {**ports, "clk": port("input", 20)}
     with tempfile.TemporaryDirectory() as folder:
-        put(folder, {"a.json": json.dumps(after), "b.json": json.dumps(before)})
-        ran = run(folder, ["from_yosys.py", "--source", "b.json", "--before-abc", "b.json", "a.json", "d"])
+        source = design(ports, [], {**wires, "tied": {"bits": ["1", "z", 40]}})
+        put(folder, {"a.json": json.dumps(after), "b.json": json.dumps(before), "s.json": json.dumps(source)})
+        ran = run(folder, ["from_yosys.py", "--source", "s.json", "--before-abc", "b.json", "a.json", "d"])
         with open(f"{folder}/d/names.csv", encoding="ascii") as file:
             names = file.read()
     see("bits that abc left no net of", (ran[0], ran[2], names),
-        (0, "", "bit,is,net\nn7,net,_9_\nn8[3],net,_7_\nn8[4],net,y\nsame,0,\nmux,net,_25_\nq,gone,\none,1,\nother,gone,\nnot_q,not,_21_\nclk,gone,\n"))
+        (0, "", "bit,is,net\nn7,net,_9_\nn8[3],net,_7_\nn8[4],net,y\nsame,0,\nmux,net,_25_\nq,gone,\none,1,\nother,gone,\nnot_q,not,_21_\n"
+                "tied[0],1,\ntied[1],x,\ntied[2],gone,\nclk,gone,\n"))
 
 
 # ---- from_verilog.sh
