@@ -137,7 +137,7 @@ def test_simulate():
         3, "run --delays a b/delays.csv --clocks a b/clocks.csv --stimuli ROOM/stimuli.csv\ntick,net,value\n0,_0_,0\n0,_1_,1\nINPUT(a)\n"))
     see("no constants", simulated({**files, "constants.csv": "tick,net,value\n"}), (3, "run\nINPUT(a)\n"))
     see("the program of the path", simulated({"netlist.bench": ""}, program=None), (3, "run\n"))
-    see("no program", simulated({"netlist.bench": ""}, program="none"), (2, "simulate.sh: there is no none, and no cmbsim in out: run make build\n"))
+    see("no program", simulated({"netlist.bench": ""}, program="none"), (2, "simulate.sh: there is no program none: run make build\n"))
     see("no netlist", simulated({}), (2, "simulate.sh: there is no file a b/netlist.bench\n"))
 
 
