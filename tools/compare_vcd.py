@@ -32,23 +32,26 @@ class Levels:
     """The levels of a dump's nets, as far as it was read, and of the bits that a table of names makes of them."""
 
     def __init__(self, dump, table):
-        self.blocks = dump.blocks()
-        self.now, self.table, self.made = {}, table, collections.defaultdict(list)
+        self.blocks, self.table = dump.blocks(), table
+        self.now = {bit: kind for bit, (kind, _) in table.items() if kind in LEVELS}
         self.next = next(self.blocks, None)
+        self.made = collections.defaultdict(list)
         for bit, (_, net) in table.items():
             self.made[net].append(bit)
 
     def go_to(self, time):
         """Reads what changes up to this time, and gives the names of it."""
-        names = {}
+        levels = {}
         while self.next and self.next[0] <= time:
-            names.update(self.next[1])
+            levels.update(self.next[1])
             self.next = next(self.blocks, None)
-        self.now.update(names)
-        return [*names, *(bit for net in names for bit in self.made.get(net, ()))]
+        bits = [bit for net in levels for bit in self.made.get(net, ())] if self.table else ()
+        levels.update([(bit, level_of(bit, levels, self.table)) for bit in bits])
+        self.now.update(levels)
+        return levels
 
     def of(self, name):
-        return level_of(name, self.now, self.table) or "x"
+        return self.now.get(name, "x")
 
 
 # ---- times, each with the names of what changed since the one before
@@ -76,21 +79,28 @@ class Search:
         self.a, self.b, self.names, self.wild = a, b, names, wild
         self.times, self.known = 0, set()
 
-    def is_same(self, name):
-        mine, other = self.a.of(name), self.b.of(name)
-        unknown = [side for side, level in (("a", mine), ("b", other)) if level in ("x", "z")]
+    def is_known(self, name):
+        """Whether neither side has an x or z that stands for any level."""
+        unknown = [side for side, it in (("a", self.a), ("b", self.b)) if it.of(name) in ("x", "z")]
         if not unknown:
             self.known.add(name)
-        return mine == other or any(side in self.wild for side in unknown)
+        return not any(side in self.wild for side in unknown)
+
+    def differing(self, changed):
+        """The nets that differ of those that changed; at first of all, since what the table makes of no net doesn't change."""
+        names = [name for name in dict.fromkeys(changed) if name in self.names] if self.times else self.names
+        if self.wild:
+            names = [name for name in names if self.is_known(name)]
+        a, b = self.a.now, self.b.now
+        return [name for name in names if a.get(name, "x") != b.get(name, "x")]
 
     def first_difference(self, moments, upto):
         """The first time at which nets differ, with these nets, or None."""
         for time, changed in moments:
             if time >= upto:
                 return None
-            changed = changed if self.times else self.names  # at first, what the table makes of no net counts too
+            found = self.differing(changed)
             self.times += 1
-            found = [name for name in dict.fromkeys(changed) if name in self.names and not self.is_same(name)]
             if found:
                 return time, found
         return None
