@@ -8,10 +8,11 @@ bit by bit, so that count[3] of one dump is bit 3 of the other's count [7:0]. Na
 variables of a dump stand in, as top or test.circuit, or below SCOPE. Before its first value a net counts as x. A net
 that only one dump has is a difference too, but with --common. With --upto only times below TIME count, in units of A.
 
-With --names a bit that only one dump has is held against what FILE, the names.csv of from_yosys.py, makes of the other's nets; one that
-is gone doesn't count. With --sample levels count at the times F, F+P, F+2P and so on alone, in units of A, below the end of the longer dump:
-where all has settled by these times, delays don't matter. With --x-matches a an x or z of A stands for any level, with b one of B,
-with both one of either; the nets that weren't 0 or 1 in both dumps at any time are named then.
+With --names a bit that only one dump has is held against what FILE, the names.csv of from_yosys.py, makes of the other's
+nets; one that is gone doesn't count. With --sample levels count at the times F, F+P, F+2P and so on alone, in units of A,
+below the end of the longer dump: where all has settled by these times, delays don't matter. With --x-matches a an x or z
+of A stands for any level, with b one of B, with both one of either; the nets that weren't 0 or 1 in both dumps at any time
+are named then.
 
 Status 0: they are the same. Status 1: they differ; the lines tell the first time at which they do, and the nets that differ
 then. Status 2: the line is wrong, there is nothing to compare, or a dump or the table can't be read."""
@@ -173,7 +174,7 @@ def arguments():
     parser.add_argument("--scope-a", metavar="SCOPE", help="the scope of A to take, as test.circuit")
     parser.add_argument("--scope-b", metavar="SCOPE", help="the scope of B to take")
     parser.add_argument("--common", action="store_true", help="nets that only one of them has don't count")
-    parser.add_argument("--names", metavar="FILE", help="what became of bits that one of them hasn't: names.csv, as from_yosys.py writes it")
+    parser.add_argument("--names", metavar="FILE", help="what became of bits that one of them hasn't: names.csv of from_yosys.py")
     parser.add_argument("--upto", metavar="TIME", type=int, help="only times below this one count, in units of A")
     parser.add_argument("--sample", metavar="F:P", type=sample_of, help="only the times F, F+P, F+2P and so on count, in units of A")
     parser.add_argument("--x-matches", metavar="SIDE", choices=SIDES, help="an x of a, b or both is the same as any level")

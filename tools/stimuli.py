@@ -82,7 +82,7 @@ class Table:
     def assign(self, word):
         """Takes a word NAME=VALUE."""
         name, mark, value = word.rpartition("=")
-        if not name or not mark:
+        if not (name and mark and value):
             raise Wrong(f"{word} isn't NAME=VALUE")
         nets = self.inputs.of(name)
         for net, level in zip(nets, reversed(bits_of(value, len(nets)))):

@@ -17,6 +17,42 @@ high,input,11,4
 go,input,,
 q,output,3,0
 """
+NETLIST = """\
+input ( w[4] ) # INPUT(v)
+INPUT(w[6]) INPUT(w[5])
+INPUT
+(go) y = NOT(go)
+"""
+# Second lines that are wrong, behind one that gives go a level at tick 0, each with what has to be said of it.
+WRONG = """\
+9 a=0x40 | 0x40 is too large for 6 bits
+9 a=64 | 64 is too large for 6 bits
+9 a=4'h2a | 4'h2a is too large for 4 bits
+9 a=0bxxxxxxx | 0bxxxxxxx is too large for 6 bits
+9 go=2 | 2 is too large for 1 bit
+9 b=1 | there is no input b
+9 q=1 | there is no input q
+9 a[6]=1 | there is no input a[6]
+9 a | a isn't NAME=VALUE
+9 =1 | =1 isn't NAME=VALUE
+9 a= | a= isn't NAME=VALUE
+9 a=0x | 0x is no value
+9 a=0b12 | 0b12 is no value
+9 a=6'o8 | 6'o8 is no value
+9 a=z | z is no value
+9 a=-1 | -1 is no value
+9 a=2a | 2a is no value
+1e3 go=1 | 1e3 is no tick
+12345678901 go=1 | 12345678901 is no tick
+after 9 a=1 | no line begins with after, but with a tick, NAME=VALUE, every, repeat, clock
+0 go=1 | go has a level at tick 0 already
+a=1 | there is no tick, and no line before says `every N`
+repeat 2 | there is no tick, and no line before says `every N`
+repeat | such a line is repeat N
+every 0 | 0 is no length of a cycle
+clock go 9 10 | a clock needs --horizon N, up to which it swings
+clock go 9 | such a line is clock NAME FIRST PERIOD
+"""
 
 
 def rows(*changes):
@@ -30,7 +66,7 @@ def rows(*changes):
 def made(name, given, wanted, words=("--ports", "ports.csv")):
     """Holds what stimuli.py makes of lines against the table that is wanted, or against what it has to say of line 2."""
     with tempfile.TemporaryDirectory() as folder:
-        put(folder, {"ports.csv": PORTS, "n.bench": "".join(f"input ( w[{bit}] ) # INPUT(v)\n" for bit in (4, 6, 5)) + "INPUT(go) y = NOT(go)\n"})
+        put(folder, {"ports.csv": PORTS, "n.bench": NETLIST})
         result = (0, wanted, "") if wanted.startswith("tick") else (2, "", f"stimuli: line 2: {wanted}\n")
         see(f"stimuli, {name}", run(folder, ["stimuli.py", *words], given), result)
 
@@ -57,16 +93,8 @@ def test_widths():
 
 def test_wrong_lines():
     """A line that can't be true is an error, with its number."""
-    for line, said in (
-            ("9 a=0x40", "0x40 is too large for 6 bits"), ("9 a=64", "64 is too large for 6 bits"), ("9 a=4'h2a", "4'h2a is too large for 4 bits"),
-            ("9 a=0bxxxxxxx", "0bxxxxxxx is too large for 6 bits"), ("9 go=2", "2 is too large for 1 bit"), ("9 b=1", "there is no input b"),
-            ("9 q=1", "there is no input q"), ("9 a[6]=1", "there is no input a[6]"), ("9 a", "a isn't NAME=VALUE"), ("9 =1", "=1 isn't NAME=VALUE"),
-            ("9 a=", " is no value"), ("9 a=0x", "0x is no value"), ("9 a=0b12", "0b12 is no value"), ("9 a=6'o8", "6'o8 is no value"), ("9 a=z", "z is no value"),
-            ("9 a=-1", "-1 is no value"), ("9 a=2a", "2a is no value"), ("1e3 go=1", "1e3 is no tick"), ("12345678901 go=1", "12345678901 is no tick"),
-            ("after 9 a=1", "no line begins with after, but with a tick, NAME=VALUE, every, repeat, clock"),
-            ("0 go=1", "go has a level at tick 0 already"), ("a=1", "there is no tick, and no line before says `every N`"),
-            ("repeat 2", "there is no tick, and no line before says `every N`"), ("repeat", "such a line is repeat N"), ("every 0", "0 is no length of a cycle"),
-            ("clock go 9 10", "a clock needs --horizon N, up to which it swings"), ("clock go 9", "such a line is clock NAME FIRST PERIOD")):
+    for row in WRONG.splitlines():
+        line, said = row.split(" | ")
         made(line, f"0 go=0\n{line}\n", said)
     made("a clock that is a bus", "\nclock a 0 10\n", "a is a bus, and no clock", ["--ports", "ports.csv", "--horizon", "20"])
     made("a clock of one tick", "\nclock go 0 1\n", "1 is no period of a clock", ["--ports", "ports.csv", "--horizon", "20"])
@@ -79,7 +107,8 @@ def test_wrong_lines():
         see("no file is named", run(folder, ["stimuli.py"])[:2], (2, ""))
         see("a word too many", run(folder, ["stimuli.py", "--ports", "ports.csv", "more"])[:2], (2, ""))
         status, out, said = run(folder, ["stimuli.py", "--help"])
-        see("help", (status, [word for word in ("--ports", "--netlist", "every N", "repeat N", "clock NAME", "6'h2a") if word not in out], said), (0, [], ""))
+        words = ("--ports", "--netlist", "every N", "repeat N", "clock NAME", "6'h2a")
+        see("help", (status, [word for word in words if word not in out], said), (0, [], ""))
 
 
 def test_cycles():
@@ -163,7 +192,8 @@ tick,net,value
 def test_dump():
     with tempfile.TemporaryDirectory() as folder:
         put(folder, {"ports.csv": PORTS, "n.bench": "INPUT(go)\nINPUT(one)\n", "m.bench": "INPUT(clk)\n"})
-        lacking = "vcd_to_stimuli: the dump has no high[4], high[5], high[6], high[7], high[8], high[9], high[10], high[11]: x at all ticks\n"
+        high = ", ".join(f"high[{bit}]" for bit in range(4, 12))
+        lacking = f"vcd_to_stimuli: the dump has no {high}: x at all ticks\n"
         command = ["vcd_to_stimuli.py", "--ports", "ports.csv", "--scope", "test.dut"]
         see("stimuli of a dump", run(folder, command, DUMP), (0, TAKEN, lacking))
         finer = TAKEN.replace("\n15,", "\n150,").replace("\n10,", "\n100,").replace("\n5,", "\n50,")
@@ -175,6 +205,9 @@ def test_dump():
         see("no inputs", run(folder, ["vcd_to_stimuli.py", "--netlist", "o.bench"], DUMP), (0, "tick,net,value\n", ""))
         none = "vcd_to_stimuli: the dump has none of the inputs: --scope says where they are\n"
         see("another scope", run(folder, command, DUMP), (2, "", none))
+        late = "vcd_to_stimuli: what changes from tick 5000000000 on is left out, since a horizon is at most 1000000: is --tick right?\n"
+        see("a time scale of seconds", run(folder, ["vcd_to_stimuli.py", "--netlist", "m.bench"], DUMP.replace("100ps", "100ms")),
+            (0, "tick,net,value\n0,clk,0\n", late))
         between = "vcd_to_stimuli: clk changes between two ticks: give a shorter --tick, and delays and clocks to match\n"
         see("a change between ticks", run(folder, ["vcd_to_stimuli.py", "--netlist", "m.bench"], DUMP.replace("#50", "#55")), (2, "", between))
         see("a broken dump", run(folder, command, "$var\n"), (2, "", "vcd_to_stimuli: standard input, line 1: $var has no $end\n"))
@@ -230,10 +263,11 @@ def test_samples():
     compared("settled times", ["--common", "--sample", "8:10"], (0, "the same: 3 nets at 4 times\n", ""))
     unsettled = 1, "".join(f"time 9: count[{bit}] is x in a.vcd and 0 in b.vcd\n" for bit in (0, 1)), ""
     compared("times that aren't settled", ["--common", "--sample", "9:10"], unsettled)
-    compared("a difference between them", ["--common", "--sample", "8:10"], (0, "the same: 3 nets at 4 times\n", ""), b=RTL.replace("#14", "#13"))
+    command, same = ["--common", "--sample", "8:10"], (0, "the same: 3 nets at 4 times\n", "")
+    compared("a difference between them", command, same, b=RTL.replace("#14", "#13"))
     late = RTL.replace("#29\n1c\nb10 n", "#29\n1c\nb11 n")
-    compared("a difference at one of them", ["--common", "--sample", "8:10"], (1, "time 38: count[0] is 0 in a.vcd and 1 in b.vcd\n", ""), b=late)
-    compared("times below one", ["--common", "--sample", "8:10", "--upto", "38"], (0, "the same: 3 nets at 3 times\n", ""), b=late)
+    compared("a difference at one of them", command, (1, "time 38: count[0] is 0 in a.vcd and 1 in b.vcd\n", ""), b=late)
+    compared("times below one", [*command, "--upto", "38"], (0, "the same: 3 nets at 3 times\n", ""), b=late)
     compared("units of the first dump", ["--sample", "80:100"], (0, "the same: 3 nets at 4 times\n", ""), a=BUS, b=BITS)
     compared("no time", ["--common", "--sample", "40:1"], (2, "", "compare_vcd: no time is left to compare\n"))
     compared("no net", ["--common", "--scope-b", "other"], (2, "", "compare_vcd: no net is in both dumps\n"))
@@ -254,7 +288,8 @@ def test_unknown():
     wrong = 1, "time 28: count[0] is 1 in a.vcd and 0 in b.vcd\n", ""
     compared("a wrong level isn't hidden", [*command, "--x-matches", "both"], wrong, a=blind, b=RTL.replace("b1 n", "b0 n"))
     never = 0, "the same: 3 nets at 4 times\n2 of them never 0 or 1 in both: count[0], count[1]\n", ""
-    compared("what was never known", [*command, "--x-matches", "a"], never, a=blind.replace('1"', 'x"').replace("0#", "x#").replace("1#", "x#"))
+    blind = blind.replace('1"', 'x"').replace("0#", "x#").replace("1#", "x#")
+    compared("what was never known", [*command, "--x-matches", "a"], never, a=blind)
 
 
 def test_names():

@@ -1,14 +1,14 @@
 #!/usr/bin/env python3
 """try_design.py: makes gates of a module of Verilog, and holds them against Icarus Verilog on the module itself, with random stimuli.
 
-  try_design.py [--seed N] [--cycles N] MODULE FILE
+  try_design.py [--seed N] [--cycles N] [--keep FOLDER] MODULE FILE
 
 The gates are those of from_verilog.sh, with --async, --latches and --zero-init where it asks for them, simulated by simulate.sh.
 Inputs change a tick behind the rising edges of all clocks, and levels are compared a tick before the next: an x of either side
 may be any level there. Where there are resets, by their names, one run has them at first and now and then, and another never.
 
-The line printed is the module with what came of it. Status 0: no level differs. Status 1: one does. Status 3: the tools, or Icarus,
-can't take the module."""
+The line printed is the module with what came of it. Status 0: no level differs. Status 1: one does. Status 2: the tools failed
+behind the gates, or something took too long. Status 3: yosys, from_verilog.sh or Icarus refuses the module."""
 import argparse
 import json
 import os
@@ -24,11 +24,16 @@ LOW = re.compile(r"^n|n$|_ni?$|_?n_", re.IGNORECASE)  # what the name of a reset
 LIMIT = 120  # as many seconds may a command take
 UNTIMED = 60  # the period where loops of gates have no longest path
 # What from_verilog.sh says, and the option that helps.
-HELP = [("--async", "from_verilog.sh --async"), ("--latches", "from_verilog.sh --latches"), ("--zero-init", "begin with different levels")]
+HELP = [("--async", "from_verilog.sh --async"), ("--latches", "from_verilog.sh --latches"),
+        ("--zero-init", "begin with different levels")]
 
 
 class Refused(Exception):
     """The module can't be tried; the words say why."""
+
+
+class Failed(Exception):
+    """What was made of the module can't be used; the words say why."""
 
 
 def run(words, folder):
@@ -37,16 +42,19 @@ def run(words, folder):
         ran = subprocess.run(words, cwd=folder, stdin=subprocess.DEVNULL, stdout=subprocess.PIPE, stderr=subprocess.STDOUT,
                              universal_newlines=True, errors="replace", timeout=LIMIT, check=False)
     except subprocess.TimeoutExpired:
-        return -1, f"{os.path.basename(words[0])} took more than {LIMIT} seconds"
+        raise Failed(f"{' '.join(words)} took more than {LIMIT} seconds") from None
     return ran.returncode, ran.stdout
 
 
-def need(words, folder, by):
-    """Runs a command that has to succeed; `by` is whose refusal it is else."""
+def need(words, folder, fault):
+    """Runs a command that has to succeed, else the fault is raised."""
     status, said = run(words, folder)
     if status:
-        raise Refused(f"{by}: " + " / ".join(said.split("\n")[:3])[:300])
-    return said
+        raise fault(f"{os.path.basename(words[0])}: {shortened(said)}")
+
+
+def shortened(said):
+    return " / ".join(said.strip().split("\n"))[:300]
 
 
 # ---- the gates
@@ -82,7 +90,7 @@ class Gates:
         if told:
             return re.findall(r"(--clock|--falling) (\S+)=F:P", told[1])
         if not os.path.exists(f"{self.folder}/options"):
-            raise Refused("tools: " + " / ".join(self.said.strip().split("\n"))[:300])
+            raise Refused(shortened(self.said))
         with open(f"{self.folder}/ports.csv", encoding="utf-8") as file:
             data = {line.split(",")[0] for line in file}
         with open(f"{self.folder}/options", encoding="utf-8") as file:
@@ -100,10 +108,10 @@ class Gates:
         if clocks and not self.make([word for edge, name in clocks for word in (edge, f"{name}={ticks[edge]}")]):
             clocks = [("--falling", name) for _, name in clocks]
             if not self.make([word for edge, name in clocks for word in (edge, f"{name}={ticks[edge]}")]):
-                raise Refused("tools: " + " / ".join(self.said.strip().split("\n"))[:300])
+                raise Refused(shortened(self.said))
         path = re.search(r"shortest period is of (\d+) ticks", self.said)
         if path and 2 * (int(path[1]) + 2) > period:
-            raise Refused(f"tools: a path of {path[1]} ticks was told too late")
+            raise Failed(f"a path of {path[1]} ticks was told too late")
         return {name for _, name in clocks}, period
 
 
@@ -113,11 +121,11 @@ def ports_of(module, path, room):
     """The inputs of the module, each with its width."""
     language = "verilog -sv" if path.endswith(".sv") else "verilog"
     script = f"hierarchy -top {module}; proc; write_json ports.json"
-    need(["yosys", "-q", "-f", language, "-p", script, path], room, "yosys")
+    need(["yosys", "-q", "-f", language, "-p", script, path], room, Refused)
     with open(f"{room}/ports.json", encoding="utf-8") as file:
         ports = json.load(file)["modules"][module]["ports"]
     if any(port["direction"] == "inout" for port in ports.values()):
-        raise Refused("tools: there is an inout")
+        raise Refused("there is an inout")
     return [(name, len(port["bits"])) for name, port in ports.items() if port["direction"] == "input"]
 
 
@@ -128,7 +136,8 @@ def resets_of(ports):
 def vector_of(ports, reset, chance):
     """The levels of the inputs in a cycle, in which one reset may be active."""
     resets = resets_of(ports)
-    return [(name, width, int((name == reset) != bool(LOW.search(name))) if name in resets else chance.getrandbits(width)) for name, width in ports]
+    levels = [int((name == reset) != bool(LOW.search(name))) if name in resets else chance.getrandbits(width) for name, width in ports]
+    return [(name, width, level) for (name, width), level in zip(ports, levels)]
 
 
 def resets_in_cycles(ports, cycles, chance):
@@ -158,7 +167,7 @@ def compile_by_icarus(path, room):
     """Has Icarus take the bench and the module, by the language of 2012 or, where words of that are names, by that of 2005."""
     words = ["iverilog", "-s", "try_bench", "-o", "bench", "bench.v", path]
     if path.endswith(".sv") or run([*words, "-g2012"], room)[0]:
-        need([*words, "-g2012" if path.endswith(".sv") else "-g2005"], room, "Icarus")
+        need([*words, "-g2012" if path.endswith(".sv") else "-g2005"], room, Refused)
 
 
 def held(gates, ports, clocks, period, line, has_resets):
@@ -168,21 +177,26 @@ def held(gates, ports, clocks, period, line, has_resets):
     with open(f"{room}/bench.v", "w", encoding="utf-8") as file:
         file.write(bench_of(line.module, ports, clocks, period, line.cycles, has_resets, chance))
     compile_by_icarus(gates.path, room)
-    need(["vvp", "-n", "bench"], room, "Icarus")
+    need(["vvp", "-n", "bench"], room, Refused)
     with open(f"{folder}/options", encoding="utf-8") as file:
         words = re.sub(r"--horizon \d+", f"--horizon {period * line.cycles}", file.read())
     with open(f"{folder}/options", "w", encoding="utf-8") as file:
         file.write(words)
-    need(["bash", "-c", '"$1"/vcd_to_stimuli.py --ports "$2"/ports.csv --scope try_bench.dut <rtl.vcd >"$2"/stimuli.csv', "-", HERE, folder], room, "stimuli")
-    need(["bash", "-c", '"$1"/simulate.sh "$2" >gates.vcd', "-", HERE, folder], room, "cmbsim")
-    return run([f"{HERE}/compare_vcd.py", "--common", "--names", f"{folder}/names.csv", "--sample", f"{period - 1}:{period}", "--x-matches", "both",
-                "--scope-b", "try_bench.dut", "gates.vcd", "rtl.vcd"], room)
+    stimuli = '"$1"/vcd_to_stimuli.py --ports "$2"/ports.csv --scope try_bench.dut <rtl.vcd >"$2"/stimuli.csv'
+    need(["bash", "-c", stimuli, "-", HERE, folder], room, Failed)
+    need(["bash", "-c", '"$1"/simulate.sh "$2" >gates.vcd', "-", HERE, folder], room, Failed)
+    words = ["--common", "--names", f"{folder}/names.csv", "--sample", f"{period - 1}:{period}", "--x-matches", "both"]
+    status, said = run([f"{HERE}/compare_vcd.py", *words, "--scope-b", "try_bench.dut", "gates.vcd", "rtl.vcd"], room)
+    if status > 1:
+        raise (Refused if "no net is in both" in said else Failed)(said.strip())
+    return status, said
 
 
 def arguments():
     parser = argparse.ArgumentParser(description="Holds the gates of a module of Verilog against Icarus Verilog on the module itself.")
     parser.add_argument("--seed", metavar="N", type=int, default=1, help="of the random stimuli [default: 1]")
     parser.add_argument("--cycles", metavar="N", type=int, default=60, help="how many cycles of a run [default: 60]")
+    parser.add_argument("--keep", metavar="FOLDER", help="leave the files in this folder, which is there and empty")
     parser.add_argument("module", metavar="MODULE")
     parser.add_argument("file", metavar="FILE")
     return parser.parse_args()
@@ -191,15 +205,15 @@ def arguments():
 def main():
     line = arguments()
     with tempfile.TemporaryDirectory(prefix="try-") as room:
-        gates = Gates(os.environ.get("KEEP") or room, line.module, os.path.abspath(line.file))
+        gates = Gates(os.path.abspath(line.keep or room), line.module, os.path.abspath(line.file))
         title = f"{os.path.basename(line.file)} {line.module}"
         try:
             ports = ports_of(line.module, gates.path, gates.room)
             clocks, period = gates.make_clocked(ports)
             runs = [held(gates, ports, clocks, period, line, it) for it in ([True, False] if resets_of(ports) else [False])]
-        except Refused as refused:
-            print(f"{title}: {refused}")
-            return 3
+        except (Refused, Failed) as error:
+            print(f"{title}: {error}")
+            return 3 if isinstance(error, Refused) else 2
         status = max(it for it, _ in runs)
         words = " | ".join(said.strip().replace("\n", "; ") for _, said in runs)
         print(f"{title}: {' '.join([*gates.options, ''])}{words}")

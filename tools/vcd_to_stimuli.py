@@ -4,8 +4,9 @@
   vcd_to_stimuli.py (--ports FILE | --netlist FILE) [--scope SCOPE] [--tick TIME] < FILE.vcd > stimuli.csv
 
 The inputs are those of ports.csv or of a netlist. Names are taken below the scope that all variables of the dump stand in, or below
-SCOPE, as test.dut. A tick is 1 ns of the dump, or TIME, as 100ps. A level z is x. An input that the dump doesn't have stays x,
-and standard error names it. Status 2: the dump has no input, a change isn't at a whole tick, or a file can't be read."""
+SCOPE, as test.dut. A tick is 1 ns of the dump, or TIME, as 100ps. A level z is x. An input that the dump doesn't have stays x, and
+changes behind the largest horizon are left out: standard error says so. Status 2: the dump has no input, a change isn't at a
+whole tick, or a file can't be read."""
 import argparse
 import sys
 
@@ -13,6 +14,7 @@ from ports import Unknown, add_options, inputs_of
 from vcd import Dump, Unreadable, unit_of
 
 NAMED = 8  # as many names are printed
+MOST_TICKS = 1000000
 
 
 def tick_of(text):
@@ -27,6 +29,10 @@ def rows_of(dump, inputs, tick):
     """The rows: the first level of each input, and then its changes."""
     now = dict.fromkeys(inputs, "x")
     for time, levels in dump.blocks():
+        if time >= MOST_TICKS * tick and levels:
+            print(f"vcd_to_stimuli: what changes from tick {time // tick} on is left out, since a horizon is at most {MOST_TICKS}: "
+                  "is --tick right?", file=sys.stderr)
+            return
         changes = {net: level.replace("z", "x") for net, level in levels.items() if net in now}
         changes = [(net, level) for net, level in changes.items() if level != now[net]]
         if changes and time % tick:

@@ -69,7 +69,8 @@ pub const MODE: &str = "How the run is made: rounds, free or plain [default: rou
 
 pub const THREADS: &str = "Threads that share the work as it pays, 1 to 64 [default: 1]";
 
-pub const WORKERS: &str = "Or, in a short run: workers with nets of their own, 1 to 64 [default: 1]";
+pub const WORKERS: &str =
+    "Or, in a short run: workers with nets of their own, 1 to 64 [default: 1]";
 
 pub const PARTS: &str = "Clusters of nets that workers share out, 1 to 64 [default: 1]";
 
