@@ -6,7 +6,7 @@
 #   --liberty FILE  the cells that a netlist is mapped to are in this library
 #   --async         flip-flops may have asynchronous resets, sets and loads; the register then waits for the next sample
 #   --zero-init     registers begin as the source says, and with 0 where it says nothing
-#   --latches       latches become loops of gates
+#   --latches       latches become loops of gates; data have to settle two ticks before one closes
 #   --fsm           yosys may give the states of state machines other codes
 #   --help          this text
 set -euo pipefail
@@ -50,6 +50,7 @@ while [ $# -gt 0 ] && [ "$1" != -- ]; do
     files+=("$1")
     shift
 done
+command -v yosys >/dev/null || { echo "from_verilog.sh: yosys isn't installed" >&2 && exit 2; }
 room=$(mktemp -d)
 trap 'rm -rf "$room"' EXIT
 library=
@@ -58,10 +59,10 @@ if [ -n "$liberty" ]; then
     cp "$liberty" "$room/cells.lib"
     library="read_liberty \"$room/cells.lib\""
 fi
-# With D & Q the output holds while E changes. These come behind abc, which would leave it out.
+# With D & Q the output holds while E changes, and d is late, so that data may change as E does. This comes behind abc, which would leave it out.
 cat >"$room/latches.v" <<'LATCHES'
-module \$_DLATCH_P_ (input E, D, output Q); assign Q = (E & D) | (~E & Q) | (D & Q); endmodule
-module \$_DLATCH_N_ (input E, D, output Q); assign Q = (~E & D) | (E & Q) | (D & Q); endmodule
+module \$_DLATCH_P_ (input E, D, output Q); wire d = ~(~D); assign Q = (E & d) | (~E & Q) | (d & Q); endmodule
+module \$_DLATCH_N_ (input E, D, output Q); wire d = ~(~D); assign Q = (~E & d) | (E & Q) | (d & Q); endmodule
 LATCHES
 gates=${latches:+"techmap -map \"$room/latches.v\"; simplemap"}
 # -script has abc make short paths; without it abc looks for few gates first.

@@ -223,8 +223,8 @@ def names_table(design, wires, bits, lost):
     """What became of each bit that the source names and that has no net of its own."""
     nets = design.nets()
     has_net, rows = set(nets.values()), [NAMES]
-    for name in dict.fromkeys(name for _, name in wires_of({"netnames": wires})):
-        bit = bits.get(name)
+    for name, declared in {name: bit for bit, name in wires_of({"netnames": wires})}.items():
+        bit = bits.get(name, declared if declared in LEVELS else None)
         kind, bit = ("net", bit) if bit in has_net else (bit, None) if bit in LEVELS else lost.get(name, ("gone", None))
         if name not in nets and INSIDE not in name:
             rows.append([name, kind, "" if bit is None else design.names.of(bit)])
@@ -291,18 +291,20 @@ def read_text(folder, name):
         return file.read()
 
 
-def said_of_kept(design, folder, shortest):
+def said_of_kept(design, given, folder, shortest):
     """What files that are left as they are lack."""
     lines, options, stimuli = [], read_text(folder, "options"), read_text(folder, "stimuli.csv")
     if options is not None:
-        period = re.search(r"--clock[\s=]+\d+:(\d+)", options)
-        lines += [f"{folder}/options has a period of {period[1]} ticks, which is shorter"] if period and int(period[1]) < shortest else []
-        level, init = init_of(design)[0], re.search(r"--init[\s=]+([01])", options)
+        clock, init = (re.search(form, options) for form in (r"--clock[\s=]+(\d+):(\d+)", r"--init[\s=]+([01])"))
+        level, ticks = init_of(design)[0], clock and (int(clock[1]), int(clock[2]))
+        if ticks and len(design.clocks) == 1 and ticks not in (list(given.values()) or [ticks]):
+            lines += [f"{folder}/options has the clock {ticks[0]}:{ticks[1]}"]
+        lines += [f"{folder}/options has a period of {ticks[1]} ticks, which is shorter"] if ticks and ticks[1] < shortest else []
         lines += [f"{folder}/options hasn't the --init {level} that the design asks for"] if level not in ("x", init and init[1]) else []
     if stimuli is not None:
         told = {row[1] for row in csv.reader(stimuli.splitlines()) if len(row) > 1}
         without = [name for name in design.data_inputs() if name not in told]
-        lines += [f"{folder}/stimuli.csv has no row of {', '.join(without)}, so this is x"] if without else []
+        lines += [f"{folder}/stimuli.csv has no row of {', '.join(without)}: x at all ticks"] if without else []
     if len(design.clocks) < 2 and read_text(folder, "clocks.csv") is not None:
         lines += [f"{folder}/clocks.csv is there, and the design has no two clocks"]
     return lines
@@ -368,7 +370,7 @@ def convert(line):
     check_given(design, given)
     files, said, shortest = files_of(design, given)
     files.update(tables_of(design, module, source, before))
-    return said + said_of_kept(design, line.folder, shortest) + write(line.folder, files)
+    return said + said_of_kept(design, given, line.folder, shortest) + write(line.folder, files)
 
 
 def main():

@@ -15,7 +15,7 @@ if [ ! -f "$folder/netlist.bench" ]; then
 fi
 program=${CMBSIM:-$(command -v cmbsim || echo "$(dirname "$0")/../out/cmbsim")}
 if ! command -v "$program" >/dev/null; then
-    echo "simulate.sh: there is no cmbsim in the path, and none in out: run make build" >&2
+    echo "simulate.sh: there is no program $program: run make build" >&2
     exit 2
 fi
 words=()

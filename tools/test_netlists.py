@@ -109,14 +109,16 @@ exit 3
 """
 
 
-def simulated(files, words=()):
+def simulated(files, words=(), program="./program"):
     """What simulate.sh has a program do, that says its words, the stimuli and the netlist."""
     with tempfile.TemporaryDirectory() as folder:
-        put(folder, {"program": PROGRAM})
-        os.chmod(f"{folder}/program", 0o755)
+        for name in ("program", "cmbsim"):
+            put(folder, {name: PROGRAM})
+            os.chmod(f"{folder}/{name}", 0o755)
+        path = {"CMBSIM": program} if program else {"PATH": f"{folder}:{os.environ['PATH']}", "CMBSIM": ""}
         os.mkdir(f"{folder}/a b")
         put(f"{folder}/a b", files)
-        ran = subprocess.run([f"{HERE}/simulate.sh", "a b", *words], cwd=folder, env={**os.environ, "CMBSIM": "./program"},
+        ran = subprocess.run([f"{HERE}/simulate.sh", "a b", *words], cwd=folder, env={**os.environ, **path},
                              stdout=subprocess.PIPE, stderr=subprocess.STDOUT, universal_newlines=True, timeout=60)
         return ran.returncode, re.sub(r"--stimuli /\S*/", "--stimuli ROOM/", ran.stdout)
 
@@ -134,6 +136,8 @@ def test_simulate():
     see("constants alone", simulated({**files, "delays.csv": "", "clocks.csv": ""}), (
         3, "run --delays a b/delays.csv --clocks a b/clocks.csv --stimuli ROOM/stimuli.csv\ntick,net,value\n0,_0_,0\n0,_1_,1\nINPUT(a)\n"))
     see("no constants", simulated({**files, "constants.csv": "tick,net,value\n"}), (3, "run\nINPUT(a)\n"))
+    see("the program of the path", simulated({"netlist.bench": ""}, program=None), (3, "run\n"))
+    see("no program", simulated({"netlist.bench": ""}, program="none"), (2, "simulate.sh: there is no program none: run make build\n"))
     see("no netlist", simulated({}), (2, "simulate.sh: there is no file a b/netlist.bench\n"))
 
 
@@ -151,12 +155,14 @@ def test_lost():
                    {"$made$1": {"bits": [21], "hide_name": 1}})
     after["modules"]["d"]["ports"] = {**ports, "clk": port("input", 20)}
     with tempfile.TemporaryDirectory() as folder:
-        put(folder, {"a.json": json.dumps(after), "b.json": json.dumps(before)})
-        ran = run(folder, ["from_yosys.py", "--source", "b.json", "--before-abc", "b.json", "a.json", "d"])
+        source = design(ports, [], {**wires, "tied": {"bits": ["1", "z", 40]}})
+        put(folder, {"a.json": json.dumps(after), "b.json": json.dumps(before), "s.json": json.dumps(source)})
+        ran = run(folder, ["from_yosys.py", "--source", "s.json", "--before-abc", "b.json", "a.json", "d"])
         with open(f"{folder}/d/names.csv", encoding="ascii") as file:
             names = file.read()
     see("bits that abc left no net of", (ran[0], ran[2], names),
-        (0, "", "bit,is,net\nn7,net,_9_\nn8[3],net,_7_\nn8[4],net,y\nsame,0,\nmux,net,_25_\nq,gone,\none,1,\nother,gone,\nnot_q,not,_21_\nclk,gone,\n"))
+        (0, "", "bit,is,net\nn7,net,_9_\nn8[3],net,_7_\nn8[4],net,y\nsame,0,\nmux,net,_25_\nq,gone,\none,1,\nother,gone,\nnot_q,not,_21_\n"
+                "tied[0],1,\ntied[1],x,\ntied[2],gone,\nclk,gone,\n"))
 
 
 # ---- from_verilog.sh

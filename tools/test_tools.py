@@ -328,10 +328,13 @@ def test_kept():
             ("levels to begin with that are missing", {"stimuli.csv": FILES["stimuli.csv"], "options": "--clock 3:4\n"},
              "d/options hasn't the --init 0 that the design asks for\n"),
             ("inputs without levels", {"stimuli.csv": "tick,net,value\n0,d[4],0\n0,e[0],1\n", "options": "--init 0"},
-             "d/stimuli.csv has no row of d[5], e[1], so this is x\n"),
+             "d/stimuli.csv has no row of d[5], e[1]: x at all ticks\n"),
             ("clocks of earlier", {"stimuli.csv": FILES["stimuli.csv"], "options": "--init 0", "clocks.csv": "mine\n"},
              "d/clocks.csv is there, and the design has no two clocks\n")):
         see(name, converted(WHOLE, files=mine), ((0, SAID + said + left, ""), {**FILES, **mine}))
+    mine = {"stimuli.csv": FILES["stimuli.csv"], "options": "--clock 3:4 --init 0\n"}
+    for ticks, said in (("3:4", ""), ("3:5", "d/options has the clock 3:4\n")):
+        see(f"a clock {ticks}", converted(WHOLE, ["--clock", f"clk={ticks}"], mine), ((0, SAID + said + left, ""), {**FILES, **mine}))
 
 
 def test_clocks():
