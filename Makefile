@@ -14,7 +14,7 @@ try:
 
 # The main job: the inverter's waveforms as VCD on standard output, by the proved program.
 example: build
-	@scripts/run_example.sh $(PROGRAM) inverter
+	@CMBSIM=$(PROGRAM) tools/simulate.sh examples/inverter
 
 # Proves whatever isn't proved yet, and builds the program.
 build:
@@ -27,6 +27,8 @@ test:
 # The tools for netlists, stimuli and dumps, on small texts that were written by hand.
 tools:
 	@tools/test_tools.py
+	@tools/test_netlists.py
+	@tools/test_vectors.py
 
 # Every edit that the prover must refuse, those that the gate leaves out too, and what refused it.
 audit:

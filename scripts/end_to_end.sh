@@ -154,7 +154,7 @@ real() { # real NAME WORDS..: the levels that are read off at the end are those 
         names+=("$net")
         levels+=("$level")
     done <"$examples/$name/expected.txt"
-    if [ "$(scripts/run_example.sh "$program" "$name" "$@" | tools/read_vcd.py "${names[@]}")" = "$(printf '%s\n' "${levels[@]}")" ]; then
+    if [ "$(CMBSIM=$program tools/simulate.sh "$examples/$name" "$@" | tools/read_vcd.py "${names[@]}")" = "$(printf '%s\n' "${levels[@]}")" ]; then
         passed=$((passed + 1))
     else
         failed=$((failed + 1))

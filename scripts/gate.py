@@ -187,7 +187,8 @@ def main():
         proved, unproved = run(["rt", "ci"], counts, files.hear)
         between = time.monotonic()
         ran, wrong = files.end()
-    held, broken = run(["tools/test_tools.py"], {})
+    parts = [run([f"tools/{name}.py"], {}) for name in ("test_tools", "test_netlists", "test_vectors")]
+    held, broken = map(sum, zip(*parts))
     untrue = subprocess.run(["scripts/believed.py", "--check"], cwd=TOP).returncode
     apart, mixed = run(["scripts/inner.py"], {})
     meter.stopped.set()

@@ -73,7 +73,7 @@ gtkwave::/File/Quit
 END
 for example in examples/*/; do
     name=$(basename "$example")
-    scripts/run_example.sh "$program" "$name" >"$room/$name.vcd"
+    CMBSIM=$program tools/simulate.sh "examples/$name" >"$room/$name.vcd"
 done
 # names that Verilog couldn't write plainly, among them a number, a bit of a bus and one with a backslash
 printf '%s\n' 'INPUT(10)' 'INPUT(a.b[3])' '$x = NOT(10)' '\y\z = AND(a.b[3], 10)' 'n-1 = NOT($x)' 'wire = NOT(n-1)' >"$room/names.bench"

@@ -1,115 +1,41 @@
 #!/usr/bin/env python3
 """from_yosys.py: makes files for cmbsim of the JSON that yosys's write_json wrote of a design of simple gates and plain flip-flops.
 
-  from_yosys.py [--top MODULE] [--clock NAME=F:P].. [--falling NAME=F:P].. DESIGN.json FOLDER
+  from_yosys.py [--top MODULE] [--clock NAME=F:P].. [--falling NAME=F:P].. [--source SOURCE.json] [--before-abc GATES.json]
+                DESIGN.json FOLDER
 
-FOLDER gets netlist.bench and, where there are several clocks, clocks.csv. It also gets two files to begin with, which are left
-as they are where they stand already: stimuli.csv, with each input at 0 from tick 0 on, and options, words for the program's line.
+FOLDER gets netlist.bench; constants.csv, the levels of inputs that are constants; ports.csv, the ports as declared; buses.csv,
+the buses whose rightmost bit isn't bit 0; names.csv, what became of bits of the source that have no net of their own; and
+clocks.csv where there are several clocks. It also gets two files to begin with, which are left as they are where they stand
+already: stimuli.csv, with each input at 0 from tick 0 on, and options, words for the program's line.
 
-Bits of buses are named as name[3]. An output that shows an input, a constant or a register of another name is a gate BUFF. A
-constant is an input, whose level the stimuli give. Each cell becomes one gate, with a delay of its own. The clock is no net of
-such a netlist: F:P says that the flip-flops of this clock, or of its falling edge, sample at the ticks F, F+P, F+2P and so on.
-A single clock needs no F:P: it gets a period in which the longest path settles, each gate taking one tick. docs/VERILOG.md goes
-from Verilog to waveforms.
+Bits of buses are named as name[3], and what has no name in the source as _7_. An output that shows an input, a constant or a
+register of another name is a gate BUFF. Each cell becomes one gate, with a delay of its own. The clock is no net of such a
+netlist: F:P says that the flip-flops of this clock, or of its falling edge, sample at the ticks F, F+P, F+2P and so on. A single
+clock needs no F:P: it gets a period in which the longest path settles, each gate taking one tick. SOURCE.json and GATES.json are
+of the same design behind proc and flatten and before abc: all names of the first are kept free, and off the second names.csv
+tells what abc did with bits. docs/VERILOG.md goes from Verilog to waveforms.
 
 Status 0: the files were written. Status 1: the design has what such a netlist can't say; standard error names it, and what
 would help. Status 2: the line is wrong, or a file can't be read or written."""
 import argparse
 import collections
+import csv
+import io
 import json
 import os
 import re
 import sys
 
-GATES = {"$_BUF_": "BUFF", **{f"$_{kind}_": kind for kind in ("NOT", "AND", "NAND", "OR", "NOR", "XOR", "XNOR")}}
-EDGES = {"$_DFF_P_": "rising", "$_DFF_N_": "falling"}
+from lost_bits import lost_bits
+from names import HEADER as NAMES, LEVELS
+from yosys_json import Cell, Refused, bits_by_name, cells_of, first_levels, in_order, module_of, named_bits, ports_of, wires_of
+
 OPTIONS = {"rising": "--clock", "falling": "--falling"}
-CONSTANTS = {"0": "zero", "1": "one", "x": "unknown"}
 TO_BEGIN = ("stimuli.csv", "options")
+INSIDE = "$func$"  # in the names that yosys gives to what is inside a call of a function
 MOST_NETS = 65535
 MOST_TICKS = 1000000
-ABC = "abc -g AND,NAND,OR,NOR,XOR,XNOR"
-# What a cell of another type is, and what helps; the first form that a type begins with counts.
-ADVICE = [(re.compile(form), words) for form, words in (
-    (r"\$_DFFE_[NP]{2}_|\$_SDFF", "a flip-flop with an enable or a synchronous reset: run dffunmap before abc"),
-    (r"\$_(DFFE?_[NP]{2}[01]|DFFSR|ALDFF)",
-     "a flip-flop with an asynchronous set, reset or load: run async2sync and dffunmap before abc; it then waits for the next sample"),
-    (r"\$_(DLATCH|SR_)",
-     "a latch, mostly of an always block that leaves a signal as it was in some case: give it a value in each, or write the latch as gates"),
-    (r"\$_TBUF_", "a tri-state buffer, and there is no z: run proc, tribuf -formal and chformal -remove before synth"),
-    (r"\$_FF_", "a flip-flop without a clock, as async2sync makes one of a latch: mend the latch"),
-    (r"\$_", f"a gate of another kind: run {ABC}"),
-    (r"\$lut", f"a table of a function: run {ABC} in the place of abc -lut"),
-    (r"\$mem", "a memory: run memory_map, or synth, which does so"),
-    (r"\$(assert|assume|cover|live|fair|check|print|any|all|initstate)", "a cell of checks: run chformal -remove, or leave it out"),
-    (r"\$", "a cell of whole words: run synth -flatten"),
-    (r"", "a module, or a cell of a library: run flatten, and abc with -g and without -liberty"))]
-
-Cell = collections.namedtuple("Cell", "kind output operands clock")
-
-
-class Refused(Exception):
-    """The design has what such a netlist can't say; a line for each such thing."""
-
-
-# ---- what yosys wrote
-
-def module_of(design, top):
-    """The module to take, with its name: the named one, else the only one, else the one that yosys marked as the top."""
-    modules = design["modules"]
-    tops = [name for name, it in modules.items() if int(str(it.get("attributes", {}).get("top", "0")), 2)]
-    found = [top] if top is not None else list(modules) if len(modules) == 1 else tops
-    if len(found) != 1 or found[0] not in modules:
-        raise Refused([f"of the modules {', '.join(modules)} one has to be named by --top"])
-    return found[0], modules[found[0]]
-
-
-def tidy(bits):
-    """Bits as they are written, with x in the place of z."""
-    return ["x" if bit == "z" else bit for bit in bits]
-
-
-def complaint(kind, cells):
-    """The line for cells of a type that isn't taken."""
-    source = cells[0].get("attributes", {}).get("src", "").split("|")[0]
-    words = next(words for form, words in ADVICE if form.match(kind))
-    return f"{len(cells)} of type {kind}{f', the first at {source}' if source else ''}: {words}"
-
-
-def cells_of(module):
-    """The gates and flip-flops of the module."""
-    cells, others = [], collections.defaultdict(list)
-    for cell in module["cells"].values():
-        kind, pins = cell["type"], {pin: tidy(bits) for pin, bits in cell["connections"].items()}
-        if kind in GATES:
-            cells.append(Cell(GATES[kind], pins["Y"][0], pins["A"] + pins.get("B", []), None))
-        elif kind in EDGES:
-            cells.append(Cell("DFF", pins["Q"][0], pins["D"], (pins["C"][0], EDGES[kind])))
-        elif kind != "$scopeinfo":
-            others[kind].append(cell)
-    if others:
-        raise Refused([complaint(kind, found) for kind, found in sorted(others.items())])
-    return cells
-
-
-def named_bits(name, wire):
-    """The bits of a port or a wire, each with its name."""
-    bits, first = tidy(wire["bits"]), wire.get("offset", 0)
-    if len(bits) == 1 and not first:
-        return [(bits[0], name)]
-    numbers = range(first, first + len(bits))
-    return [(bit, f"{name}[{number}]") for bit, number in zip(bits, reversed(numbers) if wire.get("upto") else numbers)]
-
-
-def ports_of(module, direction):
-    return [pair for name, port in module["ports"].items() if port["direction"] == direction for pair in named_bits(name, port)]
-
-
-def wires_of(module):
-    """The bits of the wires that the design itself names, those of outer modules first."""
-    wires = [(name, it) for name, it in module.get("netnames", {}).items() if not it.get("hide_name")]
-    wires.sort(key=lambda wire: wire[0].count("."))
-    return [pair for name, wire in wires for pair in named_bits(name, wire)]
 
 
 # ---- names
@@ -120,18 +46,17 @@ def clean(name):
 
 
 class Names:
-    """A name for each bit: that which it is given first, else `n` and the bit's number."""
+    """A name for each bit: that which it is given first, else its number as _7_. The reserved ones are given to no other bit."""
 
-    def __init__(self):
-        self.taken = set()
+    def __init__(self, reserved):
+        self.taken, self.reserved = set(), reserved
         self.of_bit = {}
         self.others = collections.defaultdict(list)
 
-    def free(self, wanted):
-        """The wanted name, changed where a netlist can't have it or another net has it."""
-        name = clean(wanted)
-        while name in self.taken:
-            name += "_"
+    def free(self, name, is_own):
+        """The name, changed where another net has it or it is another one of the source."""
+        while name in self.taken or (name in self.reserved and not is_own):
+            name, is_own = name + "_", False
         self.taken.add(name)
         return name
 
@@ -139,24 +64,24 @@ class Names:
         """Names a bit, unless it has a name."""
         if bit in self.of_bit:
             self.others[bit].append(clean(wanted))
-        elif bit not in CONSTANTS:
-            self.of_bit[bit] = self.free(wanted)
+        elif bit not in LEVELS:
+            self.of_bit[bit] = self.free(clean(wanted), clean(wanted) == wanted)
 
     def of(self, bit):
         if bit not in self.of_bit:
-            self.of_bit[bit] = self.free(CONSTANTS.get(bit) or f"n{bit}")
+            self.of_bit[bit] = self.free(f"_{bit}_", False)
         return self.of_bit[bit]
 
 
 class Design:
     """What is taken of a module: its inputs, bit by bit, its outputs as names, and its cells."""
 
-    def __init__(self, title, module):
+    def __init__(self, title, module, reserved):
         self.title = clean(title)
         self.cells = cells_of(module)
         self.clocks = collections.Counter(cell.clock for cell in self.cells if cell.clock)
         self.inputs = [bit for bit, _ in ports_of(module, "input")]
-        self.outputs, self.names = [], Names()
+        self.outputs, self.names = [], Names(reserved)
         self.give_names(module)
         self.first_levels = first_levels(module)
 
@@ -167,7 +92,7 @@ class Design:
         for bit, name in ports_of(module, "input") + [(bit, name) for bit, name in wires if bit in flops]:
             self.names.give(bit, name)
         for bit, name in ports_of(module, "output"):
-            if bit in self.names.of_bit or bit in CONSTANTS:
+            if bit in self.names.of_bit or bit in LEVELS:
                 # a gate of its own, since the bit has the name of another port or of a register
                 self.cells.append(Cell("BUFF", ("copy", name), [bit], None))
                 bit = "copy", name
@@ -184,21 +109,18 @@ class Design:
     def constants(self):
         """The nets of constants, each with its level."""
         used = self.used()
-        return [(self.names.of(bit), bit) for bit in CONSTANTS if bit in used]
+        return [(self.names.of(bit), bit) for bit in LEVELS if bit in used]
 
     def data_inputs(self):
         """The names of the inputs but the clocks."""
         clocks = {bit for bit, _ in self.clocks}
         return [self.names.of(bit) for bit in self.inputs if bit not in clocks]
 
-
-def first_levels(module):
-    """The level that the design gives to a bit to begin with."""
-    levels = {}
-    for wire in module.get("netnames", {}).values():
-        given = wire.get("attributes", {}).get("init", "")
-        levels.update((bit, level) for bit, level in zip(wire["bits"], reversed(given)) if level in "01")
-    return levels
+    def nets(self):
+        """The names of all nets but constants, each with its bit."""
+        clocks = {bit for bit, _ in self.clocks}
+        bits = [bit for bit in self.inputs if bit not in clocks] + [cell.output for cell in in_order(self.cells)[0]]
+        return {self.names.of(bit): bit for bit in bits}
 
 
 # ---- what has to hold
@@ -214,7 +136,7 @@ def check_drivers(design):
     name, driven = design.names.of, collections.Counter([cell.output for cell in design.cells] + design.inputs)
     lines = [f"{name(bit)} has {count} drivers" for bit, count in driven.items() if count > 1]
     lines += [f"{name(bit)} is driven by nothing: run setundef -undriven -zero, or mend the design"
-              for bit in [*design.used(), *design.outputs] if bit not in driven and bit not in CONSTANTS]
+              for bit in [*design.used(), *design.outputs] if bit not in driven and bit not in LEVELS]
     if lines:
         raise Refused(list(dict.fromkeys(lines)))
 
@@ -242,25 +164,6 @@ def check_given(design, given):
 
 # ---- the netlist
 
-def in_order(cells):
-    """The flip-flops, and then the gates, each after those that it reads where no loop hinders; and whether there is a loop."""
-    makers = {cell.output: cell for cell in cells if cell.clock is None}
-    ordered, state, has_loop = [], {}, False
-    for root in makers:
-        stack = [(root, False)]
-        while stack:
-            bit, is_done = stack.pop()
-            if is_done:
-                state[bit] = "done"
-                ordered.append(makers[bit])
-            elif bit not in state:
-                state[bit] = "begun"
-                read = [it for it in makers[bit].operands if it in makers]
-                has_loop |= any(state.get(it) == "begun" for it in read)
-                stack += [(bit, True), *((it, False) for it in reversed(read))]
-    return [cell for cell in cells if cell.clock] + ordered, has_loop
-
-
 def longest_path(ordered):
     """How many gates a change may have to pass, one after the other."""
     depth = {}
@@ -284,18 +187,53 @@ def netlist_of(design, ordered):
 
 # ---- the tables and the options
 
-def table(header, rows):
-    return "\n".join([header] + [",".join(map(str, row)) for row in rows]) + "\n"
+def table(*rows):
+    text = io.StringIO()
+    csv.writer(text, lineterminator="\n").writerows(rows)
+    return text.getvalue()
 
 
-def stimuli_of(design):
-    levels = [(name, level) for name, level in design.constants() if level != "x"] + [(name, "0") for name in design.data_inputs()]
-    return table("tick,net,value", [(0, name, level) for name, level in levels])
+def levels_of(levels):
+    """The table of stimuli that gives nets a level from tick 0 on."""
+    return table(["tick", "net", "value"], *((0, name, level) for name, level in levels if level != "x"))
+
+
+def declared_of(wires):
+    """The left and the right number of each bus, empty for what isn't one."""
+    for name, wire in wires.items():
+        width, first = len(wire["bits"]), wire.get("offset", 0)
+        ends = (first + width - 1, first) if width > 1 or first else ("", "")
+        yield name, wire, ends[::-1] if wire.get("upto") else ends
+
+
+def ports_table(design, module):
+    """The ports whose nets have their names; a clock has none."""
+    nets = design.nets()
+    rows = [(clean(name), it["direction"], *ends) for name, it, ends in declared_of(module["ports"])
+            if all(nets.get(clean(name)) in (bit, ("copy", name)) for bit, name in named_bits(name, it))]
+    return table(["name", "direction", "left", "right"], *rows)
+
+
+def buses_table(wires):
+    """The buses whose rightmost bit isn't bit 0."""
+    return table(["name", "left", "right"], *((clean(name), *ends) for name, _, ends in declared_of(wires) if ends[1]))
+
+
+def names_table(design, wires, bits, lost):
+    """What became of each bit that the source names and that has no net of its own."""
+    nets = design.nets()
+    has_net, rows = set(nets.values()), [NAMES]
+    for name, declared in {name: bit for bit, name in wires_of({"netnames": wires})}.items():
+        bit = bits.get(name, declared if declared in LEVELS else None)
+        kind, bit = ("net", bit) if bit in has_net else (bit, None) if bit in LEVELS else lost.get(name, ("gone", None))
+        if name not in nets and INSIDE not in name:
+            rows.append([name, kind, "" if bit is None else design.names.of(bit)])
+    return table(*rows)
 
 
 def clocks_of(design, given):
     name = design.names.of
-    return table("net,first,period", [(name(it.output), *given[name(it.clock[0]), it.clock[1]]) for it in design.cells if it.clock])
+    return table(["net", "first", "period"], *((name(it.output), *given[name(it.clock[0]), it.clock[1]]) for it in design.cells if it.clock))
 
 
 def init_of(design):
@@ -315,36 +253,72 @@ def options_of(design, given, period):
 
 # ---- the whole
 
+def tables_of(design, module, source, before):
+    """The tables by name. The source and the design before abc are modules too, or None."""
+    wires = {**(source or module)["netnames"], **module["netnames"], **module["ports"]}
+    bits, nets = bits_by_name(module), list(design.nets().values())
+    lost = lost_bits(before, module, design.cells, nets) if before else {}
+    return {"constants.csv": levels_of(design.constants()), "names.csv": names_table(design, wires, bits, lost),
+            "ports.csv": ports_table(design, module), "buses.csv": buses_table(wires)}
+
+
 def files_of(design, given):
-    """The files by name, and what there is to say of them."""
+    """The files by name, what there is to say of them, and the shortest period."""
     ordered, has_loop = in_order(design.cells)
     path, nets = longest_path(ordered), len(ordered) + len(design.data_inputs()) + len(design.constants())
-    period = (path // 10 + 1) * 10
-    files = {"netlist.bench": netlist_of(design, ordered), "stimuli.csv": stimuli_of(design), "options": options_of(design, given, period)}
+    files = {"netlist.bench": netlist_of(design, ordered), "stimuli.csv": levels_of([(name, "0") for name in design.data_inputs()]),
+             "options": options_of(design, given, (path // 10 + 1) * 10)}
     if len(design.clocks) > 1:
         files["clocks.csv"] = clocks_of(design, given)
     flops = sum(design.clocks.values())
     lines = [f"{nets} nets: {nets - len(ordered)} inputs, {flops} flip-flops, {len(ordered) - flops} gates"]
     lines += ["there are loops of gates, so no path is the longest" if has_loop else
-              f"the longest path is of {path} gates, which settles in a period of {period} ticks"]
+              f"the longest path is of {path} gates, so the shortest period is of {path + 1} ticks, if each gate takes one"]
     lines += [f"{name} is the constant {level}" for name, level in design.constants()]
-    lines += [] if init_of(design)[1] else ["flip-flops begin with different levels in the design, and here all with x, or as --init says"]
+    lines += [] if init_of(design)[1] else ["flip-flops begin with different levels in the design, and here all with x, or as --init says: "
+                                            "from_verilog.sh --zero-init has them begin as the design says"]
     lines += [f"cmbsim takes {MOST_NETS} nets, so this is too large"] if nets > MOST_NETS else []
-    return files, lines
+    lines += [f"{OPTIONS[edge]} {name}: a period of {period} ticks is shorter" for (name, edge), (_, period) in given.items() if period <= path]
+    return files, lines, path + 1
+
+
+def read_text(folder, name):
+    """A file of the folder, or None where there is none."""
+    path = os.path.join(folder, name)
+    if not os.path.exists(path):
+        return None
+    with open(path, encoding="latin-1") as file:
+        return file.read()
+
+
+def said_of_kept(design, given, folder, shortest):
+    """What files that are left as they are lack."""
+    lines, options, stimuli = [], read_text(folder, "options"), read_text(folder, "stimuli.csv")
+    if options is not None:
+        clock, init = (re.search(form, options) for form in (r"--clock[\s=]+(\d+):(\d+)", r"--init[\s=]+([01])"))
+        level, ticks = init_of(design)[0], clock and (int(clock[1]), int(clock[2]))
+        if ticks and len(design.clocks) == 1 and ticks not in (list(given.values()) or [ticks]):
+            lines += [f"{folder}/options has the clock {ticks[0]}:{ticks[1]}"]
+        lines += [f"{folder}/options has a period of {ticks[1]} ticks, which is shorter"] if ticks and ticks[1] < shortest else []
+        lines += [f"{folder}/options hasn't the --init {level} that the design asks for"] if level not in ("x", init and init[1]) else []
+    if stimuli is not None:
+        told = {row[1] for row in csv.reader(stimuli.splitlines()) if len(row) > 1}
+        without = [name for name in design.data_inputs() if name not in told]
+        lines += [f"{folder}/stimuli.csv has no row of {', '.join(without)}: x at all ticks"] if without else []
+    if len(design.clocks) < 2 and read_text(folder, "clocks.csv") is not None:
+        lines += [f"{folder}/clocks.csv is there, and the design has no two clocks"]
+    return lines
 
 
 def write(folder, files):
-    """Writes the files, and gives a line for each."""
+    """Writes the files, and gives a line for those that were written and for those that were left."""
     os.makedirs(folder, exist_ok=True)
-    lines = []
-    for name, text in files.items():
-        path = os.path.join(folder, name)
-        is_kept = name in TO_BEGIN and os.path.exists(path)
-        if not is_kept:
-            with open(path, "w", encoding="ascii", newline="\n") as file:
-                file.write(text)
-        lines.append(f"{path} {'is left as it was' if is_kept else 'was written'}")
-    return lines
+    kept = [name for name in files if name in TO_BEGIN and os.path.exists(os.path.join(folder, name))]
+    written = [name for name in files if name not in kept]
+    for name in written:
+        with open(os.path.join(folder, name), "w", encoding="utf-8", newline="\n") as file:
+            file.write(files[name])
+    return [f"in {folder} {words}: {', '.join(names)}" for words, names in (("were written", written), ("are left as they were", kept)) if names]
 
 
 def ticks_of(text):
@@ -360,31 +334,57 @@ def arguments():
     parser.add_argument("--top", metavar="MODULE", help="the module to take, if there are several")
     for option, words in (("--clock", "when flip-flops of this clock sample"), ("--falling", "the same for its falling edge")):
         parser.add_argument(option, metavar="NAME=F:P", action="append", type=ticks_of, default=[], help=words)
+    for option, words in (("--source", "the design behind proc and flatten, whose names are kept free"),
+                          ("--before-abc", "the design as abc is given it, which tells what abc did with bits")):
+        parser.add_argument(option, metavar="FILE.json", help=words)
     parser.add_argument("design", metavar="DESIGN.json")
     parser.add_argument("folder", metavar="FOLDER")
     return parser.parse_args()
 
 
-def main():
-    line = arguments()
+class NotJson(Exception):
+    """A file isn't what write_json writes."""
+
+
+def read_module(path, top):
+    """The module of a file, with its name."""
+    try:
+        with open(path, encoding="utf-8") as file:
+            name, module = module_of(json.load(file), top)
+        return name, {"netnames": {}, **module}
+    except (ValueError, KeyError, TypeError, AttributeError) as error:
+        raise NotJson(path) from error
+
+
+def convert(line):
+    """Writes the files, and gives what there is to say."""
     given = {(name, "rising"): ticks for name, ticks in line.clock}
     given.update({(name, "falling"): ticks for name, ticks in line.falling})
+    name, module = read_module(line.design, line.top)
+    source, before = (path and read_module(path, name)[1] for path in (line.source, line.before_abc))
+    check_ports(module)
+    reserved = {name for it in (module, source) if it for name in (*it["netnames"], *bits_by_name(it))}
+    design = Design(name, module, reserved)
+    for check in (check_drivers, check_clocks):
+        check(design)
+    check_given(design, given)
+    files, said, shortest = files_of(design, given)
+    files.update(tables_of(design, module, source, before))
+    return said + said_of_kept(design, given, line.folder, shortest) + write(line.folder, files)
+
+
+def main():
+    line = arguments()
     try:
-        with open(line.design, encoding="utf-8") as file:
-            text = json.load(file)
-        name, module = module_of(text, line.top)
-        check_ports(module)
-        design = Design(name, module)
-        for check in (check_drivers, check_clocks):
-            check(design)
-        check_given(design, given)
-        files, said = files_of(design, given)
-        print("\n".join(said + write(line.folder, files)))
+        print("\n".join(convert(line)))
     except Refused as refused:
         print("\n".join(f"from_yosys: {it}" for it in refused.args[0]), file=sys.stderr)
         return 1
     except OSError as error:
         print(f"from_yosys: {error}", file=sys.stderr)
+        return 2
+    except NotJson as error:
+        print(f"from_yosys: {error} isn't what write_json writes", file=sys.stderr)
         return 2
     except (ValueError, KeyError, TypeError, AttributeError, IndexError):
         print(f"from_yosys: {line.design} isn't what write_json writes", file=sys.stderr)

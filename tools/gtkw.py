@@ -1,17 +1,23 @@
 #!/usr/bin/env python3
 """gtkw.py: makes a save file for GTKWave that shows nets and buses of a dump of cmbsim, all of its time in one window.
 
-  gtkw.py [--width PIXELS] NAME.. < FILE.vcd > FILE.gtkw
+  gtkw.py [--width PIXELS] [--names FILE] NAME.. < FILE.vcd > FILE.gtkw
 
 A NAME is a net, or a bus, which is all nets NAME[0], NAME[1] and so on and is shown in hexadecimal digits; GTKWave alone shows it bit
-by bit, since such a bit is a variable of its own. Status 2: there is no net of such a name, or the dump can't be read."""
+by bit, since such a bit is a variable of its own. FILE is names.csv, by which from_yosys.py tells which net shows a bit that has
+none of its own. GTKWave shows nets alone: where a bit of a digit has none, standard error names it, and the others of its digit
+stand apart, in binary digits and with their numbers.
+
+Status 2: there is no net of such a name, or the dump or a table can't be read."""
 import argparse
+import itertools
 import math
 import re
 import sys
 
-from read_vcd import bus_of
-from vcd import Unreadable, dump_of_input
+from buses import Buses, runs_of, said_of
+from names import NamesUnreadable
+from vcd import Unreadable, dump_of_input, last_time
 
 NET, BUS = "@28", "@22"
 SCALE = 203  # a pixel shows 2 to the power of the zoom units of time, over this number, as was seen of GTKWave 3.3
@@ -22,15 +28,31 @@ def variable(name):
     return "top." + (name if re.fullmatch(r"[A-Za-z_][\w$]*", name) else "\\" + name)
 
 
-def lines_of(name, names):
-    """The lines of a net or a bus, or None where there is no such net."""
-    if name in names:
-        return [NET, variable(name)]
-    bits = bus_of(name, names)[::-1]
-    if not bits:
-        return None
-    ends = [bit[len(name) + 1:-1] for bit in (bits[0], bits[-1])]
-    return [BUS, " ".join([f"#{{{name}[{':'.join(ends)}]}}", *map(variable, bits)])]
+def lines_of_part(bits, nets, is_whole):
+    """The lines of digits, with whether all bits of these are there."""
+    there = [bit for bit in bits if nets[bit]]
+    if not there:
+        return []
+    return [BUS if is_whole else NET, " ".join([f"#{{{','.join(runs_of(there))}}}", *(variable(nets[bit]) for bit in there)])]
+
+
+def lines_of_bus(bits, nets):
+    """The lines of a bus: digits with all their bits are shown together, others by themselves."""
+    first = len(bits) % 4
+    digits = [bits[at:at + 4] for at in range(first, len(bits), 4)]
+    digits = ([bits[:first]] if first else []) + digits
+    parts = itertools.groupby(digits, lambda digit: all(nets[bit] for bit in digit))
+    return [line for is_whole, part in parts for line in lines_of_part([bit for digit in part for bit in digit], nets, is_whole)]
+
+
+def lines_of(name, buses):
+    """The lines of a net or a bus and which of its bits have no net, or None where there is no such name."""
+    if buses.has(name):
+        net = buses.net_of(name)
+        return [NET, variable(name) if net == name else f"+{{{name}}} {variable(net)}"] if net else [], [] if net else [name]
+    bits = buses.bits(name)
+    nets = {bit: buses.net_of(bit) for bit in bits}
+    return (lines_of_bus(bits, nets), [bit for bit in bits if not nets[bit]]) if bits else None
 
 
 def head_of(end, width):
@@ -43,20 +65,22 @@ def head_of(end, width):
 def main():
     parser = argparse.ArgumentParser(description="Makes a save file for GTKWave of a dump on standard input.")
     parser.add_argument("--width", metavar="PIXELS", type=int, default=1400, help="the width of the window [default: 1400]")
-    parser.add_argument("names", metavar="NAME", nargs="+")
+    parser.add_argument("--names", metavar="FILE", help="names.csv, which tells of bits that have no net of their own")
+    parser.add_argument("names_shown", metavar="NAME", nargs="+")
     line = parser.parse_args()
     try:
-        dump = dump_of_input()
-        names, end = dump.names(), max(time for time, _ in dump.blocks()) // dump.unit
-    except Unreadable as error:
+        buses, end = Buses(dump_of_input(), line.names), last_time(sys.stdin.buffer)
+    except (Unreadable, NamesUnreadable) as error:
         print(f"gtkw: {error}", file=sys.stderr)
         return 2
-    found = [lines_of(name, names) for name in line.names]
-    missing = [name for name, it in zip(line.names, found) if it is None]
+    found = [lines_of(name, buses) for name in line.names_shown]
+    missing = [name for name, it in zip(line.names_shown, found) if it is None]
     if missing:
         print(f"gtkw: there is no net {', '.join(missing)}", file=sys.stderr)
         return 2
-    print("\n".join(head_of(end, line.width) + [it for lines in found for it in lines] + ["[pattern_trace] 1", "[pattern_trace] 0"]))
+    for words in said_of([bit for _, bits in found for bit in bits], "has no net to show, and is left out"):
+        print(f"gtkw: {words}", file=sys.stderr)
+    print("\n".join(head_of(end, line.width) + [it for lines, _ in found for it in lines] + ["[pattern_trace] 1", "[pattern_trace] 0"]))
     return 0
 
 

@@ -151,6 +151,7 @@ def test_read():
             ("a time", BITS, ["--at", "20", "count"], (0, "1\n", "")),
             ("what isn't known", BITS, ["--at", "9", "count", "count[1]"], (0, "x\nx\n", "")),
             ("a bus that counts from the left", REAL, ["word[0]", "word[2]"], (0, "0\nx\n", "")),
+            ("the whole of it", REAL.replace("b1x w", "b110 w"), ["word"], (0, "6\n", "")),
             ("no such net", BITS, ["clear", "carry"], (2, "", "read_vcd: there is no net carry\n"))):
         see(f"read_vcd, {name}", run(".", ["read_vcd.py", *words], text), wanted)
 
@@ -164,15 +165,66 @@ def test_gtkw():
     see("gtkw, no such net", run(".", ["gtkw.py", "carry"], BITS), (2, "", "gtkw: there is no net carry\n"))
 
 
-# ---- stimuli.py
+# What is left of a bus pc[31:1] of which yosys made bit 0 a constant, of a state whose bits 4 and 6 went, and of a bus [0:3].
+PARTS = """\
+$timescale 1 ns $end
+$scope module top $end
+""" + "".join(f"$var wire 1 p{bit} \\pc[{bit}] $end\n" for bit in range(1, 32)) + "".join(
+    f"$var wire 1 s{bit} \\state[{bit}] $end\n" for bit in (0, 1, 2, 3, 5, 7)) + "".join(
+    f"$var wire 1 u{bit} \\up[{bit}] $end\n" for bit in range(4)) + """\
+$upscope $end
+$enddefinitions $end
+#0
+""" + "".join(f"{int(bit in (4, 6, 31))}p{bit}\n" for bit in range(1, 32)) + "".join(
+    f"{int(bit in (1, 5))}s{bit}\n" for bit in (0, 1, 2, 3, 5, 7)) + "0u0\n0u1\n0u2\n1u3\n#12345678\n"
+PART_NAMES = "bit,is,net\npc[0],0,\nstate[4],not,state[1]\nstate[6],gone,\nhigh[11],x,\nhigh[10],1,\nhigh[9],net,up[3]\nhigh[8],0,\n"
+PART_BUSES = "name,left,right\nup,0,3\nhigh,11,8\n"
 
-def test_stimuli():
-    given = "# a line of words alone\n0 go=0 word=0x2a  # hexadecimal\n\n10 go=1 word[1]=x pair=0b1x nibble=0xx\n"
-    wanted = ["tick,net,value", "0,go,0", *(f"0,word[{bit}],{level}" for bit, level in enumerate("01010100"))]
-    wanted += ["10,go,1", "10,word[1],x", "10,pair[0],x", "10,pair[1],1", *(f"10,nibble[{bit}],x" for bit in range(4))]
-    see("stimuli", run(".", ["stimuli.py"], given), (0, "\n".join(wanted) + "\n", ""))
-    see("a value of another form", run(".", ["stimuli.py"], "0 a=1\n1 a=2\n"), (2, "", "stimuli: line 2: 2 is no value\n"))
-    see("a word without a value", run(".", ["stimuli.py"], "0 a\n"), (2, "", "stimuli: line 1: a isn't NAME=VALUE\n"))
+
+def read_parts(tool, words, names=PART_NAMES, buses=PART_BUSES):
+    with tempfile.TemporaryDirectory() as folder:
+        put(folder, {"names.csv": names, "buses.csv": buses})
+        return run(folder, [tool, *words], PARTS)
+
+
+def test_parts():
+    tables = ["--names", "names.csv"]
+    for name, words, wanted in (
+            ("no bit 0", ["pc"], (0, "8000005?\n", "read_vcd: pc[0] has no net, and is shown as ?\n")),
+            ("bits that went", ["state", "pc"], (0, "?2\n8000005?\n", "read_vcd: state[6], state[4], pc[0] has no net, and is shown as ?\n")),
+            ("a bit 0 that the table tells of", tables + ["pc", "pc[0]"], (0, "80000050\n0\n", "")),
+            ("the opposite of a net", tables + ["state[4]", "state[6]", "state"],
+             (0, "0\n?\n?2\n", "read_vcd: state[6], state[6] has no net, and is shown as ?\n")),
+            ("a bus that ends with bit 8", tables + ["high", "high[9]"], (0, "x\n1\n", "")),
+            ("a bus that begins with bit 0", tables + ["up"], (0, "1\n", "")),
+            ("no such bus", tables + ["low"], (2, "", "read_vcd: there is no net low\n"))):
+        see(f"read_vcd, {name}", read_parts("read_vcd.py", words), wanted)
+    see("a table of another kind", read_parts("read_vcd.py", tables + ["pc"], "bit,is,net\npc[0],2,\n"),
+        (2, "", "read_vcd: names.csv, line 2: not a row of bit,is,net, as from_yosys.py writes it\n"))
+    see("buses of another kind", read_parts("read_vcd.py", tables + ["pc"], buses="name,left,right\npc,a,0\n"),
+        (2, "", "read_vcd: buses.csv, line 2: not a row of name,left,right, as from_yosys.py writes it\n"))
+    see("buses of another design", read_parts("read_vcd.py", tables + ["pc"], buses="name,left,right\npc,9,2\n"),
+        (0, "80000050\n", ""))
+
+
+def test_gtkw_parts():
+    def body(words):
+        ran = read_parts("gtkw.py", words)
+        return ran[0], ran[1].split("\n")[7:-3], ran[2]
+    pc = [f"top.\\pc[{bit}]" for bit in range(31, 0, -1)]
+    see("gtkw, no bit 0", body(["pc"]), (0, ["@22", " ".join(["#{pc[31:4]}", *pc[:-3]]), "@28", " ".join(["#{pc[3:1]}", *pc[-3:]])],
+                                        "gtkw: pc[0] has no net to show, and is left out\n"))
+    bits = ["#{state[7],state[5]} top.\\state[7] top.\\state[5]", "#{state[3:0]} " + " ".join(f"top.\\state[{bit}]" for bit in (3, 2, 1, 0))]
+    see("gtkw, bits that went", body(["state"]), (0, ["@28", bits[0], "@22", bits[1]], "gtkw: state[6], state[4] has no net to show, and is left out\n"))
+    see("gtkw, a bit that is another net", body(["--names", "names.csv", "high[9]", "up", "pc[0]"]),
+        (0, ["@28", "+{high[9]} top.\\up[3]", "@22", "#{up[0:3]} " + " ".join(f"top.\\up[{bit}]" for bit in range(4))],
+         "gtkw: pc[0] has no net to show, and is left out\n"))
+    see("gtkw, the last time", read_parts("gtkw.py", ["up"])[1].split("\n")[3][:12], "*-21.068021 ")
+    with tempfile.TemporaryDirectory() as folder:
+        put(folder, {"long.vcd": PARTS + "#12345679\n" + "0u0\n" * 600000})
+        with open(f"{folder}/long.vcd", encoding="ascii") as file:
+            ran = subprocess.run([sys.executable, f"{HERE}/gtkw.py", "up"], stdin=file, stdout=subprocess.PIPE, universal_newlines=True, timeout=60)
+        see("gtkw, a last time that stands far from the end", ran.stdout.split("\n")[3][:12], "*-21.068021 ")
 
 
 # ---- from_yosys.py
@@ -216,53 +268,73 @@ WHOLE = design(
     {"clk": port("input", 2), "d": port("input", 3, 4, offset=4), "e": port("input", 5, 6, upto=1),
      "q": port("output", 7, 8), "x": port("output", 8, "1", "x")},
     [gate("AND", 12, 10, 3), flop(2, 12, 7), gate("NOT", 10, 11), gate("XNOR", 11, 5, 6), flop(2, "0", 8), gate("BUF", 13, 4)],
-    {"count": {"bits": [7, 8], "attributes": {"init": "00"}}, "inner.a(1)": {"bits": [10]}, "deep.er": {"bits": [10]}, "hidden": {"bits": [11], "hide_name": 1},
-     "q": {"bits": [7, 8]}})
+    {"count": {"bits": [7, 8], "attributes": {"init": "00"}}, "inner.a(1,2": {"bits": [10]}, "deep.er": {"bits": [10]}, "hidden": {"bits": [11], "hide_name": 1},
+     "q": {"bits": [7, 8]}, "part": {"bits": ["0", 3, 90]}, "gone": {"bits": [91, 92], "offset": 8}, "_13_": {"bits": [93]}})
 NETLIST = """\
 # d, of Verilog by yosys
 INPUT(d[4])
 INPUT(d[5])
 INPUT(e[1])
 INPUT(e[0])
-INPUT(zero)
-INPUT(one)
-INPUT(unknown)
+INPUT(_0_)
+INPUT(_1_)
+INPUT(_x_)
 OUTPUT(q[0])
 OUTPUT(q[1])
 OUTPUT(x[0])
 OUTPUT(x[1])
 OUTPUT(x[2])
-count[0] = DFF(n12)
-count[1] = DFF(zero)
-n11 = XNOR(e[1], e[0])
-inner.a_1_ = NOT(n11)  # deep.er
-n12 = AND(inner.a_1_, d[4])
-n13 = BUFF(d[5])
+count[0] = DFF(_12_)
+count[1] = DFF(_0_)
+_11_ = XNOR(e[1], e[0])
+inner.a_1_2 = NOT(_11_)  # deep.er
+_12_ = AND(inner.a_1_2, d[4])
+_13__ = BUFF(d[5])
 q[0] = BUFF(count[0])
 q[1] = BUFF(count[1])
 x[0] = BUFF(count[1])
-x[1] = BUFF(one)
-x[2] = BUFF(unknown)
+x[1] = BUFF(_1_)
+x[2] = BUFF(_x_)
 """
-STIMULI = "tick,net,value\n0,zero,0\n0,one,1\n0,d[4],0\n0,d[5],0\n0,e[1],0\n0,e[0],0\n"
 SAID = """\
 18 nets: 7 inputs, 2 flip-flops, 9 gates
-the longest path is of 3 gates, which settles in a period of 10 ticks
-zero is the constant 0
-one is the constant 1
-unknown is the constant x
+the longest path is of 3 gates, so the shortest period is of 4 ticks, if each gate takes one
+_0_ is the constant 0
+_1_ is the constant 1
+_x_ is the constant x
 """
+FILES = {
+    "netlist.bench": NETLIST, "options": "--horizon 200 --clock 9:10 --init 0\n", "constants.csv": "tick,net,value\n0,_0_,0\n0,_1_,1\n",
+    "stimuli.csv": "tick,net,value\n0,d[4],0\n0,d[5],0\n0,e[1],0\n0,e[0],0\n", "buses.csv": "name,left,right\ngone,9,8\nd,5,4\ne,0,1\n",
+    "ports.csv": "name,direction,left,right\nd,input,5,4\ne,input,0,1\nq,output,1,0\nx,output,2,0\n",
+    "names.csv": "bit,is,net\npart[0],0,\npart[1],net,d[4]\npart[2],gone,\ngone[8],gone,\ngone[9],gone,\n_13_,gone,\nclk,gone,\n"
+                 '"inner.a(1,2",net,inner.a_1_2\ndeep.er,net,inner.a_1_2\n'}
+LEFT = "in d were written: netlist.bench, stimuli.csv, options, constants.csv, names.csv, ports.csv, buses.csv\n"
 
 
 def test_convert():
-    left = "".join(f"d/{name} was written\n" for name in ("netlist.bench", "stimuli.csv", "options"))
-    files = {"netlist.bench": NETLIST, "options": "--horizon 200 --clock 9:10 --init 0\n", "stimuli.csv": STIMULI}
-    see("a whole design", converted(WHOLE), ((0, SAID + left, ""), files))
-    mine = {"stimuli.csv": "mine\n", "options": "mine too\n"}
-    kept = left.replace("stimuli.csv was written", "stimuli.csv is left as it was").replace("options was written", "options is left as it was")
-    see("files that stand", converted(WHOLE, files=mine), ((0, SAID + kept, ""), {**files, **mine}))
-    given = {**files, "options": "--horizon 1000 --clock 7:50 --init 0\n"}
-    see("ticks that are given", converted(WHOLE, ["--clock", "clk=7:50"]), ((0, SAID + left, ""), given))
+    see("a whole design", converted(WHOLE), ((0, SAID + LEFT, ""), FILES))
+    given = {**FILES, "options": "--horizon 1000 --clock 7:50 --init 0\n"}
+    see("ticks that are given", converted(WHOLE, ["--clock", "clk=7:50"]), ((0, SAID + LEFT, ""), given))
+    see("ticks that are too few", converted(WHOLE, ["--clock", "clk=0:3"])[0], (0, SAID + "--clock clk: a period of 3 ticks is shorter\n" + LEFT, ""))
+
+
+def test_kept():
+    left = LEFT.replace(" stimuli.csv, options,", "") + "in d are left as they were: stimuli.csv, options\n"
+    for name, mine, said in (
+            ("files that stand", {"stimuli.csv": FILES["stimuli.csv"], "options": "--horizon 9 --clock 3:4 --init 0\n"}, ""),
+            ("a period that is too short", {"stimuli.csv": FILES["stimuli.csv"], "options": "--horizon 9 --clock=3:3 --init=0\n"},
+             "d/options has a period of 3 ticks, which is shorter\n"),
+            ("levels to begin with that are missing", {"stimuli.csv": FILES["stimuli.csv"], "options": "--clock 3:4\n"},
+             "d/options hasn't the --init 0 that the design asks for\n"),
+            ("inputs without levels", {"stimuli.csv": "tick,net,value\n0,d[4],0\n0,e[0],1\n", "options": "--init 0"},
+             "d/stimuli.csv has no row of d[5], e[1]: x at all ticks\n"),
+            ("clocks of earlier", {"stimuli.csv": FILES["stimuli.csv"], "options": "--init 0", "clocks.csv": "mine\n"},
+             "d/clocks.csv is there, and the design has no two clocks\n")):
+        see(name, converted(WHOLE, files=mine), ((0, SAID + said + left, ""), {**FILES, **mine}))
+    mine = {"stimuli.csv": FILES["stimuli.csv"], "options": "--clock 3:4 --init 0\n"}
+    for ticks, said in (("3:4", ""), ("3:5", "d/options has the clock 3:4\n")):
+        see(f"a clock {ticks}", converted(WHOLE, ["--clock", f"clk={ticks}"], mine), ((0, SAID + said + left, ""), {**FILES, **mine}))
 
 
 def test_clocks():
@@ -271,9 +343,9 @@ def test_clocks():
     refused("two clocks", two, ["there are 2 clocks, and each has to be given its ticks: --clock a=F:P (flip-flops: 1), --falling b=F:P (flip-flops: 1)"])
     refused("an edge of no flip-flop", two, ["--clock b: no flip-flop samples at this edge"], ["--clock", "b=1:2"])
     ran, files = converted(two, ["--clock", "a=3:10", "--falling", "b=5:7"])
-    see("two clocks with ticks", (ran[0], files["clocks.csv"], files["options"]), (0, "net,first,period\nn5,3,10\nq,5,7\n", "--horizon 200\n"))
+    see("two clocks with ticks", (ran[0], files["clocks.csv"], files["options"]), (0, "net,first,period\n_5_,3,10\nq,5,7\n", "--horizon 200\n"))
     gated = design(ports, [gate("AND", 7, 2, 3), flop(7, 4, 6)])
-    refused("a gated clock", gated, ["n7 is a clock and no input: make an enable of a gated or divided clock"])
+    refused("a gated clock", gated, ["_7_ is a clock and no input: make an enable of a gated or divided clock"])
     read = design(ports, [flop(2, 4, 5), gate("AND", 6, 2, 5)])
     refused("a clock that is read", read, ["a is a clock, which is no net here, and something else reads it"])
 
@@ -281,16 +353,16 @@ def test_clocks():
 def test_refusals():
     ports = {"a": port("input", 2), "y": port("output", 3)}
     for kind, said in (
-            ("$_DFFE_PP_", "dffunmap"), ("$_SDFF_PP0_", "dffunmap"), ("$_SDFFCE_PP0P_", "dffunmap"), ("$_DFF_PN0_", "async2sync"),
-            ("$_DFFE_PP0P_", "async2sync"), ("$_DFFSR_PPP_", "async2sync"), ("$_ALDFF_PP_", "async2sync"), ("$_DLATCH_P_", "a latch"),
+            ("$_DFFE_PP_", "dffunmap"), ("$_SDFF_PP0_", "dffunmap"), ("$_SDFFCE_PP0P_", "dffunmap"), ("$_DFF_PN0_", "--async"),
+            ("$_DFFE_PP0P_", "--async"), ("$_DFFSR_PPP_", "--async"), ("$_ALDFF_PP_", "--async"), ("$_DLATCH_P_", "a latch"),
             ("$_DLATCHSR_PPP_", "a latch"), ("$_SR_PP_", "a latch"), ("$_TBUF_", "tribuf"), ("$_FF_", "without a clock"), ("$_MUX_", "abc -g"),
             ("$_ANDNOT_", "abc -g"), ("$lut", "abc -g"), ("$mem_v2", "memory_map"), ("$assert", "chformal"), ("$add", "synth -flatten"),
-            ("$dff", "synth -flatten"), ("adder", "flatten"), ("NAND2_X1", "without -liberty")):
+            ("$dff", "synth -flatten"), ("adder", "flatten"), ("NAND2_X1", "--liberty")):
         ran, files = converted(design(ports, [flop(2, 2, 3, kind)]))
         see(kind, (ran[0], said in ran[2], f"1 of type {kind}, the first at d.v:3.1-3.9: " in ran[2], files), (1, True, True, {}))
     refused("an inout", design({**ports, "b": port("inout", 4)}, [gate("NOT", 3, 2)]), ["b is an inout: make it an input and an output"])
     refused("two drivers", design(ports, [gate("NOT", 3, 2), gate("BUF", 3, 2)]), ["y has 2 drivers"])
-    refused("no driver", design(ports, [gate("AND", 3, 2, 9)]), ["n9 is driven by nothing: run setundef -undriven -zero, or mend the design"])
+    refused("no driver", design(ports, [gate("AND", 3, 2, 9)]), ["_9_ is driven by nothing: run setundef -undriven -zero, or mend the design"])
     both = {"modules": {name: {**design(ports, [gate("NOT", 3, 2)])["modules"]["d"], "attributes": {}} for name in ("e", "f")}}
     refused("two modules", both, ["of the modules e, f one has to be named by --top"])
     see("one of two modules", converted(both, ["--top", "f"])[0][0], 0)
@@ -301,7 +373,7 @@ def test_loops():
     ports = {"s": port("input", 2), "r": port("input", 3), "q": port("output", 4)}
     ran, files = converted(design(ports, [gate("NAND", 4, 2, 5), gate("NAND", 5, 3, 4)]))
     see("a loop of gates", (ran[0], ran[1].split("\n")[1], files["netlist.bench"].split("\n")[-3:]),
-        (0, "there are loops of gates, so no path is the longest", ["n5 = NAND(r, q)", "q = NAND(s, n5)", ""]))
+        (0, "there are loops of gates, so no path is the longest", ["_5_ = NAND(r, q)", "q = NAND(s, _5_)", ""]))
 
 
 # ---- completions and the manual page
@@ -340,7 +412,7 @@ def test_words():
 
 
 def main():
-    for test in (test_compare, test_compare_names, test_unreadable, test_read, test_gtkw, test_stimuli, test_convert, test_clocks, test_refusals, test_loops,
+    for test in (test_compare, test_compare_names, test_unreadable, test_read, test_gtkw, test_parts, test_gtkw_parts, test_convert, test_kept, test_clocks, test_refusals, test_loops,
                  test_completions, test_words):
         test()
     print(f"{COUNTS['passed']} passed, {COUNTS['failed']} failed")

@@ -4,6 +4,7 @@ import re
 import sys
 
 UNITS = {"s": 15, "ms": 12, "us": 9, "ns": 6, "ps": 3, "fs": 0}  # each as a power of ten of a femtosecond
+BLOCK = 1 << 20  # bytes that are read at once
 LEVELS = dict(zip("01xXzZuUwW-lLhH", "01xxzzxxxxx0011"))  # the last ones are those that dumps of VHDL have besides
 
 
@@ -94,6 +95,14 @@ class Dump:
         """The names of all bits, each once, in order."""
         return dict.fromkeys(bit for variables in self.variables.values() for bits in variables for bit in bits)
 
+    def buses(self):
+        """The left and the right number of each bus that is one variable."""
+        found = {}
+        for bits in (bits for variables in self.variables.values() for bits in variables if len(bits) > 1):
+            name, _, left = bits[0].rpartition("[")
+            found[name] = int(left[:-1]), int(bits[-1].rpartition("[")[2][:-1])
+        return found
+
     def blocks(self):
         """For each time that changes something, by rising time, that time in femtoseconds and the new levels by name."""
         time, levels = 0, {}
@@ -130,5 +139,27 @@ class Dump:
 
 def dump_of_input():
     """The dump on standard input."""
-    sys.stdin.reconfigure(encoding="latin-1")
-    return Dump("standard input", sys.stdin)
+    return Dump("standard input", (line.decode("latin-1") for line in sys.stdin.buffer))
+
+
+def last_time(file):
+    """The last time of the rest of a dump, which stands at its end; 0 where there is none."""
+    if not file.seekable():
+        return last_of(file) or 0
+    start, end = file.tell(), file.seek(0, os.SEEK_END)
+    file.seek(max(start, end - BLOCK))
+    found = last_of(file)
+    if found is None:
+        file.seek(start)
+        found = last_of(file)
+    return found or 0
+
+
+def last_of(file):
+    """The last time of what is still to be read of a file, or None."""
+    text = b"\n"
+    for block in iter(lambda: file.read(BLOCK), b""):
+        text += block
+        text = text[text.rfind(b"\n#"):]
+    found = re.match(rb"\n#(\d+)", text)
+    return int(found[1]) if found else None

@@ -69,7 +69,8 @@ pub const MODE: &str = "How the run is made: rounds, free or plain [default: rou
 
 pub const THREADS: &str = "Threads that share the work as it pays, 1 to 64 [default: 1]";
 
-pub const WORKERS: &str = "Or: workers with nets of their own, 1 to 64 [default: 1]";
+pub const WORKERS: &str =
+    "Or, in a short run: workers with nets of their own, 1 to 64 [default: 1]";
 
 pub const PARTS: &str = "Clusters of nets that workers share out, 1 to 64 [default: 1]";
 
@@ -102,13 +103,13 @@ none of them depends aren't simulated. With it, or --only-outputs, the text is m
     y
 
 Modes; each writes the same text:
-    rounds  threads carry their clusters on by changes, and hand over what is new after each round
-    free    threads run freely, and promise one another up to which tick a net doesn't change
-    plain   one thread fills a table with a place for each net and tick, at most 16,777,216
-With --threads, in modes rounds and free, each thread carries on a part of the netlist that reads no
-other, or one carries on all of it and others make the text; in mode free it is written meanwhile.
---workers and --clusters say instead who has which nets in a run of at most 262,144 nets times
-ticks; a longer one is shared as with --threads.
+    rounds  goes on by what changes, in windows of ticks, and writes once all is done
+    free    does the same, and writes meanwhile
+    plain   fills a table with a place for each net and tick, at most 16,777,216
+In rounds and free one thread has all nets; with --threads, where it pays, each has a part of them
+that reads itself and earlier parts alone, or one has all and others make the text. Workers go on
+round by round, or freely in mode free, only with --workers and --clusters and in a run of at most
+262,144 nets times ticks; a longer one is shared as with --threads.
 A worker without a cluster gets no thread: give at least as many --clusters as --workers.
 
 Status 0: the text was written. Status 2: the command line is wrong.
