@@ -1,3 +1,4 @@
+pub mod ChannelFacts
 pub mod RunFacts
 pub mod TellerFacts
 pub mod TextRuns

@@ -1,6 +1,6 @@
 //! The workers of a free run, and what the collecting thread has of it.
 
-ghost use Rattle.std.specs.Prelude.{◌≡◌, ◌+◌, ◌<◌, All, drop, vec_len, IfOk, OnOk};
+ghost use Rattle.std.specs.Prelude.{◌≡◌, ◌+◌, ◌<◌, All, drop, length, vec_len, IfOk, OnOk};
 ghost use Rattle.std.specs.Arc.{arc_value};
 ghost use Rattle.cmb_links.specs.Seats.{IsSeatOf, new_seats, terms};
 ghost use Rattle.cmb_run.specs.RunTerms.{AreTerms};
@@ -54,51 +54,25 @@ pub struct Crew<T: Terms> {
     pub lookout: Lookout<T>,
 }
 
-// No nets for each of so many workers.
-fn no_nets(alloc: Global, workers: usize) -> Result<Vec<Vec<u32>>, AllocError> {
-    let mut nets = Vec::with_capacity(alloc, workers)?;
-    for _ in 0..workers {
-        nets.push(Vec::new(alloc))?;
-    }
-    Ok(nets)
-}
-
-// The nets of a list that each worker drives.
-fn by_worker(
-    alloc: Global,
-    clustering: &Clustering,
-    workers: usize,
-    nets: &[u32],
-) -> Result<Vec<Vec<u32>>, AllocError> {
-    let mut theirs = no_nets(alloc, workers)?;
-    for net in nets {
-        if *net as usize >= clustering.nets() {
-            continue;
-        }
-        if let Some(list) = theirs.get_mut(clustering.of(*net) as usize) {
-            list.push(*net)?;
-        }
-    }
-    Ok(theirs)
-}
-
-// Links a worker to another one, which reads these nets.
+// Links a worker to another one, which reads nets of it.
 fn link_two<T: Terms>(
     alloc: Global,
     design: &Design,
+    clustering: &Clustering,
     workers: &mut [Worker<T>],
     from: usize,
     to: usize,
-    nets: &[u32],
 ) -> Result<(), AllocError>
-    requires { design.now ≡ T.design }
+    requires design { design.now ≡ T.design }
+    requires from { from < length workers.old }
+    requires to { to < length workers.old }
 {
-    if from >= workers.len() || to >= workers.len() {
+    let nets = workers[to].inputs_from(alloc, clustering, from)?;
+    if nets.is_empty() {
         return Ok(());
     }
-    let end = workers[from].add_out(alloc, design, nets)?;
-    workers[to].ins.push(end)?;
-    Ok(())
+    let end = workers[from].add_out(alloc, design, &nets)?;
+    workers[to].add_in(end)
 }
 
 // Links each worker that drives a net of another one to that.
@@ -111,11 +85,8 @@ fn link_all<T: Terms>(
     requires { design.now ≡ T.design }
 {
     for to in 0..workers.len() {
-        let theirs = by_worker(alloc, clustering, workers.len(), workers[to].inputs())?;
-        for (from, nets) in theirs.iter().enumerate() {
-            if !nets.is_empty() {
-                link_two(alloc, design, workers, from, to, nets)?;
-            }
+        for from in 0..workers.len() {
+            link_two(alloc, design, clustering, workers, from, to)?;
         }
     }
     Ok(())

@@ -138,6 +138,14 @@ impl<T: Terms> Desk<T> {
         }
     }
 
+    /// Counts the worker as finished; where memory was refused to it, the stop word is raised before.
+    pub(crate) fn leave(&mut self, is_refused: bool) {
+        if is_refused {
+            self.raise();
+        }
+        self.finish();
+    }
+
     /// Whether this worker and all others have finished.
     pub(crate) fn all_finished(&mut self) -> bool {
         self.is_finished && self.board.finished(&mut self.seat) == self.workers

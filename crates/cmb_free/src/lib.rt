@@ -6,6 +6,8 @@ mod collect;
 mod crew;
 mod desk;
 mod ends;
+mod out;
+mod passing;
 mod run;
 mod teller;
 mod text_run;

@@ -1,129 +1,101 @@
 //! A worker of a free run: its cluster, its desk, and what links it to the others.
 
-ghost use Rattle.std.specs.Prelude.{◌≡◌};
+ghost use Rattle.std.specs.Prelude.{◌≡◌, [], All, IfOk, IsSome, OnOk, map};
+ghost use Rattle.cmb_core.specs.Clusters.{input_slot};
+ghost use Rattle.cmb_free.specs.Inner.Channels.{IsFedBy, IsLater};
 
 use crate::desk::{Desk, Own};
-use crate::ends::{PutEnd, TakeEnd, open_link};
+use crate::ends::TakeEnd;
+use crate::out::Out;
+use crate::passing::{Passing, leave_out_done, unsent};
 use crate::turnstile::Turnstile;
 use cmb_core::Clustering;
 use cmb_design::Design;
 use cmb_idle::Idle;
-use cmb_run::{ExactCluster, Posted, Terms};
+use cmb_run::{ExactCluster, Terms};
 use cmb_wave::Heard;
 use std::alloc::{AllocError, Global};
+use std::marker::Model;
 use std::sync::Wait;
 
 /// How many pieces a worker takes from a link in one turn.
 const AT_ONCE: u32 = 64;
 
-/// A net that goes from worker to worker, and a tick: one who sends it has sent it up to there, and one who is given it
-/// knows it up to there at least.
-#[derive(Clone, Copy)]
-struct Passing {
-    net: u32,
-    upto: u32,
-}
-
-// These nets, of which nothing was sent and nothing is known.
-fn unsent(alloc: Global, nets: &[u32]) -> Result<Vec<Passing>, AllocError> {
-    let mut passing = Vec::with_capacity(alloc, nets.len())?;
-    for net in nets {
-        passing.push(Passing { net: *net, upto: 0 })?;
-    }
-    Ok(passing)
-}
-
-// Leaves out the nets that were sent or are known up to the horizon.
-fn leave_out_done(nets: &mut Vec<Passing>, horizon: u32) {
-    nets.retain(|passing| passing.upto < horizon);
-}
-
-impl Passing {
-    // What is new of the net. A piece without changes isn't put where the board tells the reader as much;
-    // the next piece then begins at the same tick. Up to the horizon no piece follows, so the net is done.
-    fn cut<T: Terms>(
-        &mut self,
-        cluster: &ExactCluster<T>,
-        takes_empty: bool,
-    ) -> Result<Option<Posted<T>>, AllocError> {
-        let Some(posted) = cluster.post(self.net, self.upto)? else {
-            return Ok(None);
+// Takes what a link holds, up to so many pieces, and gives it to the cluster. Says whether there was a piece.
+fn take_some<T: Terms, R: Wait>(
+    rt: &R,
+    end: &mut TakeEnd<T>,
+    cluster: &mut ExactCluster<T>,
+) -> Result<bool, AllocError>
+    requires { IsFedBy cluster.old end.old }
+    ensures fed { OnOk result (IsFedBy cluster.new end.new) }
+    ensures later { IsLater cluster.old cluster.new }
+{
+    let mut found = false;
+    for _ in 0..AT_ONCE {
+        let Some(posted) = end.take(rt) else {
+            break;
         };
-        let to = posted.piece().to();
-        if !takes_empty && posted.piece().changes().is_empty() {
-            if to >= cluster.horizon() {
-                self.upto = to;
-            }
-            drop(posted);
-            return Ok(None);
+        let delivered = cluster.deliver(&posted);
+        drop(posted);
+        delivered?;
+        found = true;
+    }
+    Ok(found)
+}
+
+// The same of each link.
+fn take_each<T: Terms, R: Wait>(
+    rt: &R,
+    ends: &mut [TakeEnd<T>],
+    cluster: &mut ExactCluster<T>,
+) -> Result<bool, AllocError>
+    requires { All (IsFedBy cluster.old) ends.old }
+    ensures fed { OnOk result (All (IsFedBy cluster.new) ends.new) }
+    ensures later { OnOk result (IsLater cluster.old cluster.new) }
+{
+    let mut found = false;
+    for end in ends.iter_mut() {
+        found |= take_some(rt, end, cluster)?;
+    }
+    Ok(found)
+}
+
+// Looks at each net that is read here and not known to its end, and hears what is new of it. Says whether a clock rose.
+fn look_each<T: Terms>(
+    desk: &mut Desk<T>,
+    inlets: &mut [Passing],
+    cluster: &mut ExactCluster<T>,
+) -> bool
+    ensures { IsLater cluster.old cluster.new }
+{
+    let mut rose = false;
+    for inlet in inlets.iter_mut() {
+        let Some(promise) = desk.look(inlet.net) else {
+            continue;
+        };
+        if promise.upto <= inlet.upto {
+            continue;
         }
-        self.upto = to;
-        Ok(Some(posted))
+        let heard = cluster.hear(promise);
+        if heard != Heard::Ahead {
+            inlet.upto = promise.upto;
+        }
+        rose |= heard == Heard::Extended;
+    }
+    rose
+}
+
+// Tells the board how far each of these nets is known.
+fn publish_each<T: Terms>(desk: &mut Desk<T>, own: &mut [Own<T>], cluster: &ExactCluster<T>) {
+    for own in own.iter_mut() {
+        if let Some(promise) = cluster.promise(own.net) {
+            desk.publish(own, promise);
+        }
     }
 }
 
-/// A link to the collector or to another worker, and the nets that go there.
-#[derive(Drop)]
-struct Out<T: Terms> {
-    end: PutEnd<T>,
-    outlets: Vec<Passing>,
-    /// A piece that found the link full.
-    waiting: Option<Posted<T>>,
-    /// The place of the net that is put next.
-    next: usize,
-    /// Whether pieces without a change go there too.
-    takes_empty: bool,
-    /// Whether there may be something to put.
-    is_left: bool,
-}
-
-impl<T: Terms> Out<T> {
-    // Puts a piece, or keeps it where the link is full. Says whether it was put.
-    fn put<R: Wait>(&mut self, rt: &R, posted: Posted<T>) -> bool {
-        match self.end.put(rt, posted) {
-            Ok(()) => true,
-            Err(posted) => {
-                self.waiting = Some(posted);
-                false
-            }
-        }
-    }
-
-    // Puts the piece that waits, if there is one. Says whether none waits any more.
-    fn put_waiting<R: Wait>(&mut self, rt: &R) -> bool {
-        match self.waiting.take() {
-            Some(posted) => self.put(rt, posted),
-            None => true,
-        }
-    }
-
-    // Puts what is new of each net, and begins where it last stopped. Where the link was full something
-    // is left. A net that was put up to the horizon is done.
-    fn put_all<R: Wait>(&mut self, rt: &R, cluster: &ExactCluster<T>) -> Result<(), AllocError> {
-        if !self.put_waiting(rt) {
-            return Ok(());
-        }
-        for _ in 0..self.outlets.len() {
-            if self.next >= self.outlets.len() {
-                self.next = 0;
-            }
-            let Some(outlet) = self.outlets.get_mut(self.next) else {
-                break;
-            };
-            self.next += 1;
-            if let Some(posted) = outlet.cut(cluster, self.takes_empty)? {
-                if !self.put(rt, posted) {
-                    return Ok(());
-                }
-            }
-        }
-        leave_out_done(&mut self.outlets, cluster.horizon());
-        self.is_left = false;
-        Ok(())
-    }
-}
-
-/// A worker before and between its turns.
+/// A worker before and between its turns. Contracts see its cluster, and the ends of the links by which it is sent nets.
 #[derive(Drop)]
 pub struct Worker<T: Terms> {
     desk: Desk<T>,
@@ -131,7 +103,7 @@ pub struct Worker<T: Terms> {
     /// The nets that other workers drive and this one reads.
     inlets: Vec<Passing>,
     /// The ends of the links by which the worker is sent nets.
-    pub ins: Vec<TakeEnd<T>>,
+    ins: Vec<TakeEnd<T>>,
     outs: Vec<Out<T>>,
     /// The nets that others read.
     own: Vec<Own<T>>,
@@ -139,6 +111,18 @@ pub struct Worker<T: Terms> {
     /// Whether a step may bring a net on.
     is_new: bool,
     is_complete: bool,
+}
+
+impl<T: Terms> Model for Worker<T> {
+    ghost use Rattle.std.specs.Prelude.{All};
+    ghost use Rattle.cmb_free.specs.Inner.Channels.{IsFedBy, Working};
+
+    ghost Value = { Working };
+
+    ghost view = { λ w. record { cluster = w.cluster; ins = w.ins.items } };
+
+    // No piece that the worker took is lost.
+    ghost invariant = { λ w. All (IsFedBy w.cluster) w.ins.items };
 }
 
 impl<T: Terms> Worker<T> {
@@ -158,30 +142,37 @@ impl<T: Terms> Worker<T> {
     }
 
     /// The nets that the worker is given.
-    pub(crate) fn inputs(&self) -> &[u32] {
+    pub(crate) fn inputs(&self) -> &[u32]
+        ensures { All (λ net. IsSome (input_slot self.now.cluster net)) result.now }
+    {
         self.cluster.inputs()
     }
 
-    // Adds a link by which these nets go, and gives the end that takes.
-    fn add_link(
-        &mut self,
+    /// Those of them that another worker drives.
+    pub(crate) fn inputs_from(
+        &self,
         alloc: Global,
-        design: &Design,
-        outlets: Vec<Passing>,
-        takes_empty: bool,
-    ) -> Result<TakeEnd<T>, AllocError>
-        requires { design.now ≡ T.design }
+        clustering: &Clustering,
+        worker: usize,
+    ) -> Result<Vec<u32>, AllocError>
+        ensures { IfOk result (λ nets. All (λ net. IsSome (input_slot self.now.cluster net)) nets.items) }
     {
-        let (end, take) = open_link(alloc, design)?;
-        self.outs.push(Out {
-            end,
-            outlets,
-            waiting: None,
-            next: 0,
-            takes_empty,
-            is_left: false,
-        })?;
-        Ok(take)
+        let mut nets = Vec::new(alloc);
+        for net in self.inputs() {
+            if (*net as usize) < clustering.nets() && clustering.of(*net) as usize == worker {
+                nets.push(*net)?;
+            }
+        }
+        Ok(nets)
+    }
+
+    /// Adds a link by which the worker is sent nets that it reads.
+    pub(crate) fn add_in(&mut self, end: TakeEnd<T>) -> Result<(), AllocError>
+        requires new { end.received ≡ [] }
+        requires read { All (λ net. IsSome (input_slot self.old.cluster net)) end.nets }
+    {
+        self.ins.push(end)?;
+        Ok(())
     }
 
     /// Adds a link by which another worker is sent these nets, and gives that worker's end.
@@ -192,9 +183,13 @@ impl<T: Terms> Worker<T> {
         nets: &[u32],
     ) -> Result<TakeEnd<T>, AllocError>
         requires { design.now ≡ T.design }
+        ensures same { self.new ≡ self.old }
+        ensures nets { IfOk result (λ end. end.nets ≡ nets.now) }
+        ensures new { IfOk result (λ end. end.received ≡ []) }
     {
-        let outlets = unsent(alloc, nets)?;
-        self.add_link(alloc, design, outlets, false)
+        let (out, take) = Out::open(alloc, design, nets, false)?;
+        self.outs.push(out)?;
+        Ok(take)
     }
 
     /// Adds the link by which the collector is sent all nets of the worker, and gives the collector's end.
@@ -205,8 +200,9 @@ impl<T: Terms> Worker<T> {
     ) -> Result<TakeEnd<T>, AllocError>
         requires { design.now ≡ T.design }
     {
-        let outlets = unsent(alloc, self.cluster.driven())?;
-        self.add_link(alloc, design, outlets, true)
+        let (out, take) = Out::open(alloc, design, self.cluster.driven(), true)?;
+        self.outs.push(out)?;
+        Ok(take)
     }
 
     /// Notes which nets the worker is given, and which of its own others read, by a table with a place for each net.
@@ -232,10 +228,7 @@ impl<T: Terms> Worker<T> {
     /// Works until all workers have finished or the stop word is raised. Says whether memory was refused to it.
     pub(crate) fn run<G: Turnstile, R: Wait>(mut self, rt: &R, gate: &G) -> bool {
         let is_refused = self.turns(rt, gate).is_err();
-        if is_refused {
-            self.desk.raise();
-        }
-        self.desk.finish();
+        self.desk.leave(is_refused);
         drop(self);
         is_refused
     }
@@ -244,10 +237,7 @@ impl<T: Terms> Worker<T> {
     fn turns<G: Turnstile, R: Wait>(&mut self, rt: &R, gate: &G) -> Result<(), AllocError> {
         let mut turn = 0u32;
         for _ in rt.forever() {
-            if !gate.pass(self.desk.number, turn) {
-                self.desk.raise();
-            }
-            if self.desk.raised() || self.turn(rt)? {
+            if !self.goes_on(gate, turn) || self.turn(rt)? {
                 break;
             }
             turn = turn.saturating_add(1);
@@ -255,16 +245,20 @@ impl<T: Terms> Worker<T> {
         Ok(())
     }
 
+    // Whether the worker may take its next turn. Where that is refused the run is stopped.
+    fn goes_on<G: Turnstile>(&mut self, gate: &G, turn: u32) -> bool {
+        if !gate.pass(self.desk.number, turn) {
+            self.desk.raise();
+            return false;
+        }
+        !self.desk.raised()
+    }
+
     // What a worker does in a turn. Says whether all workers have finished.
     fn turn<R: Wait>(&mut self, rt: &R) -> Result<bool, AllocError> {
         self.take_all(rt)?;
         self.look_all();
-        let stepped = self.is_new;
-        if stepped {
-            // Where nothing goes on, a further step is of no use before something is taken or heard.
-            self.is_new = self.cluster.step()?;
-            self.is_complete = self.cluster.complete();
-        }
+        let stepped = self.step()?;
         let is_left = self.put_all(rt)?;
         if stepped {
             self.publish_all();
@@ -272,70 +266,62 @@ impl<T: Terms> Worker<T> {
         if self.is_complete && !is_left {
             self.desk.finish();
         }
+        self.rest(rt, stepped);
+        Ok(self.desk.all_finished())
+    }
+
+    // Rests where nothing was done.
+    fn rest<R: Wait>(&mut self, rt: &R, stepped: bool) {
         if stepped {
             self.idle.end();
         } else {
             self.idle.rest(rt);
         }
-        Ok(self.desk.all_finished())
     }
 
-    // Takes what the links hold, and gives it to the cluster.
-    fn take_all<R: Wait>(&mut self, rt: &R) -> Result<(), AllocError> {
-        for end in self.ins.iter_mut() {
-            for _ in 0..AT_ONCE {
-                let Some(posted) = end.take(rt) else {
-                    break;
-                };
-                let delivered = self.cluster.deliver(&posted);
-                drop(posted);
-                delivered?;
-                self.is_new = true;
-            }
+    // Steps the cluster where that may bring a net on. Says whether it did. Where nothing goes on, a further step is of no
+    // use before something is taken or heard.
+    fn step(&mut self) -> Result<bool, AllocError> {
+        if !self.is_new {
+            return Ok(false);
         }
+        self.is_new = self.cluster.step()?;
+        self.is_complete = self.cluster.complete();
+        Ok(true)
+    }
+
+    // Takes what the links hold, and gives it to the cluster. Where memory is refused a piece is lost, and the worker takes
+    // nothing more.
+    fn take_all<R: Wait>(&mut self, rt: &R) -> Result<(), AllocError> {
+        let found = match take_each(rt, &mut self.ins, &mut self.cluster) {
+            Ok(found) => found,
+            Err(refused) => {
+                self.ins.clear();
+                return Err(refused);
+            }
+        };
+        self.is_new |= found;
         Ok(())
     }
 
-    // Looks at each net that is read here and not known to its end, and hears what is new of it.
+    // Hears what the board tells of the nets that are read here.
     fn look_all(&mut self) {
-        for inlet in self.inlets.iter_mut() {
-            let Some(promise) = self.desk.look(inlet.net) else {
-                continue;
-            };
-            if promise.upto <= inlet.upto {
-                continue;
-            }
-            let heard = self.cluster.hear(promise);
-            if heard != Heard::Ahead {
-                inlet.upto = promise.upto;
-            }
-            if heard == Heard::Extended {
-                self.is_new = true;
-            }
-        }
+        self.is_new |= look_each(&mut self.desk, &mut self.inlets, &mut self.cluster);
         leave_out_done(&mut self.inlets, self.cluster.horizon());
     }
 
-    // Puts what is new into each link, that of the last step and what was left. Says whether something is left.
+    // Puts what is new into each link. Says whether something is left.
     fn put_all<R: Wait>(&mut self, rt: &R) -> Result<bool, AllocError> {
         let mut is_left = false;
         for out in self.outs.iter_mut() {
-            out.is_left |= self.is_new;
-            if out.is_left {
-                out.put_all(rt, &self.cluster)?;
-            }
-            is_left |= out.is_left;
+            is_left |= out.put_all(rt, &self.cluster, self.is_new)?;
         }
         Ok(is_left)
     }
 
     // Tells the board how far the nets that others read are known, until that is up to the horizon.
     fn publish_all(&mut self) {
-        for own in self.own.iter_mut() {
-            if let Some(promise) = self.cluster.promise(own.net) {
-                self.desk.publish(own, promise);
-            }
-        }
+        publish_each(&mut self.desk, &mut self.own, &self.cluster);
         let horizon = self.cluster.horizon();
         self.own.retain(|own| own.told < horizon);
     }

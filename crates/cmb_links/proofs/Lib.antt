@@ -6,6 +6,7 @@ pub mod StopWord
 pub mod EndWord
 pub mod Steps
 pub mod Allowed
+pub mod Channels
 pub mod Seats
 pub mod Loads
 pub mod Closing

@@ -1,19 +1,31 @@
 -- Each move of a link keeps its rule.
 use Rattle.std.proofs.Common.{◌≡◌, ◌≢◌, ℕ, zero, suc, ◌+◌, ◌<◌, ◌≤◌, ◌⊎◌, List, [], ◌∷◌, ◌++◌, length, set, inl, inr, ⊎_elim, sym, refl, ap, ◌∙◌, subst, arith, append_assoc, length-append, All, get_or-append-add}
+use Rattle.std.proofs.lemmas.List.{append-nil}
 use Rattle.std.proofs.lemmas.List.Elements.{All-push, All-head, All-nil}
 use mathlib.Core.Option.{some, some-injective, some-ne-none}
 use lib.ListN.{get_elem?}
 use Rattle.crossbeam_queue.specs.Fifo.{Pushes, Pops, Forks, Merges, Learns}
 use Rattle.cmb_wave.specs.Wave.{Piece}
-use Rattle.cmb_design.specs.Design.{Design}
 use Rattle.cmb_design.specs.Exact.{IsExactIn}
-use Rattle.cmb_links.specs.Inner.Ends.{fresh, putting, taking, closing, spent, open_ends, joined_ends, IsBetween, IsLinked, Sends, Receives, Empties, Leaves}
+use Rattle.cmb_links.specs.Links.{channel_clock}
+use Rattle.cmb_links.specs.Inner.Ends.{fresh, putting, taking, closing, spent, open_ends, joined_ends, IsCarried, HaveNoGap, IsBetween, IsLinked, Sends, Receives, Empties, Leaves}
+use Rattle.cmb_links.specs.declared.end.Cargo.{Cargo}
 use Rattle.cmb_links.specs.declared.end.End.{End}
 use Rattle.cmb_links.specs.declared.end.Role.{Role}
 use Rattle.cmb_links.specs.declared.end.Role.TheVariants.{Fresh, Puts, Takes, Closes, Spent}
 
 pub All-behind : {X : Type 0} (P : X → Type 0) (xs ys : List X) → All P (xs ++ ys) → All P ys
 All-behind P xs ys a k d in' = subst P (get_or-append-add xs ys k d) (a (length xs + k) d (omega (arith, length-append xs ys)))
+
+-- a piece behind others of which none begins behind its channel's clock
+pub no_gap-push : (before pieces : List Piece) (piece : Piece) → HaveNoGap before pieces → piece.from ≤ channel_clock piece.net (before ++ pieces) → HaveNoGap before (pieces ++ piece ∷ [])
+no_gap-push before [] piece none joined = (rw append-nil at joined, tt)
+no_gap-push before (first ∷ pieces) piece none joined = (none.0, no_gap-push (before ++ first ∷ []) pieces piece none.1 (rw append_assoc joined))
+
+-- a piece behind the first of them, with whatever comes after it
+pub no_gap-behind : (before pieces more : List Piece) (piece : Piece) → HaveNoGap before (pieces ++ piece ∷ more) → piece.from ≤ channel_clock piece.net (before ++ pieces)
+no_gap-behind before [] more piece none = rw append-nil none.0
+no_gap-behind before (first ∷ pieces) more piece none = rw append_assoc at (no_gap-behind (before ++ first ∷ []) pieces more piece none.1)
 
 -- roles that differ
 abbrev rank : Role → ℕ
@@ -37,15 +49,15 @@ only_one a v zero at = (refl, some-injective a v at)
 only_one a v (suc port) at = absurd (some-ne-none v (sym at))
 
 -- what is held, the ends, and which of them this one is
-abbrev Between : (Design → ℕ → List Piece → List Piece → Type 0) → List Piece → Type 0
-Between P held = (d : Design) × (n : ℕ) × (sent : List Piece) × (received : List Piece) × IsBetween held d n sent received × P d n sent received
+abbrev Between : (Cargo → ℕ → List Piece → List Piece → Type 0) → List Piece → Type 0
+Between P held = (d : Cargo) × (n : ℕ) × (sent : List Piece) × (received : List Piece) × IsBetween held d n sent received × P d n sent received
 
 module _ (held : List Piece) (ends : List End) (port : ℕ) (v : End) (kept : IsLinked held ends) (at : get_elem? ends port ≡ some v) where
   along : (l : List End) → ends ≡ l → get_elem? l port ≡ some v
   along l e = ap (λ m. get_elem? m port) (sym e) ∙ at
 
   -- the end is the fresh one, one of two of an open link, or one of two of a joined one
-  abbrev Standing : Design → ℕ → List Piece → List Piece → Type 0
+  abbrev Standing : Cargo → ℕ → List Piece → List Piece → Type 0
   Standing d n sent received =
       ((ends ≡ open_ends d n sent received) × (((port ≡ 0) × (putting d n sent ≡ v)) ⊎ ((port ≡ 1) × (taking d n received ≡ v))))
       ⊎ ((ends ≡ joined_ends d n sent received) × (((port ≡ 0) × (closing d n sent received ≡ v)) ⊎ ((port ≡ 1) × (spent ≡ v))))
@@ -68,13 +80,13 @@ module _ (held : List Piece) (ends : List End) (port : ℕ) (v : End) (kept : Is
       ))
       kept
 
-  abbrev IsPutting : Design → ℕ → List Piece → List Piece → Type 0
+  abbrev IsPutting : Cargo → ℕ → List Piece → List Piece → Type 0
   IsPutting d n sent received = (ends ≡ open_ends d n sent received) × (port ≡ 0) × (putting d n sent ≡ v)
 
-  abbrev IsTaking : Design → ℕ → List Piece → List Piece → Type 0
+  abbrev IsTaking : Cargo → ℕ → List Piece → List Piece → Type 0
   IsTaking d n sent received = (ends ≡ open_ends d n sent received) × (port ≡ 1) × (taking d n received ≡ v)
 
-  abbrev IsClosing : Design → ℕ → List Piece → List Piece → Type 0
+  abbrev IsClosing : Cargo → ℕ → List Piece → List Piece → Type 0
   IsClosing d n sent received = (ends ≡ joined_ends d n sent received) × (port ≡ 0) × (closing d n sent received ≡ v)
 
   -- a case that the role rules out
@@ -82,7 +94,7 @@ module _ (held : List Piece) (ends : List End) (port : ℕ) (v : End) (kept : Is
   other u k m e a b differ = differ (sym a ∙ ap of_role e ∙ b)
 
   -- what an end is whose role isn't that of a fresh one
-  not_fresh : (P : Design → ℕ → List Piece → List Piece → Type 0) → (fresh ≡ v → ⊥) → ((d : Design) (n : ℕ) (sent received : List Piece) → Standing d n sent received → P d n sent received) → Between P held
+  not_fresh : (P : Cargo → ℕ → List Piece → List Piece → Type 0) → (fresh ≡ v → ⊥) → ((d : Cargo) (n : ℕ) (sent received : List Piece) → Standing d n sent received → P d n sent received) → Between P held
   not_fresh P differs is = ⊎_elim (λ h. absurd (differs h.3)) (λ (h : Between Standing held). (h.0, h.1, h.2, h.3, h.4, is h.0 h.1 h.2 h.3 h.5)) stands
 
   puts : v.role ≡ Puts → Between IsPutting held
@@ -113,7 +125,7 @@ pub begins : IsLinked [] (fresh ∷ [])
 begins = inl (refl, refl)
 
 -- the fresh end becomes the two ends
-pub forks : (port : ℕ) (v : End) (d : Design) (n : ℕ) → v ≡ fresh → Forks IsLinked port v (putting d n []) (taking d n [])
+pub forks : (port : ℕ) (v : End) (d : Cargo) (n : ℕ) → v ≡ fresh → Forks IsLinked port v (putting d n []) (taking d n [])
 forks port v d n is items views kept at =
     let h = begins_here items views port v kept at (ap (λ (u : End). u.role) is) in
     inr (
@@ -121,12 +133,12 @@ forks port v d n is items views kept at =
       n,
       [],
       [],
-      record { order = sym h.0; room = rw h.0 (omega arith); exact = All-nil (IsExactIn d) },
+      record { order = sym h.0; room = rw h.0 (omega arith); carried = All-nil (IsCarried d); joined = tt },
       inl (λ i. set (h.1 i) (h.2 i) (putting d n []) ++ taking d n [] ∷ []),
     )
 
-pub sends : (n port : ℕ) (v : End) (x : Piece) → v.role ≡ Puts → v.capacity ≡ n → IsExactIn v.design x → Pushes IsLinked n port v x (Sends v x)
-sends n port v x role most exact items views room kept at =
+pub sends : (n port : ℕ) (v : End) (x : Piece) → v.role ≡ Puts → v.capacity ≡ n → IsCarried v.cargo x → x.from ≤ channel_clock x.net v.sent → Pushes IsLinked n port v x (Sends v x)
+sends n port v x role most carried joined items views room kept at =
     let h = puts items views port v kept at role in
     let d = h.0 in let m = h.1 in let sent = h.2 in let link = h.4 in
     let more : List Piece = sent ++ x ∷ [] in
@@ -140,23 +152,28 @@ sends n port v x role most exact items views room kept at =
         record {
           order = ap (λ l. l ++ x ∷ []) link.order ∙ append_assoc h.3 items (x ∷ []);
           room = omega (arith, length-append items (x ∷ []));
-          exact = All-push (IsExactIn d) sent x link.exact (subst (λ (e : Design). IsExactIn e x) (sym (ap (λ (u : End). u.design) h.5.2)) exact);
+          carried = All-push (IsCarried d) sent x link.carried (subst (λ (e : Cargo). IsCarried e x) (sym (ap (λ (u : End). u.cargo) h.5.2)) carried);
+          joined = no_gap-push [] sent x link.joined (subst (λ (u : End). x.from ≤ channel_clock x.net u.sent) (sym h.5.2) joined);
         },
         inl (λ i. set (h.5.0 i) (h.5.1 i) (putting d m more)),
       ),
-      ap (λ (u : End). putting u.design u.capacity (u.sent ++ x ∷ [])) h.5.2,
+      ap (λ (u : End). putting u.cargo u.capacity (u.sent ++ x ∷ [])) h.5.2,
     )
 
 -- the first of what is held
-first_exact : (d : Design) (n : ℕ) (sent received items : List Piece) (x : Piece) → IsBetween (x ∷ items) d n sent received → IsExactIn d x
-first_exact d n sent received items x link = All-head (IsExactIn d) x items (All-behind (IsExactIn d) received (x ∷ items) (subst (All (IsExactIn d)) link.order link.exact))
+first_carried : (d : Cargo) (n : ℕ) (sent received items : List Piece) (x : Piece) → IsBetween (x ∷ items) d n sent received → IsCarried d x
+first_carried d n sent received items x link = All-head (IsCarried d) x items (All-behind (IsCarried d) received (x ∷ items) (subst (All (IsCarried d)) link.order link.carried))
+
+first_joined : (d : Cargo) (n : ℕ) (sent received items : List Piece) (x : Piece) → IsBetween (x ∷ items) d n sent received → x.from ≤ channel_clock x.net received
+first_joined d n sent received items x link = no_gap-behind [] received items x (subst (HaveNoGap []) link.order link.joined)
 
 -- it goes over to what was received
-goes_over : (d : Design) (n : ℕ) (sent received items : List Piece) (x : Piece) → IsBetween (x ∷ items) d n sent received → IsBetween items d n sent (received ++ x ∷ [])
+goes_over : (d : Cargo) (n : ℕ) (sent received items : List Piece) (x : Piece) → IsBetween (x ∷ items) d n sent received → IsBetween items d n sent (received ++ x ∷ [])
 goes_over d n sent received items x link = let r = link.room in record {
   order = link.order ∙ sym (append_assoc received (x ∷ []) items);
   room = omega arith;
-  exact = link.exact;
+  carried = link.carried;
+  joined = link.joined;
 }
 
 pub gets : (port : ℕ) (v : End) → v.role ≡ Takes → Pops IsLinked port v (Receives v)
@@ -167,8 +184,9 @@ gets port v role x items views kept at =
       taking d m more,
       inr (d, m, h.2, more, goes_over d m h.2 h.3 items x h.4, inl (λ i. set (h.5.0 i) (h.5.1 i) (taking d m more))),
       (
-        ap (λ (u : End). taking u.design u.capacity (u.received ++ x ∷ [])) h.5.2,
-        subst (λ (e : Design). IsExactIn e x) (ap (λ (u : End). u.design) h.5.2) (first_exact d m h.2 h.3 items x h.4),
+        ap (λ (u : End). taking u.cargo u.capacity (u.received ++ x ∷ [])) h.5.2,
+        subst (λ (e : Cargo). IsCarried e x) (ap (λ (u : End). u.cargo) h.5.2) (first_carried d m h.2 h.3 items x h.4),
+        subst (λ (u : End). x.from ≤ channel_clock x.net u.received) h.5.2 (first_joined d m h.2 h.3 items x h.4),
       ),
     )
 
@@ -181,23 +199,23 @@ empties port v role x items views kept at =
       closing d m h.2 more,
       inr (d, m, h.2, more, goes_over d m h.2 h.3 items x h.4, inr (λ i. set (h.5.0 i) (h.5.1 i) (closing d m h.2 more))),
       (
-        ap (λ (u : End). closing u.design u.capacity u.sent (u.received ++ x ∷ [])) h.5.2,
-        subst (λ (e : Design). IsExactIn e x) (ap (λ (u : End). u.design) h.5.2) (first_exact d m h.2 h.3 items x h.4),
+        ap (λ (u : End). closing u.cargo u.capacity u.sent (u.received ++ x ∷ [])) h.5.2,
+        subst (λ (e : Cargo). IsCarried e x) (ap (λ (u : End). u.cargo) h.5.2) (first_carried d m h.2 h.3 items x h.4),
         subst (λ (u : End). length u.received < length u.sent) h.5.2 (omega (arith, length-append h.3 (x ∷ items))),
       ),
     )
 
 -- the end that puts takes in the end that takes
-pub merges : (port : ℕ) (v : End) (two : ℕ) (w : End) → v.role ≡ Puts → w.role ≡ Takes → Merges IsLinked port v two w (closing v.design v.capacity v.sent w.received) spent
+pub merges : (port : ℕ) (v : End) (two : ℕ) (w : End) → v.role ≡ Puts → w.role ≡ Takes → Merges IsLinked port v two w (closing v.cargo v.capacity v.sent w.received) spent
 merges port v two w puts_role takes_role items views kept at apart at' =
     let h = puts items views port v kept at puts_role in
     let d = h.0 in let m = h.1 in let sent = h.2 in let received = h.3 in
-    let both : End = closing v.design v.capacity v.sent w.received in
+    let both : End = closing v.cargo v.capacity v.sent w.received in
     let there : (two ≡ 1) × (taking d m received ≡ w) = ⊎_elim
     (λ (e : (two ≡ 0) × (both ≡ w)). absurd (apart (e.0 ∙ sym h.5.1)))
     (λ (e : (two ≡ 1) × (taking d m received ≡ w)). e)
     (one_of_two both (taking d m received) w two (ap (λ l. get_elem? l two) (λ i. set (sym h.5.0 i) (sym h.5.1 i) both) ∙ at')) in
-    let is : both ≡ closing d m sent received = λ i. closing (sym h.5.2 i).design (sym h.5.2 i).capacity (sym h.5.2 i).sent (sym there.1 i).received in
+    let is : both ≡ closing d m sent received = λ i. closing (sym h.5.2 i).cargo (sym h.5.2 i).capacity (sym h.5.2 i).sent (sym there.1 i).received in
     inr (d, m, sent, received, h.4, inr (λ i. set (set (h.5.0 i) (h.5.1 i) (is i)) (there.0 i) spent))
 
 pub learns_sent : (port : ℕ) (v : End) → v.role ≡ Puts → Learns IsLinked port v (λ held. length held ≤ length v.sent)
@@ -210,9 +228,9 @@ pub learns_left : (port : ℕ) (v : End) → v.role ≡ Closes → Learns IsLink
 learns_left port v role items views kept at = let h = closes items views port v kept at role in subst (λ (u : End). Leaves u items) h.5.2 (h.4.order, h.4.room)
 
 -- the end that closes a link knows what it has taken, which is exact, with one piece more
-pub emptied : (d : Design) (n : ℕ) (sent received left more : List Piece) (v w : End) (x : Piece) → v ≡ closing d n sent (received ++ left) → Empties v x w → more ≡ left ++ x ∷ [] → All (IsExactIn d) left
-    → (w ≡ closing d n sent (received ++ more)) × All (IsExactIn d) more
+pub emptied : (d : Cargo) (n : ℕ) (sent received left more : List Piece) (v w : End) (x : Piece) → v ≡ closing d n sent (received ++ left) → Empties v x w → more ≡ left ++ x ∷ [] → All (IsExactIn d.design) left
+    → (w ≡ closing d n sent (received ++ more)) × All (IsExactIn d.design) more
 emptied d n sent received left more v w x knows took is exact = (
-  took.0 ∙ ap (λ (u : End). closing u.design u.capacity u.sent (u.received ++ x ∷ [])) knows ∙ ap (closing d n sent) (append_assoc received left (x ∷ []) ∙ ap (λ l. received ++ l) (sym is)),
-  subst (All (IsExactIn d)) (sym is) (All-push (IsExactIn d) left x exact (subst (λ (u : End). IsExactIn u.design x) knows took.1)),
+  took.0 ∙ ap (λ (u : End). closing u.cargo u.capacity u.sent (u.received ++ x ∷ [])) knows ∙ ap (closing d n sent) (append_assoc received left (x ∷ []) ∙ ap (λ l. received ++ l) (sym is)),
+  subst (All (IsExactIn d.design)) (sym is) (All-push (IsExactIn d.design) left x exact (subst (λ (u : End). IsExactIn u.cargo.design x) knows took.1.exact)),
 )

@@ -14,29 +14,35 @@ pub enum Role {
     Spent,
 }
 
-/// The design of a link, how many pieces it holds at most, and what was put and taken at this end, in order.
+/// What a link carries: pieces of a design, of these nets.
+pub struct Cargo {
+    pub design: Design,
+    pub nets: LinkedList<u32>,
+}
+
+/// What a link carries, how many pieces it holds at most, and what was put and taken at this end, in order.
 pub struct End {
     pub role: Role,
-    pub design: Design,
+    pub cargo: Cargo,
     pub capacity: usize,
     pub sent: LinkedList<Piece>,
     pub received: LinkedList<Piece>,
 }
 
-/// Names a design and a capacity. `Brand` stands for any that a call picks.
+/// Names what a link carries, and its capacity. `Brand` stands for any that a call picks.
 pub trait Naming {
     ghost use Rattle.std.specs.Prelude.{ℕ};
-    ghost use Rattle.cmb_design.specs.Design.{Design};
+    ghost use Rattle.cmb_links.specs.declared.end.Cargo.{Cargo as Carries};
 
-    ghost design: { Design };
+    ghost cargo: { Carries };
 
     ghost capacity: { ℕ };
 }
 
 impl Naming for Brand {
-    ghost use Rattle.cmb_links.specs.Inner.Ends.{no_design};
+    ghost use Rattle.cmb_links.specs.Inner.Ends.{no_cargo};
 
-    ghost design = { no_design };
+    ghost cargo = { no_cargo };
 
     ghost capacity = { 0 };
 }
@@ -51,18 +57,18 @@ impl Protocol<Piece, End> for InOrder {
     ghost first = { fresh };
 }
 
-// How the first pass becomes the two ends of a link for a design.
+// How the first pass becomes the two ends of a link.
 pub struct Ends<D> {
-    design: PhantomData<D>,
+    cargo: PhantomData<D>,
 }
 
 impl<D: Naming> Split<End> for Ends<D> {
     ghost use Rattle.std.specs.Prelude.{[]};
     ghost use Rattle.cmb_links.specs.Inner.Ends.{putting, taking};
 
-    ghost left = { λ v. putting D.design D.capacity [] };
+    ghost left = { λ v. putting D.cargo D.capacity [] };
 
-    ghost right = { λ v. taking D.design D.capacity [] };
+    ghost right = { λ v. taking D.cargo D.capacity [] };
 }
 
 // How the two ends of a link become the one that closes it.
@@ -71,7 +77,7 @@ pub struct Closing;
 impl Join<End> for Closing {
     ghost use Rattle.cmb_links.specs.Inner.Ends.{closing, spent};
 
-    ghost both = { λ v w. closing v.design v.capacity v.sent w.received };
+    ghost both = { λ v w. closing v.cargo v.capacity v.sent w.received };
 
     ghost spent = { spent };
 }

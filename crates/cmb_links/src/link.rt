@@ -1,4 +1,4 @@
-//! A link hands the pieces of one design from one thread to another, whole and in order.
+//! A link hands pieces of some nets of one design from one thread to another, whole, in order and without a gap.
 
 use crate::end::{Closing, End, Ends, InOrder, Left, Naming, Received, Sent};
 use crate::fault::LinkFault;
@@ -39,7 +39,8 @@ impl Model for Link {
     ghost invariant = { λ l. l.queue.table.shared.table_id.slots ≡ l.queue.cap };
 }
 
-/// The end of a link that puts. Contracts see the link, its design and what was put, in order.
+/// The end of a link that puts. Contracts see the link, what it carries and what was put, in
+/// order.
 #[derive(Drop)]
 #[derive_where(Debug)]
 pub struct PutPass {
@@ -57,17 +58,19 @@ impl Model for PutPass {
 
     ghost view = { λ p. record {
       link = p.pass.table_id;
-      design = p.pass.me.0.client.design;
+      design = p.pass.me.0.client.cargo.design;
+      nets = p.pass.me.0.client.cargo.nets;
       sent = p.pass.me.0.client.sent;
     } };
 
     // All that was put is exact.
     ghost invariant = { λ p. (p.pass.me.1 ≡ [])
-        × (p.pass.me.0.client ≡ putting p.pass.me.0.client.design p.pass.table_id.slots p.pass.me.0.client.sent)
-        × All (IsExactIn p.pass.me.0.client.design) p.pass.me.0.client.sent };
+        × (p.pass.me.0.client ≡ putting p.pass.me.0.client.cargo p.pass.table_id.slots p.pass.me.0.client.sent)
+        × All (IsExactIn p.pass.me.0.client.cargo.design) p.pass.me.0.client.sent };
 }
 
-/// The end of a link that takes. Contracts see the link, its design and what was taken, in order.
+/// The end of a link that takes. Contracts see the link, what it carries and what was taken, in
+/// order.
 #[derive(Drop)]
 #[derive_where(Debug)]
 pub struct TakePass {
@@ -85,50 +88,56 @@ impl Model for TakePass {
 
     ghost view = { λ p. record {
       link = p.pass.table_id;
-      design = p.pass.me.0.client.design;
+      design = p.pass.me.0.client.cargo.design;
+      nets = p.pass.me.0.client.cargo.nets;
       received = p.pass.me.0.client.received;
     } };
 
     // All that was taken is exact.
     ghost invariant = { λ p. (p.pass.me.1 ≡ [])
-        × (p.pass.me.0.client ≡ taking p.pass.me.0.client.design p.pass.table_id.slots p.pass.me.0.client.received)
-        × All (IsExactIn p.pass.me.0.client.design) p.pass.me.0.client.received };
+        × (p.pass.me.0.client ≡ taking p.pass.me.0.client.cargo p.pass.table_id.slots p.pass.me.0.client.received)
+        × All (IsExactIn p.pass.me.0.client.cargo.design) p.pass.me.0.client.received };
 }
 
 impl Link {
     ghost use Rattle.std.specs.Prelude.{◌≡◌, ◌<◌, ◌≤◌, ◌↔◌, ◌⊎◌, ◌++◌, All, length, vec_len, IfOk, OnOk, IfErr, OnErr};
     ghost use Rattle.std.specs.Prelude.{IfSome, IfNone, Err};
     ghost use Rattle.cmb_design.specs.Exact.{IsExactIn};
-    ghost use Rattle.cmb_links.specs.Links.{IsNewLink, after_put, after_take};
+    ghost use Rattle.std.specs.List.{Contains};
+    ghost use Rattle.cmb_links.specs.Links.{IsNewLink, after_put, after_take, channel_clock};
 
-    /// A link with nothing in it, the end that puts and the end that takes. Fault 48 where the capacity isn't 1 to
-    /// 65,536 pieces, 70 where memory was refused.
+    /// A link for some nets of a design with nothing in it, the end that puts and the end that takes. Fault 48 where
+    /// the capacity isn't 1 to 65,536 pieces, 70 where memory was refused.
     pub fn open(
         alloc: Global,
         design: &Design,
+        nets: &[u32],
         capacity: usize,
     ) -> Result<(Link, PutPass, TakePass), LinkFault>
-        ensures ok { IfOk result (λ opened. IsNewLink design.now capacity opened.0 opened.1 opened.2) }
+        ensures ok { IfOk result (λ opened. IsNewLink design.now nets.now capacity opened.0 opened.1 opened.2) }
         ensures capacity { (result ≡ Err LinkFault.Capacity) ↔ ((capacity ≡ 0) ⊎ (65536 < capacity)) }
     {
         if capacity == 0 || capacity > MOST {
             return Err(LinkFault::Capacity);
         }
-        Ok(Link::named::<Brand>(alloc, design, capacity)?)
+        Ok(Link::named::<Brand>(alloc, design, nets, capacity)?)
     }
 
-    // The same, for the design and the capacity that D names.
+    // The same, for what D names.
     fn named<D: Naming>(
         alloc: Global,
         design: &Design,
+        nets: &[u32],
         capacity: usize,
     ) -> Result<(Link, PutPass, TakePass), AllocError>
         requires some { 0 < capacity }
         requires capacity { capacity ≡ D.capacity }
-        requires design { design.now ≡ D.design }
-        ensures { IfOk result (λ opened. IsNewLink design.now capacity opened.0 opened.1 opened.2) }
+        requires design { design.now ≡ D.cargo.design }
+        requires nets { nets.now ≡ D.cargo.nets }
+        ensures { IfOk result (λ opened. IsNewLink design.now nets.now capacity opened.0 opened.1 opened.2) }
     {
         let _ = design;
+        let _ = nets;
         let (queue, mut first) = Queue::ruled(alloc, capacity)?;
         let second = queue.another::<Ends<D>>(&mut first);
         Ok((
@@ -138,12 +147,15 @@ impl Link {
         ))
     }
 
-    /// Puts a piece, exact in the pass's design, behind the others. Gives it back where the queue was full. The
+    /// Puts a piece behind the others: exact in the pass's design, of one of its nets, and beginning no later than
+    /// those of its net that were put ended. Gives it back where the queue was full. The
     /// contract says that it comes back unchanged, and that at least as many were put before as the link holds; that it
     /// comes back only from a full queue is tested, not proved.
     pub fn put<R: Wait>(&self, rt: &R, pass: &mut PutPass, piece: Piece) -> Result<(), Full>
         requires link { pass.old.link ≡ self.now.link }
         requires exact { IsExactIn pass.old.design piece }
+        requires net { Contains pass.old.nets piece.net }
+        requires joined { piece.from ≤ channel_clock piece.net pass.old.sent }
         ensures ok { OnOk result (pass.new ≡ after_put pass.old piece) }
         ensures back { IfErr result (λ full. full.0 ≡ piece) }
         ensures same { OnErr result (pass.new ≡ pass.old) }
@@ -161,6 +173,8 @@ impl Link {
         requires link { pass.old.link ≡ self.now.link }
         ensures some { IfSome result (λ piece. pass.new ≡ after_take pass.old piece) }
         ensures exact { IfSome result (λ piece. IsExactIn pass.old.design piece) }
+        ensures net { IfSome result (λ piece. Contains pass.old.nets piece.net) }
+        ensures joined { IfSome result (λ piece. piece.from ≤ channel_clock piece.net pass.old.received) }
         ensures none { IfNone result (pass.new ≡ pass.old) }
     {
         self.queue.pop_as::<Received, R>(rt, &mut pass.pass)

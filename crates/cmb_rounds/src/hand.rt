@@ -129,6 +129,8 @@ impl<T: Terms> Hand<T> {
 
     /// Gives a piece to the cluster.
     pub fn deliver(&mut self, posted: &Posted<T>) -> Result<(), AllocError>
+        requires read { IsSome (input_slot self.old.cluster posted.now.net) }
+        requires joined { posted.now.from ≤ (wave_at self.old.cluster.waves posted.now.net).clock }
         ensures passed { IsSome (input_slot self.old.cluster posted.now.net)
             → posted.now.from ≤ (wave_at self.old.cluster.waves posted.now.net).clock
             → (wave_at self.old.cluster.waves posted.now.net).clock < posted.now.to

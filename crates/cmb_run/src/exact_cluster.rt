@@ -1,6 +1,6 @@
 //! What a run's workers hold and hand on: all of it is exact in the run's design, by its type.
 
-ghost use Rattle.std.specs.Prelude.{◌≡◌, ◌<◌, ◌↔◌, ◌≤◌, ℕ, true, map, IfOk, IfSome, IsSome, OnOk, Ok, Err};
+ghost use Rattle.std.specs.Prelude.{◌≡◌, ◌<◌, ◌↔◌, ◌≤◌, ℕ, true, map, All, IfOk, IfSome, IsSome, OnOk, Ok, Err};
 ghost use Rattle.cmb_wave.specs.Calls.{heard_wave, promised};
 ghost use Rattle.cmb_wave.specs.Wave.{Wave as WaveOf, cut_of, new_wave};
 ghost use Rattle.cmb_wave.specs.declared.level.Heard.{Heard as Hearing};
@@ -131,6 +131,7 @@ impl<T: Terms> ExactCluster<T> {
         ensures clocks { (cluster net : ℕ) → IsClusterOf T.design T.clustering cluster self.old
             → OnOk result ((wave_at self.new.waves net).clock
             ≡ (wave_at (stepped_waves T.design self.old.waves (own_nets T.design T.clustering cluster)) net).clock) }
+        ensures rises { (net : ℕ) → (wave_at self.old.waves net).clock ≤ (wave_at self.new.waves net).clock }
         ensures same { IsSameButWaves self.old self.new }
     {
         let rose = self.cluster.step_all()?;
@@ -160,8 +161,11 @@ impl<T: Terms> ExactCluster<T> {
         }
     }
 
-    /// Gives a piece to the input wave of its net. What the cluster refuses changes nothing.
+    /// Gives a piece, which leaves no gap, to the input wave of its net. One that tells nothing new, since a promise
+    /// overtook it, changes nothing.
     pub fn deliver(&mut self, posted: &Posted<T>) -> Result<(), AllocError>
+        requires read { IsSome (input_slot self.old posted.now.net) }
+        requires joined { posted.now.from ≤ (wave_at self.old.waves posted.now.net).clock }
         ensures taken { (wave : WaveOf) → delivered self.old posted.now ≡ Ok wave
             → OnOk result (self.new.waves ≡ with_wave self.old.waves wave) }
         ensures refused { (fault : Refusal) → delivered self.old posted.now ≡ Err fault → self.new ≡ self.old }
@@ -169,14 +173,15 @@ impl<T: Terms> ExactCluster<T> {
             → posted.now.from ≤ (wave_at self.old.waves posted.now.net).clock
             → (wave_at self.old.waves posted.now.net).clock < posted.now.to
             → OnOk result (IsPassed posted.now.net posted.now.to self.old.waves self.new.waves) }
+        ensures met { OnOk result (posted.now.to ≤ (wave_at self.new.waves posted.now.net).clock) }
+        ensures rises { (net : ℕ) → (wave_at self.old.waves net).clock ≤ (wave_at self.new.waves net).clock }
         ensures same { IsSameButWaves self.old self.new }
     {
         self.given = self.given.saturating_add(1);
-        // A piece that a promise overtook is refused as old, and tells nothing new. Of the pieces of a run
-        // none is refused for another reason but memory.
         match self.cluster.deliver(posted.piece()) {
+            Ok(_) | Err(DeliverFault::Old { .. }) => Ok(()),
             Err(DeliverFault::Memory) => Err(AllocError),
-            _ => Ok(()),
+            Err(_) => unreachable!(),
         }
     }
 
@@ -199,6 +204,7 @@ impl<T: Terms> ExactCluster<T> {
             → result ≡ heard }
         ensures waves { (heard : Hearing) → heard_at self.old promise (input_slot self.old promise.net) ≡ Ok heard
             → self.new.waves ≡ with_wave self.old.waves (heard_wave (wave_at self.old.waves promise.net) promise) }
+        ensures rises { (net : ℕ) → (wave_at self.old.waves net).clock ≤ (wave_at self.new.waves net).clock }
         ensures same { IsSameButWaves self.old self.new }
     {
         match self.cluster.hear(promise) {
@@ -219,6 +225,7 @@ impl<T: Terms> ExactCluster<T> {
         ensures nets { result.now ≡ map (λ wave. wave.net) (inputs_of self.now) }
         ensures read { (cluster : ℕ) → IsClusterOf T.design T.clustering cluster self.now
             → result.now ≡ read_nets T.design T.clustering cluster }
+        ensures given { All (λ net. IsSome (input_slot self.now net)) result.now }
     {
         self.cluster.inputs()
     }

@@ -1,5 +1,9 @@
-use Rattle.std.proofs.Common.{◌≡◌, ◌∙◌, Some, sym, set, OnOk}
+use Rattle.std.proofs.Common.{◌≡◌, ◌≤◌, ◌∙◌, ℕ, List, Option, Some, None, IsSome, ap, arith, get_or, refl, subst, sym, set, OnOk}
 use Rattle.std.proofs.lemmas.Result.{on_ok_weaker}
+use Rattle.cmb_wave.specs.Wave.{Piece, Wave, cut_of}
+use Rattle.cmb_core.specs.Clusters.{Cluster, input_slot, told_at}
+use Rattle.cmb_core.specs.Step.{wave_at}
+use Rattle.cmb_core.proofs.Steps.{wave_at-net}
 use Rattle.cmb_rounds.specs.Inner.Rounds.{AreHandsOf, IsPassedOn, known_to}
 use Rattle.cmb_rounds.proofs.RoundFacts.{read_nothing, read_taken, told_any}
 use Rattle.cmb_rounds.proofs.rounds.pass_net.Goals as goal
@@ -8,6 +12,35 @@ use Rattle.cmb_rounds.proofs.rounds.pass_net.Goals.{After-drop-new-inside}
 pub returns-in_default-clause-passed : goal.returns-in_default-clause-passed
 returns-in_default-clause-passed g c =
     absurd (c.in_default.not-Some _ (c.in_clock.ensures ∙ told_any g.T.Terms.design g.T.Terms.clustering c.args.hands.now c.requires.hands c.args.reader c.args.net c.requires.reader c.requires.reads c.index-hands-reader.result))
+
+-- a cluster that knows a net up to where a piece of it begins may be given the piece
+may_take : (s : Cluster) (waves : List Wave) (net known : ℕ) (piece : Piece) → told_at (λ wave. wave.clock) s net (input_slot s net) ≡ Some known → piece ≡ cut_of (wave_at waves net) known
+    → IsSome (input_slot s piece.net) × (piece.from ≤ (wave_at s.waves piece.net).clock)
+may_take s waves net known piece told is =
+    let same : piece.net ≡ net = ap (λ (p : Piece). p.net) is ∙ wave_at-net waves net in
+    subst (λ (n : ℕ). IsSome (input_slot s n) × (piece.from ≤ (wave_at s.waves n).clock)) (sym same) (at (input_slot s net) told)
+  where
+    at : (o : Option ℕ) → told_at (λ wave. wave.clock) s net o ≡ Some known → IsSome o × (piece.from ≤ (wave_at s.waves net).clock)
+    at None q = cc
+    at (Some slot) q = let clock : (wave_at s.waves net).clock ≡ known = cc in (refl, omega (arith, clock, ap (λ (p : Piece). p.from) is))
+
+pub deliver-requires-clause-read : goal.deliver-requires-clause-read
+deliver-requires-clause-read g c =
+    let known : Some c.in-Some.known ≡ Some (known_to c.args.hands.now c.args.reader c.args.net) =
+    sym c.in-Some.is ∙ c.in_clock.ensures ∙ told_any g.T.Terms.design g.T.Terms.clustering c.args.hands.now c.requires.hands c.args.reader c.args.net c.requires.reader c.requires.reads c.index-hands-reader.result
+    in
+    (may_take (get_or c.args.hands.now c.args.reader c.index-hands-reader-in-Some-2.result).cluster (get_or c.args.hands.now c.args.home c.index-hands-home.result).cluster.waves c.args.net c.in-Some.known c.in-Some-2.new
+    (told_any g.T.Terms.design g.T.Terms.clustering c.args.hands.now c.requires.hands c.args.reader c.args.net c.requires.reader c.requires.reads c.index-hands-reader-in-Some-2.result ∙ sym known)
+    (rw c.in-Some-2.is at c.in_ok-new.ensures.cut)).0
+
+pub deliver-requires-clause-joined : goal.deliver-requires-clause-joined
+deliver-requires-clause-joined g c =
+    let known : Some c.in-Some.known ≡ Some (known_to c.args.hands.now c.args.reader c.args.net) =
+    sym c.in-Some.is ∙ c.in_clock.ensures ∙ told_any g.T.Terms.design g.T.Terms.clustering c.args.hands.now c.requires.hands c.args.reader c.args.net c.requires.reader c.requires.reads c.index-hands-reader.result
+    in
+    (may_take (get_or c.args.hands.now c.args.reader c.index-hands-reader-in-Some-2.result).cluster (get_or c.args.hands.now c.args.home c.index-hands-home.result).cluster.waves c.args.net c.in-Some.known c.in-Some-2.new
+    (told_any g.T.Terms.design g.T.Terms.clustering c.args.hands.now c.requires.hands c.args.reader c.args.net c.requires.reader c.requires.reads c.index-hands-reader-in-Some-2.result ∙ sym known)
+    (rw c.in-Some-2.is at c.in_ok-new.ensures.cut)).1
 
 -- the worker took what is new
 both : (g : _) (c : After-drop-new-inside g) → OnOk c.deliver.result (AreHandsOf g.T.Terms.design g.T.Terms.clustering (set c.args.hands.now c.args.reader c.deliver.new.self) × IsPassedOn g.T.Terms.clustering c.args.reader c.args.net c.args.hands.now (set c.args.hands.now c.args.reader c.deliver.new.self))

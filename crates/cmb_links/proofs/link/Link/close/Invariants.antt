@@ -7,7 +7,7 @@ use Rattle.cmb_links.proofs.link.Link.close.Given as goal
 abbrev pub invariant-loop-piece : goal.invariant-loop-piece
 invariant-loop-piece g l = record {
   pass : IsPassOf l.queue l.both;
-  knows : view l.both ≡ closing l.fn.put.design l.queue.cap l.fn.put.sent (l.fn.take.received ++ l.left.items);
+  knows : view l.both ≡ closing record { design = l.fn.put.design; nets = l.fn.put.nets } l.queue.cap l.fn.put.sent (l.fn.take.received ++ l.left.items);
   room : vec_capacity l.left ≡ l.queue.cap;
   exact : All (IsExactIn l.fn.put.design) l.left.items;
   few : length l.fn.put.sent ≤ length l.fn.take.received + l.queue.cap;

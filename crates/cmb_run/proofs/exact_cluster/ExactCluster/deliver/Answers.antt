@@ -1,9 +1,10 @@
-use Rattle.std.proofs.Common.{rules, subst}
+use Rattle.std.proofs.Common.{ℕ, ◌≤◌, rules, subst}
 use Rattle.std.specs.List.{AllByRecursion}
 use Rattle.std.proofs.lemmas.Result.{on_ok_weaker}
 use Rattle.cmb_design.specs.Exact.{IsExactIn, IsExactWaveIn}
 use Rattle.cmb_core.specs.Clusters.{Cluster}
-use Rattle.cmb_run.proofs.ClusterFacts.{delivers_exact, passes}
+use Rattle.cmb_core.specs.Step.{wave_at}
+use Rattle.cmb_run.proofs.ClusterFacts.{deliver_rises, delivers_exact, passes}
 use Rattle.cmb_run.proofs.exact_cluster.ExactCluster.deliver.Goals as goal
 
 pub returns-clause-taken : goal.returns-clause-taken
@@ -14,3 +15,8 @@ returns-clause-passed g c = λ there from to.
     let all : AllByRecursion (IsExactWaveIn g.T.Terms.design) c.args.self.now.waves = subst (λ (s : Cluster). AllByRecursion (IsExactWaveIn g.T.Terms.design) s.waves) c.self.view_is c.self.invariant.waves in
     let is = delivers_exact g.T.Terms.design c.args.self.now c.args.posted.now all (subst (IsExactIn g.T.Terms.design) c.piece.ensures.piece c.piece.ensures.exact) there from to in
     on_ok_weaker c.match-deliver.result (λ put. passes c.args.self.now c.args.posted.now there c.deliver.new.self.waves put) (returns-clause-taken g c _ is)
+
+pub returns-clause-rises : goal.returns-clause-rises
+returns-clause-rises g c =
+    let up = deliver_rises c.self.inside.cluster c.deliver.new.self c.piece.result.now c.deliver.result c.deliver.ensures.ok c.deliver.ensures.waves c.deliver.ensures.unchanged in
+    subst (λ (s : Cluster). (net : ℕ) → (wave_at s.waves net).clock ≤ (wave_at c.deliver.new.self.waves net).clock) c.self.view_is up

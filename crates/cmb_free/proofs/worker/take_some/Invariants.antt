@@ -1,0 +1,5 @@
+use Rattle.cmb_free.specs.Inner.Channels.{IsFedBy, IsLater}
+use Rattle.cmb_free.proofs.worker.take_some.Given as goal
+
+abbrev pub invariant-loop : goal.invariant-loop
+invariant-loop g l = record { fed : IsFedBy l.cluster l.end; later : IsLater l.fn.cluster l.cluster }
