@@ -176,7 +176,7 @@ module _ (design : Design) (clustering : Clustering) where
       go k (inr past) h (inr ne) = let e : k ≡ place = omega arith in absurd (ne (ap nth e ∙ sym is))
 
   -- each net that is read has its place among these
-  read_place : (reader net : ℕ) → net < nets_of design → has_input design clustering reader net ≡ true → (k : ℕ) × (k < length (read_nets design clustering reader)) × (get_or (read_nets design clustering reader) k 0 ≡ net)
+  pub read_place : (reader net : ℕ) → net < nets_of design → has_input design clustering reader net ≡ true → (k : ℕ) × (k < length (read_nets design clustering reader)) × (get_or (read_nets design clustering reader) k 0 ≡ net)
   read_place reader net there reads =
       go (place_in (read_nets design clustering reader) net) refl (filter_range_place (has_input design clustering reader) 0 (nets_of design) net (omega arith) (omega (arith, there)) reads)
     where
