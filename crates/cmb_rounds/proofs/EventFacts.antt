@@ -1,5 +1,5 @@
 -- What the events of a round come to in the machine of clocks.
-use Rattle.std.proofs.Common.{◌≡◌, ℕ, zero, suc, ◌<◌, ◌≤◌, Bool, true, false, cond, eqb, ltb, List, [], ◌∷◌, ◌++◌, ◌⊎◌, inl, inr, length, get_or, map, set, refl, sym, ◌∙◌, ap, subst, arith, get_or-set_same, get_or-set_other}
+use Rattle.std.proofs.Common.{◌≡◌, ℕ, zero, suc, ◌<◌, ◌≤◌, Bool, true, false, cond, eqb, ltb, List, [], ◌∷◌, ◌++◌, ◌⊎◌, inl, inr, length, get_or, map, set, refl, sym, ◌∙◌, ap, subst, arith, Option, Some, None, IsSome, Result, get_or-set_same, get_or-set_other}
 use Rattle.std.specs.List.{AllByRecursion}
 use Rattle.std.proofs.lemmas.Bool.{cases_eq, cases_lt, cond_both, eqb-true, eqb-false, lt-ltb, ltb-true, ltb-false}
 use Rattle.cmb_wave.specs.Wave.{Wave}
@@ -8,26 +8,43 @@ use Rattle.cmb_design.specs.Design.{Design}
 use Rattle.cmb_design.specs.Exact.{nets_of}
 use Rattle.cmb_core.specs.Clustering.{Clustering, IsClustering, cluster_of, has_input}
 use Rattle.cmb_core.specs.Clusters.{step_waves}
+use Rattle.cmb_core.specs.Directory.{place_in}
 use Rattle.cmb_core.specs.Opened.{IsOwnNet, is_own, own_nets, read_nets}
 use Rattle.cmb_core.specs.Step.{wave_at, told_upto, step_reach}
 use Rattle.cmb_core.specs.Sweep.{stepped_waves}
 use Rattle.cmb_core.proofs.Everywhere.{all_weaker}
 use Rattle.cmb_core.proofs.Homes.{input_there}
 use Rattle.cmb_core.proofs.NetReads.{IsPin, pins-are, cluster-there, has_input-from, has_input-not_own}
+use Rattle.cmb_core.proofs.OpeningFacts.{filter_range_all, filter_range_place}
+use Rattle.cmb_core.proofs.OwnFacts.{place_at}
 use Rattle.cmb_core.proofs.OnwardFacts.{HasAll, filter_all, has_rest, step_clock, step_still}
 use Rattle.cmb_core.proofs.Replacing.{has_wave}
 use Rattle.cmb_protocol.specs.declared.event.Event.{Event}
 use Rattle.cmb_protocol.specs.declared.event.Event.TheVariants.{Step, Post, Deliver}
-use Rattle.cmb_protocol.specs.Clocks.{Span, Clocks, Outcome, out_clock, in_clock, seen_clock, machine_reach, with_in, play}
+use Rattle.cmb_protocol.specs.declared.event.Reply.{Reply}
+use Rattle.cmb_protocol.specs.declared.event.PlayFault.{PlayFault}
+use Rattle.cmb_protocol.specs.Clocks.{Span, Clocks, Outcome, out_clock, in_clock, seen_clock, machine_reach, with_in, with_out, play}
 use Rattle.cmb_protocol.specs.Run.{clocks_after}
 use Rattle.cmb_protocol.proofs.Machine.{IsSound, play-goes, clocks_after-goes, clocks_after-append, driver_reach-agree, in-cases}
 use Rattle.cmb_protocol.proofs.Progress.{in-set, passing}
 use Rattle.cmb_rounds.specs.RoundEvents.{in_turn, sweep_events, pass_events, serve_events, step_events, exchange_events}
-use Rattle.cmb_rounds.proofs.RoundFacts.{read_at, read_place}
 
-all_own_nets : (design : Design) (clustering : Clustering) (worker : ℕ) → AllByRecursion (IsOwnNet design clustering worker) (own_nets design clustering worker)
+pub all_own_nets : (design : Design) (clustering : Clustering) (worker : ℕ) → AllByRecursion (IsOwnNet design clustering worker) (own_nets design clustering worker)
 all_own_nets design clustering worker =
     filter_all (is_own clustering worker) (IsOwnNet design clustering worker) 0 (nets_of design) (λ net there e. record { there = omega (arith, there); own = eqb-true _ _ e })
+
+pub read_at : (design : Design) (clustering : Clustering) (reader place : ℕ) → place < length (read_nets design clustering reader)
+    → (get_or (read_nets design clustering reader) place 0 < nets_of design) × (has_input design clustering reader (get_or (read_nets design clustering reader) place 0) ≡ true)
+read_at design clustering reader place h = filter_range_all (has_input design clustering reader) (nets_of design) place 0 h
+
+-- each net that is read has its place among these
+pub read_place : (design : Design) (clustering : Clustering) (reader net : ℕ) → net < nets_of design → has_input design clustering reader net ≡ true → (k : ℕ) × (k < length (read_nets design clustering reader)) × (get_or (read_nets design clustering reader) k 0 ≡ net)
+read_place design clustering reader net there reads =
+    go (place_in (read_nets design clustering reader) net) refl (filter_range_place (has_input design clustering reader) 0 (nets_of design) net (omega arith) (omega (arith, there)) reads)
+  where
+    go : (o : Option ℕ) → place_in (read_nets design clustering reader) net ≡ o → IsSome o → (k : ℕ) × (k < length (read_nets design clustering reader)) × (get_or (read_nets design clustering reader) k 0 ≡ net)
+    go None e h = cc
+    go (Some k) e h = let at = place_at (read_nets design clustering reader) net k e in (k, at.0, at.1)
 
 module _ (design : Design) (clustering : Clustering) where
   abbrev after : Clocks → List Event → Clocks
@@ -45,13 +62,13 @@ module _ (design : Design) (clustering : Clustering) where
   -- ---- the exchange
 
   -- the worker knows the net as far as the one that drives it, and no other clock moved
-  record Passes (worker net : ℕ) (before now : Clocks) : Type 0 where
-    met : in_clock now worker net ≡ out_clock before net
-    outs : (other : ℕ) → out_clock now other ≡ out_clock before other
-    others : (at other : ℕ) → (at ≡ worker → other ≡ net → ⊥) → in_clock now at other ≡ in_clock before at other
+  pub record Passes (worker net : ℕ) (before now : Clocks) : Type 0 where
+    pub met : in_clock now worker net ≡ out_clock before net
+    pub outs : (other : ℕ) → out_clock now other ≡ out_clock before other
+    pub others : (at other : ℕ) → (at ≡ worker → other ≡ net → ⊥) → in_clock now at other ≡ in_clock before at other
 
   module _ (worker : ℕ) (inside : worker < clustering.clusters) where
-    passes : (clocks : Clocks) → Sound clocks → (net : ℕ) → net < nets_of design → has_input design clustering worker net ≡ true → Passes worker net clocks (after clocks (pass_events worker net clocks))
+    pub passes : (clocks : Clocks) → Sound clocks → (net : ℕ) → net < nets_of design → has_input design clustering worker net ≡ true → Passes worker net clocks (after clocks (pass_events worker net clocks))
     passes clocks sound net there reads =
         cond_both (ltb (in_clock clocks worker net) (out_clock clocks net)) _ _ (λ events. Passes worker net clocks (after clocks events))
         (λ below. subst (Passes worker net clocks) (sym (passing design clustering clocks sound net worker there inside reads (ltb-true _ _ below))) taken)
@@ -158,16 +175,16 @@ module _ (design : Design) (clustering : Clustering) where
     outs : (other : ℕ) → (other ≡ net → ⊥) → out_clock now other ≡ out_clock before other
     ins : (at other : ℕ) → in_clock now at other ≡ in_clock before at other
 
+  abbrev outcome : Clocks → Result Reply PlayFault → Outcome
+  outcome clocks reply = record { clocks = clocks; reply = reply }
+
   goes : (clocks : Clocks) → Sound clocks → (net : ℕ) → net < nets_of design → Goes net clocks (play design clustering clocks (Step net)).clocks
   goes clocks sound net there = rw (lt-ltb net (nets_of design) there) (go (ltb (out_clock clocks net) (machine_reach design clustering clocks net)) refl _ _)
     where
-      reach : ℕ
-      reach = machine_reach design clustering clocks net
-
       inside : net < length clocks.outs
       inside = omega (arith, sound.nets)
 
-      go : (b : Bool) → ltb (out_clock clocks net) (machine_reach design clustering clocks net) ≡ b → (far near : _) → Goes net clocks (cond b (record { clocks = record clocks { outs = set clocks.outs net (machine_reach design clustering clocks net) }; reply = far }) (record { clocks = clocks; reply = near })).clocks
+      go : (b : Bool) → ltb (out_clock clocks net) (machine_reach design clustering clocks net) ≡ b → (far near : Result Reply PlayFault) → Goes net clocks (cond b (outcome (with_out clocks net (machine_reach design clustering clocks net)) far) (outcome clocks near)).clocks
       go true e far near = record {
         met = rw e (get_or-set_same clocks.outs net (machine_reach design clustering clocks net) 0 inside);
         outs = λ other ne. get_or-set_other clocks.outs net other (machine_reach design clustering clocks net) 0 ne;
@@ -219,23 +236,22 @@ module _ (design : Design) (clustering : Clustering) where
       outs : (net : ℕ) → (cluster_of clustering net ≡ worker → ⊥) → out_clock now net ≡ out_clock before net
       ins : (at net : ℕ) → in_clock now at net ≡ in_clock before at net
 
+    sweeps_more : (worker : ℕ) (later : List Wave) (before now end : Clocks) (net : ℕ) → IsOwnNet design clustering worker net → Goes net before now → Sweeps worker later now end → Sweeps worker later before end
+    sweeps_more worker later before now end net own moved rest = record {
+      sound = rest.sound;
+      view = rest.view;
+      outs = λ other ne. rest.outs other ne ∙ moved.outs other (λ e. ne (ap (cluster_of clustering) e ∙ own.own));
+      ins = λ at other. rest.ins at other ∙ moved.ins at other;
+    }
+
     sweeps : (worker : ℕ) (waves : List Wave) (clocks : Clocks) (nets : List ℕ) → IsSound design clustering clocks → Views worker waves clocks → AllByRecursion (IsOwnNet design clustering worker) nets → HasAll waves nets
         → Sweeps worker (stepped_waves design waves nets) clocks (after clocks (map (λ net. Step net) nets))
     sweeps worker waves clocks [] sound v own has = record { sound = sound; view = v; outs = λ net ne. refl; ins = λ at net. refl }
-    sweeps worker waves clocks (first ∷ nets) sound v own has = record {
-      sound = rest.sound;
-      view = rest.view;
-      outs = λ net ne. rest.outs net ne ∙ moved.outs net (λ e. ne (ap (cluster_of clustering) e ∙ own.0.own));
-      ins = λ at net. rest.ins at net ∙ moved.ins at net;
-    }
-      where
-        moved : Goes first clocks (play design clustering clocks (Step first)).clocks
-        moved = goes clocks sound first own.0.there
-
-        rest : Sweeps worker (stepped_waves design (step_waves design waves (wave_at waves first)) nets) (play design clustering clocks (Step first)).clocks (after (play design clustering clocks (Step first)).clocks (map (λ net. Step net) nets))
-        rest =
-            sweeps worker (step_waves design waves (wave_at waves first)) (play design clustering clocks (Step first)).clocks nets (play-goes design clustering clocks sound (Step first)).0
-            (view_steps worker waves clocks sound v first own.0 has.0) own.1 (has_rest design waves first nets has.0 has.1)
+    sweeps worker waves clocks (first ∷ nets) sound v own has =
+        let now : Clocks = (play design clustering clocks (Step first)).clocks in
+        sweeps_more worker (stepped_waves design (step_waves design waves (wave_at waves first)) nets) clocks now _ first own.0 (goes clocks sound first own.0.there)
+        (sweeps worker (step_waves design waves (wave_at waves first)) now nets (play-goes design clustering clocks sound (Step first)).0
+        (view_steps worker waves clocks sound v first own.0 has.0) own.1 (has_rest design waves first nets has.0 has.1))
 
     -- ---- all workers
 

@@ -1,6 +1,11 @@
-use Rattle.cmb_rounds.specs.Inner.Rounds.{AreHandsOf, AreKnownTo}
+use Rattle.cmb_rounds.specs.Inner.Rounds.{AreAt, AreHandsOf, AreKnownTo}
+use Rattle.cmb_rounds.specs.RoundEvents.{clocks_of_rounds}
 use Rattle.cmb_rounds.proofs.rounds.all_rounds.Given as goal
 
--- after so many rounds every clock is at that tick at least
+-- after so many rounds every clock is at that tick at least, and the clocks are those of the machine after as many
 abbrev pub invariant-loop-tick : goal.invariant-loop-tick
-invariant-loop-tick g l = record { kept : AreHandsOf g.T.Terms.design g.T.Terms.clustering l.hands; known : AreKnownTo g.T.Terms.design g.T.Terms.clustering l._tick l.hands }
+invariant-loop-tick g l = record {
+  kept : AreHandsOf g.T.Terms.design g.T.Terms.clustering l.hands;
+  known : AreKnownTo g.T.Terms.design g.T.Terms.clustering l.tick l.hands;
+  at : AreAt g.T.Terms.design g.T.Terms.clustering (clocks_of_rounds g.T.Terms.design g.T.Terms.clustering l.tick) l.hands;
+}
