@@ -1,5 +1,5 @@
 -- What the events of a round come to in the machine of clocks.
-use Rattle.std.proofs.Common.{◌≡◌, ℕ, zero, suc, ◌<◌, ◌≤◌, Bool, true, false, cond, eqb, ltb, List, [], ◌∷◌, ◌++◌, ◌⊎◌, inl, inr, length, get_or, map, set, refl, sym, ◌∙◌, ap, subst, arith, Option, Some, None, IsSome, Result, get_or-set_same, get_or-set_other}
+use Rattle.std.proofs.Common.{◌≡◌, ℕ, zero, suc, ◌<◌, ◌≤◌, Bool, true, false, cond, eqb, ltb, List, [], ◌∷◌, ◌++◌, ◌⊎◌, inl, inr, length, get_or, map, refl, sym, ◌∙◌, ap, subst, arith, Option, Some, None, IsSome, Result, get_or-set_same, get_or-set_other}
 use Rattle.std.specs.List.{AllByRecursion}
 use Rattle.std.proofs.lemmas.Bool.{cases_eq, cases_lt, cond_both, eqb-true, eqb-false, lt-ltb, ltb-true, ltb-false}
 use Rattle.cmb_wave.specs.Wave.{Wave}
@@ -14,16 +14,16 @@ use Rattle.cmb_core.specs.Step.{wave_at, told_upto, step_reach}
 use Rattle.cmb_core.specs.Sweep.{stepped_waves}
 use Rattle.cmb_core.proofs.Everywhere.{all_weaker}
 use Rattle.cmb_core.proofs.Homes.{input_there}
-use Rattle.cmb_core.proofs.NetReads.{IsPin, pins-are, cluster-there, has_input-from, has_input-not_own}
+use Rattle.cmb_core.proofs.NetReads.{IsPin, pins-are, has_input-from, has_input-not_own}
 use Rattle.cmb_core.proofs.OpeningFacts.{filter_range_all, filter_range_place}
 use Rattle.cmb_core.proofs.OwnFacts.{place_at}
 use Rattle.cmb_core.proofs.OnwardFacts.{HasAll, filter_all, has_rest, step_clock, step_still}
 use Rattle.cmb_core.proofs.Replacing.{has_wave}
 use Rattle.cmb_protocol.specs.declared.event.Event.{Event}
-use Rattle.cmb_protocol.specs.declared.event.Event.TheVariants.{Step, Post, Deliver}
+use Rattle.cmb_protocol.specs.declared.event.Event.TheVariants.{Step}
 use Rattle.cmb_protocol.specs.declared.event.Reply.{Reply}
 use Rattle.cmb_protocol.specs.declared.event.PlayFault.{PlayFault}
-use Rattle.cmb_protocol.specs.Clocks.{Span, Clocks, Outcome, out_clock, in_clock, seen_clock, machine_reach, with_in, with_out, play}
+use Rattle.cmb_protocol.specs.Clocks.{Clocks, Outcome, out_clock, in_clock, seen_clock, machine_reach, with_in, with_out, play}
 use Rattle.cmb_protocol.specs.Run.{clocks_after}
 use Rattle.cmb_protocol.proofs.Machine.{IsSound, play-goes, clocks_after-goes, clocks_after-append, driver_reach-agree, in-cases}
 use Rattle.cmb_protocol.proofs.Progress.{in-set, passing}

@@ -432,6 +432,27 @@ pub done_at : (design : Design) (clustering : Clustering) (hands : List Hand) (c
 done_at design clustering hands clocks at complete net there =
     omega (arith, at.outs net there, complete net there, (reachable-within design clustering clocks at.reached).outs net)
 
+-- and the workers are where it is
+pub complete_there : (design : Design) (clustering : Clustering) (hands : List Hand) (clocks : Clocks) → AreAt design clustering clocks hands → IsDone design clocks → AreComplete design clustering hands
+complete_there design clustering hands clocks at done net there = omega (arith, at.outs net there, done net there)
+
+-- each worker then knows its nets just to the end
+pub complete_own : (design : Design) (clustering : Clustering) (hands : List Hand) → AreHandsOf design clustering hands → AreComplete design clustering hands
+    → (worker net : ℕ) → IsOwnNet design clustering worker net → known_to hands worker net ≡ design.horizon
+complete_own design clustering hands are complete worker net own =
+    let P : ℕ → Type 0 = λ w. known_to hands w net ≡ design.horizon in
+    subst P own.own (omega (arith, are.at.outs net own.there, complete net own.there, (reachable-within design clustering are.clocks are.at.reached).outs net))
+
+-- no round but the last one was enough
+pub not_yet : (design : Design) (clustering : Clustering) (tick next : ℕ) (hands : List Hand) → suc tick ≡ next
+    → ((fewer : ℕ) → 0 < fewer → fewer ≤ tick → IsDone design (clocks_of_rounds design clustering fewer) → ⊥) → AreAt design clustering (clocks_of_rounds design clustering next) hands
+    → (AreComplete design clustering hands → ⊥) → (fewer : ℕ) → 0 < fewer → fewer ≤ next → IsDone design (clocks_of_rounds design clustering fewer) → ⊥
+not_yet design clustering tick next hands e before at not_all fewer some few = go (cases_eq fewer next)
+  where
+    go : (fewer ≡ next) ⊎ (fewer ≡ next → ⊥) → IsDone design (clocks_of_rounds design clustering fewer) → ⊥
+    go (inl same) done = not_all (complete_there design clustering hands (clocks_of_rounds design clustering next) at (subst (λ n. IsDone design (clocks_of_rounds design clustering n)) same done))
+    go (inr ne) done = before fewer some (omega (arith, few, e, ne)) done
+
 pub complete_at : (design : Design) (collector : Collector) → IsExactFor design collector → ((net : ℕ) → net < nets_of design → design.horizon ≤ (wave_of collector.waves net).clock) → IsComplete collector
 complete_at design collector exact known =
     least_clock-whole collector.horizon collector.waves

@@ -1,13 +1,13 @@
 -- The events of a run in rounds, in the order in which the program makes them.
 -- The workers step beside one another. Steps of different clusters commute, so that one order of the workers stands for all.
-use Rattle.std.specs.Prelude.{ℕ, zero, suc, nat_lt, List, [], ◌∷◌, ◌++◌, length, map, slice_index, if◌then◌else◌}
+use Rattle.std.specs.Prelude.{ℕ, ◌<◌, ◌≤◌, zero, suc, nat_lt, List, [], ◌∷◌, ◌++◌, length, map, slice_index, if◌then◌else◌}
 use Rattle.cmb_design.specs.Design.{Design}
 use Rattle.cmb_core.specs.Clustering.{Clustering}
 use Rattle.cmb_core.specs.Opened.{own_nets, read_nets}
 use Rattle.cmb_protocol.specs.declared.event.Event.{Event}
 use Rattle.cmb_protocol.specs.declared.event.Event.TheVariants.{Step, Post, Deliver}
 use Rattle.cmb_protocol.specs.Clocks.{Clocks, out_clock, in_clock, start}
-use Rattle.cmb_protocol.specs.Run.{clocks_after}
+use Rattle.cmb_protocol.specs.Run.{clocks_after, IsComplete}
 
 -- the events of so many turns, each by the clocks that the ones before it left
 abbrev pub in_turn : Design → Clustering → (ℕ → Clocks → List Event) → ℕ → Clocks → List Event
@@ -48,3 +48,10 @@ round_events design clustering clocks =
 abbrev pub clocks_of_rounds : Design → Clustering → ℕ → Clocks
 clocks_of_rounds design clustering many =
     clocks_after design clustering (start design clustering) (in_turn design clustering (λ round. round_events design clustering) many (start design clustering))
+
+-- So many rounds take the machine of clocks from its start to where every net is known up to the horizon, and fewer, but one at least,
+-- don't. There are no more of them than ticks.
+pub record AreRounds (design : Design) (clustering : Clustering) (many : ℕ) : Type 0 where
+  pub few : many ≤ design.horizon
+  pub enough : IsComplete design (clocks_of_rounds design clustering many)
+  pub least : (fewer : ℕ) → 0 < fewer → fewer < many → IsComplete design (clocks_of_rounds design clustering fewer) → ⊥

@@ -1,6 +1,6 @@
 //! What a worker of a run in rounds has in its hands.
 
-ghost use Rattle.std.specs.Prelude.{◌≡◌, ◌<◌, ◌≤◌, ◌↔◌, ℕ, false, true, map, IfOk, IfSome, IsSome, OnOk};
+ghost use Rattle.std.specs.Prelude.{◌≡◌, ◌<◌, ◌≤◌, ◌↔◌, ℕ, false, map, IfOk, IfSome, IsSome, IsTrue, OnOk};
 ghost use Rattle.cmb_wave.specs.Wave.{cut_of, new_wave};
 ghost use Rattle.cmb_core.specs.Clustering.{has_input};
 ghost use Rattle.cmb_core.specs.Clusters.{IsDrivenHere, IsSameButWaves, input_slot, told_at};
@@ -147,9 +147,9 @@ impl<T: Terms> Hand<T> {
 
     /// Whether each net that is driven here is known up to the horizon.
     pub fn complete(&self) -> bool
-        ensures { (worker net : ℕ) → IsClusterOf T.design T.clustering worker self.now.cluster
-            → IsOwnNet T.design T.clustering worker net → result ≡ true
-            → (wave_at self.now.cluster.waves net).clock ≡ T.design.horizon }
+        ensures { (worker : ℕ) → IsClusterOf T.design T.clustering worker self.now.cluster → IsTrue result ↔ ((net : ℕ)
+            → IsOwnNet T.design T.clustering worker net
+            → (wave_at self.now.cluster.waves net).clock ≡ T.design.horizon) }
     {
         self.cluster.complete()
     }

@@ -1,16 +1,16 @@
 //! A run in rounds: the workers step their clusters, each in a thread of its own where that is worth it,
 //! and between two rounds each is given what is new of the nets that it reads.
 
-ghost use Rattle.std.specs.Prelude.{◌≡◌, ◌≤◌, ◌<◌, ℕ, suc, min, true, length, IfOk, IfErr, OnOk};
+ghost use Rattle.std.specs.Prelude.{◌≡◌, ◌≤◌, ◌<◌, ◌↔◌, ℕ, suc, min, true, length, IfOk, IfErr, IsTrue, OnOk};
 ghost use Rattle.std.specs.List.{list_any};
 ghost use Rattle.cmb_design.specs.Exact.{nets_of};
 ghost use Rattle.cmb_core.specs.Assigns.{merged_clustering};
 ghost use Rattle.cmb_core.specs.Clustering.{cluster_of, has_input};
 ghost use Rattle.cmb_core.specs.Onward.{GoesOn};
 ghost use Rattle.cmb_protocol.specs.Clocks.{Clocks, start};
-ghost use Rattle.cmb_protocol.specs.Run.{clocks_after, IsComplete as AreDone};
+ghost use Rattle.cmb_protocol.specs.Run.{clocks_after};
 ghost use Rattle.cmb_vcd.specs.Collector.{IsComplete, IsExactFor, wave_of};
-ghost use Rattle.cmb_rounds.specs.RoundEvents.{clocks_of_rounds, exchange_events, round_events, step_events};
+ghost use Rattle.cmb_rounds.specs.RoundEvents.{AreRounds, exchange_events, round_events, step_events};
 ghost use Rattle.cmb_rounds.specs.Inner.Rounds.{AreAt, AreComplete, AreHandsOf, AreKnownTo};
 ghost use Rattle.cmb_rounds.specs.Inner.Rounds.{HasWorked, IsExchanged, IsPassedOn};
 ghost use Rattle.cmb_rounds.specs.Inner.Rounds.{IsServed, hand_at, known_at_home};
@@ -210,7 +210,7 @@ fn round<T: Terms + Send + Sync, R: Threads + Sync>(
 // Whether each net is known up to the horizon where it is driven.
 fn all_complete<T: Terms>(hands: &[Hand<T>]) -> bool
     requires { AreHandsOf T.design T.clustering hands.now }
-    ensures { result ≡ true → AreComplete T.design T.clustering hands.now }
+    ensures { IsTrue result ↔ AreComplete T.design T.clustering hands.now }
 {
     for hand in hands {
         if !hand.complete() {
@@ -233,9 +233,7 @@ fn all_rounds<T: Terms + Send + Sync, R: Threads + Sync>(
     requires new { AreAt T.design T.clustering (start T.design T.clustering) hands.old }
     ensures kept { OnOk result (AreHandsOf T.design T.clustering hands.new) }
     ensures complete { OnOk result (AreComplete T.design T.clustering hands.new) }
-    ensures few { IfOk result (λ rounds. rounds ≤ T.design.horizon) }
-    ensures events { IfOk result (λ rounds.
-        AreAt T.design T.clustering (clocks_of_rounds T.design T.clustering rounds) hands.new) }
+    ensures rounds { IfOk result (λ rounds. AreRounds T.design T.clustering rounds) }
 {
     for tick in 0..design.horizon() {
         round(rt, clustering, hands)?;
@@ -267,9 +265,7 @@ fn run_named<T: Terms + Send + Sync, R: Threads + Sync>(
     requires { AreTerms T.design T.clustering design.now clustering.now }
     ensures exact { IfOk result (λ run. IsExactFor design.now run.collector) }
     ensures complete { IfOk result (λ run. IsComplete run.collector) }
-    ensures few { IfOk result (λ run. run.rounds ≤ design.now.horizon) }
-    ensures events { IfOk result (λ run.
-        AreDone design.now (clocks_of_rounds design.now clustering.now run.rounds)) }
+    ensures rounds { IfOk result (λ run. AreRounds design.now clustering.now run.rounds) }
 {
     let mut hands = deal::<T>(alloc, design, clustering)?;
     let rounds = all_rounds(rt, design, clustering, &mut hands)?;
@@ -300,9 +296,8 @@ pub fn run_rounds<R: Threads + Sync>(
     requires { length clustering.now.assign ≡ nets_of design.now }
     ensures exact { IfOk result (λ run. IsExactFor design.now run.collector) }
     ensures complete { IfOk result (λ run. IsComplete run.collector) }
-    ensures few { IfOk result (λ run. run.rounds ≤ design.now.horizon) }
-    ensures events { IfOk result (λ run. AreDone design.now (clocks_of_rounds design.now
-        (merged_clustering clustering.now (min workers clustering.now.clusters)) run.rounds)) }
+    ensures rounds { IfOk result (λ run.
+        AreRounds design.now (merged_clustering clustering.now (min workers clustering.now.clusters)) run.rounds) }
     ensures fault { IfErr result (λ fault. fault ≡ Memory) }
 {
     let workers = workers.at_most(clustering.clusters());

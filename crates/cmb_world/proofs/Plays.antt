@@ -31,7 +31,7 @@ use Rattle.cmb_core.proofs.Steps.{wave_at-net}
 use Rattle.cmb_core.proofs.NetByNet.{still_of}
 use Rattle.cmb_core.proofs.Homes.{input_home}
 use Rattle.cmb_core.proofs.OwnFacts.{own_driven}
-use Rattle.cmb_world.specs.Faults.{fault_of_event}
+use Rattle.cmb_world.specs.Inner.Faults.{fault_of_event}
 
 -- ---- waves of clusters
 

@@ -2,7 +2,7 @@
 
 ghost use Rattle.std.specs.Prelude.{◌≡◌, ◌≢◌, Err, IfOk, OnErr};
 ghost use Rattle.cmb_protocol.specs.declared.event.PlayFault.TheVariants.{Memory};
-ghost use Rattle.cmb_world.specs.Faults.{fault_of_event};
+ghost use Rattle.cmb_world.specs.Inner.Faults.{fault_of_event};
 
 use crate::world::World;
 use cmb_core::{DeliverFault, Stranger};

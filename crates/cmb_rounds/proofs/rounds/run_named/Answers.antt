@@ -2,7 +2,7 @@ use Rattle.std.proofs.Common.{◌≡◌, ◌∙◌, ◌≤◌, ◌<◌, ◌++◌
 use Rattle.std.proofs.lemmas.List.{take-append-le, take_all}
 use Rattle.cmb_design.specs.Exact.{nets_of}
 use Rattle.cmb_vcd.specs.Collector.{Collector, wave_of}
-use Rattle.cmb_rounds.proofs.RoundFacts.{complete_at, done_at}
+use Rattle.cmb_rounds.proofs.RoundFacts.{complete_at}
 use Rattle.cmb_rounds.proofs.rounds.run_named.Goals as goal
 
 -- what a list has where each of its elements was given anew
@@ -23,6 +23,5 @@ hand_over_all-requires g c =
     let long : length c.all_rounds.new.hands ≡ c.in_ok-hands.hands.len = c.all_rounds.auto.hands ∙ c.deref_mut.ensures.len in
     rw (taken_back c.in_ok-hands.hands.len c.all_rounds.new.hands c.in_ok-hands.hands.items long) (record { hands = done.kept; known = done.complete })
 
-pub returns-clause-events : goal.returns-clause-events
-returns-clause-events g c =
-    rw (c.requires.design_is, c.requires.clustering_is) (done_at g.T.Terms.design g.T.Terms.clustering c.all_rounds.new.hands _ c.in_ok-rounds.ensures.events c.in_ok-rounds.ensures.complete)
+pub returns-clause-rounds : goal.returns-clause-rounds
+returns-clause-rounds g c = rw (c.requires.design_is, c.requires.clustering_is) c.in_ok-rounds.ensures.rounds
