@@ -138,9 +138,6 @@ module _ (design : Design) (clustering : Clustering) where
       outs = λ net. s.outs net ∙ x.outs net;
     }
       where
-        later : Clocks
-        later = after now (serve_events design clustering worker now)
-
         s : Serves worker inside (length (read_nets design clustering worker)) now (after now (serve_events design clustering worker now))
         s = serves worker inside (length (read_nets design clustering worker)) now (omega arith) x.sound
 

@@ -42,7 +42,8 @@ impl World {
     ghost use Rattle.cmb_wave.specs.Calls.{cut, promised, heard_wave};
     ghost use Rattle.cmb_design.specs.Design.{Design};
     ghost use Rattle.cmb_protocol.specs.declared.event.Event.{Event};
-    ghost use Rattle.cmb_protocol.specs.declared.event.Event.TheVariants.{Step, Post, Deliver, Promise as Promises, Look};
+    ghost use Rattle.cmb_protocol.specs.declared.event.Event.TheVariants.{Step, Post, Deliver, Look};
+    ghost use Rattle.cmb_protocol.specs.declared.event.Event.TheVariants.{Promise as Promises};
     ghost use Rattle.cmb_core.specs.Clustering.{Clustering};
     ghost use Rattle.cmb_core.specs.Clusters.{step_answer, step_waves, delivered, RefusesDelivery, heard_at};
     ghost use Rattle.cmb_core.specs.Clusters.{input_slot};
