@@ -185,18 +185,18 @@ one_operand (Some f) k e =
     (chosen (takes_one f) (Some faults.Operands) None (Some k) e)
 
 check_stands : (ss : List Statement) (names : List (List ℕ)) (place : Place) (b : List Lexeme) (word : Word) (l : ℕ) (k : FaultKind) → names ≡ driven ss → Shape b place ss → checked names place word ≡ Some k → StandsAt k b (at word l)
-check_stands ss names (first n) b (mark Equals) l k is h e = net_stands ss names n b (at (mark Equals) l) k is (inl (record { line = h.0; front = h.1; token = refl })) e
+check_stands ss names (first n) b (mark Equals) l k is h e = net_stands ss names n b (at (mark Equals) l) k is (inl (record { behind = _; front = h.1; said = refl; token = refl })) e
 check_stands ss names (listed n w true) b (mark Comma) l k is h e =
     let o = one_operand (cell_of w) k e in
-    subst (λ j. StandsAt j b (at (mark Comma) l)) o.3 (o.0, record { statements = ss; net = n; kind = w; operand = h.0; line = h.1; line_of_equals = h.2; line_of_kind = h.3; line_of_open = h.4; front = h.5; cell = o.1; token = refl }, o.2)
+    subst (λ j. StandsAt j b (at (mark Comma) l)) o.3 (ss, n, w, h.0.name, o.0, record { behind = _; front = h.5; said = refl; token = refl }, o.1, o.2)
 check_stands ss names (equalled n) b (name w) l k is h e =
     ⊎_elim
-    (λ c. let o = kind_missing (cell_of w) k c in subst (λ j. StandsAt j b (at (name w) l)) o.1 (w, record { statements = ss; net = n; line = h.0; line_of_equals = h.1; front = h.2; token = refl }, o.0))
+    (λ c. let o = kind_missing (cell_of w) k c in subst (λ j. StandsAt j b (at (name w) l)) o.1 (ss, n, w, record { behind = _; front = h.2; said = refl; token = refl }, o.0))
     (λ c. named_stands b w l k c)
     (either (kind_check (cell_of w)) (name_check w) k e)
 check_stands ss names (keyed true) b (name n) l k is h e =
     ⊎_elim
-    (λ c. net_stands ss names n b (at (name n) l) k is (inr (record { keyword = h.0; line = h.1; line_of_mark = h.2; is_input = h.3; front = h.4; token = refl })) c)
+    (λ c. net_stands ss names n b (at (name n) l) k is (inr (h.0, h.3, record { behind = _; front = h.4; said = refl; token = refl })) c)
     (λ c. named_stands b n l k c)
     (either (net_check names n) (name_check n) k e)
 check_stands ss names place b (name n) l k is h e = named_stands b n l k e

@@ -1,17 +1,17 @@
 -- The first fault of a text that spells no netlist.
 -- Faults 1 to 5, 7 and 8 stand at tokens: the first token at which one stands decides, and at one token the least number.
 -- Fault 6, a used name that no statement drives, comes only where none of the others stands anywhere, at the first such name.
-use Rattle.std.specs.Prelude.{◌≡◌, ℕ, ◌<◌, ◌≤◌, List, [], ◌∷◌, ◌++◌, length, true, false, codes, Some, None, ◌⊎◌}
+use Rattle.std.specs.Prelude.{◌≡◌, ℕ, ◌<◌, ◌≤◌, List, [], ◌∷◌, ◌++◌, length, map, true, false, codes, Some, None, ◌⊎◌}
 use Rattle.std.specs.List.{flat_map, AllByRecursion}
 use Rattle.cmb_bench.specs.declared.text.Class.TheVariants.{Open, Comma, Equals, Bad}
 use Rattle.cmb_bench.specs.declared.fault.BenchFault.{BenchFault}
 use Rattle.cmb_bench.specs.declared.fault.FaultKind.{FaultKind}
 use Rattle.cmb_bench.specs.declared.fault.FaultKind.TheVariants as faults
 use Rattle.cmb_netlist.specs.declared.netlist.Cell.{Cell}
-use Rattle.cmb_bench.specs.Text.{Snippet, IsCutting, Lexeme, name, mark, tokens_of}
+use Rattle.cmb_bench.specs.Text.{Snippet, IsCutting, Lexeme, Word, name, mark, tokens_of}
 use Rattle.cmb_netlist.specs.Kinds.{is_word, cell_of, takes_one}
 use Rattle.cmb_bench.specs.Statement.{Statement, Mention, used_by, is_member, driven}
-use Rattle.cmb_bench.specs.Grammar.{at, said, Spells, SpellsAll}
+use Rattle.cmb_bench.specs.Grammar.{Spells, SpellsAll}
 
 -- any name is taken as any kind
 abbrev pub AnyKind : List ℕ → Cell → Type 0
@@ -28,47 +28,27 @@ pub record Begins (tokens : List Lexeme) : Type 0 where
   pub statements : List Statement
   pub spelled : SpellsAll AnyKind statements (tokens ++ more)
 
--- behind these statements the token is the `=` of a driver statement of this net
-pub record AtEquals (ss : List Statement) (n : List ℕ) (before : List Lexeme) (t : Lexeme) : Type 0 where
-  pub line : ℕ
-  pub front : Fronted ss before (at (name n) line ∷ [])
-  pub token : t.word ≡ mark Equals
+-- the token says a word, and what stands before it are these statements and then tokens that say these words, on whichever lines
+pub record IsBehind (statements : List Statement) (words : List Word) (word : Word) (before : List Lexeme) (t : Lexeme) : Type 0 where
+  pub behind : List Lexeme
+  pub front : Fronted statements before behind
+  pub said : map (λ token. token.word) behind ≡ words
+  pub token : t.word ≡ word
 
--- behind these statements the token is the name of an input statement
-pub record AtInput (ss : List Statement) (n : List ℕ) (before : List Lexeme) (t : Lexeme) : Type 0 where
-  pub keyword : List ℕ
-  pub line : ℕ
-  pub line_of_mark : ℕ
-  pub is_input : is_word keyword (codes "INPUT") ≡ true
-  pub front : Fronted ss before (at (name keyword) line ∷ at (mark Open) line_of_mark ∷ [])
-  pub token : t.word ≡ name n
-
--- where a net is driven: behind these statements the token is the `=` of a driver statement of this net, or its name in an input statement
+-- where a net is driven: the token is the `=` of a driver statement of this net, or its name in an input statement
 abbrev pub DrivenAt : List Statement → List ℕ → List Lexeme → Lexeme → Type 0
-DrivenAt ss n before t = AtEquals ss n before t ⊎ AtInput ss n before t
+DrivenAt ss n before t =
+    IsBehind ss (name n ∷ []) (mark Equals) before t
+    ⊎ ((keyword : List ℕ) × (is_word keyword (codes "INPUT") ≡ true) × IsBehind ss (name keyword ∷ mark Open ∷ []) (name n) before t)
 
--- the token is this word in the place of KIND, behind some statements
-pub record AtKind (k : List ℕ) (before : List Lexeme) (t : Lexeme) : Type 0 where
-  pub statements : List Statement
-  pub net : List ℕ
-  pub line : ℕ
-  pub line_of_equals : ℕ
-  pub front : Fronted statements before (at (name net) line ∷ at (mark Equals) line_of_equals ∷ [])
-  pub token : t.word ≡ name k
+-- the token is this word in the place of KIND
+abbrev pub AtKind : List Statement → List ℕ → List ℕ → List Lexeme → Lexeme → Type 0
+AtKind ss net word before t = IsBehind ss (name net ∷ mark Equals ∷ []) (name word) before t
 
 -- the token is the first comma among the operands of a driver statement with this kind
-pub record AtComma (f : Cell) (before : List Lexeme) (t : Lexeme) : Type 0 where
-  pub statements : List Statement
-  pub net : List ℕ
-  pub kind : List ℕ
-  pub operand : Mention
-  pub line : ℕ
-  pub line_of_equals : ℕ
-  pub line_of_kind : ℕ
-  pub line_of_open : ℕ
-  pub front : Fronted statements before (at (name net) line ∷ at (mark Equals) line_of_equals ∷ at (name kind) line_of_kind ∷ at (mark Open) line_of_open ∷ said operand ∷ [])
-  pub cell : cell_of kind ≡ Some f
-  pub token : t.word ≡ mark Comma
+abbrev pub AtComma : List Statement → List ℕ → List ℕ → List ℕ → List Lexeme → Lexeme → Type 0
+AtComma ss net kind operand before t =
+    IsBehind ss (name net ∷ mark Equals ∷ name kind ∷ mark Open ∷ name operand ∷ []) (mark Comma) before t
 
 -- A fault of this kind stands at the token `t`, which has these tokens before it:
 -- 1, a bad byte; 2, a token with which the tokens so far begin no list of statements (so the end of input in the middle of one; at a
@@ -77,8 +57,10 @@ pub record AtComma (f : Cell) (before : List Lexeme) (t : Lexeme) : Type 0 where
 abbrev pub StandsAt : FaultKind → List Lexeme → Lexeme → Type 0
 StandsAt faults.Byte before t = t.word ≡ mark Bad
 StandsAt faults.Statement before t = Begins (before ++ t ∷ []) → ⊥
-StandsAt faults.Kind before t = (word : List ℕ) × AtKind word before t × (cell_of word ≡ None)
-StandsAt faults.Operands before t = (cell : Cell) × AtComma cell before t × (takes_one cell ≡ true)
+StandsAt faults.Kind before t = (statements : List Statement) × (net : List ℕ) × (word : List ℕ) × AtKind statements net word before t × (cell_of word ≡ None)
+StandsAt faults.Operands before t =
+    (statements : List Statement) × (net : List ℕ) × (kind : List ℕ) × (operand : List ℕ) × (cell : Cell)
+    × AtComma statements net kind operand before t × (cell_of kind ≡ Some cell) × (takes_one cell ≡ true)
 StandsAt faults.Driven before t = (statements : List Statement) × (net : List ℕ) × DrivenAt statements net before t × (is_member net (driven statements) ≡ true)
 StandsAt faults.TooMany before t = (statements : List Statement) × (net : List ℕ) × DrivenAt statements net before t × (65535 ≤ length (driven statements))
 StandsAt faults.Name before t = (n : List ℕ) × (t.word ≡ name n) × (255 < length n)

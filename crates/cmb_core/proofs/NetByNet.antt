@@ -84,10 +84,10 @@ module _ (design : Design) (clustering : Clustering) (cluster : ℕ) (s : Cluste
   pub long : i < length (held_nets design clustering cluster)
   long = omega (arith, length-map s.waves (λ w. w.net), ap length of.nets)
 
-  process_here : IsProcessOf design clustering cluster (get_or (held_nets design clustering cluster) i 0) (process_at s i)
+  pub process_here : IsProcessOf design clustering cluster (get_or (held_nets design clustering cluster) i 0) (process_at s i)
   process_here = process_of design clustering cluster (held_nets design clustering cluster) s.processes i _ of.processes long
 
-  slot_here : slot_of s.waves (get_or (held_nets design clustering cluster) i 0) ≡ Some i
+  pub slot_here : slot_of s.waves (get_or (held_nets design clustering cluster) i 0) ≡ Some i
   slot_here =
       slot_place s.waves (get_or (held_nets design clustering cluster) i 0) ∙ ap (λ ns. place_in ns (get_or (held_nets design clustering cluster) i 0)) of.nets
       ∙ filter_index (λ net. is_own clustering cluster net || has_input design clustering cluster net) 0 (nets_of design) i long

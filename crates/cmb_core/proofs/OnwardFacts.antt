@@ -2,7 +2,7 @@
 use Rattle.std.proofs.Common.{◌≡◌, ℕ, zero, suc, ◌+◌, ◌<◌, ◌≤◌, Bool, true, false, ◌||◌, cond, eqb, ltb, List, [], ◌∷◌, ◌⊎◌, inl, inr, refl, sym, ◌∙◌, ap, subst, arith}
 use Rattle.std.specs.Prelude.{filter}
 use Rattle.std.specs.List.{AllByRecursion, list_any, range_with_len}
-use Rattle.std.proofs.lemmas.Bool.{eq-eqb, eqb-true, ltb-true, ltb-false, or_left, or_right, cases_eq}
+use Rattle.std.proofs.lemmas.Bool.{eq-eqb, eqb-true, ltb-true, ltb-false, or_left, or_right, cases_eq, cond_both}
 use Rattle.cmb_wave.specs.Wave.{Wave, wave_with_piece}
 use Rattle.cmb_netlist.specs.Netlist.{driver_of, pins_of, IsNetlist}
 use Rattle.cmb_design.specs.Design.{Design}
@@ -21,7 +21,7 @@ use Rattle.cmb_core.proofs.Replacing.{has_wave, has_wave-with, wave_at-with_same
 
 -- ---- numbers that pass a test
 
-filter_all : (p : ℕ → Bool) (P : ℕ → Type 0) (a n : ℕ) → ((x : ℕ) → x < a + n → p x ≡ true → P x) → AllByRecursion P (filter p (range_with_len a n))
+pub filter_all : (p : ℕ → Bool) (P : ℕ → Type 0) (a n : ℕ) → ((x : ℕ) → x < a + n → p x ≡ true → P x) → AllByRecursion P (filter p (range_with_len a n))
 filter_all p P a zero each = tt
 filter_all p P a (suc n) each = go (p a) refl (filter_all p P (a + 1) n (λ x h e. each x (omega arith) e))
   where
@@ -58,15 +58,20 @@ module _ (design : Design) (waves : List Wave) (net : ℕ) (has : has_wave waves
       let P : ℕ → Type 0 = λ n. wave_at (with_wave waves grown_wave) n ≡ grown_wave in
       subst P same (wave_at-with_same waves grown_wave (ap (has_wave waves) same ∙ has))
 
-  step_reaches : step_reach design waves net ≤ (wave_at after net).clock
-  step_reaches = go (ltb (wave_at waves net).clock (step_reach design waves (wave_at waves net).net)) refl
+  -- its clock is the reach, where that is above it
+  pub step_clock : (wave_at after net).clock ≡ cond (ltb (wave_at waves net).clock (step_reach design waves net)) (step_reach design waves net) (wave_at waves net).clock
+  step_clock = go (ltb (wave_at waves net).clock (step_reach design waves (wave_at waves net).net)) (ap (λ (reach : ℕ). ltb (wave_at waves net).clock reach) same)
     where
       same : step_reach design waves (wave_at waves net).net ≡ step_reach design waves net
       same = ap (step_reach design waves) (wave_at-net waves net)
 
-      go : (b : Bool) → ltb (wave_at waves net).clock (step_reach design waves (wave_at waves net).net) ≡ b → step_reach design waves net ≤ (wave_at (cond b (with_wave waves grown_wave) waves) net).clock
-      go true e = let far : (wave_at (with_wave waves grown_wave) net).clock ≡ step_reach design waves (wave_at waves net).net = ap (λ (w : Wave). w.clock) grown_there in omega (arith, far, same)
-      go false e = omega (arith, ltb-false _ _ e, same)
+      go : (b : Bool) → b ≡ ltb (wave_at waves net).clock (step_reach design waves net) → (wave_at (cond b (with_wave waves grown_wave) waves) net).clock ≡ cond (ltb (wave_at waves net).clock (step_reach design waves net)) (step_reach design waves net) (wave_at waves net).clock
+      go true e = rw (sym e) (ap (λ (w : Wave). w.clock) grown_there ∙ same)
+      go false e = rw (sym e) refl
+
+  step_reaches : step_reach design waves net ≤ (wave_at after net).clock
+  step_reaches =
+      rw step_clock (cond_both (ltb (wave_at waves net).clock (step_reach design waves net)) _ _ (λ (clock : ℕ). step_reach design waves net ≤ clock) (λ above. omega arith) (λ below. ltb-false _ _ below))
 
   step_rises : (other : ℕ) → (wave_at waves other).clock ≤ (wave_at after other).clock
   step_rises other = go (ltb (wave_at waves net).clock (step_reach design waves (wave_at waves net).net)) refl (cases_eq other net)
@@ -82,14 +87,14 @@ module _ (design : Design) (waves : List Wave) (net : ℕ) (has : has_wave waves
           omega (arith, clock)
       go false e _ = omega arith
 
-  step_still : (other : ℕ) → (other ≡ net → ⊥) → (wave_at after other).clock ≡ (wave_at waves other).clock
+  pub step_still : (other : ℕ) → (other ≡ net → ⊥) → (wave_at after other).clock ≡ (wave_at waves other).clock
   step_still other ne = go (ltb (wave_at waves net).clock (step_reach design waves (wave_at waves net).net))
     where
       go : (b : Bool) → (wave_at (cond b (with_wave waves grown_wave) waves) other).clock ≡ (wave_at waves other).clock
       go true = ap (λ (w : Wave). w.clock) (wave_at-with_other waves grown_wave other (λ q. ne (q ∙ wave_at-net waves net)))
       go false = refl
 
-  step_has : (other : ℕ) → has_wave after other ≡ has_wave waves other
+  pub step_has : (other : ℕ) → has_wave after other ≡ has_wave waves other
   step_has other = go (ltb (wave_at waves net).clock (step_reach design waves (wave_at waves net).net))
     where
       go : (b : Bool) → has_wave (cond b (with_wave waves grown_wave) waves) other ≡ has_wave waves other
@@ -98,11 +103,11 @@ module _ (design : Design) (waves : List Wave) (net : ℕ) (has : has_wave waves
 
 -- ---- steps of several nets
 
-abbrev HasAll : List Wave → List ℕ → Type 0
+abbrev pub HasAll : List Wave → List ℕ → Type 0
 HasAll waves nets = AllByRecursion (λ net. has_wave waves net ≡ true) nets
 
 module _ (design : Design) where
-  has_rest : (waves : List Wave) (net : ℕ) (nets : List ℕ) → has_wave waves net ≡ true → HasAll waves nets → HasAll (step_waves design waves (wave_at waves net)) nets
+  pub has_rest : (waves : List Wave) (net : ℕ) (nets : List ℕ) → has_wave waves net ≡ true → HasAll waves nets → HasAll (step_waves design waves (wave_at waves net)) nets
   has_rest waves net nets has all =
       all_weaker (λ other. has_wave waves other ≡ true) (λ other. has_wave (step_waves design waves (wave_at waves net)) other ≡ true) (λ other h. step_has design waves net has other ∙ h) nets all
 
@@ -163,7 +168,7 @@ module _ (design : Design) (netlist : IsNetlist design.netlist) (clustering : Cl
         has_wave-nets s.waves net ∙ ap (list_any (λ other. eqb other net)) of.nets
         ∙ filter_any (λ n. is_own clustering cluster n || has_input design clustering cluster n) 0 (nets_of design) net (omega arith) (omega (arith, own.there)) (or_left _ _ (eq-eqb _ _ own.own))
 
-    all_have : HasAll s.waves (own_nets design clustering cluster)
+    pub all_have : HasAll s.waves (own_nets design clustering cluster)
     all_have =
         filter_all (is_own clustering cluster) (λ net. has_wave s.waves net ≡ true) 0 (nets_of design)
         (λ net there e. own_has net (record { there = omega (arith, there); own = eqb-true _ _ e }))

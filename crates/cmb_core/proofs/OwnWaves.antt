@@ -1,15 +1,19 @@
 -- The waves of the nets that a cluster drives.
-use Rattle.std.proofs.Common.{◌≡◌, ℕ, zero, suc, ◌<◌, Bool, true, false, not, cond, eqb, List, [], ◌∷◌, length, get_or, Option, Some, None, IsSome, refl, sym, ◌∙◌, ap, arith}
+use Rattle.std.proofs.Common.{◌≡◌, ℕ, zero, suc, ◌<◌, Bool, true, false, not, ◌||◌, cond, eqb, List, [], ◌∷◌, ◌⊎◌, inl, inr, length, get_or, Option, Some, None, IsSome, refl, sym, ◌∙◌, ap, arith}
 use Rattle.std.specs.List.{list_all}
-use Rattle.std.proofs.lemmas.Bool.{and_parts, eqb-true, eq-eqb}
+use Rattle.std.proofs.lemmas.Bool.{and_parts, cases_eq, eqb-true, eq-eqb}
 use Rattle.cmb_wave.specs.Wave.{Wave, new_wave}
 use Rattle.cmb_design.specs.Design.{Design}
-use Rattle.cmb_core.specs.Clustering.{Clustering}
+use Rattle.cmb_design.specs.Exact.{nets_of}
+use Rattle.cmb_core.specs.declared.process.Rule.TheVariants.{Given}
+use Rattle.cmb_core.specs.Clustering.{Clustering, cluster_of, has_input}
 use Rattle.cmb_core.specs.Clusters.{Cluster, IsSound, is_complete, process_at, slot_wave}
 use Rattle.cmb_core.specs.Directory.{driven_among}
-use Rattle.cmb_core.specs.Opened.{IsClusterOf, IsOwnNet, is_own}
+use Rattle.cmb_core.specs.Opened.{IsClusterOf, IsOwnNet, held_nets, is_own}
 use Rattle.cmb_core.specs.Rows.{Process, is_given, slot_of}
 use Rattle.cmb_core.specs.Step.{wave_at}
+use Rattle.cmb_core.proofs.NetByNet.{long, process_here, slot_here}
+use Rattle.cmb_core.proofs.OpeningFacts.{filter_range_all}
 use Rattle.cmb_core.proofs.Slots.{slot_is}
 use Rattle.cmb_core.proofs.OwnFacts.{own_placed, given_here}
 
@@ -24,6 +28,32 @@ driven_passes test (q ∷ processes) (v ∷ waves) (suc i) p w h k own all = dri
     rest : (b : Bool) → list_all test (cond b (driven_among processes waves) (v ∷ driven_among processes waves)) ≡ true → list_all test (driven_among processes waves) ≡ true
     rest true e = e
     rest false e = (and_parts _ _ e).1
+
+-- all driven waves pass what those in their places do
+driven_pass : (test : Wave → Bool) (processes : List Process) (waves : List Wave) (p : Process) (w : Wave)
+    → ((i : ℕ) → i < length waves → is_given (get_or processes i p).rule ≡ false → test (get_or waves i w) ≡ true) → list_all test (driven_among processes waves) ≡ true
+driven_pass test [] waves p w each = refl
+driven_pass test (q ∷ processes) [] p w each = refl
+driven_pass test (q ∷ processes) (v ∷ waves) p w each = go (is_given q.rule) refl (driven_pass test processes waves p w (λ i h own. each (suc i) (omega arith) own))
+  where
+    go : (b : Bool) → is_given q.rule ≡ b → list_all test (driven_among processes waves) ≡ true → list_all test (cond b (driven_among processes waves) (v ∷ driven_among processes waves)) ≡ true
+    go true e rest = rest
+    go false e rest = rw (each 0 (omega arith) e, rest) refl
+
+-- a cluster of which each own net is known to the end is complete
+pub known_complete : (design : Design) (clustering : Clustering) (cluster : ℕ) (s : Cluster) → IsClusterOf design clustering cluster s
+    → ((net : ℕ) → IsOwnNet design clustering cluster net → (wave_at s.waves net).clock ≡ design.horizon) → is_complete s ≡ true
+known_complete design clustering cluster s of known = driven_pass (λ wave. eqb wave.clock s.horizon) s.processes s.waves _ (new_wave 0) each
+  where
+    each : (i : ℕ) → i < length s.waves → is_given (process_at s i).rule ≡ false → eqb (slot_wave s i).clock s.horizon ≡ true
+    each i h driven = go (cases_eq (cluster_of clustering (get_or (held_nets design clustering cluster) i 0)) cluster)
+      where
+        go : (cluster_of clustering (get_or (held_nets design clustering cluster) i 0) ≡ cluster) ⊎ (cluster_of clustering (get_or (held_nets design clustering cluster) i 0) ≡ cluster → ⊥) → eqb (slot_wave s i).clock s.horizon ≡ true
+        go (inl own) =
+            let there = filter_range_all (λ n. is_own clustering cluster n || has_input design clustering cluster n) (nets_of design) i 0 (long design clustering cluster s of i h) in
+            let wave = slot_is s.waves (get_or (held_nets design clustering cluster) i 0) i (new_wave 0) (slot_here design clustering cluster s of i h) in
+            eq-eqb _ _ (ap (λ (w : Wave). w.clock) wave.1 ∙ known (get_or (held_nets design clustering cluster) i 0) (record { there = there.0; own = own }) ∙ sym of.horizon)
+        go (inr other) = let given : (process_at s i).rule ≡ Given = (process_here design clustering cluster s of i h).given other in let not_so : is_given (process_at s i).rule ≡ true = ap is_given given in cc
 
 module _ (design : Design) (clustering : Clustering) (cluster : ℕ) (s : Cluster) (of : IsClusterOf design clustering cluster s) (paired : length s.waves ≡ length s.processes) (net : ℕ) (own : IsOwnNet design clustering cluster net) where
   -- the wave of one of its own nets stands in a place that isn't given

@@ -1,7 +1,7 @@
 -- What a board that is closed tells of its seats.
 use Rattle.std.proofs.Common.{◌≡◌, ℕ, zero, suc, ◌+◌, ◌<◌, ◌≤◌, ◌==◌, Bool, true, List, [], ◌∷◌, ◌++◌, map, length, slice_index, sym, refl, ap, ◌∙◌, subst, arith, All, get_or, append_assoc, length-append}
 use Rattle.std.specs.List.{range_with_len}
-use Rattle.std.proofs.lemmas.List.Elements.{All-weaker, All-contains}
+use Rattle.std.proofs.lemmas.List.Elements.{All-contains}
 use Rattle.std.proofs.lemmas.List.{length-map, map-append}
 use Rattle.std.proofs.lemmas.List.FromFn.{length-map-range_with_len, get_or-map-range_with_len}
 use mathlib.Core.Option.{some}
@@ -23,7 +23,7 @@ use Rattle.cmb_links.proofs.Joined.{place_of, at_joined, joined-whole}
 use Rattle.cmb_links.proofs.Newest.{newest-net, promise_of_word-word_of}
 use Rattle.cmb_links.proofs.Loads.{one_or_none}
 use Rattle.cmb_links.proofs.Seats.{gathers}
-use Rattle.cmb_links.proofs.Steps.{log_here, loads}
+use Rattle.cmb_links.proofs.Steps.{loads}
 
 -- ---- the order of seats
 
@@ -100,20 +100,16 @@ module _ (t : BoardTerms) (s : State (Unit {0}) View) (kept : IsBoard t s) (prom
       let held = kept.nets net in' in let log : List Promise = published_at s.views (driver t net) in
       read net in' ∙ ap (promise_of_word net) held.held ∙ promise_of_word-word_of (newest net log) net (newest-net net log) held.fits
 
-  pub ends_as : (i : ℕ) (v : View) → get_elem? s.views i ≡ some v → EndsAs promises (some_raised s.views) (number_finished s.views) v
+  pub ends_as : (i : ℕ) (v : View) → get_elem? s.views i ≡ some v → EndsAs promises (some_raised s.views) (number_finished s.views) s.views v
   ends_as i v at =
       let seat = kept.seats i v at in
       record {
-        newest_own = λ net in' here.
-            let in'' = subst (λ (u : BoardTerms). net < nets_of u.design) seat.terms in' in
-            let drives : driver t net ≡ i = subst (λ (u : BoardTerms). driver u net ≡ i) seat.terms (here ∙ seat.place) in
-            tells_newest net in'' ∙ ap (λ (l : List Promise). newest net l) (ap (published_at s.views) drives ∙ log_here s i v at);
+        words = λ net in'.
+            subst (λ (u : BoardTerms). promise_at promises net ≡ newest net (published_at s.views (driver u net))) (sym seat.terms)
+            (tells_newest net (subst (λ (u : BoardTerms). net < nets_of u.design) seat.terms in'));
         found = λ net in'.
-            let in'' = subst (λ (u : BoardTerms). net < nets_of u.design) seat.terms in' in
-            let log : List Promise = published_at s.views (driver t net) in
-            All-weaker (λ (q : Promise). q.net ≡ net → IsKnown net log q) (λ (q : Promise). q.net ≡ net → q.upto ≤ (promise_at promises net).upto)
-            (λ q h same. subst (λ (p : Promise). q.upto ≤ p.upto) (sym (tells_newest net in'')) (h same).below)
-            v.promised.loads ((kept.nets net in'').found i v.promised.loads (at_map loads s.views i v at));
+            subst (λ (u : BoardTerms). All (λ (q : Promise). q.net ≡ net → IsKnown net (published_at s.views (driver u net)) q) v.promised.loads) (sym seat.terms)
+            ((kept.nets net (subst (λ (u : BoardTerms). net < nets_of u.design) seat.terms in')).found i v.promised.loads (at_map loads s.views i v at));
         stops = λ c. All-contains (λ (b : Bool). b ≡ true → some_raised s.views ≡ true) v.stops.loads true (kept.stop.found i v.stops (at_map (λ (u : View). u.stops) s.views i v at)) c refl;
         counts = subst (λ (k : ℕ). All (λ j. j ≤ k) v.endings.loads) kept.finished.held (kept.finished.found i v.endings (at_map (λ (u : View). u.endings) s.views i v at));
       }
@@ -124,7 +120,7 @@ module _ (t : BoardTerms) (s : State (Unit {0}) View) (kept : IsBoard t s) (prom
 -- what a closed board tells: a promise for each net, the stop word and the number of finished workers
 pub record Tells (promises : List Promise) (raised : Bool) (finished : ℕ) (seats : List SeatData) : Type 0 where
   pub nets : All (λ (s : SeatData). length promises ≡ nets_of s.view.terms.design) seats
-  pub words : All (λ (s : SeatData). EndsAs promises raised finished s.view) seats
+  pub words : All (λ (s : SeatData). EndsAs promises raised finished (map view_of seats) s.view) seats
   pub stop : raised ≡ any_raised (map (λ (s : SeatData). s.view.stops) seats)
   pub count : finished ≡ count_finished (map (λ (s : SeatData). s.view.endings) seats)
 
@@ -151,7 +147,7 @@ closes t s id n board seats words are kept at same width =
     record {
       nets = λ k d in'. length-map-range_with_len (λ (j : ℕ). promise_of_word j (slice_index words j)) 0 n ∙ nets
           ∙ ap (λ (u : BoardTerms). nets_of u.design) (sym (told.seats k (get_or seats k d).view (at_map view_of seats k (get_or seats k d) (at_place seats k d in'))).terms);
-      words = λ k d in'. subst (λ (z : Bool × ℕ). EndsAs promises z.0 z.1 (get_or seats k d).view) (λ i. (sym stop i, sym count i))
+      words = λ k d in'. subst (λ (z : Bool × ℕ). EndsAs promises z.0 z.1 (map view_of seats) (get_or seats k d).view) (λ i. (sym stop i, sym count i))
           (ends_as t f told promises read k (get_or seats k d).view (at_map view_of seats k (get_or seats k d) (at_place seats k d in')));
       stop = stop ∙ ap any_raised (map-twice (λ (v : View). v.stops) seats);
       count = count ∙ ap count_finished (map-twice (λ (v : View). v.endings) seats);

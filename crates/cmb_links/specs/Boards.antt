@@ -99,10 +99,10 @@ Moment v P = (s : State (Unit {0}) View) × IsBoard v.terms s × (get_elem? s.vi
 abbrev pub promise_at : List Promise → ℕ → Promise
 promise_at promises net = slice_index_or promises net (promise net 0 0)
 
--- What a board's words held at the end, and what a seat knows: of each net that the seat drives they have its newest promise, and no
--- load of the seat found more than they have
-pub record EndsAs (promises : List Promise) (raised : Bool) (finished : ℕ) (v : View) : Type 0 where
-  pub newest_own : (net : ℕ) → net < nets_of v.terms.design → driver v.terms net ≡ v.place → promise_at promises net ≡ newest net v.promised.published
-  pub found : (net : ℕ) → net < nets_of v.terms.design → All (λ q. q.net ≡ net → q.upto ≤ (promise_at promises net).upto) v.promised.loads
+-- What a board's words held at the end, and what a seat knows, where all seats know these views: each net's promise is the newest of its
+-- driving seat, and what a load of the seat found of a net is (0, 0) or was published by that seat, and isn't above its newest
+pub record EndsAs (promises : List Promise) (raised : Bool) (finished : ℕ) (views : List View) (v : View) : Type 0 where
+  pub words : (net : ℕ) → net < nets_of v.terms.design → promise_at promises net ≡ newest net (published_at views (driver v.terms net))
+  pub found : (net : ℕ) → net < nets_of v.terms.design → All (λ q. q.net ≡ net → IsKnown net (published_at views (driver v.terms net)) q) v.promised.loads
   pub stops : Contains v.stops.loads true → raised ≡ true
   pub counts : All (λ k. k ≤ finished) v.endings.loads

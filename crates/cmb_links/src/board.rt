@@ -296,13 +296,14 @@ impl Board {
     }
 
     /// Ends the board, and answers what its words hold. `seats` are all of its seats, in order. Of each net that is the
-    /// newest promise of its driving seat, (0, 0) where there is none; no load of any seat found more. Where memory is
-    /// refused, the board is given up.
+    /// newest promise of its driving seat, (0, 0) where there is none. Whatever a load of any seat found was (0, 0) or
+    /// was published by that seat, and isn't above its newest. Where memory is refused, the board is given up.
     pub fn close(self, alloc: Global, seats: Vec<Seat>) -> Result<Ending, AllocError>
         requires seats { AreAllSeats self seats.items }
         ensures nets { IfOk result (λ end. All (λ s. vec_len end.promises ≡ nets_of s.view.terms.design) seats.items) }
         ensures words { IfOk result (λ end.
-            All (λ s. EndsAs end.promises.items end.is_raised end.finished s.view) seats.items) }
+            All (λ s. EndsAs end.promises.items end.is_raised end.finished (map (λ s. s.view) seats.items) s.view)
+            seats.items) }
         ensures raised { IfOk result (λ end. end.is_raised ≡ any_raised (map (λ s. s.view.stops) seats.items)) }
         ensures finished { IfOk result (λ end. end.finished ≡ count_finished (map (λ s. s.view.endings) seats.items)) }
     {

@@ -1,2 +1,3 @@
+pub mod EventFacts
 pub mod HandFacts
 pub mod RoundFacts

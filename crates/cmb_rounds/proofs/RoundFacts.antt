@@ -14,18 +14,24 @@ use Rattle.cmb_core.specs.Clusters.{IsDrivenHere, IsSameButWaves, input_slot, to
 use Rattle.cmb_core.specs.Onward.{IsHeldTo, GoesOn}
 use Rattle.cmb_core.specs.Opened.{IsClusterOf, IsOwnNet, held_nets, read_nets}
 use Rattle.cmb_core.specs.Step.{wave_at}
-use Rattle.cmb_core.specs.Directory.{place_in}
 use Rattle.cmb_core.proofs.Homes.{input_home, input_there}
 use Rattle.cmb_core.proofs.OpenedFacts.{new_here}
-use Rattle.cmb_core.proofs.OpeningFacts.{filter_range_all, filter_range_place}
-use Rattle.cmb_core.proofs.OwnFacts.{own_driven, place_at}
+use Rattle.cmb_core.proofs.OnwardFacts.{all_have}
+use Rattle.cmb_core.proofs.OwnFacts.{own_driven}
 use Rattle.cmb_core.proofs.Steps.{wave_at-net}
 use Rattle.cmb_core.proofs.NetByNet.{still_of}
+use Rattle.cmb_protocol.specs.declared.event.Event.{Event}
+use Rattle.cmb_protocol.specs.Clocks.{Clocks, out_clock, in_clock, start}
+use Rattle.cmb_protocol.specs.Run.{clocks_after, IsReachable, IsComplete as IsDone}
+use Rattle.cmb_protocol.proofs.Machine.{clocks_after-append, reachable-sound, reachable-within, rows_of_zeros, zeros}
 use Rattle.cmb_vcd.specs.Collector.{Collector, IsComplete, IsExactFor, wave_of}
 use Rattle.cmb_run.specs.Passed.{IsPassed}
 use Rattle.cmb_run.proofs.RunClocks.{least_clock-whole}
-use Rattle.cmb_rounds.specs.Inner.Rounds.{Hand, hand_at, known_to, known_at_home, AreHandsOf, AreKnownTo, AreComplete, IsExchanged, IsPassedOn, IsServed, HasWorked}
+use Rattle.cmb_rounds.specs.RoundEvents.{clocks_of_rounds, exchange_events, pass_events, round_events, step_events}
+use Rattle.cmb_rounds.specs.Inner.Rounds.{AreAt, IsSwept, Hand, hand_at, known_to, known_at_home, AreHandsOf, AreKnownTo, AreComplete, IsExchanged, IsPassedOn, IsServed, HasWorked}
 use Rattle.cmb_core.proofs.NetReads.{cluster-there, has_input-not_own}
+use Rattle.cmb_rounds.proofs.EventFacts.{Exchanges, Passes, Steps, Views, exchanged, passes, read_at, read_place, stepped, turns_more}
+use Rattle.cmb_rounds.proofs.HandFacts.{swept_goes_on}
 
 -- ---- none met want of memory
 
@@ -47,13 +53,49 @@ module _ (design : Design) (clustering : Clustering) where
   home_there : (hands : List Hand) → AreHandsOf design clustering hands → (net : ℕ) → net < nets_of design → cluster_of clustering net < clustering.clusters
   home_there hands are net there = cluster-there design clustering are.lawful net there
 
+  -- ---- the machine of clocks
+
+  reached_more : (clocks : Clocks) (events : List Event) → IsReachable design clustering clocks → IsReachable design clustering (clocks_after design clustering clocks events)
+  reached_more clocks events r =
+      (r.0 ++ events, clocks_after-append design clustering (start design clustering) r.0 events ∙ ap (λ (c : Clocks). clocks_after design clustering c events) r.1)
+
+  -- none knows a net further than the one that drives it
+  within : (hands : List Hand) → AreHandsOf design clustering hands → (worker net : ℕ) → worker < clustering.clusters → has_input design clustering worker net ≡ true → known_to hands worker net ≤ known_at_home clustering hands net
+  within hands are worker net inside reads =
+      omega (arith, are.at.ins worker net inside reads, are.at.outs net (input_there design clustering worker net are.netlist reads), (reachable-within design clustering are.clocks are.at.reached).ins worker net)
+
   -- ---- the steps
 
   module _ (old new : List Hand) (are : AreHandsOf design clustering old) (count : length new ≡ length old)
       (worked : (worker : ℕ) → worker < length old → HasWorked design clustering (hand_at old worker) (hand_at new worker))
       (calm : list_any (λ hand. hand.refused) new ≡ false) where
+    abbrev waves : ℕ → List Wave
+    waves worker = (hand_at old worker).cluster.waves
+
+    swept : (worker : ℕ) → worker < clustering.clusters → IsSwept design clustering worker (hand_at old worker).cluster.waves (hand_at new worker).cluster.waves
+    swept worker inside = (worked worker (omega (arith, are.count))).swept worker (are.each worker inside) (none_refused new calm worker)
+
     pub all_go_on : (worker : ℕ) → worker < clustering.clusters → GoesOn design clustering worker (hand_at old worker).cluster.waves (hand_at new worker).cluster.waves
-    all_go_on worker inside = (worked worker (omega (arith, are.count))).on worker are.netlist (are.each worker inside) (none_refused new calm worker)
+    all_go_on worker inside = swept_goes_on design clustering worker (hand_at old worker).cluster (hand_at new worker).cluster.waves are.netlist (are.each worker inside) (swept worker inside)
+
+    -- the machine of clocks makes the same steps
+    pub steps_at : (clocks : Clocks) → AreAt design clustering clocks old → AreAt design clustering (clocks_after design clustering clocks (step_events design clustering clocks)) new
+    steps_at clocks at = record {
+      reached = reached_more clocks (step_events design clustering clocks) at.reached;
+      outs = λ net there.
+          let inside : cluster_of clustering net < clustering.clusters = home_there old are net there in
+          swept (cluster_of clustering net) inside net ∙ sym (s.done net there inside);
+      ins = λ worker net inside reads. (all_go_on worker inside).still net reads ∙ at.ins worker net inside reads ∙ sym (s.ins worker net);
+    }
+      where
+        views : (worker : ℕ) → worker < clustering.clusters → Views design clustering worker (hand_at old worker).cluster.waves clocks
+        views worker inside = record {
+          own = λ net own. let P : ℕ → Type 0 = λ w. known_to old w net ≡ out_clock clocks net in subst P own.own (at.outs net own.there);
+          read = λ net reads. at.ins worker net inside reads;
+        }
+
+        s : Steps design clustering are.netlist are.lawful waves (λ worker inside. all_have design are.netlist clustering worker (hand_at old worker).cluster (are.each worker inside)) clustering.clusters clocks (clocks_after design clustering clocks (step_events design clustering clocks))
+        s = stepped design clustering are.netlist are.lawful waves (λ worker inside. all_have design are.netlist clustering worker (hand_at old worker).cluster (are.each worker inside)) clocks (reachable-sound design clustering clocks at.reached) views
 
     pub stepped_hands : AreHandsOf design clustering new
     stepped_hands = record {
@@ -61,9 +103,8 @@ module _ (design : Design) (clustering : Clustering) where
       lawful = are.lawful;
       count = count ∙ are.count;
       each = λ worker inside. still_of design clustering worker (hand_at old worker).cluster (hand_at new worker).cluster (worked worker (omega (arith, are.count))).same (are.each worker inside);
-      within = λ worker net inside reads.
-          let there : net < nets_of design = input_there design clustering worker net are.netlist reads in
-          omega (arith, (all_go_on worker inside).still net reads, are.within worker net inside reads, (all_go_on (cluster_of clustering net) (home_there old are net there)).rises net);
+      clocks = clocks_after design clustering are.clocks (step_events design clustering are.clocks);
+      at = steps_at are.clocks are.at;
     }
 
   -- ---- one net is passed on to one worker
@@ -75,32 +116,41 @@ module _ (design : Design) (clustering : Clustering) where
     pub passed_home : (old new : List Hand) → IsPassedOn clustering reader net old new → (other : ℕ) → known_at_home clustering new other ≡ known_at_home clustering old other
     passed_home old new p other = p.others (cluster_of clustering other) other (λ e f. has_input-not_own design clustering reader net reads (ap (cluster_of clustering) (sym f) ∙ e))
 
-    passed_cases : (old new : List Hand) → IsPassedOn clustering reader net old new → (worker other : ℕ)
-        → ((worker ≡ reader) × (other ≡ net)) ⊎ (known_to new worker other ≡ known_to old worker other)
-    passed_cases old new p worker other = go (cases_eq worker reader) (cases_eq other net)
+    -- the machine of clocks makes the same post and delivery
+    pub passed_at : (old new : List Hand) → AreHandsOf design clustering old → reader < clustering.clusters → IsPassedOn clustering reader net old new
+        → (clocks : Clocks) → AreAt design clustering clocks old → AreAt design clustering (clocks_after design clustering clocks (pass_events reader net clocks)) new
+    passed_at old new are inside p clocks at = record {
+      reached = reached_more clocks (pass_events reader net clocks) at.reached;
+      outs = λ other there. passed_home old new p other ∙ at.outs other there ∙ sym (e.outs other);
+      ins = λ worker other within reads'. go worker other within reads' (cases_eq worker reader) (cases_eq other net);
+    }
       where
-        go : (worker ≡ reader) ⊎ (worker ≡ reader → ⊥) → (other ≡ net) ⊎ (other ≡ net → ⊥) → ((worker ≡ reader) × (other ≡ net)) ⊎ (known_to new worker other ≡ known_to old worker other)
-        go (inl e) (inl f) = inl (e, f)
-        go (inl e) (inr ne) = inr (p.others worker other (λ _ f. ne f))
-        go (inr ne) _ = inr (p.others worker other (λ e _. ne e))
+        there : net < nets_of design
+        there = input_there design clustering reader net are.netlist reads
 
-    pub passed_hands : (old new : List Hand) → AreHandsOf design clustering old → length new ≡ length old
+        e : Passes design clustering reader net clocks (clocks_after design clustering clocks (pass_events reader net clocks))
+        e = passes design clustering reader inside clocks (reachable-sound design clustering clocks at.reached) net there reads
+
+        go : (worker other : ℕ) → worker < clustering.clusters → has_input design clustering worker other ≡ true → (worker ≡ reader) ⊎ (worker ≡ reader → ⊥) → (other ≡ net) ⊎ (other ≡ net → ⊥)
+            → known_to new worker other ≡ in_clock (clocks_after design clustering clocks (pass_events reader net clocks)) worker other
+        go worker other within reads' (inl same) (inl it) =
+            let P : ℕ → Type 0 = λ w. known_to new w other ≡ in_clock (clocks_after design clustering clocks (pass_events reader net clocks)) w other in
+            let Q : ℕ → Type 0 = λ n. known_to new reader n ≡ in_clock (clocks_after design clustering clocks (pass_events reader net clocks)) reader n in
+            subst P (sym same) (subst Q (sym it) (p.met ∙ at.outs net there ∙ sym e.met))
+        go worker other within reads' (inl same) (inr ne) = p.others worker other (λ _ f. ne f) ∙ at.ins worker other within reads' ∙ sym (e.others worker other (λ _ f. ne f))
+        go worker other within reads' (inr ne) _ = p.others worker other (λ f _. ne f) ∙ at.ins worker other within reads' ∙ sym (e.others worker other (λ f _. ne f))
+
+    pub passed_hands : (old new : List Hand) → AreHandsOf design clustering old → reader < clustering.clusters → length new ≡ length old
         → ((worker : ℕ) → worker < clustering.clusters → IsSameButWaves (hand_at old worker).cluster (hand_at new worker).cluster)
         → IsPassedOn clustering reader net old new → AreHandsOf design clustering new
-    passed_hands old new are count same p = record {
+    passed_hands old new are inside count same p = record {
       netlist = are.netlist;
       lawful = are.lawful;
       count = count ∙ are.count;
-      each = λ worker inside. still_of design clustering worker (hand_at old worker).cluster (hand_at new worker).cluster (same worker inside) (are.each worker inside);
-      within = λ worker other inside reads'. go worker other (passed_cases old new p worker other) (are.within worker other inside reads');
+      each = λ worker within. still_of design clustering worker (hand_at old worker).cluster (hand_at new worker).cluster (same worker within) (are.each worker within);
+      clocks = clocks_after design clustering are.clocks (pass_events reader net are.clocks);
+      at = passed_at old new are inside p are.clocks are.at;
     }
-      where
-        go : (worker other : ℕ) → ((worker ≡ reader) × (other ≡ net)) ⊎ (known_to new worker other ≡ known_to old worker other) → known_to old worker other ≤ known_at_home clustering old other → known_to new worker other ≤ known_at_home clustering new other
-        go worker other (inl (e, f)) low =
-            let P : ℕ → Type 0 = λ n. known_to new reader n ≤ known_at_home clustering new n in
-            let Q : ℕ → Type 0 = λ w. known_to new w other ≤ known_at_home clustering new other in
-            subst Q (sym e) (subst P (sym f) (omega (arith, p.met, passed_home old new p net)))
-        go worker other (inr q) low = omega (arith, q, low, passed_home old new p other)
 
     -- the worker took a piece
     module _ (old new : List Hand) (h : Hand) (inside : reader < length old) (put : new ≡ set old reader h) where
@@ -146,7 +196,7 @@ module _ (design : Design) (clustering : Clustering) where
       where
         go : (known_to hands reader net < known_at_home clustering hands net) ⊎ (known_at_home clustering hands net ≤ known_to hands reader net) → known_to hands reader net ≡ known_at_home clustering hands net
         go (inl less) = absurd (full less)
-        go (inr past) = omega (arith, are.within reader net inside reads)
+        go (inr past) = omega (arith, within hands are reader net inside reads)
 
   -- ---- all nets are passed on to one worker
 
@@ -175,19 +225,10 @@ module _ (design : Design) (clustering : Clustering) where
       go k (inl less) h (inr ne) = p.others reader (nth k) (λ _ f. ne f) ∙ s.met k less ∙ sym (passed_home reader net reads now new p (nth k))
       go k (inr past) h (inr ne) = let e : k ≡ place = omega arith in absurd (ne (ap nth e ∙ sym is))
 
-  -- each net that is read has its place among these
-  read_place : (reader net : ℕ) → net < nets_of design → has_input design clustering reader net ≡ true → (k : ℕ) × (k < length (read_nets design clustering reader)) × (get_or (read_nets design clustering reader) k 0 ≡ net)
-  read_place reader net there reads =
-      go (place_in (read_nets design clustering reader) net) refl (filter_range_place (has_input design clustering reader) 0 (nets_of design) net (omega arith) (omega (arith, there)) reads)
-    where
-      go : (o : Option ℕ) → place_in (read_nets design clustering reader) net ≡ o → IsSome o → (k : ℕ) × (k < length (read_nets design clustering reader)) × (get_or (read_nets design clustering reader) k 0 ≡ net)
-      go None e h = cc
-      go (Some k) e h = let at = place_at (read_nets design clustering reader) net k e in (k, at.0, at.1)
-
   pub served_all : (reader place : ℕ) (old now : List Hand) → IsServedTo reader place old now → length (read_nets design clustering reader) ≤ place → IsServed design clustering reader old now
   served_all reader place old now s all = record {
     met = λ net reads.
-        let at = read_place reader net (input_there design clustering reader net s.kept.netlist reads) reads in
+        let at = read_place design clustering reader net (input_there design clustering reader net s.kept.netlist reads) reads in
         let P : ℕ → Type 0 = λ n. known_to now reader n ≡ known_at_home clustering now n in
         subst P at.2 (s.met at.0 (omega (arith, at.1, all)));
     others = s.others;
@@ -227,7 +268,34 @@ module _ (design : Design) (clustering : Clustering) where
   pub exchanged_all : (upto : ℕ) (old now : List Hand) → IsExchangedTo upto old now → clustering.clusters ≤ upto → IsExchanged design clustering now
   exchanged_all upto old now x all = λ worker net inside reads. x.met worker net (omega arith) reads
 
+  -- the machine of clocks makes the same exchange
+  pub exchanged_at : (old new : List Hand) → AreHandsOf design clustering old → IsExchanged design clustering new → ((net : ℕ) → known_at_home clustering new net ≡ known_at_home clustering old net)
+      → (clocks : Clocks) → AreAt design clustering clocks old → AreAt design clustering (clocks_after design clustering clocks (exchange_events design clustering clocks)) new
+  exchanged_at old new are exchanged' homes clocks at = record {
+    reached = reached_more clocks (exchange_events design clustering clocks) at.reached;
+    outs = λ net there. homes net ∙ at.outs net there ∙ sym (x.outs net);
+    ins = λ worker net inside reads.
+        exchanged' worker net inside reads ∙ homes net ∙ at.outs net (input_there design clustering worker net are.netlist reads) ∙ sym (x.outs net) ∙ sym (x.met worker net inside reads);
+  }
+    where
+      x : Exchanges design clustering clustering.clusters clocks (clocks_after design clustering clocks (exchange_events design clustering clocks))
+      x = exchanged design clustering are.netlist clocks (reachable-sound design clustering clocks at.reached)
+
   -- ---- a round
+
+  pub round_at : (clocks : Clocks) (hands : List Hand)
+      → (let mid = clocks_after design clustering clocks (step_events design clustering clocks) in AreAt design clustering (clocks_after design clustering mid (exchange_events design clustering mid)) hands)
+      → AreAt design clustering (clocks_after design clustering clocks (round_events design clustering clocks)) hands
+  round_at clocks hands =
+      subst (λ (c : Clocks). AreAt design clustering c hands) (sym (clocks_after-append design clustering clocks (step_events design clustering clocks) (exchange_events design clustering (clocks_after design clustering clocks (step_events design clustering clocks)))))
+
+  pub rounds_more : (many next : ℕ) (hands : List Hand) → suc many ≡ next
+      → (let before = clocks_of_rounds design clustering many in AreAt design clustering (clocks_after design clustering before (round_events design clustering before)) hands)
+      → AreAt design clustering (clocks_of_rounds design clustering next) hands
+  rounds_more many next hands e at =
+      let P : Clocks → Type 0 = λ c. AreAt design clustering c hands in
+      let Q : ℕ → Type 0 = λ n. AreAt design clustering (clocks_of_rounds design clustering n) hands in
+      subst Q e (subst P (sym (turns_more design clustering (λ round. round_events design clustering) many (start design clustering))) at)
 
   pub round_brings_on : (old mid new : List Hand) → AreHandsOf design clustering old
       → ((worker : ℕ) → worker < clustering.clusters → GoesOn design clustering worker (hand_at old worker).cluster.waves (hand_at mid worker).cluster.waves)
@@ -286,16 +354,29 @@ dealt_more design clustering many hands hand dealt of new = record {
         let Q : ℕ → Type 0 = λ n. is many (hand_at (hands ++ hand ∷ []) n) in
         subst P here (subst Q last (subst (is many) (sym (nth_last hands hand)) (of, new)))
 
-pub dealt_hands : (design : Design) (clustering : Clustering) (many : ℕ) (hands : List Hand) → IsNetlist design.netlist → IsClustering (nets_of design) clustering → AreDealt design clustering many hands → many ≡ clustering.clusters → AreHandsOf design clustering hands
-dealt_hands design clustering many hands netlist lawful dealt all = record {
-  netlist = netlist;
-  lawful = lawful;
-  count = dealt.count ∙ all;
-  each = λ worker inside. dealt.each worker (omega (arith, all));
-  within = λ worker net inside reads.
-      let none : known_to hands worker net ≡ 0 = ap (λ ws. (wave_at ws net).clock) (dealt.new worker (omega (arith, all))) ∙ ap (λ (w : Wave). w.clock) (new_here (held_nets design clustering worker) net) in
-      omega (arith, none);
-}
+pub dealt_hands : (design : Design) (clustering : Clustering) (many : ℕ) (hands : List Hand) → IsNetlist design.netlist → IsClustering (nets_of design) clustering → AreDealt design clustering many hands → many ≡ clustering.clusters
+    → AreHandsOf design clustering hands × AreAt design clustering (start design clustering) hands
+dealt_hands design clustering many hands netlist lawful dealt all = (
+  record {
+    netlist = netlist;
+    lawful = lawful;
+    count = dealt.count ∙ all;
+    each = λ worker inside. dealt.each worker (omega (arith, all));
+    clocks = start design clustering;
+    at = at;
+  },
+  at,
+)
+  where
+    none : (worker net : ℕ) → worker < clustering.clusters → known_to hands worker net ≡ 0
+    none worker net inside = ap (λ ws. (wave_at ws net).clock) (dealt.new worker (omega (arith, all))) ∙ ap (λ (w : Wave). w.clock) (new_here (held_nets design clustering worker) net)
+
+    at : AreAt design clustering (start design clustering) hands
+    at = record {
+      reached = ([], refl);
+      outs = λ net there. none (cluster_of clustering net) net (cluster-there design clustering lawful net there) ∙ sym (zeros (nets_of design) net);
+      ins = λ worker net inside reads. none worker net inside ∙ sym (rows_of_zeros clustering.clusters (nets_of design) worker net);
+    }
 
 -- ---- at the end
 
@@ -346,6 +427,32 @@ complete_more design clustering hands many are all known = λ net there.
     let home : cluster_of clustering net < clustering.clusters = cluster-there design clustering are.lawful net there in
     omega (arith, known (cluster_of clustering net) net (omega (arith, home, all)) home (record { there = there; own = refl }))
 
+-- the machine of clocks is complete where the workers are
+pub done_at : (design : Design) (clustering : Clustering) (hands : List Hand) (clocks : Clocks) → AreAt design clustering clocks hands → AreComplete design clustering hands → IsDone design clocks
+done_at design clustering hands clocks at complete net there =
+    omega (arith, at.outs net there, complete net there, (reachable-within design clustering clocks at.reached).outs net)
+
+-- and the workers are where it is
+pub complete_there : (design : Design) (clustering : Clustering) (hands : List Hand) (clocks : Clocks) → AreAt design clustering clocks hands → IsDone design clocks → AreComplete design clustering hands
+complete_there design clustering hands clocks at done net there = omega (arith, at.outs net there, done net there)
+
+-- each worker then knows its nets just to the end
+pub complete_own : (design : Design) (clustering : Clustering) (hands : List Hand) → AreHandsOf design clustering hands → AreComplete design clustering hands
+    → (worker net : ℕ) → IsOwnNet design clustering worker net → known_to hands worker net ≡ design.horizon
+complete_own design clustering hands are complete worker net own =
+    let P : ℕ → Type 0 = λ w. known_to hands w net ≡ design.horizon in
+    subst P own.own (omega (arith, are.at.outs net own.there, complete net own.there, (reachable-within design clustering are.clocks are.at.reached).outs net))
+
+-- no round but the last one was enough
+pub not_yet : (design : Design) (clustering : Clustering) (tick next : ℕ) (hands : List Hand) → suc tick ≡ next
+    → ((fewer : ℕ) → 0 < fewer → fewer ≤ tick → IsDone design (clocks_of_rounds design clustering fewer) → ⊥) → AreAt design clustering (clocks_of_rounds design clustering next) hands
+    → (AreComplete design clustering hands → ⊥) → (fewer : ℕ) → 0 < fewer → fewer ≤ next → IsDone design (clocks_of_rounds design clustering fewer) → ⊥
+not_yet design clustering tick next hands e before at not_all fewer some few = go (cases_eq fewer next)
+  where
+    go : (fewer ≡ next) ⊎ (fewer ≡ next → ⊥) → IsDone design (clocks_of_rounds design clustering fewer) → ⊥
+    go (inl same) done = not_all (complete_there design clustering hands (clocks_of_rounds design clustering next) at (subst (λ n. IsDone design (clocks_of_rounds design clustering n)) same done))
+    go (inr ne) done = before fewer some (omega (arith, few, e, ne)) done
+
 pub complete_at : (design : Design) (collector : Collector) → IsExactFor design collector → ((net : ℕ) → net < nets_of design → design.horizon ≤ (wave_of collector.waves net).clock) → IsComplete collector
 complete_at design collector exact known =
     least_clock-whole collector.horizon collector.waves
@@ -358,10 +465,6 @@ pub nth_any : (hands : List Hand) (k : ℕ) (d : Hand) → k < length hands → 
 nth_any [] k d h = absurd (omega arith)
 nth_any (hand ∷ hands) zero d h = refl
 nth_any (hand ∷ hands) (suc k) d h = nth_any hands k d (omega arith)
-
-pub read_at : (design : Design) (clustering : Clustering) (reader place : ℕ) → place < length (read_nets design clustering reader)
-    → (get_or (read_nets design clustering reader) place 0 < nets_of design) × (has_input design clustering reader (get_or (read_nets design clustering reader) place 0) ≡ true)
-read_at design clustering reader place h = filter_range_all (has_input design clustering reader) (nets_of design) place 0 h
 
 module _ (design : Design) (clustering : Clustering) (hands : List Hand) (are : AreHandsOf design clustering hands) (reader net : ℕ) (inside : reader < clustering.clusters) (reads : has_input design clustering reader net ≡ true) where
   there : net < nets_of design
@@ -414,7 +517,7 @@ module _ (design : Design) (clustering : Clustering) (hands : List Hand) (are : 
       both : IsPassed net away.clock old h.cluster.waves → AreHandsOf design clustering (set hands reader h) × IsPassedOn clustering reader net hands (set hands reader h)
       both p =
           let on : IsPassedOn clustering reader net hands (set hands reader h) = taken_passed design clustering reader net reads hands (set hands reader h) h long refl away.clock refl p in (
-            passed_hands design clustering reader net reads hands (set hands reader h) are (taken_count design clustering reader net reads hands (set hands reader h) h long refl)
+            passed_hands design clustering reader net reads hands (set hands reader h) are inside (taken_count design clustering reader net reads hands (set hands reader h) h long refl)
                 (λ worker _. taken_same design clustering reader net reads hands (set hands reader h) h long refl same worker) on,
             on,
           )

@@ -1,17 +1,15 @@
 //! What a worker of a run in rounds has in its hands.
 
-ghost use Rattle.std.specs.Prelude.{◌≡◌, ◌<◌, ◌≤◌, ◌↔◌, ℕ, false, true, map, IfOk, IfSome, IsSome, OnOk};
-ghost use Rattle.cmb_netlist.specs.Netlist.{IsNetlist};
+ghost use Rattle.std.specs.Prelude.{◌≡◌, ◌<◌, ◌≤◌, ◌↔◌, ℕ, false, map, IfOk, IfSome, IsSome, IsTrue, OnOk};
 ghost use Rattle.cmb_wave.specs.Wave.{cut_of, new_wave};
 ghost use Rattle.cmb_core.specs.Clustering.{has_input};
 ghost use Rattle.cmb_core.specs.Clusters.{IsDrivenHere, IsSameButWaves, input_slot, told_at};
-ghost use Rattle.cmb_core.specs.Onward.{GoesOn};
 ghost use Rattle.cmb_core.specs.Opened.{IsClusterOf, IsOwnNet, held_nets, read_nets};
 ghost use Rattle.cmb_core.specs.Step.{wave_at};
 ghost use Rattle.cmb_vcd.specs.Collector.{wave_of};
 ghost use Rattle.cmb_run.specs.Passed.{IsPassed};
 ghost use Rattle.cmb_run.specs.RunTerms.{AreTerms};
-ghost use Rattle.cmb_rounds.specs.Inner.Rounds.{HasWorked};
+ghost use Rattle.cmb_rounds.specs.Inner.Rounds.{HasWorked, IsSwept};
 
 use crate::collected::Collected;
 use crate::gauge::Gauge;
@@ -75,9 +73,8 @@ impl<T: Terms> Hand<T> {
     // Steps each net of the cluster once, unless all are known to their end.
     fn step(&mut self) -> Result<(), AllocError>
         ensures same { IsSameButWaves self.old.cluster self.new.cluster }
-        ensures on { (worker : ℕ) → IsNetlist T.design.netlist
-            → IsClusterOf T.design T.clustering worker self.old.cluster
-            → OnOk result (GoesOn T.design T.clustering worker self.old.cluster.waves self.new.cluster.waves) }
+        ensures swept { (worker : ℕ) → IsClusterOf T.design T.clustering worker self.old.cluster
+            → OnOk result (IsSwept T.design T.clustering worker self.old.cluster.waves self.new.cluster.waves) }
     {
         self.load = 0;
         if self.cluster.complete() {
@@ -152,9 +149,9 @@ impl<T: Terms> Hand<T> {
 
     /// Whether each net that is driven here is known up to the horizon.
     pub fn complete(&self) -> bool
-        ensures { (worker net : ℕ) → IsClusterOf T.design T.clustering worker self.now.cluster
-            → IsOwnNet T.design T.clustering worker net → result ≡ true
-            → (wave_at self.now.cluster.waves net).clock ≡ T.design.horizon }
+        ensures { (worker : ℕ) → IsClusterOf T.design T.clustering worker self.now.cluster → IsTrue result ↔ ((net : ℕ)
+            → IsOwnNet T.design T.clustering worker net
+            → (wave_at self.now.cluster.waves net).clock ≡ T.design.horizon) }
     {
         self.cluster.complete()
     }

@@ -4,6 +4,6 @@
 mod collected;
 mod gauge;
 mod hand;
-mod rounds;
+pub mod rounds;
 
-pub use rounds::run_rounds;
+pub use rounds::{Run, run_rounds};

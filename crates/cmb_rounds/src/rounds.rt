@@ -1,13 +1,17 @@
 //! A run in rounds: the workers step their clusters, each in a thread of its own where that is worth it,
 //! and between two rounds each is given what is new of the nets that it reads.
 
-ghost use Rattle.std.specs.Prelude.{◌≡◌, ◌≤◌, ◌<◌, ℕ, suc, true, length, IfOk, IfErr, OnOk};
+ghost use Rattle.std.specs.Prelude.{◌≡◌, ◌≤◌, ◌<◌, ◌↔◌, ℕ, suc, min, true, length, IfOk, IfErr, IsTrue, OnOk};
 ghost use Rattle.std.specs.List.{list_any};
 ghost use Rattle.cmb_design.specs.Exact.{nets_of};
+ghost use Rattle.cmb_core.specs.Assigns.{merged_clustering};
 ghost use Rattle.cmb_core.specs.Clustering.{cluster_of, has_input};
 ghost use Rattle.cmb_core.specs.Onward.{GoesOn};
+ghost use Rattle.cmb_protocol.specs.Clocks.{Clocks, start};
+ghost use Rattle.cmb_protocol.specs.Run.{clocks_after};
 ghost use Rattle.cmb_vcd.specs.Collector.{IsComplete, IsExactFor, wave_of};
-ghost use Rattle.cmb_rounds.specs.Inner.Rounds.{AreComplete, AreHandsOf, AreKnownTo};
+ghost use Rattle.cmb_rounds.specs.RoundEvents.{AreRounds, exchange_events, round_events, step_events};
+ghost use Rattle.cmb_rounds.specs.Inner.Rounds.{AreAt, AreComplete, AreHandsOf, AreKnownTo};
 ghost use Rattle.cmb_rounds.specs.Inner.Rounds.{HasWorked, IsExchanged, IsPassedOn};
 ghost use Rattle.cmb_rounds.specs.Inner.Rounds.{IsServed, hand_at, known_at_home};
 ghost use Rattle.cmb_run.specs.RunTerms.{AreTerms};
@@ -25,6 +29,15 @@ use std::marker::Brand;
 use std::thread;
 use std::thread::Threads;
 
+/// What comes of a run in rounds.
+#[derive(Drop)]
+pub struct Run {
+    /// The waves of all nets.
+    pub collector: Collector,
+    /// How many rounds were made.
+    pub rounds: u32,
+}
+
 // A thread is started and joined in about the time of so many looks at a net. This is an estimate.
 const THREAD: usize = 1_000;
 
@@ -35,7 +48,8 @@ fn deal<T: Terms>(
     clustering: &Clustering,
 ) -> Result<Vec<Hand<T>>, AllocError>
     requires { AreTerms T.design T.clustering design.now clustering.now }
-    ensures { IfOk result (λ hands. AreHandsOf T.design T.clustering hands.items) }
+    ensures of { IfOk result (λ hands. AreHandsOf T.design T.clustering hands.items) }
+    ensures new { IfOk result (λ hands. AreAt T.design T.clustering (start T.design T.clustering) hands.items) }
 {
     // What every netlist keeps is told by the contract of its length.
     let _nets = design.netlist().len();
@@ -102,6 +116,9 @@ fn step<T: Terms + Send + Sync, R: Threads + Sync>(
     ensures on { OnOk result ((worker : ℕ) → worker < T.clustering.clusters
         → GoesOn T.design T.clustering worker (hand_at hands.old worker).cluster.waves
         (hand_at hands.new worker).cluster.waves) }
+    ensures events { (clocks : Clocks) → AreAt T.design T.clustering clocks hands.old
+        → OnOk result (AreAt T.design T.clustering
+        (clocks_after T.design T.clustering clocks (step_events T.design T.clustering clocks)) hands.new) }
 {
     let threads = threads_for(hands);
     work_all(rt, hands, threads);
@@ -161,6 +178,9 @@ fn pass_on<T: Terms>(clustering: &Clustering, hands: &mut [Hand<T>]) -> Result<(
     ensures exchanged { OnOk result (IsExchanged T.design T.clustering hands.new) }
     ensures homes { OnOk result ((net : ℕ)
         → known_at_home T.clustering hands.new net ≡ known_at_home T.clustering hands.old net) }
+    ensures events { (clocks : Clocks) → AreAt T.design T.clustering clocks hands.old
+        → OnOk result (AreAt T.design T.clustering
+        (clocks_after T.design T.clustering clocks (exchange_events T.design T.clustering clocks)) hands.new) }
 {
     for reader in 0..hands.len() {
         pass_to(clustering, hands, reader)?;
@@ -179,6 +199,9 @@ fn round<T: Terms + Send + Sync, R: Threads + Sync>(
     ensures kept { OnOk result (AreHandsOf T.design T.clustering hands.new) }
     ensures further { (tick : ℕ) → AreKnownTo T.design T.clustering tick hands.old → suc tick ≤ T.design.horizon
         → OnOk result (AreKnownTo T.design T.clustering (suc tick) hands.new) }
+    ensures events { (clocks : Clocks) → AreAt T.design T.clustering clocks hands.old
+        → OnOk result (AreAt T.design T.clustering
+        (clocks_after T.design T.clustering clocks (round_events T.design T.clustering clocks)) hands.new) }
 {
     step(rt, hands)?;
     pass_on(clustering, hands)
@@ -187,7 +210,7 @@ fn round<T: Terms + Send + Sync, R: Threads + Sync>(
 // Whether each net is known up to the horizon where it is driven.
 fn all_complete<T: Terms>(hands: &[Hand<T>]) -> bool
     requires { AreHandsOf T.design T.clustering hands.now }
-    ensures { result ≡ true → AreComplete T.design T.clustering hands.now }
+    ensures { IsTrue result ↔ AreComplete T.design T.clustering hands.now }
 {
     for hand in hands {
         if !hand.complete() {
@@ -197,26 +220,28 @@ fn all_complete<T: Terms>(hands: &[Hand<T>]) -> bool
     true
 }
 
-// Rounds by new workers until all is known. There are no more of them than ticks.
+// Rounds by new workers until all is known, and how many. There are no more of them than ticks.
 fn all_rounds<T: Terms + Send + Sync, R: Threads + Sync>(
     rt: &R,
     design: &Design,
     clustering: &Clustering,
     hands: &mut [Hand<T>],
-) -> Result<(), AllocError>
+) -> Result<u32, AllocError>
     requires design { design.now ≡ T.design }
     requires clustering { clustering.now ≡ T.clustering }
     requires hands { AreHandsOf T.design T.clustering hands.old }
+    requires new { AreAt T.design T.clustering (start T.design T.clustering) hands.old }
     ensures kept { OnOk result (AreHandsOf T.design T.clustering hands.new) }
     ensures complete { OnOk result (AreComplete T.design T.clustering hands.new) }
+    ensures rounds { IfOk result (λ rounds. AreRounds T.design T.clustering rounds) }
 {
-    for _tick in 0..design.horizon() {
+    for tick in 0..design.horizon() {
         round(rt, clustering, hands)?;
         if all_complete(hands) {
-            return Ok(());
+            return Ok(tick + 1);
         }
     }
-    Ok(())
+    Ok(design.horizon())
 }
 
 // Gives the waves of all clusters to what is collected.
@@ -236,16 +261,20 @@ fn run_named<T: Terms + Send + Sync, R: Threads + Sync>(
     alloc: Global,
     design: &Design,
     clustering: &Clustering,
-) -> Result<Collector, AllocError>
+) -> Result<Run, AllocError>
     requires { AreTerms T.design T.clustering design.now clustering.now }
-    ensures exact { IfOk result (λ collector. IsExactFor design.now collector) }
-    ensures complete { IfOk result (λ collector. IsComplete collector) }
+    ensures exact { IfOk result (λ run. IsExactFor design.now run.collector) }
+    ensures complete { IfOk result (λ run. IsComplete run.collector) }
+    ensures rounds { IfOk result (λ run. AreRounds design.now clustering.now run.rounds) }
 {
     let mut hands = deal::<T>(alloc, design, clustering)?;
-    all_rounds(rt, design, clustering, &mut hands)?;
+    let rounds = all_rounds(rt, design, clustering, &mut hands)?;
     let mut collected = Collected::open(alloc, design)?;
     hand_over_all(hands, &mut collected);
-    Ok(collected.into_collector())
+    Ok(Run {
+        collector: collected.into_collector(),
+        rounds,
+    })
 }
 
 /// Simulates a design in rounds and collects the waves of all its nets, up to the horizon. The nets
@@ -254,8 +283,8 @@ fn run_named<T: Terms + Send + Sync, R: Threads + Sync>(
 /// every net is stepped once; then each worker is given what is new of the nets that it reads. Where there are
 /// several workers, and a round has enough to do that threads are worth their start, each steps its nets in a thread
 /// of its own, one of them in the calling thread, and all are joined before pieces are passed on; else, and where a
-/// thread is refused, they step one after the other. What comes out is the same for any clustering and any number of
-/// workers. There are no more rounds than ticks below the horizon: each brings every clock on by a tick at least. So
+/// thread is refused, they step one after the other. What is collected is the same for any clustering and any number
+/// of workers. There are no more rounds than ticks below the horizon: each brings every clock on by a tick at least. So
 /// the call ends, and without the bound `Wait`. The only refusal is 70, where memory was refused.
 pub fn run_rounds<R: Threads + Sync>(
     rt: &R,
@@ -263,14 +292,16 @@ pub fn run_rounds<R: Threads + Sync>(
     design: &Design,
     clustering: &Clustering,
     workers: Workers,
-) -> Result<Collector, RunFault>
+) -> Result<Run, RunFault>
     requires { length clustering.now.assign ≡ nets_of design.now }
-    ensures exact { IfOk result (λ collector. IsExactFor design.now collector) }
-    ensures complete { IfOk result (λ collector. IsComplete collector) }
+    ensures exact { IfOk result (λ run. IsExactFor design.now run.collector) }
+    ensures complete { IfOk result (λ run. IsComplete run.collector) }
+    ensures rounds { IfOk result (λ run.
+        AreRounds design.now (merged_clustering clustering.now (min workers clustering.now.clusters)) run.rounds) }
     ensures fault { IfErr result (λ fault. fault ≡ Memory) }
 {
     let workers = workers.at_most(clustering.clusters());
     let merged = clustering.merged(alloc, workers.count())?;
-    let collector = run_named::<Brand, R>(rt, alloc, design, &merged)?;
-    Ok(collector)
+    let run = run_named::<Brand, R>(rt, alloc, design, &merged)?;
+    Ok(run)
 }

@@ -84,7 +84,7 @@ fn rounds_text<R: AllocGlobal + Threads + Sync>(
     let alloc = rt.alloc();
     let clustering = spread(alloc, design, clusters)?;
     match run_rounds(rt, alloc, design, &clustering, workers_of(workers)) {
-        Ok(collector) => vcd_text(alloc, design, &collector),
+        Ok(run) => vcd_text(alloc, design, &run.collector),
         Err(_) => Err(AllocError),
     }
 }

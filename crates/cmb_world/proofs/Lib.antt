@@ -1,8 +1,5 @@
-pub mod Commute
-pub mod Machine
 pub mod NewWorlds
 pub mod Plays
-pub mod Progress
 pub mod RoundFacts
 pub mod Runs
 pub mod Turns

@@ -14,9 +14,9 @@ use Rattle.cmb_wave.specs.Wave.{Wave, Piece, wave_with_piece, wave_up_to}
 use Rattle.cmb_wave.specs.Calls.{joined, hears, heard_wave}
 use Rattle.cmb_design.specs.Design.{Design}
 use Rattle.cmb_design.specs.Exact.{nets_of}
-use Rattle.cmb_world.specs.declared.event.Event.TheVariants.{Step, Deliver, Look}
-use Rattle.cmb_world.specs.declared.event.Reply.TheVariants.{Stepped, Delivered, Looked}
-use Rattle.cmb_world.specs.declared.event.PlayFault.TheVariants.{Stranger as PlayStranger, Gap as PlayGap, Old as PlayOld}
+use Rattle.cmb_protocol.specs.declared.event.Event.TheVariants.{Step, Deliver, Look}
+use Rattle.cmb_protocol.specs.declared.event.Reply.TheVariants.{Stepped, Delivered, Looked}
+use Rattle.cmb_protocol.specs.declared.event.PlayFault.TheVariants.{Stranger as PlayStranger, Gap as PlayGap, Old as PlayOld}
 use Rattle.cmb_core.specs.declared.delivery.DeliverFault.{DeliverFault}
 use Rattle.cmb_core.specs.declared.delivery.DeliverFault.TheVariants.{Stranger, Gap, Old, Clash, Memory}
 use Rattle.cmb_core.specs.declared.delivery.Stranger.{Stranger as NoWave}
@@ -31,7 +31,7 @@ use Rattle.cmb_core.proofs.Steps.{wave_at-net}
 use Rattle.cmb_core.proofs.NetByNet.{still_of}
 use Rattle.cmb_core.proofs.Homes.{input_home}
 use Rattle.cmb_core.proofs.OwnFacts.{own_driven}
-use Rattle.cmb_world.specs.Faults.{fault_of_event}
+use Rattle.cmb_world.specs.Inner.Faults.{fault_of_event}
 
 -- ---- waves of clusters
 

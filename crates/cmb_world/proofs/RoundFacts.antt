@@ -4,17 +4,17 @@ use Rattle.std.proofs.lemmas.List.{length-map}
 use Rattle.cmb_netlist.specs.Netlist.{IsNetlist}
 use Rattle.cmb_design.specs.Design.{Design}
 use Rattle.cmb_design.specs.Exact.{nets_of}
-use Rattle.cmb_world.specs.declared.event.Event.{Event}
-use Rattle.cmb_world.specs.declared.event.Event.TheVariants.{Post, Deliver}
+use Rattle.cmb_protocol.specs.declared.event.Event.{Event}
+use Rattle.cmb_protocol.specs.declared.event.Event.TheVariants.{Post, Deliver}
 use Rattle.cmb_core.specs.Clustering.{Clustering, IsClustering, has_input}
-use Rattle.cmb_world.specs.Clocks.{Clocks, out_clock, in_clock, start, piece_of}
-use Rattle.cmb_world.specs.Run.{clocks_after, for_each, pass_on, round, rounds, AtLeast, IsQuiet}
+use Rattle.cmb_protocol.specs.Clocks.{Clocks, out_clock, in_clock, start, piece_of}
+use Rattle.cmb_protocol.specs.Run.{clocks_after, for_each, pass_on, round, rounds, AtLeast, IsQuiet}
 use Rattle.cmb_world.specs.World.{WorldWaves, in_wave, out_wave, world_after}
 use Rattle.cmb_world.specs.Play.{IsReached}
 use Rattle.cmb_world.specs.Rounds.{events_each, step_event, pass_on_events, step_events, net_events, passing_events, round_events, world_rounds, IsKnownTo, IsQuietWorld, IsCompleteWorld}
 use Rattle.cmb_core.proofs.Homes.{input_there}
-use Rattle.cmb_world.proofs.Machine.{clocks_after-append}
-use Rattle.cmb_world.proofs.Progress.{quiet-complete, rounds-at_least}
+use Rattle.cmb_protocol.proofs.Machine.{clocks_after-append}
+use Rattle.cmb_protocol.proofs.Progress.{quiet-complete, rounds-at_least}
 use Rattle.cmb_world.proofs.Runs.{Together, together_after, together_reached}
 use Rattle.cmb_world.proofs.Worlds.{reach-same}
 

@@ -4,17 +4,17 @@ use Rattle.std.proofs.lemmas.List.{take_more}
 use Rattle.cmb_netlist.specs.Netlist.{IsNetlist}
 use Rattle.cmb_design.specs.Design.{Design}
 use Rattle.cmb_design.specs.Exact.{nets_of}
-use Rattle.cmb_world.specs.declared.event.Event.{Event}
-use Rattle.cmb_world.specs.declared.event.Event.TheVariants.{Step}
-use Rattle.cmb_world.specs.declared.event.Reply.{Reply}
-use Rattle.cmb_world.specs.declared.event.PlayFault.{PlayFault}
-use Rattle.cmb_world.specs.declared.event.PlayFault.TheVariants.{NoSuch, Beyond, Stranger, Gap, Old, Clash, Memory}
+use Rattle.cmb_protocol.specs.declared.event.Event.{Event}
+use Rattle.cmb_protocol.specs.declared.event.Event.TheVariants.{Step}
+use Rattle.cmb_protocol.specs.declared.event.Reply.{Reply}
+use Rattle.cmb_protocol.specs.declared.event.PlayFault.{PlayFault}
+use Rattle.cmb_protocol.specs.declared.event.PlayFault.TheVariants.{NoSuch, Beyond, Stranger, Gap, Old, Clash, Memory}
 use Rattle.cmb_core.specs.Clustering.{Clustering, IsClustering}
-use Rattle.cmb_world.specs.Clocks.{Clocks, start, play}
-use Rattle.cmb_world.specs.Run.{clocks_after, replies_to}
+use Rattle.cmb_protocol.specs.Clocks.{Clocks, start, play}
+use Rattle.cmb_protocol.specs.Run.{clocks_after, replies_to}
 use Rattle.cmb_world.specs.World.{WorldWaves, Played, Shows, play_world, new_world, world_after, world_replies}
 use Rattle.cmb_world.specs.Play.{Plays, IsReached}
-use Rattle.cmb_world.proofs.Machine.{IsSound, play-goes, start-sound}
+use Rattle.cmb_protocol.proofs.Machine.{IsSound, play-goes, start-sound}
 use Rattle.cmb_world.proofs.Worlds.{HasWaves, Follows, play-follows, run-follows, new_world-has, new_world-shows}
 
 -- an event that wanted no memory

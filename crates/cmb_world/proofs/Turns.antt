@@ -1,7 +1,7 @@
 -- Turns of a loop over a world, each of which plays some events.
 use Rattle.std.proofs.Common.{◌≡◌, ℕ, zero, suc, ◌+◌, ◌-◌, ◌<◌, List, [], ◌∷◌, ◌++◌, refl, sym, ◌∙◌, ap, arith, append_assoc, append-nil}
 use Rattle.cmb_design.specs.Design.{Design}
-use Rattle.cmb_world.specs.declared.event.Event.{Event}
+use Rattle.cmb_protocol.specs.declared.event.Event.{Event}
 use Rattle.cmb_core.specs.Clustering.{Clustering}
 use Rattle.cmb_world.specs.World.{WorldWaves, play_world, world_after}
 use Rattle.cmb_world.specs.Rounds.{events_each, IsBegun}

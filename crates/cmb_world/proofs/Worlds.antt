@@ -13,24 +13,21 @@ use Rattle.cmb_wave.specs.Wave.{Piece, Wave, IsExactPiece, new_wave, wave_with_p
 use Rattle.cmb_wave.proofs.Waves.{with_piece-exact, added-alternates, up_to-exact, cut-exact}
 use Rattle.cmb_design.specs.Design.{Design}
 use Rattle.cmb_design.specs.Exact.{nets_of, IsExactIn, IsExactWaveIn}
-use Rattle.cmb_world.specs.declared.event.Reply.{Reply}
-use Rattle.cmb_world.specs.declared.event.PlayFault.{PlayFault}
+use Rattle.cmb_protocol.specs.declared.event.Reply.{Reply}
+use Rattle.cmb_protocol.specs.declared.event.PlayFault.{PlayFault}
 use Rattle.cmb_core.specs.Clustering.{Clustering, IsClustering, cluster_of, has_input}
 use Rattle.cmb_design.specs.Value.{value, count}
-use Rattle.cmb_world.specs.declared.event.Event.{Event}
-use Rattle.cmb_world.specs.declared.event.Event.TheVariants.{Step, Post, Deliver, Promise as Promises, Look}
-use Rattle.cmb_world.specs.declared.event.Reply.TheVariants.{Stepped, Posted, Delivered, Promised, Looked}
-use Rattle.cmb_world.specs.declared.event.PlayFault.TheVariants.{Gap, Old}
-use Rattle.cmb_world.specs.Clocks.{Span, Bound, Clocks, Outcome, out_clock, in_clock, seen_clock, machine_reach, replied, start, stepped, posted, machine_delivered, machine_promised, looked, play, with_out, with_in, piece_of, promise_of}
+use Rattle.cmb_protocol.specs.declared.event.Event.{Event}
+use Rattle.cmb_protocol.specs.declared.event.Event.TheVariants.{Step, Post, Deliver, Promise as Promises, Look}
+use Rattle.cmb_protocol.specs.declared.event.Reply.TheVariants.{Stepped, Posted, Delivered, Promised, Looked}
+use Rattle.cmb_protocol.specs.declared.event.PlayFault.TheVariants.{Gap, Old}
+use Rattle.cmb_protocol.specs.Clocks.{Span, Bound, Clocks, Outcome, out_clock, in_clock, seen_clock, machine_reach, replied, start, stepped, posted, machine_delivered, machine_promised, looked, play, with_out, with_in, piece_of, promise_of}
 use Rattle.cmb_core.specs.Step.{wave_at, told_upto, told_from, step_reach, step_piece, with_wave}
 use Rattle.cmb_world.specs.World.{WorldWaves, Played, waves_of, world_with_wave, out_wave, in_wave, answered, step_in, post_in, deliver_in, taken_in, promise_in, look_in, play_world, world_after, world_replies, new_waves, new_clusters, new_world, Shows}
-use Rattle.cmb_netlist.specs.declared.netlist.Driver.{Driver}
-use Rattle.cmb_netlist.specs.declared.netlist.Driver.TheVariants.{Input, Gate, Flop}
 use Rattle.cmb_netlist.specs.Netlist.{driver_of, pins_of, IsNetlist}
-use Rattle.cmb_world.specs.Run.{clocks_after, replies_to}
-use Rattle.cmb_core.specs.Reach.{pins_reach, driver_reach}
-use Rattle.cmb_world.proofs.Machine.{zeros, rows_of_zeros, start-sound, play-goes, IsSound, IsPosted, IsPromised, in-cases}
-use Rattle.cmb_world.proofs.Progress.{in-set}
+use Rattle.cmb_protocol.specs.Run.{clocks_after, replies_to}
+use Rattle.cmb_protocol.proofs.Machine.{driver_reach-agree, zeros, rows_of_zeros, start-sound, play-goes, IsSound, IsPosted, IsPromised, in-cases}
+use Rattle.cmb_protocol.proofs.Progress.{in-set}
 use Rattle.cmb_core.proofs.Steps.{wave_at-net, wave_at-exact, IsKept-at_zero, step_piece-is_exact}
 use Rattle.cmb_core.proofs.Everywhere.{all_weaker, all_at}
 use Rattle.cmb_core.proofs.NetReads.{IsPin, pins-are, cluster-there, has_input-from, has_input-not_own}
@@ -144,19 +141,6 @@ module _ (design : Design) (clustering : Clustering) (world : WorldWaves) (has :
           same : ((at ≡ cluster) × (net ≡ wave.net) × (in_clock (with_in clocks cluster wave.net wave.clock) at net ≡ wave.clock)) ⊎ (in_clock (with_in clocks cluster wave.net wave.clock) at net ≡ in_clock clocks at net) → in_clock (with_in clocks cluster wave.net wave.clock) at net ≡ in_clock clocks at net
           same (inl (e, f, h)) = absurd (elsewhere e f)
           same (inr h) = h
-
--- ---- the reach over the waves is that over the clocks
-
-pins_reach-agree : (design : Design) (f g : ℕ → ℕ) (net most pin : ℕ) (operands : List ℕ) → AllByRecursion (λ m. f m ≡ g m) operands → pins_reach design f net most pin operands ≡ pins_reach design g net most pin operands
-pins_reach-agree design f g net most pin [] all = refl
-pins_reach-agree design f g net most pin (operand ∷ operands) all =
-    let here : f operand ≡ g operand = all.0 in
-    rw (here, pins_reach-agree design f g net most (suc pin) operands all.1)
-
-driver_reach-agree : (design : Design) (f g : ℕ → ℕ) (net : ℕ) (driver : Driver) → AllByRecursion (λ m. f m ≡ g m) (pins_of driver) → driver_reach design f net driver ≡ driver_reach design g net driver
-driver_reach-agree design f g net Input all = refl
-driver_reach-agree design f g net (Gate kind operands) all = pins_reach-agree design f g net design.horizon 1 operands all
-driver_reach-agree design f g net (Flop source) all = let here : f source ≡ g source = all.0 in rw here
 
 -- ---- an event on the world, beside the same event on the clocks
 

@@ -1,6 +1,6 @@
-pub mod Clocks
-pub mod Faults
+-- what the public contracts rest on
 pub mod Play
 pub mod Rounds
-pub mod Run
 pub mod World
+-- what the functions inside the crate promise each other
+pub mod Inner

@@ -5,11 +5,11 @@ use Rattle.cmb_wave.specs.Wave.{Piece, Wave}
 use Rattle.cmb_netlist.specs.Netlist.{IsNetlist}
 use Rattle.cmb_design.specs.Design.{Design}
 use Rattle.cmb_design.specs.Exact.{nets_of}
-use Rattle.cmb_world.specs.declared.event.Event.{Event}
-use Rattle.cmb_world.specs.declared.event.Reply.{Reply}
-use Rattle.cmb_world.specs.declared.event.Reply.TheVariants.{Stepped, Posted, Delivered, Promised, Looked}
-use Rattle.cmb_world.specs.declared.event.PlayFault.{PlayFault}
-use Rattle.cmb_world.specs.declared.event.PlayFault.TheVariants.{Memory}
+use Rattle.cmb_protocol.specs.declared.event.Event.{Event}
+use Rattle.cmb_protocol.specs.declared.event.Reply.{Reply}
+use Rattle.cmb_protocol.specs.declared.event.Reply.TheVariants.{Stepped, Posted, Delivered, Promised, Looked}
+use Rattle.cmb_protocol.specs.declared.event.PlayFault.{PlayFault}
+use Rattle.cmb_protocol.specs.declared.event.PlayFault.TheVariants.{Memory}
 use Rattle.cmb_core.specs.Clustering.{Clustering, IsClustering, has_input}
 use Rattle.cmb_core.specs.Clusters.{Cluster, IsSameButWaves}
 use Rattle.cmb_core.specs.Opened.{IsClusterOf}

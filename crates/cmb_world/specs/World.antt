@@ -7,14 +7,14 @@ use Rattle.cmb_wave.specs.Waveform.{last_level, at_or_after, clash}
 use Rattle.cmb_wave.specs.Wave.{Piece, Wave, new_wave, wave_with_piece, wave_up_to, cut_of}
 use Rattle.cmb_design.specs.Design.{Design}
 use Rattle.cmb_design.specs.Exact.{nets_of, IsExactWaveIn}
-use Rattle.cmb_world.specs.declared.event.Event.{Event}
-use Rattle.cmb_world.specs.declared.event.Event.TheVariants.{Step, Post, Deliver, Promise as Promises, Look}
-use Rattle.cmb_world.specs.declared.event.Reply.{Reply}
-use Rattle.cmb_world.specs.declared.event.Reply.TheVariants.{Stepped, Posted, Delivered, Promised, Looked}
-use Rattle.cmb_world.specs.declared.event.PlayFault.{PlayFault}
-use Rattle.cmb_world.specs.declared.event.PlayFault.TheVariants.{NoSuch, Beyond, Stranger, Gap, Old, Clash}
+use Rattle.cmb_protocol.specs.declared.event.Event.{Event}
+use Rattle.cmb_protocol.specs.declared.event.Event.TheVariants.{Step, Post, Deliver, Promise as Promises, Look}
+use Rattle.cmb_protocol.specs.declared.event.Reply.{Reply}
+use Rattle.cmb_protocol.specs.declared.event.Reply.TheVariants.{Stepped, Posted, Delivered, Promised, Looked}
+use Rattle.cmb_protocol.specs.declared.event.PlayFault.{PlayFault}
+use Rattle.cmb_protocol.specs.declared.event.PlayFault.TheVariants.{NoSuch, Beyond, Stranger, Gap, Old, Clash}
 use Rattle.cmb_core.specs.Clustering.{Clustering, cluster_of, has_input}
-use Rattle.cmb_world.specs.Clocks.{Clocks, out_clock, in_clock, piece_of, promise_of}
+use Rattle.cmb_protocol.specs.Clocks.{Clocks, out_clock, in_clock, piece_of, promise_of}
 use Rattle.cmb_core.specs.Step.{wave_at, step_reach, step_piece, with_wave}
 
 pub record WorldWaves : Type 0 where

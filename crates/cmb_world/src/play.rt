@@ -1,11 +1,12 @@
 //! The five events of a world.
 
 ghost use Rattle.std.specs.Prelude.{◌≡◌, ◌≢◌, Err, IfOk, OnErr};
-ghost use Rattle.cmb_world.specs.declared.event.PlayFault.TheVariants.{Memory};
+ghost use Rattle.cmb_protocol.specs.declared.event.PlayFault.TheVariants.{Memory};
+ghost use Rattle.cmb_world.specs.Inner.Faults.{fault_of_event};
 
-use crate::event::{Event, PlayFault, Reply, play_fault};
 use crate::world::World;
 use cmb_core::{DeliverFault, Stranger};
+use cmb_protocol::{Event, PlayFault, Reply};
 use cmb_wave::{Heard, Piece, Promise};
 use std::alloc::AllocError;
 
@@ -22,21 +23,35 @@ pub(crate) fn listed(
     }
 }
 
+// A cluster's fault as that of an event.
+pub(crate) fn play_fault(fault: DeliverFault) -> PlayFault
+    ensures { result ≡ fault_of_event fault }
+{
+    match fault {
+        DeliverFault::Stranger => PlayFault::Stranger,
+        DeliverFault::Gap { clock } => PlayFault::Gap { clock },
+        DeliverFault::Old { clock } => PlayFault::Old { clock },
+        DeliverFault::Clash { tick } => PlayFault::Clash { tick },
+        DeliverFault::Memory => PlayFault::Memory,
+    }
+}
+
 impl World {
     ghost use Rattle.std.specs.Prelude.{◌≡◌, ◌<◌, ◌≤◌, ℕ, List, [], ◌∷◌, ◌++◌, length, take, nat_lt, Some, None, Ok};
     ghost use Rattle.std.specs.Prelude.{OnOk, OnErr, IfOk, IfErr, if◌then◌else◌};
     ghost use Rattle.cmb_wave.specs.Calls.{cut, promised, heard_wave};
     ghost use Rattle.cmb_design.specs.Design.{Design};
-    ghost use Rattle.cmb_world.specs.declared.event.Event.{Event};
-    ghost use Rattle.cmb_world.specs.declared.event.Event.TheVariants.{Step, Post, Deliver, Promise as Promises, Look};
+    ghost use Rattle.cmb_protocol.specs.declared.event.Event.{Event};
+    ghost use Rattle.cmb_protocol.specs.declared.event.Event.TheVariants.{Step, Post, Deliver, Look};
+    ghost use Rattle.cmb_protocol.specs.declared.event.Event.TheVariants.{Promise as Promises};
     ghost use Rattle.cmb_core.specs.Clustering.{Clustering};
     ghost use Rattle.cmb_core.specs.Clusters.{step_answer, step_waves, delivered, RefusesDelivery, heard_at};
     ghost use Rattle.cmb_core.specs.Clusters.{input_slot};
     ghost use Rattle.cmb_core.specs.Opened.{IsClusterOf, IsOwnNet};
     ghost use Rattle.cmb_world.specs.Play.{IsAnswer, IsReached, IsWorldOf, IsSameBut, IsSameSize, Plays, cluster_at};
     ghost use Rattle.cmb_world.specs.Play.{home_wave, post_at, shown};
-    ghost use Rattle.cmb_world.specs.Clocks.{start, play as play_clocks};
-    ghost use Rattle.cmb_world.specs.Run.{clocks_after, replies_to};
+    ghost use Rattle.cmb_protocol.specs.Clocks.{start, play as play_clocks};
+    ghost use Rattle.cmb_protocol.specs.Run.{clocks_after, replies_to};
     ghost use Rattle.cmb_core.specs.Step.{wave_at, with_wave};
     ghost use Rattle.cmb_world.specs.World.{Shows, play_world, world_after, world_replies};
 

@@ -1,18 +1,18 @@
 //! When a world is complete or quiet, and rounds of all its nets.
 
-use crate::event::Event;
 use crate::play::listed;
 use crate::world::World;
+use cmb_protocol::Event;
 use std::alloc::AllocError;
 
 impl World {
     ghost use Rattle.std.specs.Prelude.{◌≡◌, ◌==◌, ◌<◌, ℕ, List, ◌++◌, true, ◌&&◌, not, IsTrue, ◌↔◌, length, nat_lt};
     ghost use Rattle.std.specs.Prelude.{Some, None, OnOk, OnErr, IfOk, if◌then◌else◌};
     ghost use Rattle.cmb_design.specs.Design.{Design};
-    ghost use Rattle.cmb_world.specs.declared.event.Event.{Event};
+    ghost use Rattle.cmb_protocol.specs.declared.event.Event.{Event};
     ghost use Rattle.cmb_core.specs.Clustering.{Clustering, cluster_of, has_input};
-    ghost use Rattle.cmb_world.specs.Clocks.{start};
-    ghost use Rattle.cmb_world.specs.Run.{clocks_after, round};
+    ghost use Rattle.cmb_protocol.specs.Clocks.{start};
+    ghost use Rattle.cmb_protocol.specs.Run.{clocks_after, round};
     ghost use Rattle.cmb_world.specs.Play.{IsReached, IsSameSize, IsWorldOf, shown};
     ghost use Rattle.cmb_world.specs.Rounds.{ArePlayed, IsBegun, IsCompleteWorld, IsQuietWorld, net_events};
     ghost use Rattle.cmb_world.specs.Rounds.{pass_on_events, passing_events, round_events, step_events};

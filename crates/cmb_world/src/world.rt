@@ -5,7 +5,7 @@ ghost use Rattle.std.specs.Prelude.{IfSome, MatchOption, Some, None, ifâ—Œthenâ—
 ghost use Rattle.cmb_design.specs.Design.{Design};
 ghost use Rattle.cmb_design.specs.Exact.{nets_of};
 ghost use Rattle.cmb_netlist.specs.Netlist.{IsNetlist};
-ghost use Rattle.cmb_world.specs.declared.event.Event.{Event};
+ghost use Rattle.cmb_protocol.specs.declared.event.Event.{Event};
 ghost use Rattle.cmb_core.specs.Clustering.{Clustering, IsClustering};
 ghost use Rattle.cmb_world.specs.Play.{IsReached};
 ghost use Rattle.cmb_world.specs.Rounds.{IsKnownTo, world_rounds};

@@ -9,9 +9,10 @@
 use cmb_bench::read_bench;
 use cmb_core::Clustering;
 use cmb_design::{Design, Settings};
+use cmb_protocol::{Event, PlayFault, Reply};
 use cmb_tables::{read_clocks, read_delays, read_stimuli};
 use cmb_wave::{Heard, Level, Piece};
-use cmb_world::{Event, PlayFault, Reply, World};
+use cmb_world::World;
 use std::alloc::{AllocError, Global};
 use std::io::{Read, Write};
 use std::process::ExitCode;

@@ -23,8 +23,8 @@ fn run_text<R: Threads + Wait + Sync>(
 ) -> Result<Vec<u8>, Fail> {
     let workers = Workers::new(workers)?;
     let clustering = spread(alloc, design, clusters)?;
-    let collector = run_rounds(rt, alloc, design, &clustering, workers)?;
-    or_fail(vcd_text(alloc, design, &collector))
+    let run = run_rounds(rt, alloc, design, &clustering, workers)?;
+    or_fail(vcd_text(alloc, design, &run.collector))
 }
 
 // The text is the same by any workers, also where some have no cluster and some clusters no net.
@@ -79,6 +79,33 @@ pub const TOGGLE_TEXT: (&str, &str) = (
 #[test]
 fn toggle(rt: HostRuntime) -> Result<(), Fail> {
     writes(&rt, bare(TOGGLE), 12, TOGGLE_TEXT.0, TOGGLE_TEXT.1)
+}
+
+// How many rounds the toggle takes by so many workers, of whom the first has `q` and the last has `d`.
+fn rounds_of_toggle<R: Threads + Wait + Sync>(
+    rt: &R,
+    alloc: Global,
+    workers: u32,
+) -> Result<u32, Fail> {
+    let design = design_of(alloc, bare(TOGGLE), sampled(12))?;
+    let clustering = spread(alloc, &design, workers)?;
+    let run = run_rounds(rt, alloc, &design, &clustering, Workers::new(workers)?)?;
+    Ok(run.rounds)
+}
+
+// The clocks of `q` and `d` after each round, by hand: 3 and 4, 7 and 8, 11 and 12, then both at the end.
+#[test]
+fn rounds_of_one_worker(rt: HostRuntime) -> Result<(), Fail> {
+    same(&rt, rounds_of_toggle(&rt, rt.alloc(), 1)?, 4);
+    Ok(())
+}
+
+// Each sees of the other what it knew a round ago: 3 and 1, 3 and 4, 7 and 4, 7 and 8, 11 and 8, 11 and 12, then both
+// at the end.
+#[test]
+fn rounds_of_two_workers(rt: HostRuntime) -> Result<(), Fail> {
+    same(&rt, rounds_of_toggle(&rt, rt.alloc(), 2)?, 7);
+    Ok(())
 }
 
 #[test]

@@ -1,13 +1,16 @@
 -- The workers of a run in rounds: what each has in its hands, how far it knows its nets, and what an exchange comes to.
 use Rattle.std.specs.Prelude.{◌≡◌, ℕ, ◌<◌, ◌≤◌, Bool, false, true, List, [], length, slice_index_or}
+use Rattle.cmb_wave.specs.Wave.{Wave}
 use Rattle.cmb_netlist.specs.Netlist.{IsNetlist}
 use Rattle.cmb_design.specs.Design.{Design}
 use Rattle.cmb_design.specs.Exact.{nets_of}
 use Rattle.cmb_core.specs.Clustering.{Clustering, IsClustering, cluster_of, has_input}
 use Rattle.cmb_core.specs.Clusters.{Cluster, IsSameButWaves}
-use Rattle.cmb_core.specs.Onward.{GoesOn}
-use Rattle.cmb_core.specs.Opened.{IsClusterOf}
+use Rattle.cmb_core.specs.Opened.{IsClusterOf, own_nets}
 use Rattle.cmb_core.specs.Step.{wave_at}
+use Rattle.cmb_core.specs.Sweep.{stepped_waves}
+use Rattle.cmb_protocol.specs.Clocks.{Clocks, out_clock, in_clock}
+use Rattle.cmb_protocol.specs.Run.{IsReachable}
 
 -- a worker's cluster, and whether it met want of memory in its last round
 pub record Hand : Type 0 where
@@ -24,13 +27,20 @@ known_to hands worker net = (wave_at (hand_at hands worker).cluster.waves net).c
 abbrev pub known_at_home : Clustering → List Hand → ℕ → ℕ
 known_at_home clustering hands net = known_to hands (cluster_of clustering net) net
 
--- worker c has cluster c of the design, and none knows a net further than the one that drives it
+-- the machine of clocks came to these clocks from its start, and the workers' clocks are the same
+pub record AreAt (design : Design) (clustering : Clustering) (clocks : Clocks) (hands : List Hand) : Type 0 where
+  pub reached : IsReachable design clustering clocks
+  pub outs : (net : ℕ) → net < nets_of design → known_at_home clustering hands net ≡ out_clock clocks net
+  pub ins : (worker net : ℕ) → worker < clustering.clusters → has_input design clustering worker net ≡ true → known_to hands worker net ≡ in_clock clocks worker net
+
+-- worker c has cluster c of the design, and some list of events takes the machine of clocks to where the workers are
 pub record AreHandsOf (design : Design) (clustering : Clustering) (hands : List Hand) : Type 0 where
   pub netlist : IsNetlist design.netlist
   pub lawful : IsClustering (nets_of design) clustering
   pub count : length hands ≡ clustering.clusters
   pub each : (worker : ℕ) → worker < clustering.clusters → IsClusterOf design clustering worker (hand_at hands worker).cluster
-  pub within : (worker net : ℕ) → worker < clustering.clusters → has_input design clustering worker net ≡ true → known_to hands worker net ≤ known_at_home clustering hands net
+  pub clocks : Clocks
+  pub at : AreAt design clustering clocks hands
 
 -- after an exchange every input clock is its net's output clock
 abbrev pub IsExchanged : Design → Clustering → List Hand → Type 0
@@ -56,7 +66,12 @@ pub record IsServed (design : Design) (clustering : Clustering) (reader : ℕ) (
   pub met : (net : ℕ) → has_input design clustering reader net ≡ true → known_to new reader net ≡ known_at_home clustering new net
   pub others : (worker net : ℕ) → (worker ≡ reader → has_input design clustering reader net ≡ true → ⊥) → known_to new worker net ≡ known_to old worker net
 
--- what a worker's part of a round comes to: where it met no want of memory, what it drives is known further
+-- each clock is the one that a step of each net of the worker's cluster leaves
+abbrev pub IsSwept : Design → Clustering → ℕ → List Wave → List Wave → Type 0
+IsSwept design clustering worker old new =
+    (net : ℕ) → (wave_at new net).clock ≡ (wave_at (stepped_waves design old (own_nets design clustering worker)) net).clock
+
+-- what a worker's part of a round comes to: where it met no want of memory, each of its nets was stepped
 pub record HasWorked (design : Design) (clustering : Clustering) (old new : Hand) : Type 0 where
   pub same : IsSameButWaves old.cluster new.cluster
-  pub on : (worker : ℕ) → IsNetlist design.netlist → IsClusterOf design clustering worker old.cluster → new.refused ≡ false → GoesOn design clustering worker old.cluster.waves new.cluster.waves
+  pub swept : (worker : ℕ) → IsClusterOf design clustering worker old.cluster → new.refused ≡ false → IsSwept design clustering worker old.cluster.waves new.cluster.waves

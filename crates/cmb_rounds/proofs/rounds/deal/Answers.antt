@@ -23,5 +23,7 @@ returns g c =
     subst (λ (k : Clustering). IsClustering (nets_of g.T.Terms.design) k) c.requires.clustering_is (subst (λ (n : ℕ). IsClustering n c.args.clustering.now) (c.requires.nets ∙ ap nets_of c.requires.design_is) c.clusters-count.ensures.lawful)
     in
     let clusters : c.args.clustering.now.clusters ≡ g.T.Terms.clustering.clusters = ap (λ (k : Clustering). k.clusters) c.requires.clustering_is in
-    dealt_hands g.T.Terms.design g.T.Terms.clustering c.loop-worker.worker c.loop-worker.hands.items netlist lawful c.loop-worker.invariant
+    let dealt = dealt_hands g.T.Terms.design g.T.Terms.clustering c.loop-worker.worker c.loop-worker.hands.items netlist lawful c.loop-worker.invariant
     (omega (arith, c.loop-worker-test.false, c.loop-worker.auto.worker-end, c.clusters-count.ensures.count, clusters))
+    in
+    record { of = dealt.0; new = dealt.1 }

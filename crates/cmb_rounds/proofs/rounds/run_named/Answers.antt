@@ -19,6 +19,9 @@ returns-clause-exact g c = rw c.requires.design_is c.into_collector.ensures.exac
 
 pub hand_over_all-requires : goal.hand_over_all-requires
 hand_over_all-requires g c =
-    let done = c.in_ok-all_rounds.ensures in
+    let done = c.in_ok-rounds.ensures in
     let long : length c.all_rounds.new.hands ≡ c.in_ok-hands.hands.len = c.all_rounds.auto.hands ∙ c.deref_mut.ensures.len in
     rw (taken_back c.in_ok-hands.hands.len c.all_rounds.new.hands c.in_ok-hands.hands.items long) (record { hands = done.kept; known = done.complete })
+
+pub returns-clause-rounds : goal.returns-clause-rounds
+returns-clause-rounds g c = rw (c.requires.design_is, c.requires.clustering_is) c.in_ok-rounds.ensures.rounds

@@ -1,5 +1,5 @@
 use Rattle.std.proofs.Common.{◌≡◌, ◌&&◌, ltb, true, ◌∷◌, [], length, rules, arith, sym, ◌∙◌, ap, refl}
-use Rattle.cmb_world.specs.declared.event.Event.TheVariants.{Post, Deliver}
+use Rattle.cmb_protocol.specs.declared.event.Event.TheVariants.{Post, Deliver}
 use Rattle.cmb_core.specs.Clustering.{has_input}
 use Rattle.cmb_world.specs.Play.{shown}
 use Rattle.cmb_world.specs.Rounds.{pass_on_events}

@@ -1,7 +1,7 @@
 use Rattle.std.proofs.Common.{◌≡◌, ◌∷◌, ◌++◌, ◌+◌, [], take, arith, sym, ◌∙◌, ap, subst}
 use Rattle.std.proofs.lemmas.List.{take_all}
-use Rattle.cmb_world.specs.Clocks.{start}
-use Rattle.cmb_world.specs.Run.{clocks_after}
+use Rattle.cmb_protocol.specs.Clocks.{start}
+use Rattle.cmb_protocol.specs.Run.{clocks_after}
 use Rattle.cmb_world.specs.Play.{shown}
 use Rattle.cmb_world.specs.World.{WorldWaves, Shows}
 use Rattle.cmb_world.proofs.Runs.{turn_world, turn_replies, run_from}

@@ -1,10 +1,10 @@
 use Rattle.std.proofs.Common.{refl, sym, ◌∙◌, ap, subst}
-use Rattle.cmb_world.specs.Clocks.{Clocks, start}
-use Rattle.cmb_world.specs.Run.{clocks_after}
+use Rattle.cmb_protocol.specs.Clocks.{Clocks, start}
+use Rattle.cmb_protocol.specs.Run.{clocks_after}
 use Rattle.cmb_world.specs.Play.{shown}
 use Rattle.cmb_world.specs.Rounds.{step_events, passing_events, round_events}
 use Rattle.cmb_world.specs.World.{WorldWaves, Shows, new_world, world_after}
-use Rattle.cmb_world.proofs.Machine.{clocks_after-append}
+use Rattle.cmb_protocol.proofs.Machine.{clocks_after-append}
 use Rattle.cmb_world.proofs.RoundFacts.{round_clocks}
 use Rattle.cmb_world.proofs.Runs.{together_after, together_reached}
 use Rattle.cmb_world.proofs.Turns.{after_both, begun_second}

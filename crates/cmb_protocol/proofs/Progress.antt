@@ -5,12 +5,12 @@ use Rattle.std.proofs.lemmas.Bool.{lt-ltb, le-ltb, lt-leb, ltb-true, ltb-false, 
 use Rattle.cmb_netlist.specs.Netlist.{driver_of, IsNetlist}
 use Rattle.cmb_design.specs.Design.{Design}
 use Rattle.cmb_design.specs.Exact.{nets_of}
-use Rattle.cmb_world.specs.declared.event.Event.TheVariants.{Step, Post, Deliver}
-use Rattle.cmb_world.specs.declared.event.Reply.TheVariants.{Posted, Delivered}
+use Rattle.cmb_protocol.specs.declared.event.Event.TheVariants.{Step, Post, Deliver}
+use Rattle.cmb_protocol.specs.declared.event.Reply.TheVariants.{Posted, Delivered}
 use Rattle.cmb_core.specs.Clustering.{Clustering, IsClustering, cluster_of, has_input}
-use Rattle.cmb_world.specs.Clocks.{Span, Clocks, Outcome, replied, out_clock, in_clock, seen_clock, machine_reach, with_in, play}
-use Rattle.cmb_world.specs.Run.{clocks_after, IsReachable, IsComplete, IsQuiet, for_each, pass_on, step_each, pass_on_each, round, rounds, NotBelow, AtLeast}
-use Rattle.cmb_world.proofs.Machine.{IsSound, NotBelow-same, NotBelow-trans, Goes, play-goes, clocks_after-goes, reachable-sound}
+use Rattle.cmb_protocol.specs.Clocks.{Span, Clocks, Outcome, replied, out_clock, in_clock, seen_clock, machine_reach, with_in, play}
+use Rattle.cmb_protocol.specs.Run.{clocks_after, IsReachable, IsComplete, IsQuiet, for_each, pass_on, step_each, pass_on_each, round, rounds, NotBelow, AtLeast}
+use Rattle.cmb_protocol.proofs.Machine.{IsSound, NotBelow-same, NotBelow-trans, Goes, play-goes, clocks_after-goes, reachable-sound}
 use Rattle.cmb_core.proofs.Everywhere.{all_weaker}
 use Rattle.cmb_core.proofs.NetReads.{IsPin, cluster-there, has_input-from, pins-are}
 use Rattle.cmb_core.proofs.ReachFacts.{driver_reach-at_least}
@@ -101,16 +101,19 @@ module _ (design : Design) (clustering : Clustering) (clocks : Clocks) (sound : 
       ap (λ r. get_or r net 0) (get_or-set_same clocks.ins cluster (set (get_or clocks.ins cluster []) net tick) [] row) ∙ get_or-set_same (get_or clocks.ins cluster []) net tick 0 column
 
   -- the two events of a passing on
-  abbrev passed : ℕ → ℕ → Clocks
+  abbrev pub passed : ℕ → ℕ → Clocks
   passed net cluster = clocks_after design clustering clocks (Post net (in_clock clocks cluster net) ∷ Deliver cluster (length clocks.posts) ∷ [])
 
-  passed-in : (net cluster : ℕ) → net < nets_of design → cluster < clustering.clusters → has_input design clustering cluster net ≡ true → in_clock clocks cluster net < out_clock clocks net → in_clock (passed net cluster) cluster net ≡ out_clock clocks net
-  passed-in net cluster there c reads below =
+  pub passing : (net cluster : ℕ) → net < nets_of design → cluster < clustering.clusters → has_input design clustering cluster net ≡ true → in_clock clocks cluster net < out_clock clocks net → passed net cluster ≡ with_in (record clocks { posts = clocks.posts ++ record { net = net; from = in_clock clocks cluster net; to = out_clock clocks net } ∷ [] }) cluster net (out_clock clocks net)
+  passing net cluster there c reads below =
       let span : Span = record { net = net; from = in_clock clocks cluster net; to = out_clock clocks net } in
       let now : Clocks = record clocks { posts = clocks.posts ++ span ∷ [] } in
       let first : (play design clustering clocks (Post net (in_clock clocks cluster net))).clocks ≡ now = ap (λ (o : Outcome). o.clocks) (play-post design clustering clocks net (in_clock clocks cluster net) there below) in
       let second : (play design clustering now (Deliver cluster (length clocks.posts))).clocks ≡ with_in now cluster net (out_clock clocks net) = ap (λ (o : Outcome). o.clocks) (play-deliver design clustering now cluster (length clocks.posts) span c (get_or_after clocks.posts span) reads (omega arith) below) in
-      ap (λ (s : Clocks). in_clock (play design clustering s (Deliver cluster (length clocks.posts))).clocks cluster net) first ∙ ap (λ (s : Clocks). in_clock s cluster net) second ∙ in-set cluster net (out_clock clocks net) there c
+      ap (λ (s : Clocks). (play design clustering s (Deliver cluster (length clocks.posts))).clocks) first ∙ second
+
+  passed-in : (net cluster : ℕ) → net < nets_of design → cluster < clustering.clusters → has_input design clustering cluster net ≡ true → in_clock clocks cluster net < out_clock clocks net → in_clock (passed net cluster) cluster net ≡ out_clock clocks net
+  passed-in net cluster there c reads below = ap (λ (s : Clocks). in_clock s cluster net) (passing net cluster there c reads below) ∙ in-set cluster net (out_clock clocks net) there c
 
   pub pass_on-goes : (net cluster : ℕ) → Goes design clustering clocks (pass_on design clustering net cluster clocks)
   pass_on-goes net cluster =

@@ -5,12 +5,12 @@ use Rattle.std.proofs.lemmas.List.{set_comm, set-get_or}
 use Rattle.std.proofs.lemmas.Bool.{eqb-true}
 use Rattle.cmb_design.specs.Design.{Design}
 use Rattle.cmb_design.specs.Exact.{nets_of}
-use Rattle.cmb_world.specs.declared.event.Event.TheVariants.{Step}
-use Rattle.cmb_world.specs.declared.event.Reply.{Reply}
-use Rattle.cmb_world.specs.declared.event.PlayFault.{PlayFault}
+use Rattle.cmb_protocol.specs.declared.event.Event.TheVariants.{Step}
+use Rattle.cmb_protocol.specs.declared.event.Reply.{Reply}
+use Rattle.cmb_protocol.specs.declared.event.PlayFault.{PlayFault}
 use Rattle.cmb_core.specs.Clustering.{Clustering, cluster_of}
 use Rattle.cmb_core.specs.Reach.{reach_by}
-use Rattle.cmb_world.specs.Clocks.{Clocks, Outcome, out_clock, in_clock, seen_clock, machine_reach, with_out, play}
+use Rattle.cmb_protocol.specs.Clocks.{Clocks, Outcome, out_clock, in_clock, seen_clock, machine_reach, with_out, play}
 
 -- the output clock after a step
 abbrev step_target : Design → Clustering → Clocks → ℕ → ℕ

@@ -1,5 +1,5 @@
-use Rattle.cmb_world.proofs.Machine.{reachable-within, reachable-sound, play-goes}
-use Rattle.cmb_world.proofs.laws.clocks_rise.Goals as goal
+use Rattle.cmb_protocol.proofs.Machine.{reachable-within, reachable-sound, play-goes}
+use Rattle.cmb_protocol.proofs.laws.clocks_rise.Goals as goal
 
 pub returns : goal.returns
 returns c = record {

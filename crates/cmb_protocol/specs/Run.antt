@@ -2,12 +2,12 @@
 use Rattle.std.specs.Prelude.{◌≡◌, ℕ, zero, suc, ◌<◌, ◌≤◌, true, ◌&&◌, nat_lt, List, [], ◌∷◌, length, Result, if◌then◌else◌}
 use Rattle.cmb_design.specs.Design.{Design}
 use Rattle.cmb_design.specs.Exact.{nets_of}
-use Rattle.cmb_world.specs.declared.event.Event.{Event}
-use Rattle.cmb_world.specs.declared.event.Event.TheVariants.{Step, Post, Deliver}
-use Rattle.cmb_world.specs.declared.event.Reply.{Reply}
-use Rattle.cmb_world.specs.declared.event.PlayFault.{PlayFault}
+use Rattle.cmb_protocol.specs.declared.event.Event.{Event}
+use Rattle.cmb_protocol.specs.declared.event.Event.TheVariants.{Step, Post, Deliver}
+use Rattle.cmb_protocol.specs.declared.event.Reply.{Reply}
+use Rattle.cmb_protocol.specs.declared.event.PlayFault.{PlayFault}
 use Rattle.cmb_core.specs.Clustering.{Clustering, has_input}
-use Rattle.cmb_world.specs.Clocks.{Clocks, out_clock, in_clock, machine_reach, start, play}
+use Rattle.cmb_protocol.specs.Clocks.{Clocks, out_clock, in_clock, machine_reach, start, play}
 
 -- the clocks after a list of events
 abbrev pub clocks_after : Design → Clustering → Clocks → List Event → Clocks

@@ -1,9 +1,8 @@
-//! What can happen in a world, and what it answers.
+//! The events of the protocol, and what each answers.
 
 ghost use Rattle.std.specs.Prelude.{◌≡◌};
-ghost use Rattle.cmb_world.specs.Faults.{fault_of_event, number_of_play_fault};
+ghost use Rattle.cmb_protocol.specs.Faults.{number_of_play_fault};
 
-use cmb_core::DeliverFault;
 use cmb_wave::{Heard, Piece, Promise};
 use thiserror::Error;
 
@@ -78,18 +77,5 @@ impl PlayFault {
             PlayFault::Clash { .. } => 47,
             PlayFault::Memory => 70,
         }
-    }
-}
-
-// A cluster's fault as that of an event.
-pub(crate) fn play_fault(fault: DeliverFault) -> PlayFault
-    ensures { result ≡ fault_of_event fault }
-{
-    match fault {
-        DeliverFault::Stranger => PlayFault::Stranger,
-        DeliverFault::Gap { clock } => PlayFault::Gap { clock },
-        DeliverFault::Old { clock } => PlayFault::Old { clock },
-        DeliverFault::Clash { tick } => PlayFault::Clash { tick },
-        DeliverFault::Memory => PlayFault::Memory,
     }
 }

@@ -1,5 +1,5 @@
-use Rattle.cmb_world.proofs.Machine.{reachable-sound, posts-exact, promises-right}
-use Rattle.cmb_world.proofs.laws.sent_is_exact.Goals as goal
+use Rattle.cmb_protocol.proofs.Machine.{reachable-sound, posts-exact, promises-right}
+use Rattle.cmb_protocol.proofs.laws.sent_is_exact.Goals as goal
 
 pub returns : goal.returns
 returns c = record {

@@ -4,14 +4,17 @@ use Rattle.std.specs.Prelude.{slice_get}
 use Rattle.std.specs.List.{AllByRecursion}
 use Rattle.std.proofs.lemmas.List.{set_past, length-replicate}
 use Rattle.std.proofs.lemmas.Bool.{ltb-true, ltb-false, leb-false, eqb-false, cases_eq, cases_lt, cond_both}
-use Rattle.cmb_netlist.specs.Netlist.{driver_of}
+use Rattle.cmb_netlist.specs.declared.netlist.Driver.{Driver}
+use Rattle.cmb_netlist.specs.declared.netlist.Driver.TheVariants.{Input, Gate, Flop}
+use Rattle.cmb_netlist.specs.Netlist.{driver_of, pins_of}
 use Rattle.cmb_design.specs.Design.{Design}
 use Rattle.cmb_design.specs.Exact.{nets_of, IsExactIn, IsRightIn}
-use Rattle.cmb_world.specs.declared.event.Event.{Event}
-use Rattle.cmb_world.specs.declared.event.Event.TheVariants.{Step, Post, Deliver, Promise as Promises, Look}
+use Rattle.cmb_protocol.specs.declared.event.Event.{Event}
+use Rattle.cmb_protocol.specs.declared.event.Event.TheVariants.{Step, Post, Deliver, Promise as Promises, Look}
 use Rattle.cmb_core.specs.Clustering.{Clustering, has_input}
-use Rattle.cmb_world.specs.Clocks.{Span, Bound, Clocks, Outcome, out_clock, in_clock, machine_reach, start, with_out, with_in, piece_of, promise_of, stepped, posted, machine_delivered, machine_promised, looked, play}
-use Rattle.cmb_world.specs.Run.{clocks_after, IsReachable, IsWithin, NotBelow}
+use Rattle.cmb_core.specs.Reach.{pins_reach, driver_reach}
+use Rattle.cmb_protocol.specs.Clocks.{Span, Bound, Clocks, Outcome, out_clock, in_clock, machine_reach, start, with_out, with_in, piece_of, promise_of, stepped, posted, machine_delivered, machine_promised, looked, play}
+use Rattle.cmb_protocol.specs.Run.{clocks_after, IsReachable, IsWithin, NotBelow}
 use Rattle.cmb_core.proofs.Everywhere.{all_push, all_weaker, all_at}
 use Rattle.cmb_core.proofs.ReachFacts.{driver_reach-within}
 
@@ -88,6 +91,18 @@ Goes design clustering before after = IsSound design clustering after × NotBelo
 pub reach-within : (design : Design) (clustering : Clustering) (clocks : Clocks) (net : ℕ) → machine_reach design clustering clocks net ≤ design.horizon
 unfolding machine_reach
 reach-within design clustering clocks net = driver_reach-within design _ net (driver_of design.netlist net)
+
+pins_reach-agree : (design : Design) (f g : ℕ → ℕ) (net most pin : ℕ) (operands : List ℕ) → AllByRecursion (λ m. f m ≡ g m) operands → pins_reach design f net most pin operands ≡ pins_reach design g net most pin operands
+pins_reach-agree design f g net most pin [] all = refl
+pins_reach-agree design f g net most pin (operand ∷ operands) all =
+    let here : f operand ≡ g operand = all.0 in
+    rw (here, pins_reach-agree design f g net most (suc pin) operands all.1)
+
+-- where two clocks tell the same of what is read, the reach is the same
+pub driver_reach-agree : (design : Design) (f g : ℕ → ℕ) (net : ℕ) (driver : Driver) → AllByRecursion (λ m. f m ≡ g m) (pins_of driver) → driver_reach design f net driver ≡ driver_reach design g net driver
+driver_reach-agree design f g net Input all = refl
+driver_reach-agree design f g net (Gate kind operands) all = pins_reach-agree design f g net design.horizon 1 operands all
+driver_reach-agree design f g net (Flop source) all = let here : f source ≡ g source = all.0 in rw here
 
 -- ---- each event keeps it, and no clock falls
 

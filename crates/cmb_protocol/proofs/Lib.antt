@@ -1,0 +1,3 @@
+pub mod Commute
+pub mod Machine
+pub mod Progress
