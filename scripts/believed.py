@@ -1,6 +1,6 @@
 #!/usr/bin/env python3
 """believed.py [--check | --rest]: writes into docs/MODEL.md, between two marks, which definitions the contract of
-`simulate` stands on: `IsOutcome`, what it cites, and so on down, by the files of specs/ that have them. With --check it
+`carry_out` stands on: `IsDone`, what it cites, and so on down, by the files of specs/ that have them. With --check it
 writes nothing, and ends with status 1 where the page says something else. With --rest it writes nothing and lists the
 files of specs/ to which the page has no link, which needn't be read."""
 import glob
@@ -10,7 +10,7 @@ import sys
 
 import crates
 
-ROOT = "IsOutcome"
+ROOT = "IsDone"
 PAGE = f"{crates.TOP}/docs/MODEL.md"
 FILES = f"{crates.TOP}/crates/*/specs/**/*.antt"
 LINK = re.compile(r"\]\(\.\./crates/([^)]+\.antt)\)")

@@ -1,7 +1,7 @@
 //! The words of the program's command line, and what is said of words that ask for nothing.
 
-ghost use Rattle.std.specs.Prelude.{◌≡◌, ◌≤◌, IfOk};
-ghost use Rattle.cmb_line.specs.Modes.{IsLawful};
+ghost use Rattle.std.specs.Prelude.{◌≡◌, ◌≤◌, IfOk, IfSome};
+ghost use Rattle.cmb_line.specs.Modes.{IsLawful, IsLawfulCount, clusters_of, workers_of};
 
 use crate::clock::clock_of;
 use crate::explaining::{explain_command, explain_fault, explain_message};
@@ -116,7 +116,7 @@ fn horizon_of(matches: &ArgMatches<'_>) -> Result<u32, LineFault>
     }
 }
 
-// How many threads, workers or clusters there are, 1 where the line doesn't say.
+// How many workers or clusters there are, 1 where the line doesn't say.
 fn parts_of(matches: &ArgMatches<'_>, name: &str) -> Result<u32, LineFault>
     ensures { IfOk result (λ n. (1 ≤ n) × (n ≤ 64)) }
 {
@@ -135,25 +135,20 @@ fn mode_name<'a>(matches: &ArgMatches<'a>) -> &'a str {
     }
 }
 
-// How the design is run where threads share the work.
-fn shared_mode(matches: &ArgMatches<'_>) -> Result<Mode, LineFault>
-    ensures { IfOk result IsLawful }
+// How many threads share the work, where the line says that.
+fn threads_of(matches: &ArgMatches<'_>) -> Result<Option<u32>, LineFault>
+    ensures { IfOk result (λ threads. IfSome threads IsLawfulCount) }
 {
-    let threads = parts_of(matches, "threads")?;
-    match mode_name(matches) {
-        "plain" => Ok(Mode::Plain),
-        "free" => Ok(Mode::SharedFree { threads }),
-        _ => Ok(Mode::Shared { threads }),
+    match matches.get_str("threads") {
+        Some(text) => Ok(Some(number_up_to(text, MOST_PARTS)?)),
+        None => Ok(None),
     }
 }
 
 // How the design is run.
 fn mode_of(matches: &ArgMatches<'_>) -> Result<Mode, LineFault>
-    ensures { IfOk result IsLawful }
+    ensures { IfOk result (λ mode. IsLawfulCount (clusters_of mode) × IsLawfulCount (workers_of mode)) }
 {
-    if matches.get_str("threads").is_some() {
-        return shared_mode(matches);
-    }
     let workers = parts_of(matches, "workers")?;
     let clusters = parts_of(matches, "clusters")?;
     match mode_name(matches) {
@@ -236,9 +231,10 @@ fn settings_of(matches: &ArgMatches<'_>) -> Result<Settings, LineFault>
 
 fn line_of(alloc: Global, task: Task, matches: &ArgMatches<'_>) -> Result<Line, LineFault>
     ensures horizon { IfOk result (λ line. (1 ≤ line.settings.horizon) × (line.settings.horizon ≤ 1000000)) }
-    ensures mode { IfOk result (λ line. IsLawful line.mode) }
+    ensures mode { IfOk result (λ line. IsLawful line.mode line.threads) }
 {
     let mode = mode_of(matches)?;
+    let threads = threads_of(matches)?;
     let settings = settings_of(matches)?;
     let files = files_of(alloc, matches)?;
     Ok(Line {
@@ -248,6 +244,7 @@ fn line_of(alloc: Global, task: Task, matches: &ArgMatches<'_>) -> Result<Line, 
         stats: matches.get_flag("stats"),
         settings,
         mode,
+        threads,
         choice: choice_of(matches),
         delays: files.delays,
         stimuli: files.stimuli,
@@ -259,7 +256,7 @@ fn line_of(alloc: Global, task: Task, matches: &ArgMatches<'_>) -> Result<Line, 
 // The line of the command that is met.
 fn line_in(alloc: Global, matches: &ArgMatches<'_>) -> Result<Line, LineFault>
     ensures horizon { IfOk result (λ line. (1 ≤ line.settings.horizon) × (line.settings.horizon ≤ 1000000)) }
-    ensures mode { IfOk result (λ line. IsLawful line.mode) }
+    ensures mode { IfOk result (λ line. IsLawful line.mode line.threads) }
 {
     if let Some(run) = matches.subcommand_matches("run") {
         line_of(alloc, Task::Run, run)
@@ -278,7 +275,7 @@ fn line_in(alloc: Global, matches: &ArgMatches<'_>) -> Result<Line, LineFault>
 /// `--clock` has another form, and `Memory`.
 pub fn read_line(alloc: Global, words: &[String]) -> Result<Line, LineFault>
     ensures horizon { IfOk result (λ line. (1 ≤ line.settings.horizon) × (line.settings.horizon ≤ 1000000)) }
-    ensures mode { IfOk result (λ line. IsLawful line.mode) }
+    ensures mode { IfOk result (λ line. IsLawful line.mode line.threads) }
 {
     match parse(alloc, words) {
         Ok(matches) => line_in(alloc, &matches),

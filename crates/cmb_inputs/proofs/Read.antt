@@ -1,62 +1,39 @@
--- What comes of reading inputs, and of counting what they spell.
-use Rattle.std.proofs.Common.{◌≡◌, ℕ, Result, Ok, Err, IfOk, IfErr, refl, subst, arith}
-use Rattle.cmb_count.specs.declared.counts.Counts.{Counts}
-use Rattle.cmb_design.specs.declared.settings.Settings.{Settings}
+-- What comes of reading inputs.
+use Rattle.std.proofs.Common.{ℕ, inl, inr, List, [], ◌∷◌, Result, Ok, Err}
 use Rattle.cmb_inout.specs.declared.fault.Fault.{Fault}
 use Rattle.cmb_inout.specs.declared.fault.Fault.TheVariants as fault
-use Rattle.cmb_inputs.specs.Checking.{IsChecked, IsCountOf}
-use Rattle.cmb_inputs.specs.Inputs.{AreTexts, CanBeInputs, Inputs, IsReading, LacksTexts, NoneFailedBut, Texts, failed_input}
-use Rattle.cmb_inputs.specs.Spelling.{HaveTextFault, LacksDesign}
-use Rattle.cmb_inputs.specs.declared.texts.InputTexts.{InputTexts}
+use Rattle.cmb_inputs.specs.Inputs.{AreTexts, HasNotFailed, Input, IsReading, LackTexts, NoneFailedBut, TellsFailed, Texts, listed}
+use Rattle.cmb_line.specs.declared.choice.Choice.{Choice}
+use Rattle.cmb_line.specs.declared.choice.Choice.TheVariants.{All, Only}
+use Rattle.cmb_line.specs.declared.choice.Pick.TheVariants.{Listed, Outputs}
 
--- texts that were read are no longer than inputs may be
-pub CanBeInputs-read : (i : Inputs) (texts : Texts) → AreTexts i texts → CanBeInputs texts
-CanBeInputs-read i texts are = record {
-  bench = are.bench.fits;
-  delays = are.delays.fits;
-  stimuli = are.stimuli.fits;
-  clocks = are.clocks.fits;
+-- a list of which no read failed, whether it is read or not
+pub NoneFailedBut-listed : (Told : ℕ → Type 0) (choice : Choice) (list : Input) → HasNotFailed list → NoneFailedBut Told (listed choice list)
+NoneFailedBut-listed Told All list h = tt
+NoneFailedBut-listed Told (Only Outputs) list h = tt
+NoneFailedBut-listed Told (Only Listed) list h = (λ _. h, tt)
+
+-- an answer tells of more failed reads than another
+pub NoneFailedBut-more : (Told More : ℕ → Type 0) (inputs : List Input) → ((n : ℕ) → Told n → More n) → NoneFailedBut Told inputs → NoneFailedBut More inputs
+NoneFailedBut-more Told More [] more h = tt
+NoneFailedBut-more Told More (i ∷ inputs) more h = (λ none. h.0 (λ told. none (more i.number told)), NoneFailedBut-more Told More inputs more h.1)
+
+TellsFailed-same : (A B : Type 0) (f : Fault) (n : ℕ) → TellsFailed {A = A} (Err f) n → TellsFailed {A = B} (Err f) n
+TellsFailed-same A B (fault.Read k) n h = h
+TellsFailed-same A B f n h = absurd h
+
+-- not all inputs were read
+pub IsReading-unread : (A B : Type 0) (choice : Choice) (Goes : Texts → Result B Fault → Type 0) (Nothing : Type 0) (inputs : List Input) (f : Fault)
+    → NoneFailedBut (TellsFailed {A = A} (Err f)) inputs → LackTexts inputs f → Nothing → IsReading choice Goes Nothing inputs (Err f)
+IsReading-unread A B choice Goes Nothing inputs f failures lack nothing = record {
+  failures = NoneFailedBut-more _ _ inputs (TellsFailed-same A B f) failures;
+  comes = inl (lack, nothing);
 }
 
--- the input that a fault names, whatever the answer would have been
-failed_input-any : (A B : Type 0) (f : Fault) → failed_input {A = A} (Err f) ≡ failed_input {A = B} (Err f)
-failed_input-any A B (fault.Read n) = refl
-failed_input-any A B f = refl
-
-pub NoneFailedBut-same : (A B : Type 0) (f : Fault) (i : Inputs) → NoneFailedBut (failed_input {A = A} (Err f)) i → NoneFailedBut (failed_input {A = B} (Err f)) i
-NoneFailedBut-same A B f i h = subst (λ n. NoneFailedBut n i) (failed_input-any A B f) h
-
--- where no read failed, none failed but of any one input
-pub NoneFailedBut-any : (i : Inputs) (n : ℕ) → NoneFailedBut 0 i → NoneFailedBut n i
-NoneFailedBut-any i n h = record {
-  bench = λ _. h.bench (λ e. omega arith);
-  delays = λ _. h.delays (λ e. omega arith);
-  stimuli = λ _. h.stimuli (λ e. omega arith);
-  clocks = λ _. h.clocks (λ e. omega arith);
+-- the inputs were read
+pub IsReading-read : (A B : Type 0) (choice : Choice) (Goes : Texts → Result B Fault → Type 0) (Nothing : Type 0) (inputs : List Input) (texts : Texts) (it : A) (answer : Result B Fault)
+    → NoneFailedBut (TellsFailed {A = A} (Ok it)) inputs → AreTexts choice inputs texts → Goes texts answer → IsReading choice Goes Nothing inputs answer
+IsReading-read A B choice Goes Nothing inputs texts it answer failures are goes = record {
+  failures = NoneFailedBut-more _ _ inputs (λ n h. absurd h) failures;
+  comes = inr (texts, are, goes);
 }
-
-LacksDesign-of : (settings : Settings) (i : Inputs) (texts : Texts) → AreTexts i texts → (f : Fault) → HaveTextFault texts settings f → LacksDesign settings i f
-LacksDesign-of settings i texts are (fault.Bench f) h = (texts, are, h)
-LacksDesign-of settings i texts are (fault.Design f) h = (texts, are, h)
-LacksDesign-of settings i texts are fault.Memory h = tt
-LacksDesign-of settings i texts are f h = absurd h
-
--- what keeps an input from being read whole keeps the design from being found
-LacksDesign-unread : (settings : Settings) (i : Inputs) (f : Fault) → LacksTexts i f → LacksDesign settings i f
-LacksDesign-unread settings i (fault.TooLong n) h = h
-LacksDesign-unread settings i (fault.Read n) h = h
-LacksDesign-unread settings i fault.Memory h = tt
-LacksDesign-unread settings i f h = absurd h
-
--- an input wasn't read
-pub IsReading-unread : (settings : Settings) (i : Inputs) (f : Fault) → NoneFailedBut (failed_input {A = InputTexts} (Err f)) i → LacksTexts i f
-    → IsReading {A = Counts} (IsChecked settings) (LacksDesign settings) i (Err f)
-IsReading-unread settings i f read h = record { ok = tt; fault = LacksDesign-unread settings i f h; failures = NoneFailedBut-same InputTexts Counts f i read }
-
--- the texts were read, and what they spell was counted or not
-pub IsReading-counted : (settings : Settings) (i : Inputs) (texts : Texts) (result : Result Counts Fault) → NoneFailedBut 0 i → AreTexts i texts
-    → IfOk result (IsCountOf settings texts) → IfErr result (HaveTextFault texts settings) → IsReading (IsChecked settings) (LacksDesign settings) i result
-IsReading-counted settings i texts (Ok counts) read are counted faulty =
-    record { ok = (counted.0, (texts, are, counted.1), counted.2); fault = tt; failures = read }
-IsReading-counted settings i texts (Err f) read are counted faulty =
-    record { ok = tt; fault = LacksDesign-of settings i texts are f faulty; failures = NoneFailedBut-any i (failed_input {A = Counts} (Err f)) read }

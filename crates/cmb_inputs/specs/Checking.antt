@@ -6,17 +6,19 @@ use Rattle.cmb_design.specs.Design.{Design}
 use Rattle.cmb_design.specs.declared.settings.Settings.{Settings}
 use Rattle.cmb_inout.specs.declared.fault.Fault.{Fault}
 use Rattle.cmb_inout.specs.declared.fault.Fault.TheVariants as fault
-use Rattle.cmb_inputs.specs.Inputs.{Inputs, Texts}
+use Rattle.std.specs.Prelude.{Result, IfOk, IfErr}
+use Rattle.cmb_inputs.specs.Inputs.{Texts}
 use Rattle.cmb_inputs.specs.Outputs.{IsCutShort, IsUntouched, Output}
-use Rattle.cmb_inputs.specs.Spelling.{FoundDesign, SpellAny}
+use Rattle.cmb_inputs.specs.Spelling.{HaveTextFault, SpellAny}
 
 -- the counts are those of the design that the texts spell
 abbrev pub IsCountOf : Settings → Texts → Counts → Type 0
 IsCountOf settings texts counts = (design : Design) × SpellAny texts settings design × AreCounts design counts
 
--- the counts are those of the design that the inputs spell
-abbrev pub IsChecked : Settings → Inputs → Counts → Type 0
-IsChecked settings inputs counts = (design : Design) × FoundDesign settings inputs design × AreCounts design counts
+-- the counts of the texts' design, or why there are none
+pub record AreCounted (settings : Settings) (texts : Texts) (answer : Result Counts Fault) : Type 0 where
+  pub ok : IfOk answer (IsCountOf settings texts)
+  pub fault : IfErr answer (HaveTextFault texts settings)
 
 -- why the counts weren't written whole
 abbrev pub AreUnwritten : Counts → Output → Fault → Type 0

@@ -1,39 +1,43 @@
--- The inputs of a simulation, their texts, and what comes of reading them whole.
-use Rattle.std.specs.Prelude.{◌≡◌, ℕ, ◌+◌, ◌-◌, ◌^◌, ◌<◌, ◌≤◌, ◌⊎◌, List, length, Option, Result, Err, IfOk, IfErr, ⊤}
+-- The inputs of a line, their texts, and what comes of reading them whole.
+use Rattle.std.specs.Prelude.{◌≡◌, ℕ, ◌+◌, ◌-◌, ◌^◌, ◌<◌, ◌≤◌, ◌⊎◌, List, [], ◌∷◌, length, Option, Result, Ok, Err, IfOk, IfErr, ⊤}
 use Rattle.cmb_inout.specs.Sources.{IsTooLong, IsWhole, input_limit}
 use Rattle.cmb_inout.specs.declared.fault.Fault.{Fault}
 use Rattle.cmb_inout.specs.declared.fault.Fault.TheVariants as fault
 use Rattle.cmb_inout.specs.declared.source.Source as source
 use Rattle.cmb_inputs.specs.declared.texts.InputTexts.{InputTexts}
+use Rattle.cmb_line.specs.declared.choice.Choice.{Choice}
+use Rattle.cmb_line.specs.declared.choice.Choice.TheVariants.{All, Only}
+use Rattle.cmb_line.specs.declared.choice.Pick.TheVariants.{Listed, Outputs}
 
 -- ---- the sources
 
--- one source: its bytes where it tells them, and how many of its reads had failed before the call and after it
+-- one source: its number, its bytes where it tells them, and how many of its reads had failed before the call and after it
 pub record Input : Type 0 where
+  pub number : ℕ
   pub bytes : Option (List ℕ)
   pub before : ℕ
   pub after : ℕ
 
-abbrev pub input : Option (List ℕ) → ℕ → ℕ → Input
-input bytes before after = record { bytes = bytes; before = before; after = after }
+abbrev pub input : ℕ → Option (List ℕ) → ℕ → ℕ → Input
+input number bytes before after = record { number = number; bytes = bytes; before = before; after = after }
 
--- a source as a call found it and left it
-abbrev pub read_from : {S : Type 0} → source.Ghosts S → S → S → Input
-read_from s old new = input (s.remaining old) (s.failures old) (s.failures new)
+-- the source with this number as a call found it and left it
+abbrev pub read_from : {S : Type 0} → source.Ghosts S → ℕ → S → S → Input
+read_from s number old new = input number (s.remaining old) (s.failures old) (s.failures new)
 
 -- of each source one more failed read can be counted
 abbrev pub HaveRoom : ℕ → ℕ → ℕ → ℕ → Type 0
 HaveRoom bench delays stimuli clocks = (bench < 2 ^ 64 - 1) × (delays < 2 ^ 64 - 1) × (stimuli < 2 ^ 64 - 1) × (clocks < 2 ^ 64 - 1)
 
--- the inputs 1 to 4
-pub record Inputs : Type 0 where
-  pub bench : Input
-  pub delays : Input
-  pub stimuli : Input
-  pub clocks : Input
+-- what is read, in order: the netlist, the tables of delays, stimuli and clocks, and then the rest
+abbrev pub in_order : {A : Type 0} → A → A → A → A → List A → List A
+in_order bench delays stimuli clocks rest = bench ∷ delays ∷ stimuli ∷ clocks ∷ rest
 
-abbrev pub inputs_of : Input → Input → Input → Input → Inputs
-inputs_of bench delays stimuli clocks = record { bench = bench; delays = delays; stimuli = stimuli; clocks = clocks }
+-- the rest is the list of nets, where one names the nets that are chosen
+abbrev pub listed : {A : Type 0} → Choice → A → List A
+listed All list = []
+listed (Only Outputs) list = []
+listed (Only Listed) list = list ∷ []
 
 abbrev pub CanBeRead : Input → Type 0
 CanBeRead i = (text : List ℕ) × IsWhole i.bytes text
@@ -51,28 +55,29 @@ HasTooMany i = IsTooLong i.bytes
 
 -- ---- the texts
 
+-- the names of nets are those of the list, where one is read
 pub record Texts : Type 0 where
   pub bench : List ℕ
   pub delays : List ℕ
   pub stimuli : List ℕ
   pub clocks : List ℕ
+  pub names : List ℕ
 
--- the texts are those of the sources
-pub record AreTexts (inputs : Inputs) (texts : Texts) : Type 0 where
-  pub bench : IsWhole inputs.bench.bytes texts.bench
-  pub delays : IsWhole inputs.delays.bytes texts.delays
-  pub stimuli : IsWhole inputs.stimuli.bytes texts.stimuli
-  pub clocks : IsWhole inputs.clocks.bytes texts.clocks
+-- each of these texts is that of an input
+abbrev pub AreWhole : List Input → List (List ℕ) → Type 0
+AreWhole [] [] = ⊤
+AreWhole [] (text ∷ texts) = ⊥
+AreWhole (i ∷ inputs) [] = ⊥
+AreWhole (i ∷ inputs) (text ∷ texts) = IsWhole i.bytes text × AreWhole inputs texts
 
-abbrev pub texts_of : List ℕ → List ℕ → List ℕ → List ℕ → Texts
-texts_of bench delays stimuli clocks = record { bench = bench; delays = delays; stimuli = stimuli; clocks = clocks }
+-- the texts are those of the inputs
+abbrev pub AreTexts : Choice → List Input → Texts → Type 0
+AreTexts choice inputs texts = AreWhole inputs (in_order texts.bench texts.delays texts.stimuli texts.clocks (listed choice texts.names))
 
 -- what the inputs had
 abbrev pub texts_in : InputTexts → Texts
-texts_in texts = texts_of texts.bench.items texts.delays.items texts.stimuli.items texts.clocks.items
-
-abbrev pub HaveTexts : Inputs → InputTexts → Type 0
-HaveTexts i texts = AreTexts i (texts_in texts)
+texts_in texts =
+    record { bench = texts.bench.items; delays = texts.delays.items; stimuli = texts.stimuli.items; clocks = texts.clocks.items; names = texts.names.items }
 
 -- no text is longer than an input may be
 pub record CanBeInputs (texts : Texts) : Type 0 where
@@ -80,6 +85,7 @@ pub record CanBeInputs (texts : Texts) : Type 0 where
   pub delays : length texts.delays ≤ input_limit
   pub stimuli : length texts.stimuli ≤ input_limit
   pub clocks : length texts.clocks ≤ input_limit
+  pub names : length texts.names ≤ input_limit
 
 -- ---- reading
 
@@ -91,34 +97,41 @@ IsUnread number i fault.Memory = ⊤
 IsUnread number i _ = ⊥
 
 -- the inputs are read in order: P holds of the one with this number, and those before it can be read whole
-abbrev pub StopsAt : (Input → Type 0) → Inputs → ℕ → Type 0
-StopsAt P i n =
-    ((n ≡ 1) × P i.bench)
-    ⊎ (((n ≡ 2) × CanBeRead i.bench × P i.delays)
-    ⊎ (((n ≡ 3) × CanBeRead i.bench × CanBeRead i.delays × P i.stimuli)
-    ⊎ ((n ≡ 4) × CanBeRead i.bench × CanBeRead i.delays × CanBeRead i.stimuli × P i.clocks)))
+abbrev pub StopsAt : (Input → Type 0) → List Input → ℕ → Type 0
+StopsAt P [] n = ⊥
+StopsAt P (i ∷ inputs) n = ((n ≡ i.number) × P i) ⊎ (CanBeRead i × StopsAt P inputs n)
 
--- why an input wasn't read whole
-abbrev pub LacksTexts : Inputs → Fault → Type 0
-LacksTexts i (fault.TooLong n) = StopsAt HasTooMany i n
-LacksTexts i (fault.Read n) = StopsAt HasFailed i n
-LacksTexts i fault.Memory = ⊤
-LacksTexts i _ = ⊥
+-- why not all inputs were read whole
+abbrev pub LackTexts : List Input → Fault → Type 0
+LackTexts inputs (fault.TooLong n) = StopsAt HasTooMany inputs n
+LackTexts inputs (fault.Read n) = StopsAt HasFailed inputs n
+LackTexts inputs fault.Memory = ⊤
+LackTexts inputs _ = ⊥
 
--- the number of the input that couldn't be read, where that is the answer, and else 0
-abbrev pub failed_input : {A : Type 0} → Result A Fault → ℕ
-failed_input (Err (fault.Read n)) = n
-failed_input _ = 0
+-- the answer is that the input with this number couldn't be read
+abbrev pub TellsFailed : {A : Type 0} → Result A Fault → ℕ → Type 0
+TellsFailed (Ok _) number = ⊥
+TellsFailed (Err (fault.Read n)) number = n ≡ number
+TellsFailed (Err _) number = ⊥
 
--- no read failed, but of the input with this number
-pub record NoneFailedBut (n : ℕ) (inputs : Inputs) : Type 0 where
-  pub bench : (n ≡ 1 → ⊥) → HasNotFailed inputs.bench
-  pub delays : (n ≡ 2 → ⊥) → HasNotFailed inputs.delays
-  pub stimuli : (n ≡ 3 → ⊥) → HasNotFailed inputs.stimuli
-  pub clocks : (n ≡ 4 → ⊥) → HasNotFailed inputs.clocks
+-- no read failed, but of the input of which the answer tells it
+abbrev pub NoneFailedBut : (ℕ → Type 0) → List Input → Type 0
+NoneFailedBut Told [] = ⊤
+NoneFailedBut Told (i ∷ inputs) = ((Told i.number → ⊥) → HasNotFailed i) × NoneFailedBut Told inputs
 
--- what comes of reading the inputs: this value or that fault; and a read fails only where that is the answer
-pub record IsReading {A : Type 0} (Good : Inputs → A → Type 0) (Bad : Inputs → Fault → Type 0) (i : Inputs) (answer : Result A Fault) : Type 0 where
-  pub ok : IfOk answer (Good i)
-  pub fault : IfErr answer (Bad i)
-  pub failures : NoneFailedBut (failed_input answer) i
+abbrev pub IsUnreadBy : {A : Type 0} → List Input → Result A Fault → Type 0
+IsUnreadBy inputs (Ok _) = ⊥
+IsUnreadBy inputs (Err f) = LackTexts inputs f
+
+-- the inputs were read, or they weren't
+pub record AreRead (choice : Choice) (inputs : List Input) (answer : Result InputTexts Fault) : Type 0 where
+  pub ok : IfOk answer (λ texts. AreTexts choice inputs (texts_in texts))
+  pub short : IfOk answer (λ texts. CanBeInputs (texts_in texts))
+  pub fault : IfErr answer (LackTexts inputs)
+  pub failures : NoneFailedBut (TellsFailed answer) inputs
+
+-- What comes of reading inputs and going on with their texts, of which comes what Goes says: not all were read whole, and Nothing holds; or
+-- they were. A read fails only where that is the answer.
+pub record IsReading {A : Type 0} (choice : Choice) (Goes : Texts → Result A Fault → Type 0) (Nothing : Type 0) (inputs : List Input) (answer : Result A Fault) : Type 0 where
+  pub failures : NoneFailedBut (TellsFailed answer) inputs
+  pub comes : (IsUnreadBy inputs answer × Nothing) ⊎ ((texts : Texts) × AreTexts choice inputs texts × Goes texts answer)

@@ -31,6 +31,10 @@ HasTaken text o = Appends o.old o.new text × (o.after ≡ o.before)
 abbrev pub IsCutAfter : ℕ → List ℕ → Output → Type 0
 IsCutAfter n text o = (n < length text) × Appends o.old o.new (take n text) × (o.after ≡ o.before + 1)
 
+-- a beginning of a text was written, and no write failed
+abbrev pub HasBegun : List ℕ → Output → Type 0
+HasBegun text o = ((n : ℕ) × Appends o.old o.new (take n text)) × (o.after ≡ o.before)
+
 -- why a text that is there wasn't written whole
 abbrev pub IsCutShort : List ℕ → Output → Fault → Type 0
 IsCutShort text o (fault.Write n) = IsCutAfter n text o

@@ -9,7 +9,7 @@ use Rattle.cmb_design.specs.Settings.{design_checks}
 use Rattle.cmb_design.specs.declared.settings.Settings.{Settings}
 use Rattle.cmb_inout.specs.declared.fault.Fault.{Fault}
 use Rattle.cmb_inout.specs.declared.fault.Fault.TheVariants as fault
-use Rattle.cmb_inputs.specs.Inputs.{AreTexts, HasFailed, HasTooMany, Inputs, StopsAt, Texts}
+use Rattle.cmb_inputs.specs.Inputs.{Texts}
 use Rattle.cmb_tables.specs.Readers.{table_checks, table_rows, delay_header, delay_record_checks, delay_row_of, stimulus_header, stimulus_record_checks, stimulus_row_of, clock_header, clock_record_checks, clock_row_of}
 use Rattle.cmb_tables.specs.Records.{table_records}
 
@@ -42,20 +42,3 @@ HaveTextFault texts settings (fault.Bench f) = IsFirstFault texts.bench f
 HaveTextFault texts settings (fault.Design f) = (netlist : Netlist) × Reads texts.bench netlist × (first_fault (text_checks texts settings netlist) ≡ Some f)
 HaveTextFault texts settings fault.Memory = ⊤
 HaveTextFault texts settings _ = ⊥
-
--- the inputs spell this design
-abbrev pub FoundDesign : Settings → Inputs → Design → Type 0
-FoundDesign settings i design = (texts : Texts) × AreTexts i texts × SpellAny texts settings design
-
--- why there is no design
-abbrev pub LacksDesign : Settings → Inputs → Fault → Type 0
-LacksDesign settings i (fault.TooLong n) = StopsAt HasTooMany i n
-LacksDesign settings i (fault.Read n) = StopsAt HasFailed i n
-LacksDesign settings i (fault.Bench f) = (texts : Texts) × AreTexts i texts × HaveTextFault texts settings (fault.Bench f)
-LacksDesign settings i (fault.Design f) = (texts : Texts) × AreTexts i texts × HaveTextFault texts settings (fault.Design f)
-LacksDesign settings i (fault.Write n) = ⊥
-LacksDesign settings i (fault.Incomplete net upto) = ⊥
-LacksDesign settings i (fault.Unknown n) = ⊥
-LacksDesign settings i fault.Clusters = ⊥
-LacksDesign settings i fault.Workers = ⊥
-LacksDesign settings i fault.Memory = ⊤

@@ -1,18 +1,19 @@
 //! What a simulation is given, counted and not simulated.
 
-ghost use Rattle.std.specs.Prelude.{◌≡◌, ◌-◌, ◌^◌, ◌<◌, IfOk, IfErr, OnOk};
+ghost use Rattle.std.specs.Prelude.{◌≡◌, ◌-◌, ◌^◌, ◌<◌, [], IfOk, IfErr, OnOk, ⊤};
 ghost use Rattle.cmb_count.specs.Counting.{AreCounts};
 ghost use Rattle.cmb_count.specs.Texts.{counts_rows};
-ghost use Rattle.cmb_inputs.specs.Checking.{AreUnwritten, IsChecked, IsCountOf};
-ghost use Rattle.cmb_inputs.specs.Inputs.{CanBeInputs, HaveRoom, IsReading, inputs_of, read_from, texts_in};
+ghost use Rattle.cmb_inputs.specs.Checking.{AreCounted, AreUnwritten};
+ghost use Rattle.cmb_inputs.specs.Inputs.{CanBeInputs, HaveRoom, IsReading, in_order, read_from, texts_in};
+ghost use Rattle.cmb_line.specs.declared.choice.Choice.TheVariants.{All};
 ghost use Rattle.cmb_inputs.specs.Outputs.{HasTaken, written_to};
-ghost use Rattle.cmb_inputs.specs.Spelling.{HaveTextFault, LacksDesign};
 
 use crate::texts::{InputTexts, read_texts, spelled_design};
 use crate::writing::write_text;
 use cmb_count::{Counts, count_design, counts_text};
 use cmb_design::{Design, Settings};
-use cmb_inout::{Fault, Source};
+use cmb_inout::{Fault, FromBytes, Source};
+use cmb_line::Choice;
 use cmb_vcd::Sink;
 use std::alloc::Global;
 
@@ -28,8 +29,7 @@ fn counts_of(alloc: Global, design: &Design) -> Result<Counts, Fault>
 // What there is in the design that texts spell.
 fn count_texts(alloc: Global, texts: &InputTexts, settings: Settings) -> Result<Counts, Fault>
     requires { CanBeInputs (texts_in texts.now) }
-    ensures ok { IfOk result (IsCountOf settings (texts_in texts.now)) }
-    ensures fault { IfErr result (HaveTextFault (texts_in texts.now) settings) }
+    ensures { AreCounted settings (texts_in texts.now) result }
 {
     let design = spelled_design(alloc, texts, settings)?;
     counts_of(alloc, &design)
@@ -47,12 +47,12 @@ pub fn check_design<B: Source, D: Source, S: Source, C: Source>(
 ) -> Result<Counts, Fault>
     requires sources { HaveRoom (B.failures bench.old) (D.failures delays.old)
         (S.failures stimuli.old) (C.failures clocks.old) }
-    ensures { IsReading (IsChecked settings) (LacksDesign settings)
-        (inputs_of (read_from B.Source bench.old bench.new) (read_from D.Source delays.old delays.new)
-        (read_from S.Source stimuli.old stimuli.new) (read_from C.Source clocks.old clocks.new))
-        result }
+    ensures { IsReading All (AreCounted settings) ⊤ (in_order (read_from B.Source 1 bench.old bench.new)
+        (read_from D.Source 2 delays.old delays.new) (read_from S.Source 3 stimuli.old stimuli.new)
+        (read_from C.Source 4 clocks.old clocks.new) []) result }
 {
-    let texts = read_texts(alloc, bench, delays, stimuli, clocks)?;
+    let none = &mut FromBytes::new(&[]);
+    let texts = read_texts(alloc, Choice::All, bench, delays, stimuli, clocks, none)?;
     count_texts(alloc, &texts, settings)
 }
 

@@ -8,6 +8,6 @@ pub mod texts;
 pub mod writing;
 
 pub use check::{check_design, write_counts};
-pub use chosen::{chosen_nets, read_names, show_nets};
-pub use texts::{InputTexts, read_input, read_texts, spelled_design};
+pub use chosen::chosen_nets;
+pub use texts::{InputTexts, read_input, read_names, read_texts, spelled_design};
 pub use writing::write_text;

@@ -1,24 +1,27 @@
-//! The four texts of a simulation, read whole, and the design that they spell.
+//! The texts of a line's inputs, read whole, and the design that they spell.
 
-ghost use Rattle.std.specs.Prelude.{◌≡◌, ◌-◌, ◌^◌, ◌<◌, Err, IfOk, IfErr};
-ghost use Rattle.cmb_inout.specs.Sources.{IsWhole};
-ghost use Rattle.cmb_inputs.specs.Inputs.{CanBeInputs, HaveRoom, HaveTexts, IsReading, IsUnread, LacksTexts};
-ghost use Rattle.cmb_inputs.specs.Inputs.{inputs_of, read_from, texts_in};
+ghost use Rattle.std.specs.Prelude.{◌≡◌, ◌-◌, ◌^◌, ◌<◌, ◌≤◌, Err, length, IfOk, IfErr};
+ghost use Rattle.cmb_inout.specs.Sources.{IsWhole, input_limit};
+ghost use Rattle.cmb_inputs.specs.Inputs.{AreRead, AreWhole, CanBeInputs, HaveRoom, IsUnread, LackTexts, NoneFailedBut};
+ghost use Rattle.cmb_inputs.specs.Inputs.{TellsFailed, in_order, listed, read_from, texts_in};
 ghost use Rattle.cmb_inputs.specs.Spelling.{HaveTextFault, SpellAny};
 
 use cmb_bench::read_bench;
 use cmb_design::{Design, Settings};
 use cmb_inout::{Fault, ReadFault, Source, read_whole};
+use cmb_line::{Choice, Pick};
 use cmb_tables::{read_clocks, read_delays, read_stimuli};
 use std::alloc::Global;
 
-/// What the four inputs have.
+/// What the inputs have.
 #[derive(Drop)]
 pub struct InputTexts {
     pub bench: Vec<u8>,
     pub delays: Vec<u8>,
     pub stimuli: Vec<u8>,
     pub clocks: Vec<u8>,
+    /// The list of nets, empty where none is read.
+    pub names: Vec<u8>,
 }
 
 /// Reads the input with this number whole, and gives its text in bytes: 60 at this number where the input has more than
@@ -26,7 +29,7 @@ pub struct InputTexts {
 pub fn read_input<S: Source>(alloc: Global, source: &mut S, number: u32) -> Result<Vec<u8>, Fault>
     requires { S.failures source.old < 2 ^ 64 - 1 }
     ensures whole { IfOk result (λ text. IsWhole (S.remaining source.old) text.items) }
-    ensures fault { IfErr result (IsUnread number (read_from S.Source source.old source.new)) }
+    ensures fault { IfErr result (IsUnread number (read_from S.Source number source.old source.new)) }
     ensures failures { (result ≡ Err (Fault.Read number) → ⊥)
         → S.failures source.new ≡ S.failures source.old }
 {
@@ -48,21 +51,41 @@ fn take_and_give_back(alloc: Global) {
     let _ = Vec::<u8>::with_capacity(alloc, LARGE);
 }
 
-/// Reads the four inputs whole, in order: 60 where one has more than 16,777,216 bytes, 61 where a read of it failed, 70
-/// where memory was refused.
-pub fn read_texts<B: Source, D: Source, S: Source, C: Source>(
+/// Reads the list that names the nets that are chosen whole, as input 5, and gives its text in bytes; where the choice
+/// has no list the text is empty, and nothing is read. The faults are those of `read_input`.
+pub fn read_names<L: Source>(alloc: Global, choice: Choice, list: &mut L) -> Result<Vec<u8>, Fault>
+    requires { L.failures list.old < 2 ^ 64 - 1 }
+    ensures whole { IfOk result (λ names.
+        AreWhole (listed choice (read_from L.Source 5 list.old list.new)) (listed choice names.items)) }
+    ensures short { IfOk result (λ names. length names.items ≤ input_limit) }
+    ensures fault { IfErr result (LackTexts (listed choice (read_from L.Source 5 list.old list.new))) }
+    ensures failures { NoneFailedBut (TellsFailed result) (listed choice (read_from L.Source 5 list.old list.new)) }
+    ensures unread { (choice ≡ Choice.Only Pick.Listed → ⊥) → list.new ≡ list.old }
+{
+    match choice {
+        Choice::Only(Pick::Listed) => read_input(alloc, list, 5),
+        Choice::Only(Pick::Outputs) | Choice::All => Ok(Vec::new(alloc)),
+    }
+}
+
+/// Reads the inputs whole, in order, the list of nets as the last where one names the nets that are chosen: 60 where
+/// one has more than 16,777,216 bytes, 61 where a read of it failed, 70 where memory was refused.
+pub fn read_texts<B: Source, D: Source, S: Source, C: Source, L: Source>(
     alloc: Global,
+    choice: Choice,
     bench: &mut B,
     delays: &mut D,
     stimuli: &mut S,
     clocks: &mut C,
+    list: &mut L,
 ) -> Result<InputTexts, Fault>
     requires sources { HaveRoom (B.failures bench.old) (D.failures delays.old)
         (S.failures stimuli.old) (C.failures clocks.old) }
-    ensures { IsReading HaveTexts LacksTexts
-        (inputs_of (read_from B.Source bench.old bench.new) (read_from D.Source delays.old delays.new)
-        (read_from S.Source stimuli.old stimuli.new) (read_from C.Source clocks.old clocks.new))
-        result }
+    requires list { L.failures list.old < 2 ^ 64 - 1 }
+    ensures read { AreRead choice (in_order (read_from B.Source 1 bench.old bench.new)
+        (read_from D.Source 2 delays.old delays.new) (read_from S.Source 3 stimuli.old stimuli.new)
+        (read_from C.Source 4 clocks.old clocks.new) (listed choice (read_from L.Source 5 list.old list.new))) result }
+    ensures unread { (choice ≡ Choice.Only Pick.Listed → ⊥) → list.new ≡ list.old }
 {
     take_and_give_back(alloc);
     Ok(InputTexts {
@@ -70,10 +93,11 @@ pub fn read_texts<B: Source, D: Source, S: Source, C: Source>(
         delays: read_input(alloc, delays, 2)?,
         stimuli: read_input(alloc, stimuli, 3)?,
         clocks: read_input(alloc, clocks, 4)?,
+        names: read_names(alloc, choice, list)?,
     })
 }
 
-/// The design that four texts spell, under these settings: the first fault of the netlist (1 to 8), else the first of
+/// The design that texts spell, under these settings: the first fault of the netlist (1 to 8), else the first of
 /// the tables, in their order, and of the design (20 to 37) that stands; 70 where memory was refused, which may come in
 /// the place of each of these. No text is longer than an input may be.
 pub fn spelled_design(

@@ -6,5 +6,5 @@ pub mod line;
 pub mod mode;
 
 pub use choice::{Choice, Pick};
-pub use line::{Line, Task};
+pub use line::{Line, Request, Task};
 pub use mode::Mode;

@@ -13,6 +13,17 @@ pub enum Task {
     Check,
 }
 
+/// What a run is asked for.
+#[derive(Clone, Copy)]
+pub struct Request {
+    pub settings: Settings,
+    pub mode: Mode,
+    /// By so many threads at most, 1 to 64, that share the work in the place of workers.
+    pub threads: Option<u32>,
+    /// Which nets are written.
+    pub choice: Choice,
+}
+
 /// What a line asks for.
 #[derive(Drop)]
 pub struct Line {
@@ -25,6 +36,8 @@ pub struct Line {
     pub stats: bool,
     pub settings: Settings,
     pub mode: Mode,
+    /// How many threads share the work, where that is said.
+    pub threads: Option<u32>,
     /// Which nets are written: those of a list exactly where `only` names its file.
     pub choice: Choice,
     /// The file of the delay table. The table is empty where no file is given.

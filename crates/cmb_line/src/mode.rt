@@ -11,8 +11,4 @@ pub enum Mode {
     /// By workers that run freely, over 1 to 64 clusters and by 1 to 64 workers. The text is written while
     /// they run.
     Free { workers: u32, clusters: u32 },
-    /// By as many threads as pay, and no more than so many, 1 to 64: one carries all nets on, the others make the text.
-    Shared { threads: u32 },
-    /// The same. The text is written while it is made.
-    SharedFree { threads: u32 },
 }

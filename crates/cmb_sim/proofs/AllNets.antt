@@ -1,27 +1,24 @@
 -- Where each net of a design is chosen, what holds of the chosen nets' text holds of the design's.
-use Rattle.std.proofs.Common.{◌≡◌, ℕ, ◌<◌, Bool, true, List, [], ◌∷◌, length, get_or, Ok, refl, subst, ap, ◌∙◌}
+use Rattle.std.proofs.Common.{◌≡◌, ℕ, ◌<◌, Bool, true, List, [], ◌∷◌, get_or, Ok, refl, subst, ap, ◌∙◌}
 use Rattle.std.specs.Prelude.{All, Contains}
 use Rattle.std.specs.List.{filter, range_with_len}
 use Rattle.std.proofs.lemmas.List.Elements.{All-contains, All-head, All-tail, filter_passes}
 use Rattle.cmb_design.specs.Design.{Design}
 use Rattle.cmb_design.specs.Exact.{nets_of}
-use Rattle.cmb_design.specs.declared.settings.Settings.{Settings}
 use Rattle.cmb_restrict.proofs.FoundFacts.{range_below}
 use Rattle.cmb_restrict.specs.Chosen.{each_once}
 use Rattle.cmb_restrict.specs.Restriction.{is_among}
 use Rattle.cmb_vcd.proofs.ChosenFacts.{vcd_of-all}
 use Rattle.cmb_vcd.specs.Chosen.{vcd_of}
 use Rattle.cmb_vcd.specs.Vcd.{vcd}
-use Rattle.cmb_line.specs.declared.choice.Choice.TheVariants.{Only}
+use Rattle.cmb_line.specs.declared.choice.Choice.TheVariants.{All as All_nets, Only}
 use Rattle.cmb_line.specs.declared.choice.Pick.{Pick}
 use Rattle.cmb_line.specs.declared.choice.Pick.TheVariants.{Listed, Outputs}
-use Rattle.cmb_line.specs.declared.mode.Mode.{Mode}
-use Rattle.cmb_sim.proofs.Outcomes.{SpellDesign-of}
-use Rattle.cmb_sim.specs.Choosing.{Choose, IsChosenOutcome}
-use Rattle.cmb_sim.specs.Simulation.{IsOutcome, report_of}
+use Rattle.cmb_line.specs.declared.line.Request.{Request}
+use Rattle.cmb_sim.specs.Simulation.{IsRun}
 use Rattle.cmb_inputs.specs.Chosen.{AreChosen}
-use Rattle.cmb_inputs.specs.Inputs.{Input, Inputs}
-use Rattle.cmb_inputs.specs.Outputs.{HasTaken, Output}
+use Rattle.cmb_inputs.specs.Inputs.{Texts}
+use Rattle.cmb_inputs.specs.Outputs.{Output}
 use Rattle.cmb_inout.specs.declared.answer.Report.{Report}
 
 filter_all : (p : ℕ → Bool) (xs : List ℕ) → All (λ x. p x ≡ true) xs → filter p xs ≡ xs
@@ -47,13 +44,12 @@ chosen_whole : (pick : Pick) (design : Design) (names nets : List ℕ) → AreCh
 chosen_whole Listed design names nets chosen there = whole_text design chosen.0 nets chosen.2 there
 chosen_whole Outputs design names nets chosen there = whole_text design design.netlist.outputs nets chosen there
 
-pub IsOutcome-chosen : (settings : Settings) (mode : Mode) (pick : Pick) (i : Inputs) (list : Input) (o : Output) (report : Report)
-    → ((design : Design) (nets : List ℕ) → Choose settings pick i list design nets → (net : ℕ) → net < nets_of design → Contains nets net)
-    → IsChosenOutcome settings mode (Only pick) i list o (Ok report) → IsOutcome settings mode i o (Ok report)
-IsOutcome-chosen settings mode pick i list o report there h =
-    let design : Design = h.1.0 in
-    let nets : List ℕ = h.1.1 in
-    let choose : Choose settings pick i list design nets = h.1.2 in
-    let same : vcd_of design nets ≡ vcd design = chosen_whole pick design choose.names nets choose.chosen (there design nets choose) in
-    let told : report ≡ report_of design = h.1.5 ∙ ap (λ text. record { nets = nets_of design; horizon = design.horizon; written = length text }) same in
-    (h.0.0, (design, SpellDesign-of settings mode i design (choose.texts, choose.are.four, choose.spelled) h.1.3, subst (λ text. HasTaken text o) same h.1.4, told))
+pub IsRun-chosen : (request : Request) (pick : Pick) (texts : Texts) (o : Output) (report : Report)
+    → ((design : Design) (nets : List ℕ) → AreChosen pick design texts.names nets → (net : ℕ) → net < nets_of design → Contains nets net)
+    → IsRun (record request { choice = Only pick }) texts o (Ok report) → IsRun (record request { choice = All_nets }) texts o (Ok report)
+IsRun-chosen request pick texts o report there h =
+    let made = h.ok.1 in
+    let design : Design = made.0 in
+    let nets : List ℕ = made.2.0 in
+    let whole : h.ok.0 ≡ vcd design = made.2.2 ∙ chosen_whole pick design texts.names nets made.2.1 (there design nets made.2.1) in
+    record { ok = (h.ok.0, (design, made.1, whole, record { fits = made.3.fits; clusters = made.3.clusters; hands = made.3.hands }, made.4), h.ok.2); fault = tt }

@@ -1,7 +1,7 @@
 pub mod AllNets
-pub mod Chosen
-pub mod FreeTexts
+pub mod Checks
+pub mod ModeFacts
 pub mod Outcomes
 pub mod PlainRuns
+pub mod Puts
 pub mod RoundRuns
-pub mod Runs

@@ -1,5 +1,5 @@
 -- The whole waves of a design as a collector's.
-use Rattle.std.proofs.Common.{◌≡◌, ℕ, ◌<◌, List, [], ◌∷◌, length, map, refl, sym, subst, arith, true, Some, ◌∙◌, nat_lt}
+use Rattle.std.proofs.Common.{◌≡◌, ℕ, ◌<◌, List, [], ◌∷◌, length, map, refl, sym, subst, arith, None, ◌∙◌}
 use Rattle.std.specs.List.{range_with_len}
 use Rattle.std.proofs.lemmas.List.FromFn.{length-map-range_with_len, get_or-map-range_with_len}
 use Rattle.cmb_wave.specs.Wave.{Wave, new_wave}
@@ -8,11 +8,10 @@ use Rattle.cmb_design.specs.Design.{Design}
 use Rattle.cmb_design.specs.Exact.{nets_of}
 use Rattle.std.proofs.lemmas.Bool.{lt-ltb}
 use Rattle.cmb_design.specs.Checks.{first_fault}
-use Rattle.cmb_design.specs.declared.fault.DesignFault.TheVariants.{TableTooLarge}
 use Rattle.cmb_design.specs.Plain.{cells_of, whole_wave, whole_waves}
 use Rattle.cmb_line.specs.declared.mode.Mode.TheVariants.{Plain}
 use Rattle.cmb_sim.specs.Simulation.{mode_checks}
-use Rattle.cmb_sim.specs.Stages.{CanRun}
+use Rattle.cmb_sim.proofs.ModeFacts.{plain_too_large}
 use Rattle.cmb_vcd.specs.Collector.{AreCollected, Collector, IsComplete, IsExactFor, IsFor, least_clock, wave_of}
 
 -- a net's wave stands in its place
@@ -57,10 +56,6 @@ IsExactFor-whole design k is = subst (IsExactFor design) (sym is) (record {
 
 -- ---- the check of the mode
 
-too_large : (design : Design) → 16777216 < cells_of design → first_fault (mode_checks Plain design) ≡ Some TableTooLarge
-unfolding first_fault
-too_large design h = let e : nat_lt 16777216 (cells_of design) ≡ true = lt-ltb 16777216 (cells_of design) h in rw e refl
-
--- the table of a design that mode plain can run isn't too large
-pub fits_table : (design : Design) → CanRun Plain design → 16777216 < cells_of design → ⊥
-fits_table design runs h = let none = runs.fits in let some = too_large design h in cc
+-- a table that the check lets pass isn't too large
+pub fits_table : (design : Design) → first_fault (mode_checks Plain design) ≡ None → 16777216 < cells_of design → ⊥
+fits_table design none h = let some = plain_too_large design (lt-ltb 16777216 (cells_of design) h) in cc

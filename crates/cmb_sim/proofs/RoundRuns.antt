@@ -1,5 +1,5 @@
 -- The nets of a design spread over clusters.
-use Rattle.std.proofs.Common.{◌≡◌, ℕ, ◌≤◌, Bool, true, false, [], length, map, refl, subst, None, Ok, Err, ltb-false}
+use Rattle.std.proofs.Common.{◌≡◌, ℕ, ◌≤◌, Bool, true, false, length, map, refl, subst, Ok, Err, ltb-false}
 use Rattle.std.specs.Prelude.{◌%◌, ◌||◌, nat_lt, Result}
 use Rattle.std.specs.List.{range_with_len}
 use Rattle.std.proofs.lemmas.Bool.{or_parts}
@@ -8,7 +8,6 @@ use Rattle.cmb_core.specs.Assigns.{spread_clustering}
 use Rattle.cmb_core.specs.Clustering.{Clustering}
 use Rattle.cmb_core.specs.declared.clustering.ClusteringFault.{ClusteringFault}
 use Rattle.cmb_core.specs.declared.clustering.ClusteringFault.TheVariants.{Clusters}
-use Rattle.cmb_design.specs.Checks.{first_fault}
 
 pub spread-stands : (nets many : ℕ) (k : Clustering) → spread_clustering nets many ≡ Ok k → (length k.assign ≡ nets) × (1 ≤ many) × (many ≤ 64)
 spread-stands nets many k e = by (nat_lt many 1 || nat_lt 64 many) refl
@@ -23,7 +22,3 @@ spread-stands nets many k e = by (nat_lt many 1 || nat_lt 64 many) refl
         let same : ◌≡◌ {A = Result Clustering ClusteringFault} (Ok spread) (Ok k) = rw f at e in
         let is : spread ≡ k = cc in
         (subst (λ (c : Clustering). length c.assign ≡ nets) is (length-map-range_with_len (λ net. net % many) 0 nets), some, few)
-
-pub no_checks : first_fault [] ≡ None
-unfolding first_fault
-no_checks = refl

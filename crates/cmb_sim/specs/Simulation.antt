@@ -1,92 +1,120 @@
 -- What a whole simulation answers, and what it writes.
-use Rattle.std.specs.Prelude.{◌≡◌, ◌<◌, ◌⊎◌, List, [], ◌∷◌, ◌++◌, length, nat_lt, None, Some, Result, Ok, Err, ⊤}
+use Rattle.std.specs.Prelude.{◌≡◌, ℕ, ◌<◌, ◌≤◌, ◌⊎◌, List, [], ◌∷◌, length, nat_lt, Option, None, Some, Result, IfOk, IfErr, ⊤}
 use Rattle.cmb_netlist.specs.Netlist.{Netlist}
-use Rattle.cmb_bench.specs.Meaning.{Reads}
-use Rattle.cmb_bench.specs.FirstFault.{IsFirstFault}
 use Rattle.cmb_design.specs.Checks.{Check, check, first_fault}
 use Rattle.cmb_design.specs.Design.{Design}
 use Rattle.cmb_design.specs.Exact.{nets_of}
 use Rattle.cmb_design.specs.Plain.{cells_of}
 use Rattle.cmb_design.specs.declared.fault.DesignFault.TheVariants.{TableTooLarge}
-use Rattle.cmb_design.specs.declared.settings.Settings.{Settings}
-use Rattle.cmb_vcd.specs.Beginnings.{HasBegun}
+use Rattle.cmb_vcd.specs.Chosen.{vcd_of}
 use Rattle.cmb_vcd.specs.Vcd.{vcd}
-use Rattle.cmb_line.specs.Modes.{IsLawfulCount, clusters_of, workers_of}
+use Rattle.cmb_line.specs.Modes.{HasLawfulHands, IsLawfulCount, clusters_of}
+use Rattle.cmb_design.specs.declared.settings.Settings.{Settings}
+use Rattle.cmb_line.specs.declared.choice.Choice.{Choice}
+use Rattle.cmb_line.specs.declared.choice.Choice.TheVariants.{All, Only}
+use Rattle.cmb_line.specs.declared.line.Request.{Request}
 use Rattle.cmb_line.specs.declared.mode.Mode.{Mode}
-use Rattle.cmb_line.specs.declared.mode.Mode.TheVariants.{Plain, Rounds, Free, Shared, SharedFree}
-use Rattle.cmb_inputs.specs.Inputs.{AreTexts, HasFailed, HasTooMany, Inputs, NoneFailedBut, StopsAt, Texts, failed_input}
-use Rattle.cmb_inputs.specs.Outputs.{HasTaken, IsCutAfter, IsUntouched, Output}
-use Rattle.cmb_inputs.specs.Spelling.{design_in, text_checks}
+use Rattle.cmb_line.specs.declared.mode.Mode.TheVariants.{Plain, Rounds, Free}
+use Rattle.cmb_inputs.specs.Chosen.{AreChosen, IsUnchosen}
+use Rattle.cmb_inputs.specs.Inputs.{Input, IsReading, Texts}
+use Rattle.cmb_inputs.specs.Outputs.{HasBegun, HasTaken, IsCutAfter, IsUntouched, Output}
+use Rattle.cmb_inputs.specs.Spelling.{HaveTextFault, SpellAny}
+use Rattle.cmb_inout.specs.declared.answer.Report.{Report}
 use Rattle.cmb_inout.specs.declared.fault.Fault.{Fault}
 use Rattle.cmb_inout.specs.declared.fault.Fault.TheVariants as fault
-use Rattle.cmb_inout.specs.declared.answer.Report.{Report}
 
--- what a mode can run: by a table of all levels, at most 16,777,216 of them; by clusters or by threads that share the work, all
+-- ---- what a mode can run
+
+-- by a table of all levels a design with at most 16,777,216 of them; by clusters any
 abbrev pub mode_checks : Mode → Design → List Check
 mode_checks Plain design = check TableTooLarge (nat_lt 16777216 (cells_of design)) ∷ []
 mode_checks (Rounds workers clusters) design = []
 mode_checks (Free workers clusters) design = []
-mode_checks (Shared threads) design = []
-mode_checks (SharedFree threads) design = []
+
+-- a design can be run as it is asked for
+pub record CanRun (request : Request) (design : Design) : Type 0 where
+  pub fits : first_fault (mode_checks request.mode design) ≡ None
+  pub clusters : IsLawfulCount (clusters_of request.mode)
+  pub hands : HasLawfulHands request.mode request.threads
+
+-- why it can't: the first check of the mode that stands, then the number of clusters, then that of workers or of threads
+abbrev pub IsUnrun : Request → Design → Fault → Type 0
+IsUnrun request design (fault.Design f) = first_fault (mode_checks request.mode design) ≡ Some f
+IsUnrun request design fault.Clusters = (first_fault (mode_checks request.mode design) ≡ None) × (IsLawfulCount (clusters_of request.mode) → ⊥)
+IsUnrun request design fault.Workers =
+    (first_fault (mode_checks request.mode design) ≡ None) × IsLawfulCount (clusters_of request.mode) × (HasLawfulHands request.mode request.threads → ⊥)
+IsUnrun request design fault.Memory = ⊤
+IsUnrun request design _ = ⊥
 
 -- the text is written while the run goes on
-abbrev pub IsFree : Mode → Type 0
-IsFree (Free workers clusters) = ⊤
-IsFree (SharedFree threads) = ⊤
-IsFree _ = ⊥
+abbrev pub IsStreamed : Mode → Choice → Type 0
+IsStreamed (Free workers clusters) All = ⊤
+IsStreamed _ _ = ⊥
 
--- all checks of texts with a netlist, in their order: those of the tables and of the design, and then those of the mode
-abbrev pub all_checks : Texts → Settings → Mode → Netlist → List Check
-all_checks texts settings mode netlist = text_checks texts settings netlist ++ mode_checks mode (design_in texts settings netlist)
+-- the run can be stopped: several workers run freely
+abbrev pub CanBeStopped : Mode → Option ℕ → Choice → Type 0
+CanBeStopped (Free workers clusters) None All = (2 ≤ workers) × (2 ≤ clusters)
+CanBeStopped _ _ _ = ⊥
 
--- the texts spell this design, which the mode can run: there is a netlist, and no check stands
-pub record Spell (texts : Texts) (settings : Settings) (mode : Mode) (design : Design) : Type 0 where
-  pub netlist : Netlist
-  pub read : Reads texts.bench netlist
-  pub checked : first_fault (all_checks texts settings mode netlist) ≡ None
-  pub clusters : IsLawfulCount (clusters_of mode)
-  pub workers : IsLawfulCount (workers_of mode)
-  pub is : design ≡ design_in texts settings netlist
+-- ---- what is to come of texts
 
--- the texts spell a design that no check refuses
-abbrev pub HaveDesign : Texts → Settings → Mode → Type 0
-HaveDesign texts settings mode = (netlist : Netlist) × Reads texts.bench netlist × (first_fault (all_checks texts settings mode netlist) ≡ None)
+-- the text that is asked for of a design: that of all its nets, or of chosen ones
+abbrev pub IsTextOf : Choice → Design → List ℕ → List ℕ → Type 0
+IsTextOf All design names text = text ≡ vcd design
+IsTextOf (Only pick) design names text = (nets : List ℕ) × AreChosen pick design names nets × (text ≡ vcd_of design nets)
 
--- the texts have this fault: the netlist's first, or where there is a netlist the first check that stands;
--- where they spell a design, the mode's number of clusters and then that of its workers
-abbrev pub HaveFault : Texts → Settings → Mode → Fault → Type 0
-HaveFault texts settings mode (fault.Bench f) = IsFirstFault texts.bench f
-HaveFault texts settings mode (fault.Design f) = (netlist : Netlist) × Reads texts.bench netlist × (first_fault (all_checks texts settings mode netlist) ≡ Some f)
-HaveFault texts settings mode fault.Clusters = HaveDesign texts settings mode × (IsLawfulCount (clusters_of mode) → ⊥)
-HaveFault texts settings mode fault.Workers = HaveDesign texts settings mode × IsLawfulCount (clusters_of mode) × (IsLawfulCount (workers_of mode) → ⊥)
-HaveFault texts settings mode _ = ⊥
+-- all nets are asked for, and nothing is said of threads
+abbrev pub of_all : Settings → Mode → Request
+of_all settings mode = record { settings = settings; mode = mode; threads = None; choice = All }
 
-abbrev pub report_of : Design → Report
-report_of design = record { nets = nets_of design; horizon = design.horizon; written = length (vcd design) }
+abbrev pub report_of : Design → List ℕ → Report
+report_of design text = record { nets = nets_of design; horizon = design.horizon; written = length text }
 
--- the sources' texts spell this design
-abbrev pub SpellDesign : Settings → Mode → Inputs → Design → Type 0
-SpellDesign settings mode i design = (texts : Texts) × AreTexts i texts × Spell texts settings mode design
+-- of the texts comes this text, with this report
+abbrev pub Makes : Request → Texts → List ℕ → Report → Type 0
+Makes request texts text report =
+    (design : Design) × SpellAny texts request.settings design × IsTextOf request.choice design texts.names text × CanRun request design
+    × (report ≡ report_of design text)
 
--- the run began to write the text of the design, and no write failed
-abbrev pub BeginsText : Settings → Mode → Inputs → Output → Type 0
-BeginsText settings mode i o = (design : Design) × SpellDesign settings mode i design × IsFree mode × HasBegun design o.old o.new × (o.after ≡ o.before)
+-- why no nets are chosen
+abbrev pub IsUnasked : Choice → Netlist → List ℕ → Fault → Type 0
+IsUnasked All netlist names f = ⊥
+IsUnasked (Only pick) netlist names f = IsUnchosen pick netlist names f
 
--- what holds with each answer
-abbrev pub IsAnswer : Settings → Mode → Inputs → Output → Result Report Fault → Type 0
-IsAnswer settings mode i o (Ok report) =
-    (design : Design) × SpellDesign settings mode i design × HasTaken (vcd design) o × (report ≡ report_of design)
-IsAnswer settings mode i o (Err (fault.TooLong n)) = StopsAt HasTooMany i n × IsUntouched o
-IsAnswer settings mode i o (Err (fault.Read n)) = StopsAt HasFailed i n × IsUntouched o
-IsAnswer settings mode i o (Err (fault.Write n)) = (design : Design) × SpellDesign settings mode i design × IsCutAfter n (vcd design) o
-IsAnswer settings mode i o (Err (fault.Incomplete net upto)) =
-    (design : Design) × SpellDesign settings mode i design × IsFree mode
-    × (net < nets_of design) × (upto < design.horizon) × HasBegun design o.old o.new × (o.after ≡ o.before)
-IsAnswer settings mode i o (Err fault.Memory) = IsUntouched o ⊎ BeginsText settings mode i o
-IsAnswer settings mode i o (Err f) = ((texts : Texts) × AreTexts i texts × HaveFault texts settings mode f) × IsUntouched o
+-- why a design isn't run: no nets of it are chosen, or the mode can't run it
+abbrev pub IsRefused : Request → List ℕ → Design → Fault → Type 0
+IsRefused request names design f =
+    IsUnasked request.choice design.netlist names f ⊎ ((text : List ℕ) × IsTextOf request.choice design names text × IsUnrun request design f)
 
--- What a simulation answers, and what its sink takes. The inputs are read in order, then the texts' faults are found in order,
--- then the text of the design is written, all of it or a beginning. Before that nothing is written. Memory may run out before,
+-- why nothing comes of the texts: they spell no design, or it isn't run
+abbrev pub Refuses : Request → Texts → Fault → Type 0
+Refuses request texts f =
+    HaveTextFault texts request.settings f ⊎ ((design : Design) × SpellAny texts request.settings design × IsRefused request texts.names design f)
+
+-- why a run may break off while its text is written: it is stopped, and a net is known only below a tick; or memory runs out
+abbrev pub Breaks : Request → Report → Fault → Type 0
+Breaks request report (fault.Incomplete net upto) = CanBeStopped request.mode request.threads request.choice × (net < report.nets) × (upto < report.horizon)
+Breaks request report fault.Memory = IsStreamed request.mode request.choice
+Breaks request report _ = ⊥
+
+-- ---- what comes of them
+
+-- a beginning of a text was written: a write failed then, or the work broke off
+abbrev pub IsBroken : (Fault → Type 0) → List ℕ → Output → Fault → Type 0
+IsBroken Breaks text o (fault.Write n) = IsCutAfter n text o
+IsBroken Breaks text o f = Breaks f × HasBegun text o
+
+-- what comes of work that makes a text, of which something is told, that refuses by some faults, and that breaks off by others
+pub record IsMade {A : Type 0} (Makes : List ℕ → A → Type 0) (Refuses : Fault → Type 0) (Breaks : A → Fault → Type 0) (o : Output) (answer : Result A Fault) : Type 0 where
+  pub ok : IfOk answer (λ told. (text : List ℕ) × Makes text told × HasTaken text o)
+  pub fault : IfErr answer (λ f. (Refuses f × IsUntouched o) ⊎ ((text : List ℕ) × (told : A) × Makes text told × IsBroken (Breaks told) text o f))
+
+-- what comes of texts that were read
+abbrev pub IsRun : Request → Texts → Output → Result Report Fault → Type 0
+IsRun request texts o answer = IsMade (Makes request texts) (Refuses request texts) (Breaks request) o answer
+
+-- What a simulation answers, and what its sink takes. The inputs are read in order; then the texts' faults are found in order, then that of
+-- the list, then the mode's; then the text is written, all of it or a beginning. Before that nothing is written. Memory may run out before,
 -- and where the text is written while the run goes on, also then. A read or a write fails only where that is the answer.
-abbrev pub IsOutcome : Settings → Mode → Inputs → Output → Result Report Fault → Type 0
-IsOutcome settings mode i o answer = NoneFailedBut (failed_input answer) i × IsAnswer settings mode i o answer
+abbrev pub IsOutcome : Request → List Input → Output → Result Report Fault → Type 0
+IsOutcome request inputs o answer = IsReading request.choice (λ texts told. IsRun request texts o told) (IsUntouched o) inputs answer

@@ -1,14 +1,14 @@
 //! What a line asks for, done with sources and a sink.
 
-ghost use Rattle.std.specs.Prelude.{◌-◌, ◌^◌, ◌<◌};
-ghost use Rattle.cmb_inputs.specs.Inputs.{HaveRoom, inputs_of, read_from};
+ghost use Rattle.std.specs.Prelude.{◌≡◌, ◌-◌, ◌^◌, ◌<◌};
+ghost use Rattle.cmb_inputs.specs.Inputs.{HaveRoom, in_order, listed, read_from};
 ghost use Rattle.cmb_inputs.specs.Outputs.{written_to};
-ghost use Rattle.cmb_sim.specs.Tasks.{IsDone};
+ghost use Rattle.cmb_sim.specs.Tasks.{IsDone, choice_in};
 
-use crate::choosing::simulate_chosen;
+use crate::simulation::simulate_chosen;
 use cmb_inout::{Done, Fault, Source};
 use cmb_inputs::{check_design, write_counts};
-use cmb_line::{Line, Task};
+use cmb_line::{Choice, Line, Pick, Request, Task};
 use cmb_vcd::Sink;
 use std::sync::Wait;
 use std::thread::Threads;
@@ -38,18 +38,23 @@ pub fn carry_out<
         (S.failures stimuli.old) (C.failures clocks.old) }
     requires list { L.failures list.old < 2 ^ 64 - 1 }
     requires out { O.failures out.old < 2 ^ 64 - 1 }
-    ensures { IsDone line.now
-        (inputs_of (read_from B.Source bench.old bench.new) (read_from D.Source delays.old delays.new)
-        (read_from S.Source stimuli.old stimuli.new) (read_from C.Source clocks.old clocks.new))
-        (read_from L.Source list.old list.new) (written_to O.Sink out.old out.new) result }
+    ensures done { IsDone line.now (in_order (read_from B.Source 1 bench.old bench.new)
+        (read_from D.Source 2 delays.old delays.new) (read_from S.Source 3 stimuli.old stimuli.new)
+        (read_from C.Source 4 clocks.old clocks.new)
+        (listed (choice_in line.now) (read_from L.Source 5 list.old list.new)))
+        (written_to O.Sink out.old out.new) result }
+    ensures unread { (choice_in line.now ≡ Choice.Only Pick.Listed → ⊥) → list.new ≡ list.old }
 {
     let settings = line.settings;
     match line.task {
         Task::Run => {
-            let (mode, choice) = (line.mode, line.choice);
-            let report = simulate_chosen(
-                rt, bench, delays, stimuli, clocks, list, settings, mode, choice, out,
-            )?;
+            let request = Request {
+                settings,
+                mode: line.mode,
+                threads: line.threads,
+                choice: line.choice,
+            };
+            let report = simulate_chosen(rt, bench, delays, stimuli, clocks, list, request, out)?;
             Ok(Done::Ran(report))
         }
         Task::Check => {

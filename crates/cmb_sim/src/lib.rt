@@ -2,16 +2,14 @@
 #![tactic(auto)]
 
 pub mod carrying;
-pub mod choosing;
 pub mod laws;
 mod modes;
+mod plan;
 mod running;
-mod sharing;
 pub mod simulation;
-mod threads;
+mod tuning;
 
 pub use carrying::carry_out;
-pub use choosing::simulate_chosen;
 pub use cmb_bench::{BenchFault, FaultKind};
 pub use cmb_count::{Counts, counts_text};
 pub use cmb_design::{DesignFault, Settings};
@@ -19,7 +17,7 @@ pub use cmb_inout::{
     Done, Fault, FromBytes, FromReader, ReadFault, Report, Source, fault_line, read_whole,
 };
 pub use cmb_inputs::{InputTexts, check_design, read_texts};
-pub use cmb_line::{Choice, Line, Mode, Pick, Task};
+pub use cmb_line::{Choice, Line, Mode, Pick, Request, Task};
 pub use cmb_vcd::{Failed, Limited, Room, Sink, ToWriter, write_whole};
 pub use cmb_wave::Level;
-pub use simulation::simulate;
+pub use simulation::{simulate, simulate_chosen};

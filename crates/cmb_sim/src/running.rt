@@ -1,26 +1,28 @@
-//! The text of a design, as a mode runs it.
+//! The text of a design, as a plan has it made.
 
-ghost use Rattle.std.specs.Prelude.{◌≡◌, ◌-◌, ◌^◌, ◌<◌, length, IfOk};
+ghost use Rattle.std.specs.Prelude.{◌≡◌, ◌-◌, ◌^◌, ◌<◌, None, List, ℕ, length, IfOk};
+ghost use Rattle.cmb_design.specs.Checks.{first_fault};
 ghost use Rattle.cmb_design.specs.Exact.{nets_of};
 ghost use Rattle.cmb_design.specs.Plain.{whole_waves};
 ghost use Rattle.cmb_inputs.specs.Outputs.{written_to};
 ghost use Rattle.cmb_line.specs.Modes.{IsLawfulCount};
-ghost use Rattle.cmb_sim.specs.Simulation.{report_of};
-ghost use Rattle.cmb_sim.specs.Stages.{CanRun};
-ghost use Rattle.cmb_sim.specs.Inner.Writing.{IsWriting, IsWritten};
+ghost use Rattle.cmb_line.specs.declared.mode.Mode.TheVariants.{Plain};
+ghost use Rattle.cmb_sim.specs.Inner.Plans.{CanMake, IsPut, MayBreak, PlanMayBreak, way_text};
+ghost use Rattle.cmb_sim.specs.Simulation.{mode_checks};
 ghost use Rattle.cmb_vcd.specs.Vcd.{vcd};
 
-use crate::modes::{check_mode, threads_in};
-use crate::threads::{text_by_threads, write_by_threads};
+use crate::plan::{Plan, Way};
+use cmb_choice::chosen_text;
 use cmb_core::{Clustering, ClusteringFault};
 use cmb_design::{Design, DesignFault, plain_waves};
 use cmb_free::{OpenGate, run_free_text};
-use cmb_inout::{Fault, Report};
+use cmb_inout::Fault;
 use cmb_inputs::write_text;
-use cmb_line::Mode;
 use cmb_links::Workers;
+use cmb_pipeline::write_pipeline;
 use cmb_rounds::run_rounds;
-use cmb_vcd::{Collector, Sink, vcd_text};
+use cmb_team::write_team;
+use cmb_vcd::{Collector, Room, Sink, vcd_text};
 use cmb_wave::Wave;
 use std::alloc::{AllocError, Global};
 use std::sync::Wait;
@@ -28,7 +30,7 @@ use std::thread::Threads;
 
 // Every net's wave, by a table with a place for each net and tick.
 fn table_waves(alloc: Global, design: &Design) -> Result<Vec<Wave>, AllocError>
-    requires { CanRun Mode.Plain design.now }
+    requires { first_fault (mode_checks Plain design.now) ≡ None }
     ensures { IfOk result (λ waves. waves.items ≡ whole_waves design.now) }
 {
     match plain_waves(alloc, design) {
@@ -39,8 +41,8 @@ fn table_waves(alloc: Global, design: &Design) -> Result<Vec<Wave>, AllocError>
 }
 
 // The text of a design, of such waves.
-fn plain_text(alloc: Global, design: &Design) -> Result<Vec<u8>, AllocError>
-    requires { CanRun Mode.Plain design.now }
+fn table_text(alloc: Global, design: &Design) -> Result<Vec<u8>, AllocError>
+    requires { first_fault (mode_checks Plain design.now) ≡ None }
     ensures { IfOk result (λ text. text.items ≡ vcd design.now) }
 {
     let waves = table_waves(alloc, design)?;
@@ -89,40 +91,6 @@ fn rounds_text<R: AllocGlobal + Threads + Sync>(
     }
 }
 
-// Net and tick pairs up to which several workers run as they are asked to. Above it, what they hand to one another
-// takes longer than the engine takes for all nets.
-const MOST_SHARED: u64 = 262_144;
-
-// Whether a run is so short that it doesn't matter who has which nets.
-fn is_short(design: &Design) -> bool {
-    let nets = design.netlist().len() as u64;
-    nets.saturating_mul(u64::from(design.horizon())) <= MOST_SHARED
-}
-
-// Whether several workers have the nets. Else the engine carries all of them: where one worker has them, and where
-// several wouldn't pay.
-fn are_shared_out(workers: u32, clusters: u32, design: &Design) -> bool {
-    workers.min(clusters) >= 2 && is_short(design)
-}
-
-// The text of a design, made whole.
-fn whole_text<R: AllocGlobal + Threads + Wait + Sync>(
-    rt: &R,
-    mode: Mode,
-    design: &Design,
-) -> Result<Vec<u8>, AllocError>
-    requires { CanRun mode design.now }
-    ensures { IfOk result (λ text. text.items ≡ vcd design.now) }
-{
-    match mode {
-        Mode::Plain => plain_text(rt.alloc(), design),
-        Mode::Rounds { workers, clusters } if are_shared_out(workers, clusters, design) => {
-            rounds_text(rt, workers, clusters, design)
-        }
-        _ => text_by_threads(rt, rt.alloc(), design, threads_in(mode)),
-    }
-}
-
 // Writes the text of a design while several workers run, and gives the text's length.
 fn write_by_workers<R: AllocGlobal + Threads + Wait + Sync, O: Sink>(
     rt: &R,
@@ -131,9 +99,11 @@ fn write_by_workers<R: AllocGlobal + Threads + Wait + Sync, O: Sink>(
     design: &Design,
     out: &mut O,
 ) -> Result<u64, Fault>
-    requires runs { CanRun (Mode.Free workers clusters) design.now }
+    requires workers { IsLawfulCount workers }
+    requires clusters { IsLawfulCount clusters }
     requires out { O.failures out.old < 2 ^ 64 - 1 }
-    ensures { IsWritten (Mode.Free workers clusters) design.now (written_to O.Sink out.old out.new) result }
+    ensures { IsPut (vcd design.now) (MayBreak (Way.Free workers clusters) design.now)
+        (written_to O.Sink out.old out.new) result }
 {
     let alloc = rt.alloc();
     let clustering = spread(alloc, design, clusters)?;
@@ -143,48 +113,71 @@ fn write_by_workers<R: AllocGlobal + Threads + Wait + Sync, O: Sink>(
     Ok(written)
 }
 
-// Writes the text of a design that the mode can run, and gives its length.
+// Writes a text that was made whole, and gives its length.
+fn put<O: Sink>(out: &mut O, made: Result<Vec<u8>, AllocError>) -> Result<u64, Fault>
+    requires { O.failures out.old < 2 ^ 64 - 1 }
+    ensures { (text : List ℕ) → IfOk made (λ it. it.items ≡ text)
+        → IsPut text (λ _. ⊥) (written_to O.Sink out.old out.new) result }
+{
+    let text = made?;
+    write_text(out, text.as_slice())?;
+    Ok(text.len() as u64)
+}
+
+// Writes the text of a design in a way that can make it, and gives its length.
 fn write_by<R: AllocGlobal + Threads + Wait + Sync, O: Sink>(
     rt: &R,
-    mode: Mode,
+    way: &Way,
     design: &Design,
     out: &mut O,
 ) -> Result<u64, Fault>
-    requires runs { CanRun mode design.now }
+    requires makes { CanMake way.now design.now }
     requires out { O.failures out.old < 2 ^ 64 - 1 }
-    ensures { IsWritten mode design.now (written_to O.Sink out.old out.new) result }
+    ensures { IsPut (way_text way.now design.now) (MayBreak way.now design.now)
+        (written_to O.Sink out.old out.new) result }
 {
-    match mode {
-        Mode::Free { workers, clusters } if are_shared_out(workers, clusters, design) => {
-            write_by_workers(rt, workers, clusters, design, out)
-        }
-        Mode::Free { .. } | Mode::SharedFree { .. } => {
-            let written = write_by_threads(rt, rt.alloc(), design, threads_in(mode), out)?;
-            Ok(written)
-        }
-        _ => {
-            let text = whole_text(rt, mode, design)?;
-            write_text(out, text.as_slice())?;
-            Ok(text.len() as u64)
-        }
+    let alloc = rt.alloc();
+    match way {
+        Way::Table => put(out, table_text(alloc, design)),
+        Way::Chosen(nets) => put(out, chosen_text(alloc, design, nets)),
+        Way::Engine(threads) => Ok(write_team(rt, alloc, design, *threads, out)?),
+        Way::Shares(sharing) => Ok(write_pipeline(rt, alloc, design, sharing, out)?),
+        Way::Rounds { workers, clusters } => put(out, rounds_text(rt, *workers, *clusters, design)),
+        Way::Free { workers, clusters } => write_by_workers(rt, *workers, *clusters, design, out),
     }
 }
 
-// Writes the text of a design that the mode can run, and tells what was written.
-pub(crate) fn write_report<R: AllocGlobal + Threads + Wait + Sync, O: Sink>(
+// The same text, held in memory.
+fn held_text<R: AllocGlobal + Threads + Wait + Sync>(
     rt: &R,
-    mode: Mode,
+    way: &Way,
+    design: &Design,
+) -> Result<Vec<u8>, AllocError>
+    requires { CanMake way.now design.now }
+    ensures { IfOk result (λ text. text.items ≡ way_text way.now design.now) }
+{
+    let mut room = Room::new(rt.alloc(), 0)?;
+    match write_by(rt, way, design, &mut room) {
+        Ok(_) => Ok(room.bytes),
+        Err(_) => Err(AllocError),
+    }
+}
+
+/// Writes the text that a plan has made, and gives its length.
+pub(crate) fn write_plan<R: AllocGlobal + Threads + Wait + Sync, O: Sink>(
+    rt: &R,
+    plan: &Plan,
     design: &Design,
     out: &mut O,
-) -> Result<Report, Fault>
-    requires { O.failures out.old < 2 ^ 64 - 1 }
-    ensures { IsWriting (report_of design.now) mode design.now (written_to O.Sink out.old out.new) result }
+) -> Result<u64, Fault>
+    requires makes { CanMake plan.now.way design.now }
+    requires out { O.failures out.old < 2 ^ 64 - 1 }
+    ensures { IsPut (way_text plan.now.way design.now) (PlanMayBreak plan.now design.now)
+        (written_to O.Sink out.old out.new) result }
 {
-    check_mode(mode, design)?;
-    let written = write_by(rt, mode, design, out)?;
-    Ok(Report {
-        nets: design.netlist().len() as u32,
-        horizon: design.horizon(),
-        written,
-    })
+    if plan.held {
+        put(out, held_text(rt, &plan.way, design))
+    } else {
+        write_by(rt, &plan.way, design, out)
+    }
 }

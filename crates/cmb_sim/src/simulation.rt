@@ -1,14 +1,16 @@
 //! A whole simulation.
 
-ghost use Rattle.std.specs.Prelude.{◌-◌, ◌^◌, ◌<◌};
-ghost use Rattle.cmb_inputs.specs.Inputs.{HaveRoom, inputs_of, read_from};
+ghost use Rattle.std.specs.Prelude.{◌≡◌, ◌-◌, ◌^◌, ◌<◌, [], None};
+ghost use Rattle.cmb_inputs.specs.Inputs.{HaveRoom, in_order, listed, read_from};
 ghost use Rattle.cmb_inputs.specs.Outputs.{written_to};
-ghost use Rattle.cmb_sim.specs.Simulation.{IsOutcome};
+ghost use Rattle.cmb_sim.specs.Simulation.{IsOutcome, of_all};
 
-use crate::choosing::simulate_chosen;
+use crate::plan::plan_of;
+use crate::running::write_plan;
 use cmb_design::Settings;
 use cmb_inout::{Fault, FromBytes, Report, Source};
-use cmb_line::{Choice, Mode};
+use cmb_inputs::{read_texts, spelled_design};
+use cmb_line::{Choice, Mode, Pick, Request};
 use cmb_vcd::Sink;
 use std::sync::Wait;
 use std::thread::Threads;
@@ -19,7 +21,7 @@ use std::thread::Threads;
 /// 16,777,216 bytes, 61 where a read of it failed. Then come the faults of the netlist (1 to 8), of the
 /// tables and the design (20 to 37) and of the mode (33, 40, 54). The text is written once the run is complete, in mode
 /// free while it runs: 62 where a write failed. `Memory` (70) comes where memory or a worker's thread was refused, in
-/// mode free also in the middle of the text. 53 would come in mode free where a run was stopped.
+/// mode free also in the middle of the text. 53 would come where several workers run freely and were stopped.
 pub fn simulate<
     R: AllocGlobal + Threads + Wait + Sync,
     B: Source,
@@ -40,15 +42,66 @@ pub fn simulate<
     requires sources { HaveRoom (B.failures bench.old) (D.failures delays.old)
         (S.failures stimuli.old) (C.failures clocks.old) }
     requires out { O.failures out.old < 2 ^ 64 - 1 }
-    ensures { IsOutcome settings mode
-        (inputs_of (read_from B.Source bench.old bench.new) (read_from D.Source delays.old delays.new)
-        (read_from S.Source stimuli.old stimuli.new) (read_from C.Source clocks.old clocks.new))
-        (written_to O.Sink out.old out.new)
-        result }
+    ensures { IsOutcome (of_all settings mode) (in_order (read_from B.Source 1 bench.old bench.new)
+        (read_from D.Source 2 delays.old delays.new) (read_from S.Source 3 stimuli.old stimuli.new)
+        (read_from C.Source 4 clocks.old clocks.new) []) (written_to O.Sink out.old out.new) result }
 {
-    let all = Choice::All;
     let list = &mut FromBytes::new(&[]);
-    simulate_chosen(
-        rt, bench, delays, stimuli, clocks, list, settings, mode, all, out,
-    )
+    let request = Request {
+        settings,
+        mode,
+        threads: None,
+        choice: Choice::All,
+    };
+    simulate_chosen(rt, bench, delays, stimuli, clocks, list, request, out)
+}
+
+/// Simulates as `simulate` does, by threads that share the work where a number of them is given, and writes the
+/// waveforms of the chosen nets: of some the declarations and the levels of these alone, by rising number, each with
+/// the code of its place among them. Only nets on which a chosen one depends are simulated.
+///
+/// Where a list names the nets, it is input 5, and read whole after the four others; else no byte of it is read. A list
+/// has the names of nets, one a line; blanks count as between the words of a netlist, and `#` begins a comment. A net
+/// that is named twice counts once. 38 comes where what stands on a line of the list is no net's name, after the faults
+/// of the netlist, the tables and the design and before those of the mode. Where not all nets are chosen, the text is
+/// made whole before any of it is written, in each mode. So 70 then comes before the text, and 53 never.
+pub fn simulate_chosen<
+    R: AllocGlobal + Threads + Wait + Sync,
+    B: Source,
+    D: Source,
+    S: Source,
+    C: Source,
+    L: Source,
+    O: Sink,
+>(
+    rt: &R,
+    bench: &mut B,
+    delays: &mut D,
+    stimuli: &mut S,
+    clocks: &mut C,
+    list: &mut L,
+    request: Request,
+    out: &mut O,
+) -> Result<Report, Fault>
+    requires sources { HaveRoom (B.failures bench.old) (D.failures delays.old)
+        (S.failures stimuli.old) (C.failures clocks.old) }
+    requires list { L.failures list.old < 2 ^ 64 - 1 }
+    requires out { O.failures out.old < 2 ^ 64 - 1 }
+    ensures outcome { IsOutcome request (in_order (read_from B.Source 1 bench.old bench.new)
+        (read_from D.Source 2 delays.old delays.new) (read_from S.Source 3 stimuli.old stimuli.new)
+        (read_from C.Source 4 clocks.old clocks.new) (listed request.choice (read_from L.Source 5 list.old list.new)))
+        (written_to O.Sink out.old out.new) result }
+    ensures unread { (request.choice ≡ Choice.Only Pick.Listed → ⊥) → list.new ≡ list.old }
+{
+    let alloc = rt.alloc();
+    let choice = request.choice;
+    let texts = read_texts(alloc, choice, bench, delays, stimuli, clocks, list)?;
+    let design = spelled_design(alloc, &texts, request.settings)?;
+    let plan = plan_of(alloc, request, &design, texts.names.as_slice())?;
+    let written = write_plan(rt, &plan, &design, out)?;
+    Ok(Report {
+        nets: design.netlist().len() as u32,
+        horizon: design.horizon(),
+        written,
+    })
 }

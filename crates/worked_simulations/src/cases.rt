@@ -1,7 +1,9 @@
 //! What a simulation is given, and what is to come of it.
 
 use crate::checks::{holds, same};
-use cmb_sim::{Fault, FromBytes, Level, Limited, Mode, Report, Settings, simulate};
+use cmb_sim::{
+    Choice, Fault, FromBytes, Level, Limited, Mode, Report, Request, Settings, simulate_chosen,
+};
 use std::alloc::{AllocError, Global};
 use std::process::Abort;
 use std::sync::Wait;
@@ -61,51 +63,62 @@ pub fn table(alloc: Global, header: &str, rows: &str) -> Result<String, AllocErr
     Ok(text)
 }
 
+/// How a case is run: by a mode, and by so many threads where that is said.
+pub type How = (Mode, Option<u32>);
+
+fn rounds(workers: u32, clusters: u32) -> How {
+    (Mode::Rounds { workers, clusters }, None)
+}
+
+fn free(workers: u32, clusters: u32) -> How {
+    (Mode::Free { workers, clusters }, None)
+}
+
+/// The table.
+pub const PLAIN: How = (Mode::Plain, None);
+
+/// By threads that share the work, the text being written once it is whole.
+pub fn shared(threads: u32) -> How {
+    let (mode, _) = rounds(1, 1);
+    (mode, Some(threads))
+}
+
+/// By threads that share the work, the text being written while it is made.
+pub fn shared_freely(threads: u32) -> How {
+    let (mode, _) = free(1, 1);
+    (mode, Some(threads))
+}
+
 /// All modes, with one worker and with more, with each net in a cluster of its own and empty clusters besides, and by
 /// threads that share the work.
-pub const MODES: [Mode; 14] = [
-    Mode::Plain,
-    Mode::Rounds {
-        workers: 1,
-        clusters: 1,
-    },
-    Mode::Rounds {
-        workers: 1,
-        clusters: 64,
-    },
-    Mode::Rounds {
-        workers: 2,
-        clusters: 7,
-    },
-    Mode::Rounds {
-        workers: 3,
-        clusters: 2,
-    },
-    Mode::Rounds {
-        workers: 64,
-        clusters: 64,
-    },
-    Mode::Free {
-        workers: 1,
-        clusters: 64,
-    },
-    Mode::Free {
-        workers: 2,
-        clusters: 7,
-    },
-    Mode::Free {
-        workers: 3,
-        clusters: 64,
-    },
-    Mode::Free {
-        workers: 64,
-        clusters: 64,
-    },
-    Mode::Shared { threads: 1 },
-    Mode::Shared { threads: 3 },
-    Mode::SharedFree { threads: 2 },
-    Mode::SharedFree { threads: 64 },
-];
+pub fn modes() -> [How; 14] {
+    [
+        PLAIN,
+        rounds(1, 1),
+        rounds(1, 64),
+        rounds(2, 7),
+        rounds(3, 2),
+        rounds(64, 64),
+        free(1, 64),
+        free(2, 7),
+        free(3, 64),
+        free(64, 64),
+        shared(1),
+        shared(3),
+        shared_freely(2),
+        shared_freely(64),
+    ]
+}
+
+/// All nets, run so.
+pub fn asked(settings: Settings, how: How) -> Request {
+    Request {
+        settings,
+        mode: how.0,
+        threads: how.1,
+        choice: Choice::All,
+    }
+}
 
 /// An answer as examples say it: the report, or the fault's number and place.
 pub type Told = Result<Report, (u32, u64)>;
@@ -122,7 +135,7 @@ pub fn told(answer: &Result<Report, Fault>) -> Told {
 pub fn run_within<R: AllocGlobal + Threads + Wait + Sync>(
     rt: &R,
     case: Case<'_>,
-    mode: Mode,
+    how: How,
     room: usize,
 ) -> Result<(Told, Vec<u8>), AllocError> {
     let alloc = rt.alloc();
@@ -130,14 +143,14 @@ pub fn run_within<R: AllocGlobal + Threads + Wait + Sync>(
     let stimuli = table(alloc, "tick,net,value", case.stimuli)?;
     let clocks = table(alloc, "net,first,period", case.clocks)?;
     let mut out = Limited::new(alloc, room);
-    let answer = simulate(
+    let answer = simulate_chosen(
         rt,
         &mut FromBytes::new(case.bench),
         &mut FromBytes::new(delays.as_bytes()),
         &mut FromBytes::new(stimuli.as_bytes()),
         &mut FromBytes::new(clocks.as_bytes()),
-        case.settings,
-        mode,
+        &mut FromBytes::new(&[]),
+        asked(case.settings, how),
         &mut out,
     );
     Ok((told(&answer), out.bytes))
@@ -147,9 +160,9 @@ pub fn run_within<R: AllocGlobal + Threads + Wait + Sync>(
 pub fn run<R: AllocGlobal + Threads + Wait + Sync>(
     rt: &R,
     case: Case<'_>,
-    mode: Mode,
+    how: How,
 ) -> Result<(Told, Vec<u8>), AllocError> {
-    run_within(rt, case, mode, 100_000)
+    run_within(rt, case, how, 100_000)
 }
 
 /// A sink took so many bytes of this text, and then failed if that isn't all.
@@ -178,8 +191,8 @@ pub fn writes<R: AllocGlobal + Abort + Threads + Wait + Sync>(
         horizon: case.settings.horizon,
         written: want.len() as u64,
     };
-    for mode in MODES {
-        let (told, text) = run(rt, case, mode)?;
+    for how in modes() {
+        let (told, text) = run(rt, case, how)?;
         same(rt, (body, text.as_slice() == want.as_bytes()), (body, true));
         same(rt, (body, told), (body, Ok(report)));
     }
@@ -193,18 +206,18 @@ pub fn refuses<R: AllocGlobal + Abort + Threads + Wait + Sync>(
     number: u32,
     place: u64,
 ) -> Result<(), Fail> {
-    refuses_in(rt, case, Mode::Plain, number, place)
+    refuses_in(rt, case, PLAIN, number, place)
 }
 
-/// In this mode the answer to this case is this fault at this place, and nothing is written.
+/// Run so, the answer to this case is this fault at this place, and nothing is written.
 pub fn refuses_in<R: AllocGlobal + Abort + Threads + Wait + Sync>(
     rt: &R,
     case: Case<'_>,
-    mode: Mode,
+    how: How,
     number: u32,
     place: u64,
 ) -> Result<(), Fail> {
-    let (told, text) = run(rt, case, mode)?;
+    let (told, text) = run(rt, case, how)?;
     same(rt, told, Err((number, place)));
     holds(rt, text.is_empty());
     Ok(())

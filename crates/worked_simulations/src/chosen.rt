@@ -2,10 +2,10 @@
 
 ghost use Rattle.std.specs.Prelude.{◌≡◌};
 
-use crate::cases::{Case, MODES, Told, bench_case, table, takes, told};
+use crate::cases::{Case, How, PLAIN, Told, asked, bench_case, modes, table, takes, told};
 use crate::checks::{holds, same};
 use crate::drips::{Drip, dripping};
-use cmb_sim::{Choice, FromBytes, Limited, Mode, Pick, Report, simulate_chosen};
+use cmb_sim::{Choice, FromBytes, Limited, Pick, Report, Request, simulate_chosen};
 use std::alloc::AllocError;
 use std::process::Abort;
 use std::sync::Wait;
@@ -29,7 +29,7 @@ fn row() -> Case<'static> {
 fn run_chosen<R: AllocGlobal + Threads + Wait + Sync>(
     rt: &R,
     case: Case<'_>,
-    mode: Mode,
+    how: How,
     choice: Choice,
     list: &mut Drip<'_>,
     room: usize,
@@ -45,9 +45,10 @@ fn run_chosen<R: AllocGlobal + Threads + Wait + Sync>(
         &mut FromBytes::new(stimuli.as_bytes()),
         &mut None::<FromBytes<'_>>,
         list,
-        case.settings,
-        mode,
-        choice,
+        Request {
+            choice,
+            ..asked(case.settings, how)
+        },
         &mut out,
     );
     Ok((told(&answer), out.bytes))
@@ -67,8 +68,8 @@ fn shows<R: AllocGlobal + Abort + Threads + Wait + Sync>(
         horizon: 10,
         written: want.len() as u64,
     };
-    for mode in MODES {
-        let (told, text) = run_chosen(rt, row(), mode, choice, &mut dripping(names, 1000), 1000)?;
+    for how in modes() {
+        let (told, text) = run_chosen(rt, row(), how, choice, &mut dripping(names, 1000), 1000)?;
         same(rt, (body, text.as_slice() == want.as_bytes()), (body, true));
         same(rt, (body, told), (body, Ok(report)));
     }
@@ -110,8 +111,8 @@ fn list_refused<R: AllocGlobal + Abort + Threads + Wait + Sync>(
     left: u32,
     want: (u32, u64),
 ) -> Result<(), Fail> {
-    for mode in MODES {
-        let (told, text) = run_chosen(rt, case, mode, LISTED, &mut dripping(names, left), 1000)?;
+    for how in modes() {
+        let (told, text) = run_chosen(rt, case, how, LISTED, &mut dripping(names, left), 1000)?;
         same(rt, told, Err(want));
         holds(rt, text.is_empty());
     }
@@ -133,7 +134,7 @@ fn each_read_of_a_list_fails(rt: HostRuntime) -> Result<(), Fail> {
         list_refused(&rt, row(), b"y\n", left, (61, 5))?;
     }
     let mut names = dripping(b"y\n", 3);
-    let (told, _) = run_chosen(&rt, row(), Mode::Plain, LISTED, &mut names, 1000)?;
+    let (told, _) = run_chosen(&rt, row(), PLAIN, LISTED, &mut names, 1000)?;
     holds(&rt, told.is_ok());
     Ok(())
 }
@@ -141,11 +142,11 @@ fn each_read_of_a_list_fails(rt: HostRuntime) -> Result<(), Fail> {
 // A sink that takes so many bytes of the text of `y`.
 fn takes_chosen<R: AllocGlobal + Abort + Threads + Wait + Sync>(
     rt: &R,
-    mode: Mode,
+    how: How,
     text: &str,
     room: usize,
 ) -> Result<(), Fail> {
-    let outcome = run_chosen(rt, row(), mode, LISTED, &mut dripping(b"y", 100), room)?;
+    let outcome = run_chosen(rt, row(), how, LISTED, &mut dripping(b"y", 100), room)?;
     takes(rt, outcome, text, room);
     Ok(())
 }
@@ -154,10 +155,10 @@ fn takes_chosen<R: AllocGlobal + Abort + Threads + Wait + Sync>(
 fn each_write_of_chosen_nets_fails(rt: HostRuntime) -> Result<(), Fail> {
     let text = text_of(rt.alloc(), "y", "#0 x! #1 1! #6 0! #10")?;
     for room in 0..=text.len() {
-        takes_chosen(&rt, Mode::Plain, text.as_str(), room)?;
+        takes_chosen(&rt, PLAIN, text.as_str(), room)?;
     }
-    for mode in MODES {
-        takes_chosen(&rt, mode, text.as_str(), 17)?;
+    for how in modes() {
+        takes_chosen(&rt, how, text.as_str(), 17)?;
     }
     Ok(())
 }

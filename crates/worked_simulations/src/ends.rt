@@ -1,10 +1,12 @@
 //! Sources and sinks that fail, and inputs that are too large.
 
-use crate::cases::{MODES, Told, bench_case, clocked, refuses, run_within, takes, told};
+use crate::cases::{
+    How, Told, asked, bench_case, clocked, modes, refuses, run_within, takes, told,
+};
 use crate::checks::{holds, same};
 use crate::drips::dripping;
 use crate::waves::{inverter, toggle};
-use cmb_sim::{FromBytes, Limited, Mode, simulate};
+use cmb_sim::{FromBytes, Limited, Mode, simulate, simulate_chosen};
 use std::alloc::{AllocError, Global};
 use std::process::Abort;
 use std::sync::Wait;
@@ -15,19 +17,19 @@ use worked_inputs::text_of;
 // Simulates the inverter with sources that fail after so many reads each.
 fn run_drips<R: AllocGlobal + Threads + Wait + Sync>(
     rt: &R,
-    mode: Mode,
+    how: How,
     reads: [u32; 4],
 ) -> (Told, Vec<u8>) {
     let case = inverter();
     let mut out = Limited::new(rt.alloc(), 1000);
-    let answer = simulate(
+    let answer = simulate_chosen(
         rt,
         &mut dripping(case.bench, reads[0]),
         &mut dripping(b"by,name,delay\n", reads[1]),
         &mut dripping(b"tick,net,value\n0,a,0\n5,a,1\n", reads[2]),
         &mut dripping(b"net,first,period\n", reads[3]),
-        case.settings,
-        mode,
+        &mut FromBytes::new(&[]),
+        asked(case.settings, how),
         &mut out,
     );
     (told(&answer), out.bytes)
@@ -39,7 +41,7 @@ const READS: [u32; 4] = [30, 15, 28, 18];
 // The input with this number fails at each of its reads in turn.
 fn fails_at_each_read<R: AllocGlobal + Abort + Threads + Wait + Sync>(
     rt: &R,
-    mode: Mode,
+    how: How,
     input: u32,
 ) -> Result<(), Fail> {
     let index = input.saturating_sub(1) as usize;
@@ -48,7 +50,7 @@ fn fails_at_each_read<R: AllocGlobal + Abort + Threads + Wait + Sync>(
         if index < 4 {
             reads[index] = left;
         }
-        let (told, text) = run_drips(rt, mode, reads);
+        let (told, text) = run_drips(rt, how, reads);
         if let Ok(report) = told {
             same(rt, READS.get(index).copied(), Some(left));
             same(rt, report.written, 190);
@@ -62,9 +64,9 @@ fn fails_at_each_read<R: AllocGlobal + Abort + Threads + Wait + Sync>(
 
 #[test]
 fn each_read_fails(rt: HostRuntime) -> Result<(), Fail> {
-    for mode in MODES {
+    for how in modes() {
         for input in 1..5u32 {
-            fails_at_each_read(&rt, mode, input)?;
+            fails_at_each_read(&rt, how, input)?;
         }
     }
     Ok(())
@@ -72,8 +74,8 @@ fn each_read_fails(rt: HostRuntime) -> Result<(), Fail> {
 
 #[test]
 fn short_sink(rt: HostRuntime) -> Result<(), Fail> {
-    for mode in MODES {
-        let outcome = run_within(&rt, inverter(), mode, 17)?;
+    for how in modes() {
+        let outcome = run_within(&rt, inverter(), how, 17)?;
         takes(&rt, outcome, "$version cmbsim 1 $end", 17);
     }
     Ok(())
@@ -84,9 +86,9 @@ fn each_write_fails(rt: HostRuntime) -> Result<(), Fail> {
     let body = "#0 0! x\" #1 1\" #3 1! #4 0\" #7 0! #8 1\" #11 1! #12";
     let text = text_of(rt.alloc(), "q d", body)?;
     same(&rt, text.len(), 209);
-    for mode in MODES {
+    for how in modes() {
         for room in 0..=209usize {
-            let outcome = run_within(&rt, clocked(toggle(), 2, 4), mode, room)?;
+            let outcome = run_within(&rt, clocked(toggle(), 2, 4), how, room)?;
             takes(&rt, outcome, text.as_str(), room);
         }
     }

@@ -1,6 +1,6 @@
 //! Faults of the netlist and of the settings.
 
-use crate::cases::{Case, bench_case, clocked, refuses, refuses_in, writes};
+use crate::cases::{Case, bench_case, clocked, refuses, refuses_in, shared, shared_freely, writes};
 use crate::waves::{inverter, toggle};
 use cmb_sim::{Mode, Settings};
 use std::alloc::{AllocError, Global};
@@ -84,14 +84,15 @@ fn operands(rt: HostRuntime) -> Result<(), Fail> {
 #[test]
 fn refused_numbers(rt: HostRuntime) -> Result<(), Fail> {
     for (workers, clusters, number) in [(1, 0, 40), (0, 65, 40), (0, 64, 54), (65, 1, 54)] {
-        let mode = Mode::Rounds { workers, clusters };
-        refuses_in(&rt, inverter(), mode, number, 0)?;
-        refuses_in(&rt, toggle(), mode, 22, 0)?;
+        let how = (Mode::Rounds { workers, clusters }, None);
+        refuses_in(&rt, inverter(), how, number, 0)?;
+        refuses_in(&rt, toggle(), how, 22, 0)?;
     }
     for threads in [0, 65] {
-        refuses_in(&rt, inverter(), Mode::Shared { threads }, 54, 0)?;
-        refuses_in(&rt, inverter(), Mode::SharedFree { threads }, 54, 0)?;
-        refuses_in(&rt, toggle(), Mode::SharedFree { threads }, 22, 0)?;
+        refuses_in(&rt, inverter(), shared(threads), 54, 0)?;
+        refuses_in(&rt, inverter(), shared_freely(threads), 54, 0)?;
+        refuses_in(&rt, inverter(), (Mode::Plain, Some(threads)), 54, 0)?;
+        refuses_in(&rt, toggle(), shared_freely(threads), 22, 0)?;
     }
     Ok(())
 }

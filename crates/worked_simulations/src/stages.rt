@@ -1,21 +1,16 @@
 //! The stages of a simulation, called one by one.
 
-ghost use Rattle.std.specs.Prelude.{◌-◌, ◌^◌, ◌<◌};
 ghost use Rattle.cmb_inputs.specs.Inputs.{CanBeInputs, texts_in};
 
 use crate::checks::{holds, same};
 use crate::drips::dripping;
-use cmb_design::Design;
 use cmb_inputs::{
-    InputTexts, chosen_nets, read_input, read_names, read_texts, show_nets, spelled_design,
-    write_counts, write_text,
+    InputTexts, chosen_nets, read_input, read_names, read_texts, spelled_design, write_counts,
+    write_text,
 };
-use cmb_sim::{
-    Choice, Counts, Fault, FromBytes, Level, Limited, Pick, Report, Settings, check_design,
-};
+use cmb_sim::{Choice, Counts, Fault, FromBytes, Level, Limited, Pick, Settings, check_design};
 use std::alloc::Global;
 use std::test::Fail;
-use worked_inputs::text_of;
 
 // An input, two gates in a row, and a gate that nobody chooses.
 fn netlist() -> &'static [u8] {
@@ -30,71 +25,26 @@ fn settings() -> Settings {
     }
 }
 
-// Reads a list, and writes the text of the nets of the design that it names.
-fn show_named(
-    alloc: Global,
-    design: &Design,
-    list: &[u8],
-    out: &mut Limited,
-) -> Result<Report, Fault>
-    requires { out.old.failures < 2 ^ 64 - 1 }
-{
-    let listed = Choice::Only(Pick::Listed);
-    let names = read_names(alloc, listed, &mut FromBytes::new(list))?;
-    let nets = chosen_nets(alloc, Pick::Listed, design, names.as_slice())?;
-    show_nets(alloc, design, nets.as_slice(), out)
-}
-
-// The same of the design that these texts spell.
-fn show_spelled(
-    alloc: Global,
-    texts: &InputTexts,
-    list: &[u8],
-    out: &mut Limited,
-) -> Result<Report, Fault>
-    requires texts { CanBeInputs (texts_in texts.now) }
-    requires out { out.old.failures < 2 ^ 64 - 1 }
+// The nets of the design of these texts that their list names.
+fn named_in(alloc: Global, texts: &InputTexts) -> Result<Vec<u32>, Fault>
+    requires { CanBeInputs (texts_in texts.now) }
 {
     let design = spelled_design(alloc, texts, settings())?;
-    show_named(alloc, &design, list, out)
+    chosen_nets(alloc, Pick::Listed, &design, texts.names.as_slice())
 }
 
-// The same of these inputs.
-fn show_read(alloc: Global, list: &[u8], out: &mut Limited) -> Result<Report, Fault>
-    requires { out.old.failures < 2 ^ 64 - 1 }
-{
+// The nets that a list names.
+fn named(alloc: Global, list: &[u8]) -> Result<Vec<u32>, Fault> {
     let texts = read_texts(
         alloc,
+        Choice::Only(Pick::Listed),
         &mut FromBytes::new(netlist()),
         &mut FromBytes::new(b""),
         &mut FromBytes::new(b"tick,net,value\n0,a,0\n5,a,1\n"),
         &mut FromBytes::new(b""),
+        &mut FromBytes::new(list),
     )?;
-    show_spelled(alloc, &texts, list, out)
-}
-
-// The same, and what a sink that takes so many bytes took of it.
-fn show_listed(alloc: Global, list: &[u8], room: usize) -> (Result<Report, Fault>, Vec<u8>) {
-    let mut out = Limited::new(alloc, room);
-    let answer = show_read(alloc, list, &mut out);
-    (answer, out.bytes)
-}
-
-#[test]
-fn nets_by_stages(rt: HostRuntime) -> Result<(), Fail> {
-    let alloc = rt.alloc();
-    let body = "#0 x! x\" #1 1! #2 1\" #6 0! #7 0\" #10";
-    let want = text_of(alloc, "y z", body)?;
-    let (answer, text) = show_listed(alloc, b"z\ny # both\n", 1000);
-    holds(&rt, text.as_slice() == want.as_bytes());
-    let report = answer?;
-    same(&rt, report.nets, 4);
-    same(&rt, report.horizon, 10);
-    same(&rt, report.written, want.len() as u64);
-    let (cut, beginning) = show_listed(alloc, b"y z", 17);
-    same(&rt, place_of(&cut), (62, 17));
-    holds(&rt, beginning.as_slice() == b"$version cmbsim 1".as_slice());
-    Ok(())
+    named_in(alloc, &texts)
 }
 
 // The number and the place of a fault, 0 where there is none.
@@ -108,11 +58,9 @@ fn place_of<T>(answer: &Result<T, Fault>) -> (u32, u64) {
 #[test]
 fn lists_by_stages(rt: HostRuntime) -> Result<(), Fail> {
     let alloc = rt.alloc();
-    same(
-        &rt,
-        place_of(&show_listed(alloc, b"y\nv\n", 1000).0),
-        (38, 2),
-    );
+    let nets = named(alloc, b"z\ny # both\n")?;
+    holds(&rt, nets.as_slice() == [1, 2].as_slice());
+    same(&rt, place_of(&named(alloc, b"y\nv\n")), (38, 2));
     let mut list = dripping(b"y", 0);
     let names = read_names(alloc, Choice::Only(Pick::Outputs), &mut list)?;
     holds(&rt, names.is_empty());

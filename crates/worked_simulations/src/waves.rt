@@ -1,8 +1,7 @@
 //! Texts of whole runs.
 
-use crate::cases::{Case, bench_case, clocked, run, writes};
+use crate::cases::{Case, PLAIN, bench_case, clocked, run, writes};
 use crate::checks::{holds, same};
-use cmb_sim::Mode;
 use std::test::Fail;
 
 const INVERTER: &str = "INPUT(a) OUTPUT(y) y = NOT(a)";
@@ -46,14 +45,14 @@ pub fn two_flops<'a>() -> Case<'a> {
 
 #[test]
 fn empty(rt: HostRuntime) -> Result<(), Fail> {
-    let (_, text) = run(&rt, bench_case(b"", 1), Mode::Plain)?;
+    let (_, text) = run(&rt, bench_case(b"", 1), PLAIN)?;
     same(&rt, text.len(), 123);
     writes(&rt, bench_case(b"", 1), "", "#0 #1")
 }
 
 #[test]
 fn inverter_text(rt: HostRuntime) -> Result<(), Fail> {
-    same(&rt, run(&rt, inverter(), Mode::Plain)?.1.len(), 190);
+    same(&rt, run(&rt, inverter(), PLAIN)?.1.len(), 190);
     writes(&rt, inverter(), "a y", "#0 0! x\" #1 1\" #5 1! #6 0\" #10")
 }
 
@@ -103,7 +102,7 @@ fn references(rt: HostRuntime) -> Result<(), Fail> {
     for net in 0..96u32 {
         write!(bench, "INPUT(n{net})\n")?;
     }
-    let (told, text) = run(&rt, bench_case(bench.as_bytes(), 1), Mode::Plain)?;
+    let (told, text) = run(&rt, bench_case(bench.as_bytes(), 1), PLAIN)?;
     holds(&rt, told.is_ok_and(|report| report.nets == 96));
     let lines =
         b"$var wire 1 ~ n93 $end\n$var wire 1 !! n94 $end\n$var wire 1 \"! n95 $end\n$upscope $end\n";

@@ -227,13 +227,7 @@ fn telling_of_lines(rt: HostRuntime) -> Result<(), Fail> {
     let line = "run --horizon 10 --progress --stats --mode plain";
     tells(&rt, alloc, line, Mode::Plain, (true, true))?;
     let line = "run --horizon 10 --progress --threads 2";
-    tells(
-        &rt,
-        alloc,
-        line,
-        Mode::SharedFree { threads: 2 },
-        (true, false),
-    )
+    tells(&rt, alloc, line, free, (true, false))
 }
 
 #[test]
@@ -265,28 +259,33 @@ fn modes_of_lines(rt: HostRuntime) -> Result<(), Fail> {
     )
 }
 
+// A line that asks for a run in this mode, by so many threads where it says that.
+fn shares(
+    rt: &impl Abort,
+    alloc: Global,
+    line: &str,
+    mode: Mode,
+    threads: Option<u32>,
+) -> Result<(), Fail> {
+    let line = line_of(alloc, line)?;
+    same(rt, (line.mode, line.threads), (mode, threads));
+    Ok(())
+}
+
 #[test]
 fn threads_of_lines(rt: HostRuntime) -> Result<(), Fail> {
     let alloc = rt.alloc();
-    runs(
-        &rt,
-        alloc,
-        "run --horizon 10 --threads 1",
-        Mode::Shared { threads: 1 },
-    )?;
-    let free = Mode::SharedFree { threads: 64 };
-    runs(
-        &rt,
-        alloc,
-        "run --horizon 10 --mode free --threads 64",
-        free,
-    )?;
-    runs(
-        &rt,
-        alloc,
-        "run --horizon 10 --threads 4 --mode plain",
-        Mode::Plain,
-    )
+    let line = "run --horizon 10 --threads 1";
+    shares(&rt, alloc, line, ALONE, Some(1))?;
+    let line = "run --horizon 10 --mode free --threads 64";
+    let free = Mode::Free {
+        workers: 1,
+        clusters: 1,
+    };
+    shares(&rt, alloc, line, free, Some(64))?;
+    let line = "run --horizon 10 --threads 4 --mode plain";
+    shares(&rt, alloc, line, Mode::Plain, Some(4))?;
+    shares(&rt, alloc, "run --horizon 10", ALONE, None)
 }
 
 // A line that chooses these nets, by the list in this file where one is named.

@@ -1,5 +1,5 @@
 use Rattle.cmb_sim.proofs.PlainRuns.{AreCollected-whole, IsComplete-whole, IsExactFor-whole, IsFor-whole, whole_collector-is}
-use Rattle.cmb_sim.proofs.running.plain_text.Goals as goal
+use Rattle.cmb_sim.proofs.running.table_text.Goals as goal
 
 pub of_waves-collector-requires : goal.of_waves-collector-requires
 of_waves-collector-requires c = AreCollected-whole c.args.design.now _ _ c.in_ok-waves.ensures c.horizon.ensures.value

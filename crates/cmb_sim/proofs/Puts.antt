@@ -1,0 +1,58 @@
+-- What comes of writing a text.
+use Rattle.std.proofs.Common.{◌≡◌, ◌⊎◌, ℕ, inl, inr, List, Option, Result, Ok, Err, length, refl, arith}
+use Rattle.cmb_design.specs.Design.{Design}
+use Rattle.cmb_free.specs.FreeRuns.{IsCutAt}
+use Rattle.cmb_run.specs.declared.run_fault.RunFault.{RunFault}
+use Rattle.cmb_run.specs.declared.run_fault.RunFault.TheVariants as run
+use Rattle.cmb_stream.specs.Streams.{IsBrokenOff}
+use Rattle.cmb_stream.specs.declared.fault.StreamFault.{StreamFault}
+use Rattle.cmb_stream.specs.declared.fault.StreamFault.TheVariants as stream
+use Rattle.cmb_vcd.specs.Vcd.{vcd}
+use Rattle.cmb_inputs.specs.Outputs.{HasTaken, IsCutShort, IsUntouched, Output, output}
+use Rattle.cmb_inout.specs.Numbers.{run_as_fault, stream_as_fault}
+use Rattle.cmb_inout.specs.declared.fault.Fault.{Fault}
+use Rattle.cmb_inout.specs.declared.fault.Fault.TheVariants as fault
+use Rattle.cmb_sim.proofs.Outcomes.{IsBroken-more, untouched}
+use Rattle.cmb_sim.specs.Inner.Plans.{IsPut, MayBreak, Streams}
+use Rattle.cmb_sim.specs.Simulation.{IsBroken}
+use Rattle.cmb_sim.specs.declared.plan.Way.{Way}
+use Rattle.cmb_sim.specs.declared.plan.Way.TheVariants.{Free}
+
+-- memory ran out before anything was written
+pub IsPut-memory : (text : List ℕ) (Breaks : Fault → Type 0) (old : Option (List ℕ)) (n : ℕ) → IsPut text Breaks (output old old n n) (Err fault.Memory)
+IsPut-memory text Breaks old n = record { told = tt; taken = tt; fault = inl (refl, untouched old n) }
+
+-- a text that was there was cut short
+pub IsPut-cut : (text : List ℕ) (Breaks : Fault → Type 0) (o : Output) (f : Fault) → IsCutShort text o f → IsPut text Breaks o (Err f)
+IsPut-cut text Breaks o (fault.Write n) h = record { told = tt; taken = tt; fault = inr h }
+IsPut-cut text Breaks o f h = absurd h
+
+-- a text was written whole
+pub IsPut-whole : (text : List ℕ) (Breaks : Fault → Type 0) (o : Output) (n : ℕ) → n ≡ length text → HasTaken text o → IsPut text Breaks o (Ok n)
+IsPut-whole text Breaks o n told taken = record { told = told; taken = taken; fault = tt }
+
+-- it may break off by more faults
+pub IsPut-more : (text : List ℕ) (B C : Fault → Type 0) (o : Output) (answer : Result ℕ Fault) → ((f : Fault) → B f → C f) → IsPut text B o answer → IsPut text C o answer
+IsPut-more text B C o (Ok n) more h = record { told = h.told; taken = h.taken; fault = tt }
+IsPut-more text B C o (Err f) more h = record { told = tt; taken = tt; fault = by h.fault }
+  where
+    by : (((f ≡ fault.Memory) × IsUntouched o) ⊎ IsBroken B text o f) → ((f ≡ fault.Memory) × IsUntouched o) ⊎ IsBroken C text o f
+    by (inl none) = inl none
+    by (inr begun) = inr (IsBroken-more B C text o f more begun)
+
+-- a text that was written while it was made
+pub IsPut-stream : (design : Design) (way : Way) (old new : Option (List ℕ)) (before after : ℕ) (f : StreamFault) → Streams way
+    → IsBrokenOff design old new before after f → IsPut (vcd design) (MayBreak way design) (output old new before after) (Err (stream_as_fault f))
+IsPut-stream design way old new before after (stream.Write n) streams h = record { told = tt; taken = tt; fault = inr (h.short, h.begun, h.failed) }
+IsPut-stream design way old new before after stream.Memory streams h = record { told = tt; taken = tt; fault = inr (streams, h) }
+
+-- the same of workers that run freely, which may be stopped
+pub IsPut-free : (workers clusters : ℕ) (design : Design) (old new : Option (List ℕ)) (before after : ℕ) (f : RunFault)
+    → IsCutAt design old new before after f → IsPut (vcd design) (MayBreak (Free workers clusters) design) (output old new before after) (Err (run_as_fault f))
+IsPut-free workers clusters design old new before after (run.Incomplete net upto collector) h = record {
+  told = tt;
+  taken = tt;
+  fault = inr ((tt, omega (arith, h.2.exact.opened.nets, h.3.is_net), omega (arith, h.2.exact.opened.horizon, h.3.behind)), (h.0, h.1));
+}
+IsPut-free workers clusters design old new before after (run.Write n) h = record { told = tt; taken = tt; fault = inr (h.short, h.begun, h.failed) }
+IsPut-free workers clusters design old new before after run.Memory h = record { told = tt; taken = tt; fault = inr (tt, h) }

@@ -1,0 +1,85 @@
+-- What is planned for what is asked for, and what comes of writing a text.
+use Rattle.std.specs.Prelude.{◌≡◌, ℕ, ◌<◌, ◌⊎◌, List, length, true, false, None, Result, IfErr, IfOk, OnOk, ⊤}
+use Rattle.cmb_cut.specs.Sharings.{IsSharing}
+use Rattle.cmb_design.specs.Checks.{first_fault}
+use Rattle.cmb_design.specs.Design.{Design}
+use Rattle.cmb_design.specs.Exact.{nets_of}
+use Rattle.cmb_dump.specs.Excerpts.{AreAmong}
+use Rattle.cmb_vcd.specs.Chosen.{vcd_of}
+use Rattle.cmb_vcd.specs.Vcd.{vcd}
+use Rattle.cmb_line.specs.Modes.{IsLawfulCount}
+use Rattle.cmb_line.specs.declared.choice.Choice.TheVariants.{All}
+use Rattle.cmb_line.specs.declared.line.Request.{Request}
+use Rattle.cmb_line.specs.declared.mode.Mode.TheVariants.{Plain}
+use Rattle.cmb_inputs.specs.Outputs.{HasTaken, IsUntouched, Output}
+use Rattle.cmb_sim.specs.Simulation.{CanBeStopped, CanRun, IsBroken, IsStreamed, IsTextOf, mode_checks}
+use Rattle.cmb_sim.specs.declared.plan.Plan.{Plan}
+use Rattle.cmb_sim.specs.declared.plan.Way.{Way}
+use Rattle.cmb_sim.specs.declared.plan.Way.TheVariants.{Table, Chosen, Engine, Shares, Rounds, Free}
+use Rattle.cmb_inout.specs.declared.fault.Fault.{Fault}
+use Rattle.cmb_inout.specs.declared.fault.Fault.TheVariants as fault
+
+-- the text that a way makes of a design
+abbrev pub way_text : Way → Design → List ℕ
+way_text (Chosen nets) design = vcd_of design nets.items
+way_text _ design = vcd design
+
+-- what a way needs
+abbrev pub CanMake : Way → Design → Type 0
+CanMake Table design = first_fault (mode_checks Plain design) ≡ None
+CanMake (Chosen nets) design = AreAmong (nets_of design) nets.items
+CanMake (Engine threads) design = ⊤
+CanMake (Shares sharing) design = IsSharing design.netlist sharing
+CanMake (Rounds workers clusters) design = IsLawfulCount workers × IsLawfulCount clusters
+CanMake (Free workers clusters) design = IsLawfulCount workers × IsLawfulCount clusters
+
+-- it writes its text while the run goes on
+abbrev pub Streams : Way → Type 0
+Streams Table = ⊥
+Streams (Chosen nets) = ⊥
+Streams (Engine threads) = ⊤
+Streams (Shares sharing) = ⊤
+Streams (Rounds workers clusters) = ⊥
+Streams (Free workers clusters) = ⊤
+
+-- its run can be stopped
+abbrev pub CanStop : Way → Type 0
+CanStop (Free workers clusters) = ⊤
+CanStop _ = ⊥
+
+-- by which faults it may break off in the middle of its text
+abbrev pub MayBreak : Way → Design → Fault → Type 0
+MayBreak way design (fault.Incomplete net upto) = CanStop way × (net < nets_of design) × (upto < design.horizon)
+MayBreak way design fault.Memory = Streams way
+MayBreak way design _ = ⊥
+
+-- a text that is held breaks off nowhere
+abbrev pub PlanMayBreak : Plan → Design → Fault → Type 0
+PlanMayBreak plan design f = (plan.held ≡ false) × MayBreak plan.way design f
+
+-- the engine makes the text of all nets
+pub record IsByEngine (design : Design) (way : Way) : Type 0 where
+  pub makes : CanMake way design
+  pub text : way_text way design ≡ vcd design
+  pub stops : CanStop way → ⊥
+
+-- a way to the text of all nets
+pub record IsWayOf (request : Request) (design : Design) (way : Way) : Type 0 where
+  pub makes : CanMake way design
+  pub text : way_text way design ≡ vcd design
+  pub stops : CanStop way → CanBeStopped request.mode request.threads All
+
+-- What is planned is what is asked for: the text, and whether it is held. The run can be stopped only where what is asked for can.
+pub record IsPlan (request : Request) (design : Design) (names : List ℕ) (plan : Plan) : Type 0 where
+  pub runs : CanRun request design
+  pub makes : CanMake plan.way design
+  pub text : IsTextOf request.choice design names (way_text plan.way design)
+  pub streams : plan.held ≡ false → Streams plan.way → IsStreamed request.mode request.choice
+  pub holds : plan.held ≡ true → IsStreamed request.mode request.choice → ⊥
+  pub stops : CanStop plan.way → CanBeStopped request.mode request.threads request.choice
+
+-- what comes of writing a text: it was written, and its length is told; or memory ran out before; or it was begun
+pub record IsPut (text : List ℕ) (Breaks : Fault → Type 0) (o : Output) (answer : Result ℕ Fault) : Type 0 where
+  pub told : IfOk answer (λ n. n ≡ length text)
+  pub taken : OnOk answer (HasTaken text o)
+  pub fault : IfErr answer (λ f. ((f ≡ fault.Memory) × IsUntouched o) ⊎ IsBroken Breaks text o f)

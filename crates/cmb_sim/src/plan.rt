@@ -1,0 +1,117 @@
+//! How the text that is asked for is made.
+
+ghost use Rattle.std.specs.Prelude.{◌≡◌, ℕ, ◌≤◌, List, true, false, length, IfOk, IfErr};
+ghost use Rattle.cmb_inout.specs.Sources.{input_limit};
+ghost use Rattle.cmb_line.specs.declared.choice.Choice.TheVariants.{All};
+ghost use Rattle.cmb_sim.specs.Inner.Plans.{IsByEngine, IsPlan, IsWayOf, Streams};
+ghost use Rattle.cmb_sim.specs.Simulation.{CanRun, IsRefused, IsStreamed};
+
+use crate::modes::{check_mode, threads_in};
+use crate::tuning::{sharing_that_pays, workers_pay};
+use cmb_cut::Sharing;
+use cmb_design::Design;
+use cmb_inout::Fault;
+use cmb_inputs::chosen_nets;
+use cmb_line::{Choice, Mode, Request};
+use std::alloc::{AllocError, Global};
+
+/// How a text is made.
+#[derive(Drop)]
+pub enum Way {
+    /// By a table with a place for each net and tick.
+    Table,
+    /// That of chosen nets, by the engine, which has those nets alone on which they depend.
+    Chosen(Vec<u32>),
+    /// By the engine, and by so many threads at most.
+    Engine(u32),
+    /// By a thread for each share of the nets.
+    Shares(Sharing),
+    /// By workers with clusters of their own, in rounds.
+    Rounds { workers: u32, clusters: u32 },
+    /// By workers that run freely.
+    Free { workers: u32, clusters: u32 },
+}
+
+/// What is done for what is asked for.
+#[derive(Drop)]
+pub struct Plan {
+    pub way: Way,
+    /// What is made of the text while the run goes on is held until it is whole.
+    pub held: bool,
+}
+
+// By the engine, each thread with a share of the nets where that pays.
+fn engine_way(alloc: Global, design: &Design, threads: u32) -> Result<Way, AllocError>
+    ensures { IfOk result (λ way. IsByEngine design.now way) }
+{
+    match sharing_that_pays(alloc, design, threads)? {
+        Some(sharing) => Ok(Way::Shares(sharing)),
+        None => Ok(Way::Engine(threads)),
+    }
+}
+
+// The way to the text of all nets.
+fn way_of(alloc: Global, request: Request, design: &Design) -> Result<Way, AllocError>
+    requires { CanRun request design.now }
+    ensures { IfOk result (λ way. IsWayOf request design.now way) }
+{
+    match (request.mode, request.threads) {
+        (Mode::Plain, _) => Ok(Way::Table),
+        (Mode::Rounds { workers, clusters }, None) if workers_pay(workers, clusters, design) => {
+            Ok(Way::Rounds { workers, clusters })
+        }
+        (Mode::Free { workers, clusters }, None) if workers_pay(workers, clusters, design) => {
+            Ok(Way::Free { workers, clusters })
+        }
+        _ => engine_way(alloc, design, threads_in(request)),
+    }
+}
+
+// Whether what a way makes of the text while the run goes on is held: in mode free it isn't.
+fn is_held(mode: Mode, way: &Way) -> bool
+    ensures held { result ≡ true → IsStreamed mode All → ⊥ }
+    ensures streamed { result ≡ false → Streams way.now → IsStreamed mode All }
+{
+    match (mode, way) {
+        (Mode::Free { .. }, _) => false,
+        (_, Way::Engine(_) | Way::Shares(_) | Way::Free { .. }) => true,
+        _ => false,
+    }
+}
+
+// The plan for the text of all nets.
+fn plan_for_all(alloc: Global, request: Request, design: &Design) -> Result<Plan, Fault>
+    requires { request.choice ≡ Choice.All }
+    ensures plan { IfOk result (λ plan. (names : List ℕ) → IsPlan request design.now names plan) }
+    ensures fault { IfErr result (λ fault. (names : List ℕ) → IsRefused request names design.now fault) }
+{
+    check_mode(request, design)?;
+    let way = way_of(alloc, request, design)?;
+    let held = is_held(request.mode, &way);
+    Ok(Plan { way, held })
+}
+
+/// The plan for what is asked for of a design, by the text of the list that names nets. The faults are 38, 33, 40 and
+/// 54, in this order, and 70.
+pub(crate) fn plan_of(
+    alloc: Global,
+    request: Request,
+    design: &Design,
+    names: &[u8],
+) -> Result<Plan, Fault>
+    requires { length names.now ≤ input_limit }
+    ensures plan { IfOk result (IsPlan request design.now names.now) }
+    ensures fault { IfErr result (IsRefused request names.now design.now) }
+{
+    match request.choice {
+        Choice::All => plan_for_all(alloc, request, design),
+        Choice::Only(pick) => {
+            let nets = chosen_nets(alloc, pick, design, names)?;
+            check_mode(request, design)?;
+            Ok(Plan {
+                way: Way::Chosen(nets),
+                held: false,
+            })
+        }
+    }
+}

@@ -1,0 +1,71 @@
+//! The thresholds by which a run is planned: each is an estimate, and none changes a text.
+
+ghost use Rattle.std.specs.Prelude.{◌≡◌, ◌≤◌, ◌<◌, true, IfOk, IfSome};
+ghost use Rattle.cmb_cut.specs.Sharings.{IsSharing};
+
+use cmb_cut::{LEAST_NETS, Sharing, pays, share_out};
+use cmb_design::Design;
+use cmb_netlist::Driver;
+use std::alloc::{AllocError, Global};
+
+// Net and tick pairs up to which several workers run as they are asked to. Above it, what they hand to one another
+// takes longer than the engine takes for all nets.
+const MOST_BY_WORKERS: u64 = 262_144;
+
+// From so many threads on each may simulate a share of the nets: one makes the text.
+const LEAST_THREADS: u32 = 3;
+
+// So many samples the flip-flops take at least, where shares pay: it stands for how much changes in a run, and for how
+// many batches go through the shares.
+const LEAST_SAMPLES: u64 = 262_144;
+
+// The most shares: what all have made of a batch goes through each of them.
+const MOST_SHARES: u32 = 7;
+
+/// Whether several workers have the nets of a design. Else the engine carries all of them: where one worker has them,
+/// and where several wouldn't pay.
+pub(crate) fn workers_pay(workers: u32, clusters: u32, design: &Design) -> bool
+    ensures { result ≡ true → (2 ≤ workers) × (2 ≤ clusters) }
+{
+    let nets = design.netlist().len() as u64;
+    let pairs = nets.saturating_mul(u64::from(design.horizon()));
+    2 <= workers && 2 <= clusters && pairs <= MOST_BY_WORKERS
+}
+
+// About how many samples the flip-flops of a design take in its run.
+fn samples_of(design: &Design) -> u64 {
+    let netlist = design.netlist();
+    let mut samples = 0_u64;
+    for net in 0..netlist.len() {
+        if matches!(netlist.driver(net), Driver::Flop(_)) {
+            let cycles = design.horizon() / design.clock(net).period;
+            samples = samples.saturating_add(u64::from(cycles));
+        }
+    }
+    samples
+}
+
+// Whether a run is so long, by what is known before it, that shares may pay.
+fn is_long(design: &Design) -> bool {
+    design.netlist().len() >= LEAST_NETS && samples_of(design) >= LEAST_SAMPLES
+}
+
+/// The shares of a design's nets, where a thread for each pays beside the one that makes the text. Errors: memory was
+/// refused.
+pub(crate) fn sharing_that_pays(
+    alloc: Global,
+    design: &Design,
+    threads: u32,
+) -> Result<Option<Sharing>, AllocError>
+    ensures { IfOk result (λ found. IfSome found (λ sharing. IsSharing design.now.netlist sharing)) }
+{
+    if threads < LEAST_THREADS || !is_long(design) {
+        return Ok(None);
+    }
+    let sharing = share_out(alloc, design.netlist(), (threads - 1).min(MOST_SHARES))?;
+    if pays(&sharing) {
+        Ok(Some(sharing))
+    } else {
+        Ok(None)
+    }
+}
