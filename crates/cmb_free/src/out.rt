@@ -130,7 +130,14 @@ impl<T: Terms> Out<T> {
             }
             let outlet = &mut self.outlets[self.next];
             self.next += 1;
-            if !put_net(rt, &mut self.end, &mut self.waiting, outlet, cluster, self.takes_empty)? {
+            if !put_net(
+                rt,
+                &mut self.end,
+                &mut self.waiting,
+                outlet,
+                cluster,
+                self.takes_empty,
+            )? {
                 return Ok(());
             }
         }

@@ -1,3 +1,4 @@
 pub mod Hands
 pub mod Holds
+pub mod Pieces
 pub mod Seats

@@ -2,7 +2,7 @@
 
 ghost use Rattle.std.specs.Prelude.{◌≡◌, true, false, IfOk, Ok};
 ghost use Rattle.cmb_links.specs.Seats.{new_seat};
-ghost use Rattle.links_stress.specs.Hands.{IsHand, IsLeft, board_terms, link_into, link_out};
+ghost use Rattle.links_stress.specs.Hands.{IsHand, IsLeft, board_terms, link_into, link_out, told_of};
 ghost use Rattle.links_stress.specs.Seats.{at_first};
 
 use crate::circuit::Circuit;
@@ -169,6 +169,7 @@ fn gathered(
 
 // The nets of a worker, the link into which it puts and the one from which it takes.
 fn ways_of(room: &Room, place: u32) -> (Nets, &Link, &Link)
+    ensures told { result.0.told ≡ told_of place }
     ensures out { result.1.now ≡ link_out room.now place }
     ensures into { result.2.now ≡ link_into room.now place }
 {
@@ -195,10 +196,11 @@ fn work<R: Wait>(
 {
     let (nets, out, into) = ways_of(room, place);
     let Hand { seat, put, take } = hand;
+    let told = nets.told;
     let desk = Desk::new(
         Watch::new(alloc, &room.board, circuit, seat, workers, place),
         nets,
-        Out::new(out, put),
+        Out::new(out, put, told),
         In::new(into, take),
     );
     desk.work(rt, alloc)
@@ -291,10 +293,20 @@ fn run_over<R: Threads + Wait + Sync>(
         second,
         last,
     } = open_board(alloc, circuit, workers)?;
-    let Ok((there, put_there, take_there)) = Link::open(alloc, &circuit.design, capacity) else {
+    let Ok((there, put_there, take_there)) = Link::open(
+        alloc,
+        &circuit.design,
+        &[FIRST.told],
+        capacity,
+    ) else {
         return Err(Trouble::Memory);
     };
-    let Ok((back, put_back, take_back)) = Link::open(alloc, &circuit.design, capacity) else {
+    let Ok((back, put_back, take_back)) = Link::open(
+        alloc,
+        &circuit.design,
+        &[SECOND.told],
+        capacity,
+    ) else {
         return Err(Trouble::Memory);
     };
     let hands = Hands {

@@ -1,9 +1,10 @@
 //! Links that hold one piece: what they do when they are full or empty, and what they hand from one thread to another.
 //! And which capacities of links and numbers of workers are refused.
 
-ghost use Rattle.std.specs.Prelude.{◌≡◌, [], ◌∷◌, IfOk, OnOk};
+ghost use Rattle.std.specs.Prelude.{◌≡◌, true, [], ◌∷◌, IfOk, OnOk};
 ghost use Rattle.cmb_design.specs.Exact.{IsExactIn};
 ghost use Rattle.cmb_links.specs.Links.{after_put, after_take};
+ghost use Rattle.links_stress.specs.Pieces.{Follow};
 
 use super::{expect, source};
 use crate::circuit::Circuit;
@@ -19,20 +20,23 @@ use std::sync::Wait;
 use std::thread;
 use std::thread::Threads;
 
+// The number of the net q.
+const Q: u32 = 0;
+
 // The piece of q from a tick on, after a step.
 fn next_piece(cluster: &mut ExactCluster, from: u32) -> Result<Piece, Trouble>
     ensures exact { IfOk result (IsExactIn cluster.old) }
     ensures same { cluster.new ≡ cluster.old }
 {
     cluster.step()?;
-    match cluster.post(0, from)? {
+    match cluster.post(Q, from)? {
         Some(piece) => Ok(piece),
         None => Err(Trouble::NotDriven),
     }
 }
 
 fn is_span(piece: &Piece, from: u32, to: u32, changes: usize) -> bool {
-    piece.net() == 0 && piece.from() == from && piece.to() == to && piece.changes().len() == changes
+    piece.net() == Q && piece.from() == from && piece.to() == to && piece.changes().len() == changes
 }
 
 // Puts two pieces into a link that holds one, and gives back the second.
@@ -88,13 +92,25 @@ fn pieces_by(cluster: &mut ExactCluster) -> Result<Pieces, Trouble>
     })
 }
 
+// Whether a piece of q from tick 0 on is followed by one that leaves no gap.
+fn follows(first: &Piece, second: &Piece) -> bool
+    ensures { result ≡ true → Follow first.now second.now }
+{
+    first.net() == Q && first.from() == 0 && second.net() == Q && second.from() <= first.to()
+}
+
 fn pieces_of_q(alloc: Global, circuit: &Circuit) -> Result<Pieces, Trouble>
+    ensures follow { IfOk result (λ pieces. Follow pieces.first pieces.second) }
     ensures first { IfOk result (λ pieces. IsExactIn circuit.now.design pieces.first) }
     ensures second { IfOk result (λ pieces. IsExactIn circuit.now.design pieces.second) }
     ensures longer { IfOk result (λ pieces. IsExactIn circuit.now.design pieces.longer) }
 {
     let mut cluster = source(alloc, circuit)?;
-    pieces_by(&mut cluster)
+    let pieces = pieces_by(&mut cluster)?;
+    if !follows(&pieces.first, &pieces.second) {
+        return Err(Trouble::Span);
+    }
+    Ok(pieces)
 }
 
 // Over a link that holds one: puts two pieces, takes twice, and puts the second piece again, or the longer one.
@@ -129,10 +145,10 @@ fn full_link_by<R: Wait>(
 ) -> Result<(), Trouble> {
     let pieces = pieces_of_q(alloc, circuit)?;
     expect(is_span(&pieces.longer, 3, 11, 2), Trouble::Span)?;
-    let Ok((link, put, take)) = Link::open(alloc, &circuit.design, 1) else {
+    let Ok((link, put, take)) = Link::open(alloc, &circuit.design, &[Q], 1) else {
         return Err(Trouble::Memory);
     };
-    let (mut out, mut into) = (Out::new(&link, put), In::new(&link, take));
+    let (mut out, mut into) = (Out::new(&link, put, Q), In::new(&link, take));
     put_again(rt, &mut out, &mut into, pieces, is_longer)
 }
 
@@ -151,6 +167,9 @@ fn put_and_take<R: Wait>(
     pieces: Pieces,
 ) -> Result<Piece, Trouble>
     requires put { put.old.link ≡ link.now.link }
+    requires nets { put.old.nets ≡ Q ∷ [] }
+    requires sent { put.old.sent ≡ [] }
+    requires follow { Follow pieces.first pieces.second }
     requires take { take.old.link ≡ link.now.link }
     requires first { IsExactIn put.old.design pieces.first }
     requires second { IsExactIn put.old.design pieces.second }
@@ -181,7 +200,8 @@ fn close_over<R: Wait>(
     take: TakePass,
     pieces: Pieces,
 ) -> Result<(Piece, Vec<Piece>), Trouble>
-    requires put { (put.link ≡ link.link) × (put.sent ≡ []) }
+    requires put { (put.link ≡ link.link) × (put.nets ≡ Q ∷ []) × (put.sent ≡ []) }
+    requires follow { Follow pieces.first pieces.second }
     requires take { (take.link ≡ link.link) × (take.received ≡ []) }
     requires first { IsExactIn put.design pieces.first }
     requires second { IsExactIn put.design pieces.second }
@@ -200,7 +220,7 @@ fn taken_and_left<R: Wait>(
     circuit: &Circuit,
 ) -> Result<(Piece, Vec<Piece>), Trouble> {
     let pieces = pieces_of_q(alloc, circuit)?;
-    match Link::open(alloc, &circuit.design, 2) {
+    match Link::open(alloc, &circuit.design, &[Q], 2) {
         Ok((link, put, take)) => close_over(rt, alloc, link, put, take, pieces),
         Err(_) => Err(Trouble::Memory),
     }
@@ -221,7 +241,7 @@ pub fn closed_link<R: Wait>(rt: &R, alloc: Global, circuit: &Circuit) -> Result<
 
 // Why a link of this capacity isn't opened, if it isn't.
 fn refusal(alloc: Global, design: &Design, capacity: usize) -> Option<LinkFault> {
-    Link::open(alloc, design, capacity).err()
+    Link::open(alloc, design, &[Q], capacity).err()
 }
 
 fn are_capacities_right(alloc: Global, design: &Design) -> bool {
@@ -295,7 +315,7 @@ fn put_all<R: Wait>(rt: &R, mut out: Out<'_>, mut cluster: ExactCluster) -> Resu
 
 // A wave of the pieces that are taken, once it is known up to the horizon.
 fn take_all<R: Wait>(rt: &R, alloc: Global, mut into: In<'_>) -> Result<Wave, Trouble> {
-    let mut wave = Wave::new(alloc, 0);
+    let mut wave = Wave::new(alloc, Q);
     for _ in 0..TURNS {
         match into.take(rt) {
             Some(piece) => {
@@ -337,13 +357,13 @@ fn wave_of_q<R: Threads + Wait + Sync>(
     circuit: &Circuit,
 ) -> Result<Wave, Trouble> {
     let cluster = source(alloc, circuit)?;
-    let Ok((link, put, take)) = Link::open(alloc, &circuit.design, 1) else {
+    let Ok((link, put, take)) = Link::open(alloc, &circuit.design, &[Q], 1) else {
         return Err(Trouble::Memory);
     };
     sent(
         rt,
         alloc,
-        Out::new(&link, put),
+        Out::new(&link, put, Q),
         In::new(&link, take),
         cluster,
     )

@@ -8,8 +8,7 @@ pub returns-clause-cut : goal.returns-clause-cut
 returns-clause-cut g c =
     let is : c.in-Some.posted ≡ cut_of (wave_at c.args.cluster.now.waves c.args.self.now.net) c.args.self.now.upto = rw c.in-Some.is at c.in_ok-posted.ensures.cut in
     let from = ap (λ (p : Piece). p.from) is in
-    let same = ap (λ (p : Piece). p.from) c.piece.ensures.piece in
-    (
+    let same = ap (λ (p : Piece). p.from) c.piece.ensures.piece in (
       ap (λ (p : Piece). p.net) is ∙ wave_at-net c.args.cluster.now.waves c.args.self.now.net,
       from,
       omega (arith, c.piece.ensures.exact.exact.not_empty, c.piece.ensures.exact.exact.within, from, same),
