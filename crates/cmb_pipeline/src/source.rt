@@ -101,13 +101,7 @@ impl<'a, T: Terms> Source<'a, T> {
         }
         self.left -= 1;
         let clocks = self.clocks()?;
-        let batch = Batch::open(
-            self.alloc,
-            self.design,
-            self.owners,
-            self.crossing,
-            clocks,
-        )?;
+        let batch = Batch::open(self.alloc, self.design, self.owners, self.crossing, clocks)?;
         Ok(Some(Parcel::new(batch)))
     }
 
