@@ -3,17 +3,19 @@
 ghost use Rattle.std.specs.Prelude.{◌≡◌, ◌<◌, ◌≤◌, All, IfOk, true};
 ghost use Rattle.cmb_cut.specs.Sharings.{IsSharing};
 ghost use Rattle.cmb_batch.specs.Makers.{IsFor};
+ghost use Rattle.cmb_batch.specs.Windows.{AreEnds};
 
 use crate::checks::holds;
 use cmb_batch::{Batch, Makers, ShareMaker, clocks_of, open_makers, shares_of};
 use cmb_cut::{Sharing, share_out};
-use cmb_design::Design;
+use cmb_design::{Design, Settings};
+use cmb_engine::Windows;
 use cmb_wave::Level;
 use cmb_words::Changed;
 use std::alloc::{AllocError, Global};
 use std::test::Fail;
 use std::thread::Threads;
-use worked_inputs::{design_of, sampled, stimulated};
+use worked_inputs::{Inputs, design_of, sampled, stimulated};
 
 /// The nets `a`, `b` and `c`, by their numbers. `b` follows the inverse of `a` a tick later, and `c` follows `b`.
 fn three_nets(alloc: Global) -> Result<Design, Fail> {
@@ -24,21 +26,51 @@ fn three_nets(alloc: Global) -> Result<Design, Fail> {
     design_of(alloc, inputs, sampled(100))
 }
 
-/// Whether at most so many windows from a tick on, of a width of 5 and up to tick 12, meet at these ticks.
-fn meet_at(alloc: Global, from: u32, most: u32, ticks: &[u32]) -> Result<bool, AllocError>
-    requires above { 1 ≤ from }
-    requires below { from < 12 }
+/// Whether windows of a design from a tick on, of 40 ticks at most and at least so many together, meet at these ticks.
+fn meet_at(
+    alloc: Global,
+    design: &Design,
+    from: u32,
+    least: u32,
+    ticks: &[u32],
+) -> Result<bool, Fail>
+    requires { 1 ≤ from }
 {
-    let found = clocks_of(alloc, 5, 12, from, most)?;
+    let windows = Windows::of(alloc, design, 40)?;
+    let found = clocks_of(alloc, &windows, from.min(design.horizon()), least)?;
     Ok(found.as_slice() == ticks)
 }
 
-// With a width of 5 windows end at the multiples of 5, and at the horizon.
+/// The same of the three nets, and of a flip-flop that samples at tick 10 and then at each twentieth, three ticks before
+/// a sample arrives.
+fn meet(alloc: Global) -> Result<bool, Fail> {
+    let plain = three_nets(alloc)?;
+    let inputs = Inputs {
+        netlist: b"INPUT(a)\nq = DFF(a)\n",
+        delays: b"by,name,delay\nnet,q,3\n",
+        stimuli: b"tick,net,value\n0,a,0\n5,a,1\n",
+        clocks: b"",
+    };
+    let settings = Settings {
+        horizon: 100,
+        clock: Some((10, 20)),
+        init: X,
+    };
+    let clocked = design_of(alloc, inputs, settings)?;
+    Ok(
+        meet_at(alloc, &plain, 1, 7, &[1, 41])?
+            && meet_at(alloc, &plain, 41, 100, &[41, 81, 100])?
+            && meet_at(alloc, &plain, 81, 0, &[81, 100])?
+            && meet_at(alloc, &clocked, 1, 100, &[1, 13, 33, 53, 73, 93, 100])?
+            && meet_at(alloc, &clocked, 31, 20, &[31, 53])?,
+    )
+}
+
+// Windows have 40 ticks, but for the last one, which ends at the horizon. With the flip-flop's period, which is below
+// 36, they end where a sample arrives at least 6 ticks later, as that at tick 53 does when one begins at tick 31.
 #[test]
-fn ticks_where_windows_meet(rt: HostRuntime) -> Result<(), AllocError> {
-    holds(&rt, meet_at(rt.alloc(), 1, 7, &[1, 5, 10])?);
-    holds(&rt, meet_at(rt.alloc(), 10, 100, &[10, 12])?);
-    holds(&rt, meet_at(rt.alloc(), 5, 0, &[5, 10])?);
+fn ticks_where_windows_meet(rt: HostRuntime) -> Result<(), Fail> {
+    holds(&rt, meet(rt.alloc())?);
     Ok(())
 }
 
@@ -55,17 +87,21 @@ fn is_unmade(batch: &Batch<'_>, clocks: &[u32]) -> bool {
     batch.made() == 0
 }
 
-/// Whether a batch is opened with the windows of 5 ticks up to tick 10, and renewed with those up to tick 20.
+/// Whether a batch is opened with windows of 5 ticks up to tick 11, and renewed with those from there to tick 21.
 fn is_renewed(alloc: Global, design: &Design, sharing: &Sharing) -> Result<bool, Fail>
     requires { IsSharing design.now.netlist sharing.now }
 {
+    let windows = Windows::of(alloc, design, 5)?;
     let horizon = design.horizon();
-    let clocks = clocks_of(alloc, 5, horizon, horizon.min(1), 9)?;
-    let batch = Batch::open(alloc, design, &sharing.owners, &sharing.crossing, 5, clocks)?;
-    let is_opened = is_unmade(&batch, &[1, 5, 10]);
-    let clocks = clocks_of(alloc, 5, horizon, horizon.min(10), 10)?;
+    let clocks = clocks_of(alloc, &windows, horizon.min(1), 9)?;
+    let batch = Batch::open(alloc, design, &sharing.owners, &sharing.crossing, clocks)?;
+    let is_opened = is_unmade(&batch, &[1, 6, 11]);
+    let Ok(clocks) = clocks_of(alloc, &windows, horizon.min(11), 10) else {
+        drop(batch);
+        return Err(Fail::new("no memory"));
+    };
     let batch = batch.renewed(alloc, clocks)?;
-    Ok(is_opened && is_unmade(&batch, &[10, 15, 20]))
+    Ok(is_opened && is_unmade(&batch, &[11, 16, 21]))
 }
 
 /// The same of the design's nets, shared out to two.
@@ -94,7 +130,7 @@ fn is_new(maker: &ShareMaker<'_>, number: u32) -> bool {
 /// Whether there is a maker of each of two shares. A word has 64 places, of which a window leaves one to the tick
 /// before it, and one to the delay of a tick.
 fn are_new(makers: &Makers<'_>) -> bool {
-    makers.width == 62
+    makers.windows.width() == 62
         && makers.list.len() == 2
         && is_new(&makers.list[0], 0)
         && is_new(&makers.list[1], 1)
@@ -103,11 +139,12 @@ fn are_new(makers: &Makers<'_>) -> bool {
 /// The windows as one share more made them, where it is the next one. A share that is given nothing makes the first of
 /// them before it looks at the batch.
 fn passed<'a>(batch: Batch<'a>, maker: ShareMaker<'a>) -> Result<Batch<'a>, Fail>
-    requires { IsFor maker.share maker.width batch }
+    requires same { IsFor maker.share batch }
+    requires ends { AreEnds maker.windows batch.clocks }
     ensures design { IfOk result (λ after. after.design ≡ batch.entry.design) }
     ensures owners { IfOk result (λ after. after.owners ≡ batch.entry.owners) }
     ensures crossing { IfOk result (λ after. after.crossing ≡ batch.entry.crossing) }
-    ensures width { IfOk result (λ after. after.width ≡ batch.entry.width) }
+    ensures clocks { IfOk result (λ after. after.clocks ≡ batch.entry.clocks) }
 {
     let Ok(maker) = maker.looked_ahead() else {
         drop(batch);
@@ -129,7 +166,8 @@ fn passed<'a>(batch: Batch<'a>, maker: ShareMaker<'a>) -> Result<Batch<'a>, Fail
 
 /// The windows as these shares made them, one after the other.
 fn passed_by_all<'a>(batch: Batch<'a>, makers: Vec<ShareMaker<'a>>) -> Result<Batch<'a>, Fail>
-    requires { All (λ maker. IsFor maker.share maker.width batch) makers.items }
+    requires same { All (λ maker. IsFor maker.share batch) makers.items }
+    requires ends { All (λ maker. AreEnds maker.windows batch.clocks) makers.items }
     ensures { IfOk result (λ after. after.owners ≡ batch.entry.owners) }
 {
     let mut batch = batch;
@@ -193,7 +231,7 @@ fn are_shown(changes: &[Changed], place: u32, levels: &[[Level; 9]; 3]) -> bool
         && shows(&changes[2], 2, place, &levels[2])
 }
 
-/// Whether the windows up to tick 62 and up to tick 100 tell the levels of the three nets. Tick 0 stands at place 2 of
+/// Whether the windows up to tick 63 and up to tick 100 tell the levels of the three nets. Tick 0 stands at place 1 of
 /// the first, and tick 78 at place 42 of the second.
 fn tells(batch: &Batch<'_>, owners: &[u32]) -> bool
     requires { batch.now.owners ≡ owners.now }
@@ -201,7 +239,7 @@ fn tells(batch: &Batch<'_>, owners: &[u32]) -> bool
     if batch.len() != 2 || !are_below(owners, batch.made()) {
         return false;
     }
-    are_shown(batch.changes(0), 2, &FROM_0) && are_shown(batch.changes(1), 42, &FROM_78)
+    are_shown(batch.changes(0), 1, &FROM_0) && are_shown(batch.changes(1), 42, &FROM_78)
 }
 
 /// Whether the makers of these shares are opened as they should be, and their windows tell the levels.
@@ -214,20 +252,15 @@ fn are_made<R: Threads + Sync>(
     requires { IsSharing design.now.netlist sharing.now }
 {
     let shares = shares_of(alloc, design, sharing)?;
-    let makers = open_makers(rt, alloc, &shares)?;
+    let makers = open_makers(rt, alloc, design, &shares)?;
     if !are_new(&makers) {
         return Ok(false);
     }
-    let Makers { width, list } = makers;
-    let clocks = clocks_of(alloc, width, design.horizon(), 1, 99)?;
-    let batch = Batch::open(
-        alloc,
-        design,
-        &sharing.owners,
-        &sharing.crossing,
-        width,
-        clocks,
-    )?;
+    let Makers { windows, list } = makers;
+    // The proof learns here that there is a tick at least.
+    let _horizon = design.horizon();
+    let clocks = clocks_of(alloc, &windows, 1, 99)?;
+    let batch = Batch::open(alloc, design, &sharing.owners, &sharing.crossing, clocks)?;
     let batch = passed_by_all(batch, list)?;
     Ok(tells(&batch, &sharing.owners))
 }

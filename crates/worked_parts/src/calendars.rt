@@ -1,7 +1,6 @@
 //! Calendars.
 
-ghost use Rattle.std.specs.Prelude.{◌≡◌, ◌+◌, ◌<◌, IfOk, OnOk};
-ghost use Rattle.cmb_calendar.specs.Calendars.{day_begin};
+ghost use Rattle.std.specs.Prelude.{◌≡◌, ◌≤◌, IfOk, OnOk};
 
 use crate::checks::holds;
 use cmb_calendar::{Calendar, Tell};
@@ -21,54 +20,57 @@ const NEXT: Tell = Tell {
 };
 
 const LATE: Tell = Tell {
-    tick: 12,
+    tick: 128,
     slot: 0,
     level: Level::One,
 };
 
 const OUTSIDE: Tell = Tell {
-    tick: 25,
+    tick: 130,
     slot: 0,
     level: Level::Zero,
 };
 
-/// Days of ten ticks up to tick 25, with four tells.
+/// A calendar up to tick 130, with four tells.
 fn noted(alloc: Global) -> Result<Calendar, AllocError>
-    ensures width { IfOk result (λ calendar. calendar.width ≡ 10) }
-    ensures horizon { IfOk result (λ calendar. calendar.horizon ≡ 25) }
-    ensures day { IfOk result (λ calendar. calendar.day ≡ 0) }
+    ensures horizon { IfOk result (λ calendar. calendar.horizon ≡ 130) }
+    ensures clock { IfOk result (λ calendar. calendar.clock ≡ 0) }
 {
-    let mut calendar = Calendar::open(alloc, 10, 25)?;
+    let mut calendar = Calendar::open(alloc, 130)?;
     for tell in [LATE, NEXT, OUTSIDE, EARLY] {
         calendar.note(tell)?;
     }
     Ok(calendar)
 }
 
-/// Whether these tells are those of the next day. What the list held before is forgotten.
-fn takes(calendar: &mut Calendar, taken: &mut Vec<Tell>, tells: &[Tell]) -> Result<bool, AllocError>
-    requires { day_begin calendar.old < calendar.old.horizon }
-    ensures width { OnOk result (calendar.new.width ≡ calendar.old.width) }
+/// Whether these tells are those below a tick. What the list held before is forgotten.
+fn takes(
+    calendar: &mut Calendar,
+    upto: u32,
+    taken: &mut Vec<Tell>,
+    tells: &[Tell],
+) -> Result<bool, AllocError>
+    requires later { calendar.old.clock ≤ upto }
+    requires within { upto ≤ calendar.old.horizon }
     ensures horizon { OnOk result (calendar.new.horizon ≡ calendar.old.horizon) }
-    ensures day { OnOk result (calendar.new.day ≡ calendar.old.day + 1) }
+    ensures clock { OnOk result (calendar.new.clock ≡ upto) }
 {
-    calendar.take(taken)?;
+    calendar.take(upto, taken)?;
     Ok(taken.as_slice() == tells)
 }
 
-/// Whether what the days have comes by rising ticks, and the tell at tick 25 is gone.
+/// Whether what is told comes by rising ticks when its tick was passed, whether a list of 64 ticks is taken in parts or
+/// several are at once, and the tell at tick 130 is gone.
 fn goes_on(alloc: Global, calendar: &mut Calendar) -> Result<bool, AllocError>
-    requires width { calendar.old.width ≡ 10 }
-    requires horizon { calendar.old.horizon ≡ 25 }
-    requires day { calendar.old.day ≡ 0 }
+    requires horizon { calendar.old.horizon ≡ 130 }
+    requires clock { calendar.old.clock ≡ 0 }
 {
     let mut taken = Vec::new(alloc);
-    let begin = calendar.next_day();
-    let first = takes(calendar, &mut taken, &[EARLY, NEXT])?;
-    let second = takes(calendar, &mut taken, &[LATE])?;
-    let end = calendar.next_day();
-    let last = takes(calendar, &mut taken, &[])?;
-    Ok(first && second && last && begin == 10 && end == 25)
+    let none = takes(calendar, 1, &mut taken, &[])?;
+    let first = takes(calendar, 9, &mut taken, &[EARLY])?;
+    let second = takes(calendar, 129, &mut taken, &[NEXT, LATE])?;
+    let last = takes(calendar, 130, &mut taken, &[])?;
+    Ok(none && first && second && last && calendar.horizon() == 130)
 }
 
 fn are_in_order(alloc: Global) -> Result<bool, AllocError> {
@@ -77,7 +79,7 @@ fn are_in_order(alloc: Global) -> Result<bool, AllocError> {
 }
 
 #[test]
-fn days_come_in_order(rt: HostRuntime) -> Result<(), AllocError> {
+fn tells_come_in_order(rt: HostRuntime) -> Result<(), AllocError> {
     holds(&rt, are_in_order(rt.alloc())?);
     Ok(())
 }

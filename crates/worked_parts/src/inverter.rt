@@ -1,10 +1,10 @@
 //! An inverter's run: the windows of its engine, and the text that is made as it goes on.
 //!
 //! The input `a` is 0, and 1 from tick 5 on. The inverter's delay is one tick, so its output `y` is x at tick 0, 1 from
-//! tick 1 on and 0 from tick 6 on. The engine goes from tick 1 to the horizon, tick 10, in one window, and made narrow
-//! in three windows. Where a window ends at tick 10, tick 9 stands at place 63 of a word and tick 0 at place 54.
+//! tick 1 on and 0 from tick 6 on. The engine goes from tick 1 to the horizon, tick 10, in one window, or in three that
+//! end where they are told to. Where a window ends at tick 10, tick 9 stands at place 63 of a word and tick 0 at place 54.
 
-ghost use Rattle.std.specs.Prelude.{◌≡◌, IfOk, IfSome};
+ghost use Rattle.std.specs.Prelude.{◌≡◌, ◌≤◌, IfOk, IfSome};
 ghost use Rattle.cmb_design.specs.Exact.{nets_of};
 
 use crate::checks::holds;
@@ -114,7 +114,8 @@ fn advances(alloc: Global, design: &Design, changed: &mut Vec<Changed>) -> Resul
 {
     let engine = Engine::open(alloc, design)?;
     let opens = engine.clock() == 1 && begins(design);
-    let last = engine.advance(changed)?;
+    let upto = engine.next_end();
+    let last = engine.advance(upto, changed)?;
     Ok(opens && last.clock() == HORIZON)
 }
 
@@ -128,34 +129,25 @@ fn goes_on(alloc: Global, design: &Design) -> Result<bool, Fail>
     Ok(is_whole && are_told(&changed))
 }
 
-/// The engine made narrow, with a width of four ticks, where its own is 62.
-fn narrow(alloc: Global, design: &Design) -> Result<Option<Engine<'_>>, AllocError>
-    ensures { IfOk result (λ found. IfSome found (λ engine. engine.design ≡ design.entry.now)) }
-{
-    let engine = Engine::open(alloc, design)?;
-    if engine.width() == 62 {
-        return Ok(Some(engine.narrowed(alloc, 4)?));
-    }
-    drop(engine);
-    Ok(None)
-}
-
-/// The engine a window further, where it isn't at the horizon.
+/// The engine a window further, up to a tick, where that is one of its ticks to come.
 fn further<'d>(
     engine: Engine<'d>,
+    upto: u32,
     changed: &mut Vec<Changed>,
 ) -> Result<Option<Engine<'d>>, AllocError>
-    requires { engine.design.horizon ≡ HORIZON }
-    ensures { IfOk result (λ found. IfSome found (λ next. next.design.horizon ≡ HORIZON)) }
+    requires horizon { engine.design.horizon ≡ HORIZON }
+    requires within { upto ≤ HORIZON }
+    ensures horizon { IfOk result (λ found. IfSome found (λ next. next.design.horizon ≡ HORIZON)) }
+    ensures clock { IfOk result (λ found. IfSome found (λ next. next.clock ≡ upto)) }
 {
-    if engine.clock() < HORIZON {
-        return Ok(Some(engine.advance(changed)?));
+    if engine.clock() < upto && engine.width() == 62 {
+        return Ok(Some(engine.advance(upto, changed)?));
     }
     drop(engine);
     Ok(None)
 }
 
-/// Whether the windows of an engine with a width of four ticks end at ticks 4, 8 and 10, and tell what changed in them.
+/// Whether windows that end at ticks 4, 8 and 10 tell what changed in them.
 fn are_narrow(
     alloc: Global,
     design: &Design,
@@ -163,22 +155,20 @@ fn are_narrow(
 ) -> Result<bool, AllocError>
     requires { design.now.horizon ≡ HORIZON }
 {
-    let Some(engine) = narrow(alloc, design)? else {
-        return Ok(false);
-    };
-    let Some(first) = further(engine, changed)? else {
+    let engine = Engine::open(alloc, design)?;
+    let Some(first) = further(engine, 4, changed)? else {
         return Ok(false);
     };
     let begins = first.clock() == 4 && is_first(changed);
-    let Some(second) = further(first, changed)? else {
+    let Some(second) = further(first, 8, changed)? else {
         return Ok(false);
     };
     let goes = second.clock() == 8 && is_second(changed);
-    let Some(last) = further(second, changed)? else {
+    let Some(last) = further(second, HORIZON, changed)? else {
         return Ok(false);
     };
     let ends = last.clock() == HORIZON && changed.is_empty();
-    Ok(begins && goes && ends && last.width() == 4)
+    Ok(begins && goes && ends)
 }
 
 /// The same.

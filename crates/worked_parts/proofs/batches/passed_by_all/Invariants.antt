@@ -6,5 +6,5 @@ invariant-loop-maker l = record {
   design : l.batch.design ≡ l.fn.batch.design;
   owners : l.batch.owners ≡ l.fn.batch.owners;
   crossing : l.batch.crossing ≡ l.fn.batch.crossing;
-  width : l.batch.width ≡ l.fn.batch.width;
+  clocks : l.batch.clocks ≡ l.fn.batch.clocks;
 }
