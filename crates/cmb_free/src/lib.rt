@@ -6,7 +6,7 @@ mod collect;
 mod crew;
 mod desk;
 mod ends;
-mod out;
+mod outbound;
 mod passing;
 mod run;
 mod teller;

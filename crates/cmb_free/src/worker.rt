@@ -6,7 +6,7 @@ ghost use Rattle.cmb_free.specs.Inner.Channels.{IsFedBy, IsLater};
 
 use crate::desk::{Desk, Own};
 use crate::ends::TakeEnd;
-use crate::out::Out;
+use crate::outbound::Out;
 use crate::passing::{Passing, leave_out_done, unsent};
 use crate::turnstile::Turnstile;
 use cmb_core::Clustering;
