@@ -1,8 +1,8 @@
 -- No piece of a channel is lost, whatever is put, taken and given.
-use Rattle.std.proofs.Common.{◌≡◌, ◌∙◌, ℕ, ◌<◌, ◌≤◌, List, [], ◌∷◌, ◌++◌, Option, Some, None, IsSome, refl, ap, sym, subst, arith, All, map, length}
+use Rattle.std.proofs.Common.{◌≡◌, ◌∙◌, ℕ, ◌<◌, ◌≤◌, List, [], ◌∷◌, ◌++◌, Option, Some, None, IsSome, refl, ap, sym, subst, arith, All, map}
 use Rattle.std.specs.List.{Contains}
 use Rattle.std.proofs.lemmas.List.Elements.{All-contains, All-weaker, All-map, All-contains_itself}
-use Rattle.cmb_wave.specs.Wave.{Piece, Wave}
+use Rattle.cmb_wave.specs.Wave.{Piece}
 use Rattle.cmb_core.specs.Clusters.{Cluster, IsSameButWaves, given_only, input_slot}
 use Rattle.cmb_core.specs.Directory.{place_in}
 use Rattle.cmb_core.specs.Rows.{Process, slot_of}

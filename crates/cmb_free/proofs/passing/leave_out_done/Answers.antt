@@ -1,4 +1,4 @@
-use Rattle.std.proofs.Common.{All, Bool, true, false, cond, List, [], ◌∷◌, subst, sym}
+use Rattle.std.proofs.Common.{All, Bool, true, false, List, [], ◌∷◌, subst, sym}
 use Rattle.std.specs.List.{Contains, items_where_true}
 use Rattle.std.proofs.lemmas.List.Elements.{All-cons, All-contains_itself, All-head, All-nil, All-tail}
 use Rattle.cmb_free.specs.declared.passing.Passing.{Passing}

@@ -1,5 +1,4 @@
 use Rattle.std.proofs.Common.{subst, sym}
-use Rattle.cmb_links.specs.Links.{TakeData}
 use Rattle.cmb_free.specs.Inner.Channels.{IsFedBy, IsLater}
 use Rattle.cmb_free.proofs.ChannelFacts.{IsFedBy-given, IsLater-again}
 use Rattle.cmb_free.proofs.worker.take_some.Goals as goal
