@@ -1,4 +1,6 @@
 use Rattle.std.proofs.Common.{◌≡◌}
+use Rattle.std.specs.Prelude.{All}
+use Rattle.cmb_batch.specs.Windows.{AreEnds}
 use Rattle.worked_parts.proofs.batches.passed_by_all.Given as goal
 
 abbrev pub invariant-loop-maker : goal.invariant-loop-maker
@@ -7,4 +9,5 @@ invariant-loop-maker l = record {
   owners : l.batch.owners ≡ l.fn.batch.owners;
   crossing : l.batch.crossing ≡ l.fn.batch.crossing;
   clocks : l.batch.clocks ≡ l.fn.batch.clocks;
+  ends : All (λ maker. AreEnds maker.windows l.fn.batch.clocks) l.maker-iterator.rest.items;
 }
