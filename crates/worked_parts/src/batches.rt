@@ -41,10 +41,31 @@ fn meet_at(
     Ok(found.as_slice() == ticks)
 }
 
-/// The same of the three nets, and of a flip-flop that samples at tick 10 and then at each twentieth, three ticks before
-/// a sample arrives.
-fn meet(alloc: Global) -> Result<bool, Fail> {
-    let plain = three_nets(alloc)?;
+/// Whether windows of the three nets meet where they do with 40 ticks each.
+fn meet_plainly(alloc: Global, design: &Design) -> Result<bool, Fail> {
+    Ok(
+        meet_at(alloc, design, 1, 7, &[1, 41])?
+            && meet_at(alloc, design, 41, 100, &[41, 81, 100])?
+            && meet_at(alloc, design, 81, 0, &[81, 100])?,
+    )
+}
+
+/// Whether windows of the flip-flop meet where samples arrive.
+fn meet_at_arrivals(alloc: Global, design: &Design) -> Result<bool, Fail> {
+    Ok(
+        meet_at(alloc, design, 1, 100, &[1, 13, 33, 53, 73, 93, 100])?
+            && meet_at(alloc, design, 31, 20, &[31, 53])?,
+    )
+}
+
+/// The first of the three nets.
+fn plain_meet(alloc: Global) -> Result<bool, Fail> {
+    let design = three_nets(alloc)?;
+    meet_plainly(alloc, &design)
+}
+
+/// The second of a flip-flop that samples at tick 10 and then at each twentieth, three ticks before a sample arrives.
+fn clocked_meet(alloc: Global) -> Result<bool, Fail> {
     let inputs = Inputs {
         netlist: b"INPUT(a)\nq = DFF(a)\n",
         delays: b"by,name,delay\nnet,q,3\n",
@@ -56,14 +77,13 @@ fn meet(alloc: Global) -> Result<bool, Fail> {
         clock: Some((10, 20)),
         init: X,
     };
-    let clocked = design_of(alloc, inputs, settings)?;
-    Ok(
-        meet_at(alloc, &plain, 1, 7, &[1, 41])?
-            && meet_at(alloc, &plain, 41, 100, &[41, 81, 100])?
-            && meet_at(alloc, &plain, 81, 0, &[81, 100])?
-            && meet_at(alloc, &clocked, 1, 100, &[1, 13, 33, 53, 73, 93, 100])?
-            && meet_at(alloc, &clocked, 31, 20, &[31, 53])?,
-    )
+    let design = design_of(alloc, inputs, settings)?;
+    meet_at_arrivals(alloc, &design)
+}
+
+/// Both.
+fn meet(alloc: Global) -> Result<bool, Fail> {
+    Ok(plain_meet(alloc)? && clocked_meet(alloc)?)
 }
 
 // Windows have 40 ticks, but for the last one, which ends at the horizon. With the flip-flop's period, which is below
