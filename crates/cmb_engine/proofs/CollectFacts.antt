@@ -91,13 +91,13 @@ collected-next words first start net next word live old new small later inside e
 module _ (words : ℕ → ℕ → Level) (trace : ℕ → ℕ → Level) (count nets to first : ℕ) (changed : List Changed) (shows : Shows words trace count to) (few : nets ≤ count) (begun : 1 ≤ first)
     (inside : 65 ≤ to + first) where
   -- a tick of the window, and the one before it, is shown in its place
-  shown-at : (net tick : ℕ) → net < nets → to + first - 64 ≤ suc tick → tick < to → words net (tick + 64 - to) ≡ trace net tick
+  pub shown-at : (net tick : ℕ) → net < nets → to + first - 64 ≤ suc tick → tick < to → words net (tick + 64 - to) ≡ trace net tick
   shown-at net tick below from upto =
       shows net (tick + 64 - to) (omega (arith, few, below)) (omega arith)
       ∙ in_place-tick (trace net) to (tick + 64 - to) (omega (arith, from, inside))
       ∙ ap (trace net) (omega (arith, from, begun, inside))
 
-  steady-still : (net : ℕ) → net < nets → IsSteadyFrom (words net) first → IsStill (trace net) (to + first - 64) to
+  pub steady-still : (net : ℕ) → net < nets → IsSteadyFrom (words net) first → IsStill (trace net) (to + first - 64) to
   steady-still net below steady tick from upto =
       sym (shown-at net tick below from (omega arith))
       ∙ first_level (tick + 64 - to) (omega (arith, from, inside)) (omega (arith, upto)) (cases_lt (tick + 64 - to) first)

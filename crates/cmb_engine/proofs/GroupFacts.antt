@@ -33,15 +33,15 @@ arrives-flop Told tick h = absurd h
 arrives-flop (Gate kind pins) tick h = absurd h
 arrives-flop (Flop own pin) tick h = record { clock = own; delay = pin.delay; flop = (refl, refl); arrives = h }
 
-flop-made : (cell : Cell) (clock : Clock) (delay : ℕ) → IsFlopOf cell clock delay → is_made cell ≡ true
+pub flop-made : (cell : Cell) (clock : Clock) (delay : ℕ) → IsFlopOf cell clock delay → is_made cell ≡ true
 flop-made Told clock delay h = absurd h
 flop-made (Gate kind pins) clock delay h = absurd h
 flop-made (Flop own pin) clock delay h = refl
 
-flop-inside : (cells : List Cell) (slot : ℕ) (clock : Clock) (delay : ℕ) → IsFlopOf (cell_at cells slot) clock delay → slot < length cells
+pub flop-inside : (cells : List Cell) (slot : ℕ) (clock : Clock) (delay : ℕ) → IsFlopOf (cell_at cells slot) clock delay → slot < length cells
 flop-inside cells slot clock delay h = made-inside cells slot (flop-made (cell_at cells slot) clock delay h)
 
-flop-paced : (nets most : ℕ) (cell : Cell) (clock : Clock) (delay : ℕ) → IsLawful nets most cell → IsFlopOf cell clock delay → IsPace clock × (delay ≤ most)
+pub flop-paced : (nets most : ℕ) (cell : Cell) (clock : Clock) (delay : ℕ) → IsLawful nets most cell → IsFlopOf cell clock delay → IsPace clock × (delay ≤ most)
 flop-paced nets most Told clock delay lawful h = absurd h
 flop-paced nets most (Gate kind pins) clock delay lawful h = absurd h
 flop-paced nets most (Flop own pin) clock delay lawful h =
@@ -160,6 +160,14 @@ group-new groups new slot listed = record {
 
 -- ---- all groups
 
+-- a group's clock and delay are those of its first flip-flop
+pub group-paced : (cells : List Cell) (group : Group) (most : ℕ) → IsGroup cells group → ((slot : ℕ) → slot < length cells → IsLawful (length cells) most (cell_at cells slot))
+    → IsPace group.clock × (group.delay ≤ most)
+group-paced cells group most is lawful =
+    let slot : ℕ = get_or group.flops.items 0 0 in
+    let flop : IsFlopOf (cell_at cells slot) group.clock group.delay = is.each 0 0 is.some in
+    flop-paced (length cells) most (cell_at cells slot) _ _ (lawful slot (flop-inside cells slot _ _ flop)) flop
+
 module _ (cells : List Cell) (groups : List Group) (flops : AreFlops cells groups) where
   pub groups-inside : All (λ group. All (λ slot. slot < length cells) group.flops.items) groups
   groups-inside k d small n e inside =
@@ -167,10 +175,7 @@ module _ (cells : List Cell) (groups : List Group) (flops : AreFlops cells group
 
   pub groups-paced : (most : ℕ) → ((slot : ℕ) → slot < length cells → IsLawful (length cells) most (cell_at cells slot))
       → All (λ group. IsPace group.clock × (group.delay ≤ most)) groups
-  groups-paced most lawful k d small =
-      let slot : ℕ = get_or (get_or groups k d).flops.items 0 0 in
-      let flop : IsFlopOf (cell_at cells slot) (get_or groups k d).clock (get_or groups k d).delay = (flops.each k d small).each 0 0 ((flops.each k d small).some) in
-      flop-paced (length cells) most (cell_at cells slot) _ _ (lawful slot (flop-inside cells slot _ _ flop)) flop
+  groups-paced most lawful k d small = group-paced cells (get_or groups k d) most (flops.each k d small) lawful
 
 -- the first so many of the flip-flops are in their groups
 abbrev pub AreGrouped : List Member → ℕ → List Group → Type 0

@@ -1,3 +1,4 @@
+pub mod AheadFacts
 pub mod ArrivalFacts
 pub mod BatchFacts
 pub mod BeginFacts
@@ -6,6 +7,7 @@ pub mod CellFacts
 pub mod CollectFacts
 pub mod EndFacts
 pub mod EngineFacts
+pub mod ExportFacts
 pub mod FollowerFacts
 pub mod GivenFacts
 pub mod GroupFacts

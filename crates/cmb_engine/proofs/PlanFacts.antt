@@ -408,6 +408,8 @@ module _ (design : Design) (roles : List Role) (lines : List Pin) (most : ℕ) (
       → IsPlan design roles lines most width (cells ++ replicate (length lines) Told)
   plan-is width lawful fits wide sooner = record {
     count = slots-count;
+    stand = λ net small.
+        subst (λ (cell : Cell). CellStandsFor (nets_of design) lines most (cell_as design net (role_of roles net)) cell) (sym (cell_of-net net small)) (are.stand net small);
     meets = slots-meet;
     lawful = λ slot small.
         subst (λ (count : ℕ). IsLawful count most (cell_at (cells ++ replicate (length lines) Told) slot)) (sym slots-count)

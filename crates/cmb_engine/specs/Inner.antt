@@ -6,6 +6,7 @@ pub mod Bits
 pub mod Cells
 pub mod Circuits
 pub mod Ends
+pub mod Exports
 pub mod Gifts
 pub mod Lines
 pub mod Lists

@@ -6,10 +6,12 @@ use Rattle.cmb_design.specs.Design.{Design}
 use Rattle.cmb_words.specs.declared.changed.Changed.{Changed}
 use Rattle.cmb_words.specs.Changes.{IsStill, TellsNet, is_among}
 
--- a design, which of its nets are driven, the most ticks of a window, and the tick below which the driven nets are known
+-- a design, which of its nets are driven and which of these are told ahead, the most ticks of a window, and the tick below which the
+-- driven nets are known
 pub record ShareEngine : Type 0 where
   pub design : Design
   pub driven : List Bool
+  pub exports : List ℕ
   pub width : ℕ
   pub clock : ℕ
 

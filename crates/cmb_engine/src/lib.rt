@@ -1,6 +1,7 @@
 //! The engine of a simulation: it goes on window by window, on words of 64 ticks.
 #![tactic(auto)]
 
+mod ahead;
 mod arrivals;
 mod begin;
 mod bits;
@@ -9,6 +10,7 @@ mod cells;
 mod circuit;
 mod collect;
 pub mod engine;
+mod exports;
 mod fanout;
 mod flops;
 mod given;

@@ -10,12 +10,9 @@ ghost use Rattle.cmb_engine.specs.Inner.Orders.{rank_in, IsOrder, IsPlaced, AreP
 use crate::bits::Bits;
 use crate::cells::Cells;
 use crate::readers::Numbers;
+use crate::windows::SHORTEST_CYCLE;
 use std::alloc::{AllocError, Global};
 use std::marker::Model;
-
-/// The shortest period of a clock whose flip-flops begin a window, as inputs do. Those of quicker clocks are ordered and
-/// visited as gates are.
-pub(crate) const SHORTEST_CYCLE: u32 = 12;
 
 /// The rank of a slot that has none yet.
 const UNPLACED: u32 = u32::MAX;

@@ -1,15 +1,20 @@
 //! The engine of a share of a design's nets.
 
-ghost use Rattle.std.specs.Prelude.{◌≡◌, ◌+◌, ◌<◌, ◌≤◌, IfOk, length};
+ghost use Rattle.std.specs.Prelude.{◌≡◌, ℕ, ◌+◌, ◌<◌, ◌≤◌, ◌↔◌, All, Contains, IfOk, OnOk, [], length};
 ghost use Rattle.cmb_design.specs.Exact.{nets_of};
+ghost use Rattle.cmb_design.specs.Timing.{delay};
 ghost use Rattle.cmb_design.specs.Value.{value};
+ghost use Rattle.cmb_engine.specs.Crossings.{IsCrossing, IsWithinLookahead};
 ghost use Rattle.cmb_engine.specs.Inner.Roles.{driven_of, AreOf};
 ghost use Rattle.cmb_engine.specs.Shares.{IsDriven, IsGiven, TellsThose};
 ghost use Rattle.cmb_engine.specs.Inner.States.{IsCircuit};
 ghost use Rattle.cmb_words.specs.Changes.{IsWindow};
 
+use crate::ahead::tell_groups;
 use crate::circuit::Circuit;
 use crate::engine::LONGEST_WINDOW;
+use crate::exports::exports_of;
+use crate::group::Group;
 use crate::open::{open_circuit, open_state};
 use crate::sharing::roles_of;
 use crate::state::State;
@@ -22,14 +27,22 @@ use std::marker::Model;
 /// they read of other nets. Engines that drive all nets among them simulate the design, a logical process each.
 ///
 /// Nets have the design's numbers. An engine does nothing for nets that it neither drives nor is given.
+///
+/// What its flip-flops do in a window is known before it, where the window lies in their lookahead: the ticks up to the
+/// first arrival of a sample that isn't taken yet. So shares that are given flip-flops alone can read one another.
 #[derive(Drop)]
 pub struct ShareEngine<'d> {
     design: &'d Design,
     circuit: Circuit,
     state: State,
+    // The flip-flops that are told ahead.
+    exports: Vec<Group>,
 }
 
 impl<'d> Model for ShareEngine<'d> {
+    ghost use Rattle.std.specs.Prelude.{All};
+    ghost use Rattle.cmb_engine.specs.Inner.Circuits.{IsGroup};
+    ghost use Rattle.cmb_engine.specs.Inner.Exports.{slots_of};
     ghost use Rattle.cmb_engine.specs.Inner.Roles.{driven_of, AreOf};
     ghost use Rattle.cmb_engine.specs.Shares.{ShareEngine};
     ghost use Rattle.cmb_engine.specs.Inner.States.{IsCircuit, IsState};
@@ -39,13 +52,15 @@ impl<'d> Model for ShareEngine<'d> {
     ghost view = { λ engine. record {
       design = engine.design.now;
       driven = driven_of engine.circuit.wiring.roles.items;
+      exports = slots_of engine.exports.items;
       width = engine.circuit.width;
       clock = engine.state.clock;
     } };
 
     ghost invariant = { λ engine. IsCircuit engine.design.now engine.circuit
         × IsState engine.design.now engine.circuit engine.state
-        × AreOf engine.design.now (driven_of engine.circuit.wiring.roles.items) engine.circuit.wiring.roles.items };
+        × AreOf engine.design.now (driven_of engine.circuit.wiring.roles.items) engine.circuit.wiring.roles.items
+        × All (IsGroup engine.circuit.wiring.cells) engine.exports.items };
 }
 
 impl<'d> ShareEngine<'d> {
@@ -59,6 +74,7 @@ impl<'d> ShareEngine<'d> {
         requires roles { AreOf design.now (driven_of circuit.wiring.roles.items) circuit.wiring.roles.items }
         ensures design { IfOk result (λ engine. engine.design ≡ design.entry.now) }
         ensures driven { IfOk result (λ engine. engine.driven ≡ driven_of circuit.wiring.roles.items) }
+        ensures exports { IfOk result (λ engine. engine.exports ≡ []) }
         ensures width { IfOk result (λ engine. engine.width ≡ circuit.width) }
         ensures clock { IfOk result (λ engine. engine.clock ≡ 1) }
     {
@@ -67,6 +83,7 @@ impl<'d> ShareEngine<'d> {
                 design,
                 circuit,
                 state,
+                exports: Vec::new(alloc),
             }),
             Err(error) => {
                 drop(circuit);
@@ -84,11 +101,42 @@ impl<'d> ShareEngine<'d> {
         requires { length driven.now ≡ nets_of design.now }
         ensures design { IfOk result (λ engine. engine.design ≡ design.entry.now) }
         ensures driven { IfOk result (λ engine. engine.driven ≡ driven.now) }
+        ensures exports { IfOk result (λ engine. engine.exports ≡ []) }
         ensures clock { IfOk result (λ engine. engine.clock ≡ 1) }
     {
         let roles = roles_of(alloc, design, driven)?;
         let circuit = open_circuit(alloc, design, roles)?;
         ShareEngine::begin(alloc, design, circuit)
+    }
+
+    /// The same engine, by which the crossing ones of its flip-flops are told ahead.
+    pub fn exporting(self, alloc: Global, crossing: &[bool]) -> Result<ShareEngine<'d>, AllocError>
+        ensures design { IfOk result (λ engine. engine.design ≡ self.entry.design) }
+        ensures driven { IfOk result (λ engine. engine.driven ≡ self.entry.driven) }
+        ensures width { IfOk result (λ engine. engine.width ≡ self.entry.width) }
+        ensures clock { IfOk result (λ engine. engine.clock ≡ self.entry.clock) }
+        ensures exports { IfOk result (λ engine. (net : ℕ) → Contains engine.exports net
+            ↔ (IsDriven self.entry.driven net × IsCrossing self.entry.design crossing.now net)) }
+    {
+        let ShareEngine {
+            design,
+            circuit,
+            state,
+            exports,
+        } = self;
+        drop(exports);
+        match exports_of(alloc, circuit.wiring.flops.as_slice(), crossing) {
+            Ok(exports) => Ok(ShareEngine {
+                design,
+                circuit,
+                state,
+                exports,
+            }),
+            Err(error) => {
+                drop((circuit, state));
+                Err(error)
+            }
+        }
     }
 
     /// The most ticks of a window.
@@ -109,6 +157,35 @@ impl<'d> ShareEngine<'d> {
         self.state.clock
     }
 
+    /// Tells ahead which of the flip-flops in question change in the window from the clock up to the tick `upto`, before
+    /// it is made. `told` gets them in no order, each with its levels up to the window's end, in place of what it had.
+    ///
+    /// Work is by the flip-flops that get a sample in the window. Errors: memory was refused.
+    pub fn tell_ahead(&self, upto: u32, told: &mut Vec<Changed>) -> Result<(), AllocError>
+        requires later { self.now.clock < upto }
+        requires short { upto ≤ self.now.clock + self.now.width }
+        requires within { upto ≤ self.now.design.horizon }
+        requires ahead { (net : ℕ) → Contains self.now.exports net
+            → IsWithinLookahead self.now.design self.now.clock upto net }
+        requires soon { (net : ℕ) → Contains self.now.exports net
+            → delay self.now.design net 1 < self.now.width }
+        ensures only { OnOk result (All (λ one. Contains self.now.exports one.net) told.new.items) }
+        ensures tells { OnOk result (TellsThose (Contains self.now.exports) (value self.now.design)
+            self.now.clock upto told.new.items) }
+    {
+        // The proof learns here how late the horizon is at most, and how many nets there are.
+        let _horizon = self.design.horizon();
+        let _nets = self.design.netlist().len();
+        tell_groups(
+            self.exports.as_slice(),
+            &self.circuit.wiring.cells,
+            &self.state.words,
+            told,
+            upto - self.state.clock,
+            upto,
+        )
+    }
+
     /// Goes on by a window up to the tick `upto`. `given` has the changes in it of the nets that driven nets read and
     /// this engine doesn't drive, in any order; what else it has is passed over. `changed` gets the driven nets that
     /// changed, by rising number, each with its levels up to the window's end, in place of what it had; given nets that
@@ -126,6 +203,7 @@ impl<'d> ShareEngine<'d> {
             self.clock upto given.now }
         ensures design { IfOk result (λ engine. engine.design ≡ self.entry.design) }
         ensures driven { IfOk result (λ engine. engine.driven ≡ self.entry.driven) }
+        ensures exports { IfOk result (λ engine. engine.exports ≡ self.entry.exports) }
         ensures width { IfOk result (λ engine. engine.width ≡ self.entry.width) }
         ensures clock { IfOk result (λ engine. engine.clock ≡ upto) }
         ensures window { IfOk result (λ engine. IsWindow (nets_of self.entry.design) self.entry.design.horizon
@@ -137,15 +215,17 @@ impl<'d> ShareEngine<'d> {
             design,
             circuit,
             mut state,
+            exports,
         } = self;
         match state.advance(design, &circuit, upto, given, changed) {
             Ok(()) => Ok(ShareEngine {
                 design,
                 circuit,
                 state,
+                exports,
             }),
             Err(error) => {
-                drop((circuit, state));
+                drop((circuit, state, exports));
                 Err(error)
             }
         }

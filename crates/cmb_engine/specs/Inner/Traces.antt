@@ -11,7 +11,8 @@ use Rattle.cmb_design.specs.Exact.{nets_of}
 use Rattle.cmb_design.specs.Value.{delayed}
 use Rattle.cmb_engine.specs.Inner.Cells.{Cell, cell_at, is_made, pins_of, IsLawful}
 use Rattle.cmb_engine.specs.Inner.Circuits.{MeetsCells}
-use Rattle.cmb_engine.specs.Inner.Roles.{drives, level_in}
+use Rattle.cmb_engine.specs.Inner.Plans.{cell_as, CellStandsFor}
+use Rattle.cmb_engine.specs.Inner.Roles.{drives, level_in, role_of}
 use Rattle.cmb_engine.specs.declared.cell.Pin.{Pin}
 use Rattle.cmb_engine.specs.declared.role.Role.{Role}
 
@@ -25,10 +26,11 @@ unfoldable pub trace_of : Design → List Role → List Pin → ℕ → ℕ → 
 trace_of design roles lines slot tick =
     if nat_lt slot (nets_of design) then level_in design roles slot tick else line_level (level_in design roles) (slice_get lines (slot - nets_of design)) tick
 
--- the cells of all slots, so that what the slots show is what the cells make of it: no pin is later than `most` ticks, and no
+-- the cells of all slots, so that what the slots show is what the cells make of it: those of nets stand for what their drivers make, no pin is later than `most` ticks, and no
 -- line sooner than a window is long
 pub record IsPlan (design : Design) (roles : List Role) (lines : List Pin) (most width : ℕ) (cells : List Cell) : Type 0 where
   pub count : length cells ≡ nets_of design + length lines
+  pub stand : (net : ℕ) → net < nets_of design → CellStandsFor (nets_of design) lines most (cell_as design net (role_of roles net)) (cell_at cells net)
   pub meets : MeetsCells (trace_of design roles lines) (cell_at cells)
   pub lawful : (slot : ℕ) → slot < length cells → IsLawful (length cells) most (cell_at cells slot)
   pub later : (slot : ℕ) → AllByRecursion (λ pin. is_made (cell_at cells pin.net) ≡ true → 1 ≤ pin.delay) (pins_of (cell_at cells slot))

@@ -42,4 +42,4 @@ returns-in-Ok-clause-window c =
     subst (λ (e : ShareEngine). IsWindow (nets_of e.design) e.design.horizon e.clock c.advance.new.self.clock c.advance.new.changed.items) c.self.view_is c.in-Ok.ensures.window
 
 pub invariant_of-result : goal.invariant_of-result
-invariant_of-result c = (c.self.invariant.0, c.in-Ok.ensures.state, c.self.invariant.2)
+invariant_of-result c = (c.self.invariant.0, c.in-Ok.ensures.state, c.self.invariant.2, c.self.invariant.3)

@@ -1,0 +1,45 @@
+-- What a share tells ahead.
+use Rattle.std.specs.Prelude.{◌≡◌, ℕ, ◌+◌, ◌-◌, ◌<◌, ◌≤◌, ◌⊎◌, true, false, List, [], ◌∷◌, ◌++◌, Contains, length, min}
+use Rattle.cmb_wave.specs.declared.level.Level.{Level}
+use Rattle.cmb_design.specs.declared.rows.Clock.{Clock}
+use Rattle.cmb_words.specs.declared.changed.Changed.{Changed}
+use Rattle.cmb_words.specs.declared.word.Word.{Word}
+use Rattle.cmb_words.specs.Holds.{Holds}
+use Rattle.cmb_words.specs.Changes.{IsStill, TellsNet, is_among}
+use Rattle.cmb_engine.specs.Rows.{arrives_by}
+use Rattle.cmb_engine.specs.Inner.Cells.{Cell, Told, Gate, Flop, cell_at}
+use Rattle.cmb_engine.specs.Inner.Circuits.{MeetsCells, Shows}
+use Rattle.cmb_engine.specs.Inner.Words.{levels_of}
+use Rattle.cmb_engine.specs.declared.group.Group.{Group}
+
+-- the slots of all groups
+abbrev pub slots_of : List Group → List ℕ
+slots_of [] = []
+slots_of (group ∷ groups) = group.flops.items ++ slots_of groups
+
+-- the levels of words so many ticks later, where nothing changes
+abbrev pub moved_on : (ℕ → ℕ → Level) → ℕ → ℕ → ℕ → Level
+moved_on words ticks slot place = words slot (min (place + ticks) 63)
+
+-- the word of a flip-flop so many ticks later, where samples arrive from a place on
+abbrev pub HoldsAhead : (ℕ → ℕ → Level) → (ℕ → Level) → ℕ → ℕ → ℕ → Cell → Type 0
+HoldsAhead words held ticks arrival slot Told = Unit {0}
+HoldsAhead words held ticks arrival slot (Gate kind pins) = Unit {0}
+HoldsAhead words held ticks arrival slot (Flop clock pin) =
+    Holds (moved_on words ticks slot) (moved_on words ticks pin.net) held pin.delay arrival clock.period (64 - ticks)
+
+-- each sample that arrives in a window from a place on was taken before it
+abbrev pub AreTakenBefore : Clock → ℕ → ℕ → ℕ → Type 0
+AreTakenBefore clock delay to first =
+    (place : ℕ) → first ≤ place → place < 64 → arrives_by clock delay (to + place - 64) ≡ true → place < first + delay
+
+-- the changes of some slots at the ticks of [from, upto) were added to others
+pub record AddsSlots (trace : ℕ → ℕ → Level) (slots : List ℕ) (from upto : ℕ) (old new : List Changed) : Type 0 where
+  pub kept : (net : ℕ) → is_among net new ≡ false → is_among net old ≡ false
+  pub right : (one : Changed) → Contains new one → Contains old one ⊎ (Contains slots one.net × TellsNet trace from upto one)
+  pub others : (slot : ℕ) → Contains slots slot → is_among slot new ≡ false → IsStill (trace slot) from upto
+
+-- the same of whatever trace the cells allow that the words show up to the first of these ticks
+abbrev pub AddsAhead : List Cell → List Word → List ℕ → ℕ → ℕ → List Changed → List Changed → Type 0
+AddsAhead cells words slots from upto old new =
+    (trace : ℕ → ℕ → Level) → MeetsCells trace (cell_at cells) → Shows (levels_of words) trace (length words) from → AddsSlots trace slots from upto old new

@@ -1,0 +1,117 @@
+//! What is told ahead: what flip-flops do in a window that isn't made yet. Their samples that arrive there were taken
+//! before it.
+
+ghost use Rattle.std.specs.Prelude.{◌≡◌, ℕ, ◌+◌, ◌-◌, ◌<◌, ◌≤◌, true, [], All, OnOk, length};
+ghost use Rattle.cmb_words.specs.Holds.{AreSamples, Holds};
+ghost use Rattle.cmb_words.specs.Word.{level_at_place};
+ghost use Rattle.cmb_engine.specs.Inner.Cells.{cell_at, is_made, IsLawful, IsSteadyFrom};
+ghost use Rattle.cmb_engine.specs.Inner.Circuits.{IsGroup};
+ghost use Rattle.cmb_engine.specs.Inner.Exports.{slots_of, AddsAhead, AreTakenBefore, HoldsAhead};
+ghost use Rattle.cmb_engine.specs.Inner.Windows.{HasWindow};
+ghost use Rattle.cmb_engine.specs.Inner.Words.{levels_of};
+
+use crate::arrivals::first_arrival;
+use crate::cells::Cells;
+use crate::group::Group;
+use cmb_netlist::MAX_NETS;
+use cmb_words::{Changed, Word, held};
+use std::alloc::AllocError;
+
+// The word of a flip-flop that held its level from a place on so far, as `held` gives it. Mostly its data have that
+// level too, as far back as samples were taken, and then nothing changes.
+#[inline]
+fn next_word(own: Word, input: Word, delay: u32, arrival: u32, period: u32, first: u32) -> Word
+    requires samples { AreSamples delay arrival period first }
+    requires steady { IsSteadyFrom (level_at_place own) first }
+    ensures { Holds (level_at_place own) (level_at_place input) (level_at_place result) delay arrival period first }
+{
+    if input.differs_from(own.everywhere(first - 1), first - delay) {
+        held(own, input, delay, arrival, period, first)
+    } else {
+        own
+    }
+}
+
+// The word that a flip-flop has so many ticks later, where samples arrive from a place on.
+fn word_ahead(cells: &Cells, words: &[Word], slot: usize, arrival: u32, ticks: u32) -> Word
+    requires nets { length cells.now ≡ length words.now }
+    requires slot { slot < length words.now }
+    requires lawful { IsLawful (length words.now) (64 - ticks) (cell_at cells.now slot) }
+    requires some { 1 ≤ ticks }
+    requires fits { ticks < 64 }
+    requires arrival { 64 - ticks ≤ arrival }
+    ensures { HoldsAhead (levels_of words.now) (level_at_place result) ticks arrival slot (cell_at cells.now slot) }
+{
+    let own = words[slot].advanced(ticks);
+    match cells.flop(slot) {
+        Some((clock, pin)) => {
+            let input = words[pin.net as usize].advanced(ticks);
+            next_word(own, input, pin.delay, arrival, clock.period, 64 - ticks)
+        }
+        None => own,
+    }
+}
+
+// Adds the flip-flops of a group that change in a window.
+fn tell_group(
+    group: &Group,
+    cells: &Cells,
+    words: &[Word],
+    told: &mut Vec<Changed>,
+    ticks: u32,
+    to: u32,
+) -> Result<(), AllocError>
+    requires group { IsGroup cells.now group.now }
+    requires nets { length cells.now ≡ length words.now }
+    requires few { (slot : ℕ) → is_made (cell_at cells.now slot) ≡ true → slot < MAX_NETS }
+    requires lawful { (slot : ℕ) → slot < length words.now
+        → IsLawful (length words.now) (64 - ticks) (cell_at cells.now slot) }
+    requires later { ticks < to }
+    requires window { HasWindow to (64 - ticks) }
+    requires taken { AreTakenBefore group.now.clock group.now.delay to (64 - ticks) }
+    ensures { OnOk result (AddsAhead cells.now words.now group.now.flops.items (to - ticks) to
+        told.old.items told.new.items) }
+{
+    let first = 64 - ticks;
+    let arrival = first_arrival(group.clock, group.delay, to, first);
+    if arrival >= 64 {
+        return Ok(());
+    }
+    for slot in &group.flops {
+        let word = word_ahead(cells, words, *slot as usize, arrival, ticks);
+        if !word.is_steady_from(first) {
+            told.push(Changed {
+                net: *slot as u16,
+                word,
+            })?;
+        }
+    }
+    Ok(())
+}
+
+/// Tells which flip-flops of some groups change in the window of so many ticks up to a tick, each with its word, in
+/// place of what `told` had. The words end where the window begins.
+pub(crate) fn tell_groups(
+    groups: &[Group],
+    cells: &Cells,
+    words: &[Word],
+    told: &mut Vec<Changed>,
+    ticks: u32,
+    to: u32,
+) -> Result<(), AllocError>
+    requires groups { All (IsGroup cells.now) groups.now }
+    requires nets { length cells.now ≡ length words.now }
+    requires few { (slot : ℕ) → is_made (cell_at cells.now slot) ≡ true → slot < MAX_NETS }
+    requires lawful { (slot : ℕ) → slot < length words.now
+        → IsLawful (length words.now) (64 - ticks) (cell_at cells.now slot) }
+    requires later { ticks < to }
+    requires window { HasWindow to (64 - ticks) }
+    requires taken { All (λ group. AreTakenBefore group.clock group.delay to (64 - ticks)) groups.now }
+    ensures { OnOk result (AddsAhead cells.now words.now (slots_of groups.now) (to - ticks) to [] told.new.items) }
+{
+    told.clear();
+    for group in groups {
+        tell_group(group, cells, words, told, ticks, to)?;
+    }
+    Ok(())
+}
