@@ -16,7 +16,7 @@ try:
 example: build
 	@CMBSIM=$(PROGRAM) tools/simulate.sh examples/inverter
 
-# Proves whatever isn't proved yet, and builds the program.
+# Proves whatever isn't proved yet, and builds the program, for the processor that CPU names if it is set.
 build:
 	@scripts/build.py cmbsim
 
