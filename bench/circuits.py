@@ -327,6 +327,82 @@ def local(nets, cycles, inputs=64, period=60, seed=7):
     return c
 
 
+# A program for the processors below: each row is an operation, the register that it writes, the two that it reads and a
+# number. It counts, mixes what it has with what the neighbour puts out, and keeps some of it in its memory.
+PROGRAM = (
+    ("set", 1, 0, 0, 1), ("set", 2, 0, 0, 0x9e37), ("set", 3, 0, 0, 40),
+    ("add", 4, 4, 2, 0), ("turn", 5, 4, 0, 0), ("xor", 4, 4, 5, 0), ("read", 6, 0, 0, 0), ("xor", 7, 6, 4, 0),
+    ("store", 0, 8, 7, 0), ("add", 8, 8, 1, 0), ("load", 9, 4, 0, 0), ("add", 10, 10, 9, 0),
+    ("put", 0, 0, 10, 0), ("less", 3, 3, 1, 0), ("jump", 0, 3, 0, 3), ("jump", 0, 1, 0, 2))
+
+
+def chosen(c, places, rows):
+    """Of so many rows of bits the one whose number stands at the places, the least first."""
+    for place in places:
+        other = c.gate("NOT", place)
+        rows = [[c.gate("OR", c.gate("AND", a, other), c.gate("AND", b, place)) for a, b in zip(*pair)] for pair in zip(rows[::2], rows[1::2])]
+    return rows[0]
+
+
+def decoded(c, places):
+    """For each number that the places can have whether they have it."""
+    sides = [(c.gate("NOT", place), place) for place in places]
+    return [c.gate("AND", *(side[number >> i & 1] for i, side in enumerate(sides))) for number in range(1 << len(places))]
+
+
+def kept(c, name, writes, data):
+    """Registers that get the data where they are written; each is named before its bits are."""
+    rows = [[f"{name}{k}b{i}" for i in range(len(data))] for k in range(len(writes))]
+    for row, write in zip(rows, writes):
+        other = c.gate("NOT", write)
+        for bit, new in zip(row, data):
+            c.gate("DFF", c.gate("OR", c.gate("AND", bit, other), c.gate("AND", new, write)), name=bit)
+    return rows
+
+
+def processor(c, name, neighbour, zero, one, width=16, memory=6):
+    """A processor that does one row of PROGRAM in each cycle."""
+    at = [f"{name}at{i}" for i in range(4)]
+    rows = decoded(c, at)
+
+    def rom(column, count):
+        held = [[rows[k] for k, row in enumerate(PROGRAM) if row[column] >> i & 1] for i in range(count)]
+        return [c.gate("OR", *bits) if len(bits) > 1 else c.gate("BUFF", *(bits or [zero])) for bits in held]
+    does = {op: c.gate("OR", zero, *(rows[k] for k, row in enumerate(PROGRAM) if row[0] == op)) for op in sorted({row[0] for row in PROGRAM})}
+    names = [[f"{name}r{k}b{i}" for i in range(width)] for k in range(16)]
+    a, b, number = (chosen(c, rom(2, 4), names), chosen(c, rom(3, 4), names), rom(4, width))
+    cells = [[f"{name}m{k}b{i}" for i in range(width)] for k in range(1 << memory)]
+    turned = [c.gate("XOR", bit, does["less"]) for bit in b]
+    carry, total = does["less"], []
+    for x, y in zip(a, turned):
+        out, carry = c.adder(x, y, carry)
+        total.append(out)
+    sums = c.gate("OR", does["add"], does["less"])
+    ways = [(does["set"], number), (sums, total), (does["turn"], a[-5:] + a[:-5]), (does["read"], neighbour),
+            (does["xor"], [c.gate("XOR", x, y) for x, y in zip(a, b)]), (does["load"], chosen(c, a[:memory], cells))]
+    result = [c.gate("OR", *(c.gate("AND", way, bits[i]) for way, bits in ways)) for i in range(width)]
+    writes = c.gate("OR", *(way for way, _ in ways))
+    kept(c, f"{name}r", [c.gate("AND", writes, row) for row in decoded(c, rom(1, 4))], result)
+    kept(c, f"{name}m", [c.gate("AND", does["store"], row) for row in decoded(c, a[:memory])], b)
+    kept(c, f"{name}out", [does["put"]], b)
+    jumps = c.gate("AND", does["jump"], c.gate("OR", *a))
+    step = one
+    for place, target in zip(at, number):
+        onward = c.gate("XOR", place, step)
+        step = c.gate("AND", place, step)
+        c.gate("DFF", chosen(c, [jumps], [[onward], [target]])[0], name=place)
+
+
+def processors(cores, cycles, period=50):
+    """Processors in a ring, each of which reads what the one before it puts out; they begin with all registers 0."""
+    c = Circuit(cycles * period, (period - 1, period), "0")
+    zero, one = c.input("zero"), c.input("one")
+    c.drive(0, [zero, one], 2, {})
+    for core in range(cores):
+        processor(c, f"p{core}", [f"p{(core - 1) % cores}out0b{i}" for i in range(16)], zero, one)
+    return c
+
+
 # Each with its measured and its quick size.
 ALL = {
     "multiplier 64": (lambda: multiplier(64, 6, UNIT), lambda: multiplier(16, 6, UNIT)),
@@ -336,6 +412,7 @@ ALL = {
     "1900 LFSRs of 32": (lambda: lfsrs(32, 120, 1900), lambda: lfsrs(32, 12, 190)),
     "random, s38417": (lambda: random_sequential(22179, 1636, 28, 300), lambda: random_sequential(2217, 163, 28, 30)),
     "clocked, local": (lambda: local(30_000, 300), lambda: local(3_000, 30)),
+    "4 processors": (lambda: processors(4, 4_000), lambda: processors(1, 100)),
     "40 pipelines": (lambda: pipelines(16, 8, 60, 40), lambda: pipelines(16, 8, 10, 4)),
     "adder 4000": (lambda: adder(4000, 4), lambda: adder(200, 4)),
     "ring": (lambda: ring(1_000_000, 0), lambda: ring(2_000, 0)),
