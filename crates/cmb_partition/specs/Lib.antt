@@ -1,0 +1,4 @@
+-- what the public contracts rest on
+pub mod Partitions
+-- what the functions inside the crate promise each other
+pub mod Inner
