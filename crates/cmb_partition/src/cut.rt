@@ -1,93 +1,200 @@
 //! The nets of a netlist partitioned into so many shares at most.
 
 ghost use Rattle.std.specs.Prelude.{◌≡◌, ◌≤◌, ◌<◌, length, All, IfOk, IfSome};
-ghost use Rattle.cmb_netlist.specs.Netlist.{IsNetlist};
 ghost use Rattle.cmb_partition.specs.Partitions.{IsPartition};
-ghost use Rattle.cmb_partition.specs.Inner.Shapes.{IsShaped};
+ghost use Rattle.cmb_partition.specs.Inner.Shapes.{AreClasses, IsShaped};
 
 use crate::check::is_lawful;
-use crate::shares::{Partition, Share};
-use cmb_netlist::{Driver, Netlist};
+use crate::classes::{Classes, classes_of};
+use crate::clusters::{Weighed, clusters_within, shared_classes};
+use crate::cones::cones_of;
+use crate::driven::partition_by;
+use crate::families::families_of;
+use crate::forest::trees_of_one;
+use crate::moves::{Places, Task};
+use crate::parts::{Part, Parts};
+use crate::shares::Partition;
+use crate::wiring::wiring_of;
+use cmb_netlist::Netlist;
 use std::alloc::{AllocError, Global};
 
-// For each net the share that owns it: flip-flops are dealt out in turn, and the first share owns all else.
-fn owners_of(alloc: Global, netlist: &Netlist, most: u32) -> Result<Vec<u32>, AllocError>
-    requires { 1 ≤ most }
-    ensures nets { IfOk result (λ owners. length owners.items ≡ length netlist.now.names) }
-    ensures below { IfOk result (λ owners. All (λ owner. owner < most) owners.items) }
-    ensures sound { IfOk result (λ _. IsNetlist netlist.now) }
-{
-    let mut owners = Vec::with_capacity(alloc, netlist.len())?;
-    for net in 0..netlist.len() {
-        let turn = (net as u32) % most;
-        let is_flop = matches!(netlist.driver(net), Driver::Flop(_));
-        owners.push(if is_flop { turn } else { 0 })?;
-    }
-    Ok(owners)
+/// A netlist is partitioned into no more shares than this.
+pub const MOST_SHARES: u32 = 16;
+
+// To find which sinks need each class may take so many steps for each net, and so many more: an estimate.
+const STEPS: usize = 32;
+
+const FEW_STEPS: usize = 200_000;
+
+/// For each sink its part, and what the heaviest part weighs.
+#[derive(Drop)]
+struct Found {
+    places: Vec<Part>,
+    greatest: u32,
 }
 
-// For each net whether it is driven by a flip-flop, or not.
-fn flops_of(alloc: Global, netlist: &Netlist) -> Result<Vec<bool>, AllocError>
-    ensures { IfOk result (λ marks. length marks.items ≡ length netlist.now.names) }
-{
-    let mut marks = Vec::with_capacity(alloc, netlist.len())?;
-    for net in 0..netlist.len() {
-        marks.push(matches!(netlist.driver(net), Driver::Flop(_)))?;
+// What all classes weigh.
+fn total_of(weights: &[u32]) -> u32 {
+    let mut sum = 0_u32;
+    for weight in weights {
+        sum = sum.saturating_add(*weight);
     }
-    Ok(marks)
+    sum
 }
 
-// The nets that a share drives: all but the flip-flops that others own.
-fn driven_by(
+// The sinks that are roots.
+fn roots_of(alloc: Global, roots: &[u32], sinks: &[u32]) -> Result<Vec<u32>, AllocError>
+    requires { All (λ sink. sink < length roots.now) sinks.now }
+    ensures { IfOk result (λ found. All (λ sink. sink < length roots.now) found.items) }
+{
+    let mut found = Vec::new(alloc);
+    for sink in sinks {
+        if roots[*sink as usize] == *sink {
+            found.push(*sink)?;
+        }
+    }
+    Ok(found)
+}
+
+// For each net the part of its root.
+fn spread(alloc: Global, roots: &[u32], places: &[Part]) -> Result<Vec<Part>, AllocError>
+    requires { All (λ root. root < length places.now) roots.now }
+    ensures { IfOk result (λ spread. length spread.items ≡ length roots.now) }
+{
+    let mut spread = Vec::with_capacity(alloc, roots.len())?;
+    for root in roots {
+        spread.push(places[*root as usize])?;
+    }
+    Ok(spread)
+}
+
+// No cluster is in any part yet.
+fn nowhere(alloc: Global, classes: usize, nets: usize) -> Result<Places, AllocError>
+    ensures parts { IfOk result (λ places. length places.parts.counts.items ≡ classes) }
+    ensures of { IfOk result (λ places. length places.of.items ≡ nets) }
+{
+    Ok(Places {
+        parts: Parts::empty(alloc, classes)?,
+        of: vec![in alloc; Part::of(0); nets]?,
+    })
+}
+
+// Clusters of at most that weight put into parts and moved.
+fn found_by(
     alloc: Global,
-    crossing: &[bool],
-    owners: &[u32],
-    share: u32,
-) -> Result<Vec<bool>, AllocError>
-    requires { length crossing.now ≡ length owners.now }
-    ensures { IfOk result (λ driven. length driven.items ≡ length owners.now) }
-{
-    let mut driven = Vec::with_capacity(alloc, owners.len())?;
-    for net in 0..owners.len() {
-        driven.push(!crossing[net] || owners[net] == share)?;
-    }
-    Ok(driven)
-}
-
-// Shares that drive all but the flip-flops that others own.
-fn shares_of(
-    alloc: Global,
-    crossing: &[bool],
-    owners: &[u32],
+    classes: &Classes,
+    shared: &[Weighed],
     count: u32,
-) -> Result<Vec<Share>, AllocError>
-    requires { length crossing.now ≡ length owners.now }
-    ensures count { IfOk result (λ shares. length shares.items ≡ count) }
-    ensures marks { IfOk result (λ shares.
-        All (λ share. length share.driven.items ≡ length owners.now) shares.items) }
+    most: u32,
+) -> Result<Found, AllocError>
+    requires few { count ≤ 16 }
+    requires nets { length classes.now.of_nets.items ≤ 65535 }
+    requires classes { AreClasses (length classes.now.of_nets.items) classes.now }
+    ensures { IfOk result (λ found. length found.places.items ≡ length classes.now.of_nets.items) }
 {
-    let mut shares = Vec::with_capacity(alloc, count as usize)?;
-    for number in 0..count {
-        let driven = driven_by(alloc, crossing, owners, number)?;
-        shares.push(Share { driven })?;
-    }
-    Ok(shares)
+    let roots = clusters_within(alloc, classes, shared, most)?;
+    let cones = cones_of(alloc, classes, &roots)?;
+    let task = Task {
+        weights: &classes.weights,
+        cones: &cones,
+        count,
+    };
+    let clusters = roots_of(alloc, &roots, &classes.sinks)?;
+    let mut places = nowhere(alloc, classes.weights.len(), roots.len())?;
+    task.insert_all(alloc, &mut places, &clusters)?;
+    task.refine(&mut places, &clusters, 8);
+    Ok(Found {
+        places: spread(alloc, &roots, &places.of)?,
+        greatest: task.greatest(&places.parts),
+    })
 }
 
-// Flip-flops dealt out to so many shares.
-fn dealt_out(alloc: Global, netlist: &Netlist, count: u32) -> Result<Partition, AllocError>
-    requires { 1 ≤ count }
+// The best that comes of clusters of several weights: a fourth, an eighth and a sixteenth of an even share.
+fn rough(alloc: Global, classes: &Classes, count: u32) -> Result<Vec<Part>, AllocError>
+    requires some { 1 ≤ count }
+    requires few { count ≤ 16 }
+    requires nets { length classes.now.of_nets.items ≤ 65535 }
+    requires classes { AreClasses (length classes.now.of_nets.items) classes.now }
+    ensures { IfOk result (λ places. length places.items ≡ length classes.now.of_nets.items) }
+{
+    let shared = shared_classes(alloc, classes)?;
+    let even = total_of(&classes.weights) / count;
+    let mut best = found_by(alloc, classes, &shared, count, even / 4)?;
+    for part in [8, 16] {
+        let other = found_by(alloc, classes, &shared, count, even / part)?;
+        if other.greatest < best.greatest {
+            best = other;
+        }
+    }
+    Ok(best.places)
+}
+
+// Puts sinks where they were found.
+fn put_all(task: &Task, places: &mut Places, sinks: &[u32], found: &[Part])
+    requires sinks { All (λ sink. sink < length found.now) sinks.now }
+    requires of { length places.old.of.items ≡ length found.now }
+    requires long { length places.old.parts.counts.items ≡ length task.now.weights.now }
+    ensures long { length places.new.parts.counts.items ≡ length task.now.weights.now }
+    ensures of { length places.new.of.items ≡ length found.now }
+{
+    for sink in sinks {
+        task.put(places, *sink as usize, found[*sink as usize]);
+    }
+}
+
+// The same with single sinks moved.
+fn refined(
+    alloc: Global,
+    classes: &Classes,
+    count: u32,
+    found: &[Part],
+) -> Result<Vec<Part>, AllocError>
+    requires few { count ≤ 16 }
+    requires nets { length classes.now.of_nets.items ≤ 65535 }
+    requires classes { AreClasses (length classes.now.of_nets.items) classes.now }
+    requires found { length found.now ≡ length classes.now.of_nets.items }
+    ensures { IfOk result (λ places. length places.items ≡ length classes.now.of_nets.items) }
+{
+    let roots = trees_of_one(alloc, found.len())?;
+    let cones = cones_of(alloc, classes, &roots)?;
+    let task = Task {
+        weights: &classes.weights,
+        cones: &cones,
+        count,
+    };
+    let mut places = nowhere(alloc, classes.weights.len(), roots.len())?;
+    put_all(&task, &mut places, &classes.sinks, found);
+    task.refine(&mut places, &classes.sinks, 4);
+    Ok(places.of)
+}
+
+// The classes of a netlist, unless it takes too many steps to find which sinks need them.
+fn classes_within(alloc: Global, netlist: &Netlist) -> Result<Option<Classes>, AllocError>
+    ensures classes { IfOk result (λ found. IfSome found (AreClasses (length netlist.now.names))) }
+    ensures few { IfOk result (λ found. IfSome found (λ _. length netlist.now.names ≤ 65535)) }
+{
+    let wiring = wiring_of(alloc, netlist)?;
+    let families = families_of(alloc, netlist, &wiring)?;
+    classes_of(alloc, netlist, families, netlist.len() * STEPS + FEW_STEPS)
+}
+
+// The partition into so many parts, before it is checked.
+fn cut(
+    alloc: Global,
+    netlist: &Netlist,
+    classes: &Classes,
+    count: u32,
+) -> Result<Partition, AllocError>
+    requires some { 1 ≤ count }
+    requires few { count ≤ 16 }
+    requires nets { length netlist.now.names ≤ 65535 }
+    requires classes { AreClasses (length netlist.now.names) classes.now }
     ensures shaped { IfOk result (IsShaped netlist.now) }
     ensures count { IfOk result (λ partition. length partition.shares.items ≡ count) }
 {
-    let owners = owners_of(alloc, netlist, count)?;
-    let crossing = flops_of(alloc, netlist)?;
-    let shares = shares_of(alloc, &crossing, &owners, count)?;
-    Ok(Partition {
-        owners,
-        crossing,
-        shares,
-    })
+    let found = rough(alloc, classes, count)?;
+    let places = refined(alloc, classes, count, &found)?;
+    partition_by(alloc, netlist, classes, &places, count)
 }
 
 /// Partitions the nets of a netlist into two shares at least and so many at most, or answers `None` where it finds no
@@ -101,10 +208,14 @@ pub fn partition(
     ensures some { IfOk result (λ found. IfSome found (λ partition. 2 ≤ length partition.shares.items)) }
     ensures few { IfOk result (λ found. IfSome found (λ partition. length partition.shares.items ≤ most)) }
 {
-    if most < 2 {
+    let Some(classes) = classes_within(alloc, netlist)? else {
+        return Ok(None);
+    };
+    let count = most.min(MOST_SHARES);
+    if count < 2 || classes.sinks.len() < 2 {
         return Ok(None);
     }
-    let partition = dealt_out(alloc, netlist, most)?;
+    let partition = cut(alloc, netlist, &classes, count)?;
     if !is_lawful(netlist, &partition) {
         return Ok(None);
     }
