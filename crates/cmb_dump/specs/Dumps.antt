@@ -12,4 +12,4 @@ pub record Dump : Type 0 where
 
 -- the design's text up to a tick
 abbrev pub text_upto : Design → (ℕ → ℕ → Level) → ℕ → List ℕ
-text_upto design level upto = part_text design.netlist design.horizon level upto
+text_upto design level upto = part_text design.netlist.names design.horizon level upto

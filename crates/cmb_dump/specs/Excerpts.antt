@@ -3,7 +3,7 @@ use Rattle.std.specs.Prelude.{ℕ, ◌<◌, ◌≤◌, List, length, slice_index
 use Rattle.std.specs.List.Sorted.{IsStrictlyIncreasing}
 use Rattle.cmb_wave.specs.declared.level.Level.{Level}
 use Rattle.cmb_design.specs.Design.{Design}
-use Rattle.cmb_vcd.specs.Chosen.{chosen_from}
+use Rattle.cmb_vcd.specs.Chosen.{names_of}
 use Rattle.cmb_vcd.specs.Vcd.{part_text}
 
 -- nets among so many, by rising number
@@ -25,4 +25,4 @@ levels_at level nets place = level (slice_index nets place)
 
 -- the text of the nets of a list up to a tick
 abbrev pub excerpt_upto : Design → List ℕ → (ℕ → ℕ → Level) → ℕ → List ℕ
-excerpt_upto design nets level upto = part_text (chosen_from design.netlist nets) design.horizon (levels_at level nets) upto
+excerpt_upto design nets level upto = part_text (names_of design.netlist nets) design.horizon (levels_at level nets) upto

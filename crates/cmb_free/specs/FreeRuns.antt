@@ -33,7 +33,7 @@ IsStopped design Memory = ⊤
 pub record IsWrittenAndKept (design : Design) (old new : Option (List ℕ)) (collector : Collector) : Type 0 where
   pub done : ℕ
   pub within : done ≤ design.horizon
-  pub text : Appends old new (part_text design.netlist design.horizon (value design) done)
+  pub text : Appends old new (part_text design.netlist.names design.horizon (value design) done)
   pub exact : IsExactFrom design done collector
 
 -- why a text isn't written whole, and that a beginning of it is; where the sink failed that is the answer, before all else

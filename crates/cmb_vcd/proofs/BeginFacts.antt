@@ -12,17 +12,17 @@ use Rattle.cmb_vcd.specs.Vcd.{part_text, vcd}
 use Rattle.cmb_vcd.proofs.Texts.{part_text-grows}
 
 -- the text up to a tick begins the whole
-pub part_text-begins : (design : Design) (upto : ℕ) → upto ≤ design.horizon → (rest : List ℕ) × (vcd design ≡ part_text design.netlist design.horizon (value design) upto ++ rest)
+pub part_text-begins : (design : Design) (upto : ℕ) → upto ≤ design.horizon → (rest : List ℕ) × (vcd design ≡ part_text design.netlist.names design.horizon (value design) upto ++ rest)
 unfolding vcd
 part_text-begins design upto within = by (cases_lt upto design.horizon)
   where
-    by : (upto < design.horizon) ⊎ (design.horizon ≤ upto) → (rest : List ℕ) × (vcd design ≡ part_text design.netlist design.horizon (value design) upto ++ rest)
-    by (inl below) = part_text-grows design.netlist design.horizon (value design) upto design.horizon within below
+    by : (upto < design.horizon) ⊎ (design.horizon ≤ upto) → (rest : List ℕ) × (vcd design ≡ part_text design.netlist.names design.horizon (value design) upto ++ rest)
+    by (inl below) = part_text-grows design.netlist.names design.horizon (value design) upto design.horizon within below
     by (inr ended) =
         let same : upto ≡ design.horizon = omega arith in
-        ([], rw same (sym (append-nil (part_text design.netlist design.horizon (value design) design.horizon))))
+        ([], rw same (sym (append-nil (part_text design.netlist.names design.horizon (value design) design.horizon))))
 
-pub part_text-whole : (design : Design) (upto : ℕ) → upto ≡ design.horizon → part_text design.netlist design.horizon (value design) upto ≡ vcd design
+pub part_text-whole : (design : Design) (upto : ℕ) → upto ≡ design.horizon → part_text design.netlist.names design.horizon (value design) upto ≡ vcd design
 unfolding vcd
 part_text-whole design upto e = rw e refl
 

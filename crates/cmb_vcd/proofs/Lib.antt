@@ -14,3 +14,4 @@ pub mod Texts
 pub mod TickFacts
 pub mod TraceFacts
 pub mod ChosenFacts
+pub mod TakenFacts

@@ -3,7 +3,6 @@ use Rattle.std.proofs.Common.{◌≡◌, ◌≤◌, ◌<◌, ◌+◌, ℕ, suc, 
 use Rattle.std.specs.Prelude.{codes}
 use Rattle.std.proofs.lemmas.List.{append-nil, drop_all}
 use Rattle.cmb_wave.specs.declared.level.Level.{Level}
-use Rattle.cmb_netlist.specs.Netlist.{Netlist}
 use Rattle.cmb_design.proofs.LevelFacts.{push-rest}
 use Rattle.cmb_vcd.specs.Vcd.{header, level_line, level_lines, var_line, var_lines}
 
@@ -16,12 +15,12 @@ pub joined : {X : Type 0} (a b c x y : List X) → b ≡ a ++ x → c ≡ b ++ y
 joined a b c x y e f = rw e at f ∙ append_assoc a x y
 
 -- the lines up to the end of the declarations, written in turn
-pub header-written : (netlist : Netlist) (start opened declared all : List ℕ) → opened ≡ start ++ codes "$version cmbsim 1 $end\n$timescale 1 ns $end\n$scope module top $end\n"
-    → declared ≡ opened ++ var_lines 0 netlist.names → all ≡ declared ++ codes "$upscope $end\n$enddefinitions $end\n" → all ≡ start ++ header netlist
+pub header-written : (names : List (List ℕ)) (start opened declared all : List ℕ) → opened ≡ start ++ codes "$version cmbsim 1 $end\n$timescale 1 ns $end\n$scope module top $end\n"
+    → declared ≡ opened ++ var_lines 0 names → all ≡ declared ++ codes "$upscope $end\n$enddefinitions $end\n" → all ≡ start ++ header names
 unfolding header
-header-written netlist start opened declared all a b d =
+header-written names start opened declared all a b d =
     let head = codes "$version cmbsim 1 $end\n$timescale 1 ns $end\n$scope module top $end\n" in
-    let vars = var_lines 0 netlist.names in
+    let vars = var_lines 0 names in
     joined start declared all (head ++ vars) (codes "$upscope $end\n$enddefinitions $end\n") (joined start opened declared head vars a b) d
     ∙ ap (λ t. start ++ t) (sym (append_assoc (head ++ vars) (codes "$upscope $end\n") (codes "$enddefinitions $end\n")))
 

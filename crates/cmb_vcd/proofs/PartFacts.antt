@@ -9,7 +9,6 @@ use Rattle.cmb_wave.specs.declared.level.Change.{Change}
 use Rattle.cmb_wave.specs.Waveform.{IsTrace, level_at, level_before}
 use Rattle.cmb_wave.specs.Wave.{IsExactWave, Wave}
 use Rattle.cmb_wave.proofs.Waves.{level_at-exact}
-use Rattle.cmb_netlist.specs.Netlist.{Netlist}
 use Rattle.cmb_design.specs.Design.{Design}
 use Rattle.cmb_design.specs.Exact.{nets_of}
 use Rattle.cmb_design.specs.Value.{value}
@@ -42,12 +41,12 @@ from_levels design from collector exact net tick h a k =
     wave_levels (value design net) design.horizon (wave_of collector.waves net) (exact.exact net h) tick (omega (arith, exact.kept net here)) (omega arith)
 
 start_part : (design : Design) (collector : Collector) (upto : ℕ) → IsExactFrom design 0 collector → upto ≤ least collector
-    → part_text design.netlist design.horizon (collected_level collector.waves) upto ≡ part_text design.netlist design.horizon (value design) upto
+    → part_text design.netlist.names design.horizon (collected_level collector.waves) upto ≡ part_text design.netlist.names design.horizon (value design) upto
 start_part design collector upto exact h =
-    part_text-agree design.netlist design.horizon (collected_level collector.waves) (value design) upto (λ net tick a b. from_levels design 0 collector exact net tick a (omega arith) (omega arith))
+    part_text-agree design.netlist.names design.horizon (collected_level collector.waves) (value design) upto (λ net tick a b. from_levels design 0 collector exact net tick a (omega arith) (omega arith))
 
 pub exact_part : (design : Design) (collector : Collector) (upto : ℕ) → IsExactFor design collector → upto ≤ least collector
-    → part_text design.netlist design.horizon (collected_level collector.waves) upto ≡ part_text design.netlist design.horizon (value design) upto
+    → part_text design.netlist.names design.horizon (collected_level collector.waves) upto ≡ part_text design.netlist.names design.horizon (value design) upto
 exact_part design collector upto exact h = start_part design collector upto (whole_from design 0 collector exact) h
 
 -- the level of a trace at tick 0
@@ -72,21 +71,21 @@ ticks_between-none nets level from to e = let none : to - from ≡ 0 = omega ari
 -- ---- parts of a text
 
 -- the first part
-pub part_text-first : (netlist : Netlist) (horizon nets : ℕ) (level : ℕ → ℕ → Level) (upto : ℕ) → nets ≡ length netlist.names → 0 < horizon
-    → part_text netlist horizon level upto ≡ header netlist ++ (ticks_between nets level 0 upto ++ end_line horizon 0 upto)
+pub part_text-first : (names : List (List ℕ)) (horizon nets : ℕ) (level : ℕ → ℕ → Level) (upto : ℕ) → nets ≡ length names → 0 < horizon
+    → part_text names horizon level upto ≡ header names ++ (ticks_between nets level 0 upto ++ end_line horizon 0 upto)
 unfolding part_text ticks_text
-part_text-first netlist horizon nets level upto e h =
+part_text-first names horizon nets level upto e h =
     let begun : nat_lt 0 horizon ≡ true = lt-ltb 0 horizon h in
     let ticks : ticks_text nets level upto ≡ ticks_between nets level 0 upto = ticks_text-from nets level 0 upto (omega arith) in
-    rw (sym e, begun, ticks) (append_assoc (header netlist) (ticks_between nets level 0 upto) (cond (nat_lt upto horizon) [] (tick_line horizon)))
+    rw (sym e, begun, ticks) (append_assoc (header names) (ticks_between nets level 0 upto) (cond (nat_lt upto horizon) [] (tick_line horizon)))
 
 -- what a later part adds
-pub part_text-more : (netlist : Netlist) (horizon nets : ℕ) (level : ℕ → ℕ → Level) (from upto : ℕ) → nets ≡ length netlist.names → from ≤ upto → upto ≤ horizon
-    → part_text netlist horizon level upto ≡ part_text netlist horizon level from ++ (ticks_between nets level from upto ++ end_line horizon from upto)
+pub part_text-more : (names : List (List ℕ)) (horizon nets : ℕ) (level : ℕ → ℕ → Level) (from upto : ℕ) → nets ≡ length names → from ≤ upto → upto ≤ horizon
+    → part_text names horizon level upto ≡ part_text names horizon level from ++ (ticks_between nets level from upto ++ end_line horizon from upto)
 unfolding part_text
-part_text-more netlist horizon nets level from upto e h k = by (cases_lt from horizon)
+part_text-more names horizon nets level from upto e h k = by (cases_lt from horizon)
   where
-    by : (from < horizon) ⊎ (horizon ≤ from) → part_text netlist horizon level upto ≡ part_text netlist horizon level from ++ (ticks_between nets level from upto ++ end_line horizon from upto)
+    by : (from < horizon) ⊎ (horizon ≤ from) → part_text names horizon level upto ≡ part_text names horizon level from ++ (ticks_between nets level from upto ++ end_line horizon from upto)
     by (inl open_end) =
         let begun : nat_lt from horizon ≡ true = lt-ltb from horizon open_end in
         let grown : ticks_text nets level upto ≡ ticks_text nets level from ++ ticks_between nets level from upto = ticks_text-from nets level from upto h in
@@ -95,29 +94,29 @@ part_text-more netlist horizon nets level from upto e h k = by (cases_lt from ho
         let closed : nat_lt from horizon ≡ false = le-ltb from horizon ended in
         let same : upto ≡ from = omega arith in
         let none : ticks_between nets level from from ≡ [] = ticks_between-none nets level from from refl in
-        rw (same, none, closed) (sym (append-nil (header netlist ++ ticks_text (length netlist.names) level from ++ tick_line horizon)))
+        rw (same, none, closed) (sym (append-nil (header names ++ ticks_text (length names) level from ++ tick_line horizon)))
 
 -- what a writer adds to the text that it gave
 pub part_goes_on : (design : Design) (horizon nets : ℕ) (level : ℕ → ℕ → Level) (done : Option ℕ) (upto : ℕ) → horizon ≡ design.horizon → nets ≡ nets_of design → 0 < design.horizon → IsNotBefore done upto → upto ≤ design.horizon
     → done_text design level (Some upto) ≡ done_text design level done ++ (begun_by design done ++ (ticks_between nets level (unwrap_or done 0) upto ++ end_line horizon (unwrap_or done 0) upto))
-part_goes_on design horizon nets level None upto s e h later k = rw s (part_text-first design.netlist design.horizon nets level upto e h)
-part_goes_on design horizon nets level (Some done) upto s e h later k = rw s (part_text-more design.netlist design.horizon nets level done upto e later k)
+part_goes_on design horizon nets level None upto s e h later k = rw s (part_text-first design.netlist.names design.horizon nets level upto e h)
+part_goes_on design horizon nets level (Some done) upto s e h later k = rw s (part_text-more design.netlist.names design.horizon nets level done upto e later k)
 
 ticks_between-agree : (f g : ℕ → ℕ → Level) (nets from to : ℕ) → from ≤ to → ((net tick : ℕ) → net < nets → from ≤ suc tick → tick < to → f net tick ≡ g net tick) → ticks_between nets f from to ≡ ticks_between nets g from to
 unfolding ticks_between
 ticks_between-agree f g nets from to h agree = same_flat_map (tick_text nets f) (tick_text nets g) from (to - from) (λ tick low top. tick_text-agree f g nets from to agree tick low (omega arith))
 
 -- what a part adds depends on the levels from one tick before it on
-pub part_text-onward : (netlist : Netlist) (horizon : ℕ) (f g : ℕ → ℕ → Level) (from to : ℕ) (rest : List ℕ) → from ≤ to → to ≤ horizon
-    → ((net tick : ℕ) → net < length netlist.names → from ≤ suc tick → tick < to → f net tick ≡ g net tick)
-    → part_text netlist horizon f to ≡ part_text netlist horizon f from ++ rest → part_text netlist horizon g to ≡ part_text netlist horizon g from ++ rest
-part_text-onward netlist horizon f g from to rest h k agree e =
-    let nets : ℕ = length netlist.names in
-    let more = part_text-more netlist horizon nets f from to refl h k in
-    let rests : ticks_between nets f from to ++ end_line horizon from to ≡ rest = append_cancel_left (part_text netlist horizon f from) _ _ (sym more ∙ e) in
-    part_text-more netlist horizon nets g from to refl h k
-    ∙ ap (λ t. part_text netlist horizon g from ++ (t ++ end_line horizon from to)) (sym (ticks_between-agree f g nets from to h agree))
-    ∙ ap (λ t. part_text netlist horizon g from ++ t) rests
+pub part_text-onward : (names : List (List ℕ)) (horizon : ℕ) (f g : ℕ → ℕ → Level) (from to : ℕ) (rest : List ℕ) → from ≤ to → to ≤ horizon
+    → ((net tick : ℕ) → net < length names → from ≤ suc tick → tick < to → f net tick ≡ g net tick)
+    → part_text names horizon f to ≡ part_text names horizon f from ++ rest → part_text names horizon g to ≡ part_text names horizon g from ++ rest
+part_text-onward names horizon f g from to rest h k agree e =
+    let nets : ℕ = length names in
+    let more = part_text-more names horizon nets f from to refl h k in
+    let rests : ticks_between nets f from to ++ end_line horizon from to ≡ rest = append_cancel_left (part_text names horizon f from) _ _ (sym more ∙ e) in
+    part_text-more names horizon nets g from to refl h k
+    ∙ ap (λ t. part_text names horizon g from ++ (t ++ end_line horizon from to)) (sym (ticks_between-agree f g nets from to h agree))
+    ∙ ap (λ t. part_text names horizon g from ++ t) rests
 
 -- what is new of a text is that of the design, where the collector is exact from the tick on up to which the text was given
 pub exact_more : (design : Design) (collector : Collector) (done : Option ℕ) (part : List ℕ) → IsExactFrom design (unwrap_or done 0) collector → IsNotBefore done (least collector) → least collector ≤ design.horizon
@@ -125,17 +124,17 @@ pub exact_more : (design : Design) (collector : Collector) (done : Option ℕ) (
     → done_text design (value design) (Some (least collector)) ≡ done_text design (value design) done ++ part
 exact_more design collector None part exact later within e = sym (start_part design collector (least collector) exact (omega arith)) ∙ e
 exact_more design collector (Some done) part exact later within e =
-    part_text-onward design.netlist design.horizon (collected_level collector.waves) (value design) done (least collector) part later within (λ net tick a b k. from_levels design done collector exact net tick a b k) e
+    part_text-onward design.netlist.names design.horizon (collected_level collector.waves) (value design) done (least collector) part later within (λ net tick a b k. from_levels design done collector exact net tick a b k) e
 
 -- a text written in turn: the declarations, then all ticks and the last line
-pub written_whole : (netlist read : Netlist) (horizon end : ℕ) (waves told : List Wave) (start first all : List ℕ)
-    → read ≡ netlist → end ≡ horizon → told ≡ waves → start ≡ [] → length waves ≡ length netlist.names → 0 < end
+pub written_whole : (names read : List (List ℕ)) (horizon end : ℕ) (waves told : List Wave) (start first all : List ℕ)
+    → read ≡ names → end ≡ horizon → told ≡ waves → start ≡ [] → length waves ≡ length names → 0 < end
     → first ≡ start ++ header read → all ≡ first ++ (ticks_between (length told) (collected_level told) 0 end ++ end_line end 0 end)
-    → all ≡ part_text netlist horizon (collected_level waves) horizon
-written_whole netlist read horizon end waves told start first all n h w s e p a b =
-    let a' : first ≡ header netlist = rw (s, n) at a in
+    → all ≡ part_text names horizon (collected_level waves) horizon
+written_whole names read horizon end waves told start first all n h w s e p a b =
+    let a' : first ≡ header names = rw (s, n) at a in
     let b' : all ≡ first ++ (ticks_between (length waves) (collected_level waves) 0 horizon ++ end_line horizon 0 horizon) = rw (w, h) at b in
-    rw (b', a') (sym (part_text-first netlist horizon (length waves) (collected_level waves) horizon e (omega arith)))
+    rw (b', a') (sym (part_text-first names horizon (length waves) (collected_level waves) horizon e (omega arith)))
 
 -- a part written in turn: what it begins with, then the ticks and the last line
 pub written_part : (design : Design) (horizon from last upto : ℕ) (waves told : List Wave) (done : Option ℕ) (begun all : List ℕ)

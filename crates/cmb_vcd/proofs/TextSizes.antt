@@ -47,7 +47,7 @@ var_lines-short net (name ∷ names) few short =
     let rest = var_lines-short (suc net) names (omega arith) (λ k d below. short (suc k) d (omega arith)) in
     omega (arith, length-append (var_line net name) (var_lines (suc net) names))
 
-header-short : (netlist : Netlist) → IsNetlist netlist → length (header netlist) ≤ 65535 * 66000 + 200
+header-short : (netlist : Netlist) → IsNetlist netlist → length (header netlist.names) ≤ 65535 * 66000 + 200
 unfolding header
 header-short netlist lawful =
     let few = lawful.few in
@@ -105,7 +105,7 @@ ticks_text-short nets level (suc tick) few small =
     omega (arith, length-append (ticks_text nets level tick) (tick_text nets level tick))
 
 -- a text up to any tick that a design has
-pub part_text-fits : (netlist : Netlist) (horizon : ℕ) (level : ℕ → ℕ → Level) (upto : ℕ) → IsNetlist netlist → horizon ≤ 1000000 → upto ≤ horizon → length (part_text netlist horizon level upto) < 2 ^ 64
+pub part_text-fits : (netlist : Netlist) (horizon : ℕ) (level : ℕ → ℕ → Level) (upto : ℕ) → IsNetlist netlist → horizon ≤ 1000000 → upto ≤ horizon → length (part_text netlist.names horizon level upto) < 2 ^ 64
 unfolding part_text
 part_text-fits netlist horizon level upto lawful small within =
     let head = header-short netlist lawful in

@@ -5,7 +5,6 @@ use Rattle.std.proofs.lemmas.Bool.{lt-ltb}
 use Rattle.cmb_wave.specs.declared.level.Level.{Level}
 use Rattle.cmb_wave.specs.Waveform.{same_level}
 use Rattle.cmb_wave.proofs.Lists.{same_level-same}
-use Rattle.cmb_netlist.specs.Netlist.{Netlist}
 use Rattle.cmb_vcd.specs.Vcd.{tick_line, level_lines, change_lines, under_tick, tick_text, ticks_text, part_text}
 
 -- ---- levels that agree give one text
@@ -37,9 +36,9 @@ unfolding ticks_text
 ticks_text-agree f g total upto agree zero h = refl
 ticks_text-agree f g total upto agree (suc tick) h = rw (ticks_text-agree f g total upto agree tick (omega arith), tick_text-agree f g total 0 upto (λ net t n l b. agree net t n b) tick (omega arith) h)
 
-pub part_text-agree : (netlist : Netlist) (horizon : ℕ) (f g : ℕ → ℕ → Level) (upto : ℕ) → ((net tick : ℕ) → net < length netlist.names → tick < upto → f net tick ≡ g net tick) → part_text netlist horizon f upto ≡ part_text netlist horizon g upto
+pub part_text-agree : (names : List (List ℕ)) (horizon : ℕ) (f g : ℕ → ℕ → Level) (upto : ℕ) → ((net tick : ℕ) → net < length names → tick < upto → f net tick ≡ g net tick) → part_text names horizon f upto ≡ part_text names horizon g upto
 unfolding part_text
-part_text-agree netlist horizon f g upto agree = rw (ticks_text-agree f g (length netlist.names) upto agree upto (omega arith))
+part_text-agree names horizon f g upto agree = rw (ticks_text-agree f g (length names) upto agree upto (omega arith))
 
 -- ---- parts of a text
 
@@ -56,18 +55,18 @@ ticks_text-grows nets level from (suc more) = go (ticks_text-grows nets level fr
         (rest ++ tick_text nets level (from + more), rw (same, e) (append_assoc (ticks_text nets level from) rest (tick_text nets level (from + more))))
 
 -- each part is a beginning of each later part
-pub part_text-grows : (netlist : Netlist) (horizon : ℕ) (level : ℕ → ℕ → Level) (from to : ℕ) → from ≤ to → from < horizon → (rest : List ℕ) × (part_text netlist horizon level to ≡ part_text netlist horizon level from ++ rest)
+pub part_text-grows : (names : List (List ℕ)) (horizon : ℕ) (level : ℕ → ℕ → Level) (from to : ℕ) → from ≤ to → from < horizon → (rest : List ℕ) × (part_text names horizon level to ≡ part_text names horizon level from ++ rest)
 unfolding part_text
-part_text-grows netlist horizon level from to later below = go (ticks_text-grows (length netlist.names) level from (to - from))
+part_text-grows names horizon level from to later below = go (ticks_text-grows (length names) level from (to - from))
   where
     end : List ℕ
     end = cond (ltb to horizon) [] (tick_line horizon)
 
-    go : ((rest : List ℕ) × (ticks_text (length netlist.names) level (from + (to - from)) ≡ ticks_text (length netlist.names) level from ++ rest)) → (rest : List ℕ) × (part_text netlist horizon level to ≡ part_text netlist horizon level from ++ rest)
+    go : ((rest : List ℕ) × (ticks_text (length names) level (from + (to - from)) ≡ ticks_text (length names) level from ++ rest)) → (rest : List ℕ) × (part_text names horizon level to ≡ part_text names horizon level from ++ rest)
     go (rest, e) =
         let same : from + (to - from) ≡ to = omega arith in
         let open_end : ltb from horizon ≡ true = lt-ltb from horizon below in
-        let grown : ticks_text (length netlist.names) level to ≡ ticks_text (length netlist.names) level from ++ rest = rw same at e in
+        let grown : ticks_text (length names) level to ≡ ticks_text (length names) level from ++ rest = rw same at e in
         (rest ++ end, rw (open_end, grown) (simp (append_assoc, append-nil)))
 
 -- ---- ticks without a change

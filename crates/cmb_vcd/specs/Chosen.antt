@@ -1,14 +1,14 @@
 -- The text of some nets of a design.
-use Rattle.std.specs.Prelude.{ℕ, List, [], map, slice_index}
+use Rattle.std.specs.Prelude.{ℕ, List, map, slice_index}
 use Rattle.cmb_netlist.specs.Netlist.{Netlist, name_of}
 use Rattle.cmb_design.specs.Design.{Design}
 use Rattle.cmb_design.specs.Value.{value}
 use Rattle.cmb_vcd.specs.Vcd.{text_of}
 
--- what a text shows of a netlist where some nets are chosen: their names, in the order of the list
-abbrev pub chosen_from : Netlist → List ℕ → Netlist
-chosen_from netlist nets = record { names = map (name_of netlist) nets; drivers = []; outputs = [] }
+-- the names of nets, in the order of a list
+abbrev pub names_of : Netlist → List ℕ → List (List ℕ)
+names_of netlist nets = map (name_of netlist) nets
 
 -- the text of chosen nets: the declarations and the levels of these alone, each with the code of its place in the list
 unfoldable pub vcd_of : Design → List ℕ → List ℕ
-vcd_of design nets = text_of (chosen_from design.netlist nets) design.horizon (λ place. value design (slice_index nets place))
+vcd_of design nets = text_of (names_of design.netlist nets) design.horizon (λ place. value design (slice_index nets place))

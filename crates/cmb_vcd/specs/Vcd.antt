@@ -5,7 +5,6 @@ use Rattle.std.specs.List.{list_all}
 use Rattle.cmb_wave.specs.declared.level.Level.{Level}
 use Rattle.cmb_wave.specs.declared.level.Level.TheVariants.{Zero, One, X}
 use Rattle.cmb_wave.specs.Waveform.{same_level}
-use Rattle.cmb_netlist.specs.Netlist.{Netlist}
 use Rattle.cmb_design.specs.Design.{Design}
 use Rattle.cmb_design.specs.Value.{value}
 
@@ -51,10 +50,11 @@ unfoldable pub var_lines : ℕ → List (List ℕ) → List ℕ
 var_lines net [] = []
 var_lines net (name ∷ names) = var_line net name ++ var_lines (suc net) names
 
-unfoldable pub header : Netlist → List ℕ
-header netlist =
+-- the lines up to the end of the declarations, of nets with these names
+unfoldable pub header : List (List ℕ) → List ℕ
+header names =
     line (codes "$version cmbsim 1 $end") ++ line (codes "$timescale 1 ns $end") ++ line (codes "$scope module top $end")
-    ++ var_lines 0 netlist.names
+    ++ var_lines 0 names
     ++ line (codes "$upscope $end") ++ line (codes "$enddefinitions $end")
 
 -- ---- ticks
@@ -97,15 +97,15 @@ unfoldable pub ticks_text : ℕ → (ℕ → ℕ → Level) → ℕ → List ℕ
 ticks_text nets level zero = []
 ticks_text nets level (suc tick) = ticks_text nets level tick ++ tick_text nets level tick
 
--- the text as far as the levels are known below a tick; where that is the horizon, with its last line
-unfoldable pub part_text : Netlist → ℕ → (ℕ → ℕ → Level) → ℕ → List ℕ
-part_text netlist horizon level upto =
-    header netlist ++ ticks_text (length netlist.names) level upto ++ (if nat_lt upto horizon then [] else tick_line horizon)
+-- the text of nets with these names as far as their levels are known below a tick; where that is the horizon, with its last line
+unfoldable pub part_text : List (List ℕ) → ℕ → (ℕ → ℕ → Level) → ℕ → List ℕ
+part_text names horizon level upto =
+    header names ++ ticks_text (length names) level upto ++ (if nat_lt upto horizon then [] else tick_line horizon)
 
 -- the whole text
-abbrev pub text_of : Netlist → ℕ → (ℕ → ℕ → Level) → List ℕ
-text_of netlist horizon level = part_text netlist horizon level horizon
+abbrev pub text_of : List (List ℕ) → ℕ → (ℕ → ℕ → Level) → List ℕ
+text_of names horizon level = part_text names horizon level horizon
 
 -- the text of a design
 unfoldable pub vcd : Design → List ℕ
-vcd design = text_of design.netlist design.horizon (value design)
+vcd design = text_of design.netlist.names design.horizon (value design)

@@ -15,7 +15,7 @@ new_writer design = record { design = design; done = None }
 -- the text up to a tick, nothing where no tick is given
 abbrev pub done_text : Design → (ℕ → ℕ → Level) → Option ℕ → List ℕ
 done_text design level None = []
-done_text design level (Some upto) = part_text design.netlist design.horizon level upto
+done_text design level (Some upto) = part_text design.netlist.names design.horizon level upto
 
 -- a tick isn't before the one up to which the text was given
 abbrev pub IsNotBefore : Option ℕ → ℕ → Type 0
@@ -24,7 +24,7 @@ IsNotBefore (Some done) upto = done ≤ upto
 
 -- what stands before the lines of the ticks in a part: the declarations in the first
 abbrev pub begun_by : Design → Option ℕ → List ℕ
-begun_by design None = header design.netlist
+begun_by design None = header design.netlist.names
 begun_by design (Some done) = []
 
 abbrev pub begun_text : Writer → List ℕ

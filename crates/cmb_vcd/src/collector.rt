@@ -135,6 +135,13 @@ impl Collector {
         &self.waves
     }
 
+    /// The same waves, for one who goes on with them.
+    pub(crate) fn into_waves(self) -> Vec<Wave>
+        ensures { result.items ≡ self.waves }
+    {
+        self.waves
+    }
+
     /// The tick up to which the waves can be known.
     pub fn horizon(&self) -> u32
         ensures { result ≡ self.now.horizon }

@@ -22,10 +22,10 @@ pub fn inverter()
 /// A flip-flop that samples its own inverse, up to tick 12, and how much of its text is known below some ticks.
 pub fn toggle()
     ensures text { vcd toggle ≡ toggle_text }
-    ensures below_0 { length (part_text toggle.netlist toggle.horizon (value toggle) 0) ≡ 144 }
-    ensures below_3 { length (part_text toggle.netlist toggle.horizon (value toggle) 3) ≡ 174 }
-    ensures below_4 { length (part_text toggle.netlist toggle.horizon (value toggle) 4) ≡ 180 }
-    ensures below_12 { length (part_text toggle.netlist toggle.horizon (value toggle) 12) ≡ 209 }
+    ensures below_0 { length (part_text toggle.netlist.names toggle.horizon (value toggle) 0) ≡ 144 }
+    ensures below_3 { length (part_text toggle.netlist.names toggle.horizon (value toggle) 3) ≡ 174 }
+    ensures below_4 { length (part_text toggle.netlist.names toggle.horizon (value toggle) 4) ≡ 180 }
+    ensures below_12 { length (part_text toggle.netlist.names toggle.horizon (value toggle) 12) ≡ 209 }
 {}
 
 /// Two gates that hold each other.

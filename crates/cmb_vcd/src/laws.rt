@@ -5,7 +5,7 @@ ghost use Rattle.std.specs.List.{range_with_len};
 ghost use Rattle.std.specs.Result.{result_map_both};
 ghost use Rattle.cmb_wave.specs.declared.level.Level.{Level};
 ghost use Rattle.cmb_wave.specs.Wave.{IsExactWave, Piece, Wave, cut_of};
-ghost use Rattle.cmb_netlist.specs.Netlist.{Netlist, name_of};
+ghost use Rattle.cmb_netlist.specs.Netlist.{name_of};
 ghost use Rattle.cmb_design.specs.Design.{Design};
 ghost use Rattle.cmb_design.specs.Exact.{IsExactIn, nets_of};
 ghost use Rattle.cmb_design.specs.Plain.{whole_waves};
@@ -25,18 +25,18 @@ pub fn codes_differ()
 /// What it gains from one tick to another depends on the levels from one tick before the first on. It says nothing of
 /// a span, after tick 0, in which no net changes.
 pub fn text_grows()
-    ensures depends { (netlist : Netlist) (horizon : ℕ) (levels others : ℕ → ℕ → Level) (upto : ℕ)
-        → ((net tick : ℕ) → net < length netlist.names → tick < upto → levels net tick ≡ others net tick)
-        → part_text netlist horizon levels upto ≡ part_text netlist horizon others upto }
-    ensures begins { (netlist : Netlist) (horizon : ℕ) (levels : ℕ → ℕ → Level) (from to : ℕ) → from ≤ to
+    ensures depends { (names : List (List ℕ)) (horizon : ℕ) (levels others : ℕ → ℕ → Level) (upto : ℕ)
+        → ((net tick : ℕ) → net < length names → tick < upto → levels net tick ≡ others net tick)
+        → part_text names horizon levels upto ≡ part_text names horizon others upto }
+    ensures begins { (names : List (List ℕ)) (horizon : ℕ) (levels : ℕ → ℕ → Level) (from to : ℕ) → from ≤ to
         → from < horizon → (rest : List ℕ)
-        × (part_text netlist horizon levels to ≡ part_text netlist horizon levels from ++ rest) }
-    ensures onward { (netlist : Netlist) (horizon : ℕ) (levels others : ℕ → ℕ → Level) (from to : ℕ) (rest : List ℕ)
+        × (part_text names horizon levels to ≡ part_text names horizon levels from ++ rest) }
+    ensures onward { (names : List (List ℕ)) (horizon : ℕ) (levels others : ℕ → ℕ → Level) (from to : ℕ) (rest : List ℕ)
         → from ≤ to → to ≤ horizon
-        → ((net tick : ℕ) → net < length netlist.names → from ≤ tick + 1 → tick < to
+        → ((net tick : ℕ) → net < length names → from ≤ tick + 1 → tick < to
         → levels net tick ≡ others net tick)
-        → part_text netlist horizon levels to ≡ part_text netlist horizon levels from ++ rest
-        → part_text netlist horizon others to ≡ part_text netlist horizon others from ++ rest }
+        → part_text names horizon levels to ≡ part_text names horizon levels from ++ rest
+        → part_text names horizon others to ≡ part_text names horizon others from ++ rest }
     ensures still { (nets : ℕ) (levels : ℕ → ℕ → Level) (from more : ℕ) → 1 ≤ from
         → ((net tick : ℕ) → net < nets → from ≤ tick + 1 → tick + 1 < from + more
         → levels net tick ≡ levels net (tick + 1))
@@ -60,8 +60,8 @@ pub fn exact_collectors_stay_exact()
     ensures no_clash { (design : Design) (collector : Collector) (piece : Piece) (tick : ℕ)
         → IsExactFor design collector → IsExactIn design piece → collected collector piece ≢ Err (Clash tick) }
     ensures tells { (design : Design) (collector : Collector) (upto : ℕ) → IsExactFor design collector
-        → upto ≤ least collector → part_text design.netlist design.horizon (collected_level collector.waves) upto
-        ≡ part_text design.netlist design.horizon (value design) upto }
+        → upto ≤ least collector → part_text design.netlist.names design.horizon (collected_level collector.waves) upto
+        ≡ part_text design.netlist.names design.horizon (value design) upto }
 {}
 
 /// What is exact and has forgotten nothing is exact from each tick on. What is exact from a tick on may forget what

@@ -1,6 +1,7 @@
 //! What is collected of a run, its text as a value change dump, and the sinks that take it.
 #![tactic(auto)]
 
+pub mod chosen;
 pub mod collector;
 pub mod examples;
 pub mod fault;
@@ -13,6 +14,7 @@ mod ticks;
 mod value_changes;
 pub mod writer;
 
+pub use chosen::vcd_text_of;
 pub use collector::Collector;
 pub use fault::CollectFault;
 pub use sink::{Failed, Limited, Room, Sink, ToWriter, write_whole};

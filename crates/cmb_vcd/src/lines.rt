@@ -1,9 +1,8 @@
 //! The lines of the text.
 
-ghost use Rattle.std.specs.Prelude.{◌≡◌, ◌<◌, ◌≤◌, ◌++◌, length, map, All, OnOk};
+ghost use Rattle.std.specs.Prelude.{◌≡◌, ◌<◌, ◌≤◌, ◌++◌, length, All, OnOk};
 ghost use Rattle.std.specs.List.{list_all};
-ghost use Rattle.cmb_netlist.specs.Netlist.{name_of};
-ghost use Rattle.cmb_vcd.specs.Chosen.{chosen_from};
+ghost use Rattle.cmb_vcd.specs.Chosen.{names_of};
 ghost use Rattle.cmb_vcd.specs.Vcd.{begins_identifier, code, continues_identifier, header, is_identifier, level_byte};
 ghost use Rattle.cmb_vcd.specs.Vcd.{reference, tick_line, var_line, var_lines};
 
@@ -112,7 +111,7 @@ const FOOT: &[u8] = b"$upscope $end\n$enddefinitions $end\n";
 
 /// The lines up to the end of the declarations.
 pub fn push_header(out: &mut Vec<u8>, netlist: &Netlist) -> Result<(), AllocError>
-    ensures { OnOk result (out.new.items ≡ out.old.items ++ header netlist.now) }
+    ensures { OnOk result (out.new.items ≡ out.old.items ++ header netlist.now.names) }
 {
     out.extend_from_slice(HEAD)?;
     push_vars(out, netlist)?;
@@ -124,7 +123,7 @@ pub fn push_header(out: &mut Vec<u8>, netlist: &Netlist) -> Result<(), AllocErro
 fn push_chosen_vars(out: &mut Vec<u8>, netlist: &Netlist, nets: &[u32]) -> Result<(), AllocError>
     requires nets { All (λ net. net < length netlist.now.names) nets.now }
     requires few { length nets.now ≤ MAX_NETS }
-    ensures { OnOk result (out.new.items ≡ out.old.items ++ var_lines 0 (map (name_of netlist.now) nets.now)) }
+    ensures { OnOk result (out.new.items ≡ out.old.items ++ var_lines 0 (names_of netlist.now nets.now)) }
 {
     for (place, net) in nets.iter().enumerate() {
         push_var(out, place as u32, netlist.name(*net as usize))?;
@@ -140,7 +139,7 @@ pub fn push_chosen_header(
 ) -> Result<(), AllocError>
     requires nets { All (λ net. net < length netlist.now.names) nets.now }
     requires few { length nets.now ≤ MAX_NETS }
-    ensures { OnOk result (out.new.items ≡ out.old.items ++ header (chosen_from netlist.now nets.now)) }
+    ensures { OnOk result (out.new.items ≡ out.old.items ++ header (names_of netlist.now nets.now)) }
 {
     out.extend_from_slice(HEAD)?;
     push_chosen_vars(out, netlist, nets)?;

@@ -171,7 +171,7 @@ pub fn vcd_text(
     requires opened { IsFor design.now collector.now }
     requires complete { IsComplete collector.now }
     ensures text { IfOk result (λ text.
-        text.items ≡ text_of design.now.netlist design.now.horizon (collected_level collector.now.waves)) }
+        text.items ≡ text_of design.now.netlist.names design.now.horizon (collected_level collector.now.waves)) }
     ensures exact { IsExactFor design.now collector.now → IfOk result (λ text. text.items ≡ vcd design.now) }
 {
     let horizon = design.horizon();

@@ -31,7 +31,7 @@ impl<'a> Model for VcdWriter<'a> {
 
     ghost view = { λ w. record { design = w.design.now; done = w.done } };
 
-    ghost invariant = { λ w. w.declarations.items ≡ header w.design.now.netlist };
+    ghost invariant = { λ w. w.declarations.items ≡ header w.design.now.netlist.names };
 }
 
 impl<'a> VcdWriter<'a> {

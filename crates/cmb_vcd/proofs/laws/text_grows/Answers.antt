@@ -7,6 +7,6 @@ pub returns : goal.returns
 returns c = record {
   depends = part_text-agree;
   begins = part_text-grows;
-  onward = λ netlist horizon levels others from to rest order within same. part_text-onward netlist horizon levels others from to rest order within (λ net tick n a b. same net tick n (rw add-one a) b);
+  onward = λ names horizon levels others from to rest order within same. part_text-onward names horizon levels others from to rest order within (λ net tick n a b. same net tick n (rw add-one a) b);
   still = λ nets levels from more late same. ticks_text-still nets levels from more late (λ net tick n a b. rw (← add-one) (same net tick n (rw add-one a) (rw add-one b)));
 }

@@ -1,4 +1,5 @@
-use Rattle.std.proofs.Common.{◌≡◌, ◌≤◌, ◌∙◌, arith}
+use Rattle.std.proofs.Common.{◌≡◌, ◌≤◌, ◌∙◌, ap, arith}
+use Rattle.cmb_netlist.specs.Netlist.{Netlist}
 use Rattle.cmb_vcd.specs.Collector.{collected_level, least}
 use Rattle.cmb_vcd.specs.Vcd.{text_of, vcd}
 use Rattle.cmb_vcd.proofs.PartFacts.{exact_part, written_whole}
@@ -9,10 +10,10 @@ unfolding vcd
 returns c =
     let design = c.args.design.now in
     let collector = c.args.collector.now in
-    let told : c.push_part.new.out.items ≡ text_of design.netlist design.horizon (collected_level collector.waves) = (
-    written_whole design.netlist c.netlist-2.result.now design.horizon c.horizon-horizon.result collector.waves c.waves.result.now
+    let told : c.push_part.new.out.items ≡ text_of design.netlist.names design.horizon (collected_level collector.waves) = (
+    written_whole design.netlist.names c.netlist-2.result.now.names design.horizon c.horizon-horizon.result collector.waves c.waves.result.now
     c.new-text.result.items c.push_header.new.out.items c.push_part.new.out.items
-    c.netlist-2.ensures c.horizon-horizon.ensures.value c.waves.ensures.waves c.new-text.ensures.items c.requires.opened.nets (omega (arith, c.horizon-horizon.ensures.small))
+    (ap (λ (n : Netlist). n.names) c.netlist-2.ensures) c.horizon-horizon.ensures.value c.waves.ensures.waves c.new-text.ensures.items c.requires.opened.nets (omega (arith, c.horizon-horizon.ensures.small))
     c.in_ok-push_header.ensures c.in_ok-push_part.ensures
     ) in
     record {
