@@ -5,8 +5,8 @@ ghost use Rattle.cmb_partition.specs.Inner.Shapes.{AreClasses, AreFamilies};
 
 use crate::families::Families;
 use crate::lists::Lists;
+use crate::loads::weight;
 use crate::marks::Marks;
-use crate::weight::weight;
 use cmb_netlist::Netlist;
 use std::alloc::{AllocError, Global};
 
@@ -91,14 +91,14 @@ fn all_needed(alloc: Global, families: &Families, most: usize) -> Result<Option<
     Ok(Some(needed))
 }
 
-// Adds the weights of nets to those of their classes.
+// Adds the weights of nets to those of their classes: twice what they cost, so that an import weighs half.
 fn add_nets(weights: &mut [u32], netlist: &Netlist, of_nets: &[u32])
     requires nets { length of_nets.now ≡ length netlist.now.names }
     requires below { All (λ class. class < length weights.old) of_nets.now }
 {
     for net in 0..netlist.len() {
         let class = of_nets[net] as usize;
-        weights[class] = weights[class].saturating_add(weight(netlist, net));
+        weights[class] = weights[class].saturating_add(2 * weight(netlist.driver(net)));
     }
 }
 

@@ -13,13 +13,13 @@ use crate::families::families_of;
 use crate::forest::trees_of_one;
 use crate::moves::{Places, Task};
 use crate::parts::{Part, Parts};
-use crate::shares::Partition;
+use crate::shares::{Partition, Share};
 use crate::wiring::wiring_of;
 use cmb_netlist::Netlist;
 use std::alloc::{AllocError, Global};
 
 /// A netlist is partitioned into no more shares than this.
-pub const MOST_SHARES: u32 = 16;
+pub const MOST_SHARES: usize = 16;
 
 // To find which sinks need each class may take so many steps for each net, and so many more: an estimate.
 const STEPS: usize = 32;
@@ -102,7 +102,7 @@ fn found_by(
     let clusters = roots_of(alloc, &roots, &classes.sinks)?;
     let mut places = nowhere(alloc, classes.weights.len(), roots.len())?;
     task.insert_all(alloc, &mut places, &clusters)?;
-    task.refine(&mut places, &clusters, 8);
+    task.refine(&mut places, &clusters);
     Ok(Found {
         places: spread(alloc, &roots, &places.of)?,
         greatest: task.greatest(&places.parts),
@@ -164,7 +164,7 @@ fn refined(
     };
     let mut places = nowhere(alloc, classes.weights.len(), roots.len())?;
     put_all(&task, &mut places, &classes.sinks, found);
-    task.refine(&mut places, &classes.sinks, 4);
+    task.refine(&mut places, &classes.sinks);
     Ok(places.of)
 }
 
@@ -197,8 +197,33 @@ fn cut(
     partition_by(alloc, netlist, classes, &places, count)
 }
 
-/// Partitions the nets of a netlist into two shares at least and so many at most, or answers `None` where it finds no
-/// way. What comes of it is checked. Nothing is claimed of balance.
+// Whether a share has nothing to drive.
+fn is_idle(share: &Share) -> bool {
+    !share.driven.contains(&true)
+}
+
+// So many shares a netlist is cut into: no more than it has sinks.
+fn count_for(most: u32, sinks: &[u32]) -> u32
+    ensures most { result ≤ most }
+    ensures few { result ≤ 16 }
+{
+    most.min(sinks.len().min(MOST_SHARES) as u32)
+}
+
+/// Partitions the nets of a netlist into two shares at least and so many at most, and 16 at most, so that the share with
+/// the most to do has as little as may be. What crosses from one share to another are flip-flops, of which any may read
+/// any other, so a netlist is cut also where all its nets reach one another.
+///
+/// A flip-flop needs the gates in its cone, back to flip-flops and inputs. Gates that several shares need are driven by
+/// each of them, and who reads a flip-flop of another share is given it; both cost. Flip-flops that need the same heavy
+/// gates are put together in clusters; clusters are put into parts, each where it costs the least, and moved singly as
+/// long as that pays, and then their flip-flops (replication-aided partitioning: H. Wang and S. Beamer, *RepCut*, ASPLOS
+/// 2023; single moves: C. M. Fiduccia and R. M. Mattheyses, *A linear-time heuristic for improving network partitions*,
+/// Design Automation Conference 1982). What the parts weigh is measured by the sum of the fourth powers.
+///
+/// The answer is `None` where there is nothing to part: with fewer than two flip-flops, or where a share would be left
+/// with nothing; and where too many gates are in the cones of too many flip-flops, so that this would take long. Each
+/// share can come out heavy where cones overlap much: `load` and `total` tell. What comes of it is checked.
 pub fn partition(
     alloc: Global,
     netlist: &Netlist,
@@ -211,12 +236,12 @@ pub fn partition(
     let Some(classes) = classes_within(alloc, netlist)? else {
         return Ok(None);
     };
-    let count = most.min(MOST_SHARES);
-    if count < 2 || classes.sinks.len() < 2 {
+    let count = count_for(most, &classes.sinks);
+    if count < 2 {
         return Ok(None);
     }
     let partition = cut(alloc, netlist, &classes, count)?;
-    if !is_lawful(netlist, &partition) {
+    if !is_lawful(netlist, &partition) || partition.shares.iter().any(is_idle) {
         return Ok(None);
     }
     Ok(Some(partition))

@@ -119,15 +119,30 @@ fn shares_of(alloc: Global, sets: &[u32], count: u32) -> Result<Vec<Share>, Allo
     Ok(shares)
 }
 
-// The owner of a net is the first of the parts that drive it.
+// The first part of a set from one on, and behind the last the first again.
+fn first_from(set: u32, turn: u32) -> u32
+    requires { turn < 16 }
+{
+    let later = set >> turn;
+    if later == 0 {
+        set.trailing_zeros()
+    } else {
+        later.trailing_zeros() + turn
+    }
+}
+
+// The owner of a net is one of the parts that drive it, each in turn.
 fn owners_of(alloc: Global, sets: &[u32], count: u32) -> Result<Vec<u32>, AllocError>
-    requires { 1 ≤ count }
+    requires some { 1 ≤ count }
+    requires few { count ≤ 16 }
     ensures nets { IfOk result (λ owners. length owners.items ≡ length sets.now) }
     ensures below { IfOk result (λ owners. All (λ owner. owner < count) owners.items) }
 {
     let mut owners = Vec::with_capacity(alloc, sets.len())?;
+    let mut turn = 0_u32;
     for set in sets {
-        owners.push(set.trailing_zeros().min(count - 1))?;
+        owners.push(first_from(*set, turn).min(count - 1))?;
+        turn = (turn + 1) % count;
     }
     Ok(owners)
 }

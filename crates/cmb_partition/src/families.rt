@@ -4,7 +4,7 @@ ghost use Rattle.std.specs.Prelude.{◌≡◌, ◌<◌, length, All, IfOk, OnOk}
 ghost use Rattle.cmb_partition.specs.Inner.Shapes.{AreFamilies, IsWiring};
 
 use crate::lists::Lists;
-use crate::weight::weight;
+use crate::loads::weight;
 use crate::wiring::Wiring;
 use cmb_netlist::{Driver, Netlist};
 use std::alloc::{AllocError, Global};
@@ -20,7 +20,7 @@ pub(crate) struct Families {
     pub sinks: Lists,
     /// For each class its parents. Their numbers are lower.
     pub parents: Lists,
-    /// For each class what it weighs besides its nets.
+    /// For each class what it weighs besides its nets, which weigh twice what they cost.
     pub weights: Vec<u32>,
 }
 
@@ -208,7 +208,7 @@ fn add_imports(
     for net in 0..netlist.len() {
         if matches!(netlist.driver(net), Driver::Flop(_)) {
             let importers = importers_of(alloc, &families.classes, wiring, net)?;
-            let _ = begin(families, &[], &importers, weight(netlist, net) / 2)?;
+            let _ = begin(families, &[], &importers, weight(netlist.driver(net)))?;
         }
     }
     Ok(())

@@ -10,12 +10,13 @@ mod driven;
 mod families;
 mod forest;
 mod lists;
+pub mod loads;
 mod marks;
 mod moves;
 mod parts;
 pub mod shares;
-mod weight;
 mod wiring;
 
-pub use cut::partition;
+pub use cut::{MOST_SHARES, partition};
+pub use loads::{load, total};
 pub use shares::{Partition, Share};

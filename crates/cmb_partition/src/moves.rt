@@ -7,6 +7,9 @@ use crate::lists::Lists;
 use crate::parts::{Part, Parts};
 use std::alloc::{AllocError, Global};
 
+// So often clusters are gone through, at most: an estimate.
+const PASSES: u32 = 2;
+
 /// Clusters for so many parts. A cluster is named by a net, its root.
 #[derive(Clone, Copy)]
 pub(crate) struct Task<'a> {
@@ -107,16 +110,14 @@ impl<'a> Task<'a> {
         moves
     }
 
-    /// Moves single clusters, as long as it pays to move more than a few of them, in so many passes at most (as C. M.
-    /// Fiduccia and R. M. Mattheyses, *A linear-time heuristic for improving network partitions*, Design Automation
-    /// Conference 1982, but only where a move pays at once).
-    pub(crate) fn refine(&self, places: &mut Places, clusters: &[u32], passes: u32)
+    /// Moves single clusters, each where that pays at once, as long as it pays to move more than a few of them.
+    pub(crate) fn refine(&self, places: &mut Places, clusters: &[u32])
         requires clusters { All (λ cluster. cluster < length places.old.of.items) clusters.now }
         requires long { length places.old.parts.counts.items ≡ length self.now.weights.now }
         ensures long { length places.new.parts.counts.items ≡ length self.now.weights.now }
         ensures of { length places.new.of.items ≡ length places.old.of.items }
     {
-        for _ in 0..passes {
+        for _ in 0..PASSES {
             if self.pass(places, clusters) <= clusters.len() / 256 {
                 return;
             }

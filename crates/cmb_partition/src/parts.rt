@@ -4,9 +4,6 @@ ghost use Rattle.std.specs.Prelude.{◌≡◌, ◌<◌, length, All, IfOk};
 
 use std::alloc::{AllocError, Global};
 
-/// There are no more parts than this.
-pub(crate) const MOST: usize = 16;
-
 /// A part, by its number.
 #[derive(Clone, Copy)]
 pub(crate) struct Part {

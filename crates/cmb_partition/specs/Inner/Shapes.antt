@@ -1,5 +1,5 @@
 -- The shapes of what a partition is made of: lengths, and bounds of numbers.
-use Rattle.std.specs.Prelude.{◌≡◌, ℕ, ◌+◌, ◌<◌, ◌≤◌, ◌^◌, List, length, slice_index, All}
+use Rattle.std.specs.Prelude.{◌≡◌, ℕ, ◌<◌, ◌≤◌, ◌^◌, List, length, slice_index, All}
 use Rattle.cmb_netlist.specs.Netlist.{IsNetlist, Netlist}
 use Rattle.cmb_partition.specs.declared.classes.Classes.{Classes}
 use Rattle.cmb_partition.specs.declared.families.Families.{Families}

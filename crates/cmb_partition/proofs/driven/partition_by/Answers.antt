@@ -1,4 +1,4 @@
-use Rattle.std.proofs.Common.{◌≡◌, ◌<◌, length, arith}
+use Rattle.std.proofs.Common.{arith}
 use Rattle.cmb_partition.proofs.driven.partition_by.Goals as goal
 
 pub returns-clause-shaped : goal.returns-clause-shaped

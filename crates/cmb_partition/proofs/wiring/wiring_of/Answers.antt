@@ -1,4 +1,3 @@
-use Rattle.std.proofs.Common.{◌≤◌, ◌<◌, length, ap, ◌∙◌, arith}
 use Rattle.cmb_partition.proofs.wiring.wiring_of.Goals as goal
 
 pub members_of-requires-clause-few : goal.members_of-requires-clause-few
