@@ -1,5 +1,5 @@
 //! Worked examples of what the engine of words and its runs are made of, as tests: words, calendars, components and
-//! sharings, parts of a design, shares of its nets, dumps, and the text of chosen nets.
+//! sharings, partitions, parts of a design, shares of its nets, dumps, and the text of chosen nets.
 #![tactic(auto)]
 
 #[cfg(test)]
@@ -18,6 +18,8 @@ mod inverter;
 mod masks;
 #[cfg(test)]
 mod nets;
+#[cfg(test)]
+mod partitions;
 #[cfg(test)]
 mod parts;
 #[cfg(test)]

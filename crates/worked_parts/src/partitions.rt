@@ -1,0 +1,130 @@
+//! Partitions.
+
+use crate::checks::{holds, same};
+use cmb_bench::read_bench;
+use cmb_netlist::Netlist;
+use cmb_partition::{Partition, Share, load, partition, total};
+use std::alloc::Global;
+use std::test::Fail;
+
+/// Whether two shares drive just the nets with these marks, in whichever order.
+fn are_shares(shares: &[Share], one: &[bool], other: &[bool]) -> bool {
+    match shares {
+        [a, b] => {
+            let (a, b) = (a.driven.as_slice(), b.driven.as_slice());
+            a == one && b == other || a == other && b == one
+        }
+        _ => false,
+    }
+}
+
+/// Whether a partition has two shares of these nets, and just the nets with these marks cross.
+fn is_cut(found: &Option<Partition>, one: &[bool], other: &[bool], crossing: &[bool]) -> bool {
+    match found {
+        None => false,
+        Some(found) => {
+            are_shares(&found.shares, one, other) && found.crossing.as_slice() == crossing
+        }
+    }
+}
+
+/// The partition of two flip-flops that read nothing of each other.
+fn apart(alloc: Global) -> Result<Option<Partition>, Fail> {
+    let text = b"a = DFF(na)\nna = NOT(a)\nb = DFF(nb)\nnb = NOT(b)\n";
+    let netlist = read_bench(alloc, text)?;
+    Ok(partition(alloc, &netlist, 2)?)
+}
+
+// Each share has to have a flip-flop, and with it goes what it needs.
+#[test]
+fn two_rings(rt: HostRuntime) -> Result<(), Fail> {
+    let found = apart(rt.alloc())?;
+    let one = [true, true, false, false];
+    let other = [false, false, true, true];
+    holds(&rt, is_cut(&found, &one, &other, &[false; 4]));
+    Ok(())
+}
+
+/// Two flip-flops and an input. The data of both read the input and s, and s reads both flip-flops.
+fn entangled(alloc: Global) -> Result<Netlist, Fail> {
+    let text = b"INPUT(i)\na = DFF(g)\nb = DFF(h)\ng = AND(i, s)\nh = OR(i, s)\ns = XOR(a, b)\n";
+    Ok(read_bench(alloc, text)?)
+}
+
+/// Their partition into so many shares at most.
+fn cut_for(alloc: Global, most: u32) -> Result<Option<Partition>, Fail> {
+    let netlist = entangled(alloc)?;
+    Ok(partition(alloc, &netlist, most)?)
+}
+
+// All nets but the input reach one another. There are two flip-flops, so there is one way to cut them, also where more
+// shares are allowed: each share drives the input and s, and each flip-flop crosses.
+#[test]
+fn one_component(rt: HostRuntime) -> Result<(), Fail> {
+    let one = [true, true, false, true, false, true];
+    let other = [true, false, true, false, true, true];
+    let crossing = [false, true, true, false, false, false];
+    for most in [2, 7] {
+        let found = cut_for(rt.alloc(), most)?;
+        holds(&rt, is_cut(&found, &one, &other, &crossing));
+    }
+    Ok(())
+}
+
+#[test]
+fn one_share_is_none(rt: HostRuntime) -> Result<(), Fail> {
+    for most in [0, 1] {
+        holds(&rt, cut_for(rt.alloc(), most)?.is_none());
+    }
+    Ok(())
+}
+
+/// The partition of one flip-flop.
+fn single(alloc: Global) -> Result<Option<Partition>, Fail> {
+    let netlist = read_bench(alloc, b"a = DFF(n)\nn = NOT(a)\n")?;
+    Ok(partition(alloc, &netlist, 4)?)
+}
+
+#[test]
+fn nothing_to_part(rt: HostRuntime) -> Result<(), Fail> {
+    holds(&rt, single(rt.alloc())?.is_none());
+    Ok(())
+}
+
+/// The partition of a ring of three flip-flops into two shares.
+fn ring(alloc: Global) -> Result<Option<Partition>, Fail> {
+    let netlist = read_bench(alloc, b"a = DFF(c)\nb = DFF(a)\nc = DFF(b)\n")?;
+    Ok(partition(alloc, &netlist, 2)?)
+}
+
+/// How many marks there are.
+fn count(marks: &[bool]) -> usize {
+    marks.iter().filter(|mark| **mark).count()
+}
+
+/// How many flip-flops of the ring cross.
+fn crossings(found: &Option<Partition>) -> usize {
+    match found {
+        None => 0,
+        Some(found) => count(&found.crossing),
+    }
+}
+
+// Wherever a ring of three is cut in two, two steps lead from one part to the other.
+#[test]
+fn ring_of_three(rt: HostRuntime) -> Result<(), Fail> {
+    let found = ring(rt.alloc())?;
+    same(&rt, crossings(&found), 2);
+    Ok(())
+}
+
+// A flip-flop costs 3 and a gate of two operands 4, so a share of a, g, s and the input costs 11, and all nets 18.
+#[test]
+fn costs(rt: HostRuntime) -> Result<(), Fail> {
+    let netlist = entangled(rt.alloc())?;
+    let driven = vec![in rt.alloc(); true, true, false, true, false, true]?;
+    same(&rt, driven.len() == netlist.len(), true);
+    same(&rt, load(&netlist, &Share { driven }), 11);
+    same(&rt, total(&netlist), 18);
+    Ok(())
+}
