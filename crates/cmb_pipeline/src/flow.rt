@@ -103,8 +103,6 @@ impl<'a, T: Terms, R: Wait> Flow<'a, T, R> {
 impl<'a, T: Terms, R: Wait> TextMaker for Flow<'a, T, R> {
     ghost made = { λ f. f };
 
-    ghost ready = { Unit {0} };
-
     // Goes on by a batch.
     fn step(mut self, kept: &mut Kept<'_>) -> Result<Self, AllocError> {
         self.go_on(kept).and(Ok(self))

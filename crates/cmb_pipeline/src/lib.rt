@@ -10,4 +10,4 @@ mod stage;
 mod terms;
 pub mod text;
 
-pub use text::{pipeline_text, write_pipeline};
+pub use text::write_pipeline;

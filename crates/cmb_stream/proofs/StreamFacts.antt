@@ -63,10 +63,6 @@ module _ (design : Design) (clock given : ℕ) (text : List ℕ) (h : IsKept des
       let more = made-rest in
       IsCutOff-front design (take given (vcd design)) text more.0 start old new before later given n more.1 (sym (length-take-le given (vcd design) h.handed)) short a b failed
 
-  -- the whole text, where nothing was handed on
-  pub text-whole : clock ≡ design.horizon → given ≡ 0 → text ≡ vcd design
-  text-whole done none = sym (ap (λ k. take k (vcd design) ++ text) none) ∙ h.made ∙ part_text-whole design clock done
-
 pub made-whole : (design own : Design) (upto : ℕ) → own ≡ design → upto ≡ own.horizon → made_text own upto ≡ vcd design
 made-whole design own upto same done = part_text-whole own upto done ∙ ap vcd same
 

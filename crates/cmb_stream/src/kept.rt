@@ -121,13 +121,4 @@ impl<'a> Kept<'a> {
             }),
         }
     }
-
-    /// The whole text, of which nothing was handed on.
-    pub fn into_text(self) -> Vec<u8>
-        requires done { self.clock ≡ self.design.horizon }
-        requires all { self.given ≡ 0 }
-        ensures { result.items ≡ vcd self.entry.design }
-    {
-        self.text
-    }
 }

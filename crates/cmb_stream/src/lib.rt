@@ -1,7 +1,6 @@
 //! The text of a whole design, made window by window by the engine of words.
 #![tactic(auto)]
 
-pub mod destination;
 pub mod fault;
 pub mod first;
 pub mod kept;
@@ -9,10 +8,9 @@ pub mod stream;
 pub mod text;
 pub mod text_maker;
 
-pub use destination::{Destination, InMemory};
 pub use fault::StreamFault;
 pub use first::{first_text, keep_window, tell_window};
 pub use kept::Kept;
 pub use stream::Stream;
-pub use text::{stream_text, text_rest, write_rest, write_stream};
+pub use text::{write_rest, write_stream};
 pub use text_maker::TextMaker;

@@ -72,8 +72,6 @@ impl<'a> Stream<'a> {
 impl<'a> TextMaker for Stream<'a> {
     ghost made = { λ s. s };
 
-    ghost ready = { Unit {0} };
-
     // Goes on by a window.
     fn step(self, kept: &mut Kept<'_>) -> Result<Self, AllocError> {
         let Stream {

@@ -1,9 +1,8 @@
 //! The whole text of a design.
 
-ghost use Rattle.std.specs.Prelude.{◌≡◌, ◌-◌, ◌^◌, ◌<◌, IfOk};
+ghost use Rattle.std.specs.Prelude.{◌≡◌, ◌-◌, ◌^◌, ◌<◌};
 ghost use Rattle.cmb_stream.specs.Parts.{IsAtEndOf};
 ghost use Rattle.cmb_stream.specs.Streams.{IsWrittenTo};
-ghost use Rattle.cmb_vcd.specs.Vcd.{vcd};
 
 use crate::fault::StreamFault;
 use crate::kept::Kept;
@@ -11,33 +10,10 @@ use crate::stream::Stream;
 use crate::text_maker::TextMaker;
 use cmb_design::Design;
 use cmb_vcd::Sink;
-use std::alloc::{AllocError, Global};
+use std::alloc::Global;
 
 // What is written at a time has so many bytes at least.
 const PART: usize = 65_536;
-
-/// Makes the rest of a text of which nothing was handed on, whole in memory.
-pub fn text_rest<M: TextMaker>(maker: M, kept: Kept<'_>) -> Result<Vec<u8>, AllocError>
-    requires ready { M.ready }
-    requires here { IsAtEndOf kept (M.made maker) }
-    requires all { kept.given ≡ 0 }
-    ensures { IfOk result (λ text. text.items ≡ vcd kept.entry.design) }
-{
-    let mut maker = maker;
-    let mut kept = kept;
-    while !kept.is_done() {
-        maker = maker.step(&mut kept)?;
-    }
-    Ok(kept.into_text())
-}
-
-/// The VCD text of a design's run, whole in memory.
-pub fn stream_text(alloc: Global, design: &Design) -> Result<Vec<u8>, AllocError>
-    ensures { IfOk result (λ text. text.items ≡ vcd design.now) }
-{
-    let (stream, kept) = Stream::open(alloc, design)?;
-    text_rest(stream, kept)
-}
 
 /// Makes the rest of a text of which nothing was handed on and writes it, part after part. Gives the text's length.
 /// Whatever the fault, the sink took a beginning of the text. A failed write is the answer then and only then; else
@@ -48,7 +24,6 @@ pub fn write_rest<M: TextMaker, S: Sink>(
     sink: &mut S,
 ) -> Result<u64, StreamFault>
     requires room { S.failures sink.old < 2 ^ 64 - 1 }
-    requires ready { M.ready }
     requires here { IsAtEndOf kept (M.made maker) }
     requires all { kept.given ≡ 0 }
     ensures { IsWrittenTo S.Sink kept.entry.design sink.old sink.new result }

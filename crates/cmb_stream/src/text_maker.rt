@@ -12,12 +12,8 @@ pub trait TextMaker: Sized + Drop {
     /// Of which design the text was made, and up to which tick.
     ghost made: { Self → Made };
 
-    /// What it needs of the place where it runs: where it starts threads, that these may share what starts them.
-    ghost ready: { Type 0 };
-
     /// Goes on by some windows, whose text comes behind what is kept.
     fn step(self, kept: &mut Kept<'_>) -> Result<Self, AllocError>
-        requires ready { ready }
         requires here { IsAtEndOf kept.old (made self) }
         requires open { kept.old.clock < kept.old.design.horizon }
         ensures here { IfOk result (λ next. IsAtEndOf kept.new (made next)) }

@@ -75,8 +75,6 @@ impl<'a, T: Terms, R: Wait> Lead<'a, T, R> {
 impl<'a, T: Terms, R: Wait> TextMaker for Lead<'a, T, R> {
     ghost made = { λ lead. lead };
 
-    ghost ready = { Unit {0} };
-
     // Goes on by a batch.
     fn step(mut self, kept: &mut Kept<'_>) -> Result<Self, AllocError> {
         self.go_on(kept).and(Ok(self))

@@ -15,4 +15,4 @@ mod texts;
 mod threads;
 mod ways;
 
-pub use text::{team_text, write_team};
+pub use text::write_team;

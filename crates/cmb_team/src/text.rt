@@ -3,15 +3,12 @@
 ghost use Rattle.std.specs.Prelude.{◌≡◌, ◌-◌, ◌^◌, ◌<◌, ◌≤◌, IfOk};
 ghost use Rattle.cmb_stream.specs.Parts.{IsAtEndOf, IsStream};
 ghost use Rattle.cmb_stream.specs.Streams.{IsWrittenTo};
-ghost use Rattle.cmb_vcd.specs.Vcd.{vcd};
 
 use crate::opening::{Run, open_rings, open_run};
 use crate::terms::Terms;
 use crate::threads::start;
 use cmb_design::Design;
-use cmb_stream::{
-    Destination, InMemory, Kept, Stream, StreamFault, TextMaker, stream_text, write_stream,
-};
+use cmb_stream::{Kept, Stream, StreamFault, TextMaker, write_rest, write_stream};
 use cmb_vcd::Sink;
 use std::alloc::{AllocError, Global};
 use std::marker::Brand;
@@ -62,42 +59,42 @@ fn tellers_of(threads: u32) -> usize {
     threads.saturating_sub(2).min(MOST) as usize
 }
 
-// The rest of the text of the design that T names, by a team.
-fn rest_named<'a, T: Terms + Send + Sync, R: Threads + Wait + Sync, D: Destination>(
+// Writes the rest of the text of the design that T names, by a team.
+fn write_named<'a, T: Terms + Send + Sync, R: Threads + Wait + Sync, S: Sink>(
     rt: &'a R,
     alloc: Global,
     design: &'a Design,
     stream: Stream<'a>,
     kept: Kept<'a>,
     threads: u32,
-    to: &mut D,
-) -> D::Answer
-    requires room { D.is_ready to.old }
+    sink: &mut S,
+) -> Result<u64, StreamFault>
+    requires room { S.failures sink.old < 2 ^ 64 - 1 }
     requires named { design.now ≡ T.design }
     requires here { IsAtEndOf kept stream }
     requires design { kept.design ≡ T.design }
     requires all { kept.given ≡ 0 }
-    ensures { D.is_told design.now to.old to.new result }
+    ensures { IsWrittenTo S.Sink design.now sink.old sink.new result }
 {
     let Ok(rings) = open_rings::<T>(alloc, design, tellers_of(threads)) else {
         drop((stream, kept));
-        return to.refused();
+        return Err(StreamFault::Memory);
     };
     let (engine, dump) = stream.into_parts();
     let Run { maker, desks, lead } = open_run(rt, alloc, design, engine, dump, rings);
     let (back, answer) = thread::scope(
         thread::scope_env(),
         rt,
-        move |scope| -> (&mut D, D::Answer)
-            requires room { D.is_ready to.now }
+        move |scope| -> (&mut S, Result<u64, StreamFault>)
+            requires room { S.failures sink.now < 2 ^ 64 - 1 }
             requires here { IsAtEndOf kept lead }
             requires all { kept.given ≡ 0 }
-            ensures name { result.0.ghost_name ≡ to.entry.ghost_name }
-            ensures told { D.is_told kept.entry.design to.entry.now result.0.now result.1 }
+            ensures name { result.0.ghost_name ≡ sink.entry.ghost_name }
+            ensures told { IsWrittenTo S.Sink kept.entry.design sink.entry.now result.0.now result.1 }
         {
             start(rt, scope, maker, desks);
-            let answer = to.take_rest(lead, kept);
-            (to, answer)
+            let answer = write_rest(lead, kept, sink);
+            (sink, answer)
         },
     );
     // By this use the reference that came back is tied to the parameter that lent it.
@@ -105,31 +102,10 @@ fn rest_named<'a, T: Terms + Send + Sync, R: Threads + Wait + Sync, D: Destinati
     answer
 }
 
-// The text of a design's run, by one thread as far as that pays and then by a team of so many threads at most.
-fn text_by<R: Threads + Wait + Sync, D: Destination>(
-    rt: &R,
-    alloc: Global,
-    design: &Design,
-    threads: u32,
-    to: &mut D,
-) -> D::Answer
-    requires { D.is_ready to.old }
-    ensures { D.is_told design.now to.old to.new result }
-{
-    let Ok((stream, kept, pays)) = begin(alloc, design) else {
-        return to.refused();
-    };
-    if pays {
-        rest_named::<Brand, R, D>(rt, alloc, design, stream, kept, threads, to)
-    } else {
-        to.take_rest(stream, kept)
-    }
-}
-
 /// Writes the VCD text of a design's run while it is made, by so many threads at most, and gives its length; with one
-/// thread, or none, by `write_stream`. Threads are started only where there is enough to do for them. What it needs of
-/// memory doesn't grow with the horizon. Whatever the fault, the sink took a beginning of the text. A failed write is
-/// the answer then and only then; else memory or a thread was refused.
+/// thread, or none, by `write_stream`. Threads are started only where there is enough to do for them. The text is the
+/// same for any number. What it needs of memory doesn't grow with the horizon. Whatever the fault, the sink took a
+/// beginning of the text. A failed write is the answer then and only then; else memory or a thread was refused.
 pub fn write_team<R: Threads + Wait + Sync, S: Sink>(
     rt: &R,
     alloc: Global,
@@ -143,22 +119,10 @@ pub fn write_team<R: Threads + Wait + Sync, S: Sink>(
     if threads < 2 {
         return write_stream(alloc, design, sink);
     }
-    text_by(rt, alloc, design, threads, sink)
-}
-
-/// The VCD text of a design's run, whole in memory, by so many threads at most; with one thread, or none, by
-/// `stream_text`. Threads are started only where there is enough to do for them. The text is the same for any number.
-/// Errors: memory or a thread was refused.
-pub fn team_text<R: Threads + Wait + Sync>(
-    rt: &R,
-    alloc: Global,
-    design: &Design,
-    threads: u32,
-) -> Result<Vec<u8>, AllocError>
-    ensures { IfOk result (λ text. text.items ≡ vcd design.now) }
-{
-    if threads < 2 {
-        return stream_text(alloc, design);
+    let (stream, kept, pays) = begin(alloc, design)?;
+    if pays {
+        write_named::<Brand, R, S>(rt, alloc, design, stream, kept, threads, sink)
+    } else {
+        write_rest(stream, kept, sink)
     }
-    text_by(rt, alloc, design, threads, &mut InMemory)
 }

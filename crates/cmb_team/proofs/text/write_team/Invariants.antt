@@ -1,0 +1,4 @@
+use Rattle.cmb_team.proofs.text.write_team.Given as goal
+
+abbrev pub ghosts-write_named : goal.ghosts-write_named
+ghosts-write_named g a = record { design = a.design.now }
