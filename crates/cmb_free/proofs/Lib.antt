@@ -2,3 +2,4 @@ pub mod ChannelFacts
 pub mod RunFacts
 pub mod TellerFacts
 pub mod TextRuns
+pub mod TurnFacts

@@ -1,10 +1,17 @@
 //! A worker's place at the board.
 
-ghost use Rattle.std.specs.Prelude.{◌≡◌, ◌<◌, true, false, IfSome};
+ghost use Rattle.std.specs.Prelude.{◌≡◌, ◌<◌, true, false, List, IfSome};
+ghost use Rattle.std.specs.List.{Contains};
 ghost use Rattle.std.specs.Arc.{arc_value};
 ghost use Rattle.cmb_design.specs.Exact.{IsRightIn, nets_of};
+ghost use Rattle.cmb_wave.specs.Calls.{promised};
 ghost use Rattle.cmb_core.specs.Clustering.{cluster_of};
+ghost use Rattle.cmb_core.specs.Clusters.{Cluster, IsDrivenHere};
+ghost use Rattle.cmb_core.specs.Step.{wave_at};
+ghost use Rattle.cmb_links.specs.Links.{TakeData};
 ghost use Rattle.cmb_links.specs.Seats.{driver, new_seat, terms};
+ghost use Rattle.cmb_free.specs.Inner.Channels.{Outbound};
+ghost use Rattle.cmb_free.specs.Inner.Turns.{Goes, SeatGoes, working};
 
 use cmb_core::Clustering;
 use cmb_design::Design;
@@ -73,6 +80,7 @@ impl<T: Terms> Desk<T> {
         requires design { design.now ≡ T.design }
         requires seat { seat ≡ new_seat (arc_value board) (terms T.design T.clustering workers) false number }
         requires number { number < workers }
+        ensures { result.seat ≡ seat }
     {
         Desk {
             board,
@@ -95,12 +103,16 @@ impl<T: Terms> Desk<T> {
     /// Tells the board how far an own net is known, where that is further than it knew.
     pub(crate) fn publish(&mut self, own: &mut Own<T>, promise: Promise)
         requires { IsRightIn T.design promise }
+        ensures { (cluster : Cluster) (ins : List TakeData) (outs : List Outbound) → IsDrivenHere cluster promise.net
+            → promise ≡ promised (wave_at cluster.waves promise.net)
+            → Goes T.design T.clustering (working cluster ins outs self.old.seat.view)
+            (working cluster ins outs self.new.seat.view) }
     {
         if promise.upto <= own.told || !self.drives(own, promise.net) {
             return;
         }
-        // The proof learns here that nothing later was published of the net, as `publish` asks.
-        if self.board.look(&mut self.seat, promise.net).upto <= promise.upto {
+        // The proof learns here that as much wasn't published of the net, as `publish` asks.
+        if self.board.look(&mut self.seat, promise.net).upto < promise.upto {
             self.board.publish(&mut self.seat, promise);
             own.told = promise.upto;
         }
@@ -108,7 +120,9 @@ impl<T: Terms> Desk<T> {
 
     /// What the board says of a net, None where it was told nothing yet.
     pub(crate) fn look(&mut self, net: u32) -> Option<Promise>
-        ensures { IfSome result (λ promise. IsRightIn T.design promise) }
+        ensures right { IfSome result (λ promise. IsRightIn T.design promise) }
+        ensures found { IfSome result (λ promise. Contains self.new.seat.view.promised.loads promise) }
+        ensures goes { SeatGoes T.design T.clustering self.old.seat.view self.new.seat.view }
     {
         if net as usize >= self.nets {
             return None;
@@ -121,17 +135,23 @@ impl<T: Terms> Desk<T> {
     }
 
     /// Raises the stop word.
-    pub(crate) fn raise(&mut self) {
+    pub(crate) fn raise(&mut self)
+        ensures { SeatGoes T.design T.clustering self.old.seat.view self.new.seat.view }
+    {
         self.board.raise(&mut self.seat);
     }
 
     /// Whether the stop word was raised.
-    pub(crate) fn raised(&mut self) -> bool {
+    pub(crate) fn raised(&mut self) -> bool
+        ensures { SeatGoes T.design T.clustering self.old.seat.view self.new.seat.view }
+    {
         self.board.raised(&mut self.seat)
     }
 
     /// Counts the worker as finished, once.
-    pub(crate) fn finish(&mut self) {
+    pub(crate) fn finish(&mut self)
+        ensures { SeatGoes T.design T.clustering self.old.seat.view self.new.seat.view }
+    {
         if !self.is_finished {
             self.board.finish(&mut self.seat);
             self.is_finished = true;
@@ -147,7 +167,9 @@ impl<T: Terms> Desk<T> {
     }
 
     /// Whether this worker and all others have finished.
-    pub(crate) fn all_finished(&mut self) -> bool {
+    pub(crate) fn all_finished(&mut self) -> bool
+        ensures { SeatGoes T.design T.clustering self.old.seat.view self.new.seat.view }
+    {
         self.is_finished && self.board.finished(&mut self.seat) == self.workers
     }
 }

@@ -1,8 +1,10 @@
 //! A worker's way out: a link to the collector or to another worker, and the nets that go there.
 
-ghost use Rattle.std.specs.Prelude.{◌≡◌, true, None, Ok, IfOk};
+ghost use Rattle.std.specs.Prelude.{◌≡◌, true, None, Some, Ok, IfOk};
+ghost use Rattle.cmb_core.specs.Clusters.{Cluster};
 ghost use Rattle.cmb_links.specs.Links.{after_put};
 ghost use Rattle.cmb_free.specs.Inner.Channels.{IsFurther, IsOutlet, MayFollow, MayWait, due};
+ghost use Rattle.cmb_free.specs.Inner.Turns.{OutGoes, outbound};
 
 use crate::ends::{PutEnd, TakeEnd, open_link};
 use crate::passing::{Passing, leave_out_done, unsent};
@@ -50,6 +52,8 @@ fn put_or_keep<T: Terms, R: Wait>(
     ensures put { result ≡ true → waiting.new ≡ None }
     ensures waits { MayWait end.new waiting.new }
     ensures due { due end.new waiting.new ≡ after_put end.old posted }
+    ensures goes { (cluster : Cluster) → OutGoes T.design T.clustering cluster (outbound end.old (Some posted))
+        (outbound end.new waiting.new) }
 {
     match end.put(rt, posted) {
         Ok(()) => true,
@@ -75,6 +79,7 @@ fn put_net<T: Terms, R: Wait>(
     ensures waits { MayWait end.new waiting.new }
     ensures outlet { IsOutlet T.design.horizon (due end.new waiting.new) outlet.new }
     ensures further { IsFurther end.old (due end.new waiting.new) }
+    ensures goes { OutGoes T.design T.clustering cluster.now (outbound end.old waiting.old) (outbound end.new waiting.new) }
 {
     match outlet.cut(cluster, takes_empty)? {
         Some(posted) => Ok(put_or_keep(rt, end, waiting, posted)),
@@ -110,7 +115,8 @@ impl<T: Terms> Out<T> {
 
     // Puts the piece that waits, if there is one. Says whether none waits any more.
     fn put_waiting<R: Wait>(&mut self, rt: &R) -> bool
-        ensures { result ≡ true → self.new.waiting ≡ None }
+        ensures none { result ≡ true → self.new.waiting ≡ None }
+        ensures goes { (cluster : Cluster) → OutGoes T.design T.clustering cluster self.old self.new }
     {
         match self.waiting.take() {
             Some(posted) => put_or_keep(rt, &mut self.end, &mut self.waiting, posted),
@@ -120,16 +126,20 @@ impl<T: Terms> Out<T> {
 
     // Puts what is new of each net, and begins where it last stopped. Where the link was full something
     // is left. A net that was put up to the horizon is done.
-    fn put_nets<R: Wait>(&mut self, rt: &R, cluster: &ExactCluster<T>) -> Result<(), AllocError> {
+    fn put_nets<R: Wait>(&mut self, rt: &R, cluster: &ExactCluster<T>) -> Result<(), AllocError>
+        ensures { OutGoes T.design T.clustering cluster.now self.old self.new }
+    {
         if !self.put_waiting(rt) {
             return Ok(());
         }
         for _ in 0..self.outlets.len() {
-            if self.next >= self.outlets.len() {
-                self.next = 0;
-            }
-            let outlet = &mut self.outlets[self.next];
-            self.next += 1;
+            let place = if self.next < self.outlets.len() {
+                self.next
+            } else {
+                0
+            };
+            let outlet = &mut self.outlets[place];
+            self.next = place + 1;
             if !put_net(
                 rt,
                 &mut self.end,
@@ -152,7 +162,9 @@ impl<T: Terms> Out<T> {
         rt: &R,
         cluster: &ExactCluster<T>,
         is_new: bool,
-    ) -> Result<bool, AllocError> {
+    ) -> Result<bool, AllocError>
+        ensures { OutGoes T.design T.clustering cluster.now self.old self.new }
+    {
         self.is_left |= is_new;
         if self.is_left {
             self.put_nets(rt, cluster)?;

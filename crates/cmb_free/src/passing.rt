@@ -1,6 +1,6 @@
 //! A net that goes from worker to worker.
 
-ghost use Rattle.std.specs.Prelude.{◌≡◌, map, All, IfOk, OnErr};
+ghost use Rattle.std.specs.Prelude.{◌≡◌, map, All, IfOk, IfSome, OnErr};
 ghost use Rattle.std.specs.List.{Contains};
 
 use cmb_run::{ExactCluster, Posted, Terms};
@@ -32,6 +32,7 @@ pub(crate) fn leave_out_done(nets: &mut Vec<Passing>, horizon: u32)
 
 impl Passing {
     ghost use Rattle.cmb_free.specs.Inner.Channels.{IsCut};
+    ghost use Rattle.cmb_free.specs.Inner.Turns.{IsCutOf};
 
     /// What is new of the net. A piece without changes isn't put where the board tells the reader as much;
     /// the next piece then begins at the same tick. Up to the horizon no piece follows, so the net is done.
@@ -42,6 +43,7 @@ impl Passing {
     ) -> Result<Option<Posted<T>>, AllocError>
         ensures net { self.new.net ≡ self.old.net }
         ensures cut { IfOk result (IsCut T.design.horizon self.old self.new) }
+        ensures of { IfOk result (λ posted. IfSome posted (IsCutOf cluster.now)) }
         ensures same { OnErr result (self.new ≡ self.old) }
     {
         let Some(posted) = cluster.post(self.net, self.upto)? else {

@@ -1,8 +1,11 @@
 //! A worker of a free run: its cluster, its desk, and what links it to the others.
 
-ghost use Rattle.std.specs.Prelude.{◌≡◌, [], All, IfOk, IsSome, OnOk, map};
+ghost use Rattle.std.specs.Prelude.{◌≡◌, [], ◌∷◌, ◌++◌, All, IfOk, IsSome, List, MatchResult, OnOk, map};
 ghost use Rattle.cmb_core.specs.Clusters.{input_slot};
-ghost use Rattle.cmb_free.specs.Inner.Channels.{IsFedBy, IsLater};
+ghost use Rattle.cmb_links.specs.Links.{TakeData};
+ghost use Rattle.cmb_links.specs.declared.view.View.{View};
+ghost use Rattle.cmb_free.specs.Inner.Channels.{IsFedBy, IsLater, Outbound};
+ghost use Rattle.cmb_free.specs.Inner.Turns.{Goes, InGoes, IsCutShort, working};
 
 use crate::desk::{Desk, Own};
 use crate::ends::TakeEnd;
@@ -30,6 +33,7 @@ fn take_some<T: Terms, R: Wait>(
     requires { IsFedBy cluster.old end.old }
     ensures fed { OnOk result (IsFedBy cluster.new end.new) }
     ensures later { IsLater cluster.old cluster.new }
+    ensures goes { OnOk result (InGoes T.design T.clustering cluster.old end.old cluster.new end.new) }
 {
     let mut found = false;
     for _ in 0..AT_ONCE {
@@ -53,6 +57,8 @@ fn take_each<T: Terms, R: Wait>(
     requires { All (IsFedBy cluster.old) ends.old }
     ensures fed { OnOk result (All (IsFedBy cluster.new) ends.new) }
     ensures later { OnOk result (IsLater cluster.old cluster.new) }
+    ensures goes { OnOk result ((outs : List Outbound) (seat : View)
+        → Goes T.design T.clustering (working cluster.old ends.old outs seat) (working cluster.new ends.new outs seat)) }
 {
     let mut found = false;
     for end in ends.iter_mut() {
@@ -67,7 +73,10 @@ fn look_each<T: Terms>(
     inlets: &mut [Passing],
     cluster: &mut ExactCluster<T>,
 ) -> bool
-    ensures { IsLater cluster.old cluster.new }
+    ensures later { IsLater cluster.old cluster.new }
+    ensures goes { (ins : List TakeData) (outs : List Outbound)
+        → Goes T.design T.clustering (working cluster.old ins outs desk.old.seat.view)
+        (working cluster.new ins outs desk.new.seat.view) }
 {
     let mut rose = false;
     for inlet in inlets.iter_mut() {
@@ -86,8 +95,29 @@ fn look_each<T: Terms>(
     rose
 }
 
+// Puts what is new into each link. Says whether something is left.
+fn put_each<T: Terms, R: Wait>(
+    rt: &R,
+    outs: &mut [Out<T>],
+    cluster: &ExactCluster<T>,
+    is_new: bool,
+) -> Result<bool, AllocError>
+    ensures { (ins : List TakeData) (seat : View) → Goes T.design T.clustering (working cluster.now ins outs.old seat)
+        (working cluster.now ins outs.new seat) }
+{
+    let mut is_left = false;
+    for out in outs.iter_mut() {
+        is_left |= out.put_all(rt, cluster, is_new)?;
+    }
+    Ok(is_left)
+}
+
 // Tells the board how far each of these nets is known.
-fn publish_each<T: Terms>(desk: &mut Desk<T>, own: &mut [Own<T>], cluster: &ExactCluster<T>) {
+fn publish_each<T: Terms>(desk: &mut Desk<T>, own: &mut [Own<T>], cluster: &ExactCluster<T>)
+    ensures { (ins : List TakeData) (outs : List Outbound)
+        → Goes T.design T.clustering (working cluster.now ins outs desk.old.seat.view)
+        (working cluster.now ins outs desk.new.seat.view) }
+{
     for own in own.iter_mut() {
         if let Some(promise) = cluster.promise(own.net) {
             desk.publish(own, promise);
@@ -95,7 +125,8 @@ fn publish_each<T: Terms>(desk: &mut Desk<T>, own: &mut [Own<T>], cluster: &Exac
     }
 }
 
-/// A worker before and between its turns. Contracts see its cluster, and the ends of the links by which it is sent nets.
+/// A worker before and between its turns. Contracts see its cluster, what went through each of its links, and what its seat
+/// knows of the board.
 #[derive(Drop)]
 pub struct Worker<T: Terms> {
     desk: Desk<T>,
@@ -115,11 +146,12 @@ pub struct Worker<T: Terms> {
 
 impl<T: Terms> Model for Worker<T> {
     ghost use Rattle.std.specs.Prelude.{All};
-    ghost use Rattle.cmb_free.specs.Inner.Channels.{IsFedBy, Working};
+    ghost use Rattle.cmb_free.specs.Inner.Channels.{IsFedBy};
+    ghost use Rattle.cmb_free.specs.Inner.Turns.{Working, working};
 
     ghost Value = { Working };
 
-    ghost view = { λ w. record { cluster = w.cluster; ins = w.ins.items } };
+    ghost view = { λ w. working w.cluster w.ins.items w.outs.items w.desk.seat.view };
 
     // No piece that the worker took is lost.
     ghost invariant = { λ w. All (IsFedBy w.cluster) w.ins.items };
@@ -127,7 +159,9 @@ impl<T: Terms> Model for Worker<T> {
 
 impl<T: Terms> Worker<T> {
     /// A worker with its cluster, which isn't linked to the collector and to others yet.
-    pub(crate) fn new(alloc: Global, desk: Desk<T>, cluster: ExactCluster<T>) -> Worker<T> {
+    pub(crate) fn new(alloc: Global, desk: Desk<T>, cluster: ExactCluster<T>) -> Worker<T>
+        ensures { result ≡ working cluster [] [] desk.seat.view }
+    {
         Worker {
             desk,
             cluster,
@@ -170,6 +204,8 @@ impl<T: Terms> Worker<T> {
     pub(crate) fn add_in(&mut self, end: TakeEnd<T>) -> Result<(), AllocError>
         requires new { end.received ≡ [] }
         requires read { All (λ net. IsSome (input_slot self.old.cluster net)) end.nets }
+        ensures { OnOk result (self.new
+            ≡ working self.old.cluster (self.old.ins ++ end ∷ []) self.old.outs self.old.seat) }
     {
         self.ins.push(end)?;
         Ok(())
@@ -183,7 +219,7 @@ impl<T: Terms> Worker<T> {
         nets: &[u32],
     ) -> Result<TakeEnd<T>, AllocError>
         requires { design.now ≡ T.design }
-        ensures same { self.new ≡ self.old }
+        ensures same { self.new ≡ working self.old.cluster self.old.ins self.new.outs self.old.seat }
         ensures nets { IfOk result (λ end. end.nets ≡ nets.now) }
         ensures new { IfOk result (λ end. end.received ≡ []) }
     {
@@ -199,6 +235,7 @@ impl<T: Terms> Worker<T> {
         design: &Design,
     ) -> Result<TakeEnd<T>, AllocError>
         requires { design.now ≡ T.design }
+        ensures { self.new ≡ working self.old.cluster self.old.ins self.new.outs self.old.seat }
     {
         let (out, take) = Out::open(alloc, design, self.cluster.driven(), true)?;
         self.outs.push(out)?;
@@ -213,6 +250,7 @@ impl<T: Terms> Worker<T> {
         is_read: &[bool],
     ) -> Result<(), AllocError>
         requires { clustering.now ≡ T.clustering }
+        ensures { self.new ≡ self.old }
     {
         self.inlets = unsent(alloc, self.cluster.inputs())?;
         for net in self.cluster.driven() {
@@ -234,7 +272,10 @@ impl<T: Terms> Worker<T> {
     }
 
     // One turn after the other, up to the end of the run.
-    fn turns<G: Turnstile, R: Wait>(&mut self, rt: &R, gate: &G) -> Result<(), AllocError> {
+    fn turns<G: Turnstile, R: Wait>(&mut self, rt: &R, gate: &G) -> Result<(), AllocError>
+        ensures { MatchResult result (λ _. Goes T.design T.clustering self.old self.new)
+            (λ _. IsCutShort T.design T.clustering self.old self.new) }
+    {
         let mut turn = 0u32;
         for _ in rt.forever() {
             if !self.goes_on(gate, turn) || self.turn(rt)? {
@@ -246,7 +287,9 @@ impl<T: Terms> Worker<T> {
     }
 
     // Whether the worker may take its next turn. Where that is refused the run is stopped.
-    fn goes_on<G: Turnstile>(&mut self, gate: &G, turn: u32) -> bool {
+    fn goes_on<G: Turnstile>(&mut self, gate: &G, turn: u32) -> bool
+        ensures { Goes T.design T.clustering self.old self.new }
+    {
         if !gate.pass(self.desk.number, turn) {
             self.desk.raise();
             return false;
@@ -255,23 +298,40 @@ impl<T: Terms> Worker<T> {
     }
 
     // What a worker does in a turn. Says whether all workers have finished.
-    fn turn<R: Wait>(&mut self, rt: &R) -> Result<bool, AllocError> {
+    fn turn<R: Wait>(&mut self, rt: &R) -> Result<bool, AllocError>
+        ensures { MatchResult result (λ _. Goes T.design T.clustering self.old self.new)
+            (λ _. IsCutShort T.design T.clustering self.old self.new) }
+    {
         self.take_all(rt)?;
         self.look_all();
         let stepped = self.step()?;
         let is_left = self.put_all(rt)?;
-        if stepped {
-            self.publish_all();
-        }
+        self.publish_all(stepped);
+        self.finish(is_left);
+        self.rest(rt, stepped);
+        Ok(self.all_finished())
+    }
+
+    // Counts the worker as finished once all that it drives is known and put.
+    fn finish(&mut self, is_left: bool)
+        ensures { Goes T.design T.clustering self.old self.new }
+    {
         if self.is_complete && !is_left {
             self.desk.finish();
         }
-        self.rest(rt, stepped);
-        Ok(self.desk.all_finished())
+    }
+
+    // Whether all workers have finished.
+    fn all_finished(&mut self) -> bool
+        ensures { Goes T.design T.clustering self.old self.new }
+    {
+        self.desk.all_finished()
     }
 
     // Rests where nothing was done.
-    fn rest<R: Wait>(&mut self, rt: &R, stepped: bool) {
+    fn rest<R: Wait>(&mut self, rt: &R, stepped: bool)
+        ensures { self.new ≡ self.old }
+    {
         if stepped {
             self.idle.end();
         } else {
@@ -281,7 +341,10 @@ impl<T: Terms> Worker<T> {
 
     // Steps the cluster where that may bring a net on. Says whether it did. Where nothing goes on, a further step is of no
     // use before something is taken or heard.
-    fn step(&mut self) -> Result<bool, AllocError> {
+    fn step(&mut self) -> Result<bool, AllocError>
+        ensures { MatchResult result (λ _. Goes T.design T.clustering self.old self.new)
+            (λ _. IsCutShort T.design T.clustering self.old self.new) }
+    {
         if !self.is_new {
             return Ok(false);
         }
@@ -292,7 +355,10 @@ impl<T: Terms> Worker<T> {
 
     // Takes what the links hold, and gives it to the cluster. Where memory is refused a piece is lost, and the worker takes
     // nothing more.
-    fn take_all<R: Wait>(&mut self, rt: &R) -> Result<(), AllocError> {
+    fn take_all<R: Wait>(&mut self, rt: &R) -> Result<(), AllocError>
+        ensures { MatchResult result (λ _. Goes T.design T.clustering self.old self.new)
+            (λ _. IsCutShort T.design T.clustering self.old self.new) }
+    {
         let found = match take_each(rt, &mut self.ins, &mut self.cluster) {
             Ok(found) => found,
             Err(refused) => {
@@ -305,22 +371,28 @@ impl<T: Terms> Worker<T> {
     }
 
     // Hears what the board tells of the nets that are read here.
-    fn look_all(&mut self) {
+    fn look_all(&mut self)
+        ensures { Goes T.design T.clustering self.old self.new }
+    {
         self.is_new |= look_each(&mut self.desk, &mut self.inlets, &mut self.cluster);
         leave_out_done(&mut self.inlets, self.cluster.horizon());
     }
 
-    // Puts what is new into each link. Says whether something is left.
-    fn put_all<R: Wait>(&mut self, rt: &R) -> Result<bool, AllocError> {
-        let mut is_left = false;
-        for out in self.outs.iter_mut() {
-            is_left |= out.put_all(rt, &self.cluster, self.is_new)?;
-        }
-        Ok(is_left)
+    // The same of each link of the worker.
+    fn put_all<R: Wait>(&mut self, rt: &R) -> Result<bool, AllocError>
+        ensures { Goes T.design T.clustering self.old self.new }
+    {
+        put_each(rt, &mut self.outs, &self.cluster, self.is_new)
     }
 
-    // Tells the board how far the nets that others read are known, until that is up to the horizon.
-    fn publish_all(&mut self) {
+    // Once a step brought a net on, tells the board how far the nets that others read are known, until that is up to the
+    // horizon.
+    fn publish_all(&mut self, stepped: bool)
+        ensures { Goes T.design T.clustering self.old self.new }
+    {
+        if !stepped {
+            return;
+        }
         publish_each(&mut self.desk, &mut self.own, &self.cluster);
         let horizon = self.cluster.horizon();
         self.own.retain(|own| own.told < horizon);

@@ -3,13 +3,14 @@ use Rattle.std.proofs.Common.{◌≡◌, ℕ, zero, suc, ◌+◌, ◌<◌, ◌�
 use Rattle.std.specs.Prelude.{OnOk, OnErr, take, filter, is_some}
 use Rattle.std.specs.List.{AllByRecursion, range_with_len}
 use Rattle.std.specs.declared.alloc.AllocError.{AllocError}
-use Rattle.std.proofs.lemmas.Bool.{le-ltb, lt-leb, leb-false, ltb-true, eqb-true}
+use Rattle.std.proofs.lemmas.Bool.{le-leb, le-ltb, lt-leb, leb-false, ltb-true, eqb-true}
 use Rattle.std.proofs.lemmas.List.Elements.{All-from_recursion}
 use Rattle.cmb_wave.specs.Waveform.{at_or_after, clash, last_level}
 use Rattle.cmb_wave.specs.Wave.{Piece, Wave, wave_up_to, wave_with_piece}
 use Rattle.cmb_wave.specs.Calls.{heard_wave, joined, taken}
 use Rattle.cmb_wave.specs.declared.level.Promise.{Promise}
 use Rattle.cmb_wave.specs.declared.wave.WaveFault.{WaveFault}
+use Rattle.cmb_wave.specs.declared.wave.WaveFault.TheVariants.{Old as WaveOld}
 use Rattle.cmb_design.specs.Design.{Design}
 use Rattle.cmb_design.specs.Exact.{IsExactIn, IsExactWaveIn, nets_of}
 use Rattle.cmb_core.specs.Clustering.{Clustering, has_input}
@@ -18,6 +19,7 @@ use Rattle.cmb_core.specs.Opened.{IsClusterOf, read_nets}
 use Rattle.cmb_core.specs.Step.{step_piece, step_reach, wave_at, with_wave}
 use Rattle.cmb_core.specs.Sweep.{stepped_waves}
 use Rattle.cmb_core.specs.declared.delivery.DeliverFault.{DeliverFault}
+use Rattle.cmb_core.specs.declared.delivery.DeliverFault.TheVariants.{Old}
 use Rattle.cmb_core.proofs.ExactFacts.{never_clashes, taken_is}
 use Rattle.cmb_core.proofs.OwnFacts.{input_read}
 use Rattle.cmb_core.proofs.Inputs.{input_put, input_wave}
@@ -64,6 +66,23 @@ module _ (s : Cluster) (piece : Piece) (there : IsSome (input_slot s piece.net))
 
 pub delivers_exact : (design : Design) (s : Cluster) (piece : Piece) → AllByRecursion (IsExactWaveIn design) s.waves → IsExactIn design piece → IsSome (input_slot s piece.net) → piece.from ≤ (wave_at s.waves piece.net).clock → (wave_at s.waves piece.net).clock < piece.to → delivered s piece ≡ Ok (wave_with_piece (wave_at s.waves piece.net) piece)
 delivers_exact design s piece all exact there from to = delivers s piece there (takes design s.waves all piece exact from to)
+
+-- a part that ends by the wave's clock is refused as old
+pub meets_old : (s : Cluster) (piece : Piece) → IsSome (input_slot s piece.net) → piece.from ≤ (wave_at s.waves piece.net).clock → piece.to ≤ (wave_at s.waves piece.net).clock → delivered s piece ≡ Err (Old (wave_at s.waves piece.net).clock)
+meets_old s piece there from to = go (input_slot s piece.net) refl there
+  where
+    wave : Wave
+    wave = wave_at s.waves piece.net
+
+    is : taken wave piece ≡ Err (WaveOld wave.clock)
+    is =
+        let meets : ltb wave.clock piece.from ≡ false = le-ltb _ _ from in
+        let past : leb piece.to wave.clock ≡ true = le-leb _ _ to in
+        rw (meets, past) refl
+
+    go : (o : Option ℕ) → input_slot s piece.net ≡ o → IsSome o → delivered s piece ≡ Err (Old wave.clock)
+    go None e h = cc
+    go (Some slot) e h = ap (delivered_at s piece) e ∙ ap as_delivery is
 
 -- ---- no clock falls
 

@@ -1,7 +1,7 @@
 //! What a run's workers hold and hand on: all of it is exact in the run's design, by its type.
 
 ghost use Rattle.std.specs.Prelude.{◌≡◌, ◌<◌, ◌↔◌, ◌≤◌, ℕ, true, map, All, IfOk, IfSome, IsSome, OnOk, Ok, Err};
-ghost use Rattle.cmb_wave.specs.Calls.{heard_wave, promised};
+ghost use Rattle.cmb_wave.specs.Calls.{promised};
 ghost use Rattle.cmb_wave.specs.Wave.{Wave as WaveOf, cut_of, new_wave};
 ghost use Rattle.cmb_wave.specs.declared.level.Heard.{Heard as Hearing};
 ghost use Rattle.std.specs.List.{AllByRecursion};
@@ -12,7 +12,7 @@ ghost use Rattle.cmb_core.specs.Opened.{IsClusterOf, IsOwnNet, held_nets, own_ne
 ghost use Rattle.cmb_core.specs.Sweep.{some_rises, stepped_waves};
 ghost use Rattle.cmb_core.specs.Step.{wave_at, with_wave};
 ghost use Rattle.cmb_core.specs.declared.delivery.DeliverFault.{DeliverFault as Refusal};
-ghost use Rattle.cmb_run.specs.Passed.{IsPassed};
+ghost use Rattle.cmb_run.specs.Passed.{IsHeard, IsPassed};
 ghost use Rattle.cmb_run.specs.RunTerms.{AreTerms};
 
 use crate::terms::Terms;
@@ -173,7 +173,7 @@ impl<T: Terms> ExactCluster<T> {
             → posted.now.from ≤ (wave_at self.old.waves posted.now.net).clock
             → (wave_at self.old.waves posted.now.net).clock < posted.now.to
             → OnOk result (IsPassed posted.now.net posted.now.to self.old.waves self.new.waves) }
-        ensures met { OnOk result (posted.now.to ≤ (wave_at self.new.waves posted.now.net).clock) }
+        ensures still { posted.now.to ≤ (wave_at self.old.waves posted.now.net).clock → self.new ≡ self.old }
         ensures rises { (net : ℕ) → (wave_at self.old.waves net).clock ≤ (wave_at self.new.waves net).clock }
         ensures same { IsSameButWaves self.old self.new }
     {
@@ -202,8 +202,7 @@ impl<T: Terms> ExactCluster<T> {
         requires { IsRightIn T.design promise }
         ensures answer { (heard : Hearing) → heard_at self.old promise (input_slot self.old promise.net) ≡ Ok heard
             → result ≡ heard }
-        ensures waves { (heard : Hearing) → heard_at self.old promise (input_slot self.old promise.net) ≡ Ok heard
-            → self.new.waves ≡ with_wave self.old.waves (heard_wave (wave_at self.old.waves promise.net) promise) }
+        ensures waves { IsHeard promise self.old self.new (input_slot self.old promise.net) }
         ensures rises { (net : ℕ) → (wave_at self.old.waves net).clock ≤ (wave_at self.new.waves net).clock }
         ensures same { IsSameButWaves self.old self.new }
     {

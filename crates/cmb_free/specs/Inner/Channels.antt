@@ -19,11 +19,6 @@ pub record IsFedBy (cluster : Cluster) (pass : TakeData) : Type 0 where
   pub read : All (λ net. IsSome (input_slot cluster net)) pass.nets
   pub given : (net : ℕ) → channel_clock net pass.received ≤ (wave_at cluster.waves net).clock
 
--- a worker's cluster, and its ends of the links by which it is sent nets
-pub record Working : Type 0 where
-  pub cluster : Cluster
-  pub ins : List TakeData
-
 -- ---- what is fed
 
 -- a piece that may be put next: the link carries its net, and it leaves no gap

@@ -1,7 +1,8 @@
 use Rattle.std.proofs.Common.{All, IsSome, ap, subst, sym}
 use Rattle.std.proofs.lemmas.List.Elements.{All-push}
 use Rattle.cmb_core.specs.Clusters.{Cluster, input_slot}
-use Rattle.cmb_free.specs.Inner.Channels.{IsFedBy, Working}
+use Rattle.cmb_free.specs.Inner.Channels.{IsFedBy}
+use Rattle.cmb_free.specs.Inner.Turns.{Working}
 use Rattle.cmb_free.proofs.ChannelFacts.{IsFedBy-new}
 use Rattle.cmb_free.proofs.worker.Worker.add_in.Goals as goal
 
