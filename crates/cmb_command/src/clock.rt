@@ -1,10 +1,12 @@
 //! The value of `--clock`.
 
 ghost use Rattle.std.specs.Prelude.{◌<◌, IfSome};
+ghost use Rattle.cmb_command.specs.Clocks.{IsClock, Spells};
 
 // One to seven digits.
 fn ticks_of(text: &str) -> Option<u32>
-    ensures { IfSome result (λ n. n < 10000000) }
+    ensures few { IfSome result (λ n. n < 10000000) }
+    ensures spelled { IfSome result (Spells text.now) }
 {
     if text.len() > 7 || !text.bytes().all(|b| b.is_ascii_digit()) {
         return None;
@@ -16,7 +18,9 @@ fn ticks_of(text: &str) -> Option<u32>
 }
 
 /// The clock that `F:P` names, each one to seven digits: its first sample tick and its period, in ticks.
-pub(crate) fn clock_of(text: &str) -> Option<(u32, u32)> {
+pub(crate) fn clock_of(text: &str) -> Option<(u32, u32)>
+    ensures { IfSome result (λ clock. IsClock text.now clock.0 clock.1) }
+{
     let (first, period) = text.split_once(':')?;
     Some((ticks_of(first)?, ticks_of(period)?))
 }

@@ -1,6 +1,10 @@
 //! The words of the program's command line, and what is said of words that ask for nothing.
 
-ghost use Rattle.std.specs.Prelude.{◌≡◌, ◌≤◌, IfOk, IfSome};
+ghost use Rattle.std.specs.Prelude.{◌≡◌, ◌≤◌, ◌↔◌, IfOk, IfSome, IsSome, codes, option_map, string_bytes, true};
+ghost use Rattle.clap.specs.Matches.{first_value, found_of};
+ghost use Rattle.cmb_command.specs.Clocks.{IsClockIn};
+ghost use Rattle.cmb_line.specs.declared.choice.Choice.TheVariants.{Only};
+ghost use Rattle.cmb_line.specs.declared.choice.Pick.TheVariants.{Listed};
 ghost use Rattle.cmb_line.specs.Modes.{IsLawful, IsLawfulCount, clusters_of, workers_of};
 
 use crate::clock::clock_of;
@@ -158,9 +162,11 @@ fn mode_of(matches: &ArgMatches<'_>) -> Result<Mode, LineFault>
     }
 }
 
-// Which nets are written.
-fn choice_of(matches: &ArgMatches<'_>) -> Choice {
-    if matches.get_str("only").is_some() {
+// Which nets are written, where a list is named or isn't.
+fn choice_of(matches: &ArgMatches<'_>, is_listed: bool) -> Choice
+    ensures { (result ≡ Only Listed) ↔ (is_listed ≡ true) }
+{
+    if is_listed {
         Choice::Only(Pick::Listed)
     } else if matches.get_flag("only-outputs") {
         Choice::Only(Pick::Outputs)
@@ -177,7 +183,9 @@ fn init_of(matches: &ArgMatches<'_>) -> Level {
     }
 }
 
-fn common_clock(matches: &ArgMatches<'_>) -> Result<Option<(u32, u32)>, LineFault> {
+fn common_clock(matches: &ArgMatches<'_>) -> Result<Option<(u32, u32)>, LineFault>
+    ensures { IfOk result (IsClockIn (found_of matches.now)) }
+{
     match matches.get_str("clock") {
         Some(text) => match clock_of(text) {
             Some(clock) => Ok(Some(clock)),
@@ -191,7 +199,9 @@ fn file_of(
     alloc: Global,
     matches: &ArgMatches<'_>,
     name: &str,
-) -> Result<Option<String>, AllocError> {
+) -> Result<Option<String>, AllocError>
+    ensures { IfOk result (λ file. option_map string_bytes file ≡ first_value (found_of matches.now) name.now) }
+{
     match matches.get_str(name) {
         Some(text) => Ok(Some(String::from_str(alloc, text)?)),
         None => Ok(None),
@@ -207,7 +217,16 @@ struct Files {
     only: Option<String>,
 }
 
-fn files_of(alloc: Global, matches: &ArgMatches<'_>) -> Result<Files, AllocError> {
+fn files_of(alloc: Global, matches: &ArgMatches<'_>) -> Result<Files, AllocError>
+    ensures delays { IfOk result (λ of. option_map string_bytes of.delays
+        ≡ first_value (found_of matches.now) (codes "delays")) }
+    ensures stimuli { IfOk result (λ of. option_map string_bytes of.stimuli
+        ≡ first_value (found_of matches.now) (codes "stimuli")) }
+    ensures clocks { IfOk result (λ of. option_map string_bytes of.clocks
+        ≡ first_value (found_of matches.now) (codes "clocks")) }
+    ensures only { IfOk result (λ of. option_map string_bytes of.only
+        ≡ first_value (found_of matches.now) (codes "only")) }
+{
     Ok(Files {
         delays: file_of(alloc, matches, "delays")?,
         stimuli: file_of(alloc, matches, "stimuli")?,
@@ -217,7 +236,8 @@ fn files_of(alloc: Global, matches: &ArgMatches<'_>) -> Result<Files, AllocError
 }
 
 fn settings_of(matches: &ArgMatches<'_>) -> Result<Settings, LineFault>
-    ensures { IfOk result (λ settings. (1 ≤ settings.horizon) × (settings.horizon ≤ 1000000)) }
+    ensures horizon { IfOk result (λ settings. (1 ≤ settings.horizon) × (settings.horizon ≤ 1000000)) }
+    ensures clock { IfOk result (λ settings. IsClockIn (found_of matches.now) settings.clock) }
 {
     let horizon = horizon_of(matches)?;
     let clock = common_clock(matches)?;
@@ -232,6 +252,16 @@ fn settings_of(matches: &ArgMatches<'_>) -> Result<Settings, LineFault>
 fn line_of(alloc: Global, task: Task, matches: &ArgMatches<'_>) -> Result<Line, LineFault>
     ensures horizon { IfOk result (λ line. (1 ≤ line.settings.horizon) × (line.settings.horizon ≤ 1000000)) }
     ensures mode { IfOk result (λ line. IsLawful line.mode line.threads) }
+    ensures clock { IfOk result (λ line. IsClockIn (found_of matches.now) line.settings.clock) }
+    ensures choice { IfOk result (λ line. (line.choice ≡ Only Listed) ↔ IsSome line.only) }
+    ensures delays { IfOk result (λ line. option_map string_bytes line.delays
+        ≡ first_value (found_of matches.now) (codes "delays")) }
+    ensures stimuli { IfOk result (λ line. option_map string_bytes line.stimuli
+        ≡ first_value (found_of matches.now) (codes "stimuli")) }
+    ensures clocks { IfOk result (λ line. option_map string_bytes line.clocks
+        ≡ first_value (found_of matches.now) (codes "clocks")) }
+    ensures only { IfOk result (λ line. option_map string_bytes line.only
+        ≡ first_value (found_of matches.now) (codes "only")) }
 {
     let mode = mode_of(matches)?;
     let threads = threads_of(matches)?;
@@ -245,7 +275,7 @@ fn line_of(alloc: Global, task: Task, matches: &ArgMatches<'_>) -> Result<Line, 
         settings,
         mode,
         threads,
-        choice: choice_of(matches),
+        choice: choice_of(matches, files.only.is_some()),
         delays: files.delays,
         stimuli: files.stimuli,
         clocks: files.clocks,
@@ -257,6 +287,7 @@ fn line_of(alloc: Global, task: Task, matches: &ArgMatches<'_>) -> Result<Line, 
 fn line_in(alloc: Global, matches: &ArgMatches<'_>) -> Result<Line, LineFault>
     ensures horizon { IfOk result (λ line. (1 ≤ line.settings.horizon) × (line.settings.horizon ≤ 1000000)) }
     ensures mode { IfOk result (λ line. IsLawful line.mode line.threads) }
+    ensures choice { IfOk result (λ line. (line.choice ≡ Only Listed) ↔ IsSome line.only) }
 {
     if let Some(run) = matches.subcommand_matches("run") {
         line_of(alloc, Task::Run, run)
@@ -270,12 +301,14 @@ fn line_in(alloc: Global, matches: &ArgMatches<'_>) -> Result<Line, LineFault>
 }
 
 /// Reads the words after the program's name: `run` or `check`, and its options. The horizon of a line is 1 to 1,000,000
-/// ticks, and it has 1 to 64 threads, or workers and clusters. Errors: `Help` where the words ask for help, the version
+/// ticks, and it has 1 to 64 threads, or workers and clusters; it chooses the nets of a list just where it names one.
+/// Errors: `Help` where the words ask for help, the version
 /// or the explanation of a fault, `Wrong` where they aren't a line of the program, `Clock` where only the value of
 /// `--clock` has another form, and `Memory`.
 pub fn read_line(alloc: Global, words: &[String]) -> Result<Line, LineFault>
     ensures horizon { IfOk result (λ line. (1 ≤ line.settings.horizon) × (line.settings.horizon ≤ 1000000)) }
     ensures mode { IfOk result (λ line. IsLawful line.mode line.threads) }
+    ensures choice { IfOk result (λ line. (line.choice ≡ Only Listed) ↔ IsSome line.only) }
 {
     match parse(alloc, words) {
         Ok(matches) => line_in(alloc, &matches),
