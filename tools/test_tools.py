@@ -411,9 +411,18 @@ def test_words():
         see(f"words that {name} lacks", [word for word in sorted(words) if not re.search(rf"\b{word}\b", text)], [])
 
 
+def test_nets():
+    netlist = "# INPUT(no)\nINPUT(a)  INPUT(led[9])\nOUTPUT(led[1])\nled[0] = NOT(a) led[1]=AND (a, led[0])\nledge = BUFF(a)\n"
+    for patterns, wanted in ((["led"], (0, "led[9]\nled[0]\nled[1]\n", "")), (["led[[]*]"], (1, "", "nets.py: no net fits led[[]*]\n")),
+                             (["led[*]"], (0, "led[9]\nled[0]\nled[1]\n", "")), (["led*", "?"], (0, "a\nled[9]\nled[0]\nled[1]\nledge\n", "")),
+                             (["no", "ledge"], (1, "ledge\n", "nets.py: no net fits no\n")), (["ledge"], (0, "ledge\n", ""))):
+        with tempfile.TemporaryDirectory() as folder:
+            see(f"nets of {patterns}", run(folder, ["nets.py", *patterns], netlist), wanted)
+
+
 def main():
     for test in (test_compare, test_compare_names, test_unreadable, test_read, test_gtkw, test_parts, test_gtkw_parts, test_convert, test_kept, test_clocks, test_refusals, test_loops,
-                 test_completions, test_words):
+                 test_completions, test_words, test_nets):
         test()
     print(f"{COUNTS['passed']} passed, {COUNTS['failed']} failed")
     return 1 if COUNTS["failed"] else 0
