@@ -1,0 +1,3 @@
+mod OnesFacts
+mod TallyFacts
+mod WindowFacts

@@ -1,0 +1,92 @@
+//! How active the nets of a run are.
+
+ghost use Rattle.std.specs.Prelude.{◌≡◌, ◌+◌, ◌<◌, ◌≤◌, ℕ, length, All, IfOk, OnOk};
+ghost use Rattle.cmb_wave.specs.declared.level.Level.{Level};
+ghost use Rattle.cmb_design.specs.Exact.{nets_of};
+ghost use Rattle.cmb_design.specs.Value.{value};
+ghost use Rattle.cmb_words.specs.Changes.{RisesWithin, Tells};
+ghost use Rattle.cmb_activity.specs.Activities.{AreActivities, AreActivitiesOf};
+ghost use Rattle.cmb_activity.specs.Inner.Tallies.{AreTallies};
+
+use crate::activity::Activity;
+use crate::tally::Tally;
+use cmb_design::Design;
+use cmb_engine::{Engine, start_level};
+use cmb_words::Changed;
+use std::alloc::{AllocError, Global};
+
+// What is counted of each net at tick 0.
+fn first_tallies(alloc: Global, design: &Design) -> Result<Vec<Tally>, AllocError>
+    ensures { IfOk result (λ tallies. AreTallies (value design.now) (nets_of design.now) 1 tallies.items) }
+{
+    let nets = design.netlist().len();
+    let mut tallies = Vec::with_capacity(alloc, nets)?;
+    for net in 0..nets {
+        tallies.push(Tally::start(start_level(design, net)))?;
+    }
+    Ok(tallies)
+}
+
+// Counts what changed in a window: work goes by the nets that did.
+fn count_window(tallies: &mut [Tally], changed: &[Changed], from: u32, upto: u32)
+    requires nets { RisesWithin 0 (length tallies.old) changed.now }
+    requires before { All (λ tally. tally.upto ≤ from) tallies.old }
+    requires order { from < upto }
+    requires short { upto ≤ from + 63 }
+    requires within { upto ≤ 1000000 }
+    ensures { (level : ℕ → ℕ → Level) → AreTallies level (length tallies.old) from tallies.old
+        → Tells level (length tallies.old) from upto changed.now
+        → AreTallies level (length tallies.old) upto tallies.new }
+{
+    for one in changed {
+        let net = one.net as usize;
+        tallies[net] = tallies[net].kept(from).grown(one.word, upto);
+    }
+}
+
+// Counts what changes in a run up to its horizon.
+fn count_all(
+    alloc: Global,
+    design: &Design,
+    engine: Engine<'_>,
+    tallies: &mut [Tally],
+) -> Result<(), AllocError>
+    requires design { engine.design ≡ design.now }
+    requires tallies { AreTallies (value design.now) (nets_of design.now) engine.clock tallies.old }
+    ensures { OnOk result (AreTallies (value design.now) (nets_of design.now) design.now.horizon tallies.new) }
+{
+    let mut engine = engine;
+    let mut changed = Vec::new(alloc);
+    while engine.clock() < design.horizon() {
+        let from = engine.clock();
+        let upto = engine.next_end();
+        engine = engine.advance(upto, &mut changed)?;
+        count_window(tallies, &changed, from, upto);
+    }
+    Ok(())
+}
+
+// What was counted at the end of a run.
+fn all_at(alloc: Global, tallies: &[Tally], horizon: u32) -> Result<Vec<Activity>, AllocError>
+    requires before { All (λ tally. tally.upto ≤ horizon) tallies.now }
+    requires within { horizon ≤ 1000000 }
+    ensures { IfOk result (λ all. (level : ℕ → ℕ → Level) → AreTallies level (length tallies.now) horizon tallies.now
+        → AreActivitiesOf level (length tallies.now) horizon all.items) }
+{
+    let mut all = Vec::with_capacity(alloc, tallies.len())?;
+    for tally in tallies {
+        all.push(tally.kept(horizon).activity)?;
+    }
+    Ok(all)
+}
+
+/// How active each net of a design's run is, by the nets' numbers. What it needs of memory doesn't grow with the
+/// horizon. Errors: memory was refused.
+pub fn activities(alloc: Global, design: &Design) -> Result<Vec<Activity>, AllocError>
+    ensures { IfOk result (λ activities. AreActivities design.now activities.items) }
+{
+    let mut tallies = first_tallies(alloc, design)?;
+    let engine = Engine::open(alloc, design)?;
+    count_all(alloc, design, engine, &mut tallies)?;
+    all_at(alloc, &tallies, design.horizon())
+}
