@@ -210,20 +210,21 @@ fn count_for(most: u32, sinks: &[u32]) -> u32
     most.min(sinks.len().min(MOST_SHARES) as u32)
 }
 
-/// Partitions the nets of a netlist into two shares at least and so many at most, and 16 at most, so that the share with
-/// the most to do has as little as may be. What crosses from one share to another are flip-flops, of which any may read
-/// any other, so a netlist is cut also where all its nets reach one another.
+/// Partitions the nets of a netlist into two shares at least and so many at most, and 16 at most, so that the share
+/// with the most to do has as little as may be. What crosses from one share to another are flip-flops, of which any may
+/// read any other, so a netlist is cut also where all its nets reach one another.
 ///
 /// A flip-flop needs the gates in its cone, back to flip-flops and inputs. Gates that several shares need are driven by
 /// each of them, and who reads a flip-flop of another share is given it; both cost. Flip-flops that need the same heavy
 /// gates are put together in clusters; clusters are put into parts, each where it costs the least, and moved singly as
-/// long as that pays, and then their flip-flops (replication-aided partitioning: H. Wang and S. Beamer, *RepCut*, ASPLOS
-/// 2023; single moves: C. M. Fiduccia and R. M. Mattheyses, *A linear-time heuristic for improving network partitions*,
-/// Design Automation Conference 1982). What the parts weigh is measured by the sum of the fourth powers.
+/// long as that pays, and then their flip-flops (replication-aided partitioning: H. Wang and S. Beamer, *RepCut*,
+/// ASPLOS 2023; single moves: C. M. Fiduccia and R. M. Mattheyses, *A linear-time heuristic for improving network
+/// partitions*, Design Automation Conference 1982). What the parts weigh is measured by the sum of the fourth powers.
 ///
-/// The answer is `None` where there is nothing to part: with fewer than two flip-flops, or where a share would be left
-/// with nothing; and where too many gates are in the cones of too many flip-flops, so that this would take long. Each
-/// share can come out heavy where cones overlap much: `load` and `total` tell. What comes of it is checked.
+/// The answer is `None` where there is nothing to part, which is to say fewer than two sinks (flip-flops, and nets that
+/// nothing reads), or a share that would be left with nothing; and where too many gates are in the cones of too many
+/// sinks, so that this would take long. Shares can come out heavy where cones overlap much: `load` and `total` tell.
+/// What comes of it is checked.
 pub fn partition(
     alloc: Global,
     netlist: &Netlist,

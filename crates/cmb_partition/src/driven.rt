@@ -172,7 +172,8 @@ fn crossing_of(alloc: Global, netlist: &Netlist, sets: &[u32]) -> Result<Vec<boo
     Ok(crossing)
 }
 
-/// The partition in which each sink is driven by its part, and all that it needs with it. That it is one is checked apart.
+/// The partition in which each sink is driven by its part, and all that it needs with it. That it is one is checked
+/// apart.
 pub(crate) fn partition_by(
     alloc: Global,
     netlist: &Netlist,

@@ -9,9 +9,9 @@ use crate::wiring::Wiring;
 use cmb_netlist::{Driver, Netlist};
 use std::alloc::{AllocError, Global};
 
-/// The nets of a netlist in classes. Each flip-flop is one, and each net that nothing reads: these are the sinks. A gate
-/// is of its readers' class where all are of one; else it begins a class, whose parents are those of its readers. What a
-/// component of gates has together is of one class. All inputs are of the first class, that has no parents.
+/// The nets of a netlist in classes. Each flip-flop is one, and each net that nothing reads: these are the sinks. A
+/// gate is of its readers' class where all are of one; else it begins a class, whose parents are those of its readers.
+/// What a component of gates has together is of one class. All inputs are of the first class, that has no parents.
 #[derive(Drop)]
 pub(crate) struct Families {
     /// For each net its class.
@@ -191,8 +191,8 @@ fn importers_of(
     Ok(found)
 }
 
-// A share that reads a flip-flop of another is given it, at about half of what it costs to make it. So each flip-flop has
-// one more class, of which no net is: it is needed where the flip-flop is made and where it is read.
+// A share that reads a flip-flop of another is given it, at about half of what it costs to make it. So each flip-flop
+// has one more class, of which no net is: it is needed where the flip-flop is made and where it is read.
 fn add_imports(
     alloc: Global,
     families: &mut Families,

@@ -74,7 +74,8 @@ impl<'a> Task<'a> {
         }
     }
 
-    // Moves a cluster to the part with which it costs the least, and answers whether there is a better one than its own.
+    // Moves a cluster to the part with which it costs the least, and answers whether there is a better one than its
+    // own.
     fn shift(&self, places: &mut Places, cluster: usize) -> bool
         requires cluster { cluster < length places.old.of.items }
         requires long { length places.old.parts.counts.items ≡ length self.now.weights.now }
