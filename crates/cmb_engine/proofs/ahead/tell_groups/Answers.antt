@@ -2,11 +2,8 @@ use Rattle.std.proofs.Common.{ℕ, ◌-◌, List, [], take, get_or, sym, subst}
 use Rattle.std.proofs.lemmas.List.{take_all}
 use Rattle.cmb_engine.specs.Inner.Exports.{slots_of, AddsSlots}
 use Rattle.cmb_engine.specs.declared.group.Group.{Group}
-use Rattle.cmb_engine.proofs.AheadFacts.{adds-both, adds-none, slots_of-more}
+use Rattle.cmb_engine.proofs.AheadFacts.{adds-both, slots_of-more}
 use Rattle.cmb_engine.proofs.ahead.tell_groups.Goals as goal
-
-pub loop-group-init : goal.loop-group-init
-loop-group-init c = λ trace meets shows. rw c.clear.ensures.items (adds-none trace (c.args.to - c.args.ticks) c.args.to [])
 
 pub loop-group-preserved : goal.loop-group-preserved
 loop-group-preserved c = λ trace meets shows.
