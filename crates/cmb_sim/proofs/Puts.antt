@@ -1,5 +1,5 @@
 -- What comes of writing a text.
-use Rattle.std.proofs.Common.{◌≡◌, ◌⊎◌, ℕ, inl, inr, List, Option, Result, Ok, Err, length, refl, arith}
+use Rattle.std.proofs.Common.{◌≡◌, ◌⊎◌, ℕ, inl, inr, List, [], ◌++◌, Option, Some, Result, Ok, Err, length, refl, arith}
 use Rattle.cmb_design.specs.Design.{Design}
 use Rattle.cmb_free.specs.FreeRuns.{IsCutAt}
 use Rattle.cmb_run.specs.declared.run_fault.RunFault.{RunFault}
@@ -39,6 +39,10 @@ IsPut-more text B C o (Err f) more h = record { told = tt; taken = tt; fault = b
     by : (((f ≡ fault.Memory) × IsUntouched o) ⊎ IsBroken B text o f) → ((f ≡ fault.Memory) × IsUntouched o) ⊎ IsBroken C text o f
     by (inl none) = inl none
     by (inr begun) = inr (IsBroken-more B C text o f more begun)
+
+-- a text that was put into an empty sink in memory is what that holds
+pub IsPut-held : (text : List ℕ) (Breaks : Fault → Type 0) (old new : List ℕ) (before after n : ℕ) → old ≡ [] → IsPut text Breaks (output (Some old) (Some new) before after) (Ok n) → new ≡ text
+IsPut-held text Breaks old new before after n none put = let grown : new ≡ old ++ text = put.taken.0 in rw none at grown
 
 -- a text that was written while it was made
 pub IsPut-stream : (design : Design) (way : Way) (old new : Option (List ℕ)) (before after : ℕ) (f : StreamFault) → Streams way

@@ -1,10 +1,15 @@
 //! How the text that is asked for is made.
 
-ghost use Rattle.std.specs.Prelude.{◌≡◌, ℕ, ◌≤◌, List, true, false, length, IfOk, IfErr};
+ghost use Rattle.std.specs.Prelude.{◌≡◌, ℕ, ◌≤◌, List, None, true, false, length, IfOk, IfErr};
+ghost use Rattle.cmb_design.specs.Checks.{first_fault};
+ghost use Rattle.cmb_design.specs.Exact.{nets_of};
+ghost use Rattle.cmb_dump.specs.Excerpts.{AreAmong};
 ghost use Rattle.cmb_inout.specs.Sources.{input_limit};
 ghost use Rattle.cmb_line.specs.declared.choice.Choice.TheVariants.{All};
-ghost use Rattle.cmb_sim.specs.Inner.Plans.{IsByEngine, IsPlan, IsWayOf, Streams};
-ghost use Rattle.cmb_sim.specs.Simulation.{CanRun, IsRefused, IsStreamed};
+ghost use Rattle.cmb_sim.specs.Inner.Plans.{IsByTable, IsPlan, IsWayTo, Streams};
+ghost use Rattle.cmb_sim.specs.Simulation.{CanBeStopped, CanRun, IsRefused, IsStreamed, mode_checks};
+ghost use Rattle.cmb_vcd.specs.Chosen.{vcd_of};
+ghost use Rattle.cmb_vcd.specs.Vcd.{vcd};
 
 use crate::modes::{check_mode, threads_in};
 use crate::tuning::{sharing_that_pays, workers_pay};
@@ -20,6 +25,8 @@ use std::alloc::{AllocError, Global};
 pub enum Way {
     /// By a table with a place for each net and tick.
     Table,
+    /// That of chosen nets, by such a table of all.
+    Picked(Vec<u32>),
     /// That of chosen nets, by the engine, which has those nets alone on which they depend.
     Chosen(Vec<u32>),
     /// By the engine, and by so many threads at most.
@@ -42,7 +49,7 @@ pub struct Plan {
 
 // By the engine, each thread with a share of the nets where that pays.
 fn engine_way(alloc: Global, design: &Design, threads: u32) -> Result<Way, AllocError>
-    ensures { IfOk result (λ way. IsByEngine design.now way) }
+    ensures { IfOk result (IsWayTo design.now (vcd design.now) ⊥) }
 {
     match sharing_that_pays(alloc, design, threads)? {
         Some(sharing) => Ok(Way::Shares(sharing)),
@@ -53,7 +60,9 @@ fn engine_way(alloc: Global, design: &Design, threads: u32) -> Result<Way, Alloc
 // The way to the text of all nets.
 fn way_of(alloc: Global, request: Request, design: &Design) -> Result<Way, AllocError>
     requires { CanRun request design.now }
-    ensures { IfOk result (λ way. IsWayOf request design.now way) }
+    ensures way { IfOk result (IsWayTo design.now (vcd design.now)
+        (CanBeStopped request.mode request.threads All)) }
+    ensures table { request.mode ≡ Mode.Plain → IfOk result (λ way. IsByTable way) }
 {
     match (request.mode, request.threads) {
         (Mode::Plain, _) => Ok(Way::Table),
@@ -63,7 +72,23 @@ fn way_of(alloc: Global, request: Request, design: &Design) -> Result<Way, Alloc
         (Mode::Free { workers, clusters }, None) if workers_pay(workers, clusters, design) => {
             Ok(Way::Free { workers, clusters })
         }
-        _ => engine_way(alloc, design, threads_in(request)),
+        (Mode::Rounds { .. } | Mode::Free { .. }, _) => {
+            engine_way(alloc, design, threads_in(request))
+        }
+    }
+}
+
+// The way to the text of chosen nets: mode plain fills its table for it too.
+fn way_to_chosen(mode: Mode, nets: Vec<u32>, design: &Design) -> Way
+    requires nets { AreAmong (nets_of design.now) nets.items }
+    requires fits { first_fault (mode_checks mode design.now) ≡ None }
+    ensures way { IsWayTo design.now (vcd_of design.now nets.items) ⊥ result }
+    ensures table { mode ≡ Mode.Plain → IsByTable result }
+    ensures whole { Streams result → ⊥ }
+{
+    match mode {
+        Mode::Plain => Way::Picked(nets),
+        Mode::Rounds { .. } | Mode::Free { .. } => Way::Chosen(nets),
     }
 }
 
@@ -109,7 +134,7 @@ pub(crate) fn plan_of(
             let nets = chosen_nets(alloc, pick, design, names)?;
             check_mode(request, design)?;
             Ok(Plan {
-                way: Way::Chosen(nets),
+                way: way_to_chosen(request.mode, nets, design),
                 held: false,
             })
         }

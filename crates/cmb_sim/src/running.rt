@@ -3,12 +3,14 @@
 ghost use Rattle.std.specs.Prelude.{◌≡◌, ◌-◌, ◌^◌, ◌<◌, None, List, ℕ, length, IfOk};
 ghost use Rattle.cmb_design.specs.Checks.{first_fault};
 ghost use Rattle.cmb_design.specs.Exact.{nets_of};
-ghost use Rattle.cmb_design.specs.Plain.{whole_waves};
+ghost use Rattle.cmb_dump.specs.Excerpts.{AreAmong};
 ghost use Rattle.cmb_inputs.specs.Outputs.{written_to};
 ghost use Rattle.cmb_line.specs.Modes.{IsLawfulCount};
 ghost use Rattle.cmb_line.specs.declared.mode.Mode.TheVariants.{Plain};
 ghost use Rattle.cmb_sim.specs.Inner.Plans.{CanMake, IsPut, MayBreak, PlanMayBreak, way_text};
 ghost use Rattle.cmb_sim.specs.Simulation.{mode_checks};
+ghost use Rattle.cmb_vcd.specs.Chosen.{vcd_of};
+ghost use Rattle.cmb_vcd.specs.Collector.{IsComplete, IsExactFor};
 ghost use Rattle.cmb_vcd.specs.Vcd.{vcd};
 
 use crate::plan::{Plan, Way};
@@ -22,19 +24,19 @@ use cmb_links::Workers;
 use cmb_pipeline::write_pipeline;
 use cmb_rounds::run_rounds;
 use cmb_team::write_team;
-use cmb_vcd::{Collector, Room, Sink, vcd_text};
-use cmb_wave::Wave;
+use cmb_vcd::{Collector, Room, Sink, vcd_text, vcd_text_of};
 use std::alloc::{AllocError, Global};
 use std::sync::Wait;
 use std::thread::Threads;
 
-// Every net's wave, by a table with a place for each net and tick.
-fn table_waves(alloc: Global, design: &Design) -> Result<Vec<Wave>, AllocError>
+// The waves of all nets, by a table with a place for each net and tick.
+fn table_waves(alloc: Global, design: &Design) -> Result<Collector, AllocError>
     requires { first_fault (mode_checks Plain design.now) ≡ None }
-    ensures { IfOk result (λ waves. waves.items ≡ whole_waves design.now) }
+    ensures complete { IfOk result (λ collector. IsComplete collector) }
+    ensures exact { IfOk result (λ collector. IsExactFor design.now collector) }
 {
     match plain_waves(alloc, design) {
-        Ok(waves) => Ok(waves),
+        Ok(waves) => Ok(Collector::of_waves(waves, design.horizon())),
         Err(DesignFault::TableTooLarge) => unreachable!(),
         Err(_) => Err(AllocError),
     }
@@ -45,9 +47,18 @@ fn table_text(alloc: Global, design: &Design) -> Result<Vec<u8>, AllocError>
     requires { first_fault (mode_checks Plain design.now) ≡ None }
     ensures { IfOk result (λ text. text.items ≡ vcd design.now) }
 {
-    let waves = table_waves(alloc, design)?;
-    let collector = Collector::of_waves(waves, design.horizon());
+    let collector = table_waves(alloc, design)?;
     vcd_text(alloc, design, &collector)
+}
+
+// The text of chosen nets, of such waves.
+fn picked_text(alloc: Global, design: &Design, nets: &[u32]) -> Result<Vec<u8>, AllocError>
+    requires fits { first_fault (mode_checks Plain design.now) ≡ None }
+    requires nets { AreAmong (nets_of design.now) nets.now }
+    ensures { IfOk result (λ text. text.items ≡ vcd_of design.now nets.now) }
+{
+    let collector = table_waves(alloc, design)?;
+    vcd_text_of(alloc, design, collector, nets)
 }
 
 // Net n in cluster `n mod clusters`.
@@ -139,6 +150,7 @@ fn write_by<R: AllocGlobal + Threads + Wait + Sync, O: Sink>(
     let alloc = rt.alloc();
     match way {
         Way::Table => put(out, table_text(alloc, design)),
+        Way::Picked(nets) => put(out, picked_text(alloc, design, nets)),
         Way::Chosen(nets) => put(out, chosen_text(alloc, design, nets)),
         Way::Engine(threads) => Ok(write_team(rt, alloc, design, *threads, out)?),
         Way::Shares(sharing) => Ok(write_pipeline(rt, alloc, design, sharing, out)?),
@@ -147,23 +159,7 @@ fn write_by<R: AllocGlobal + Threads + Wait + Sync, O: Sink>(
     }
 }
 
-// The same text, held in memory.
-fn held_text<R: AllocGlobal + Threads + Wait + Sync>(
-    rt: &R,
-    way: &Way,
-    design: &Design,
-) -> Result<Vec<u8>, AllocError>
-    requires { CanMake way.now design.now }
-    ensures { IfOk result (λ text. text.items ≡ way_text way.now design.now) }
-{
-    let mut room = Room::new(rt.alloc(), 0)?;
-    match write_by(rt, way, design, &mut room) {
-        Ok(_) => Ok(room.bytes),
-        Err(_) => Err(AllocError),
-    }
-}
-
-/// Writes the text that a plan has made, and gives its length.
+/// Writes the text that a plan has made, and gives its length. What is held is made into a sink in memory before.
 pub(crate) fn write_plan<R: AllocGlobal + Threads + Wait + Sync, O: Sink>(
     rt: &R,
     plan: &Plan,
@@ -175,9 +171,12 @@ pub(crate) fn write_plan<R: AllocGlobal + Threads + Wait + Sync, O: Sink>(
     ensures { IsPut (way_text plan.now.way design.now) (PlanMayBreak plan.now design.now)
         (written_to O.Sink out.old out.new) result }
 {
-    if plan.held {
-        put(out, held_text(rt, &plan.way, design))
-    } else {
-        write_by(rt, &plan.way, design, out)
+    if !plan.held {
+        return write_by(rt, &plan.way, design, out);
+    }
+    let mut room = Room::new(rt.alloc(), 0)?;
+    match write_by(rt, &plan.way, design, &mut room) {
+        Ok(_) => put(out, Ok(room.bytes)),
+        Err(_) => Err(Fault::Memory),
     }
 }

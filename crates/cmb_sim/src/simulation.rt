@@ -58,7 +58,8 @@ pub fn simulate<
 
 /// Simulates as `simulate` does, by threads that share the work where a number of them is given, and writes the
 /// waveforms of the chosen nets: of some the declarations and the levels of these alone, by rising number, each with
-/// the code of its place among them. Only nets on which a chosen one depends are simulated.
+/// the code of its place among them. Only nets on which a chosen one depends are simulated; but mode plain fills its
+/// table for all nets.
 ///
 /// Where a list names the nets, it is input 5, and read whole after the four others; else no byte of it is read. A list
 /// has the names of nets, one a line; blanks count as between the words of a netlist, and `#` begins a comment. A net

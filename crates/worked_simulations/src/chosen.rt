@@ -5,6 +5,7 @@ ghost use Rattle.std.specs.Prelude.{◌≡◌};
 use crate::cases::{Case, How, PLAIN, Told, asked, bench_case, modes, table, takes, told};
 use crate::checks::{holds, same};
 use crate::drips::{Drip, dripping};
+use crate::ends::SEVENTEEN;
 use cmb_sim::{Choice, FromBytes, Limited, Pick, Report, Request, simulate_chosen};
 use std::alloc::AllocError;
 use std::process::Abort;
@@ -126,6 +127,16 @@ fn unknown_names(rt: HostRuntime) -> Result<(), Fail> {
     list_refused(&rt, row(), b"a,y", 100, (38, 1))?;
     // The netlist's faults come first.
     list_refused(&rt, bench_case(b"y = NOT(a)", 10), b"v", 100, (6, 1))
+}
+
+// Mode plain has a table of all nets, whichever are chosen.
+#[test]
+fn table_is_too_large(rt: HostRuntime) -> Result<(), Fail> {
+    let case = bench_case(SEVENTEEN.as_bytes(), 1_000_000);
+    let (told, text) = run_chosen(&rt, case, PLAIN, LISTED, &mut dripping(b"a1", 100), 1000)?;
+    same(&rt, told, Err((33, 0)));
+    holds(&rt, text.is_empty());
+    Ok(())
 }
 
 #[test]

@@ -15,27 +15,36 @@ use Rattle.cmb_inputs.specs.Outputs.{HasTaken, IsUntouched, Output}
 use Rattle.cmb_sim.specs.Simulation.{CanBeStopped, CanRun, IsBroken, IsStreamed, IsTextOf, mode_checks}
 use Rattle.cmb_sim.specs.declared.plan.Plan.{Plan}
 use Rattle.cmb_sim.specs.declared.plan.Way.{Way}
-use Rattle.cmb_sim.specs.declared.plan.Way.TheVariants.{Table, Chosen, Engine, Shares, Rounds, Free}
+use Rattle.cmb_sim.specs.declared.plan.Way.TheVariants.{Table, Picked, Chosen, Engine, Shares, Rounds, Free}
 use Rattle.cmb_inout.specs.declared.fault.Fault.{Fault}
 use Rattle.cmb_inout.specs.declared.fault.Fault.TheVariants as fault
 
 -- the text that a way makes of a design
 abbrev pub way_text : Way → Design → List ℕ
+way_text (Picked nets) design = vcd_of design nets.items
 way_text (Chosen nets) design = vcd_of design nets.items
 way_text _ design = vcd design
 
 -- what a way needs
 abbrev pub CanMake : Way → Design → Type 0
 CanMake Table design = first_fault (mode_checks Plain design) ≡ None
+CanMake (Picked nets) design = (first_fault (mode_checks Plain design) ≡ None) × AreAmong (nets_of design) nets.items
 CanMake (Chosen nets) design = AreAmong (nets_of design) nets.items
 CanMake (Engine threads) design = ⊤
 CanMake (Shares sharing) design = IsSharing design.netlist sharing
 CanMake (Rounds workers clusters) design = IsLawfulCount workers × IsLawfulCount clusters
 CanMake (Free workers clusters) design = IsLawfulCount workers × IsLawfulCount clusters
 
+-- it fills the table
+abbrev pub IsByTable : Way → Type 0
+IsByTable Table = ⊤
+IsByTable (Picked nets) = ⊤
+IsByTable _ = ⊥
+
 -- it writes its text while the run goes on
 abbrev pub Streams : Way → Type 0
 Streams Table = ⊥
+Streams (Picked nets) = ⊥
 Streams (Chosen nets) = ⊥
 Streams (Engine threads) = ⊤
 Streams (Shares sharing) = ⊤
@@ -57,23 +66,19 @@ MayBreak way design _ = ⊥
 abbrev pub PlanMayBreak : Plan → Design → Fault → Type 0
 PlanMayBreak plan design f = (plan.held ≡ false) × MayBreak plan.way design f
 
--- the engine makes the text of all nets
-pub record IsByEngine (design : Design) (way : Way) : Type 0 where
+-- a way to a text of a design, of which the run can be stopped only where that may be
+pub record IsWayTo (design : Design) (text : List ℕ) (MayStop : Type 0) (way : Way) : Type 0 where
   pub makes : CanMake way design
-  pub text : way_text way design ≡ vcd design
-  pub stops : CanStop way → ⊥
+  pub same : way_text way design ≡ text
+  pub stops : CanStop way → MayStop
 
--- a way to the text of all nets
-pub record IsWayOf (request : Request) (design : Design) (way : Way) : Type 0 where
-  pub makes : CanMake way design
-  pub text : way_text way design ≡ vcd design
-  pub stops : CanStop way → CanBeStopped request.mode request.threads All
-
--- What is planned is what is asked for: the text, and whether it is held. The run can be stopped only where what is asked for can.
+-- What is planned is what is asked for: the text, in mode plain by the table, and whether it is held. The run can be stopped only where what is
+-- asked for can.
 pub record IsPlan (request : Request) (design : Design) (names : List ℕ) (plan : Plan) : Type 0 where
   pub runs : CanRun request design
   pub makes : CanMake plan.way design
   pub text : IsTextOf request.choice design names (way_text plan.way design)
+  pub table : request.mode ≡ Plain → IsByTable plan.way
   pub streams : plan.held ≡ false → Streams plan.way → IsStreamed request.mode request.choice
   pub holds : plan.held ≡ true → IsStreamed request.mode request.choice → ⊥
   pub stops : CanStop plan.way → CanBeStopped request.mode request.threads request.choice
