@@ -10,7 +10,7 @@ ghost use Rattle.cmb_design.specs.Exact.{nets_of};
 use crate::checks::holds;
 use cmb_design::{Design, Settings};
 use cmb_engine::{Engine, start_level};
-use cmb_stream::{StreamFault, stream_text, write_stream};
+use cmb_stream::{StreamFault, write_stream};
 use cmb_vcd::{Limited, Room};
 use cmb_wave::Level;
 use cmb_wave::Level::{One, X, Zero};
@@ -180,13 +180,6 @@ fn goes_on_narrowly(alloc: Global, design: &Design) -> Result<bool, Fail>
     Ok(is_narrow)
 }
 
-/// Whether the text is held in memory.
-fn is_held(alloc: Global, design: &Design) -> Result<bool, Fail> {
-    let text = stream_text(alloc, design)?;
-    let wanted = inverted(alloc)?;
-    Ok(text.as_slice() == wanted.as_bytes())
-}
-
 /// Whether the text is written whole, and its length is the answer.
 fn is_written(alloc: Global, design: &Design) -> Result<bool, Fail> {
     let wanted = inverted(alloc)?;
@@ -219,7 +212,7 @@ fn is_simulated_narrowly(rt: &impl Abort, alloc: Global) -> Result<bool, Fail> {
 
 /// Whether the text is told as it should be.
 fn told(alloc: Global, design: &Design) -> Result<bool, Fail> {
-    Ok(is_held(alloc, design)? && is_written(alloc, design)? && is_broken_off(alloc, design)?)
+    Ok(is_written(alloc, design)? && is_broken_off(alloc, design)?)
 }
 
 /// Whether that of the inverter is.

@@ -6,9 +6,9 @@ ghost use Rattle.cmb_cut.specs.Sharings.{IsSharing};
 use crate::checks::holds;
 use cmb_cut::{Sharing, share_out};
 use cmb_design::{Design, Settings};
-use cmb_pipeline::{pipeline_text, write_pipeline};
-use cmb_stream::{StreamFault, stream_text};
-use cmb_vcd::Limited;
+use cmb_pipeline::write_pipeline;
+use cmb_stream::{StreamFault, write_stream};
+use cmb_vcd::{Limited, Room};
 use cmb_wave::Level;
 use std::alloc::{AllocError, Global};
 use std::sync::Wait;
@@ -69,26 +69,21 @@ fn takes<R: Threads + Wait + Sync>(
     found == answer && sink.bytes.as_slice() == bytes
 }
 
-/// Whether a thread for each share makes this text in memory and writes it, and a sink that fails after 17 bytes took
-/// the first 17 of it.
+/// Whether threads for the shares write this text, and a sink that fails after 17 bytes took the first 17 of it.
 fn is_text<R: Threads + Wait + Sync>(
     rt: &R,
     alloc: Global,
     design: &Design,
     sharing: &Sharing,
     text: &[u8],
-) -> Result<bool, Fail>
+) -> bool
     requires { IsSharing design.now.netlist sharing.now }
 {
-    let made = pipeline_text(rt, alloc, design, sharing)?;
     let written = text.len() as u64;
     let begun = &text[..text.len().min(17)];
     let broken_off = Err(StreamFault::Write { written: 17 });
-    Ok(
-        made.as_slice() == text
-            && takes(rt, alloc, design, sharing, 100_000, text, Ok(written))
-            && takes(rt, alloc, design, sharing, 17, begun, broken_off),
-    )
+    takes(rt, alloc, design, sharing, 100_000, text, Ok(written))
+        && takes(rt, alloc, design, sharing, 17, begun, broken_off)
 }
 
 /// The design's nets, shared out to so many threads at most.
@@ -112,16 +107,23 @@ fn is_shared<R: Threads + Wait + Sync>(
 {
     let sharing = shared_out(alloc, design, shares)?;
     if sharing.shares.len() == shares as usize {
-        is_text(rt, alloc, design, &sharing, text)
+        Ok(is_text(rt, alloc, design, &sharing, text))
     } else {
         Ok(false)
     }
 }
 
+/// The text that one engine makes of the design.
+fn streamed(alloc: Global, design: &Design) -> Result<Vec<u8>, Fail> {
+    let mut room = Room::new(alloc, 0)?;
+    write_stream(alloc, design, &mut room)?;
+    Ok(room.bytes)
+}
+
 /// Whether one engine makes this text of the design.
 fn is_streamed(alloc: Global, design: &Design, text: &[u8]) -> Result<bool, Fail> {
-    let streamed = stream_text(alloc, design)?;
-    Ok(streamed.as_slice() == text)
+    let told = streamed(alloc, design)?;
+    Ok(told.as_slice() == text)
 }
 
 /// Whether one engine makes this text of the design, and threads for so many shares of its nets do.
@@ -182,7 +184,7 @@ fn is_text_of_two<R: Threads + Wait + Sync>(
     alloc: Global,
     design: &Design,
 ) -> Result<bool, Fail> {
-    let text = stream_text(alloc, design)?;
+    let text = streamed(alloc, design)?;
     is_shared(rt, alloc, design, 2, &text)
 }
 
