@@ -1,13 +1,14 @@
 //! The worked examples of collectors and texts, and what sinks take. The texts were made by another simulator.
 
 ghost use Rattle.std.specs.Prelude.{◌≡◌, ◌<◌, ◌≤◌, ◌^◌};
+ghost use Rattle.cmb_vcd.specs.Collector.{IsComplete, IsFor};
 
 use crate::checks::{holds, same};
 use crate::netlists::inputs;
 use crate::toggle::{D, Q, TOGGLE, at};
 use cmb_design::Design;
 use cmb_vcd::sink::{Limited, Room, Sink, ToWriter, write_whole};
-use cmb_vcd::{CollectFault, Collector, VcdWriter, vcd_text};
+use cmb_vcd::{CollectFault, Collector, VcdWriter, vcd_text, vcd_text_of};
 use cmb_wave::{Change, Level, Piece, Wave};
 use std::alloc::Global;
 use std::process::Abort;
@@ -40,15 +41,23 @@ fn answers(
     Ok(())
 }
 
+// Of all nets of a design all is collected.
+fn is_whole(rt: &impl Abort, design: &Design, collector: &Collector)
+    ensures opened { IsFor design.now collector.now }
+    ensures complete { IsComplete collector.now }
+{
+    holds(rt, collector.complete());
+    holds(rt, collector.waves().len() == design.netlist().len());
+    holds(rt, collector.horizon() == design.horizon());
+}
+
 fn whole_text(
     rt: &impl Abort,
     alloc: Global,
     design: &Design,
     collector: &Collector,
 ) -> Result<Vec<u8>, Fail> {
-    holds(rt, collector.complete());
-    holds(rt, collector.waves().len() == design.netlist().len());
-    holds(rt, collector.horizon() == design.horizon());
+    is_whole(rt, design, collector);
     Ok(vcd_text(alloc, design, collector)?)
 }
 
@@ -372,6 +381,23 @@ fn tells_whole(rt: &impl Abort, alloc: Global, design: &Design) -> Result<(), Fa
 fn text_of_toggle(rt: HostRuntime) -> Result<(), Fail> {
     let design = design_up_to(rt.alloc(), TOGGLE, 12)?;
     tells_whole(&rt, rt.alloc(), &design)
+}
+
+// The text of a net is its lines in that of all nets, by the code of the first.
+fn tells_second(rt: &impl Abort, alloc: Global, design: &Design) -> Result<(), Fail> {
+    let toggle = collected_toggle(rt, alloc, design)?;
+    is_whole(rt, design, &toggle);
+    holds(rt, design.netlist().len() == 2);
+    let text = vcd_text_of(alloc, design, toggle, &[1])?;
+    let wanted = text_of(alloc, "d", "#0 x! #1 1! #4 0! #8 1! #12")?;
+    holds(rt, text.as_slice() == wanted.as_bytes());
+    Ok(())
+}
+
+#[test]
+fn text_of_a_chosen_net(rt: HostRuntime) -> Result<(), Fail> {
+    let design = design_up_to(rt.alloc(), TOGGLE, 12)?;
+    tells_second(&rt, rt.alloc(), &design)
 }
 
 // Each net is collected in one piece without changes.
