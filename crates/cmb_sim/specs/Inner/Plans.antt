@@ -8,7 +8,6 @@ use Rattle.cmb_dump.specs.Excerpts.{AreAmong}
 use Rattle.cmb_vcd.specs.Chosen.{vcd_of}
 use Rattle.cmb_vcd.specs.Vcd.{vcd}
 use Rattle.cmb_line.specs.Modes.{IsLawfulCount}
-use Rattle.cmb_line.specs.declared.choice.Choice.TheVariants.{All}
 use Rattle.cmb_line.specs.declared.line.Request.{Request}
 use Rattle.cmb_line.specs.declared.mode.Mode.TheVariants.{Plain}
 use Rattle.cmb_inputs.specs.Outputs.{HasTaken, IsUntouched, Output}
