@@ -1,7 +1,7 @@
 //! The value of `--clock`.
 
 ghost use Rattle.std.specs.Prelude.{◌<◌, IfSome};
-ghost use Rattle.cmb_command.specs.Clocks.{IsClock, Spells};
+ghost use Rattle.cmb_command.specs.Inner.Clocks.{IsClock, Spells};
 
 // One to seven digits.
 fn ticks_of(text: &str) -> Option<u32>

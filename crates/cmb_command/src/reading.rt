@@ -2,7 +2,7 @@
 
 ghost use Rattle.std.specs.Prelude.{◌≡◌, ◌≤◌, ◌↔◌, IfOk, IfSome, IsSome, codes, option_map, string_bytes, true};
 ghost use Rattle.clap.specs.Matches.{first_value, found_of};
-ghost use Rattle.cmb_command.specs.Clocks.{IsClockIn};
+ghost use Rattle.cmb_command.specs.Inner.Clocks.{IsClockIn};
 ghost use Rattle.cmb_line.specs.declared.choice.Choice.TheVariants.{Only};
 ghost use Rattle.cmb_line.specs.declared.choice.Pick.TheVariants.{Listed};
 ghost use Rattle.cmb_line.specs.Modes.{IsLawful, IsLawfulCount, clusters_of, workers_of};
