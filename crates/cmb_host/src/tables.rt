@@ -1,6 +1,7 @@
 //! The files that a line names, opened.
 
-ghost use Rattle.std.specs.Prelude.{◌≡◌, ◌-◌, ◌^◌, ◌<◌, ℕ, IfErr, IfOk};
+ghost use Rattle.std.specs.Prelude.{◌≡◌, ◌-◌, ◌^◌, ◌<◌, ◌↔◌, ℕ, IfErr, IfOk, IsSome};
+ghost use Rattle.cmb_host.specs.Inputs.{IsNamed};
 ghost use Rattle.cmb_inout.specs.declared.fault.Fault.TheVariants.{Read};
 
 use cmb_inout::{Fault, FromReader, Source};
@@ -29,7 +30,8 @@ fn open(
     input: u32,
 ) -> Result<Option<FromReader<File>>, Told>
     ensures opened { IfOk result (λ source. ⟦<Option<FromReader<File>> as Source>⟧.failures source ≡ 0) }
-    ensures fault { IfErr result (λ told. told.fault ≡ Read input) }
+    ensures named { IfOk result (λ source. IsSome source ↔ IsSome name.now) }
+    ensures fault { IfErr result (λ told. IsSome name.now × (told.fault ≡ Read input)) }
 {
     let Some(name) = name else {
         return Ok(None);
@@ -58,15 +60,18 @@ pub struct Tables {
     pub list: Option<FromReader<File>>,
 }
 
-/// Opens the files that a line names, in the order of their inputs. Fault 61, with the input's number, where one can't
-/// be opened, or where standard input, which has the netlist, is closed.
+/// Opens the files that a line names, in the order of their inputs, and no others. Fault 61, with the input's number,
+/// where one can't be opened, or where standard input, which has the netlist, is closed.
 pub fn open_tables(rt: &HostRuntime, line: &Line) -> Result<Tables, Told>
-    ensures delays { IfOk result (λ tables. ⟦<Option<FromReader<File>> as Source>⟧.failures tables.delays ≡ 0) }
-    ensures stimuli { IfOk result (λ tables.
-        ⟦<Option<FromReader<File>> as Source>⟧.failures tables.stimuli ≡ 0) }
-    ensures clocks { IfOk result (λ tables. ⟦<Option<FromReader<File>> as Source>⟧.failures tables.clocks ≡ 0) }
-    ensures list { IfOk result (λ tables. ⟦<Option<FromReader<File>> as Source>⟧.failures tables.list ≡ 0) }
-    ensures fault { IfErr result (λ told. (input : ℕ) × (told.fault ≡ Read input)) }
+    ensures delays { IfOk result (λ tables. (IsSome tables.delays ↔ IsSome line.now.delays)
+        × (⟦<Option<FromReader<File>> as Source>⟧.failures tables.delays ≡ 0)) }
+    ensures stimuli { IfOk result (λ tables. (IsSome tables.stimuli ↔ IsSome line.now.stimuli)
+        × (⟦<Option<FromReader<File>> as Source>⟧.failures tables.stimuli ≡ 0)) }
+    ensures clocks { IfOk result (λ tables. (IsSome tables.clocks ↔ IsSome line.now.clocks)
+        × (⟦<Option<FromReader<File>> as Source>⟧.failures tables.clocks ≡ 0)) }
+    ensures list { IfOk result (λ tables. (IsSome tables.list ↔ IsSome line.now.only)
+        × (⟦<Option<FromReader<File>> as Source>⟧.failures tables.list ≡ 0)) }
+    ensures fault { IfErr result (λ told. (input : ℕ) × IsNamed line.now input × (told.fault ≡ Read input)) }
 {
     let has_input = has_input(rt);
     let delays = open(rt, &line.delays, 2)?;
