@@ -1,4 +1,4 @@
--- How active the nets of a run are: what the switching activity format of IEEE 1801 (SAIF) calls TC, T0, T1 and TX.
+-- How active the nets of a run are: the toggle counts and the durations of states of the switching activity format (SAIF, IEEE 1801).
 use Rattle.std.specs.Prelude.{◌≡◌, ◌+◌, ◌<◌, ℕ, zero, suc, List, length, slice_index_or, if◌then◌else◌}
 use Rattle.cmb_wave.specs.declared.level.Level.{Level}
 use Rattle.cmb_wave.specs.declared.level.Level.TheVariants.{Zero, One, X}

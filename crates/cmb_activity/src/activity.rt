@@ -6,7 +6,8 @@ ghost use Rattle.cmb_wave.specs.Waveform.{same_level};
 
 use cmb_wave::Level;
 
-/// What is counted of a net in a run: what the switching activity format of IEEE 1801 (SAIF) calls TC, T0, T1 and TX.
+/// What is counted of a net in a run: the toggle count and the durations of states of the switching activity format
+/// (SAIF, IEEE 1801), in ticks.
 #[derive(Clone, Copy, PartialEq, Eq)]
 pub struct Activity {
     /// How often it changes after tick 0.
