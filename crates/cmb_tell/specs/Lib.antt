@@ -1,3 +1,4 @@
+pub mod Lines
 pub mod Stats
 pub mod Tallies
 pub mod Words

@@ -4,6 +4,7 @@
 
 mod clocks;
 pub mod kept;
+pub mod laws;
 mod netlist;
 pub mod processor;
 mod record;
