@@ -1,0 +1,111 @@
+-- What a share owns of what its engine tells.
+use Rattle.std.proofs.Common.{◌≡◌, ◌∙◌, ℕ, suc, ◌<◌, ◌≤◌, ◌==◌, ◌||◌, Bool, true, false, nat_lt, List, [], ◌∷◌, cond, length, get_or, ap, refl, sym, subst, arith}
+use Rattle.std.specs.Prelude.{All, Contains, OnOk, Result, Ok, Err, filter}
+use Rattle.std.proofs.lemmas.Bool.{and_from, and_parts, eq-eqb, eqb-true, false≢true, lt-ltb, ltb-true, not_from_false}
+use Rattle.std.proofs.lemmas.List.Elements.{All-cons, All-contains, All-filter, All-nil, Contains-get_or}
+use Rattle.cmb_design.specs.Exact.{nets_of}
+use Rattle.cmb_design.specs.Value.{value}
+use Rattle.cmb_engine.specs.Shares.{IsDriven, TellsThose}
+use Rattle.cmb_words.specs.Changes.{IsStill, RisesWithin, TellsNet, is_among}
+use Rattle.cmb_words.specs.declared.changed.Changed.{Changed}
+use Rattle.cmb_shares.specs.declared.simulator.Simulator.{Simulator}
+use Rattle.cmb_shares.specs.Inner.Messages.{AreTold}
+use Rattle.cmb_shares.specs.Inner.Runs.{IsRun, Owns, Reads, Run, driven_by}
+use Rattle.cmb_shares.specs.Inner.Simulators.{IsSimulator, is_fed, is_owned}
+use Rattle.cmb_shares.proofs.MergeFacts.{rises-lower}
+
+-- what holds where all went well, of two such facts
+pub on_ok_two : {T E P Q S : Type 0} (r : Result T E) → (P → Q → S) → OnOk r P → OnOk r Q → OnOk r S
+on_ok_two (Ok x) both p q = both p q
+on_ok_two (Err e) both p q = tt
+
+-- ---- those that pass a test
+
+module _ (p : Changed → Bool) where
+  passes : (xs : List Changed) → All (λ x. p x ≡ true) (filter p xs)
+  passes [] = All-nil (λ x. p x ≡ true)
+  passes (x ∷ xs) = by (p x) refl (passes xs)
+    where
+      by : (b : Bool) → p x ≡ b → All (λ y. p y ≡ true) (filter p xs) → All (λ y. p y ≡ true) (cond b (x ∷ filter p xs) (filter p xs))
+      by true e later = All-cons (λ y. p y ≡ true) x (filter p xs) e later
+      by false e later = later
+
+  rises-filter : (low nets : ℕ) (xs : List Changed) → RisesWithin low nets xs → RisesWithin low nets (filter p xs)
+  rises-filter low nets [] rises = tt
+  rises-filter low nets (x ∷ xs) rises = by (p x) (rises-filter (suc x.net) nets xs rises.2)
+    where
+      by : (b : Bool) → RisesWithin (suc x.net) nets (filter p xs) → RisesWithin low nets (cond b (x ∷ filter p xs) (filter p xs))
+      by true later = (rises.0, rises.1, later)
+      by false later = rises-lower low (suc x.net) nets (filter p xs) (omega (arith, rises.0)) later
+
+  -- a net all of whose words pass is among them just where it is among all
+  among-filter : (net : ℕ) → ((x : Changed) → (x.net == net) ≡ true → p x ≡ true) → (xs : List Changed) → is_among net (filter p xs) ≡ is_among net xs
+  among-filter net fits [] = refl
+  among-filter net fits (x ∷ xs) = by (p x) refl (among-filter net fits xs)
+    where
+      none : (b : Bool) → (x.net == net) ≡ b → p x ≡ false → is_among net xs ≡ ((x.net == net) || is_among net xs)
+      none true q e = absurd (false≢true (sym e ∙ fits x q))
+      none false q e = ap (λ b. b || is_among net xs) (sym q)
+
+      by : (b : Bool) → p x ≡ b → is_among net (filter p xs) ≡ is_among net xs → is_among net (cond b (x ∷ filter p xs) (filter p xs)) ≡ is_among net (x ∷ xs)
+      by true e later = ap (λ b. (x.net == net) || b) later
+      by false e later = later ∙ none (x.net == net) refl e
+
+-- ---- those that a share owns, and a reader reads
+
+owned-owns : (run : Run) (number : ℕ) (one : Changed) → is_owned run.owners number one ≡ true → Owns run number one.net
+owned-owns run number one e =
+    let both = and_parts (nat_lt one.net (length run.owners)) (get_or run.owners one.net 0 == number) e in
+    (ltb-true _ _ both.0, eqb-true _ _ both.1)
+
+owns-owned : (run : Run) (number : ℕ) (one : Changed) → Owns run number one.net → is_owned run.owners number one ≡ true
+owns-owned run number one own = and_from _ _ (lt-ltb _ _ own.0) (eq-eqb _ _ own.1)
+
+-- a test that only nets that the share owns pass, and of those each that is read
+module _ (run : Run) (number reader from upto : ℕ) (changed : List Changed) (p : Changed → Bool) (sound : (x : Changed) → p x ≡ true → Owns run number x.net)
+    (whole : (x : Changed) → Owns run number x.net → Reads run reader x.net → p x ≡ true)
+    (words : (one : Changed) → Contains changed one → Owns run number one.net → TellsNet (value run.design) from upto one)
+    (others : (net : ℕ) → Owns run number net → Reads run reader net → is_among net changed ≡ false → IsStill (value run.design net) from upto)
+    (rises : length run.driven ≤ reader → RisesWithin 0 (nets_of run.design) changed) where
+  abbrev IsTold : Changed → Type 0
+  IsTold one = Owns run number one.net → TellsNet (value run.design) from upto one
+
+  all : All IsTold changed
+  all = λ k d h own. words (get_or changed k d) (Contains-get_or changed k d h) own
+
+  mine : (k : ℕ) (d : Changed) → k < length (filter p changed) → Owns run number (get_or (filter p changed) k d).net
+  mine k d h = sound (get_or (filter p changed) k d) (passes p changed k d h)
+
+  fits : (net : ℕ) → Owns run number net → Reads run reader net → (x : Changed) → (x.net == net) ≡ true → p x ≡ true
+  fits net own reads x e =
+      let same : x.net ≡ net = eqb-true _ _ e in
+      whole x (subst (Owns run number) (sym same) own) (subst (Reads run reader) (sym same) reads)
+
+  told-filter : AreTold run number reader from upto (filter p changed)
+  told-filter = record {
+    rises = λ text. rises-filter p 0 (nets_of run.design) changed (rises text);
+    among = λ k d h. mine k d h;
+    words = λ k d h. All-filter p IsTold changed all k d h (mine k d h);
+    others = λ net own reads none. others net own reads (sym (among-filter p net (fits net own reads) changed) ∙ none);
+  }
+
+-- all that it owns, to any reader
+pub told-owned : (run : Run) (number reader from upto : ℕ) (changed : List Changed) → IsRun run → number < length run.driven → RisesWithin 0 (nets_of run.design) changed
+    → TellsThose (IsDriven (driven_by run number)) (value run.design) from upto changed → AreTold run number reader from upto (filter (is_owned run.owners number) changed)
+told-owned run number reader from upto changed is within rises tells =
+    told-filter run number reader from upto changed (is_owned run.owners number) (owned-owns run number) (λ x own reads. owns-owned run number x own)
+    (λ one there own. tells.words one there (is.owned number one.net within own))
+    (λ net own reads none. tells.others net (is.owned number net within own) none)
+    (λ text. rises)
+
+-- what was told ahead of it, to a share
+pub told-fed : (run : Run) (s : Simulator) (reader from upto : ℕ) (told : List Changed) → IsSimulator run s → reader < length run.driven
+    → All (λ one. Contains s.engine.exports one.net) told → TellsThose (Contains s.engine.exports) (value run.design) from upto told
+    → AreTold run s.number reader from upto (filter (is_fed run.owners s.number (driven_by run reader)) told)
+told-fed run s reader from upto told is within only tells =
+    told-filter run s.number reader from upto told (is_fed run.owners s.number (driven_by run reader))
+    (λ x e. owned-owns run s.number x (and_parts _ _ e).0)
+    (λ x own reads. and_from _ _ (owns-owned run s.number x own) (not_from_false _ (reads within).undriven))
+    (λ one there own. tells.words one there (All-contains (λ (c : Changed). Contains s.engine.exports c.net) told one only there))
+    (λ net own reads none. tells.others net ((is.exports net).1 (is.lawful.owned s.number net is.number own, is.lawful.known reader net within (reads within))) none)
+    (λ text. absurd (omega (arith, text, within)))

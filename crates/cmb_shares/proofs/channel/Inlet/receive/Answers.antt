@@ -1,0 +1,8 @@
+use Rattle.std.proofs.lemmas.Option.{IfSome_then}
+use Rattle.rtrb.specs.Ring.{received}
+use Rattle.cmb_shares.proofs.ChannelFacts.{latest-sent}
+use Rattle.cmb_shares.proofs.channel.Inlet.receive.Goals as goal
+
+pub returns-clause-last : goal.returns-clause-last
+returns-clause-last g c =
+    IfSome_then c.taken.result c.taken.ensures.taken (λ m e. latest-sent (λ n. n.envelope) (received c.self.inside.ring) (received c.taken.new.inlet) m e)

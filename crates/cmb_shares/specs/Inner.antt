@@ -1,0 +1,9 @@
+-- What the functions inside the crate promise each other. No public contract cites it.
+pub mod Channels
+pub mod Flows
+pub mod Merges
+pub mod Messages
+pub mod Opened
+pub mod Runs
+pub mod Simulators
+pub mod Stations

@@ -1,0 +1,25 @@
+-- What a message tells.
+use Rattle.std.specs.Prelude.{◌≡◌, ℕ, suc, ◌≤◌, false, List, [], ◌∷◌, All, length}
+use Rattle.std.proofs.Props.{props}
+use Rattle.cmb_design.specs.Exact.{nets_of}
+use Rattle.cmb_design.specs.Value.{value}
+use Rattle.cmb_words.specs.Changes.{IsStill, RisesWithin, TellsNet, is_among}
+use Rattle.cmb_words.specs.declared.changed.Changed.{Changed}
+use Rattle.cmb_shares.specs.declared.message.Envelope.{Envelope}
+use Rattle.cmb_shares.specs.Inner.Runs.{Owns, Reads, Run}
+
+-- The words tell all changes at the ticks of [from, upto) of those nets that a sender owns and a reader reads. Each net that is told of is
+-- the sender's. What is told to the text rises by number.
+pub record AreTold (run : Run) (sender reader from upto : ℕ) (changes : List Changed) : Type 0 where
+  pub rises : length run.driven ≤ reader → RisesWithin 0 (nets_of run.design) changes
+  pub among : All (λ one. Owns run sender one.net) changes
+  pub words : All (TellsNet (value run.design) from upto) changes
+  pub others : (net : ℕ) → Owns run sender net → Reads run reader net → is_among net changes ≡ false → IsStill (value run.design net) from upto
+
+abbrev pub IsMessage : Run → Envelope → List Changed → Type 0
+IsMessage run envelope changes = AreTold run envelope.sender envelope.reader envelope.from envelope.upto changes
+
+-- that numbers rise has one proof at most
+pub rises_prop : (low nets : ℕ) (changed : List Changed) → IsProp (RisesWithin low nets changed)
+rises_prop low nets [] = hlevel props
+rises_prop low nets (c ∷ cs) = hlevel (props, rises_prop (suc c.net) nets cs)

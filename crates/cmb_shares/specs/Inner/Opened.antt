@@ -1,0 +1,54 @@
+-- What a run begins with.
+use Rattle.std.specs.Prelude.{◌≡◌, ◌↔◌, ℕ, ◌+◌, ◌<◌, ◌≤◌, ◌^◌, true, false, Bool, List, Contains, length, map, slice_index, slice_index_or}
+use Rattle.cmb_design.specs.Design.{Design}
+use Rattle.cmb_engine.specs.Crossings.{IsCrossing}
+use Rattle.cmb_engine.specs.Shares.{IsDriven, IsGiven, ShareEngine}
+use Rattle.cmb_engine.specs.Windows.{Windows}
+use Rattle.cmb_partition.specs.declared.shares.Partition.{Partition}
+use Rattle.cmb_partition.specs.declared.shares.Share.{Share}
+use Rattle.cmb_shares.specs.Inner.Runs.{IsRun, Run, driven_by}
+use Rattle.cmb_shares.specs.Inner.Stations.{Covers, Standing}
+
+-- the run of a design's shares
+abbrev pub run_of : Design → Partition → Windows → Run
+run_of design partition windows = record {
+  design = design;
+  owners = partition.owners.items;
+  crossing = partition.crossing.items;
+  driven = map (λ (s : Share). s.driven.items) partition.shares.items;
+  windows = windows;
+}
+
+-- an engine of the share of a number, which made nothing yet
+pub record IsEngineOf (design : Design) (crossing : List Bool) (driven : List Bool) (engine : ShareEngine) : Type 0 where
+  pub engaged : engine.design ≡ design
+  pub drives : engine.driven ≡ driven
+  pub exports : (net : ℕ) → Contains engine.exports net ↔ (IsDriven driven net × IsCrossing design crossing net)
+  pub begun : engine.clock ≡ 1
+  pub some : 2 ≤ engine.width
+  pub most : engine.width < 63
+
+-- engines of all shares of a run, from the share of a number on
+abbrev pub AreEngines : Run → ℕ → List ShareEngine → Type 0
+AreEngines run first engines =
+    (k : ℕ) (d : ShareEngine) → k < length engines → IsEngineOf run.design run.crossing (driven_by run (first + k)) (slice_index_or engines k d)
+
+-- the shares of a run are opened
+pub record AreOpened (run : Run) (engines : List ShareEngine) : Type 0 where
+  pub lawful : IsRun run
+  pub few : length run.driven < 2 ^ 32
+  pub count : length engines ≡ length run.driven
+  pub each : AreEngines run 0 engines
+  pub short : (k : ℕ) (d : ShareEngine) → k < length engines → run.windows.width ≤ (slice_index_or engines k d).width
+
+-- stations stand in the order of their numbers, and made nothing yet
+abbrev pub AreStations : List Standing → Type 0
+AreStations stations = (k : ℕ) (d : Standing) → k < length stations → ((slice_index_or stations k d).number ≡ k) × ((slice_index_or stations k d).clock ≡ 1)
+
+-- the first stations hear of all that they are given
+abbrev pub AreCovered : Run → ℕ → List Standing → Type 0
+AreCovered run count stations = (k : ℕ) (d : Standing) → k < count → k < length stations → Covers run k (slice_index_or stations k d).senders
+
+-- each share that owns a net that a share is given is marked
+abbrev pub AreFeeders : Run → ℕ → List Bool → Type 0
+AreFeeders run number feeders = (net : ℕ) → IsGiven run.design (driven_by run number) net → slice_index_or feeders (slice_index run.owners net) false ≡ true

@@ -1,0 +1,2 @@
+-- what the functions inside the crate promise each other
+pub mod Inner

@@ -1,0 +1,91 @@
+//! Channels.
+
+ghost use Rattle.std.specs.Prelude.{◌≡◌, ◌<◌, IfOk, IfSome, IsFalse, IsTrue};
+ghost use Rattle.cmb_shares.specs.Inner.Channels.{Follows, greeting};
+
+use crate::message::{Envelope, InOrder, Message};
+use crate::ring::{handed, taken};
+use crate::terms::Terms;
+use rtrb::{Consumer, Producer, RingBuffer};
+use std::alloc::{AllocError, Global};
+use std::marker::Model;
+use std::sync::Wait;
+
+/// The end of a channel at which messages come.
+#[derive(Drop)]
+pub struct Inlet<T: Terms> {
+    ring: Consumer<Message<T>, Global, InOrder<T>>,
+}
+
+impl<T: Terms> Model for Inlet<T> {
+    ghost use Rattle.std.specs.Prelude.{◌≤◌, length, map};
+    ghost use Rattle.rtrb.specs.Ring.{received};
+    ghost use Rattle.cmb_shares.specs.declared.message.Envelope.{Envelope};
+    ghost use Rattle.cmb_shares.specs.Inner.Channels.{latest_of};
+
+    // That of the last message that came.
+    ghost Value = { Envelope };
+
+    ghost view = { λ inlet. latest_of (map (λ m. m.envelope) (received inlet.ring)) };
+
+    ghost invariant = { λ inlet. 1 ≤ length (received inlet.ring) };
+}
+
+/// The end of a channel at which messages go.
+#[derive(Drop)]
+pub struct Outlet<T: Terms> {
+    ring: Producer<Message<T>, Global, InOrder<T>>,
+}
+
+impl<T: Terms> Model for Outlet<T> {
+    ghost use Rattle.std.specs.Prelude.{◌≤◌, length, map};
+    ghost use Rattle.rtrb.specs.Ring.{sent};
+    ghost use Rattle.cmb_shares.specs.declared.message.Envelope.{Envelope};
+    ghost use Rattle.cmb_shares.specs.Inner.Channels.{latest_of};
+
+    // That of the last message that went.
+    ghost Value = { Envelope };
+
+    ghost view = { λ outlet. latest_of (map (λ m. m.envelope) (sent outlet.ring)) };
+
+    ghost invariant = { λ outlet. 1 ≤ length (sent outlet.ring) };
+}
+
+/// A channel from a share to another one or to the text. It holds so many messages. Errors: memory was refused.
+pub(crate) fn channel<T: Terms>(
+    alloc: Global,
+    sender: u32,
+    reader: u32,
+    room: usize,
+) -> Result<(Outlet<T>, Inlet<T>), AllocError>
+    requires { 0 < room }
+    ensures outlet { IfOk result (λ ends. ends.0 ≡ greeting sender reader) }
+    ensures inlet { IfOk result (λ ends. ends.1 ≡ greeting sender reader) }
+{
+    let (mut outlet, mut inlet) = RingBuffer::with_protocol::<Global, InOrder<T>>(alloc, room)?;
+    outlet.push_reserved(Message::greeting(alloc, sender, reader));
+    inlet.slots_beside(&mut outlet);
+    drop(inlet.pop_known());
+    Ok((Outlet { ring: outlet }, Inlet { ring: inlet }))
+}
+
+impl<T: Terms> Inlet<T> {
+    /// Waits for the next message. There is none where the sender ended before.
+    pub(crate) fn receive<R: Wait>(&mut self, rt: &R) -> Option<Message<T>>
+        ensures follows { IfSome result (λ message. Follows T.run.windows self.old message.envelope) }
+        ensures last { IfSome result (λ message. self.new ≡ message.envelope) }
+    {
+        taken(rt, &mut self.ring)
+    }
+}
+
+impl<T: Terms> Outlet<T> {
+    /// Sends a message, once there is room. Says whether it did so: else nobody is there any more to take it.
+    pub(crate) fn send<R: Wait>(&mut self, rt: &R, message: Message<T>) -> bool
+        requires { Follows T.run.windows self.old message.envelope }
+        ensures sent { IsTrue result → self.new ≡ message.envelope }
+        ensures kept { IsFalse result → self.new ≡ self.old }
+    {
+        handed(rt, &mut self.ring, message)
+    }
+}

@@ -1,0 +1,138 @@
+//! The calling thread's part of a run: it makes the text of what the shares tell.
+
+ghost use Rattle.std.specs.Prelude.{◌≡◌, ℕ, suc, ◌<◌, ◌≤◌, length, [], IfOk, OnOk};
+ghost use Rattle.cmb_shares.specs.Inner.Channels.{Follows};
+ghost use Rattle.cmb_shares.specs.Inner.Flows.{AreMade, AreSources};
+ghost use Rattle.cmb_shares.specs.Inner.Runs.{IsRun, IsTurn};
+
+use crate::channel::Inlet;
+use crate::merge::merge;
+use crate::terms::Terms;
+use cmb_dump::Dump;
+use cmb_engine::Windows;
+use cmb_stream::{Kept, TextMaker, keep_window};
+use cmb_words::Changed;
+use rtrb::Producer;
+use std::alloc::AllocError;
+use std::marker::Model;
+use std::mem::swap;
+use std::sync::Wait;
+
+/// The channel by which a share tells the text, and where room goes back to it.
+#[derive(Drop)]
+pub struct Source<T: Terms> {
+    pub inlet: Inlet<T>,
+    pub back: Producer<Vec<Changed>>,
+}
+
+impl<T: Terms> Model for Source<T> {
+    ghost use Rattle.cmb_shares.specs.declared.message.Envelope.{Envelope};
+
+    // That of the last message that came.
+    ghost Value = { Envelope };
+
+    ghost view = { λ source. source.inlet };
+}
+
+/// Makes the text of what the shares tell.
+#[derive(Drop)]
+pub(crate) struct Flow<'a, T: Terms, R> {
+    pub rt: &'a R,
+    pub windows: Windows,
+    pub sources: Vec<Source<T>>,
+    pub dump: Dump<'a>,
+    /// Room for what all shares told of a window.
+    pub all: Vec<Changed>,
+    pub room: Vec<Changed>,
+}
+
+impl<'a, T: Terms, R> Model for Flow<'a, T, R> {
+    ghost use Rattle.cmb_stream.specs.Parts.{Made};
+    ghost use Rattle.cmb_shares.specs.Inner.Flows.{IsFlow};
+
+    ghost Value = { Made };
+
+    ghost view = { λ f. record { design = f.dump.design; clock = f.dump.clock } };
+
+    ghost invariant = { λ f. IsFlow T.run f.windows f.sources.items f.dump };
+}
+
+impl<T: Terms> Source<T> {
+    // Adds what the share tells of a window to what earlier ones told.
+    fn add<R: Wait>(
+        &mut self,
+        rt: &R,
+        all: &mut Vec<Changed>,
+        room: &mut Vec<Changed>,
+    ) -> Result<(), AllocError>
+        ensures follows { OnOk result (Follows T.run.windows self.old self.new) }
+        ensures made { OnOk result (self.new.reader ≡ length T.run.driven
+            → AreMade T.run self.new.sender self.new.from self.new.upto all.old.items
+            → AreMade T.run (suc self.new.sender) self.new.from self.new.upto all.new.items) }
+    {
+        let Some(message) = self.inlet.receive(rt) else {
+            return Err(AllocError);
+        };
+        let changes = message.changes;
+        merge(all, &changes, room)?;
+        swap(all, room);
+        drop(self.back.push(changes));
+        Ok(())
+    }
+}
+
+// Puts together what all shares tell of a window, in place of what `all` had.
+fn gather<T: Terms, R: Wait>(
+    rt: &R,
+    sources: &mut [Source<T>],
+    from: u32,
+    upto: u32,
+    all: &mut Vec<Changed>,
+    room: &mut Vec<Changed>,
+) -> Result<(), AllocError>
+    requires turn { IsTurn T.run from upto }
+    requires sources { AreSources T.run from sources.old }
+    ensures len { length sources.new ≡ length sources.old }
+    ensures sources { OnOk result (AreSources T.run upto sources.new) }
+    ensures made { OnOk result (AreMade T.run (length sources.old) from upto all.new.items) }
+{
+    all.clear();
+    for place in 0..sources.len() {
+        sources[place].add(rt, all, room)?;
+    }
+    Ok(())
+}
+
+impl<'a, T: Terms, R: Wait> TextMaker for Flow<'a, T, R> {
+    ghost made = { λ f. f };
+
+    // Goes on by a window.
+    fn step(self, kept: &mut Kept<'_>) -> Result<Self, AllocError> {
+        let Flow {
+            rt,
+            windows,
+            mut sources,
+            mut dump,
+            mut all,
+            mut room,
+        } = self;
+        let from = kept.clock();
+        let upto = windows.end(from);
+        let Ok(()) = gather(rt, &mut sources, from, upto, &mut all, &mut room) else {
+            drop((windows, sources, dump, all, room));
+            return Err(AllocError);
+        };
+        let Ok(()) = keep_window(&mut dump, &all, upto, kept) else {
+            drop((windows, sources, dump, all, room));
+            return Err(AllocError);
+        };
+        Ok(Flow {
+            rt,
+            windows,
+            sources,
+            dump,
+            all,
+            room,
+        })
+    }
+}

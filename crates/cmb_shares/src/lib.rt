@@ -1,0 +1,19 @@
+//! The whole text of a design by threads of which each simulates a share of its nets, with feedback among them: each
+//! share is a logical process, and a channel leads from each to each that it feeds.
+#![tactic(auto)]
+
+mod channel;
+mod feeders;
+mod flow;
+mod merge;
+mod message;
+pub mod opening;
+mod ring;
+mod simulator;
+mod station;
+mod stations;
+mod terms;
+pub mod text;
+
+pub use opening::Shares;
+pub use text::write_shares;

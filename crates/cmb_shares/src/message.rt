@@ -1,0 +1,68 @@
+//! What a share tells of a window.
+
+ghost use Rattle.std.specs.Prelude.{◌≡◌, map};
+ghost use Rattle.std.proofs.Props.{props};
+ghost use Rattle.cmb_shares.specs.Inner.Channels.{MayGo, greeting};
+ghost use Rattle.cmb_shares.specs.Inner.Messages.{IsMessage, rises_prop};
+
+use crate::terms::Terms;
+use cmb_words::Changed;
+use rtrb::Protocol;
+use std::alloc::Global;
+use std::marker::PhantomData;
+
+/// From which share a message is, to which, and of which ticks it tells: from `from` on below `upto`.
+#[derive(Clone, Copy)]
+pub struct Envelope {
+    pub sender: u32,
+    pub reader: u32,
+    pub from: u32,
+    pub upto: u32,
+}
+
+/// What a share tells another one, or the text, of a window of the run that `T` names. One without changes is a null
+/// message.
+#[derive(Drop)]
+pub struct Message<T: Terms> {
+    pub envelope: Envelope,
+    pub changes: Vec<Changed>,
+    terms: PhantomData<T>,
+    ghost tells: { IsMessage T.run envelope changes.items } by { Prim.hlevel (props, rises_prop) },
+}
+
+impl<T: Terms> Message<T> {
+    /// A message of such changes.
+    pub(crate) fn new(envelope: Envelope, changes: Vec<Changed>) -> Message<T>
+        requires { IsMessage T.run envelope changes.items }
+        ensures { result.envelope ≡ envelope }
+    {
+        Message {
+            envelope,
+            changes,
+            terms: PhantomData,
+        }
+    }
+
+    /// The first message of a channel. It tells of no tick.
+    pub(crate) fn greeting(alloc: Global, sender: u32, reader: u32) -> Message<T>
+        ensures { result.envelope ≡ greeting sender reader }
+    {
+        let envelope = Envelope {
+            sender,
+            reader,
+            from: 1,
+            upto: 1,
+        };
+        Message::new(envelope, Vec::new(alloc))
+    }
+}
+
+/// The messages of a channel: each begins where the last one ended.
+pub struct InOrder<T: Terms> {
+    terms: PhantomData<T>,
+}
+
+impl<T: Terms> Protocol<Message<T>> for InOrder<T> {
+    ghost allows = { λ before message.
+        MayGo T.run.windows (map (λ m. m.envelope) before) message.envelope };
+}

@@ -1,0 +1,334 @@
+//! A logical process: a share's engine, and the channels from and to it.
+
+ghost use Rattle.std.specs.Prelude.{◌≡◌, ◌<◌, ◌++◌, ◌∷◌, [], true, false, length, IfSome, OnOk};
+ghost use Rattle.cmb_design.specs.Value.{value};
+ghost use Rattle.cmb_engine.specs.Shares.{IsGiven, TellsThose};
+ghost use Rattle.cmb_shares.specs.Inner.Channels.{greeting};
+ghost use Rattle.cmb_shares.specs.Inner.Runs.{IsTurn, driven_by};
+ghost use Rattle.cmb_shares.specs.Inner.Simulators.{IsSimulator, IsToldAhead};
+ghost use Rattle.cmb_shares.specs.Inner.Stations.{AreFed, AreHeard, AreHeardOf, Covers, senders_of};
+
+use crate::channel::{Inlet, Outlet};
+use crate::message::{Envelope, Message};
+use crate::simulator::{Simulator, feed_of};
+use crate::terms::Terms;
+use cmb_words::Changed;
+use rtrb::Consumer;
+use std::alloc::{AllocError, Global};
+use std::marker::Model;
+use std::sync::Wait;
+
+/// A channel to a share that drives these nets.
+#[derive(Drop)]
+pub struct Feed<'a, T: Terms> {
+    pub outlet: Outlet<T>,
+    pub reader: u32,
+    pub driven: &'a [bool],
+}
+
+impl<'a, T: Terms> Model for Feed<'a, T> {
+    ghost use Rattle.std.specs.Prelude.{◌≡◌};
+    ghost use Rattle.cmb_shares.specs.declared.message.Envelope.{Envelope};
+    ghost use Rattle.cmb_shares.specs.Inner.Stations.{LeadsTo};
+
+    // That of the last message that went.
+    ghost Value = { Envelope };
+
+    ghost view = { λ feed. feed.outlet };
+
+    ghost invariant = { λ feed. (feed.outlet.reader ≡ feed.reader) × LeadsTo T.run feed.outlet feed.driven.now };
+}
+
+/// A share's engine, the channels by which others tell it of their nets and it tells them of its own, and the channel to
+/// the text, from which room comes back.
+#[derive(Drop)]
+pub struct Station<'a, T: Terms> {
+    pub alloc: Global,
+    pub simulator: Simulator<'a>,
+    pub inlets: Vec<Inlet<T>>,
+    pub feeds: Vec<Feed<'a, T>>,
+    pub text: Outlet<T>,
+    pub back: Consumer<Vec<Changed>>,
+}
+
+impl<'a, T: Terms> Model for Station<'a, T> {
+    ghost use Rattle.cmb_shares.specs.Inner.Stations.{IsStation, Standing, senders_of};
+
+    ghost Value = { Standing };
+
+    ghost view = { λ station. record {
+      number = station.simulator.number;
+      clock = station.simulator.engine.clock;
+      senders = senders_of station.inlets.items;
+    } };
+
+    ghost invariant = { λ station. IsStation T.run station.simulator station.inlets.items station.feeds.items station.text };
+}
+
+impl<'a, T: Terms> Feed<'a, T> {
+    /// The channel to the share of a number, which drives these nets.
+    pub(crate) fn new(outlet: Outlet<T>, reader: u32, driven: &'a [bool]) -> Feed<'a, T>
+        requires reader { outlet.reader ≡ reader }
+        requires below { reader < length T.run.driven }
+        requires driven { driven.now ≡ driven_by T.run reader }
+        ensures { result ≡ outlet }
+    {
+        Feed {
+            outlet,
+            reader,
+            driven,
+        }
+    }
+
+    // Tells the share of what was told ahead of a window. Says whether it did so.
+    fn tell<R: Wait>(
+        &mut self,
+        rt: &R,
+        alloc: Global,
+        simulator: &Simulator<'_>,
+        upto: u32,
+        told: &[Changed],
+    ) -> bool
+        requires simulates { IsSimulator T.run simulator.now }
+        requires turn { IsTurn T.run simulator.now.engine.clock upto }
+        requires sender { self.old.sender ≡ simulator.now.number }
+        requires begins { self.old.upto ≡ simulator.now.engine.clock }
+        requires told { IsToldAhead T.run simulator.now.number simulator.now.engine.clock upto told.now }
+        ensures { result ≡ true → (self.new.sender ≡ simulator.now.number) × (self.new.upto ≡ upto) }
+    {
+        let mut changes = Vec::new(alloc);
+        let owners = simulator.owners;
+        if feed_of(told, owners, simulator.number, self.driven, &mut changes).is_err() {
+            return false;
+        }
+        let envelope = Envelope {
+            sender: simulator.number,
+            reader: self.reader,
+            from: simulator.clock(),
+            upto,
+        };
+        self.outlet.send(rt, Message::new(envelope, changes))
+    }
+}
+
+// Room that came back, or new room.
+fn room_of(alloc: Global, back: &mut Consumer<Vec<Changed>>) -> Vec<Changed> {
+    match back.pop() {
+        Ok(room) => room,
+        Err(_) => Vec::new(alloc),
+    }
+}
+
+// Tells all shares of what was told ahead of a window. Says whether it did so.
+fn tell_all<'a, T: Terms, R: Wait>(
+    rt: &R,
+    alloc: Global,
+    simulator: &Simulator<'_>,
+    upto: u32,
+    told: &[Changed],
+    feeds: &mut [Feed<'a, T>],
+) -> bool
+    requires simulates { IsSimulator T.run simulator.now }
+    requires turn { IsTurn T.run simulator.now.engine.clock upto }
+    requires told { IsToldAhead T.run simulator.now.number simulator.now.engine.clock upto told.now }
+    requires fed { AreFed simulator.now.number simulator.now.engine.clock feeds.old }
+    ensures { result ≡ true → AreFed simulator.now.number upto feeds.new }
+{
+    for place in 0..feeds.len() {
+        if !feeds[place].tell(rt, alloc, simulator, upto, told) {
+            return false;
+        }
+    }
+    true
+}
+
+// Takes what others tell of a window, in place of what `given` had. Says whether it did so.
+fn hear_all<T: Terms, R: Wait>(
+    rt: &R,
+    simulator: &Simulator<'_>,
+    upto: u32,
+    inlets: &mut [Inlet<T>],
+    given: &mut Vec<Changed>,
+) -> bool
+    requires turn { IsTurn T.run simulator.now.engine.clock upto }
+    requires heard { AreHeard simulator.now.number simulator.now.engine.clock inlets.old }
+    ensures heard { result ≡ true → AreHeard simulator.now.number upto inlets.new }
+    ensures senders { result ≡ true → senders_of inlets.new ≡ senders_of inlets.old }
+    ensures given { result ≡ true → AreHeardOf T.run simulator.now.number simulator.now.engine.clock upto
+        (senders_of inlets.old) given.new.items }
+{
+    given.clear();
+    for place in 0..inlets.len() {
+        let Some(message) = inlets[place].receive(rt) else {
+            return false;
+        };
+        let Ok(()) = given.extend_from_slice(&message.changes) else {
+            return false;
+        };
+    }
+    true
+}
+
+// Tells other shares of a window, and takes what they tell of it. Says whether that was done.
+fn talk<'a, T: Terms, R: Wait>(
+    rt: &R,
+    alloc: Global,
+    simulator: &Simulator<'_>,
+    upto: u32,
+    feeds: &mut [Feed<'a, T>],
+    inlets: &mut [Inlet<T>],
+    told: &mut Vec<Changed>,
+    given: &mut Vec<Changed>,
+) -> bool
+    requires simulates { IsSimulator T.run simulator.now }
+    requires turn { IsTurn T.run simulator.now.engine.clock upto }
+    requires fed { AreFed simulator.now.number simulator.now.engine.clock feeds.old }
+    requires heard { AreHeard simulator.now.number simulator.now.engine.clock inlets.old }
+    requires covers { Covers T.run simulator.now.number (senders_of inlets.old) }
+    ensures fed { result ≡ true → AreFed simulator.now.number upto feeds.new }
+    ensures heard { result ≡ true → AreHeard simulator.now.number upto inlets.new }
+    ensures senders { result ≡ true → senders_of inlets.new ≡ senders_of inlets.old }
+    ensures given { result ≡ true → TellsThose (IsGiven T.run.design (driven_by T.run simulator.now.number))
+        (value T.run.design) simulator.now.engine.clock upto given.new.items }
+{
+    let Ok(()) = simulator.tell_ahead::<T>(upto, told) else {
+        return false;
+    };
+    if !tell_all(rt, alloc, simulator, upto, told, feeds) {
+        return false;
+    }
+    hear_all(rt, simulator, upto, inlets, given)
+}
+
+impl<'a, T: Terms> Station<'a, T> {
+    /// The station of a share that made nothing yet. It hears of no share.
+    pub(crate) fn new(
+        alloc: Global,
+        simulator: Simulator<'a>,
+        text: Outlet<T>,
+        back: Consumer<Vec<Changed>>,
+    ) -> Station<'a, T>
+        requires simulates { IsSimulator T.run simulator }
+        requires begun { simulator.engine.clock ≡ 1 }
+        requires text { text ≡ greeting simulator.number (length T.run.driven) }
+        ensures number { result.number ≡ simulator.entry.number }
+        ensures clock { result.clock ≡ 1 }
+    {
+        Station {
+            alloc,
+            simulator,
+            inlets: Vec::new(alloc),
+            feeds: Vec::new(alloc),
+            text,
+            back,
+        }
+    }
+
+    /// Adds a channel by which another share tells it of its nets. Errors: memory was refused.
+    pub(crate) fn add_inlet(&mut self, inlet: Inlet<T>) -> Result<(), AllocError>
+        requires reader { inlet.reader ≡ self.old.number }
+        requires begins { inlet.upto ≡ self.old.clock }
+        ensures number { self.new.number ≡ self.old.number }
+        ensures clock { self.new.clock ≡ self.old.clock }
+        ensures senders { OnOk result (self.new.senders ≡ self.old.senders ++ inlet.sender ∷ []) }
+    {
+        self.inlets.push(inlet)?;
+        Ok(())
+    }
+
+    /// Adds a channel by which it tells another share. Errors: memory was refused.
+    pub(crate) fn add_feed(&mut self, feed: Feed<'a, T>) -> Result<(), AllocError>
+        requires sender { feed.sender ≡ self.old.number }
+        requires begins { feed.upto ≡ self.old.clock }
+        ensures { self.new ≡ self.old }
+    {
+        self.feeds.push(feed)?;
+        Ok(())
+    }
+
+    // Goes on by a window. There is no station any more where another one ended early or memory was refused.
+    fn step<R: Wait>(
+        self,
+        rt: &R,
+        told: &mut Vec<Changed>,
+        given: &mut Vec<Changed>,
+    ) -> Option<Station<'a, T>>
+        requires covers { Covers T.run self.number self.senders }
+        requires early { self.clock < T.run.windows.horizon }
+        ensures number { IfSome result (λ next. next.number ≡ self.entry.number) }
+        ensures senders { IfSome result (λ next. next.senders ≡ self.entry.senders) }
+    {
+        let Station {
+            alloc,
+            simulator,
+            mut inlets,
+            mut feeds,
+            mut text,
+            mut back,
+        } = self;
+        let from = simulator.clock();
+        let upto = simulator.next_end::<T>();
+        if !talk(
+            rt,
+            alloc,
+            &simulator,
+            upto,
+            &mut feeds,
+            &mut inlets,
+            told,
+            given,
+        ) {
+            drop((simulator, inlets, feeds, text, back));
+            return None;
+        }
+        let mut changes = room_of(alloc, &mut back);
+        let Ok(simulator) = simulator.advance::<T>(upto, given, &mut changes) else {
+            drop((inlets, feeds, text, back, changes));
+            return None;
+        };
+        let envelope = Envelope {
+            sender: simulator.number,
+            reader: simulator.shares,
+            from,
+            upto,
+        };
+        if !text.send(rt, Message::new(envelope, changes)) {
+            drop((simulator, inlets, feeds, text, back));
+            return None;
+        }
+        Some(Station {
+            alloc,
+            simulator,
+            inlets,
+            feeds,
+            text,
+            back,
+        })
+    }
+
+    // Whether all windows were made.
+    fn is_done(&self) -> bool
+        ensures { result ≡ false → self.now.clock < T.run.windows.horizon }
+    {
+        self.simulator.clock() >= self.simulator.windows.horizon()
+    }
+
+    /// Makes all windows of the share.
+    pub(crate) fn run<R: Wait>(self, rt: &R)
+        requires { Covers T.run self.number self.senders }
+    {
+        let mut station = self;
+        let mut told = Vec::new(station.alloc);
+        let mut given = Vec::new(station.alloc);
+        for _ in rt.forever() {
+            if station.is_done() {
+                return;
+            }
+            match station.step(rt, &mut told, &mut given) {
+                Some(next) => station = next,
+                None => return,
+            }
+        }
+        unreachable!()
+    }
+}

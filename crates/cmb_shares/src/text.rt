@@ -1,0 +1,164 @@
+//! The whole text of a design, by threads of which each simulates a share of the nets.
+
+ghost use Rattle.std.specs.Prelude.{◌≡◌, ◌-◌, ◌^◌, ◌<◌, All, length, IfOk};
+ghost use Rattle.cmb_shares.specs.Inner.Opened.{AreOpened, run_of};
+ghost use Rattle.cmb_shares.specs.Inner.Stations.{Covers};
+ghost use Rattle.cmb_stream.specs.Parts.{IsAtEndOf};
+ghost use Rattle.cmb_stream.specs.Streams.{IsWrittenTo};
+
+use crate::flow::Flow;
+use crate::opening::Shares;
+use crate::station::Station;
+use crate::stations::{connect_all, stations_of};
+use crate::terms::Terms;
+use cmb_design::Design;
+use cmb_engine::{ShareEngine, Windows};
+use cmb_partition::Partition;
+use cmb_stream::{Kept, StreamFault, first_text, write_rest};
+use cmb_vcd::Sink;
+use std::alloc::{AllocError, Global};
+use std::marker::Brand;
+use std::sync::Wait;
+use std::thread;
+use std::thread::{Scope, Threads};
+
+// Runs each share in a thread of its own, for whose end the scope waits. Where a thread is refused its channels are
+// dropped, so the run ends, as it does where memory is refused.
+fn start<'s, 'a: 's, E, T: Terms + Send + Sync + 's, R: Threads + Wait + Sync>(
+    rt: &'s R,
+    scope: &Scope<'s, E>,
+    stations: Vec<Station<'a, T>>,
+)
+    requires { All (λ station. Covers T.run station.number station.senders) stations.items }
+{
+    for station in stations {
+        drop(scope.spawn(
+            move ||
+                requires { Covers T.run station.number station.senders }
+            { station.run(rt) },
+        ));
+    }
+}
+
+// Starts the shares in threads of a scope, and makes the text up to tick 1 while they are at work. The calling thread
+// then goes on with it.
+fn begin<'s, 'a: 's, E, T: Terms + Send + Sync + 's, R: Threads + Wait + Sync>(
+    rt: &'a R,
+    alloc: Global,
+    scope: &Scope<'s, E>,
+    design: &'a Design,
+    partition: &'a Partition,
+    engines: Vec<ShareEngine<'a>>,
+    windows: Windows,
+) -> Result<(Flow<'a, T, R>, Kept<'a>), AllocError>
+    requires opened { AreOpened T.run engines.items }
+    requires run { run_of design.now partition.now windows ≡ T.run }
+    ensures here { IfOk result (λ begun. IsAtEndOf begun.1 begun.0) }
+    ensures design { IfOk result (λ begun. begun.1.design ≡ design.entry.now) }
+    ensures all { IfOk result (λ begun. begun.1.given ≡ 0) }
+{
+    let Ok((mut stations, sources)) = stations_of::<T>(alloc, engines, &partition.owners, &windows)
+    else {
+        drop(windows);
+        return Err(AllocError);
+    };
+    let Ok(()) = connect_all(alloc, design, partition, &mut stations) else {
+        drop((windows, stations, sources));
+        return Err(AllocError);
+    };
+    start(rt, scope, stations);
+    let Ok((dump, kept)) = first_text(alloc, design) else {
+        drop((windows, sources));
+        return Err(AllocError);
+    };
+    let flow = Flow {
+        rt,
+        windows,
+        sources,
+        dump,
+        all: Vec::new(alloc),
+        room: Vec::new(alloc),
+    };
+    Ok((flow, kept))
+}
+
+// Writes the text of a run, by the calling thread, while its shares are at work in threads of a scope.
+fn write_run<'s, 'a: 's, E, T: Terms + Send + Sync + 's, R: Threads + Wait + Sync, S: Sink>(
+    rt: &'a R,
+    alloc: Global,
+    scope: &Scope<'s, E>,
+    design: &'a Design,
+    partition: &'a Partition,
+    engines: Vec<ShareEngine<'a>>,
+    windows: Windows,
+    sink: &mut S,
+) -> Result<u64, StreamFault>
+    requires room { S.failures sink.old < 2 ^ 64 - 1 }
+    requires opened { AreOpened T.run engines.items }
+    requires named { run_of design.now partition.now windows ≡ T.run }
+    ensures { IsWrittenTo S.Sink design.now sink.old sink.new result }
+{
+    let Ok((flow, kept)) = begin::<_, T, R>(rt, alloc, scope, design, partition, engines, windows)
+    else {
+        return Err(StreamFault::Memory);
+    };
+    write_rest(flow, kept, sink)
+}
+
+// Writes the text of the run that T names, by the calling thread, in a scope for the threads of the shares.
+fn write_named<'a, T: Terms + Send + Sync, R: Threads + Wait + Sync, S: Sink>(
+    rt: &'a R,
+    alloc: Global,
+    design: &'a Design,
+    partition: &'a Partition,
+    engines: Vec<ShareEngine<'a>>,
+    windows: Windows,
+    sink: &mut S,
+) -> Result<u64, StreamFault>
+    requires room { S.failures sink.old < 2 ^ 64 - 1 }
+    requires opened { AreOpened T.run engines.items }
+    requires named { run_of design.now partition.now windows ≡ T.run }
+    ensures { IsWrittenTo S.Sink design.now sink.old sink.new result }
+{
+    let (back, answer) = thread::scope(
+        thread::scope_env(),
+        rt,
+        move |scope| -> (&mut S, Result<u64, StreamFault>)
+            requires room { S.failures sink.now < 2 ^ 64 - 1 }
+            requires opened { AreOpened T.run engines.items }
+            requires named { run_of design.now partition.now windows ≡ T.run }
+            ensures name { result.0.ghost_name ≡ sink.entry.ghost_name }
+            ensures told { IsWrittenTo S.Sink design.entry.now sink.entry.now result.0.now result.1 }
+        {
+            let answer = write_run::<_, T, R, S>(
+                rt, alloc, scope, design, partition, engines, windows, sink,
+            );
+            (sink, answer)
+        },
+    );
+    // By this use the reference that came back is tied to the parameter that lent it.
+    let _lent = &*back;
+    answer
+}
+
+/// Writes the VCD text of a design's run while it is made, by a thread for each share of its nets and the calling one,
+/// which makes the text, and gives its length. The text is the same however the nets were partitioned. What it needs of
+/// memory doesn't grow with the horizon. Whatever the fault, the sink took a beginning of the text. A failed write is
+/// the answer then and only then; else memory or a thread was refused.
+pub fn write_shares<'a, R: Threads + Wait + Sync, S: Sink>(
+    rt: &'a R,
+    alloc: Global,
+    shares: Shares<'a>,
+    sink: &mut S,
+) -> Result<u64, StreamFault>
+    requires { S.failures sink.old < 2 ^ 64 - 1 }
+    ensures { IsWrittenTo S.Sink shares.entry sink.old sink.new result }
+{
+    let Shares {
+        design,
+        partition,
+        engines,
+        windows,
+    } = shares;
+    write_named::<Brand, R, S>(rt, alloc, design, partition, engines, windows, sink)
+}
