@@ -64,14 +64,7 @@ fn begin<'s, 'a: 's, E, T: Terms + Send + Sync + 's, R: Threads + Wait + Sync>(
 }
 
 // Writes the text of a run, by the calling thread, while its stages are at work in threads of a scope.
-fn write_run<
-    's,
-    'a: 's,
-    E,
-    T: Terms + Send + Sync + 's,
-    R: Threads + Wait + Sync,
-    S: Sink,
->(
+fn write_run<'s, 'a: 's, E, T: Terms + Send + Sync + 's, R: Threads + Wait + Sync, S: Sink>(
     rt: &'a R,
     alloc: Global,
     scope: &Scope<'s, E>,
