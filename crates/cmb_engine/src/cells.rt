@@ -256,40 +256,8 @@ impl Cells {
     }
 
     /// What a cell, given by its number, makes of the words from a place on, with what stands below it in a slot's word.
-    ///
-    /// Most cells are gates with two pins. The others have a function of their own, so that the registers are theirs.
     #[inline]
     pub(crate) fn word(
-        &self,
-        number: usize,
-        slot: usize,
-        words: &[Word],
-        last: &mut Arrival,
-        to: u32,
-        first: u32,
-    ) -> Word
-        requires number { number < length self.now }
-        requires slot { slot < length words.now }
-        requires last { IsArrival last.old to first }
-        requires cell { IsLawful (length words.now) first (slice_index_or self.now number Told) }
-        requires window { HasWindow to first }
-        ensures last { IsArrival last.new to first }
-        ensures below { (place : ℕ) → place < first → level_at_place result place ≡ levels_of words.now slot place }
-        ensures made { IsMade (levels_of words.now) (level_at_place result) to first
-            (slice_index_or self.now number Told) }
-        ensures told { is_made (slice_index_or self.now number Told) ≡ false
-            → (place : ℕ) → level_at_place result place ≡ levels_of words.now slot place }
-    {
-        if let Rule::Double(kind, pin, other) = self.rules[number] {
-            return spliced(words[slot], double_word(kind, pin, other, words), first);
-        }
-        self.any_word(number, slot, words, last, to, first)
-    }
-
-    // The same, for a cell of any rule.
-    #[cold]
-    #[inline(never)]
-    fn any_word(
         &self,
         number: usize,
         slot: usize,

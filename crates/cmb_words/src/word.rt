@@ -3,7 +3,6 @@
 ghost use Rattle.cmb_words.specs.Bits.{Apart};
 
 use crate::bits::{filled, moved_down};
-use crate::masks::lowest;
 use crate::splice::spliced;
 use cmb_wave::Level;
 
@@ -164,9 +163,6 @@ impl Word {
         ensures changes { ((i : ℕ) → place ≤ i → i < 64 → level_at_place self i ≡ level_at_place self (place - 1))
             → result ≡ true }
     {
-        match lowest(self.changes_from(place)) {
-            Some(_place) => false,
-            None => true,
-        }
+        !self.differs_from(self.everywhere(place - 1), place)
     }
 }
