@@ -113,8 +113,8 @@ fn table_of(
 }
 
 /// How active some nets of a design's run are, as a table of comma-separated values with the header
-/// `net,changes,low,high,unknown`: for each of these nets, in their order, how often it changes after tick 0, and at how
-/// many ticks it is 0, 1 and x. Errors: memory was refused.
+/// `net,changes,low,high,unknown`: for each of these nets, in their order, how often it changes after tick 0, and at
+/// how many ticks it is 0, 1 and x. Errors: memory was refused.
 pub fn activity_text(alloc: Global, design: &Design, nets: &[u32]) -> Result<Vec<u8>, AllocError>
     requires { All (λ net. net < nets_of design.now) nets.now }
     ensures { IfOk result (λ text. text.items ≡ activity_table design.now nets.now) }

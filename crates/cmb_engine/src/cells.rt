@@ -5,7 +5,8 @@ ghost use Rattle.std.specs.Prelude.{MatchOption, length, map, replicate, slice_i
 ghost use Rattle.cmb_words.specs.Word.{level_at_place};
 ghost use Rattle.cmb_engine.specs.Inner.Arrivals.{IsArrival};
 ghost use Rattle.cmb_engine.specs.Inner.Cells.{Told, Gate, Flop};
-ghost use Rattle.cmb_engine.specs.Inner.Cells.{cell_at, is_flop, is_gate, is_made, pins_of as pins_of_cell, reads, AreBelow};
+ghost use Rattle.cmb_engine.specs.Inner.Cells.{cell_at, is_flop, is_gate, is_made, pins_of as pins_of_cell, reads};
+ghost use Rattle.cmb_engine.specs.Inner.Cells.{AreBelow};
 ghost use Rattle.cmb_engine.specs.Inner.Cells.{IsListed, IsMade, IsLawful};
 ghost use Rattle.cmb_engine.specs.Inner.Tables.{IsInside, cell_of};
 ghost use Rattle.cmb_engine.specs.Inner.Windows.{HasWindow};
@@ -179,8 +180,8 @@ impl Cells {
         }
     }
 
-    /// Whether a slot's word waits for no other slot of its window: it is told, or that of a flip-flop whose clock has such
-    /// a period at least.
+    /// Whether a slot's word waits for no other slot of its window: it is told, or that of a flip-flop whose clock has
+    /// such a period at least.
     pub(crate) fn is_source(&self, slot: usize, shortest: u32) -> bool
         requires { slot < length self.now }
     {
@@ -255,7 +256,8 @@ impl Cells {
         Ok(Cells { rules, pins })
     }
 
-    /// What a cell, given by its number, makes of the words from a place on, with what stands below it in a slot's word.
+    /// What a cell, given by its number, makes of the words from a place on, with what stands below it in a slot's
+    /// word.
     #[inline]
     pub(crate) fn word(
         &self,

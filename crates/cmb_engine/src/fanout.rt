@@ -9,8 +9,8 @@ use crate::order::{Order, order_of};
 use crate::readers::{Readers, flop_readers, gate_readers};
 use std::alloc::{AllocError, Global};
 
-/// In which order slots are visited, the cells in this order, so that those that are visited one after another stand side
-/// by side, and for each slot the ranks of the gates and those of the flip-flops that read it.
+/// In which order slots are visited, the cells in this order, so that those that are visited one after another stand
+/// side by side, and for each slot the ranks of the gates and those of the flip-flops that read it.
 #[derive(Drop)]
 pub(crate) struct Fanout {
     pub order: Order,

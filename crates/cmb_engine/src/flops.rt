@@ -127,7 +127,8 @@ fn mark_flops(
     requires first { first < 64 }
     ensures room { length marks.new ≡ length marks.old }
     ensures kept { (m : ℕ) → has marks.old m ≡ true → has marks.new m ≡ true }
-    ensures marked { All (IsMarkedOrRests (is_marked order.now marks.new) (levels_of words.now) first cells.now) flops.now }
+    ensures marked { All (IsMarkedOrRests (is_marked order.now marks.new) (levels_of words.now) first cells.now)
+        flops.now }
 {
     for slot in flops {
         let slot = *slot as usize;

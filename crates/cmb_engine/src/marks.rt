@@ -96,8 +96,9 @@ impl Marks {
         }
     }
 
-    /// Takes out those marks of one word of one level that a walk hasn't passed, of the first such word and level with marks.
-    /// The walk then has passed the level's numbers in the word. `levels` has the numbers with which a level begins.
+    /// Takes out those marks of one word of one level that a walk hasn't passed, of the first such word and level with
+    /// marks. The walk then has passed the level's numbers in the word. `levels` has the numbers with which a level
+    /// begins.
     #[inline]
     pub(crate) fn take(&mut self, walk: &mut Walk, levels: &Bits) -> Option<Batch>
         ensures { MatchOption result

@@ -165,7 +165,8 @@ impl Order {
         Ok(())
     }
 
-    // Gives ranks by levels, in the order of the slots that have ranks: to each slot once all that it reads have theirs.
+    // Gives ranks by levels, in the order of the slots that have ranks: to each slot once all that it reads have
+    // theirs.
     fn place_readers(
         &mut self,
         waits: &mut [u32],

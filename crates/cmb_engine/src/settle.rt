@@ -1,13 +1,15 @@
 //! Visits of nets with news.
 
-ghost use Rattle.std.specs.Prelude.{◌≡◌, ◌≢◌, ℕ, ◌+◌, ◌*◌, ◌<◌, ◌≤◌, ◌||◌, true, List, [], All, length, map, slice_index};
+ghost use Rattle.std.specs.Prelude.{◌≡◌, ◌≢◌, ℕ, ◌+◌, ◌*◌, ◌<◌, ◌≤◌, ◌||◌, true, List, [], All, length, map};
+ghost use Rattle.std.specs.Prelude.{slice_index};
 ghost use Rattle.std.specs.Prelude.{slice_index_or, slice_set};
 ghost use Rattle.cmb_wave.specs.declared.level.Level.{Level};
 ghost use Rattle.cmb_engine.specs.Inner.Arrivals.{IsArrival};
 ghost use Rattle.cmb_engine.specs.Inner.Bits.{has};
 ghost use Rattle.cmb_words.specs.Bits.{is_set_at};
 ghost use Rattle.cmb_engine.specs.Inner.Batches.{Makes, Passes};
-ghost use Rattle.cmb_engine.specs.Inner.Cells.{Cell, cell_at, AreBelow, AreMarked, AreSettled, IsLawful, IsReady, IsTrueBelow};
+ghost use Rattle.cmb_engine.specs.Inner.Cells.{Cell, cell_at, AreBelow, AreMarked, AreSettled, IsLawful, IsReady};
+ghost use Rattle.cmb_engine.specs.Inner.Cells.{IsTrueBelow};
 ghost use Rattle.cmb_engine.specs.Inner.Orders.{is_marked, IsOrder};
 ghost use Rattle.cmb_engine.specs.Inner.Sweeps.{CanSweep, Sweeps};
 ghost use Rattle.cmb_engine.specs.Inner.Windows.{HasWindow};
@@ -84,7 +86,8 @@ fn make_words(
     requires ranked { length order.now.ranks ≡ length words.old }
     requires ordered { IsOrder order.now }
     requires nodes { length nodes.now ≡ length order.now.slots }
-    requires lawful { (rank : ℕ) → rank < length nodes.now → IsLawful (length words.old) first (cell_at nodes.now rank) }
+    requires lawful { (rank : ℕ) → rank < length nodes.now
+        → IsLawful (length words.old) first (cell_at nodes.now rank) }
     requires window { HasWindow to first }
     ensures len { length words.new ≡ length words.old }
     ensures last { IsArrival last.new to first }
@@ -140,8 +143,8 @@ fn pass_on(fanout: &Fanout, news: Batch, opened: bool, live: &mut Marks, marks: 
     }
 }
 
-/// Visits the marked slots by rising rank, each once: those of one level in a word of marks are made, and then what reads
-/// them is marked.
+/// Visits the marked slots by rising rank, each once: those of one level in a word of marks are made, and then what
+/// reads them is marked.
 pub(crate) fn sweep(
     wiring: &Wiring,
     opened: bool,
@@ -153,13 +156,15 @@ pub(crate) fn sweep(
 )
     requires { CanSweep wiring.now.cells wiring.now.fanout.order wiring.now.fanout.nodes wiring.now.fanout.gates
         wiring.now.fanout.flops opened (length words.old) marks.old live.old to first }
-    ensures sweeps { Sweeps (cell_at wiring.now.cells) wiring.now.fanout.order to first (levels_of words.old) (levels_of words.new)
+    ensures sweeps { Sweeps (cell_at wiring.now.cells) wiring.now.fanout.order to first (levels_of words.old)
+        (levels_of words.new)
         marks.old marks.new live.old live.new }
 
     // What the sweep passes becomes true one place further.
     ensures truer { (truth : ℕ → ℕ → Level) (upto : ℕ) → first ≤ upto → upto < 64
         → IsReady (levels_of words.old) truth (cell_at wiring.now.cells) to first
-        → AreSettled (levels_of words.old) (is_marked wiring.now.fanout.order marks.old) (cell_at wiring.now.cells) to first
+        → AreSettled (levels_of words.old) (is_marked wiring.now.fanout.order marks.old)
+        (cell_at wiring.now.cells) to first
         → IsTrueBelow (levels_of words.old) truth (cell_at wiring.now.cells) upto
         → IsTrueBelow (levels_of words.new) truth (cell_at wiring.now.cells) (upto + 1) }
 {
@@ -196,11 +201,13 @@ pub(crate) fn settle(
 )
     requires { CanSweep wiring.now.cells wiring.now.fanout.order wiring.now.fanout.nodes wiring.now.fanout.gates
         wiring.now.fanout.flops opened (length words.old) marks.old live.old to first }
-    ensures sweeps { Sweeps (cell_at wiring.now.cells) wiring.now.fanout.order to first (levels_of words.old) (levels_of words.new)
+    ensures sweeps { Sweeps (cell_at wiring.now.cells) wiring.now.fanout.order to first (levels_of words.old)
+        (levels_of words.new)
         marks.old marks.new live.old live.new }
     ensures exact { (truth : ℕ → ℕ → Level)
         → IsReady (levels_of words.old) truth (cell_at wiring.now.cells) to first
-        → AreSettled (levels_of words.old) (is_marked wiring.now.fanout.order marks.old) (cell_at wiring.now.cells) to first
+        → AreSettled (levels_of words.old) (is_marked wiring.now.fanout.order marks.old)
+        (cell_at wiring.now.cells) to first
         → IsTrueBelow (levels_of words.old) truth (cell_at wiring.now.cells) first
         → IsTrueBelow (levels_of words.new) truth (cell_at wiring.now.cells) 64 }
 {

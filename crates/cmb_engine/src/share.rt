@@ -157,8 +157,9 @@ impl<'d> ShareEngine<'d> {
         self.state.clock
     }
 
-    /// Tells ahead which of the flip-flops in question change in the window from the clock up to the tick `upto`, before
-    /// it is made. `told` gets them in no order, each with its levels up to the window's end, in place of what it had.
+    /// Tells ahead which of the flip-flops in question change in the window from the clock up to the tick `upto`,
+    /// before it is made. `told` gets them in no order, each with its levels up to the window's end, in place of what
+    /// it had.
     ///
     /// Work is by the flip-flops that get a sample in the window. Errors: memory was refused.
     pub fn tell_ahead(&self, upto: u32, told: &mut Vec<Changed>) -> Result<(), AllocError>

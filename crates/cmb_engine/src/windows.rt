@@ -132,7 +132,8 @@ fn ending(alloc: Global, paces: &[Pace], width: u32) -> Result<Vec<Pace>, AllocE
 // The pace of a crossing flip-flop. Of each other net there is none.
 fn crossing_pace(design: &Design, crossing: &[bool], net: usize) -> Option<Pace>
     requires { net < nets_of design.now }
-    ensures { MatchOption result (IsCrossing design.now crossing.now net → ⊥) (λ pace. IsPaced pace × (pace ≡ pace_of design.now net)) }
+    ensures { MatchOption result (IsCrossing design.now crossing.now net → ⊥)
+        (λ pace. IsPaced pace × (pace ≡ pace_of design.now net)) }
 {
     match design.netlist().driver(net) {
         Driver::Flop(_) if is_marked(crossing, net) => Some(Pace::of(design, net)),
@@ -215,9 +216,10 @@ impl Windows {
         })
     }
 
-    /// The same for shares that tell one another crossing flip-flops: a window ends, at the latest, at the first arrival
-    /// of a crossing flip-flop's sample that was taken in it. None where a crossing flip-flop's delay isn't shorter than
-    /// a window may be, where they have too many clocks and delays, or where windows would be a few ticks long.
+    /// The same for shares that tell one another crossing flip-flops: a window ends, at the latest, at the first
+    /// arrival of a crossing flip-flop's sample that was taken in it. None where a crossing flip-flop's delay isn't
+    /// shorter than a window may be, where they have too many clocks and delays, or where windows would be a few ticks
+    /// long.
     pub fn between(
         alloc: Global,
         design: &Design,

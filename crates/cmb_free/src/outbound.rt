@@ -79,7 +79,8 @@ fn put_net<T: Terms, R: Wait>(
     ensures waits { MayWait end.new waiting.new }
     ensures outlet { IsOutlet T.design.horizon (due end.new waiting.new) outlet.new }
     ensures further { IsFurther end.old (due end.new waiting.new) }
-    ensures goes { OutGoes T.design T.clustering cluster.now (outbound end.old waiting.old) (outbound end.new waiting.new) }
+    ensures goes { OutGoes T.design T.clustering cluster.now (outbound end.old waiting.old)
+        (outbound end.new waiting.new) }
 {
     match outlet.cut(cluster, takes_empty)? {
         Some(posted) => Ok(put_or_keep(rt, end, waiting, posted)),

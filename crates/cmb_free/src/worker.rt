@@ -58,7 +58,8 @@ fn take_each<T: Terms, R: Wait>(
     ensures fed { OnOk result (All (IsFedBy cluster.new) ends.new) }
     ensures later { OnOk result (IsLater cluster.old cluster.new) }
     ensures goes { OnOk result ((outs : List Outbound) (seat : View)
-        → Goes T.design T.clustering (working cluster.old ends.old outs seat) (working cluster.new ends.new outs seat)) }
+        → Goes T.design T.clustering (working cluster.old ends.old outs seat)
+        (working cluster.new ends.new outs seat)) }
 {
     let mut found = false;
     for end in ends.iter_mut() {
@@ -125,8 +126,8 @@ fn publish_each<T: Terms>(desk: &mut Desk<T>, own: &mut [Own<T>], cluster: &Exac
     }
 }
 
-/// A worker before and between its turns. Contracts see its cluster, what went through each of its links, and what its seat
-/// knows of the board.
+/// A worker before and between its turns. Contracts see its cluster, what went through each of its links, and what its
+/// seat knows of the board.
 #[derive(Drop)]
 pub struct Worker<T: Terms> {
     desk: Desk<T>,
@@ -339,8 +340,8 @@ impl<T: Terms> Worker<T> {
         }
     }
 
-    // Steps the cluster where that may bring a net on. Says whether it did. Where nothing goes on, a further step is of no
-    // use before something is taken or heard.
+    // Steps the cluster where that may bring a net on. Says whether it did. Where nothing goes on, a further step is of
+    // no use before something is taken or heard.
     fn step(&mut self) -> Result<bool, AllocError>
         ensures { MatchResult result (λ _. Goes T.design T.clustering self.old self.new)
             (λ _. IsCutShort T.design T.clustering self.old self.new) }
@@ -353,8 +354,8 @@ impl<T: Terms> Worker<T> {
         Ok(true)
     }
 
-    // Takes what the links hold, and gives it to the cluster. Where memory is refused a piece is lost, and the worker takes
-    // nothing more.
+    // Takes what the links hold, and gives it to the cluster. Where memory is refused a piece is lost, and the worker
+    // takes nothing more.
     fn take_all<R: Wait>(&mut self, rt: &R) -> Result<(), AllocError>
         ensures { MatchResult result (λ _. Goes T.design T.clustering self.old self.new)
             (λ _. IsCutShort T.design T.clustering self.old self.new) }
@@ -385,8 +386,8 @@ impl<T: Terms> Worker<T> {
         put_each(rt, &mut self.outs, &self.cluster, self.is_new)
     }
 
-    // Once a step brought a net on, tells the board how far the nets that others read are known, until that is up to the
-    // horizon.
+    // Once a step brought a net on, tells the board how far the nets that others read are known, until that is up to
+    // the horizon.
     fn publish_all(&mut self, stepped: bool)
         ensures { Goes T.design T.clustering self.old self.new }
     {

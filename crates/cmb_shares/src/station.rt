@@ -39,8 +39,8 @@ impl<'a, T: Terms> Model for Feed<'a, T> {
     ghost invariant = { λ feed. (feed.outlet.reader ≡ feed.reader) × LeadsTo T.run feed.outlet feed.driven.now };
 }
 
-/// A share's engine, the channels by which others tell it of their nets and it tells them of its own, and the channel to
-/// the text, from which room comes back.
+/// A share's engine, the channels by which others tell it of their nets and it tells them of its own, and the channel
+/// to the text, from which room comes back.
 #[derive(Drop)]
 pub struct Station<'a, T: Terms> {
     pub alloc: Global,
@@ -62,7 +62,8 @@ impl<'a, T: Terms> Model for Station<'a, T> {
       senders = senders_of station.inlets.items;
     } };
 
-    ghost invariant = { λ station. IsStation T.run station.simulator station.inlets.items station.feeds.items station.text };
+    ghost invariant = { λ station. IsStation T.run station.simulator station.inlets.items
+        station.feeds.items station.text };
 }
 
 impl<'a, T: Terms> Feed<'a, T> {

@@ -1,6 +1,7 @@
 //! The logical processes of a run as it begins, and the channels among them.
 
-ghost use Rattle.std.specs.Prelude.{◌≡◌, ◌≢◌, ℕ, ◌+◌, ◌<◌, ◌≤◌, ◌++◌, ◌∷◌, [], ◌^◌, Contains, length, map, slice_index_or, false, true, IfOk, OnOk};
+ghost use Rattle.std.specs.Prelude.{◌≡◌, ◌≢◌, ℕ, ◌+◌, ◌<◌, ◌≤◌, ◌++◌, ◌∷◌, [], ◌^◌, Contains, length, map};
+ghost use Rattle.std.specs.Prelude.{slice_index_or, false, true, IfOk, OnOk};
 ghost use Rattle.cmb_shares.specs.Inner.Channels.{greeting};
 ghost use Rattle.cmb_shares.specs.Inner.Flows.{AreSources};
 ghost use Rattle.cmb_shares.specs.Inner.Opened.{AreCovered, AreOpened, AreStations, IsEngineOf};
@@ -19,7 +20,8 @@ use cmb_partition::Partition;
 use rtrb::RingBuffer;
 use std::alloc::{AllocError, Global};
 
-// How many messages a channel between shares holds: one more would never be needed, since no share is two windows ahead.
+// How many messages a channel between shares holds: one more would never be needed, since no share is two windows
+// ahead.
 const ROOM: usize = 2;
 
 // How many windows a share may be ahead of the text: an estimate.

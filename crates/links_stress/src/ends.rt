@@ -42,8 +42,8 @@ impl<'a> Out<'a> {
         }
     }
 
-    /// Puts an exact piece of the net, or gives it back where the link was full. One of another net, or behind a gap, is
-    /// given back too.
+    /// Puts an exact piece of the net, or gives it back where the link was full. One of another net, or behind a gap,
+    /// is given back too.
     pub fn put<R: Wait>(&mut self, rt: &R, piece: Piece) -> Result<(), Full>
         requires { IsExactIn self.old.pass.design piece }
         ensures back { IfErr result (λ full. IsExactIn self.old.pass.design full.0) }

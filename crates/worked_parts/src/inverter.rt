@@ -2,7 +2,8 @@
 //!
 //! The input `a` is 0, and 1 from tick 5 on. The inverter's delay is one tick, so its output `y` is x at tick 0, 1 from
 //! tick 1 on and 0 from tick 6 on. The engine goes from tick 1 to the horizon, tick 10, in one window, or in three that
-//! end where they are told to. Where a window ends at tick 10, tick 9 stands at place 63 of a word and tick 0 at place 54.
+//! end where they are told to. Where a window ends at tick 10, tick 9 stands at place 63 of a word and tick 0 at place
+//! 54.
 
 ghost use Rattle.std.specs.Prelude.{◌≡◌, ◌≤◌, IfOk, IfSome};
 ghost use Rattle.cmb_design.specs.Exact.{nets_of};

@@ -1,5 +1,6 @@
 //! Worked examples of what the engine of words and its runs are made of, as tests: words, calendars, components and
-//! sharings, partitions, parts of a design, shares of its nets, dumps, the text of chosen nets, and how active nets are.
+//! sharings, partitions, parts of a design, shares of its nets, dumps, the text of chosen nets, and how active nets
+//! are.
 #![tactic(auto)]
 
 #[cfg(test)]
