@@ -4,8 +4,8 @@ ghost use Rattle.std.specs.Prelude.{◌≡◌, ◌<◌, IfOk, IfSome, IsFalse, I
 ghost use Rattle.cmb_shares.specs.Inner.Channels.{Follows, greeting};
 
 use crate::message::{Envelope, InOrder, Message};
-use crate::ring::{handed, taken};
 use crate::terms::Terms;
+use cmb_idle::{handed, taken};
 use rtrb::{Consumer, Producer, RingBuffer};
 use std::alloc::{AllocError, Global};
 use std::marker::Model;

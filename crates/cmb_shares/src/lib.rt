@@ -8,7 +8,6 @@ mod flow;
 mod merge;
 mod message;
 pub mod opening;
-mod ring;
 mod simulator;
 mod station;
 mod stations;

@@ -12,12 +12,12 @@ ghost use Rattle.cmb_vcd.specs.Chosen.{vcd_of};
 ghost use Rattle.cmb_vcd.specs.Vcd.{vcd};
 
 use crate::modes::{check_mode, threads_in};
-use crate::tuning::{sharing_that_pays, workers_pay};
-use cmb_cut::Sharing;
+use crate::tuning::{partition_that_pays, workers_pay};
 use cmb_design::Design;
 use cmb_inout::Fault;
 use cmb_inputs::chosen_nets;
 use cmb_line::{Choice, Mode, Request};
+use cmb_partition::Partition;
 use std::alloc::{AllocError, Global};
 
 /// How a text is made.
@@ -31,8 +31,9 @@ pub enum Way {
     Chosen(Vec<u32>),
     /// By the engine, and by so many threads at most.
     Engine(u32),
-    /// By a thread for each share of the nets.
-    Shares(Sharing),
+    /// By a thread for each share of the nets and one that makes the text; by the engine, and by so many threads at most,
+    /// where the shares have no windows alike.
+    Shares { partition: Partition, threads: u32 },
     /// By workers with clusters of their own, in rounds.
     Rounds { workers: u32, clusters: u32 },
     /// By workers that run freely.
@@ -51,8 +52,8 @@ pub struct Plan {
 fn engine_way(alloc: Global, design: &Design, threads: u32) -> Result<Way, AllocError>
     ensures { IfOk result (IsWayTo design.now (vcd design.now) ⊥) }
 {
-    match sharing_that_pays(alloc, design, threads)? {
-        Some(sharing) => Ok(Way::Shares(sharing)),
+    match partition_that_pays(alloc, design, threads)? {
+        Some(partition) => Ok(Way::Shares { partition, threads }),
         None => Ok(Way::Engine(threads)),
     }
 }
@@ -99,7 +100,7 @@ fn is_held(mode: Mode, way: &Way) -> bool
 {
     match (mode, way) {
         (Mode::Free { .. }, _) => false,
-        (_, Way::Engine(_) | Way::Shares(_) | Way::Free { .. }) => true,
+        (_, Way::Engine(_) | Way::Shares { .. } | Way::Free { .. }) => true,
         _ => false,
     }
 }

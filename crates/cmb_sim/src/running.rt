@@ -6,6 +6,7 @@ ghost use Rattle.cmb_design.specs.Exact.{nets_of};
 ghost use Rattle.cmb_dump.specs.Excerpts.{AreAmong};
 ghost use Rattle.cmb_inputs.specs.Outputs.{written_to};
 ghost use Rattle.cmb_line.specs.Modes.{IsLawfulCount};
+ghost use Rattle.cmb_partition.specs.Partitions.{IsPartition};
 ghost use Rattle.cmb_line.specs.declared.mode.Mode.TheVariants.{Plain};
 ghost use Rattle.cmb_sim.specs.Inner.Plans.{CanMake, IsPut, MayBreak, PlanMayBreak, way_text};
 ghost use Rattle.cmb_sim.specs.Simulation.{mode_checks};
@@ -21,8 +22,9 @@ use cmb_free::{OpenGate, run_free_text};
 use cmb_inout::Fault;
 use cmb_inputs::write_text;
 use cmb_links::Workers;
-use cmb_pipeline::write_pipeline;
+use cmb_partition::Partition;
 use cmb_rounds::run_rounds;
+use cmb_shares::{Shares, write_shares};
 use cmb_team::write_team;
 use cmb_vcd::{Collector, Room, Sink, vcd_text, vcd_text_of};
 use std::alloc::{AllocError, Global};
@@ -135,6 +137,27 @@ fn put<O: Sink>(out: &mut O, made: Result<Vec<u8>, AllocError>) -> Result<u64, F
     Ok(text.len() as u64)
 }
 
+// Writes the text of a design by a thread for each share of its nets, or by a team where the shares have no windows
+// alike, and gives the text's length.
+fn write_by_shares<R: AllocGlobal + Threads + Wait + Sync, O: Sink>(
+    rt: &R,
+    partition: &Partition,
+    threads: u32,
+    design: &Design,
+    out: &mut O,
+) -> Result<u64, Fault>
+    requires partition { IsPartition design.now.netlist partition.now }
+    requires out { O.failures out.old < 2 ^ 64 - 1 }
+    ensures { IsPut (vcd design.now) (MayBreak (Way.Shares partition.now threads) design.now)
+        (written_to O.Sink out.old out.new) result }
+{
+    let alloc = rt.alloc();
+    match Shares::open(rt, alloc, design, partition)? {
+        Some(shares) => Ok(write_shares(rt, alloc, shares, out)?),
+        None => Ok(write_team(rt, alloc, design, threads, out)?),
+    }
+}
+
 // Writes the text of a design in a way that can make it, and gives its length.
 fn write_by<R: AllocGlobal + Threads + Wait + Sync, O: Sink>(
     rt: &R,
@@ -153,7 +176,7 @@ fn write_by<R: AllocGlobal + Threads + Wait + Sync, O: Sink>(
         Way::Picked(nets) => put(out, picked_text(alloc, design, nets)),
         Way::Chosen(nets) => put(out, chosen_text(alloc, design, nets)),
         Way::Engine(threads) => Ok(write_team(rt, alloc, design, *threads, out)?),
-        Way::Shares(sharing) => Ok(write_pipeline(rt, alloc, design, sharing, out)?),
+        Way::Shares { partition, threads } => write_by_shares(rt, partition, *threads, design, out),
         Way::Rounds { workers, clusters } => put(out, rounds_text(rt, *workers, *clusters, design)),
         Way::Free { workers, clusters } => write_by_workers(rt, *workers, *clusters, design, out),
     }

@@ -1,11 +1,11 @@
 //! The thresholds by which a run is planned: each is an estimate, and none changes a text.
 
 ghost use Rattle.std.specs.Prelude.{◌≡◌, ◌≤◌, ◌<◌, true, IfOk, IfSome};
-ghost use Rattle.cmb_cut.specs.Sharings.{IsSharing};
+ghost use Rattle.cmb_partition.specs.Partitions.{IsPartition};
 
-use cmb_cut::{LEAST_NETS, Sharing, pays, share_out};
 use cmb_design::Design;
 use cmb_netlist::Driver;
+use cmb_partition::{Partition, load, partition, total};
 use std::alloc::{AllocError, Global};
 
 // Net and tick pairs up to which several workers run as they are asked to. Above it, what they hand to one another
@@ -19,8 +19,8 @@ const LEAST_THREADS: u32 = 3;
 // many batches go through the shares.
 const LEAST_SAMPLES: u64 = 262_144;
 
-// The most shares: what all have made of a batch goes through each of them.
-const MOST_SHARES: u32 = 7;
+// So many nets a netlist has at least, where shares pay.
+const LEAST_NETS: usize = 2_048;
 
 /// Whether several workers have the nets of a design. Else the engine carries all of them: where one worker has them,
 /// and where several wouldn't pay.
@@ -50,22 +50,33 @@ fn is_long(design: &Design) -> bool {
     design.netlist().len() >= LEAST_NETS && samples_of(design) >= LEAST_SAMPLES
 }
 
+// Whether each share leaves a fourth of what there is to do to the others.
+fn is_even(design: &Design, partition: &Partition) -> bool
+    requires { IsPartition design.now.netlist partition.now }
+{
+    let netlist = design.netlist();
+    let all = total(netlist);
+    let most = all - all / 4;
+    partition
+        .shares
+        .iter()
+        .all(|share| load(netlist, share) <= most)
+}
+
 /// The shares of a design's nets, where a thread for each pays beside the one that makes the text. Errors: memory was
 /// refused.
-pub(crate) fn sharing_that_pays(
+pub(crate) fn partition_that_pays(
     alloc: Global,
     design: &Design,
     threads: u32,
-) -> Result<Option<Sharing>, AllocError>
-    ensures { IfOk result (λ found. IfSome found (λ sharing. IsSharing design.now.netlist sharing)) }
+) -> Result<Option<Partition>, AllocError>
+    ensures { IfOk result (λ found. IfSome found (IsPartition design.now.netlist)) }
 {
     if threads < LEAST_THREADS || !is_long(design) {
         return Ok(None);
     }
-    let sharing = share_out(alloc, design.netlist(), (threads - 1).min(MOST_SHARES))?;
-    if pays(&sharing) {
-        Ok(Some(sharing))
-    } else {
-        Ok(None)
+    match partition(alloc, design.netlist(), threads - 1)? {
+        Some(partition) if is_even(design, &partition) => Ok(Some(partition)),
+        _ => Ok(None),
     }
 }

@@ -28,6 +28,8 @@ mod parts;
 #[cfg(test)]
 mod pipeline;
 #[cfg(test)]
+mod shares;
+#[cfg(test)]
 mod sharings;
 #[cfg(test)]
 mod texts;

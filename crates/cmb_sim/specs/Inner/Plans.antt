@@ -1,6 +1,5 @@
 -- What is planned for what is asked for, and what comes of writing a text.
 use Rattle.std.specs.Prelude.{◌≡◌, ℕ, ◌<◌, ◌⊎◌, List, length, true, false, None, Result, IfErr, IfOk, OnOk, ⊤}
-use Rattle.cmb_cut.specs.Sharings.{IsSharing}
 use Rattle.cmb_design.specs.Checks.{first_fault}
 use Rattle.cmb_design.specs.Design.{Design}
 use Rattle.cmb_design.specs.Exact.{nets_of}
@@ -8,6 +7,7 @@ use Rattle.cmb_dump.specs.Excerpts.{AreAmong}
 use Rattle.cmb_vcd.specs.Chosen.{vcd_of}
 use Rattle.cmb_vcd.specs.Vcd.{vcd}
 use Rattle.cmb_line.specs.Modes.{IsLawfulCount}
+use Rattle.cmb_partition.specs.Partitions.{IsPartition}
 use Rattle.cmb_line.specs.declared.line.Request.{Request}
 use Rattle.cmb_line.specs.declared.mode.Mode.TheVariants.{Plain}
 use Rattle.cmb_inputs.specs.Outputs.{HasTaken, IsUntouched, Output}
@@ -30,7 +30,7 @@ CanMake Table design = first_fault (mode_checks Plain design) ≡ None
 CanMake (Picked nets) design = (first_fault (mode_checks Plain design) ≡ None) × AreAmong (nets_of design) nets.items
 CanMake (Chosen nets) design = AreAmong (nets_of design) nets.items
 CanMake (Engine threads) design = ⊤
-CanMake (Shares sharing) design = IsSharing design.netlist sharing
+CanMake (Shares partition threads) design = IsPartition design.netlist partition
 CanMake (Rounds workers clusters) design = IsLawfulCount workers × IsLawfulCount clusters
 CanMake (Free workers clusters) design = IsLawfulCount workers × IsLawfulCount clusters
 
@@ -46,7 +46,7 @@ Streams Table = ⊥
 Streams (Picked nets) = ⊥
 Streams (Chosen nets) = ⊥
 Streams (Engine threads) = ⊤
-Streams (Shares sharing) = ⊤
+Streams (Shares partition threads) = ⊤
 Streams (Rounds workers clusters) = ⊥
 Streams (Free workers clusters) = ⊤
 

@@ -1,0 +1,178 @@
+//! The text of a design whose nets are partitioned among logical processes, which read each other's flip-flops.
+
+ghost use Rattle.std.specs.Prelude.{IfOk, IfSome};
+ghost use Rattle.cmb_partition.specs.Partitions.{IsPartition};
+
+use crate::checks::holds;
+use cmb_design::{Design, Settings};
+use cmb_partition::{Partition, partition};
+use cmb_shares::{Shares, write_shares};
+use cmb_stream::{StreamFault, write_stream};
+use cmb_vcd::{Limited, Room};
+use cmb_wave::Level;
+use std::alloc::{AllocError, Global};
+use std::sync::Wait;
+use std::test::Fail;
+use std::thread::Threads;
+use worked_inputs::{Inputs, design_of, text_of};
+
+/// The nets `a`, `m` and `b`, by their numbers: two flip-flops, of which each samples the other one, and one of them its
+/// inverse, at ticks 10, 30, 50, 70 and 90 (a Johnson counter of two bits).
+fn counter(alloc: Global, delays: &[u8], horizon: u32) -> Result<Design, Fail> {
+    let inputs = Inputs {
+        netlist: b"OUTPUT(b)\na = DFF(m)\nm = NOT(b)\nb = DFF(a)\n",
+        delays,
+        stimuli: b"",
+        clocks: b"",
+    };
+    let settings = Settings {
+        horizon,
+        clock: Some((10, 20)),
+        init: Level::Zero,
+    };
+    design_of(alloc, inputs, settings)
+}
+
+/// Of the counter up to tick 100. A flip-flop shows a level a tick after it sampled it, and the inverter a tick after
+/// its operand.
+const LINES: &str = "#0 0! x\" 0# #1 1\" #11 1! #31 1# #32 0\" #51 0! #71 0# #72 1\" #91 1! #100";
+
+/// The same up to tick 1, so without any window.
+const NO_WINDOW: &str = "#0 0! x\" 0# #1";
+
+/// Whether a sink with this much room takes just these bytes from the shares' threads, and they answer so.
+fn takes<R: Threads + Wait + Sync>(
+    rt: &R,
+    alloc: Global,
+    shares: Shares<'_>,
+    room: usize,
+    bytes: &[u8],
+    answer: Result<u64, StreamFault>,
+) -> bool {
+    let mut sink = Limited::new(alloc, room);
+    let found = write_shares(rt, alloc, shares, &mut sink);
+    found == answer && sink.bytes.as_slice() == bytes
+}
+
+/// The same of shares that are opened for it.
+fn opens_and_takes<R: Threads + Wait + Sync>(
+    rt: &R,
+    alloc: Global,
+    design: &Design,
+    partition: &Partition,
+    room: usize,
+    bytes: &[u8],
+    answer: Result<u64, StreamFault>,
+) -> Result<bool, Fail>
+    requires { IsPartition design.now.netlist partition.now }
+{
+    match Shares::open(rt, alloc, design, partition)? {
+        Some(shares) => Ok(takes(rt, alloc, shares, room, bytes, answer)),
+        None => Ok(false),
+    }
+}
+
+/// Whether the shares of a partition write this text, and a sink that fails after 17 bytes took the first 17 of it.
+fn is_text<R: Threads + Wait + Sync>(
+    rt: &R,
+    alloc: Global,
+    design: &Design,
+    partition: &Partition,
+    text: &[u8],
+) -> Result<bool, Fail>
+    requires { IsPartition design.now.netlist partition.now }
+{
+    let written = text.len() as u64;
+    let begun = &text[..text.len().min(17)];
+    let broken_off = Err(StreamFault::Write { written: 17 });
+    Ok(
+        opens_and_takes(rt, alloc, design, partition, 100_000, text, Ok(written))?
+            && opens_and_takes(rt, alloc, design, partition, 17, begun, broken_off)?,
+    )
+}
+
+/// The partition of a design's nets into two shares.
+fn halves(alloc: Global, design: &Design) -> Result<Option<Partition>, AllocError>
+    ensures { IfOk result (λ found. IfSome found (IsPartition design.now.netlist)) }
+{
+    partition(alloc, design.netlist(), 2)
+}
+
+/// Whether two shares of the counter make the text of these lines.
+fn are_lines<R: Threads + Wait + Sync>(
+    rt: &R,
+    alloc: Global,
+    horizon: u32,
+    lines: &str,
+) -> Result<bool, Fail> {
+    let text = text_of(alloc, "a m b", lines)?;
+    let design = counter(alloc, b"", horizon)?;
+    match halves(alloc, &design)? {
+        Some(partition) => is_text(rt, alloc, &design, &partition, text.as_bytes()),
+        None => Ok(false),
+    }
+}
+
+#[test]
+fn two_shares(rt: HostRuntime) -> Result<(), Fail> {
+    holds(&rt, are_lines(&rt, rt.alloc(), 100, LINES)?);
+    Ok(())
+}
+
+#[test]
+fn no_window(rt: HostRuntime) -> Result<(), Fail> {
+    holds(&rt, are_lines(&rt, rt.alloc(), 1, NO_WINDOW)?);
+    Ok(())
+}
+
+/// The text that one engine makes of a design.
+fn streamed(alloc: Global, design: &Design) -> Result<Vec<u8>, Fail> {
+    let mut room = Room::new(alloc, 0)?;
+    write_stream(alloc, design, &mut room)?;
+    Ok(room.bytes)
+}
+
+/// Whether two shares of a long run of the counter make the same text as one engine does.
+fn is_as_of_one<R: Threads + Wait + Sync>(rt: &R, alloc: Global) -> Result<bool, Fail> {
+    let design = counter(alloc, b"", 5_000)?;
+    let text = streamed(alloc, &design)?;
+    match halves(alloc, &design)? {
+        Some(partition) => is_text(rt, alloc, &design, &partition, &text),
+        None => Ok(false),
+    }
+}
+
+#[test]
+fn many_windows(rt: HostRuntime) -> Result<(), Fail> {
+    holds(&rt, is_as_of_one(&rt, rt.alloc())?);
+    Ok(())
+}
+
+/// Whether shares of a design can be opened, where its nets can be partitioned.
+fn can_open<R: Threads + Wait + Sync>(
+    rt: &R,
+    alloc: Global,
+    design: &Design,
+) -> Result<bool, Fail> {
+    match halves(alloc, design)? {
+        Some(partition) => Ok(Shares::open(rt, alloc, design, &partition)?.is_some()),
+        None => Ok(false),
+    }
+}
+
+/// Whether shares of the counter can be opened where its flip-flops have these delays.
+fn can_wait<R: Threads + Wait + Sync>(rt: &R, alloc: Global, delays: &[u8]) -> Result<bool, Fail> {
+    let design = counter(alloc, delays, 100)?;
+    can_open(rt, alloc, &design)
+}
+
+// What a flip-flop samples shows after more ticks than a window has.
+#[test]
+fn long_delay(rt: HostRuntime) -> Result<(), Fail> {
+    holds(&rt, can_wait(&rt, rt.alloc(), b"by,name,delay\nnet,a,1\n")?);
+    holds(
+        &rt,
+        !can_wait(&rt, rt.alloc(), b"by,name,delay\nnet,a,200\n")?,
+    );
+    Ok(())
+}
