@@ -1,19 +1,20 @@
 #!/usr/bin/env python3
-"""documents.py: sees that what the documents name is there: the target of each link, and each file and folder in the
-tables of docs/ARCHITECTURE.md that say where to change what. It prints a line for each that isn't, and a last line
-'N passed, M failed'; the status is 0 where nothing failed."""
+"""documents.py: sees that what the documents name is there: the target of each link, each file in the tables of
+docs/ARCHITECTURE.md that say where to change what, and its table of crates. It prints a line for each that isn't, and a
+last line 'N passed, M failed'; the status is 0 where nothing failed."""
 import glob
 import os
 import re
 import sys
 
+import crate_table
 import crates
 
 PAGES = ["*.md", "docs/*.md", "bench/*.md", "examples/*/*.md"]
 LINK = re.compile(r"\]\(([^)\s#]+)")
-ROW = re.compile(r"\| (.*?) \| (.*?) \| (.*?) \| (.*?) ?\|")
+ROW = re.compile(r"\| (.*?) \| (.*?) \| (.*?) ?\|")
 CRATE, SOURCE = re.compile(r"`(cmb\w+)`"), re.compile(r"`([\w/]+\.rt)`")
-FILE, FOLDER = re.compile(r"`((?:Inner/)?[A-Z][A-Za-z]+)`"), re.compile(r"`([a-z_]+/[\w/]*)`")
+FILE = re.compile(r"`((?:Inner/)?[A-Z][A-Za-z]+)`")
 
 
 def links(page):
@@ -32,8 +33,6 @@ def named(row):
         return []
     top = f"{crates.TOP}/crates/{crate[1]}"
     paths = [f"src/{it}" for it in SOURCE.findall(cells[1])] + [f"specs/{it}.antt" for it in FILE.findall(cells[2])]
-    paths += [f"proofs/{it}.antt" for it in FILE.findall(cells[3])]
-    paths += [f"proofs/{it}" for it in FOLDER.findall(cells[3])]
     return [(f"docs/ARCHITECTURE.md: {crate[1]}/{it}", os.path.exists(f"{top}/{it}")) for it in paths]
 
 
@@ -43,6 +42,7 @@ def main():
     with open(f"{crates.TOP}/docs/ARCHITECTURE.md", encoding="utf-8") as file:
         rows = file.read().partition("## Five changes")[2].split("\n")
     found += [it for row in rows if ROW.match(row) for it in named(row)]
+    found += crate_table.checks()
     missing = [name for name, there in found if not there]
     for name in missing:
         print(f"{name} isn't there")
