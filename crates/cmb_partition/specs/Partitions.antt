@@ -1,11 +1,10 @@
 -- The nets of a netlist partitioned among logical processes. A share drives the nets that it owns and, up to flip-flops, those that these
 -- read; so gates may be replicated, and what crosses from one share to another are flip-flops alone (H. Wang and S. Beamer, RepCut:
 -- Superlinear parallel RTL simulation with replication-aided partitioning, ASPLOS 2023).
-use Rattle.std.specs.Prelude.{◌≡◌, ◌⊎◌, ℕ, ◌+◌, ◌<◌, ◌^◌, if◌then◌else◌, true, false, length, map, min, slice_get, slice_index, slice_index_or, sum, Some, IfSome, All}
+use Rattle.std.specs.Prelude.{◌≡◌, ◌⊎◌, ℕ, ◌<◌, ◌^◌, if◌then◌else◌, true, false, List, length, map, slice_get, slice_index, slice_index_or, sum, Some, IfSome, All}
 use Rattle.std.specs.List.{range_with_len}
 use Rattle.cmb_netlist.specs.Netlist.{Netlist, driver_of, pins_of}
-use Rattle.cmb_netlist.specs.declared.netlist.Driver.{Driver}
-use Rattle.cmb_netlist.specs.declared.netlist.Driver.TheVariants.{Input, Gate, Flop}
+use Rattle.cmb_netlist.specs.declared.netlist.Driver.TheVariants.{Flop}
 use Rattle.cmb_partition.specs.declared.shares.Share.{Share}
 use Rattle.cmb_partition.specs.declared.shares.Partition.{Partition}
 
@@ -48,17 +47,10 @@ pub record IsPartition (netlist : Netlist) (partition : Partition) : Type 0 wher
   pub known : (number : ℕ) → number < length partition.shares.items → KnowsAll netlist partition number
   pub sampled : (net : ℕ) → net < length netlist.names → Crosses partition net → IsFlop netlist net
 
--- what it costs to compute a net: an estimate, by its pins
-abbrev pub weight_of : Driver → ℕ
-weight_of Input = 0
-weight_of (Gate kind operands) = 2 + min (length operands) 62
-weight_of (Flop source) = 3
-
--- what it costs to compute the nets that a share drives
-abbrev pub load_of : Netlist → Share → ℕ
-load_of netlist share =
-    sum (map (λ net. if (slice_index_or share.driven.items net false) then (weight_of (driver_of netlist net)) else 0) (range_with_len 0 (length netlist.names)))
+-- what it costs to compute the nets that a share drives, by what each net costs
+abbrev pub load_of : List ℕ → Share → ℕ
+load_of costs share = sum (map (λ net. if (slice_index_or share.driven.items net false) then (slice_index_or costs net 0) else 0) (range_with_len 0 (length costs)))
 
 -- what it costs to compute each net once
-abbrev pub total_of : Netlist → ℕ
-total_of netlist = sum (map (λ net. weight_of (driver_of netlist net)) (range_with_len 0 (length netlist.names)))
+abbrev pub total_of : List ℕ → ℕ
+total_of costs = sum (map (λ net. slice_index_or costs net 0) (range_with_len 0 (length costs)))

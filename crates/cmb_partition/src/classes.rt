@@ -5,9 +5,7 @@ ghost use Rattle.cmb_partition.specs.Inner.Shapes.{AreClasses, AreFamilies};
 
 use crate::families::Families;
 use crate::lists::Lists;
-use crate::loads::weight;
 use crate::marks::Marks;
-use cmb_netlist::Netlist;
 use std::alloc::{AllocError, Global};
 
 /// The classes of a netlist's nets, and those of imports.
@@ -92,13 +90,13 @@ fn all_needed(alloc: Global, families: &Families, most: usize) -> Result<Option<
 }
 
 // Adds the weights of nets to those of their classes: twice what they cost, so that an import weighs half.
-fn add_nets(weights: &mut [u32], netlist: &Netlist, of_nets: &[u32])
-    requires nets { length of_nets.now ≡ length netlist.now.names }
+fn add_nets(weights: &mut [u32], costs: &[u32], of_nets: &[u32])
+    requires nets { length of_nets.now ≡ length costs.now }
     requires below { All (λ class. class < length weights.old) of_nets.now }
 {
-    for net in 0..netlist.len() {
+    for net in 0..costs.len() {
         let class = of_nets[net] as usize;
-        weights[class] = weights[class].saturating_add(2 * weight(netlist.driver(net)));
+        weights[class] = weights[class].saturating_add(costs[net].saturating_mul(2));
     }
 }
 
@@ -109,16 +107,16 @@ fn are_below(numbers: &[u32], bound: usize) -> bool
     numbers.iter().all(|number| (*number as usize) < bound)
 }
 
-/// The classes of a netlist. `None` where it takes more steps than that to find which sinks need them.
+/// The classes of nets that cost so much each. `None` where it takes more steps than that to find which sinks need them.
 pub(crate) fn classes_of(
     alloc: Global,
-    netlist: &Netlist,
+    costs: &[u32],
     families: Families,
     most: usize,
 ) -> Result<Option<Classes>, AllocError>
     requires families { AreFamilies families }
-    requires long { length families.classes.items ≡ length netlist.now.names }
-    ensures { IfOk result (λ found. IfSome found (AreClasses (length netlist.now.names))) }
+    requires long { length families.classes.items ≡ length costs.now }
+    ensures { IfOk result (λ found. IfSome found (AreClasses (length costs.now))) }
 {
     let Some(needed) = all_needed(alloc, &families, most)? else {
         return Ok(None);
@@ -132,7 +130,7 @@ pub(crate) fn classes_of(
     if !are_below(&classes, weights.len()) || u32::try_from(weights.len()).is_err() {
         return Ok(None);
     }
-    add_nets(&mut weights, netlist, &classes);
+    add_nets(&mut weights, costs, &classes);
     Ok(Some(Classes {
         of_nets: classes,
         weights,

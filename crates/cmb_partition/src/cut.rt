@@ -169,13 +169,18 @@ fn refined(
 }
 
 // The classes of a netlist, unless it takes too many steps to find which sinks need them.
-fn classes_within(alloc: Global, netlist: &Netlist) -> Result<Option<Classes>, AllocError>
+fn classes_within(
+    alloc: Global,
+    netlist: &Netlist,
+    costs: &[u32],
+) -> Result<Option<Classes>, AllocError>
+    requires { length costs.now ≡ length netlist.now.names }
     ensures classes { IfOk result (λ found. IfSome found (AreClasses (length netlist.now.names))) }
     ensures few { IfOk result (λ found. IfSome found (λ _. length netlist.now.names ≤ 65535)) }
 {
     let wiring = wiring_of(alloc, netlist)?;
-    let families = families_of(alloc, netlist, &wiring)?;
-    classes_of(alloc, netlist, families, netlist.len() * STEPS + FEW_STEPS)
+    let families = families_of(alloc, netlist, costs, &wiring)?;
+    classes_of(alloc, costs, families, netlist.len() * STEPS + FEW_STEPS)
 }
 
 // The partition into so many parts, before it is checked.
@@ -211,7 +216,7 @@ fn count_for(most: u32, sinks: &[u32]) -> u32
 }
 
 /// Partitions the nets of a netlist into two shares at least and so many at most, and 16 at most, so that the share
-/// with the most to do has as little as may be. What crosses from one share to another are flip-flops, of which any may
+/// with the most to do has as little as may be, by what each net costs (any unit). What crosses from one share to another are flip-flops, of which any may
 /// read any other, so a netlist is cut also where all its nets reach one another.
 ///
 /// A flip-flop needs the gates in its cone, back to flip-flops and inputs. Gates that several shares need are driven by
@@ -228,13 +233,15 @@ fn count_for(most: u32, sinks: &[u32]) -> u32
 pub fn partition(
     alloc: Global,
     netlist: &Netlist,
+    costs: &[u32],
     most: u32,
 ) -> Result<Option<Partition>, AllocError>
+    requires { length costs.now ≡ length netlist.now.names }
     ensures partition { IfOk result (λ found. IfSome found (IsPartition netlist.now)) }
     ensures some { IfOk result (λ found. IfSome found (λ partition. 2 ≤ length partition.shares.items)) }
     ensures few { IfOk result (λ found. IfSome found (λ partition. length partition.shares.items ≤ most)) }
 {
-    let Some(classes) = classes_within(alloc, netlist)? else {
+    let Some(classes) = classes_within(alloc, netlist, costs)? else {
         return Ok(None);
     };
     let count = count_for(most, &classes.sinks);

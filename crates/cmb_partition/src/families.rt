@@ -4,7 +4,6 @@ ghost use Rattle.std.specs.Prelude.{◌≡◌, ◌<◌, length, All, IfOk, OnOk}
 ghost use Rattle.cmb_partition.specs.Inner.Shapes.{AreFamilies, IsWiring};
 
 use crate::lists::Lists;
-use crate::loads::weight;
 use crate::wiring::Wiring;
 use cmb_netlist::{Driver, Netlist};
 use std::alloc::{AllocError, Global};
@@ -197,10 +196,12 @@ fn add_imports(
     alloc: Global,
     families: &mut Families,
     netlist: &Netlist,
+    costs: &[u32],
     wiring: &Wiring,
 ) -> Result<(), AllocError>
     requires families { AreFamilies families.old }
     requires long { length families.old.classes.items ≡ length netlist.now.names }
+    requires costs { length costs.now ≡ length netlist.now.names }
     requires wiring { IsWiring (length netlist.now.names) wiring.now }
     ensures families { OnOk result (AreFamilies families.new) }
     ensures long { OnOk result (length families.new.classes.items ≡ length netlist.now.names) }
@@ -208,7 +209,7 @@ fn add_imports(
     for net in 0..netlist.len() {
         if matches!(netlist.driver(net), Driver::Flop(_)) {
             let importers = importers_of(alloc, &families.classes, wiring, net)?;
-            let _ = begin(families, &[], &importers, weight(netlist.driver(net)))?;
+            let _ = begin(families, &[], &importers, costs[net])?;
         }
     }
     Ok(())
@@ -218,9 +219,11 @@ fn add_imports(
 pub(crate) fn families_of(
     alloc: Global,
     netlist: &Netlist,
+    costs: &[u32],
     wiring: &Wiring,
 ) -> Result<Families, AllocError>
-    requires { IsWiring (length netlist.now.names) wiring.now }
+    requires wiring { IsWiring (length netlist.now.names) wiring.now }
+    requires costs { length costs.now ≡ length netlist.now.names }
     ensures families { IfOk result AreFamilies }
     ensures long { IfOk result (λ families. length families.classes.items ≡ length netlist.now.names) }
 {
@@ -233,6 +236,6 @@ pub(crate) fn families_of(
     let _ = begin(&mut families, &[], &[], 0)?;
     add_flops(&mut families, netlist)?;
     add_gates(alloc, &mut families, netlist, wiring)?;
-    add_imports(alloc, &mut families, netlist, wiring)?;
+    add_imports(alloc, &mut families, netlist, costs, wiring)?;
     Ok(families)
 }

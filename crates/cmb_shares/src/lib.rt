@@ -3,6 +3,7 @@
 #![tactic(auto)]
 
 mod channel;
+pub mod costs;
 mod feeders;
 mod flow;
 mod merge;
@@ -14,5 +15,6 @@ mod stations;
 mod terms;
 pub mod text;
 
+pub use costs::costs;
 pub use opening::Shares;
 pub use text::write_shares;

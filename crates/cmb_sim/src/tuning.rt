@@ -1,11 +1,12 @@
 //! The thresholds by which a run is planned: each is an estimate, and none changes a text.
 
-ghost use Rattle.std.specs.Prelude.{◌≡◌, ◌≤◌, ◌<◌, true, IfOk, IfSome};
+ghost use Rattle.std.specs.Prelude.{◌≡◌, ◌≤◌, true, length, All, IfOk, IfSome};
 ghost use Rattle.cmb_partition.specs.Partitions.{IsPartition};
 
 use cmb_design::Design;
 use cmb_netlist::Driver;
 use cmb_partition::{Partition, load, partition, total};
+use cmb_shares::costs;
 use std::alloc::{AllocError, Global};
 
 // Net and tick pairs up to which several workers run as they are asked to. Above it, what they hand to one another
@@ -21,6 +22,9 @@ const LEAST_SAMPLES: u64 = 262_144;
 
 // So many nets a netlist has at least, where shares pay.
 const LEAST_NETS: usize = 2_048;
+
+// What nets cost is seen in the first of so many parts of a run.
+const PARTS: u32 = 50;
 
 /// Whether several workers have the nets of a design. Else the engine carries all of them: where one worker has them,
 /// and where several wouldn't pay.
@@ -51,16 +55,17 @@ fn is_long(design: &Design) -> bool {
 }
 
 // Whether each share leaves a fourth of what there is to do to the others.
-fn is_even(design: &Design, partition: &Partition) -> bool
-    requires { IsPartition design.now.netlist partition.now }
+fn is_even(costs: &[u32], partition: &Partition) -> bool
+    requires few { length costs.now ≤ 65535 }
+    requires marks { All (λ share. length share.driven.items ≡ length costs.now) partition.now.shares.items }
 {
-    let netlist = design.netlist();
-    let all = total(netlist);
-    let most = all - all / 4;
-    partition
-        .shares
-        .iter()
-        .all(|share| load(netlist, share) <= most)
+    let all = total(costs);
+    for share in &partition.shares {
+        if load(costs, share) > all - all / 4 {
+            return false;
+        }
+    }
+    true
 }
 
 /// The shares of a design's nets, where a thread for each pays beside the one that makes the text. Errors: memory was
@@ -75,8 +80,9 @@ pub(crate) fn partition_that_pays(
     if threads < LEAST_THREADS || !is_long(design) {
         return Ok(None);
     }
-    match partition(alloc, design.netlist(), threads - 1)? {
-        Some(partition) if is_even(design, &partition) => Ok(Some(partition)),
+    let costs = costs(alloc, design, design.horizon() / PARTS)?;
+    match partition(alloc, design.netlist(), &costs, threads - 1)? {
+        Some(partition) if is_even(&costs, &partition) => Ok(Some(partition)),
         _ => Ok(None),
     }
 }

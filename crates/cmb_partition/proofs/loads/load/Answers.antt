@@ -3,26 +3,19 @@ use Rattle.std.specs.Prelude.{if◌then◌else◌, map, slice_index_or, sum}
 use Rattle.std.specs.List.{range_with_len}
 use Rattle.std.proofs.lemmas.List.{get_or_read}
 use Rattle.std.proofs.lemmas.List.FromFn.{sum_by-map-range_with_len_more}
-use Rattle.cmb_netlist.specs.Netlist.{driver_of}
-use Rattle.cmb_partition.specs.Partitions.{weight_of}
 use Rattle.cmb_partition.proofs.loads.load.Goals.{then-index, else-index}
 use Rattle.cmb_partition.proofs.loads.load.Goals as goal
 
 pub loop-net-preserved : goal.loop-net-preserved
 loop-net-preserved c =
-    let weight : ℕ = weight_of (driver_of c.args.netlist.now c.loop-net.net) in
-    let cost : Bool → ℕ = λ mark. if mark then weight else 0 in
-    let f : ℕ → ℕ = λ net. if (slice_index_or c.args.share.now.driven.items net false) then (weight_of (driver_of c.args.netlist.now net)) else 0 in
+    let costs = c.args.costs.now in
+    let cost : Bool → ℕ = λ mark. if mark then (slice_index_or costs c.loop-net.net 0) else 0 in
+    let f : ℕ → ℕ = λ net. if (slice_index_or c.args.share.now.driven.items net false) then (slice_index_or costs net 0) else 0 in
     let so_far : ℕ = sum (map f (range_with_len 0 c.loop-net.net)) in
-    let within : c.loop-net.net < length c.args.share.now.driven.items = omega (arith, c.requires, c.loop-net-test.true, c.len-net-end.ensures.value) in
+    let within : c.loop-net.net < length c.args.share.now.driven.items = omega (arith, c.requires.marks, c.loop-net-test.true, c.len-net-end.ensures.value) in
     let mark = get_or_read c.args.share.now.driven.items c.loop-net.net c.index.result.now within c.index.ensures false in
     elim c.if-index.branch [
-      | then-index w ↦
-          let here : w.weight-sum.result ≡ f c.loop-net.net = w.weight-sum.ensures.value ∙ ap weight_of w.driver.ensures ∙ ap cost (sym w.if-index.true ∙ mark) in
-          record {
-            value = w.sum-is ∙ ap (λ n. n + w.weight-sum.result) c.loop-net.invariant.value ∙ ap (λ n. so_far + n) here ∙ sym (sum_by-map-range_with_len_more (λ x. x) f 0 c.loop-net.net c.loop-net.net (zero-add c.loop-net.net));
-            few = omega (arith, w.sum-is, c.loop-net.invariant.few, w.weight-sum.ensures.few);
-          }
+      | then-index w ↦ record { value = _; few = _ }
       | else-index w ↦
           let here : 0 ≡ f c.loop-net.net = ap cost (sym w.if-index.false ∙ mark) in
           record {
