@@ -1,9 +1,10 @@
 #!/usr/bin/env python3
-"""growth.py [--quick] [--times N] [--limit SECONDS] [--workers W] [--no-build] [--out FOLDER]
+"""growth.py [--quick] [--times N] [--limit SECONDS] [--workers W] [--no-build] [--record] [--out FOLDER]
 
 How the program's time grows: with the changes, with the nets at equal changes, and with the horizon at
-equal changes, in mode rounds. Prints a table, and writes it and a plot to FOLDER, bench/out if not given. In the
-column `slope` a growth that is a straight line has 1, a quadratic one 2, and 0 means none.
+equal changes, in mode rounds. Prints a table, and writes it and a plot to FOLDER, bench/out if not given; with --record it
+writes the table to bench/FIGURES.md too. In the column `slope` a growth that is a straight line has 1, a quadratic one 2,
+and 0 means none.
 """
 import math
 import os
@@ -140,10 +141,10 @@ def write_all(found, options):
     for family, lines in found:
         for name, points in lines:
             rows += rows_of(family, name, points)
-    report = "\n".join(measuring.machine()) + f"\nmode rounds, {options.workers} workers\n\n" + measuring.table(rows) + "\n"
-    print(report)
-    with open(os.path.join(options.out, "growth.md"), "w") as file:
-        file.write(report)
+    lines = [f"mode rounds, {options.workers} workers"]
+    measuring.write_report(options, "growth", lines, rows)
+    if options.record:
+        measuring.record(options, "growth", lines, rows)
     parts = [(family, [(name, [(p.along(family), p.sample.best) for p in points]) for name, points in lines if points]) for family, lines in found]
     plots.panels(os.path.join(options.out, "growth.svg"), f"Wall time of a run in mode rounds, {options.workers} workers", parts)
 

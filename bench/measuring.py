@@ -1,4 +1,4 @@
-"""measuring.py: how a command is timed, and what is told of the machine; used by run.py and growth.py."""
+"""measuring.py: how a command is timed, and what is said of the machine; used by run.py, threads.py and growth.py."""
 import argparse
 import datetime
 import os
@@ -11,6 +11,8 @@ import subprocess
 import sys
 import threading
 import time
+
+import figures
 
 TOP = os.path.dirname(os.path.dirname(os.path.abspath(__file__)))
 PROGRAM = os.path.join(TOP, "out", "cmbsim")
@@ -105,6 +107,7 @@ def parser(text, limit, quick):
     words.add_argument("--times", type=int, default=3, help="how often each command is timed")
     words.add_argument("--limit", type=float, help=f"seconds after which a run is ended; {limit:.0f}, or {quick:.0f} with --quick")
     words.add_argument("--no-build", action="store_true")
+    words.add_argument("--record", action="store_true", help="write the table to bench/FIGURES.md too; not of small sizes or single circuits")
     words.add_argument("--out", default=os.path.join(TOP, "bench", "out"))
     words.set_defaults(limits=(limit, quick))
     return words
@@ -113,6 +116,9 @@ def parser(text, limit, quick):
 def begin(words):
     """Reads the words, makes the folder for what is written, and builds the program."""
     options = words.parse_args()
+    if options.record and (options.quick or getattr(options, "only", None)):
+        words.error("--record is for all circuits in full size")
+    options.machine = machine()
     options.limit = options.limit or options.limits[options.quick]
     os.makedirs(options.out, exist_ok=True)
     if not options.no_build:
@@ -162,6 +168,19 @@ def machine():
     if shutil.which("iverilog"):
         lines.append(first_line("iverilog", "-V"))
     return lines
+
+
+def write_report(options, name, lines, rows):
+    """Prints a table below what is said of the machine, and writes it to the output folder."""
+    report = "\n".join(options.machine + lines) + "\n\n" + table(rows) + "\n"
+    print(report)
+    with open(os.path.join(options.out, f"{name}.md"), "w") as file:
+        file.write(report)
+
+
+def record(options, name, lines, rows):
+    """Writes a table to the section of this name in bench/FIGURES.md, with what is said of the machine."""
+    figures.record(name, "; ".join(options.machine + lines) + ".\n\n" + table(rows))
 
 
 def words_of(folder):

@@ -1,9 +1,10 @@
 #!/usr/bin/env python3
-"""run.py [--quick] [--times N] [--limit SECONDS] [--only NAME]... [--no-build] [--no-icarus] [--out FOLDER]
+"""run.py [--quick] [--times N] [--limit SECONDS] [--only NAME]... [--no-build] [--no-icarus] [--record] [--out FOLDER]
 
 Measures the program on the circuits of circuits.py and those in the folders that CIRCUITS names (with a colon
-between them), each in each mode, and beside it the C simulator that CREF names and Icarus Verilog, where they are there. Prints a table, and writes it and a plot to
-FOLDER, bench/out if not given. Ends with status 1 where two ways gave different texts.
+between them), each in each mode, and beside it the C simulator that CREF names and Icarus Verilog, where they are there.
+Prints a table, and writes it and a plot to FOLDER, bench/out if not given. With --record it writes how one thread and four
+compare with the C simulator to bench/FIGURES.md and README.md. Ends with status 1 if two ways gave different texts.
 """
 import hashlib
 import os
@@ -12,6 +13,7 @@ import sys
 import tempfile
 
 import circuits
+import figures
 import measuring
 import plots
 
@@ -138,6 +140,20 @@ def row_of(result, results):
 HEADER = ["circuit", "way", "best", "median", "processor", "memory", "changes a second", "bytes a second", "to cref", "processor to cref", "note"]
 
 
+# What README.md shows: ways in mode free, each by the C simulator's time.
+SHORT = {"one thread": "free 1", "4 threads": "threads 4"}
+
+
+def short_rows(results):
+    """A line for each circuit with the wall times of the ways in SHORT, each by that of the C simulator."""
+    best = {(it.circuit, it.way): it.sample.best for it in results if it.sample}
+    rows = [["circuit", *SHORT]]
+    for circuit in dict.fromkeys(it.circuit for it in results):
+        ratios = [best[circuit, way] / best[circuit, "cref"] if {(circuit, way), (circuit, "cref")} <= set(best) else None for way in SHORT.values()]
+        rows.append([circuit] + ["" if it is None else f"{it:.2f}" for it in ratios])
+    return rows
+
+
 def differences(results):
     """The circuits of which two ways wrote different texts."""
     hashes = {}
@@ -149,11 +165,10 @@ def differences(results):
 
 def write_all(results, options):
     """The table and the plot."""
-    shown = [HEADER] + [row_of(result, results) for result in results]
-    report = "\n".join(measuring.machine()) + "\n\n" + measuring.table(shown) + "\n"
-    print(report)
-    with open(os.path.join(options.out, "run.md"), "w") as file:
-        file.write(report)
+    measuring.write_report(options, "run", [], [HEADER] + [row_of(result, results) for result in results])
+    if options.record:
+        measuring.record(options, "run", [f"best of {options.times}"], short_rows(results))
+        figures.copy()
     groups = {}
     for result in results:
         if result.sample:
@@ -165,6 +180,8 @@ def read_words():
     words = measuring.parser(__doc__, 120.0, 20.0)
     words.add_argument("--only", action="append", choices=[*circuits.ALL, *circuits.given()], help="this circuit; may be given more than once")
     words.add_argument("--no-icarus", action="store_true")
+    if "--record" in sys.argv and not os.environ.get("CREF"):
+        words.error("--record needs the C simulator, and CREF names none")
     options = measuring.begin(words)
     options.icarus = not options.no_icarus and shutil.which("iverilog")
     options.no_free = False

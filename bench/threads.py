@@ -1,10 +1,11 @@
 #!/usr/bin/env python3
-"""threads.py [--quick] [--times N] [--only NAME]... [--no-build] [--out FOLDER]
+"""threads.py [--quick] [--times N] [--only NAME]... [--no-build] [--record] [--out FOLDER]
 
 Measures what several threads bring: the program on the circuits of circuits.py and those in the folders that CIRCUITS
 names, by one thread and by several, and the C simulator that CREF names where it is there. All ways of a circuit are
 run in turn, so that what the machine does besides falls on all alike. Prints the best wall times in milliseconds, and
-each by that of one thread in the same mode; writes the table to FOLDER, bench/out if not given.
+each by that of one thread in the same mode; writes the table to FOLDER, bench/out if not given, and with --record to
+bench/FIGURES.md.
 """
 import os
 import sys
@@ -79,10 +80,10 @@ def main():
         reference = measuring.reference(top)
         header = ["circuit", *WAYS] + (["C simulator"] if reference else [])
         rows = [measure(name, reference, options) for name in options.only or [*circuits.ALL, *circuits.given()]]
-    report = "\n".join(measuring.machine()) + f"\nbest of {options.times}, in turn\n\n" + measuring.table([header] + rows) + "\n"
-    print(report)
-    with open(os.path.join(options.out, "threads.md"), "w") as file:
-        file.write(report)
+    lines = [f"best of {options.times}, in turn"]
+    measuring.write_report(options, "threads", lines, [header] + rows)
+    if options.record:
+        measuring.record(options, "threads", lines, [header] + rows)
 
 
 if __name__ == "__main__":

@@ -1,6 +1,6 @@
 #!/usr/bin/env python3
-"""pages.py [PROGRAM]: runs the commands of docs/GUIDE.md and docs/VERILOG.md with PROGRAM, out/cmbsim if not given, and holds what
-they print against what the pages show below them; and so what is shown of files. It runs in a folder of its own, in which files that
+"""pages.py [PROGRAM]: runs the commands of README.md, docs/GUIDE.md and docs/VERILOG.md with PROGRAM, out/cmbsim if not given, and holds
+what they print against what the pages show below them; and so what is shown of files. It runs in a folder of its own, in which files that
 a page shows and that aren't there are written. Commands of make, apt-get and gtkwave aren't run, nor those that stand on a program
 that isn't installed, which is said. The last line is 'N passed, M failed'; the status is 0 where nothing failed."""
 import collections
@@ -13,7 +13,7 @@ import tempfile
 
 import crates
 
-PAGES = ["docs/GUIDE.md", "docs/VERILOG.md"]
+PAGES = ["README.md", "docs/GUIDE.md", "docs/VERILOG.md"]
 NEVER = {"make", "apt-get", "gtkwave"}
 STANDS_ON = {"tools/from_verilog.sh": "yosys", "tools/from_yosys.py": "yosys"}
 BLOCK = re.compile(r"```(\w+)\n(.*?)```\n", re.DOTALL)
