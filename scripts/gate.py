@@ -1,8 +1,9 @@
 #!/usr/bin/env python3
 """gate.py: the gate. It runs `rt ci` (every proof from nothing, the must-fail edits, the tests, the programs) and
-then the program on whole files and the tools on small ones, sees that docs/MODEL.md lists what has to be believed and that
-the other definitions stand apart, and says at the end what each part came to and what it took. The last line is
-'N passed, M failed' over all; the status is 0 where nothing failed.
+then the program on whole files and the tools on small ones, sees that the other definitions stand apart and that the
+documents name what is there and have the lists that scripts make, and says at the end what each part came to and what it
+took; costs.py makes seconds.txt of that. The last line is 'N passed, M failed' over all; the status is 0 where nothing
+failed.
 
 Each check gets one job, as many checks at a time as there are processors: more jobs for one check take up to twice as
 much of the processors, which other checks can use. Where RT_JOBS is set already it stays as it is.
@@ -112,7 +113,7 @@ class EndToEnd:
     READ = ("bench", "docs", "examples", "scripts", "tools")
 
     def __init__(self, room):
-        self.room, self.said, self.child, self.took = f"{room}/copy", f"{room}/said", None, 0.0
+        self.room, self.said, self.program, self.child, self.took = f"{room}/copy", f"{room}/said", None, None, 0.0
 
     def hear(self, line):
         if self.child is None and self.BUILT.match(line) and os.access(f"{TOP}/{self.MADE}", os.X_OK):
@@ -122,7 +123,7 @@ class EndToEnd:
             self.start(self.room, shutil.copy2(f"{TOP}/{self.MADE}", f"{self.room}/program"))
 
     def start(self, top, program):
-        began = time.monotonic()
+        began, self.program = time.monotonic(), program
         with open(self.said, "w", encoding="utf-8") as said:
             self.child = subprocess.Popen([f"{top}/scripts/end_to_end.sh", program], stdin=subprocess.DEVNULL, stdout=said)
 
@@ -157,15 +158,32 @@ def count(line, counts):
             return
 
 
+def stale(program):
+    """How many of the lists that scripts make in the documents aren't what the scripts would make, and how many there are."""
+    lists = [["believed.py"], ["wrong_bodies.py"], ["fault_tables.py", program]]
+    ran = [subprocess.run([f"scripts/{it[0]}", *it[1:], "--check"], cwd=TOP).returncode for it in lists]
+    return sum(map(bool, ran)), len(lists)
+
+
 def programs():
     crates = os.path.join(TOP, "crates")
     return {name for name in os.listdir(crates) if os.path.isfile(f"{crates}/{name}/src/main.rt")}
+
+
+def machine():
+    """The commit, the day and the processors."""
+    ran = subprocess.run(["git", "log", "-1", "--format=%h"], cwd=TOP, stdout=subprocess.PIPE, text=True)
+    with open("/proc/cpuinfo", encoding="utf-8") as file:
+        model = re.search(r"model name\s*:\s*(.*)", file.read())
+    processors = f"{len(os.sched_getaffinity(0))} processors ({model[1] if model else 'of a model that is not told'})"
+    return f"commit {ran.stdout.strip()}, {time.strftime('%d %B %Y')}, {processors}"
 
 
 def show(meter, counts, minutes):
     parts = ["proofs", "edits", "tests", "programs"]
     rows = meter.table()
     print("\nseconds of a processor, as read once a second:")
+    print(machine())
     print(f"{'crate':<18}" + "".join(f"{part:>10}" for part in parts))
     for crate in sorted(rows):
         print(f"{crate:<18}" + "".join(f"{rows[crate].get(part, 0):>10.0f}" for part in parts))
@@ -187,18 +205,20 @@ def main():
         proved, unproved = run(["rt", "ci"], counts, files.hear)
         between = time.monotonic()
         ran, wrong = files.end()
+        untrue, lists = stale(files.program)
     parts = [run([f"tools/{name}.py"], {}) for name in ("test_tools", "test_netlists", "test_vectors")]
     held, broken = map(sum, zip(*parts))
-    untrue = subprocess.run(["scripts/believed.py", "--check"], cwd=TOP).returncode
     apart, mixed = run(["scripts/inner.py"], {})
+    named, missing = run(["scripts/documents.py"], {})
     meter.stopped.set()
     counts["end to end"] = ran
     show(meter, counts, [("rt ci", between - began), ("end to end, beside it", files.took), ("the rest", time.monotonic() - between)])
     print(f"end to end: {ran} passed")
     print(f"tools: {held} passed")
     print(f"files of definitions: {apart} passed")
-    failed = unproved + wrong + broken + mixed + bool(untrue)
-    print(f"{proved + ran + held + apart + (not untrue)} passed, {failed} failed")
+    print(f"documents: {named + lists - untrue} passed")
+    failed = unproved + wrong + broken + mixed + missing + untrue
+    print(f"{proved + ran + held + apart + named + lists - untrue} passed, {failed} failed")
     return 1 if failed else 0
 
 

@@ -50,10 +50,10 @@ def lines_of(name):
 
 
 def seconds(wanted):
-    """By library about how many seconds its proof takes with one job: as measured, or else by its lines."""
+    """By library about how many seconds its proof takes with one job: as measured in the gate, or else by its lines."""
     with open(f"{crates.TOP}/scripts/seconds.txt", encoding="utf-8") as lines:
         rows = (it.partition("#")[0].split() for it in lines)
-        measured = {name: int(took) for name, took in filter(None, rows)}
+        measured = {row[0]: int(row[1]) for row in rows if row and row[1] != "0"}
     known = [it for it in wanted if it in measured]
     pace = sum(measured[it] for it in known) / max(1, sum(map(lines_of, known)))
     return {it: measured.get(it, pace * lines_of(it)) for it in wanted}
