@@ -9,10 +9,12 @@ import crates
 
 # By page the most words that it may have. A page is checked once it stands here.
 LENGTHS = {"README.md": 900, "CONTRIBUTING.md": 700, "docs/GUIDE.md": 3800, "docs/VERILOG.md": 1700, "bench/README.md": 900,
+           "docs/ARCHITECTURE.md": 2500, "docs/MODEL.md": 5000, "docs/GLOSSARY.md": 1300, "docs/CLAIMS.md": 2800,
+           "docs/DECISIONS.md": 2500, "docs/GATE.md": 900, "docs/PROVING.md": 1200, "docs/ROBUSTNESS.md": 900,
            **{os.path.relpath(it, crates.TOP): 70 for it in sorted(glob.glob(f"{crates.TOP}/examples/*/README.md"))}}
 SENTENCE, PARAGRAPH = 25, 90
 # Names of other programs and of the toolchain.
-FOREIGN = {"--margin", "--statements", "--tool", "TheLink", "sched_yield"}
+FOREIGN = {"--margin", "--opt", "--statements", "--tool", "TheLink", "sched_yield"}
 
 MADE = re.compile(r"<!-- ([\w.]+): begin -->\n.*?<!-- \1: end -->\n?", re.DOTALL)
 FENCE = re.compile(r"^```(\w*)\n(.*?)^```$", re.DOTALL | re.MULTILINE)

@@ -22,9 +22,9 @@ use std::alloc::{AllocError, Global};
 pub const MOST_SHARES: usize = 16;
 
 // To find which sinks need each class may take so many steps for each net, and so many more: an estimate.
-const STEPS: usize = 32;
+const STEPS: usize = 64;
 
-const FEW_STEPS: usize = 200_000;
+const FEW_STEPS: usize = 1_000_000;
 
 /// For each sink its part, and what the heaviest part weighs.
 #[derive(Drop)]

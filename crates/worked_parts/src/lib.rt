@@ -1,12 +1,9 @@
-//! Worked examples of what the engine of words and its runs are made of, as tests: words, calendars, components and
-//! sharings, partitions, parts of a design, shares of its nets, dumps, the text of chosen nets, and how active nets
-//! are.
+//! Worked examples of what the engine of words and its runs are made of, as tests: words, calendars, components,
+//! partitions, parts of a design, shares of its nets, dumps, the text of chosen nets, and how active nets are.
 #![tactic(auto)]
 
 #[cfg(test)]
 mod activities;
-#[cfg(test)]
-mod batches;
 #[cfg(test)]
 mod calendars;
 #[cfg(test)]
@@ -26,11 +23,7 @@ mod partitions;
 #[cfg(test)]
 mod parts;
 #[cfg(test)]
-mod pipeline;
-#[cfg(test)]
 mod shares;
-#[cfg(test)]
-mod sharings;
 #[cfg(test)]
 mod texts;
 #[cfg(test)]

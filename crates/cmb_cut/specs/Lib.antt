@@ -1,4 +1,0 @@
--- what the public contracts rest on
-pub mod Sharings
--- what the functions inside the crate promise each other
-pub mod Inner
