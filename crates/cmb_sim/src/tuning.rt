@@ -23,6 +23,9 @@ const LEAST_SAMPLES: u64 = 262_144;
 // So many nets a netlist has at least, where shares pay.
 const LEAST_NETS: usize = 2_048;
 
+// The share with the most to do has so many hundredths of all work at most, where shares pay.
+const MOST_OF_ALL: u64 = 60;
+
 // What nets cost is seen in the first of so many parts of a run.
 const PARTS: u32 = 50;
 
@@ -54,14 +57,14 @@ fn is_long(design: &Design) -> bool {
     design.netlist().len() >= LEAST_NETS && samples_of(design) >= LEAST_SAMPLES
 }
 
-// Whether each share leaves a fourth of what there is to do to the others.
+// Whether no share has so much to do that the others hardly take anything off it.
 fn is_even(costs: &[u32], partition: &Partition) -> bool
     requires few { length costs.now ≤ 65535 }
     requires marks { All (λ share. length share.driven.items ≡ length costs.now) partition.now.shares.items }
 {
-    let all = total(costs);
+    let most = (total(costs) / 100).saturating_mul(MOST_OF_ALL);
     for share in &partition.shares {
-        if load(costs, share) > all - all / 4 {
+        if load(costs, share) > most {
             return false;
         }
     }

@@ -12,10 +12,15 @@ loop-net-preserved c =
     let cost : Bool → ℕ = λ mark. if mark then (slice_index_or costs c.loop-net.net 0) else 0 in
     let f : ℕ → ℕ = λ net. if (slice_index_or c.args.share.now.driven.items net false) then (slice_index_or costs net 0) else 0 in
     let so_far : ℕ = sum (map f (range_with_len 0 c.loop-net.net)) in
-    let within : c.loop-net.net < length c.args.share.now.driven.items = omega (arith, c.requires.marks, c.loop-net-test.true, c.len-net-end.ensures.value) in
+    let within : c.loop-net.net < length c.args.share.now.driven.items = omega (arith, c.requires.marks, c.loop-net-test.true) in
     let mark = get_or_read c.args.share.now.driven.items c.loop-net.net c.index.result.now within c.index.ensures false in
     elim c.if-index.branch [
-      | then-index w ↦ record { value = _; few = _ }
+      | then-index w ↦
+          let here : w.from-sum.result ≡ f c.loop-net.net = w.from-sum.ensures ∙ ap cost (sym w.if-index.true ∙ mark) in
+          record {
+            value = w.sum-is ∙ ap (λ n. n + w.from-sum.result) c.loop-net.invariant.value ∙ ap (λ n. so_far + n) here ∙ sym (sum_by-map-range_with_len_more (λ x. x) f 0 c.loop-net.net c.loop-net.net (zero-add c.loop-net.net));
+            few = omega (arith, w.sum-is, c.loop-net.invariant.few, w.from-sum.ensures, c.type_inv.costs c.loop-net.net);
+          }
       | else-index w ↦
           let here : 0 ≡ f c.loop-net.net = ap cost (sym w.if-index.false ∙ mark) in
           record {
