@@ -28,11 +28,17 @@ fn is_cut(found: &Option<Partition>, one: &[bool], other: &[bool], crossing: &[b
     }
 }
 
+/// The partition of a netlist into so many shares at most, where each net costs as much as any other.
+fn cut_into(alloc: Global, netlist: &Netlist, most: u32) -> Result<Option<Partition>, Fail> {
+    let costs = vec![in alloc; 1u32; netlist.len()]?;
+    Ok(partition(alloc, netlist, &costs, most)?)
+}
+
 /// The partition of two flip-flops that read nothing of each other.
 fn apart(alloc: Global) -> Result<Option<Partition>, Fail> {
     let text = b"a = DFF(na)\nna = NOT(a)\nb = DFF(nb)\nnb = NOT(b)\n";
     let netlist = read_bench(alloc, text)?;
-    Ok(partition(alloc, &netlist, 2)?)
+    cut_into(alloc, &netlist, 2)
 }
 
 // Each share has to have a flip-flop, and with it goes what it needs.
@@ -54,7 +60,7 @@ fn entangled(alloc: Global) -> Result<Netlist, Fail> {
 /// Their partition into so many shares at most.
 fn cut_for(alloc: Global, most: u32) -> Result<Option<Partition>, Fail> {
     let netlist = entangled(alloc)?;
-    Ok(partition(alloc, &netlist, most)?)
+    cut_into(alloc, &netlist, most)
 }
 
 // All nets but the input reach one another. There are two flip-flops, so there is one way to cut them, also where more
@@ -82,7 +88,7 @@ fn one_share_is_none(rt: HostRuntime) -> Result<(), Fail> {
 /// The partition of one flip-flop.
 fn single(alloc: Global) -> Result<Option<Partition>, Fail> {
     let netlist = read_bench(alloc, b"a = DFF(n)\nn = NOT(a)\n")?;
-    Ok(partition(alloc, &netlist, 4)?)
+    cut_into(alloc, &netlist, 4)
 }
 
 #[test]
@@ -94,7 +100,7 @@ fn nothing_to_part(rt: HostRuntime) -> Result<(), Fail> {
 /// The partition of a ring of three flip-flops into two shares.
 fn ring(alloc: Global) -> Result<Option<Partition>, Fail> {
     let netlist = read_bench(alloc, b"a = DFF(c)\nb = DFF(a)\nc = DFF(b)\n")?;
-    Ok(partition(alloc, &netlist, 2)?)
+    cut_into(alloc, &netlist, 2)
 }
 
 /// How many marks there are.
@@ -118,20 +124,41 @@ fn ring_of_three(rt: HostRuntime) -> Result<(), Fail> {
     Ok(())
 }
 
-/// What the nets with a mark cost, where there is a mark for each net.
-fn cost_of(netlist: &Netlist, driven: Vec<bool>) -> Option<u32> {
-    if driven.as_slice().len() != netlist.len() {
-        return None;
+/// The partition of four flip-flops, each of which reads itself, into two shares, where they cost so much.
+fn weighed(alloc: Global, costs: &[u32]) -> Result<Option<Partition>, Fail> {
+    let netlist = read_bench(alloc, b"a = DFF(a)\nb = DFF(b)\nc = DFF(c)\nd = DFF(d)\n")?;
+    if costs.len() != netlist.len() {
+        return Ok(None);
     }
-    Some(load(netlist, &Share { driven }))
+    Ok(partition(alloc, &netlist, costs, 2)?)
 }
 
-// A flip-flop costs 3 and a gate of two operands 4, so a share of a, g, s and the input costs 11, and all nets 18.
+// The first costs as much as the others together.
+#[test]
+fn costs_count(rt: HostRuntime) -> Result<(), Fail> {
+    let found = weighed(rt.alloc(), &[3, 1, 1, 1])?;
+    let one = [true, false, false, false];
+    let other = [false, true, true, true];
+    holds(&rt, is_cut(&found, &one, &other, &[false; 4]));
+    Ok(())
+}
+
+/// What nets cost, where each costs what stands at its place.
+const COSTS: [u32; 6] = [0, 3, 3, 4, 4, 4];
+
+/// What the nets with a mark cost, where there is a mark for each net.
+fn cost_of(driven: Vec<bool>) -> Option<u64> {
+    if driven.as_slice().len() != COSTS.len() {
+        return None;
+    }
+    Some(load(&COSTS, &Share { driven }))
+}
+
+// The second, the fourth and the last cost 3 and twice 4, and all together 18.
 #[test]
 fn costs(rt: HostRuntime) -> Result<(), Fail> {
-    let netlist = entangled(rt.alloc())?;
     let driven = vec![in rt.alloc(); true, true, false, true, false, true]?;
-    holds(&rt, cost_of(&netlist, driven) == Some(11));
-    holds(&rt, total(&netlist) == 18);
+    holds(&rt, cost_of(driven) == Some(11));
+    holds(&rt, total(&COSTS) == 18);
     Ok(())
 }

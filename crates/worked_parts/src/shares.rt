@@ -6,7 +6,7 @@ ghost use Rattle.cmb_partition.specs.Partitions.{IsPartition};
 use crate::checks::holds;
 use cmb_design::{Design, Settings};
 use cmb_partition::{Partition, partition};
-use cmb_shares::{Shares, write_shares};
+use cmb_shares::{Shares, costs, write_shares};
 use cmb_stream::{StreamFault, write_stream};
 use cmb_vcd::{Limited, Room};
 use cmb_wave::Level;
@@ -95,7 +95,8 @@ fn is_text<R: Threads + Wait + Sync>(
 fn halves(alloc: Global, design: &Design) -> Result<Option<Partition>, AllocError>
     ensures { IfOk result (λ found. IfSome found (IsPartition design.now.netlist)) }
 {
-    partition(alloc, design.netlist(), 2)
+    let costs = costs(alloc, design, design.horizon())?;
+    partition(alloc, design.netlist(), &costs, 2)
 }
 
 /// Whether two shares of the counter make the text of these lines.
