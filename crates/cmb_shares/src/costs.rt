@@ -86,7 +86,7 @@ impl Profile {
 
 /// What each net costs in a run, by an estimate: that of a gate by the windows up to a tick in which it would be looked
 /// at, and in which it changes. No text depends on it. Errors: memory was refused.
-pub fn costs(alloc: Global, design: &Design, upto: u32) -> Result<Vec<u32>, AllocError>
+pub fn costs_of(alloc: Global, design: &Design, upto: u32) -> Result<Vec<u32>, AllocError>
     ensures { IfOk result (λ costs. length costs.items ≡ nets_of design.now) }
 {
     let profile = profile_of(alloc, design, upto)?;

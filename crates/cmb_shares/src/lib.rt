@@ -15,6 +15,6 @@ mod stations;
 mod terms;
 pub mod text;
 
-pub use costs::costs;
+pub use costs::costs_of;
 pub use opening::Shares;
 pub use text::write_shares;

@@ -6,7 +6,7 @@ ghost use Rattle.cmb_partition.specs.Partitions.{IsPartition};
 use cmb_design::Design;
 use cmb_netlist::Driver;
 use cmb_partition::{Partition, load, partition, total};
-use cmb_shares::costs;
+use cmb_shares::costs_of;
 use std::alloc::{AllocError, Global};
 
 // Net and tick pairs up to which several workers run as they are asked to. Above it, what they hand to one another
@@ -83,7 +83,7 @@ pub(crate) fn partition_that_pays(
     if threads < LEAST_THREADS || !is_long(design) {
         return Ok(None);
     }
-    let costs = costs(alloc, design, design.horizon() / PARTS)?;
+    let costs = costs_of(alloc, design, design.horizon() / PARTS)?;
     match partition(alloc, design.netlist(), &costs, threads - 1)? {
         Some(partition) if is_even(&costs, &partition) => Ok(Some(partition)),
         _ => Ok(None),

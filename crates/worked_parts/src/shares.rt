@@ -6,7 +6,7 @@ ghost use Rattle.cmb_partition.specs.Partitions.{IsPartition};
 use crate::checks::holds;
 use cmb_design::{Design, Settings};
 use cmb_partition::{Partition, partition};
-use cmb_shares::{Shares, costs, write_shares};
+use cmb_shares::{Shares, costs_of, write_shares};
 use cmb_stream::{StreamFault, write_stream};
 use cmb_vcd::{Limited, Room};
 use cmb_wave::Level;
@@ -95,7 +95,7 @@ fn is_text<R: Threads + Wait + Sync>(
 fn halves(alloc: Global, design: &Design) -> Result<Option<Partition>, AllocError>
     ensures { IfOk result (λ found. IfSome found (IsPartition design.now.netlist)) }
 {
-    let costs = costs(alloc, design, design.horizon())?;
+    let costs = costs_of(alloc, design, design.horizon())?;
     partition(alloc, design.netlist(), &costs, 2)
 }
 
