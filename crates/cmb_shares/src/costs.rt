@@ -2,7 +2,6 @@
 
 ghost use Rattle.std.specs.Prelude.{◌≡◌, length, IfOk, OnOk};
 ghost use Rattle.cmb_design.specs.Exact.{nets_of};
-ghost use Rattle.cmb_words.specs.Changes.{RisesWithin};
 
 use cmb_design::Design;
 use cmb_engine::Engine;
@@ -28,12 +27,13 @@ struct Profile {
 
 // Counts what changed in a window.
 fn note(changes: &mut [u32], changed: &[Changed])
-    requires { RisesWithin 0 (length changes.old) changed.now }
     ensures { length changes.new ≡ length changes.old }
 {
     for one in changed {
         let net = one.net as usize;
-        changes[net] = changes[net].saturating_add(1);
+        if net < changes.len() {
+            changes[net] = changes[net].saturating_add(1);
+        }
     }
 }
 
@@ -71,7 +71,7 @@ impl Profile {
         let all = visits
             .saturating_mul(VISIT)
             .saturating_add(changes.saturating_mul(CHANGE));
-        all.saturating_mul(SCALE) / self.windows.max(1) + 1
+        (all.saturating_mul(SCALE) / self.windows.max(1)).saturating_add(1)
     }
 
     // What a net with this driver costs. Each share has its own inputs, wherever they stand.
