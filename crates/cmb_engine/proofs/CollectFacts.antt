@@ -1,5 +1,5 @@
 -- Which nets changed in a window, and what their words tell.
-use Rattle.std.proofs.Common.{◌≡◌, ℕ, suc, ◌+◌, ◌-◌, ◌<◌, ◌≤◌, ◌⊎◌, inl, inr, Bool, false, List, [], ◌∷◌, ◌++◌, length, get_or, sym, ap, subst, ◌∙◌, arith}
+use Rattle.std.proofs.Common.{◌≡◌, ℕ, zero, suc, ◌+◌, ◌-◌, ◌<◌, ◌≤◌, ◌⊎◌, inl, inr, Bool, false, List, [], ◌∷◌, ◌++◌, length, get_or, sym, ap, subst, ◌∙◌, arith}
 use Rattle.std.specs.Prelude.{◌==◌}
 use Rattle.std.specs.List.{All}
 use Rattle.std.proofs.lemmas.Bool.{cases_lt, eq-eqb, false≢true, or_parts}
@@ -14,6 +14,7 @@ use Rattle.cmb_words.proofs.Rising.{rises-push, rises-wider, rises_at}
 use Rattle.cmb_engine.specs.Inner.Cells.{IsSteadyFrom}
 use Rattle.cmb_engine.specs.Inner.Circuits.{AreQuiet, Shows}
 use Rattle.cmb_engine.specs.Inner.Words.{levels_of}
+use Rattle.cmb_engine.specs.Shares.{EachChanges}
 use Rattle.cmb_engine.proofs.MoveFacts.{quiet-same}
 use Rattle.cmb_engine.proofs.TruthFacts.{in_place-tick}
 use Rattle.cmb_engine.proofs.WordFacts.{levels_of-read}
@@ -22,10 +23,15 @@ use Rattle.cmb_engine.proofs.WordFacts.{levels_of-read}
 abbrev pub HasWord : (ℕ → ℕ → Level) → Changed → Type 0
 HasWord words c = (place : ℕ) → place < 64 → level_at_place c.word place ≡ words c.net place
 
+-- a net's word has another level somewhere from a place on
+abbrev pub IsMoved : ℕ → Changed → Type 0
+IsMoved first changed = IsSteadyFrom (level_at_place changed.word) first → ⊥
+
 -- the nets below one are collected: those that aren't among the collected ones stay as they are
 pub record IsCollected (words : ℕ → ℕ → Level) (first upto : ℕ) (changed : List Changed) : Type 0 where
   pub rises : RisesWithin 0 upto changed
   pub right : All (HasWord words) changed
+  pub moved : All (IsMoved first) changed
   pub others : (net : ℕ) → net < upto → is_among net changed ≡ false → IsSteadyFrom (words net) first
 
 module _ (words : ℕ → ℕ → Level) (first : ℕ) (changed : List Changed) where
@@ -35,6 +41,7 @@ module _ (words : ℕ → ℕ → Level) (first : ℕ) (changed : List Changed) 
   collected-passes live count start next small later within none quiet h = record {
     rises = rises-wider 0 start next changed h.rises later;
     right = h.right;
+    moved = h.moved;
     others = λ net below other. go net below other (cases_lt net start);
   }
     where
@@ -48,6 +55,7 @@ module _ (words : ℕ → ℕ → Level) (first : ℕ) (changed : List Changed) 
   collected-steady net steady h = record {
     rises = rises-wider 0 net (net + 1) changed h.rises (omega arith);
     right = h.right;
+    moved = h.moved;
     others = λ m below other. go m below other (cases_lt m net);
   }
     where
@@ -56,10 +64,11 @@ module _ (words : ℕ → ℕ → Level) (first : ℕ) (changed : List Changed) 
       go m below other (inr l) = let e : net ≡ m = omega (arith, l, below) in subst (λ (n : ℕ). IsSteadyFrom (words n) first) e steady
 
   -- the next net is collected
-  pub collected-push : (one : Changed) → HasWord words one → IsCollected words first one.net changed → IsCollected words first (one.net + 1) (changed ++ one ∷ [])
-  collected-push one word h = record {
+  pub collected-push : (one : Changed) → HasWord words one → IsMoved first one → IsCollected words first one.net changed → IsCollected words first (one.net + 1) (changed ++ one ∷ [])
+  collected-push one word moves h = record {
     rises = rises-push 0 one.net (one.net + 1) changed one h.rises (omega arith) (omega arith) (omega arith);
     right = All-push (HasWord words) changed one h.right word;
+    moved = All-push (IsMoved first) changed one h.moved moves;
     others = λ m below other.
         let parts = or_parts (is_among m changed) (is_among m (one ∷ [])) (sym (list_any-append (λ (c : Changed). c.net == m) changed (one ∷ [])) ∙ other) in
         go m below parts.0 (or_parts (one.net == m) false parts.1).0 (cases_lt m one.net);
@@ -72,7 +81,7 @@ module _ (words : ℕ → ℕ → Level) (first : ℕ) (changed : List Changed) 
 -- a live net more, which stays as it is or is collected
 pub collected-next : (words : List Word) (first start net next : ℕ) (word : Word) (live : ℕ → Bool) (old new : List Changed) → first < 64 → start ≤ net → net < length words → next ≡ net + 1
     → word ≡ get_or words net word → ((m : ℕ) → start ≤ m → m < net → live m ≡ false) → AreQuiet (levels_of words) live (length words)
-    → ((new ≡ old) × IsSteadyFrom (level_at_place word) first) ⊎ (new ≡ old ++ record { net = net; word = word } ∷ [])
+    → ((new ≡ old) × IsSteadyFrom (level_at_place word) first) ⊎ ((new ≡ old ++ record { net = net; word = word } ∷ []) × (IsSteadyFrom (level_at_place word) first → ⊥))
     → IsCollected (levels_of words) first start old → IsCollected (levels_of words) first next new
 collected-next words first start net next word live old new small later inside end is none quiet told h = by told
   where
@@ -82,10 +91,10 @@ collected-next words first start net next word live old new small later inside e
     so_far : IsCollected (levels_of words) first net old
     so_far = collected-passes (levels_of words) first old live (length words) start net small later (omega (arith, inside)) none quiet h
 
-    by : ((new ≡ old) × IsSteadyFrom (level_at_place word) first) ⊎ (new ≡ old ++ record { net = net; word = word } ∷ []) → IsCollected (levels_of words) first next new
+    by : ((new ≡ old) × IsSteadyFrom (level_at_place word) first) ⊎ ((new ≡ old ++ record { net = net; word = word } ∷ []) × (IsSteadyFrom (level_at_place word) first → ⊥)) → IsCollected (levels_of words) first next new
     by (inl steady) =
         rw (end, steady.0) (collected-steady (levels_of words) first old net (λ place from l. at place ∙ steady.1 place from l ∙ sym (at (first - 1))) so_far)
-    by (inr pushed) = rw (end, pushed) (collected-push (levels_of words) first old (record { net = net; word = word }) (λ place l. sym (at place)) so_far)
+    by (inr pushed) = rw (end, pushed.0) (collected-push (levels_of words) first old (record { net = net; word = word }) (λ place l. sym (at place)) pushed.1 so_far)
 
 -- words that show a trace tell its changes, where all nets are collected
 module _ (words : ℕ → ℕ → Level) (trace : ℕ → ℕ → Level) (count nets to first : ℕ) (changed : List Changed) (shows : Shows words trace count to) (few : nets ≤ count) (begun : 1 ≤ first)
@@ -116,3 +125,20 @@ module _ (words : ℕ → ℕ → Level) (trace : ℕ → ℕ → Level) (count 
         ∙ shown-at (get_or changed k d).net tick (rises_at 0 nets changed k d rises small) from upto;
     others = λ net below other. steady-still net below (others net below other);
   }
+
+-- a word that tells no change is steady
+still-steady : (word : ℕ → Level) (from to : ℕ) → 1 ≤ from → from < to → to ≤ from + 63 → IsStill (λ tick. word (tick + 64 - to)) from to → IsSteadyFrom word (64 - (to - from))
+still-steady word from to begun later short still place late small =
+    let at : 64 - (to - from) - 1 + (place - (64 - (to - from) - 1)) ≡ place = omega arith in
+    sym (ap word at) ∙ go (place - (64 - (to - from) - 1)) (omega arith)
+  where
+    go : (k : ℕ) → 64 - (to - from) - 1 + k < 64 → word (64 - (to - from) - 1 + k) ≡ word (64 - (to - from) - 1)
+    go zero inside = let at : 64 - (to - from) - 1 + 0 ≡ 64 - (to - from) - 1 = omega arith in ap word at
+    go (suc k) inside =
+        let here : from - 1 + k + 64 - to ≡ 64 - (to - from) - 1 + k = omega arith in
+        let there : suc (from - 1 + k) + 64 - to ≡ 64 - (to - from) - 1 + suc k = omega arith in
+        ap word (sym there) ∙ sym (still (from - 1 + k) (omega arith) (omega arith)) ∙ ap word here ∙ go k (omega arith)
+
+-- so what was collected moves
+pub collected-moves : (changed : List Changed) (from to : ℕ) → 1 ≤ from → from < to → to ≤ from + 63 → All (IsMoved (64 - (to - from))) changed → EachChanges from to changed
+collected-moves changed from to begun later short moved k d small still = moved k d small (still-steady (level_at_place (get_or changed k d).word) from to begun later short still)

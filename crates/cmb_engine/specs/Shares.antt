@@ -1,10 +1,11 @@
 -- A share of a design's nets, simulated by an engine of its own: it drives them, and what they read of other nets is given to it.
-use Rattle.std.specs.Prelude.{◌≡◌, ℕ, Bool, true, false, List, Contains, slice_index_or}
+use Rattle.std.specs.Prelude.{◌≡◌, ℕ, ◌+◌, ◌-◌, All, Bool, true, false, List, Contains, slice_index_or}
 use Rattle.cmb_wave.specs.declared.level.Level.{Level}
 use Rattle.cmb_netlist.specs.Netlist.{driver_of, pins_of}
 use Rattle.cmb_design.specs.Design.{Design}
 use Rattle.cmb_words.specs.declared.changed.Changed.{Changed}
 use Rattle.cmb_words.specs.Changes.{IsStill, TellsNet, is_among}
+use Rattle.cmb_words.specs.Word.{level_at_place}
 
 -- a design, which of its nets are driven and which of these are told ahead, the most ticks of a window, and the tick below which the
 -- driven nets are known
@@ -29,3 +30,7 @@ pub record IsGiven (design : Design) (driven : List Bool) (net : ℕ) : Type 0 w
 pub record TellsThose (Those : ℕ → Type 0) (level : ℕ → ℕ → Level) (from upto : ℕ) (changed : List Changed) : Type 0 where
   pub words : (one : Changed) → Contains changed one → Those one.net → TellsNet level from upto one
   pub others : (net : ℕ) → Those net → is_among net changed ≡ false → IsStill (level net) from upto
+
+-- each word changes at some tick of [from, upto), at whose end it ends
+abbrev pub EachChanges : ℕ → ℕ → List Changed → Type 0
+EachChanges from upto changed = All (λ one. IsStill (λ tick. level_at_place one.word (tick + 64 - upto)) from upto → ⊥) changed

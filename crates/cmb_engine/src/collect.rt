@@ -33,6 +33,7 @@ pub(crate) fn collect(
     ensures rises { OnOk result (RisesWithin 0 nets changed.new.items) }
     ensures words { OnOk result (All (λ c. (place : ℕ) → place < 64
         → level_at_place c.word place ≡ levels_of words.now c.net place) changed.new.items) }
+    ensures moved { OnOk result (All (λ c. IsSteadyFrom (level_at_place c.word) first → ⊥) changed.new.items) }
     ensures others { OnOk result ((net : ℕ) → net < nets → is_among net changed.new.items ≡ false
         → IsSteadyFrom (levels_of words.now net) first) }
 {

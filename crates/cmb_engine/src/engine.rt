@@ -3,6 +3,7 @@
 ghost use Rattle.std.specs.Prelude.{◌≡◌, ◌+◌, ◌<◌, ◌≤◌, IfOk};
 ghost use Rattle.cmb_design.specs.Exact.{nets_of};
 ghost use Rattle.cmb_design.specs.Value.{value};
+ghost use Rattle.cmb_engine.specs.Shares.{EachChanges};
 ghost use Rattle.cmb_words.specs.Changes.{IsWindow, Tells};
 
 use crate::share::ShareEngine;
@@ -98,6 +99,7 @@ impl<'d> Engine<'d> {
             self.entry.clock engine.clock changed.new.items) }
         ensures tells { IfOk result (λ engine. Tells (value self.entry.design) (nets_of self.entry.design)
             self.entry.clock engine.clock changed.new.items) }
+        ensures changes { IfOk result (λ engine. EachChanges self.entry.clock engine.clock changed.new.items) }
     {
         let Engine { share, windows } = self;
         match share.advance(upto, &[], changed) {

@@ -6,7 +6,7 @@ ghost use Rattle.cmb_design.specs.Timing.{delay};
 ghost use Rattle.cmb_design.specs.Value.{value};
 ghost use Rattle.cmb_engine.specs.Crossings.{IsCrossing, IsWithinLookahead};
 ghost use Rattle.cmb_engine.specs.Inner.Roles.{driven_of, AreOf};
-ghost use Rattle.cmb_engine.specs.Shares.{IsDriven, IsGiven, TellsThose};
+ghost use Rattle.cmb_engine.specs.Shares.{IsDriven, IsGiven, EachChanges, TellsThose};
 ghost use Rattle.cmb_engine.specs.Inner.States.{IsCircuit};
 ghost use Rattle.cmb_words.specs.Changes.{IsWindow};
 
@@ -211,6 +211,7 @@ impl<'d> ShareEngine<'d> {
             self.entry.clock engine.clock changed.new.items) }
         ensures tells { IfOk result (λ engine. TellsThose (IsDriven self.entry.driven) (value self.entry.design)
             self.entry.clock engine.clock changed.new.items) }
+        ensures changes { IfOk result (λ engine. EachChanges self.entry.clock engine.clock changed.new.items) }
     {
         let ShareEngine {
             design,

@@ -7,6 +7,7 @@ ghost use Rattle.cmb_words.specs.Changes.{IsWindow, Tells};
 ghost use Rattle.cmb_engine.specs.Inner.Gifts.{AreGiven};
 ghost use Rattle.cmb_engine.specs.Inner.Roles.{level_in};
 ghost use Rattle.cmb_engine.specs.Inner.States.{IsCircuit, IsState};
+ghost use Rattle.cmb_engine.specs.Shares.{EachChanges};
 
 use crate::circuit::Circuit;
 use crate::collect::collect;
@@ -59,6 +60,7 @@ impl State {
         ensures tells { OnOk result (Tells
             (level_in design.now circuit.now.wiring.roles.items) (nets_of design.now)
             self.old.clock self.new.clock changed.new.items) }
+        ensures changes { OnOk result (EachChanges self.old.clock self.new.clock changed.new.items) }
     {
         // The proof learns here how late the horizon is at most.
         let _horizon = design.horizon();

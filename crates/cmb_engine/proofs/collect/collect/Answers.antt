@@ -1,4 +1,5 @@
-use Rattle.std.proofs.Common.{inl, inr, refl, arith}
+use Rattle.std.proofs.Common.{inl, inr, refl, sym, ◌∙◌, arith}
+use Rattle.std.proofs.lemmas.Bool.{false≢true}
 use Rattle.cmb_engine.specs.Inner.Bits.{has}
 use Rattle.cmb_engine.specs.Inner.Walks.{walked}
 use Rattle.cmb_engine.specs.Inner.Words.{levels_of}
@@ -12,7 +13,7 @@ nets-preserved-in-Continue-1 c =
     record {
       within = omega (arith, found.1, found.2);
       collected = collected-next c.args.words.now c.args.first (walked c.nets.walk) c.in-Some.net _ c.index-words-net.result (has c.args.live.now) c.nets.changed.items c.push.new.self.items
-          c.requires.first found.0.from (omega (arith, c.requires.nets, found.2)) found.1 c.index-words-net.is found.0.least c.requires.quiet (inr c.in_ok-push.ensures.items)
+          c.requires.first found.0.from (omega (arith, c.requires.nets, found.2)) found.1 c.index-words-net.is found.0.least c.requires.quiet (inr (c.in_ok-push.ensures.items, λ steady. false≢true (sym c.if-not-is_steady_from.true ∙ c.is_steady_from.ensures.changes steady)))
           c.nets.invariant.collected;
     }
 
@@ -37,3 +38,6 @@ returns-clause-rises c = (at_end c).rises
 
 pub returns-clause-others : goal.returns-clause-others
 returns-clause-others c = (at_end c).others
+
+pub returns-clause-moved : goal.returns-clause-moved
+returns-clause-moved c = (at_end c).moved

@@ -4,6 +4,7 @@ use Rattle.cmb_design.specs.Exact.{nets_of}
 use Rattle.cmb_design.specs.Value.{value}
 use Rattle.cmb_words.specs.Changes.{Tells}
 use Rattle.cmb_engine.specs.Engines.{Engine}
+use Rattle.cmb_engine.specs.Shares.{EachChanges}
 use Rattle.cmb_engine.proofs.ShareFacts.{all-told, drives-on, none-given}
 use Rattle.cmb_engine.proofs.engine.Engine.advance.Goals as goal
 
@@ -21,3 +22,6 @@ pub returns-in-Ok-clause-tells : goal.returns-in-Ok-clause-tells
 returns-in-Ok-clause-tells c =
     subst (λ (e : Engine). Tells (value e.design) (nets_of e.design) e.clock c.in-Ok.share.clock c.advance.new.changed.items) c.self.view_is
     (all-told c.self.inside.share c.self.inside.share.clock c.in-Ok.share.clock c.advance.new.changed.items c.self.invariant.drives c.in-Ok.ensures.window.nets c.in-Ok.ensures.tells)
+
+pub returns-in-Ok-clause-changes : goal.returns-in-Ok-clause-changes
+returns-in-Ok-clause-changes c = subst (λ (e : Engine). EachChanges e.clock c.in-Ok.share.clock c.advance.new.changed.items) c.self.view_is c.in-Ok.ensures.changes

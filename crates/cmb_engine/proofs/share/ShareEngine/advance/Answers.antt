@@ -2,7 +2,7 @@ use Rattle.std.proofs.Common.{◌+◌, ◌<◌, ◌≤◌, ap, subst, sym}
 use Rattle.cmb_design.specs.Exact.{nets_of}
 use Rattle.cmb_words.specs.Changes.{IsWindow}
 use Rattle.cmb_design.specs.Value.{value}
-use Rattle.cmb_engine.specs.Shares.{IsDriven, IsGiven, ShareEngine, TellsThose}
+use Rattle.cmb_engine.specs.Shares.{IsDriven, IsGiven, EachChanges, ShareEngine, TellsThose}
 use Rattle.cmb_engine.proofs.RoleFacts.{share-tells}
 use Rattle.cmb_engine.proofs.share.ShareEngine.advance.Goals as goal
 
@@ -43,3 +43,6 @@ returns-in-Ok-clause-window c =
 
 pub invariant_of-result : goal.invariant_of-result
 invariant_of-result c = (c.self.invariant.0, c.in-Ok.ensures.state, c.self.invariant.2, c.self.invariant.3)
+
+pub returns-in-Ok-clause-changes : goal.returns-in-Ok-clause-changes
+returns-in-Ok-clause-changes c = subst (λ (e : ShareEngine). EachChanges e.clock c.advance.new.self.clock c.advance.new.changed.items) c.self.view_is c.in-Ok.ensures.changes

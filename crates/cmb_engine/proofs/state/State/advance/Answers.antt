@@ -14,7 +14,7 @@ use Rattle.cmb_engine.specs.Inner.Lines.{AreFollowers, IsAhead, IsOfLine, NotesE
 use Rattle.cmb_engine.specs.Inner.Traces.{trace_of}
 use Rattle.cmb_engine.specs.Inner.Words.{levels_of}
 use Rattle.cmb_engine.specs.declared.cell.Pin.{Pin}
-use Rattle.cmb_engine.proofs.CollectFacts.{HasWord}
+use Rattle.cmb_engine.proofs.CollectFacts.{HasWord, collected-moves}
 use Rattle.cmb_engine.proofs.EngineFacts.{gift-slots, lines-ahead, next-ahead, next-shows, told-slots, window-changes}
 use Rattle.cmb_engine.proofs.state.State.advance.Goals as goal
 use Rattle.cmb_engine.proofs.state.State.advance.Goals.{After-note_lines}
@@ -136,4 +136,11 @@ returns-clause-tells c =
     on_ok_weaker c.note_lines.result
     (λ notes. window-changes c.args.design.now c.args.circuit.now c.args.self.now c.requires.circuit c.requires.state c.take.new.self c.take.new.taken.items c.args.upto
     c.requires.later c.requires.short c.requires.within c.in_ok-take.ensures.takes c.go_on.new.words (shows c) c.collect.new.changed.items (rises c) (right c) (others c))
+    c.note_lines.ensures.notes
+
+pub returns-clause-changes : goal.returns-clause-changes
+returns-clause-changes c =
+    on_ok_weaker c.note_lines.result
+    (λ notes. collected-moves c.collect.new.changed.items c.args.self.now.clock c.args.upto c.requires.state.begun c.requires.later
+    (omega (arith, c.requires.short, c.requires.circuit.plan.fits)) c.in_ok-collect.ensures.moved)
     c.note_lines.ensures.notes
