@@ -1,3 +1,4 @@
 mod OnesFacts
+pub mod PartFacts
 mod TallyFacts
 mod WindowFacts

@@ -12,6 +12,8 @@ use Rattle.cmb_design.specs.Exact.{nets_of}
 use Rattle.cmb_design.specs.Value.{value}
 use Rattle.cmb_dump.specs.Excerpts.{AreAmong}
 use Rattle.cmb_restrict.specs.Restriction.{IsRestriction}
+use Rattle.cmb_activity.specs.Texts.{activity_table}
+use Rattle.cmb_activity.proofs.PartFacts.{activity_table-part}
 use Rattle.cmb_vcd.specs.Chosen.{vcd_of}
 use Rattle.cmb_words.specs.Changes.{Tells}
 use Rattle.cmb_words.specs.declared.changed.Changed.{Changed}
@@ -32,13 +34,25 @@ shown-whole design own nets shown upto text a b done is = is ∙ ap (shown_text 
 pub shown-more : (front text more all old new : List ℕ) → all ≡ text ++ more → new ≡ old ++ more → front ++ text ≡ old → front ++ all ≡ new
 shown-more front text more all old new a b is = ap (λ t. front ++ t) a ∙ sym (append_assoc front text more) ∙ ap (λ t. t ++ more) is ∙ sym b
 
--- chosen nets in a part
+-- ---- chosen nets in a part
+
+part-names : (design part : Design) (nets : List ℕ) → IsRestriction design nets part
+    → (net : ℕ) → net < length nets → name_of part.netlist net ≡ name_of design.netlist (get_or nets net 0)
+part-names design part nets is net h = ap (λ names. get_or names net []) is.netlist.names ∙ get_or-map (name_of design.netlist) nets net 0 [] h
+
 pub part-text : (design part : Design) (nets chosen places : List ℕ) → IsRestriction design nets part
     → ((i tick : ℕ) → i < length nets → value part i tick ≡ value design (get_or nets i 0) tick)
     → All (λ place. place < length nets) places → map (λ place. get_or nets place 0) places ≡ chosen → vcd_of part places ≡ vcd_of design chosen
 part-text design part nets chosen places is values within same =
-    vcd_of-part design part nets places is.horizon (λ net h. ap (λ names. get_or names net []) is.netlist.names ∙ get_or-map (name_of design.netlist) nets net 0 [] h) values within
+    vcd_of-part design part nets places is.horizon (part-names design part nets is) values within
     ∙ ap (vcd_of design) same
+
+pub part-table : (design part : Design) (nets chosen places : List ℕ) → IsRestriction design nets part
+    → ((i tick : ℕ) → i < length nets → value part i tick ≡ value design (get_or nets i 0) tick)
+    → All (λ place. place < length nets) places → map (λ place. get_or nets place 0) places ≡ chosen → activity_table part places ≡ activity_table design chosen
+part-table design part nets chosen places is values within same =
+    activity_table-part design part nets places is.horizon (part-names design part nets is) values within
+    ∙ ap (activity_table design) same
 
 -- what an engine tells, as an excerpt is told it
 pub tells-as : (own shown design : Design) (from clock upto end : ℕ) (changed read : List Changed) → own ≡ design → shown ≡ design → from ≡ clock → end ≡ upto → read ≡ changed

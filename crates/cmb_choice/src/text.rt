@@ -1,6 +1,7 @@
 //! The text of chosen nets.
 
 ghost use Rattle.std.specs.Prelude.{◌≡◌, ◌<◌, ◌≤◌, length, map, slice_index, All, IfOk};
+ghost use Rattle.cmb_activity.specs.Texts.{activity_table};
 ghost use Rattle.cmb_choice.specs.Parts.{IsPartOf};
 ghost use Rattle.cmb_design.specs.Exact.{nets_of};
 ghost use Rattle.cmb_dump.specs.Excerpts.{AreAmong};
@@ -19,12 +20,14 @@ pub struct Part {
 }
 
 /// The least part of a design that has the chosen nets, which rise, and with each net those that its value rule asks
-/// for. The chosen nets have the same text there.
+/// for. The chosen nets have the same text there, and are as active.
 pub fn part_of(alloc: Global, design: &Design, chosen: &[u32]) -> Result<Part, AllocError>
     requires { AreAmong (nets_of design.now) chosen.now }
     ensures part { IfOk result (λ part. IsPartOf design.now chosen.now part.design part.nets.items) }
     ensures among { IfOk result (λ part. AreAmong (nets_of part.design) part.nets.items) }
     ensures text { IfOk result (λ part. vcd_of part.design part.nets.items ≡ vcd_of design.now chosen.now) }
+    ensures activity { IfOk result (λ part.
+        activity_table part.design part.nets.items ≡ activity_table design.now chosen.now) }
 {
     let count = design.netlist().len();
     let nets = closure(alloc, design.netlist(), chosen)?;

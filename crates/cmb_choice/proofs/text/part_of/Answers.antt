@@ -1,6 +1,6 @@
 use Rattle.std.proofs.Common.{List, ℕ, arith, subst, sym}
 use Rattle.std.specs.Prelude.{All, Contains}
-use Rattle.cmb_choice.proofs.RunFacts.{part-among, part-text}
+use Rattle.cmb_choice.proofs.RunFacts.{part-among, part-table, part-text}
 use Rattle.cmb_choice.proofs.text.part_of.Goals as goal
 
 pub places_in-requires-clause-there : goal.places_in-requires-clause-there
@@ -16,4 +16,9 @@ returns-clause-among c =
 pub returns-clause-text : goal.returns-clause-text
 returns-clause-text c =
     part-text c.args.design.now c.in_ok-part.part c.in_ok-nets.nets.items c.args.chosen.now _ (rw c.deref.ensures.value at c.in_ok-part.ensures.part) (rw c.deref.ensures.value at c.in_ok-part.ensures.values)
+    (rw c.deref-2.ensures.value at c.in-Ok.ensures.within) (rw c.deref-2.ensures.value at c.in-Ok.ensures.back)
+
+pub returns-clause-activity : goal.returns-clause-activity
+returns-clause-activity c =
+    part-table c.args.design.now c.in_ok-part.part c.in_ok-nets.nets.items c.args.chosen.now _ (rw c.deref.ensures.value at c.in_ok-part.ensures.part) (rw c.deref.ensures.value at c.in_ok-part.ensures.values)
     (rw c.deref-2.ensures.value at c.in-Ok.ensures.within) (rw c.deref-2.ensures.value at c.in-Ok.ensures.back)
