@@ -67,10 +67,10 @@ inverter_counts='       2  nets
        0  rows of clocks
 '
 
-counted() { # counted NAME TEXT WORDS..: the text is on standard output, of the netlist of the example
+counted() { # counted NAME TEXT TASK WORDS..: the text is on standard output, of the netlist of the example
     local name=$1
-    answered "$name.counts" "${@:2}"
-    cp "$examples/$name/netlist.bench" "$cases/$name.counts"
+    answered "$name.$3" "${@:2}"
+    cp "$examples/$name/netlist.bench" "$cases/$name.$3"
 }
 
 answered() { # answered NAME TEXT WORDS..: the text is on standard output
@@ -112,6 +112,10 @@ refused check_with_a_mode 2 check --horizon 10 --mode plain
 refused check_of_a_missing_file 1 check --horizon 10 --stimuli missing.csv
 refused check_of_a_netlist_as_a_table 1 check --horizon 10 --delays inverter.netlist.csv
 counted inverter "$inverter_counts" check --horizon 10
+counted inverter $'net,changes,low,high,unknown\na,0,0,0,10\ny,0,0,0,10\n' activity --horizon 10
+refused activity_with_stats 2 activity --horizon 10 --stats
+refused activity_with_progress 2 activity --horizon 10 --progress
+refused activity_of_a_missing_list 1 activity --horizon 10 --only missing
 refused netlist_as_a_word 2 run --horizon 10 netlist.bench
 refused horizon_of_0 2 run --horizon 0
 refused no_horizon 2 run --mode rounds
@@ -423,10 +427,17 @@ else
     failed=$((failed + 1))
     echo "end to end: chosen nets FAILED"
 fi
+if scripts/activity_cases.py --times 1 --random 30 "$program" "$examples"/*; then
+    passed=$((passed + 1))
+else
+    failed=$((failed + 1))
+    echo "end to end: activities FAILED"
+fi
 for netlist in "$examples"/*/netlist.bench; do
     looped "$(basename "$(dirname "$netlist")")"
 done
 on_full_disk run --horizon 10
+on_full_disk activity --horizon 10
 on_full_disk --help
 on_full_disk --version
 real aes128 --mode plain

@@ -386,9 +386,11 @@ def completed(*words):
 
 
 def test_completions():
-    see("commands", completed("cmbsim", ""), ["run", "check", "explain", "help", "--help", "--version"])
+    see("commands", completed("cmbsim", ""), ["run", "activity", "check", "explain", "help", "--help", "--version"])
     see("options", completed("cmbsim", "run", "--horizon", "9", "--cl"), ["--clock", "--clocks", "--clusters"])
     see("options of check", completed("cmbsim", "check", "--horizon", "9", "--cl"), ["--clock", "--clocks"])
+    see("options of activity", completed("cmbsim", "activity", "--horizon", "9", "--only"), ["--only", "--only-outputs"])
+    see("what activity doesn't tell", completed("cmbsim", "activity", "--horizon", "9", "--s"), ["--stimuli"])
     see("modes", completed("cmbsim", "run", "--mode", ""), ["rounds", "free", "plain"])
     see("a mode", completed("cmbsim", "run", "--mode", "f"), ["free"])
     see("levels", completed("cmbsim", "run", "--init", ""), ["0", "1", "x"])
@@ -406,7 +408,7 @@ def test_words():
         manual = file.read().replace("\\-", "-")
     with open(f"{TOP}/completions/cmbsim.bash", encoding="ascii") as file:
         completions = file.read()
-    see("the line has words", {"run", "check", "explain", "horizon", "clocks"} <= words, True)
+    see("the line has words", {"run", "activity", "check", "explain", "horizon", "clocks"} <= words, True)
     for name, text in (("the manual page", manual), ("completions", completions)):
         see(f"words that {name} lacks", [word for word in sorted(words) if not re.search(rf"\b{word}\b", text)], [])
 
@@ -420,9 +422,63 @@ def test_nets():
             see(f"nets of {patterns}", run(folder, ["nets.py", *patterns], netlist), wanted)
 
 
+# ---- saif.py
+
+SAIF_HEAD = """\
+(SAIFILE
+(SAIFVERSION "2.0")
+(DIRECTION "backward")
+(DESIGN )
+(DATE )
+(VENDOR )
+(PROGRAM_NAME "cmbsim")
+(VERSION )
+(DIVIDER .)
+"""
+# Two nets of the top, two of an instance, with one of an instance of its own between them, and one that isn't parted.
+ACTIVITIES = 'net,changes,low,high,unknown\na,1,5,5,0\nu.led[0],2,4,5,1\n"""b""",0,0,0,10\nu.v.q$,3,9,1,0\nu.led[1],0,10,0,0\n.c,1,9,0,1\n'
+SAIF = SAIF_HEAD + """\
+(TIMESCALE 1 ns)
+(DURATION 10)
+(INSTANCE top
+  (NET
+    (a (T0 5) (T1 5) (TX 0) (TC 1))
+    (\\"b\\" (T0 0) (T1 0) (TX 10) (TC 0))
+    (\\.c (T0 9) (T1 0) (TX 1) (TC 1))
+  )
+  (INSTANCE u
+    (NET
+      (led\\[0\\] (T0 4) (T1 5) (TX 1) (TC 2))
+      (led\\[1\\] (T0 10) (T1 0) (TX 0) (TC 0))
+    )
+    (INSTANCE v
+      (NET
+        (q\\$ (T0 9) (T1 1) (TX 0) (TC 3))
+      )
+    )
+  )
+)
+)
+"""
+
+
+def test_saif():
+    with tempfile.TemporaryDirectory() as folder:
+        saif = lambda text, *words: run(folder, ["saif.py", *words], text)
+        see("saif of scopes", saif(ACTIVITIES), (0, SAIF, ""))
+        see("saif of a top", saif("net,changes,low,high,unknown\n", "--top", "chip", "--timescale", "10 ps"),
+            (0, SAIF_HEAD + "(TIMESCALE 10 ps)\n(DURATION 0)\n(INSTANCE chip\n)\n)\n", ""))
+        for text, said in (("", "record 1: not the header net,changes,low,high,unknown"), ("net,changes,low,high\n", "record 1: not the header net,changes,low,high,unknown"),
+                           ("net,changes,low,high,unknown\na,1,5,5\n", "record 2: not a net and four numbers"),
+                           ("net,changes,low,high,unknown\na,1,5,5,0\nb,1,5,x,0\n", "record 3: not a net and four numbers"),
+                           ("net,changes,low,high,unknown\na,1,5,5,0\nb,1,5,5,1\n", "record 3: 11 ticks, and 10 before")):
+            see(f"saif of {text!r}", saif(text), (1, "", f"saif.py: {said}\n"))
+        see("saif of a wrong time", saif(ACTIVITIES, "--timescale", "1ns")[0], 2)
+
+
 def main():
     for test in (test_compare, test_compare_names, test_unreadable, test_read, test_gtkw, test_parts, test_gtkw_parts, test_convert, test_kept, test_clocks, test_refusals, test_loops,
-                 test_completions, test_words, test_nets):
+                 test_completions, test_words, test_nets, test_saif):
         test()
     print(f"{COUNTS['passed']} passed, {COUNTS['failed']} failed")
     return 1 if COUNTS["failed"] else 0

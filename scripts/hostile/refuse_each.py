@@ -3,8 +3,8 @@
 
 Each request is refused alone, and with all that follow it, until a run meets none that is refused. The answer has to
 be fault 70, or what it is with ample memory where the refused request wasn't needed; what was written has to be a
-beginning of the whole text, and nothing in the modes that write at the end, nor where nets are chosen, since that text
-is made whole before any of it is written. Where all later requests are refused too, the line of fault 70 may be
+beginning of the whole text, and nothing in the modes that write at the end, nor where nets are chosen or activities are asked
+for, since that text is made whole before any of it is written. Where all later requests are refused too, the line of fault 70 may be
 missing, since it needs memory itself. No run may last longer than 20 seconds.
 
 Then the programs run under rising limits of their address space, where the C library itself finds no memory, for a
@@ -17,7 +17,7 @@ import resource
 import subprocess
 import sys
 
-from tools import HERE, JOBS, PROGRAM, ROOT, Answer, Case, Files, Tally, clocks, each, example, listed, modes, outputs, picked, run, toggle
+from tools import HERE, JOBS, PROGRAM, ROOT, Answer, Case, Files, Tally, clocks, each, example, listed, measured, measured_list, modes, outputs, picked, run, toggle
 
 SECONDS = 20
 EVENTS = os.path.abspath(os.environ.get("PLAY_EVENTS", os.path.join(ROOT, "crates", "play_events", "out", "play_events")))
@@ -150,15 +150,15 @@ def is_right_line(answer, whole, more):
 
 
 def check_program(tally, files, shim):
-    for case in picked([toggle(), clocks(), example("inverter"), example("s27"), example("c17"), listed(), outputs()]):
-        threads = (3,) if case.chooses() else ()
+    for case in picked([toggle(), clocks(), example("inverter"), example("s27"), example("c17"), listed(), outputs(), measured(), measured_list()]):
+        threads = (3,) if case.is_whole_first() else ()
         for mode, more_words in modes(rounds=((1, 1), (1, 2), (2, 2)), free=((1, 2), (2, 2), (3, 3)), threads=threads).items():
             words = [PROGRAM] + files.words(case) + more_words
             name = f"{case.name}, {mode}"
             whole = run(words, case.netlist)
             if not tally.check(whole == Answer(0, case.expected, b""), lambda: f"{name}: {whole}"):
                 continue
-            early = mode.startswith("free") and not case.chooses()
+            early = mode.startswith("free") and not case.is_whole_first()
             patience = 30 if early else 3
             sweep(tally, name, words, case.netlist, whole, shim, lambda a, more: is_right(a, whole, more, early), patience)
 

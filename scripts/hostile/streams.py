@@ -9,7 +9,7 @@ import errno
 import os
 import subprocess
 
-from tools import HERE, PROGRAM, Answer, Files, Tally, clocks, each, example, listed, modes, outputs, picked, run, toggle
+from tools import HERE, PROGRAM, Answer, Files, Tally, clocks, each, example, listed, measured, measured_list, modes, outputs, picked, run, toggle
 
 SECONDS = 60
 INPUTS = ("netlist", "delays", "stimuli", "clocks", "only")
@@ -54,9 +54,9 @@ def main():
     tally, files = Tally(), Files()
     shim = files.path("streams.so")
     subprocess.run(["gcc", "-O2", "-shared", "-fPIC", "-o", shim, os.path.join(HERE, "streams.c")], check=True)
-    for case in picked([toggle(), clocks(), example("inverter"), listed(), outputs()]):
+    for case in picked([toggle(), clocks(), example("inverter"), listed(), outputs(), measured(), measured_list()]):
         before = tally.passed
-        threads = (3,) if case.chooses() else ()
+        threads = (3,) if case.is_whole_first() else ()
         for mode, more in modes(rounds=((1, 1), (2, 2)), free=((1, 1), (2, 2), (3, 3)), threads=threads).items():
             words, name = [PROGRAM] + files.words(case) + more, f"{case.name}, {mode}"
             for most in (1, 7):

@@ -30,18 +30,19 @@ PLACES = {
 
 
 class Case:
-    """A netlist, the words of a line, the files by the options that take them, and the whole text where it is known."""
+    """A netlist, the words of a line, the files by the options that take them, the whole text where it is known, and the task."""
 
-    def __init__(self, name, netlist, words, tables=None, expected=None):
+    def __init__(self, name, netlist, words, tables=None, expected=None, task="run"):
         self.name = name
         self.netlist = netlist
         self.words = words
         self.tables = tables or {}
         self.expected = expected
+        self.task = task
 
-    def chooses(self):
-        """Whether some nets alone are written, whose text is made whole before any of it is."""
-        return "only" in self.tables or "--only-outputs" in self.words
+    def is_whole_first(self):
+        """Whether the text is made whole before any of it is written, in each mode: that of some nets alone, and a table of activities."""
+        return self.task == "activity" or "only" in self.tables or "--only-outputs" in self.words
 
 
 class Answer:
@@ -184,6 +185,18 @@ def outputs():
     return Case("outputs", b"OUTPUT(p)\n" + case.netlist, case.words + ["--only-outputs"], case.tables, text("p", "#0 0! #7 1! #12"))
 
 
+def measured():
+    """How active the nets of `clocks` are."""
+    case = clocks()
+    return Case("measured", case.netlist, case.words, case.tables, b"net,changes,low,high,unknown\na,1,3,9,0\np,1,7,5,0\nq,1,8,4,0\n", "activity")
+
+
+def measured_list():
+    """How active those are that the list of `listed` names."""
+    case = listed()
+    return Case("measured list", case.netlist, case.words, case.tables, b"net,changes,low,high,unknown\na,1,3,9,0\nq,1,8,4,0\n", "activity")
+
+
 def picked(cases):
     """Those of the cases that the script's words name, all where there are no words."""
     return [case for case in cases if case.name in (sys.argv[1:] or [case.name])]
@@ -206,7 +219,7 @@ class Files:
 
     def words(self, case):
         """The words of a case's line, its tables written to files."""
-        words = ["run"] + case.words
+        words = [case.task] + case.words
         for table, data in case.tables.items():
             words += ["--" + table, self.write(f"{case.name}.{table}.csv", data)]
         return words

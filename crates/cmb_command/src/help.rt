@@ -33,6 +33,9 @@ pub const ABOUT: &str = "Simulates a gate-level netlist and writes the waveforms
 pub const RUN: &str =
     "Reads a netlist from standard input and writes a value change dump (VCD) to standard output";
 
+pub const ACTIVITY: &str =
+    "Reads what run would simulate, and writes how active each net is, as comma-separated values";
+
 pub const CHECK: &str =
     "Reads what run would simulate, and counts its nets, gates, flip-flops, clocks and rows";
 
@@ -74,7 +77,20 @@ pub const WORKERS: &str =
 
 pub const PARTS: &str = "Clusters of nets that workers share out, 1 to 64 [default: 1]";
 
-/// What stands below the options: the files, the modes, the statuses and a line to begin with.
+/// What stands below the options of `activity`.
+pub const TABLE: &str = "\
+Of each net, in order: how often it changes after tick 0, and at how many of the ticks it is 0, 1
+and x. An inverter's, where its input rises at tick 5 of 10:
+    net,changes,low,high,unknown
+    a,1,5,5,0
+    y,2,4,5,1
+The netlist, the tables, the list, the statuses and the faults are those of run, whose help has
+their forms. One thread counts, in each mode; in mode plain a design is refused where run refuses it.
+
+Example, in the repository's folder examples/inverter:
+    cmbsim activity --horizon 10 --stimuli stimuli.csv < netlist.bench > activity.csv";
+
+/// What stands below the options of `run`: the files, the modes, the statuses and a line to begin with.
 pub const FILES: &str = "\
 Time is whole ticks; the VCD has one tick as 1 ns. A level is 0, 1 or x, which is: not known.
 All nets are x before tick 0. An input has at most 16,777,216 bytes; a table not given is empty.

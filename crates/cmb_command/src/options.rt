@@ -30,7 +30,7 @@ pub(crate) struct Choosable {
     excludes: &'static [&'static str],
 }
 
-/// Of both commands: what is simulated, and whether a fault is told in words.
+/// Of all commands but `explain`: what is simulated, and whether a fault is told in words.
 pub(crate) const SETTINGS: &[Choosable] = &[
     Choosable {
         name: "horizon",
@@ -76,8 +76,8 @@ pub(crate) const SETTINGS: &[Choosable] = &[
     },
 ];
 
-/// Of `run`: how it is run, which nets are written, and what is told of it on standard error. `threads` says how many
-/// share the work, where nobody says who has which nets.
+/// Of those that simulate: how that is done, and which nets are written. `threads` says how many share the work, where
+/// nobody says who has which nets.
 pub(crate) const RUNNING: &[Choosable] = &[
     Choosable {
         name: "mode",
@@ -115,6 +115,10 @@ pub(crate) const RUNNING: &[Choosable] = &[
         help: ONLY_OUTPUTS,
         excludes: &[],
     },
+];
+
+/// Of `run`: what is told of it on standard error.
+pub(crate) const TELLING: &[Choosable] = &[
     Choosable {
         name: "progress",
         takes: Takes::Nothing,

@@ -9,8 +9,8 @@ ghost use Rattle.cmb_line.specs.Modes.{IsLawful, IsLawfulCount, clusters_of, wor
 
 use crate::clock::clock_of;
 use crate::explaining::{explain_command, explain_fault, explain_message};
-use crate::help::{ABOUT, BEGIN, CHECK, FILES, NETLIST_HINT, RUN, USUAL, VERSION};
-use crate::options::{RUNNING, SETTINGS, with_options};
+use crate::help::{ABOUT, ACTIVITY, BEGIN, CHECK, FILES, NETLIST_HINT, RUN, TABLE, USUAL, VERSION};
+use crate::options::{RUNNING, SETTINGS, TELLING, with_options};
 use clap::error::ErrorKind;
 use clap::{ArgMatches, Command, Error};
 use cmb_design::Settings;
@@ -18,7 +18,7 @@ use cmb_line::{Choice, Line, Mode, Pick, Task};
 use cmb_wave::Level;
 use std::alloc::{AllocError, Global};
 
-/// Why the words ask for no run and no check.
+/// Why the words ask for nothing that is done with a design.
 #[derive(Clone, Copy, Debug, PartialEq, Eq)]
 pub enum LineFault {
     /// They ask for help, for the version, or for the explanation of a fault.
@@ -50,6 +50,16 @@ fn run_command<'a>(alloc: Global) -> Result<Command<'a>, AllocError> {
         .about(RUN)
         .before_help(USUAL)
         .after_help(FILES);
+    let command = with_options(alloc, command, SETTINGS)?;
+    let command = with_options(alloc, command, RUNNING)?;
+    with_options(alloc, command, TELLING)
+}
+
+// The command line of `activity`.
+fn activity_command<'a>(alloc: Global) -> Result<Command<'a>, AllocError> {
+    let command = Command::new(alloc, "activity")
+        .about(ACTIVITY)
+        .after_help(TABLE);
     let command = with_options(alloc, command, SETTINGS)?;
     with_options(alloc, command, RUNNING)
 }
@@ -85,6 +95,7 @@ fn with_command<'a>(
 // The whole command line.
 fn whole_command<'a>(alloc: Global) -> Result<Command<'a>, AllocError> {
     let line = with_command(bare_command(alloc)?, run_command(alloc))?;
+    let line = with_command(line, activity_command(alloc))?;
     let line = with_command(line, check_command(alloc))?;
     with_command(line, explain_command(alloc))
 }
@@ -291,6 +302,8 @@ fn line_in(alloc: Global, matches: &ArgMatches<'_>) -> Result<Line, LineFault>
 {
     if let Some(run) = matches.subcommand_matches("run") {
         line_of(alloc, Task::Run, run)
+    } else if let Some(activity) = matches.subcommand_matches("activity") {
+        line_of(alloc, Task::Activity, activity)
     } else if let Some(check) = matches.subcommand_matches("check") {
         line_of(alloc, Task::Check, check)
     } else if let Some(explain) = matches.subcommand_matches("explain") {
@@ -300,7 +313,7 @@ fn line_in(alloc: Global, matches: &ArgMatches<'_>) -> Result<Line, LineFault>
     }
 }
 
-/// Reads the words after the program's name: `run` or `check`, and its options. The horizon of a line is 1 to 1,000,000
+/// Reads the words after the program's name: `run`, `activity` or `check`, and its options. The horizon of a line is 1 to 1,000,000
 /// ticks, and it has 1 to 64 threads, or workers and clusters; it chooses the nets of a list just where it names one.
 /// Errors: `Help` where the words ask for help, the version
 /// or the explanation of a fault, `Wrong` where they aren't a line of the program, `Clock` where only the value of
@@ -349,7 +362,7 @@ fn answer_message(alloc: Global, matches: &ArgMatches<'_>) -> Result<String, All
     }
 }
 
-/// What the program says of words that ask for no run and no check: the text of help, the version or the explanation
+/// What the program says of words that ask for nothing that is done with a design: the text of help, the version or the explanation
 /// where they ask for that, else what is wrong with them and how they are written. Of other words it is empty.
 pub fn line_message(alloc: Global, words: &[String]) -> Result<String, AllocError> {
     match parse(alloc, words) {

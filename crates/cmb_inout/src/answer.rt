@@ -18,6 +18,8 @@ pub struct Report {
 pub enum Done {
     /// The waveforms were written.
     Ran(Report),
+    /// The table of activities was written.
+    Measured(Report),
     /// The counts were written.
     Checked(Counts),
 }

@@ -7,13 +7,15 @@ use cmb_design::Settings;
 /// What is done with a design.
 #[derive(Clone, Copy, Debug, PartialEq, Eq)]
 pub enum Task {
-    /// It is simulated.
+    /// It is simulated, and its waveforms are written.
     Run,
+    /// It is simulated, and how active its nets are is written.
+    Activity,
     /// It is read and counted.
     Check,
 }
 
-/// What a run is asked for.
+/// What a simulation is asked for.
 #[derive(Clone, Copy)]
 pub struct Request {
     pub settings: Settings,

@@ -1,5 +1,6 @@
 -- what the public contracts rest on
 pub mod Simulation
+pub mod Activities
 pub mod Tasks
 -- what the functions inside the crate promise each other
 pub mod Inner

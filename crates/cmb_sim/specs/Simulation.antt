@@ -70,11 +70,15 @@ of_all settings mode = record { settings = settings; mode = mode; threads = None
 abbrev pub report_of : Design → List ℕ → Report
 report_of design text = record { nets = nets_of design; horizon = design.horizon; written = length text }
 
--- of the texts comes this text, with this report
-abbrev pub Makes : Request → Texts → List ℕ → Report → Type 0
-Makes request texts text report =
-    (design : Design) × SpellAny texts request.settings design × IsTextOf request.choice design texts.names text × CanRun request design
+-- of the texts comes a text, which IsText says of their design and of the names that are listed, with this report
+abbrev pub MakesText : (Design → List ℕ → List ℕ → Type 0) → Request → Texts → List ℕ → Report → Type 0
+MakesText IsText request texts text report =
+    (design : Design) × SpellAny texts request.settings design × IsText design texts.names text × CanRun request design
     × (report ≡ report_of design text)
+
+-- of the texts comes the text that is asked for
+abbrev pub Makes : Request → Texts → List ℕ → Report → Type 0
+Makes request texts text report = MakesText (IsTextOf request.choice) request texts text report
 
 -- why no nets are chosen
 abbrev pub IsUnasked : Choice → Netlist → List ℕ → Fault → Type 0

@@ -1,4 +1,4 @@
--- What comes of a line: the outcome of its run, or the counts of what its inputs spell.
+-- What comes of a line: the outcome of its run, the table of activities, or the counts of what its inputs spell.
 use Rattle.std.specs.Prelude.{◌≡◌, ℕ, List, Result, Ok, Err}
 use Rattle.cmb_count.specs.Texts.{counts_rows}
 use Rattle.cmb_count.specs.declared.counts.Counts.{Counts}
@@ -8,14 +8,15 @@ use Rattle.cmb_line.specs.declared.choice.Choice.TheVariants.{All}
 use Rattle.cmb_line.specs.declared.line.Line.{Line}
 use Rattle.cmb_line.specs.declared.line.Request.{Request}
 use Rattle.cmb_line.specs.declared.line.Task.{Task}
-use Rattle.cmb_line.specs.declared.line.Task.TheVariants.{Run, Check}
+use Rattle.cmb_line.specs.declared.line.Task.TheVariants.{Run, Activity, Check}
 use Rattle.cmb_inputs.specs.Checking.{IsCountOf}
 use Rattle.cmb_inputs.specs.Inputs.{Input, IsReading, Texts}
 use Rattle.cmb_inputs.specs.Outputs.{IsUntouched, Output}
 use Rattle.cmb_inputs.specs.Spelling.{HaveTextFault}
+use Rattle.cmb_sim.specs.Activities.{IsMeasured}
 use Rattle.cmb_sim.specs.Simulation.{IsMade, IsOutcome}
 use Rattle.cmb_inout.specs.declared.answer.Done.{Done}
-use Rattle.cmb_inout.specs.declared.answer.Done.TheVariants.{Ran, Checked}
+use Rattle.cmb_inout.specs.declared.answer.Done.TheVariants.{Ran, Measured, Checked}
 use Rattle.cmb_inout.specs.declared.fault.Fault.{Fault}
 
 abbrev pub request_of : Line → Request
@@ -24,6 +25,7 @@ request_of line = record { settings = line.settings; mode = line.mode; threads =
 -- of the nets that a line chooses a check asks nothing
 abbrev pub choice_for : Task → Choice → Choice
 choice_for Run choice = choice
+choice_for Activity choice = choice
 choice_for Check choice = All
 
 abbrev pub choice_in : Line → Choice
@@ -32,8 +34,14 @@ choice_in line = choice_for line.task line.choice
 -- a run answers as a simulation of what the line asks for does
 abbrev pub IsRan : Line → List Input → Output → Result Done Fault → Type 0
 IsRan line inputs o (Ok (Ran report)) = IsOutcome (request_of line) inputs o (Ok report)
-IsRan line inputs o (Ok (Checked counts)) = ⊥
+IsRan line inputs o (Ok _) = ⊥
 IsRan line inputs o (Err f) = IsOutcome (request_of line) inputs o (Err f)
+
+-- a table of activities comes of what the line asks for
+abbrev pub IsMeasuring : Line → List Input → Output → Result Done Fault → Type 0
+IsMeasuring line inputs o (Ok (Measured report)) = IsMeasured (request_of line) inputs o (Ok report)
+IsMeasuring line inputs o (Ok _) = ⊥
+IsMeasuring line inputs o (Err f) = IsMeasured (request_of line) inputs o (Err f)
 
 -- of the texts come these counts, and the text that tells them
 abbrev pub TellCounts : Settings → Texts → List ℕ → Counts → Type 0
@@ -45,13 +53,14 @@ IsCheck settings inputs o answer =
     IsReading All (λ texts told. IsMade (TellCounts settings texts) (HaveTextFault texts settings) (λ _ _. ⊥) o told) (IsUntouched o) inputs answer
 
 abbrev pub IsCheckOf : Line → List Input → Output → Result Done Fault → Type 0
-IsCheckOf line inputs o (Ok (Ran report)) = ⊥
 IsCheckOf line inputs o (Ok (Checked counts)) = IsCheck line.settings inputs o (Ok counts)
+IsCheckOf line inputs o (Ok _) = ⊥
 IsCheckOf line inputs o (Err f) = IsCheck line.settings inputs o (Err f)
 
 -- what comes of the task
 abbrev pub IsDoneBy : Task → Line → List Input → Output → Result Done Fault → Type 0
 IsDoneBy Run line inputs o answer = IsRan line inputs o answer
+IsDoneBy Activity line inputs o answer = IsMeasuring line inputs o answer
 IsDoneBy Check line inputs o answer = IsCheckOf line inputs o answer
 
 -- what comes of a line, with its task, its settings, its mode and its choice of nets

@@ -5,6 +5,7 @@ ghost use Rattle.cmb_inputs.specs.Inputs.{HaveRoom, in_order, listed, read_from}
 ghost use Rattle.cmb_inputs.specs.Outputs.{written_to};
 ghost use Rattle.cmb_sim.specs.Tasks.{IsDone, choice_in};
 
+use crate::activities::measure;
 use crate::simulation::simulate_chosen;
 use cmb_inout::{Done, Fault, Source};
 use cmb_inputs::{check_design, write_counts};
@@ -14,8 +15,9 @@ use std::sync::Wait;
 use std::thread::Threads;
 
 /// Does what a line asks for, with what its inputs have: simulates and writes the waveforms of the nets that the line
-/// chooses, or counts and writes the counts. The list of nets is read where the line names one and asks for a run.
-/// The faults are those of `simulate_chosen` and of `check_design`; 62 comes also where the counts couldn't be written.
+/// chooses, or how active these are, or counts and writes the counts. The list of nets is read where the line names one
+/// and asks for a simulation. The faults are those of `simulate_chosen`, of `measure` and of `check_design`; 62 comes
+/// also where the counts couldn't be written.
 pub fn carry_out<
     R: AllocGlobal + Threads + Wait + Sync,
     B: Source,
@@ -46,16 +48,21 @@ pub fn carry_out<
     ensures unread { (choice_in line.now ≡ Choice.Only Pick.Listed → ⊥) → list.new ≡ list.old }
 {
     let settings = line.settings;
+    let request = Request {
+        settings,
+        mode: line.mode,
+        threads: line.threads,
+        choice: line.choice,
+    };
     match line.task {
         Task::Run => {
-            let request = Request {
-                settings,
-                mode: line.mode,
-                threads: line.threads,
-                choice: line.choice,
-            };
             let report = simulate_chosen(rt, bench, delays, stimuli, clocks, list, request, out)?;
             Ok(Done::Ran(report))
+        }
+        Task::Activity => {
+            let alloc = rt.alloc();
+            let report = measure(alloc, bench, delays, stimuli, clocks, list, request, out)?;
+            Ok(Done::Measured(report))
         }
         Task::Check => {
             let alloc = rt.alloc();

@@ -1,6 +1,8 @@
-//! A whole simulation: from four texts to the text of its waveforms, and what a command line asks for carried out.
+//! A whole simulation: from four texts to the text of its waveforms, or to a table of how active its nets are, and what
+//! a command line asks for carried out.
 #![tactic(auto)]
 
+pub mod activities;
 pub mod carrying;
 pub mod laws;
 mod modes;
@@ -9,6 +11,7 @@ mod running;
 pub mod simulation;
 mod tuning;
 
+pub use activities::measure;
 pub use carrying::carry_out;
 pub use cmb_bench::{BenchFault, FaultKind};
 pub use cmb_count::{Counts, counts_text};

@@ -195,7 +195,7 @@ pub fn done_words(done: &Done) -> &'static str
     ensures { result.now ≡ (if nets_of done.now == 0 then no_nets else []) }
 {
     let nets = match done {
-        Done::Ran(report) => report.nets as usize,
+        Done::Ran(report) | Done::Measured(report) => report.nets as usize,
         Done::Checked(counts) => counts.nets,
     };
     if nets == 0 { NO_NETS } else { "" }
