@@ -30,7 +30,7 @@ SOURCES = ("crates/*/src/**/*.rt", "crates/*/specs/**/*.antt", "crates/*/proofs/
 PATH = re.compile(r"[\w.*-]+(?:/[\w.*-]+)*/?")
 NAME = re.compile(r"(?:[A-Z][a-z]+(?:[A-Z][a-z]*)+|[a-z]\w*_\w+|\w+(?:::\w+)+)(?=\W|$)")
 OPTION = re.compile(r"(?<![\w-])--[a-z][a-z-]*")
-OURS = {"cmbsim": {"run", "check", "explain", "help"},
+OURS = {"cmbsim": {"run", "activity", "check", "explain", "help"},
         "rt": {"all", "check", "ci", "doc", "fmt", "help", "lib", "lemma", "must-fail", "plant", "run", "selftest", "test", "tidy", "try", "verdict",
                "version"}}
 
