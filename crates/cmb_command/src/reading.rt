@@ -313,11 +313,10 @@ fn line_in(alloc: Global, matches: &ArgMatches<'_>) -> Result<Line, LineFault>
     }
 }
 
-/// Reads the words after the program's name: `run`, `activity` or `check`, and its options. The horizon of a line is 1 to 1,000,000
-/// ticks, and it has 1 to 64 threads, or workers and clusters; it chooses the nets of a list just where it names one.
-/// Errors: `Help` where the words ask for help, the version
-/// or the explanation of a fault, `Wrong` where they aren't a line of the program, `Clock` where only the value of
-/// `--clock` has another form, and `Memory`.
+/// Reads the words after the program's name: `run`, `activity` or `check`, and its options. The horizon of a line is 1
+/// to 1,000,000 ticks, and it has 1 to 64 threads, or workers and clusters; it chooses the nets of a list just where it
+/// names one. Errors: `Help` where the words ask for help, the version or the explanation of a fault, `Wrong` where
+/// they aren't a line of the program, `Clock` where only the value of `--clock` has another form, and `Memory`.
 pub fn read_line(alloc: Global, words: &[String]) -> Result<Line, LineFault>
     ensures horizon { IfOk result (λ line. (1 ≤ line.settings.horizon) × (line.settings.horizon ≤ 1000000)) }
     ensures mode { IfOk result (λ line. IsLawful line.mode line.threads) }
@@ -362,8 +361,9 @@ fn answer_message(alloc: Global, matches: &ArgMatches<'_>) -> Result<String, All
     }
 }
 
-/// What the program says of words that ask for nothing that is done with a design: the text of help, the version or the explanation
-/// where they ask for that, else what is wrong with them and how they are written. Of other words it is empty.
+/// What the program says of words that ask for nothing that is done with a design: the text of help, the version or the
+/// explanation where they ask for that, else what is wrong with them and how they are written. Of other words it is
+/// empty.
 pub fn line_message(alloc: Global, words: &[String]) -> Result<String, AllocError> {
     match parse(alloc, words) {
         Ok(matches) => answer_message(alloc, &matches),
