@@ -51,7 +51,7 @@ impl Idle {
         self.turns = 0;
     }
 
-    /// There is nothing to do: returns at once for a while, then gives the processor away, and then sleeps for a moment.
+    /// There is nothing to do: returns at once for a while, then gives the processor away, then sleeps for a moment.
     pub fn rest<R: Wait>(&mut self, rt: &R)
         ensures { self.new ≡ min (self.old + 1) PATIENCE }
     {

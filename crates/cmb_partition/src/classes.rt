@@ -107,7 +107,8 @@ fn are_below(numbers: &[u32], bound: usize) -> bool
     numbers.iter().all(|number| (*number as usize) < bound)
 }
 
-/// The classes of nets that cost so much each. `None` where it takes more steps than that to find which sinks need them.
+/// The classes of nets that cost so much each. `None` where it takes more steps than that to find which sinks need
+/// them.
 pub(crate) fn classes_of(
     alloc: Global,
     costs: &[u32],

@@ -216,8 +216,8 @@ fn count_for(most: u32, sinks: &[u32]) -> u32
 }
 
 /// Partitions the nets of a netlist into two shares at least and so many at most, and 16 at most, so that the share
-/// with the most to do has as little as may be, by what each net costs (any unit). What crosses from one share to another are flip-flops, of which any may
-/// read any other, so a netlist is cut also where all its nets reach one another.
+/// with the most to do has as little as may be, by what each net costs (any unit). What crosses from one share to
+/// another are flip-flops. Any share may read any other, so a netlist is cut also where all its nets reach one another.
 ///
 /// A flip-flop needs the gates in its cone, back to flip-flops and inputs. Gates that several shares need are driven by
 /// each of them, and who reads a flip-flop of another share is given it; both cost. Flip-flops that need the same heavy

@@ -31,8 +31,8 @@ pub enum Way {
     Chosen(Vec<u32>),
     /// By the engine, and by so many threads at most.
     Engine(u32),
-    /// By a thread for each share of the nets and one that makes the text; by the engine, and by so many threads at most,
-    /// where the shares have no windows alike.
+    /// By a thread for each share of the nets, and one that makes the text. Where the shares have no common windows, by
+    /// the engine and so many threads at most.
     Shares { partition: Partition, threads: u32 },
     /// By workers with clusters of their own, in rounds.
     Rounds { workers: u32, clusters: u32 },

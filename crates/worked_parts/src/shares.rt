@@ -16,8 +16,8 @@ use std::test::Fail;
 use std::thread::Threads;
 use worked_inputs::{Inputs, design_of, text_of};
 
-/// The nets `a`, `m` and `b`, by their numbers: two flip-flops, of which each samples the other one, and one of them its
-/// inverse, at ticks 10, 30, 50, 70 and 90 (a Johnson counter of two bits).
+/// The nets `a`, `m` and `b`, by their numbers: two flip-flops that sample one another, `a` by an inverter, at ticks 10,
+/// 30, 50, 70 and 90 (a Johnson counter of two bits).
 fn counter(alloc: Global, delays: &[u8], horizon: u32) -> Result<Design, Fail> {
     let inputs = Inputs {
         netlist: b"OUTPUT(b)\na = DFF(m)\nm = NOT(b)\nb = DFF(a)\n",
