@@ -2,6 +2,8 @@
 #![tactic(auto)]
 
 #[cfg(test)]
+mod activities;
+#[cfg(test)]
 mod cases;
 #[cfg(test)]
 mod checks;
