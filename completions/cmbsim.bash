@@ -1,25 +1,29 @@
-# Completions of cmbsim's line for bash; `make install` puts them where bash-completion looks.
+# Completions of cmbsim's line for bash, made by scripts/command_texts.py; `make install` puts them where bash-completion looks.
 
 _cmbsim() {
-    local current=${COMP_WORDS[COMP_CWORD]} before=${COMP_WORDS[COMP_CWORD - 1]}
-    if [ "$COMP_CWORD" = 1 ]; then
-        mapfile -t COMPREPLY < <(compgen -W "run activity check explain help --help --version" -- "$current")
-        return
-    fi
-    case $before in
-        --mode) mapfile -t COMPREPLY < <(compgen -W "rounds free plain" -- "$current") ;;
-        --init) mapfile -t COMPREPLY < <(compgen -W "0 1 x" -- "$current") ;;
-        --delays | --stimuli | --clocks | --only) mapfile -t COMPREPLY < <(compgen -f -- "$current") ;;
-        --horizon | --clock | --threads | --workers | --clusters) COMPREPLY=() ;;
-        explain) mapfile -t COMPREPLY < <(compgen -W "$(echo {1..8} {20..38} 40 53 54 {60..62} 70)" -- "$current") ;;
-        help) mapfile -t COMPREPLY < <(compgen -W "run activity check explain" -- "$current") ;;
+    local current=${COMP_WORDS[COMP_CWORD]} before=${COMP_WORDS[COMP_CWORD - 1]} words=
+    case $COMP_CWORD:$before in
+        1:*) words="run activity expect check explain help -h --help -V --version" ;;
+        2:explain) words="1 2 3 4 5 6 7 8 20 21 22 23 24 25 26 27 28 29 30 31 32 33 34 35 36 37 38 39 40 53 54 60 61 62 70" ;;
+        2:help) words="run activity expect check explain" ;;
+        *:--init) words="0 1 x" ;;
+        *:--mode) words="rounds free plain" ;;
+        *:--delays | *:--stimuli | *:--clocks | *:--only | *:--expected)
+            mapfile -t COMPREPLY < <(compgen -f -- "$current")
+            return
+            ;;
+        *:--horizon | *:--clock | *:--threads | *:--workers | *:--clusters) ;;
         *)
-            local options="--horizon --clock --init --delays --stimuli --clocks --explain --help"
-            [ "${COMP_WORDS[1]}" = check ] || options+=" --mode --threads --workers --clusters --only --only-outputs"
-            [ "${COMP_WORDS[1]}" = run ] && options+=" --progress --stats"
-            mapfile -t COMPREPLY < <(compgen -W "$options" -- "$current")
+            case ${COMP_WORDS[1]} in
+                run) words="--horizon --clock --init --delays --stimuli --clocks --explain --mode --threads --workers --clusters --only --only-outputs --progress --stats -h --help" ;;
+                activity) words="--horizon --clock --init --delays --stimuli --clocks --explain --mode --threads --workers --clusters --only --only-outputs -h --help" ;;
+                expect) words="--horizon --clock --init --delays --stimuli --clocks --explain --mode --threads --workers --clusters --expected -h --help" ;;
+                check) words="--horizon --clock --init --delays --stimuli --clocks --explain -h --help" ;;
+                explain) words="-h --help" ;;
+            esac
             ;;
     esac
+    mapfile -t COMPREPLY < <(compgen -W "$words" -- "$current")
 }
 
 complete -o filenames -o bashdefault -F _cmbsim cmbsim

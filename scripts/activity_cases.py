@@ -8,15 +8,10 @@ A FOLDER is laid out as those of examples/; each is run with N lists, 3 if not g
 list. Where neither is given, the examples are taken. With ORACLE, another program with the same command line or a Python file with a function
 run_program(words, input), the table is that which it writes of all nets. The last line is 'N passed, M failed', over all runs.
 """
-import argparse
-import glob
-import os
-import random
 import sys
-import tempfile
 
-from chosen_cases import MOST_CELLS, Folder, line_of, list_of, name_in, write_random
-from hostile.tools import ROOT, Answer, Tally, each, oracle_of, run
+from cases import MOST_CELLS, check_all, line_of, list_by_chance, name_in
+from hostile.tools import Answer, oracle_of
 
 MODES = [["--mode", mode, *hands] for mode in ("plain", "rounds", "free")
          for hands in ([], *(["--threads", str(count)] for count in range(1, 5)), ["--workers", "2", "--clusters", "3"])]
@@ -93,50 +88,18 @@ def choices_of(folder, rows, chance, times, lists):
     yield [], None, None
     yield ["--only-outputs"], folder.outputs, None
     for _ in range(times):
-        chosen = chance.sample(list(rows), chance.randint(0, min(len(rows), chance.choice([1, 3, 20, 200]))))
-        text, line = list_of(chance, chosen, list(rows))
-        path = f"{lists}/{len(os.listdir(lists))}"
-        with open(path, "wb") as file:
-            file.write(text)
-        yield ["--only", path], set(chosen), line
+        path, chosen, line = list_by_chance(chance, list(rows), lists)
+        yield ["--only", path], chosen, line
 
 
-def all_runs(folders, given, chance, lists):
-    program = oracle_of(given.program)
-    oracle = oracle_of(given.oracle) if given.oracle else None
-    for folder, times in folders:
-        rows, whole = rows_of(folder, program, oracle)
-        for choice, names, line in choices_of(folder, rows, chance, times, lists):
-            for mode in MODES:
-                unknown = line_of(38, line) if line and whole.status == 0 else None
-                yield folder, [given.program, "activity", *folder.options, *choice, *mode], unknown or wanted(rows, whole, names, mode, folder.horizon)
-
-
-def read_words(words):
-    parser = argparse.ArgumentParser()
-    parser.add_argument("program", type=os.path.abspath)
-    parser.add_argument("folders", nargs="*", metavar="FOLDER")
-    parser.add_argument("--seed", type=int, default=1)
-    parser.add_argument("--times", type=int, default=3)
-    parser.add_argument("--random", type=int, default=0)
-    parser.add_argument("--oracle")
-    return parser.parse_args(words)
-
-
-def main(words):
-    given, tally = read_words(words), Tally()
-    chance = random.Random(given.seed)
-    names = given.folders or ([] if given.random else [os.path.dirname(it) for it in sorted(glob.glob(f"{ROOT}/examples/*/options"))])
-    with tempfile.TemporaryDirectory() as room:
-        lists = f"{room}/lists"
-        os.mkdir(lists)
-        folders = [(Folder(it), given.times) for it in names]
-        folders += [(Folder(write_random(chance, f"{room}/{i}")), 1) for i in range(given.random)]
-        work = lambda it: run(it[1], it[0].netlist)
-        for (folder, line, want), answer in each(work, all_runs(folders, given, chance, lists)):
-            tally.check(answer == want, lambda: f"{folder.name}: {' '.join(line[2:])}: {answer}; wanted {want}")
-    tally.end()
+def runs_of(folder, given, chance, times, lists):
+    """Each run of a folder: its words, and the answer that it has to give."""
+    rows, whole = rows_of(folder, oracle_of(given.program), given.oracle and oracle_of(given.oracle))
+    for choice, names, line in choices_of(folder, rows, chance, times, lists):
+        for mode in MODES:
+            unknown = line_of(38, line) if line and whole.status == 0 else None
+            yield ["activity", *folder.options, *choice, *mode], unknown or wanted(rows, whole, names, mode, folder.horizon)
 
 
 if __name__ == "__main__":
-    main(sys.argv[1:])
+    check_all(sys.argv[1:], runs_of)

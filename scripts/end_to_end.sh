@@ -101,7 +101,7 @@ for expected in "$examples"/*/expected.vcd; do
     example "$name" threads --threads 3
     example "$name" free_threads --mode free --threads 64
 done
-version=$(sed -n 's/^\.TH CMBSIM 1 "" "\(cmbsim [0-9.]*\)".*/\1/p' docs/cmbsim.1)
+version=$(sed -n 's/^\$version \(.*\) \$end$/\1/p' examples/inverter/expected.vcd)
 answered version "$version"$'\n' --version
 refused no_words 2
 refused fault_that_is_none 2 explain 9
@@ -116,6 +116,11 @@ counted inverter $'net,changes,low,high,unknown\na,0,0,0,10\ny,0,0,0,10\n' activ
 refused activity_with_stats 2 activity --horizon 10 --stats
 refused activity_with_progress 2 activity --horizon 10 --progress
 refused activity_of_a_missing_list 1 activity --horizon 10 --only missing
+refused expect_without_a_table 2 expect --horizon 10
+refused expect_with_stats 2 expect --horizon 10 --expected missing --stats
+refused expect_of_chosen_nets 2 expect --horizon 10 --expected missing --only-outputs
+refused expect_of_a_missing_table 1 expect --horizon 10 --expected missing
+refused run_with_a_table_of_what_is_expected 2 run --horizon 10 --expected missing
 refused netlist_as_a_word 2 run --horizon 10 netlist.bench
 refused horizon_of_0 2 run --horizon 0
 refused no_horizon 2 run --mode rounds
@@ -163,6 +168,33 @@ real() { # real NAME WORDS..: the levels that are read off at the end are those 
     else
         failed=$((failed + 1))
         echo "end to end: $name $* FAILED"
+    fi
+}
+
+# outputs NAME WORDS..: the waveforms of the outputs are those of outputs.vcd
+outputs() {
+    local name=$1
+    shift
+    if CMBSIM=$program tools/simulate.sh "$examples/$name" --only-outputs "$@" | cmp - "$examples/$name/outputs.vcd"; then
+        passed=$((passed + 1))
+    else
+        failed=$((failed + 1))
+        echo "end to end: outputs of $name $* FAILED"
+    fi
+}
+
+# as_expected NAME WORDS..: each level comes that expected.csv names
+as_expected() {
+    local folder=$examples/$1 options told
+    shift
+    read -r -a options <"$folder/options"
+    told=$("$program" expect "${options[@]}" --stimuli "$folder/stimuli.csv" --expected "$folder/expected.csv" "$@" <"$folder/netlist.bench" 2>&1) &&
+        [ "$told" = "tick,net,expected,value" ]
+    if [ "$?" = 0 ]; then
+        passed=$((passed + 1))
+    else
+        failed=$((failed + 1))
+        echo "end to end: what is expected of $folder FAILED: $told"
     fi
 }
 
@@ -382,6 +414,20 @@ shared_out() {
     done
 }
 
+# early THREADS: mode free writes the text of that run while it runs: the memory that it takes holds less than half of the text
+early() {
+    local told bytes memory
+    told=$(long --mode free --threads "$1" --stats 2>&1)
+    bytes=$(sed -n 's/ *\([0-9]*\)  bytes written/\1/p' <<<"$told")
+    memory=$(sed -n 's/ *\([0-9]*\)  KB of memory at most/\1/p' <<<"$told")
+    if [ -n "$memory" ] && [ $((2 * 1024 * memory)) -lt "${bytes:-0}" ]; then
+        passed=$((passed + 1))
+    else
+        failed=$((failed + 1))
+        echo "end to end: text by $1 threads comes at the end, FAILED: $bytes bytes, $memory KB"
+    fi
+}
+
 # told_besides WANT WORDS..: of the inverter's run this is on standard error, its times left out, and the text is what it is without these words
 told_besides() {
     local want=$1 said
@@ -433,6 +479,12 @@ else
     failed=$((failed + 1))
     echo "end to end: activities FAILED"
 fi
+if scripts/expect_cases.py --times 2 --random 30 "$program" "$examples"/*; then
+    passed=$((passed + 1))
+else
+    failed=$((failed + 1))
+    echo "end to end: expectations FAILED"
+fi
 for netlist in "$examples"/*/netlist.bench; do
     looped "$(basename "$(dirname "$netlist")")"
 done
@@ -441,15 +493,23 @@ on_full_disk activity --horizon 10
 on_full_disk --help
 on_full_disk --version
 real aes128 --mode plain
-for name in aes128 sha256; do
+for name in aes128 sha256 processor; do
     real "$name"
     real "$name" --mode rounds --workers 2 --clusters 2
     real "$name" --mode free
     real "$name" --threads 4
     real "$name" --mode free --workers 2 --clusters 2
 done
+outputs processor
+outputs processor --mode free
+as_expected processor
+as_expected processor --mode free
 # Some 60 MB of text. None of the registers reads another.
 shared_out "600 LFSRs of 16" 12000
+# By one engine, by a team, and by shares.
+for threads in 1 2 4 64; do
+    early "$threads"
+done
 # Its parts read one another, so that each thread is given nets of those before it.
 shared_out "clocked, local" 9000
 # It has no flip-flops, so its nets aren't shared out: with four threads one has the engine, and two make its 45 MB of text.

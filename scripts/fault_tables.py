@@ -1,6 +1,6 @@
 #!/usr/bin/env python3
 """fault_tables.py PROGRAM [--check]: writes into docs/GUIDE.md, each between two marks, the table of faults, of what the program
-explains, and that of options, of what `run --help` prints. With --check it writes nothing, and ends with status 1 where the page
+explains, and that of options, of what `run -h` prints. With --check it writes nothing, and ends with status 1 where the page
 says something else."""
 import os
 import re
@@ -26,7 +26,7 @@ def faults(program):
 
 
 def options(program):
-    part = said(program, "run", "--help").partition("\nOptions:\n")[2].partition("\n\n")[0]
+    part = said(program, "run", "-h").partition("\nOptions:\n")[2].partition("\n\n")[0]
     rows = [f"| `{re.sub('[<>]', '', option)}` | {meaning} |" for option, meaning in OPTION.findall(part)]
     return "\n".join(["| Option | Meaning |", "|---|---|", *rows]) + "\n"
 

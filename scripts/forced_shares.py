@@ -18,7 +18,7 @@ import sys
 import tempfile
 
 import crates
-from chosen_cases import Folder, write_random
+from cases import Folder, write_random
 from hostile.tools import Tally, each, run
 
 FORCED = {"LEAST_THREADS: u32": "2", "LEAST_SAMPLES: u64": "0", "LEAST_NETS: usize": "0", "MOST_OF_ALL: u64": "1_000_000"}

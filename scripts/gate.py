@@ -160,7 +160,7 @@ def count(line, counts):
 
 def stale(program):
     """How many of the lists that scripts make in the documents aren't what the scripts would make, and how many there are."""
-    lists = [["believed.py"], ["wrong_bodies.py"], ["fault_tables.py", program]]
+    lists = [["believed.py"], ["wrong_bodies.py"], ["fault_tables.py", program], ["command_texts.py", program]]
     ran = [subprocess.run([f"scripts/{it[0]}", *it[1:], "--check"], cwd=TOP).returncode for it in lists]
     return sum(map(bool, ran)), len(lists)
 
@@ -206,7 +206,7 @@ def main():
         between = time.monotonic()
         ran, wrong = files.end()
         untrue, lists = stale(files.program)
-    parts = [run([f"tools/{name}.py"], {}) for name in ("test_tools", "test_netlists", "test_vectors")]
+    parts = [run([f"tools/{name}.py"], {}) for name in ("test_tools", "test_netlists", "test_vectors", "test_processor")]
     held, broken = map(sum, zip(*parts))
     apart, mixed = run(["scripts/inner.py"], {})
     named, missing = run(["scripts/documents.py"], {})

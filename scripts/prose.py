@@ -24,13 +24,13 @@ ITEM = re.compile(r"^(?:[-*]|\d+\.) +")
 END = re.compile(r"(?<=[.?!])(?:\*\*|[\")])?\s+")
 
 FOLDERS = ("bench/", "completions/", "crates/", "docs/", "examples/", "scripts/", "tools/")
-EXTENSIONS = (".antt", ".bash", ".md", ".py", ".rt", ".sh", ".txt")
+EXTENSIONS = (".antt", ".bash", ".fish", ".md", ".py", ".rt", ".sh", ".txt", ".zsh")
 SOURCES = ("crates/*/src/**/*.rt", "crates/*/specs/**/*.antt", "crates/*/proofs/**/*.antt", "bench/*.py", "bench/*.sh",
            "scripts/*.py", "scripts/*.sh", "scripts/hostile/*", "tools/*")
 PATH = re.compile(r"[\w.*-]+(?:/[\w.*-]+)*/?")
 NAME = re.compile(r"(?:[A-Z][a-z]+(?:[A-Z][a-z]*)+|[a-z]\w*_\w+|\w+(?:::\w+)+)(?=\W|$)")
 OPTION = re.compile(r"(?<![\w-])--[a-z][a-z-]*")
-OURS = {"cmbsim": {"run", "activity", "check", "explain", "help"},
+OURS = {"cmbsim": {"run", "activity", "expect", "check", "explain", "help"},
         "rt": {"all", "check", "ci", "doc", "fmt", "help", "lib", "lemma", "must-fail", "plant", "run", "selftest", "test", "tidy", "try", "verdict",
                "version"}}
 

@@ -5,8 +5,8 @@
 
 A name is parted at '.' into instances, which stand inside NAME, top if not given; one with an empty part isn't parted. In an instance its
 nets come first, then its instances, each in the order of the table. In a part each character but letters, digits and '_' gets a
-backslash, as the format has it. T0, T1 and TX are the ticks at which a net is 0, 1 and x, and DURATION is their sum. TC is the number of
-its changes after tick 0: those from x and to x count too.
+backslash, as the format has it. Of each net there is the number of ticks at each level (its keyword is T and the level), whose sum is
+DURATION. TC is the number of its changes after tick 0: those from and to x count too.
 
 Status 1: the table can't be read; standard error says where."""
 import argparse

@@ -1,9 +1,10 @@
 #!/usr/bin/env python3
-"""test_tools.py: runs the tools on small texts that were written by hand, asks bash for completions, and sees that these and the
+"""test_tools.py: runs the tools on small texts that were written by hand, asks bash and fish for completions, and sees that these and the
 manual page have each word of the program's line. The last line is 'N passed, M failed'."""
 import json
 import os
 import re
+import shutil
 import subprocess
 import sys
 import tempfile
@@ -386,10 +387,11 @@ def completed(*words):
 
 
 def test_completions():
-    see("commands", completed("cmbsim", ""), ["run", "activity", "check", "explain", "help", "--help", "--version"])
+    see("commands", completed("cmbsim", ""), ["run", "activity", "expect", "check", "explain", "help", "-h", "--help", "-V", "--version"])
     see("options", completed("cmbsim", "run", "--horizon", "9", "--cl"), ["--clock", "--clocks", "--clusters"])
     see("options of check", completed("cmbsim", "check", "--horizon", "9", "--cl"), ["--clock", "--clocks"])
     see("options of activity", completed("cmbsim", "activity", "--horizon", "9", "--only"), ["--only", "--only-outputs"])
+    see("options of expect", completed("cmbsim", "expect", "--horizon", "9", "--e"), ["--explain", "--expected"])
     see("what activity doesn't tell", completed("cmbsim", "activity", "--horizon", "9", "--s"), ["--stimuli"])
     see("modes", completed("cmbsim", "run", "--mode", ""), ["rounds", "free", "plain"])
     see("a mode", completed("cmbsim", "run", "--mode", "f"), ["free"])
@@ -397,6 +399,20 @@ def test_completions():
     see("files", completed("cmbsim", "run", "--clocks", "cl"), ["clocks.csv"])
     see("faults", completed("cmbsim", "explain", "6"), ["6", "60", "61", "62"])
     see("numbers", completed("cmbsim", "run", "--horizon", ""), [])
+    see("commands with help of their own", completed("cmbsim", "help", "e"), ["expect", "explain"])
+
+
+def test_other_shells():
+    """fish is asked for completions, and zsh whether it can read its own, if they are installed."""
+    for line, wanted in (("run --horizon 9 --cl", ["--clock", "--clocks", "--clusters"]), ("check --cl", ["--clock", "--clocks"]),
+                         ("run --mode ", ["free", "plain", "rounds"]), ("explain 6", ["6", "60", "61", "62"]), ("help e", ["expect", "explain"]),
+                         ("run --horizon ", []), ("act", ["activity"])):
+        if shutil.which("fish"):
+            words = ["fish", "--no-config", "-c", f"source {TOP}/completions/cmbsim.fish; complete -C 'cmbsim {line}'"]
+            ran = subprocess.run(words, stdout=subprocess.PIPE, universal_newlines=True)
+            see(f"fish: {line}", sorted(it.split("\t")[0] for it in ran.stdout.splitlines()), wanted)
+    if shutil.which("zsh"):
+        see("zsh reads its completions", subprocess.run(["zsh", "-n", f"{TOP}/completions/cmbsim.zsh"]).returncode, 0)
 
 
 def test_words():
@@ -406,10 +422,12 @@ def test_words():
             words |= set(re.findall(r'(?:Command::new\(alloc, |name: )"([a-z-]+)"', file.read())) - {"cmbsim"}
     with open(f"{TOP}/docs/cmbsim.1", encoding="ascii") as file:
         manual = file.read().replace("\\-", "-")
-    with open(f"{TOP}/completions/cmbsim.bash", encoding="ascii") as file:
-        completions = file.read()
-    see("the line has words", {"run", "activity", "check", "explain", "horizon", "clocks"} <= words, True)
-    for name, text in (("the manual page", manual), ("completions", completions)):
+    texts = {"the manual page": manual}
+    for shell in ("bash", "zsh", "fish"):
+        with open(f"{TOP}/completions/cmbsim.{shell}", encoding="ascii") as file:
+            texts[f"completions for {shell}"] = file.read()
+    see("the line has words", {"run", "activity", "expect", "check", "explain", "horizon", "clocks"} <= words, True)
+    for name, text in texts.items():
         see(f"words that {name} lacks", [word for word in sorted(words) if not re.search(rf"\b{word}\b", text)], [])
 
 
@@ -478,7 +496,7 @@ def test_saif():
 
 def main():
     for test in (test_compare, test_compare_names, test_unreadable, test_read, test_gtkw, test_parts, test_gtkw_parts, test_convert, test_kept, test_clocks, test_refusals, test_loops,
-                 test_completions, test_words, test_nets, test_saif):
+                 test_completions, test_other_shells, test_words, test_nets, test_saif):
         test()
     print(f"{COUNTS['passed']} passed, {COUNTS['failed']} failed")
     return 1 if COUNTS["failed"] else 0

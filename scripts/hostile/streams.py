@@ -9,10 +9,10 @@ import errno
 import os
 import subprocess
 
-from tools import HERE, PROGRAM, Answer, Files, Tally, clocks, each, example, listed, measured, measured_list, modes, outputs, picked, run, toggle
+from tools import HERE, PROGRAM, Answer, Files, Tally, clocks, compared, each, example, listed, measured, measured_list, modes, outputs, picked, run, toggle
 
 SECONDS = 60
-INPUTS = ("netlist", "delays", "stimuli", "clocks", "only")
+INPUTS = {"netlist": 1, "delays": 2, "stimuli": 3, "clocks": 4, "only": 5, "expected": 7}
 
 
 def streamed(words, netlist, shim, **settings):
@@ -26,7 +26,7 @@ def line(number, place):
 
 def reads_of(case, most):
     """The input of each read, in order: those that give bytes, and the one that tells the end."""
-    for number, name in enumerate(INPUTS, 1):
+    for name, number in INPUTS.items():
         data = case.netlist if name == "netlist" else case.tables.get(name)
         if data is not None:
             yield from [number] * (-(-len(data) // most) + 1)
@@ -34,7 +34,7 @@ def reads_of(case, most):
 
 def check_reads(tally, name, words, case, shim, most):
     inputs = list(reads_of(case, most))
-    wanted = [Answer(1, b"", line(61, number)) for number in inputs] + [Answer(0, case.expected, b"")]
+    wanted = [Answer(1, b"", line(61, number)) for number in inputs] + [case.whole()]
     work = lambda at: streamed(words, case.netlist, shim, MOST=most, READ=at + 1, WITH=errno.EIO)
     for at, answer in each(work, range(len(wanted))):
         tally.check(answer == wanted[at], lambda: f"{name}: read {at + 1} of {most} bytes fails: {answer}")
@@ -45,8 +45,7 @@ def check_writes(tally, name, words, case, shim, most):
     error = errno.ENOSPC if most % 2 else errno.EPIPE
     work = lambda room: streamed(words, case.netlist, shim, MOST=most, ROOM=room, WITH=error)
     for room, answer in each(work, range(length + 1)):
-        whole = Answer(0, case.expected, b"")
-        wanted = whole if room == length else Answer(1, case.expected[:room], line(62, room))
+        wanted = case.whole() if room == length else Answer(1, case.expected[:room], line(62, room))
         tally.check(answer == wanted, lambda: f"{name}: room for {room} bytes, {most} a call: {answer}")
 
 
@@ -54,7 +53,7 @@ def main():
     tally, files = Tally(), Files()
     shim = files.path("streams.so")
     subprocess.run(["gcc", "-O2", "-shared", "-fPIC", "-o", shim, os.path.join(HERE, "streams.c")], check=True)
-    for case in picked([toggle(), clocks(), example("inverter"), listed(), outputs(), measured(), measured_list()]):
+    for case in picked([toggle(), clocks(), example("inverter"), listed(), outputs(), measured(), measured_list(), compared()]):
         before = tally.passed
         threads = (3,) if case.is_whole_first() else ()
         for mode, more in modes(rounds=((1, 1), (2, 2)), free=((1, 1), (2, 2), (3, 3)), threads=threads).items():

@@ -21,7 +21,7 @@ TABLES = ("delays", "stimuli", "clocks")
 PLACES = {
     "line": {1, 2, 3, 4, 5, 6, 7, 8},
     "line of a list": {38},
-    "record": {23, 24, 25, 26, 27, 28, 29, 30, 31, 32, 34, 35, 36, 37},
+    "record": {23, 24, 25, 26, 27, 28, 29, 30, 31, 32, 34, 35, 36, 37, 39},
     "nothing": {20, 21, 22, 33, 40, 54, 70},
     "input": {60, 61},
     "bytes": {62},
@@ -30,19 +30,25 @@ PLACES = {
 
 
 class Case:
-    """A netlist, the words of a line, the files by the options that take them, the whole text where it is known, and the task."""
+    """A netlist, the words of a line, the files by the options that take them, the whole text where it is known, the task, and how it ends."""
 
-    def __init__(self, name, netlist, words, tables=None, expected=None, task="run"):
+    def __init__(self, name, netlist, words, tables=None, expected=None, task="run", status=0, err=b""):
         self.name = name
         self.netlist = netlist
         self.words = words
         self.tables = tables or {}
         self.expected = expected
         self.task = task
+        self.status = status
+        self.err = err
+
+    def whole(self):
+        """The whole answer, where it is known."""
+        return Answer(self.status, self.expected, self.err)
 
     def is_whole_first(self):
-        """Whether the text is made whole before any of it is written, in each mode: that of some nets alone, and a table of activities."""
-        return self.task == "activity" or "only" in self.tables or "--only-outputs" in self.words
+        """Whether the text is made whole before any of it is written, in each mode: that of some nets alone, and a table."""
+        return self.task != "run" or "only" in self.tables or "--only-outputs" in self.words
 
 
 class Answer:
@@ -195,6 +201,14 @@ def measured_list():
     """How active those are that the list of `listed` names."""
     case = listed()
     return Case("measured list", case.netlist, case.words, case.tables, b"net,changes,low,high,unknown\na,1,3,9,0\nq,1,8,4,0\n", "activity")
+
+
+def compared():
+    """What came of `clocks` otherwise than a table expects."""
+    case = clocks()
+    tables = dict(case.tables, expected=b'tick,net,value\n11,q,0\n0,a,0\n7,"p",X\n6,p,1\n7,a,1\n')
+    text = b"tick,net,expected,value\n11,q,0,1\n7,p,x,1\n6,p,1,0\n"
+    return Case("compared", case.netlist, case.words, tables, text, "expect", 3, b"3 of 5 rows differ\n")
 
 
 def picked(cases):

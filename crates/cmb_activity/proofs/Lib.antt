@@ -1,4 +1,4 @@
 mod OnesFacts
 pub mod PartFacts
-mod TallyFacts
+pub mod TallyFacts
 mod WindowFacts

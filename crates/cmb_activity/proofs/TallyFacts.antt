@@ -79,7 +79,7 @@ x_bit v x i = x_bit' (bit_at v i) (bit_at x i)
 
 -- ---- a waveform that is still
 
-still_at : (level : ℕ → Level) (from upto k : ℕ) → 1 ≤ from → IsStill level from upto → from + k ≤ upto → level (from - 1 + k) ≡ level (from - 1)
+pub still_at : (level : ℕ → Level) (from upto k : ℕ) → 1 ≤ from → IsStill level from upto → from + k ≤ upto → level (from - 1 + k) ≡ level (from - 1)
 still_at level from upto zero some still within = ap level (omega arith)
 still_at level from upto (suc k) some still within =
     ap level (let e : from - 1 + suc k ≡ suc (from - 1 + k) = omega arith in e)

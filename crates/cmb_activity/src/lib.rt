@@ -1,4 +1,4 @@
-//! How active the nets of a run are.
+//! The switching activity of nets: how often each changes, and at how many ticks it is 0, 1 and x.
 #![tactic(auto)]
 
 mod activity;
@@ -9,4 +9,4 @@ pub mod text;
 
 pub use activity::Activity;
 pub use measure::activities;
-pub use text::activity_text;
+pub use text::{activity_text, push_field};

@@ -43,9 +43,10 @@ fn push_quoted(text: &mut Vec<u8>, name: &[u8]) -> Result<(), AllocError>
     Ok(())
 }
 
-// A name as a field.
+/// Appends a name as a field of comma-separated values (RFC 4180): in double quotes where it has one, which is written
+/// twice. Errors: memory was refused.
 #[tactic(auto, unfolding(crate::specs::Texts::field))]
-fn push_name(text: &mut Vec<u8>, name: &[u8]) -> Result<(), AllocError>
+pub fn push_field(text: &mut Vec<u8>, name: &[u8]) -> Result<(), AllocError>
     ensures { OnOk result (text.new.items ≡ text.old.items ++ field name.now) }
 {
     if has_quote(name) {
@@ -70,7 +71,7 @@ fn push_row(text: &mut Vec<u8>, name: &[u8], activity: Activity) -> Result<(), A
     ensures { OnOk result (text.new.items ≡ text.old.items
         ++ row name.now activity.changes activity.low activity.high activity.unknown) }
 {
-    push_name(text, name)?;
+    push_field(text, name)?;
     push_number(text, activity.changes)?;
     push_number(text, activity.low)?;
     push_number(text, activity.high)?;

@@ -1,5 +1,5 @@
-//! A calendar of what lies ahead: tells, by the days of 64 ticks in which their ticks are. It is the event list of an
-//! event-driven simulator as a timing wheel, of which what is told below a tick is taken out at once.
+//! The event list of the engine, as a timing wheel with a slot for each 64 ticks. An event is a *tell*, and a slot a
+//! *day*. All events below a tick are taken out at once.
 #![tactic(auto)]
 
 pub mod calendar;

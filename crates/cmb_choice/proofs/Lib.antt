@@ -1,1 +1,2 @@
+mod LevelFacts
 pub mod RunFacts

@@ -67,14 +67,26 @@ next-text design own nets shown clock later text more a b is step =
     let OfNets : List ℕ → Type 0 = λ n. (front : List ℕ) → front ++ text ≡ shown_text design n clock → front ++ more ≡ shown_text design n later in
     subst OfNets b (subst OfDesign a step) [] is
 
+-- each has the level that it has in the whole
+pub part-levels : (design part : Design) (nets chosen places : List ℕ) → ((i tick : ℕ) → i < length nets → value part i tick ≡ value design (get_or nets i 0) tick)
+    → All (λ place. place < length nets) places → map (λ place. get_or nets place 0) places ≡ chosen → length places ≡ length chosen
+    → (i tick : ℕ) → i < length chosen → value part (get_or places i 0) tick ≡ value design (get_or chosen i 0) tick
+part-levels design part nets chosen places values within same count i tick below =
+    let inside : i < length places = omega (arith, below, count) in
+    values (get_or places i 0) tick (within i 0 inside)
+    ∙ ap (λ (net : ℕ). value design net tick) (sym (ap (λ (list : List ℕ). get_or list i 0) (sym same) ∙ get_or-map (λ place. get_or nets place 0) places i 0 0 inside))
+
 -- the chosen nets are nets of the part
+pub part-within : (design part : Design) (nets read places : List ℕ) → IsRestriction design nets part → read ≡ nets → All (λ place. place < length read) places → All (λ net. net < nets_of part) places
+part-within design part nets read places is same within =
+    let long : length part.netlist.names ≡ length nets = ap length is.netlist.names ∙ length-map nets (name_of design.netlist) in
+    let same : length read ≡ length nets = ap length same in
+    All-weaker (λ place. place < length read) (λ place. place < length part.netlist.names) (λ place h. omega (arith, long, same)) places within
+
 pub part-among : (design part : Design) (nets read places : List ℕ) → IsRestriction design nets part → read ≡ nets → IsStrictlyIncreasing places → All (λ place. place < length read) places → length places ≤ 65535
     → AreAmong (nets_of part) places
 part-among design part nets read places is same rising within few = record {
   rising = rising;
-  within =
-      let long : length part.netlist.names ≡ length nets = ap length is.netlist.names ∙ length-map nets (name_of design.netlist) in
-      let same : length read ≡ length nets = ap length same in
-      All-weaker (λ place. place < length read) (λ place. place < length part.netlist.names) (λ place h. omega (arith, long, same)) places within;
+  within = part-within design part nets read places is same within;
   few = few;
 }

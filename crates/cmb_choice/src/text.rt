@@ -1,9 +1,10 @@
 //! The text of chosen nets.
 
-ghost use Rattle.std.specs.Prelude.{◌≡◌, ◌<◌, ◌≤◌, length, map, slice_index, All, IfOk};
+ghost use Rattle.std.specs.Prelude.{◌≡◌, ◌<◌, ◌≤◌, ℕ, length, map, slice_index, All, IfOk};
 ghost use Rattle.cmb_activity.specs.Texts.{activity_table};
 ghost use Rattle.cmb_choice.specs.Parts.{IsPartOf};
 ghost use Rattle.cmb_design.specs.Exact.{nets_of};
+ghost use Rattle.cmb_design.specs.Value.{value};
 ghost use Rattle.cmb_dump.specs.Excerpts.{AreAmong};
 ghost use Rattle.cmb_vcd.specs.Chosen.{vcd_of};
 
@@ -19,12 +20,17 @@ pub struct Part {
     pub nets: Vec<u32>,
 }
 
-/// The least part of a design that has the chosen nets, which rise, and with each net those that its value rule asks
-/// for. The chosen nets have the same text there, and are as active.
+/// The least part of a design that has the chosen nets, and with each net those that its value rule asks for. The
+/// chosen nets have the same levels and the same text there, and are as active; they rise where they rise in the whole.
 pub fn part_of(alloc: Global, design: &Design, chosen: &[u32]) -> Result<Part, AllocError>
-    requires { AreAmong (nets_of design.now) chosen.now }
+    requires { All (λ net. net < nets_of design.now) chosen.now }
     ensures part { IfOk result (λ part. IsPartOf design.now chosen.now part.design part.nets.items) }
-    ensures among { IfOk result (λ part. AreAmong (nets_of part.design) part.nets.items) }
+    ensures within { IfOk result (λ part. All (λ net. net < nets_of part.design) part.nets.items) }
+    ensures among { IfOk result (λ part. AreAmong (nets_of design.now) chosen.now
+        → AreAmong (nets_of part.design) part.nets.items) }
+    ensures count { IfOk result (λ part. length part.nets.items ≡ length chosen.now) }
+    ensures levels { IfOk result (λ part. (i tick : ℕ) → i < length chosen.now
+        → value part.design (slice_index part.nets.items i) tick ≡ value design.now (slice_index chosen.now i) tick) }
     ensures text { IfOk result (λ part. vcd_of part.design part.nets.items ≡ vcd_of design.now chosen.now) }
     ensures activity { IfOk result (λ part.
         activity_table part.design part.nets.items ≡ activity_table design.now chosen.now) }

@@ -1,8 +1,8 @@
 //! The options of the program's commands.
 
 use crate::help::{
-    CLOCK, CLOCKS, DELAYS, EXPLAIN_FAULT, HORIZON, INIT, MODE, ONLY, ONLY_OUTPUTS, PARTS, PROGRESS,
-    STATS, STIMULI, THREADS, WORKERS,
+    CLOCK, CLOCKS, DELAYS, EXPECTED, EXPLAIN_FAULT, HORIZON, INIT, MODE, ONLY, ONLY_OUTPUTS, PARTS,
+    PROGRESS, STATS, STIMULI, THREADS, WORKERS,
 };
 use clap::builder::ValueParser;
 use clap::{Arg, ArgAction, Command};
@@ -16,7 +16,7 @@ enum Takes {
     Text(&'static str),
     /// A number from 1 to this one.
     Number(&'static str, u64),
-    /// One of these values, which the option's help names.
+    /// One of these values.
     OneOf(&'static str, &'static [&'static str]),
 }
 
@@ -25,6 +25,7 @@ enum Takes {
 pub(crate) struct Choosable {
     name: &'static str,
     takes: Takes,
+    /// Its first line is what `-h` shows of the option.
     help: &'static str,
     /// The options beside which it can't stand.
     excludes: &'static [&'static str],
@@ -76,12 +77,12 @@ pub(crate) const SETTINGS: &[Choosable] = &[
     },
 ];
 
-/// Of those that simulate: how that is done, and which nets are written. `threads` says how many share the work, where
-/// nobody says who has which nets.
+/// Of those that simulate: how that is done. `threads` says how many share the work, where nobody says who has which
+/// nets.
 pub(crate) const RUNNING: &[Choosable] = &[
     Choosable {
         name: "mode",
-        takes: Takes::OneOf("MODE", &["plain", "rounds", "free"]),
+        takes: Takes::OneOf("MODE", &["rounds", "free", "plain"]),
         help: MODE,
         excludes: &[],
     },
@@ -103,6 +104,10 @@ pub(crate) const RUNNING: &[Choosable] = &[
         help: PARTS,
         excludes: &[],
     },
+];
+
+/// Of `run` and `activity`: which nets are written.
+pub(crate) const CHOOSING: &[Choosable] = &[
     Choosable {
         name: "only",
         takes: Takes::Text("FILE"),
@@ -116,6 +121,14 @@ pub(crate) const RUNNING: &[Choosable] = &[
         excludes: &[],
     },
 ];
+
+/// Of `expect`: what is compared.
+pub(crate) const EXPECTING: &[Choosable] = &[Choosable {
+    name: "expected",
+    takes: Takes::Text("FILE"),
+    help: EXPECTED,
+    excludes: &[],
+}];
 
 /// Of `run`: what is told of it on standard error.
 pub(crate) const TELLING: &[Choosable] = &[
@@ -133,7 +146,15 @@ pub(crate) const TELLING: &[Choosable] = &[
     },
 ];
 
-// An option that takes this. Only the horizon has to be given.
+/// The first line of a text of help, which `-h` shows.
+pub(crate) fn first_line(text: &'static str) -> &'static str {
+    match text.split_once('\n') {
+        Some((line, _)) => line,
+        None => text,
+    }
+}
+
+// An option that takes this. The horizon has to be given, and what is compared.
 fn taking<'a>(arg: Arg<'a>, takes: Takes) -> Arg<'a> {
     match takes {
         Takes::Nothing => arg.action(ArgAction::SetTrue),
@@ -141,10 +162,7 @@ fn taking<'a>(arg: Arg<'a>, takes: Takes) -> Arg<'a> {
         Takes::Number(value, most) => arg
             .value_name(value)
             .value_parser(ValueParser::unsigned(1, most)),
-        Takes::OneOf(value, values) => arg
-            .value_name(value)
-            .value_parser(values)
-            .hide_possible_values(true),
+        Takes::OneOf(value, values) => arg.value_name(value).value_parser(values),
     }
 }
 
@@ -152,8 +170,9 @@ fn taking<'a>(arg: Arg<'a>, takes: Takes) -> Arg<'a> {
 fn arg_of<'a>(alloc: Global, option: &Choosable) -> Result<Arg<'a>, AllocError> {
     let arg = Arg::new(alloc, option.name)
         .long(option.name)
-        .help(option.help)
-        .required(option.name == "horizon");
+        .help(first_line(option.help))
+        .long_help(option.help)
+        .required(option.name == "horizon" || option.name == "expected");
     let mut arg = taking(arg, option.takes);
     for other in option.excludes {
         arg = arg.conflicts_with(*other)?;

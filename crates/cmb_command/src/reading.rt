@@ -9,8 +9,11 @@ ghost use Rattle.cmb_line.specs.Modes.{IsLawful, IsLawfulCount, clusters_of, wor
 
 use crate::clock::clock_of;
 use crate::explaining::{explain_command, explain_fault, explain_message};
-use crate::help::{ABOUT, ACTIVITY, BEGIN, CHECK, FILES, NETLIST_HINT, RUN, TABLE, USUAL, VERSION};
-use crate::options::{RUNNING, SETTINGS, TELLING, with_options};
+use crate::help::{
+    ABOUT, ACTIVITY, BEGIN, CHECK, DIFFERENCES, EXPECT, FILES, NETLIST_HINT, RUN, TABLE, USUAL,
+    VERSION,
+};
+use crate::options::{CHOOSING, EXPECTING, RUNNING, SETTINGS, TELLING, first_line, with_options};
 use clap::error::ErrorKind;
 use clap::{ArgMatches, Command, Error};
 use cmb_design::Settings;
@@ -47,11 +50,13 @@ const MOST_PARTS: u32 = 64;
 // The command line of `run`.
 fn run_command<'a>(alloc: Global) -> Result<Command<'a>, AllocError> {
     let command = Command::new(alloc, "run")
-        .about(RUN)
+        .about(first_line(RUN))
+        .long_about(RUN)
         .before_help(USUAL)
-        .after_help(FILES);
+        .after_long_help(FILES);
     let command = with_options(alloc, command, SETTINGS)?;
     let command = with_options(alloc, command, RUNNING)?;
+    let command = with_options(alloc, command, CHOOSING)?;
     with_options(alloc, command, TELLING)
 }
 
@@ -59,14 +64,27 @@ fn run_command<'a>(alloc: Global) -> Result<Command<'a>, AllocError> {
 fn activity_command<'a>(alloc: Global) -> Result<Command<'a>, AllocError> {
     let command = Command::new(alloc, "activity")
         .about(ACTIVITY)
-        .after_help(TABLE);
+        .after_long_help(TABLE);
     let command = with_options(alloc, command, SETTINGS)?;
-    with_options(alloc, command, RUNNING)
+    let command = with_options(alloc, command, RUNNING)?;
+    with_options(alloc, command, CHOOSING)
+}
+
+// The command line of `expect`.
+fn expect_command<'a>(alloc: Global) -> Result<Command<'a>, AllocError> {
+    let command = Command::new(alloc, "expect")
+        .about(EXPECT)
+        .after_long_help(DIFFERENCES);
+    let command = with_options(alloc, command, SETTINGS)?;
+    let command = with_options(alloc, command, RUNNING)?;
+    with_options(alloc, command, EXPECTING)
 }
 
 // The command line of `check`.
 fn check_command<'a>(alloc: Global) -> Result<Command<'a>, AllocError> {
-    let command = Command::new(alloc, "check").about(CHECK);
+    let command = Command::new(alloc, "check")
+        .about(first_line(CHECK))
+        .long_about(CHECK);
     with_options(alloc, command, SETTINGS)
 }
 
@@ -77,7 +95,7 @@ fn bare_command<'a>(alloc: Global) -> Result<Command<'a>, AllocError> {
             .version(VERSION)
             .about(ABOUT)
             .before_help(USUAL)
-            .after_help(FILES)
+            .after_long_help(FILES)
             .bin_name("cmbsim")?
             .no_binary_name(true)
             .subcommand_required(true),
@@ -96,6 +114,7 @@ fn with_command<'a>(
 fn whole_command<'a>(alloc: Global) -> Result<Command<'a>, AllocError> {
     let line = with_command(bare_command(alloc)?, run_command(alloc))?;
     let line = with_command(line, activity_command(alloc))?;
+    let line = with_command(line, expect_command(alloc))?;
     let line = with_command(line, check_command(alloc))?;
     with_command(line, explain_command(alloc))
 }
@@ -226,6 +245,7 @@ struct Files {
     stimuli: Option<String>,
     clocks: Option<String>,
     only: Option<String>,
+    expected: Option<String>,
 }
 
 fn files_of(alloc: Global, matches: &ArgMatches<'_>) -> Result<Files, AllocError>
@@ -237,12 +257,15 @@ fn files_of(alloc: Global, matches: &ArgMatches<'_>) -> Result<Files, AllocError
         ≡ first_value (found_of matches.now) (codes "clocks")) }
     ensures only { IfOk result (λ of. option_map string_bytes of.only
         ≡ first_value (found_of matches.now) (codes "only")) }
+    ensures expected { IfOk result (λ of. option_map string_bytes of.expected
+        ≡ first_value (found_of matches.now) (codes "expected")) }
 {
     Ok(Files {
         delays: file_of(alloc, matches, "delays")?,
         stimuli: file_of(alloc, matches, "stimuli")?,
         clocks: file_of(alloc, matches, "clocks")?,
         only: file_of(alloc, matches, "only")?,
+        expected: file_of(alloc, matches, "expected")?,
     })
 }
 
@@ -273,6 +296,8 @@ fn line_of(alloc: Global, task: Task, matches: &ArgMatches<'_>) -> Result<Line, 
         ≡ first_value (found_of matches.now) (codes "clocks")) }
     ensures only { IfOk result (λ line. option_map string_bytes line.only
         ≡ first_value (found_of matches.now) (codes "only")) }
+    ensures expected { IfOk result (λ line. option_map string_bytes line.expected
+        ≡ first_value (found_of matches.now) (codes "expected")) }
 {
     let mode = mode_of(matches)?;
     let threads = threads_of(matches)?;
@@ -291,6 +316,7 @@ fn line_of(alloc: Global, task: Task, matches: &ArgMatches<'_>) -> Result<Line, 
         stimuli: files.stimuli,
         clocks: files.clocks,
         only: files.only,
+        expected: files.expected,
     })
 }
 
@@ -304,6 +330,8 @@ fn line_in(alloc: Global, matches: &ArgMatches<'_>) -> Result<Line, LineFault>
         line_of(alloc, Task::Run, run)
     } else if let Some(activity) = matches.subcommand_matches("activity") {
         line_of(alloc, Task::Activity, activity)
+    } else if let Some(expect) = matches.subcommand_matches("expect") {
+        line_of(alloc, Task::Expect, expect)
     } else if let Some(check) = matches.subcommand_matches("check") {
         line_of(alloc, Task::Check, check)
     } else if let Some(explain) = matches.subcommand_matches("explain") {
@@ -313,10 +341,11 @@ fn line_in(alloc: Global, matches: &ArgMatches<'_>) -> Result<Line, LineFault>
     }
 }
 
-/// Reads the words after the program's name: `run`, `activity` or `check`, and its options. The horizon of a line is 1
-/// to 1,000,000 ticks, and it has 1 to 64 threads, or workers and clusters; it chooses the nets of a list just where it
-/// names one. Errors: `Help` where the words ask for help, the version or the explanation of a fault, `Wrong` where
-/// they aren't a line of the program, `Clock` where only the value of `--clock` has another form, and `Memory`.
+/// Reads the words after the program's name: `run`, `activity`, `expect` or `check`, and its options. The horizon of a
+/// line is 1 to 1,000,000 ticks, and it has 1 to 64 threads, or workers and clusters; it chooses the nets of a list
+/// just where it names one. Errors: `Help` where the words ask for help, the version or the explanation of a fault,
+/// `Wrong` where they aren't a line of the program, `Clock` where only the value of `--clock` has another form, and
+/// `Memory`.
 pub fn read_line(alloc: Global, words: &[String]) -> Result<Line, LineFault>
     ensures horizon { IfOk result (λ line. (1 ≤ line.settings.horizon) × (line.settings.horizon ≤ 1000000)) }
     ensures mode { IfOk result (λ line. IsLawful line.mode line.threads) }

@@ -1,9 +1,9 @@
 -- Rows of any kind, checked in turn: one more row passes, or the first fault is its own.
 use Rattle.std.specs.Prelude.{cond, slice_get}
-use Rattle.std.proofs.Common.{inl, inr, zero, Bool, true, false, ◌≡◌, ◌<◌, ◌+◌, ℕ, suc, List, [], ◌∷◌, ◌++◌, Some, None, length, take, drop, get_or, refl, sym, ap, arith, ◌∙◌, add-one, append_assoc, drop-cons}
+use Rattle.std.proofs.Common.{inl, inr, zero, Bool, Option, true, false, ◌≡◌, ◌<◌, ◌+◌, ℕ, suc, List, [], ◌∷◌, ◌++◌, Some, None, length, take, drop, get_or, refl, sym, ap, arith, ◌∙◌, add-one, append_assoc, drop-cons}
 use Rattle.std.proofs.lemmas.List.{append-nil, length-take, take-append-drop}
 use Rattle.std.proofs.Math.Seq.{take-suc}
-use Rattle.cmb_design.specs.Checks.{Check, IsFaultOf, checks_after, checks_at, first_fault, rows_checks}
+use Rattle.cmb_design.specs.Checks.{Check, IsFaultOf, checks_after, checks_at, checks_of, first_fault, rows_checks}
 use Rattle.cmb_design.specs.declared.fault.DesignFault.{DesignFault}
 
 pub first_fault-none : (xs ys : List Check) → first_fault xs ≡ None → first_fault (xs ++ ys) ≡ first_fault ys
@@ -113,6 +113,30 @@ refuse_at : {X : Type 0} (checks : Checks X) (rows : List X) (i : ℕ) (f : Desi
 refuse_at checks rows i f h p q =
     let x = element_at rows i h in
     rows_refuse checks rows i x.0 f h x.1 p (sym (ap first_fault (checks_at-is checks rows i x.0 h x.1)) ∙ q)
+
+-- checks of a row that are those of others and then a last one
+abbrev pub with_last : {X : Type 0} → Checks X → (ℕ → X → Check) → Checks X
+with_last first last n earlier r = first n earlier r ++ last n r ∷ []
+
+-- what the others refuse is refused
+pub last-after : {X : Type 0} (first : Checks X) (last : ℕ → X → Check) (rows : List X) (i : ℕ) (e : DesignFault) → IsFaultOf (checks_at first rows i) e
+    → IsFaultOf (checks_at (with_last first last) rows i) e
+unfolding checks_at
+last-after first last rows i e (inl memory) = inl memory
+last-after {X} first last rows i e (inr refused) = inr (go (slice_get rows i) refused)
+  where
+    go : (o : Option X) → first_fault (checks_of first rows i o) ≡ Some e → first_fault (checks_of (with_last first last) rows i o) ≡ Some e
+    go None h = h
+    go (Some r) h = first_fault-some (first (i + 2) (take i rows) r) (last (i + 2) r ∷ []) e h
+
+-- where they pass, the last one decides
+pub last-decides : {X : Type 0} (first : Checks X) (last : ℕ → X → Check) (rows : List X) (i : ℕ) (r : X) → i < length rows → r ≡ get_or rows i r
+    → first_fault (checks_at first rows i) ≡ None
+    → first_fault (checks_at (with_last first last) rows i) ≡ cond (last (i + 2) r).stands (Some (last (i + 2) r).answer) None
+unfolding first_fault
+last-decides first last rows i r h e passed =
+    ap first_fault (checks_at-is (with_last first last) rows i r h e)
+    ∙ first_fault-none (first (i + 2) (take i rows) r) (last (i + 2) r ∷ []) (sym (ap first_fault (checks_at-is first rows i r h e)) ∙ passed)
 
 -- what refuses the next row refuses all
 pub stops_at : {X : Type 0} (checks : Checks X) (rows : List X) (i : ℕ) (e : DesignFault) → i < length rows

@@ -1,7 +1,7 @@
 -- The numbers of faults, and the records at which they stand.
 use Rattle.std.specs.Prelude.{ℕ}
 use Rattle.cmb_design.specs.declared.fault.DesignFault.{DesignFault}
-use Rattle.cmb_design.specs.declared.fault.DesignFault.TheVariants.{Horizon, Clock, NoClock, Header, Fields, Number, UnknownNet, UnknownKind, DelayRange, RepeatedRow, NotInput, Level, DelayOfInput, TableTooLarge, PinName, NoPin, ClockRange, NotFlop, Memory}
+use Rattle.cmb_design.specs.declared.fault.DesignFault.TheVariants.{Horizon, Clock, NoClock, Header, Fields, Number, UnknownNet, UnknownKind, DelayRange, RepeatedRow, NotInput, Level, DelayOfInput, TableTooLarge, PinName, NoPin, ClockRange, NotFlop, BeyondHorizon, Memory}
 
 abbrev pub fault_number : DesignFault → ℕ
 fault_number Horizon = 20
@@ -22,6 +22,7 @@ fault_number (PinName n) = 34
 fault_number (NoPin n) = 35
 fault_number (ClockRange n) = 36
 fault_number (NotFlop n) = 37
+fault_number (BeyondHorizon n) = 39
 fault_number Memory = 70
 
 -- the record at which a fault stands, 0 where it stands at none
@@ -44,4 +45,5 @@ fault_record (PinName n) = n
 fault_record (NoPin n) = n
 fault_record (ClockRange n) = n
 fault_record (NotFlop n) = n
+fault_record (BeyondHorizon n) = n
 fault_record Memory = 0

@@ -14,6 +14,7 @@ pub mod Faults
 pub mod Ranges
 pub mod Plain
 pub mod Part
+pub mod Expected
 -- what the functions inside the crate promise each other
 -- what the functions inside the crate promise each other
 pub mod Inner

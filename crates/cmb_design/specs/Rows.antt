@@ -1,5 +1,5 @@
 -- The checks of rows against the netlist and the rows before them.
-use Rattle.std.specs.Prelude.{ℕ, Bool, false, not, ◌&&◌, ◌==◌, List, [], ◌∷◌, length, is_none, bytes_eq}
+use Rattle.std.specs.Prelude.{ℕ, Bool, false, not, ◌&&◌, ◌==◌, ◌++◌, List, [], ◌∷◌, length, is_none, nat_le, bytes_eq}
 use Rattle.std.specs.List.{list_any}
 use Rattle.cmb_netlist.specs.Netlist.{Netlist, number_of, pins_of}
 use Rattle.cmb_design.specs.Checks.{Check, check}
@@ -47,11 +47,18 @@ unfoldable pub delay_row_checks : Netlist → ℕ → List DelayRow → DelayRow
 unfolding delayed_checks
 delay_row_checks netlist n earlier row = delayed_checks netlist n (list_any (λ other. same_delayed other.what row.what) earlier) row.what
 
--- of a stimulus row: the netlist has the net (26), no earlier row has its tick and net (29), and the net is an input (30)
+-- of a row that tells a level by net and tick: the netlist has the net (26), and no earlier row has its tick and net (29)
+abbrev pub told_row_checks : Netlist → ℕ → List StimulusRow → StimulusRow → List Check
+told_row_checks netlist n earlier row =
+    check (fault.UnknownNet n) (is_none (number_of netlist row.net)) ∷ check (fault.RepeatedRow n) (list_any (λ other. bytes_eq other.net row.net && other.tick == row.tick) earlier) ∷ []
+
+-- of a stimulus row: those, and the net is an input (30)
 unfoldable pub stimulus_row_checks : Netlist → ℕ → List StimulusRow → StimulusRow → List Check
-stimulus_row_checks netlist n earlier row =
-    check (fault.UnknownNet n) (is_none (number_of netlist row.net)) ∷ check (fault.RepeatedRow n) (list_any (λ other. bytes_eq other.net row.net && other.tick == row.tick) earlier)
-    ∷ check (fault.NotInput n) (not (driver_named netlist is_input row.net)) ∷ []
+stimulus_row_checks netlist n earlier row = told_row_checks netlist n earlier row ++ check (fault.NotInput n) (not (driver_named netlist is_input row.net)) ∷ []
+
+-- of a row that expects a level of a run up to a horizon: those, and the tick is below it (39)
+unfoldable pub expected_row_checks : Netlist → ℕ → ℕ → List StimulusRow → StimulusRow → List Check
+expected_row_checks netlist horizon n earlier row = told_row_checks netlist n earlier row ++ check (fault.BeyondHorizon n) (nat_le horizon row.tick) ∷ []
 
 -- of a clock row: the netlist has the net (26), no earlier row has its net (29), and a flip-flop drives the net (37)
 unfoldable pub clock_row_checks : Netlist → ℕ → List ClockRow → ClockRow → List Check

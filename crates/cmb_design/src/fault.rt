@@ -9,8 +9,8 @@ ghost use Rattle.cmb_design.specs.Faults.{fault_number, fault_record};
 use std::error::Error;
 use std::fmt;
 
-/// Why a table, the settings or the rows make no design. A fault of a table or of its rows holds the number of the
-/// record at which it stands; the header is record 1.
+/// Why a table, the settings or the rows make no design, or what is expected of its run can't be. A fault of a table or
+/// of its rows holds the number of the record at which it stands; the header is record 1.
 #[derive(Clone, Copy)]
 pub enum DesignFault {
     /// 20: the horizon isn't 1 to 1,000,000 ticks.
@@ -49,12 +49,14 @@ pub enum DesignFault {
     ClockRange(u32),
     /// 37: a clock is of a net that no flip-flop drives.
     NotFlop(u32),
+    /// 39: the tick of what is expected isn't below the horizon.
+    BeyondHorizon(u32),
     /// 70: memory ran out. This is no fault of the inputs.
     Memory,
 }
 
 impl DesignFault {
-    /// The fault's number: 20 to 37, or 70 where memory ran out.
+    /// The fault's number: 20 to 37, 39, or 70 where memory ran out.
     pub fn number(&self) -> u32
         ensures { result ≡ fault_number self.now }
     {
@@ -77,6 +79,7 @@ impl DesignFault {
             DesignFault::NoPin(_) => 35,
             DesignFault::ClockRange(_) => 36,
             DesignFault::NotFlop(_) => 37,
+            DesignFault::BeyondHorizon(_) => 39,
             DesignFault::Memory => 70,
         }
     }
@@ -104,7 +107,8 @@ impl DesignFault {
             | DesignFault::PinName(record)
             | DesignFault::NoPin(record)
             | DesignFault::ClockRange(record)
-            | DesignFault::NotFlop(record) => *record,
+            | DesignFault::NotFlop(record)
+            | DesignFault::BeyondHorizon(record) => *record,
         }
     }
 
@@ -135,12 +139,13 @@ impl DesignFault {
                 "the first tick is above 1,000,000, or the period isn't 1 to 1,000,000"
             }
             DesignFault::NotFlop(_) => "the net isn't driven by a flip-flop",
+            DesignFault::BeyondHorizon(_) => "the tick isn't below the horizon",
             DesignFault::Memory => "out of memory",
         }
     }
 }
 
-// By the two numbers that a fault is known by: a derived one has nineteen arms.
+// By the two numbers that a fault is known by: a derived one has twenty arms.
 impl PartialEq for DesignFault {
     ghost eq = { eq_of_both (on fault_number ◌==◌) (on fault_record ◌==◌) };
 
@@ -164,7 +169,7 @@ impl fmt::Display for DesignFault {
     }
 }
 
-// In the words of `Display`: a derived one prints in each of nineteen arms.
+// In the words of `Display`: a derived one prints in each of twenty arms.
 impl fmt::Debug for DesignFault {
     fn fmt<W: fmt::Write>(&self, f: &mut fmt::Formatter<W>) -> fmt::Result {
         fmt::Display::fmt(self, f)

@@ -5,6 +5,7 @@ mod clocks;
 mod delays;
 pub mod design;
 pub mod examples;
+pub mod expected;
 pub mod fault;
 pub mod gates;
 pub mod laws;
@@ -20,6 +21,7 @@ mod stimuli;
 mod told;
 
 pub use design::Design;
+pub use expected::{Expected, expected_rows};
 pub use fault::DesignFault;
 pub use gates::gate;
 pub use plain::{MOST_CELLS, plain_waves};

@@ -1,10 +1,12 @@
 //! The changes of input nets, from the rows of their stimuli.
 
-ghost use Rattle.std.specs.Prelude.{◌≡◌, ◌+◌, ◌<◌, ◌≤◌, length, take, map, Some, IfOk, IfErr, MatchOption, OnOk};
+ghost use Rattle.std.specs.Prelude.{◌≡◌, ◌+◌, ◌<◌, ◌≤◌, length, slice_index_or, take, map, None, Some, IfOk, IfErr};
+ghost use Rattle.std.specs.Prelude.{MatchOption, OnOk};
 ghost use Rattle.cmb_netlist.specs.Netlist.{number_of};
 ghost use Rattle.cmb_wave.specs.Waveform.{changes_between};
 ghost use Rattle.cmb_design.specs.Checks.{IsFaultOf, checks_at, first_fault, rows_checks};
-ghost use Rattle.cmb_design.specs.Rows.{stimulus_row_checks};
+ghost use Rattle.cmb_design.specs.Rows.{stimulus_row_checks, told_row_checks};
+ghost use Rattle.cmb_design.specs.declared.rows.StimulusRow.{StimulusRow};
 ghost use Rattle.cmb_design.specs.Timing.{level_by};
 ghost use Rattle.cmb_design.specs.Inner.Stimuli.{AllEmpty, AllTold, AreStimuli, stimulus_changes};
 ghost use Rattle.cmb_design.specs.Inner.Told.{changes_in, told_at};
@@ -27,7 +29,39 @@ fn number_of(netlist: &Netlist, name: &[u8], likely: usize) -> Option<usize>
     netlist.number(name)
 }
 
-// Tables go through the nets in order, mostly: the net after that of a row is likely to be that of the next.
+/// Takes the level that the row with an index tells, and gives the number of its net. Tables go through the nets in
+/// order, mostly: the net after that of a row is likely to be that of the next.
+pub(crate) fn take_level(
+    alloc: Global,
+    netlist: &Netlist,
+    rows: &[StimulusRow],
+    i: usize,
+    likely: &mut usize,
+    table: &mut Vec<Told>,
+) -> Result<usize, DesignFault>
+    requires within { i < length rows.now }
+    requires few { length rows.now ≤ MAX_TEXT }
+    requires so_far { AreStimuli netlist.now (take i rows.now) table.old.items }
+    ensures checks { OnOk result (first_fault (checks_at (told_row_checks netlist.now) rows.now i) ≡ None) }
+    ensures net { IfOk result (λ net. (d : StimulusRow)
+        → number_of netlist.now (slice_index_or rows.now i d).net ≡ Some net) }
+    ensures below { IfOk result (λ net. (net < length netlist.now.names) × (net < MAX_NETS)) }
+    ensures table { OnOk result (AreStimuli netlist.now (take (i + 1) rows.now) table.new.items) }
+    ensures err { IfErr result (IsFaultOf (checks_at (told_row_checks netlist.now) rows.now i)) }
+{
+    let row = &rows[i];
+    let number = i as u32 + 2;
+    let Some(net) = number_of(netlist, row.net.as_bytes(), *likely) else {
+        return Err(DesignFault::UnknownNet(number));
+    };
+    *likely = net + 1;
+    let old = add_level(alloc, &mut table[net], row.tick, row.level)?;
+    if old.is_some() {
+        return Err(DesignFault::RepeatedRow(number));
+    }
+    Ok(net)
+}
+
 fn take_stimulus(
     alloc: Global,
     netlist: &Netlist,
@@ -43,23 +77,15 @@ fn take_stimulus(
         × AreStimuli netlist.now (take (i + 1) rows.now) table.new.items) }
     ensures err { IfErr result (IsFaultOf (checks_at (stimulus_row_checks netlist.now) rows.now i)) }
 {
-    let row = &rows[i];
-    let number = i as u32 + 2;
-    let Some(net) = number_of(netlist, row.net.as_bytes(), *likely) else {
-        return Err(DesignFault::UnknownNet(number));
-    };
-    *likely = net + 1;
-    let old = add_level(alloc, &mut table[net], row.tick, row.level)?;
-    if old.is_some() {
-        return Err(DesignFault::RepeatedRow(number));
-    }
+    let net = take_level(alloc, netlist, rows, i, likely, table)?;
     if !is_input_driver(netlist.driver(net)) {
-        return Err(DesignFault::NotInput(number));
+        return Err(DesignFault::NotInput(i as u32 + 2));
     }
     Ok(())
 }
 
-fn no_levels(alloc: Global, count: usize) -> Result<Vec<Told>, AllocError>
+/// Tables of the levels of so many nets, of which nothing is told.
+pub(crate) fn no_levels(alloc: Global, count: usize) -> Result<Vec<Told>, AllocError>
     ensures { IfOk result (λ v. (length v.items ≡ count) × AllEmpty v.items) }
 {
     let mut table = Vec::with_capacity(alloc, count)?;

@@ -1,14 +1,14 @@
 -- Where windows end.
 use Rattle.std.proofs.Common.{◌≡◌, ℕ, zero, suc, ◌+◌, ◌-◌, ◌*◌, ◌/◌, ◌%◌, ◌<◌, ◌≤◌, ◌⊎◌, inl, inr, Bool, true, false, List, [], ◌∷◌, ◌++◌, length, get_or, min, sym, ap, subst, ◌∙◌, arith, ltb, mod-lt, div-add-mod'}
-use Rattle.std.specs.Prelude.{Contains}
+use Rattle.std.specs.Prelude.{All, Contains}
 use Rattle.std.proofs.lemmas.Nat.{mul-le}
 use Rattle.std.proofs.lemmas.Bool.{lt-ltb, le-ltb, cases_eq, cases_lt}
 use Rattle.cmb_design.specs.Design.{Design}
 use Rattle.cmb_design.specs.Timing.{clock_of, delay}
 use Rattle.cmb_design.proofs.AskFacts.{clock_of-positive}
 use Rattle.cmb_engine.specs.Crossings.{AreWithinLookahead, IsCrossing}
-use Rattle.cmb_engine.specs.Inner.Ends.{pace_of, AreEnding}
-use Rattle.cmb_engine.specs.Windows.{arrival_from, end_by}
+use Rattle.cmb_engine.specs.Inner.Ends.{IsPaced, pace_of, AreEnding}
+use Rattle.cmb_engine.specs.Windows.{HaveTicks, arrival_from, end_by}
 use Rattle.cmb_engine.specs.declared.windows.Pace.{Pace}
 use Rattle.cmb_engine.proofs.ArrivalFacts.{arrives_parts}
 
@@ -57,6 +57,28 @@ arrival_from-least pace from tick positive late whole later = go (cases_lt pace.
     go : (pace.first < from) ⊎ (from ≤ pace.first) → arrival_from pace from ≤ tick
     go (inl l) = let e : ltb pace.first from ≡ true = lt-ltb _ _ l in rw e (ahead l)
     go (inr l) = let e : ltb pace.first from ≡ false = le-ltb _ _ l in rw e late
+
+-- and none ends where it begins
+arrival_from-later : (pace : Pace) (tick : ℕ) → 1 ≤ pace.period → tick ≤ arrival_from pace tick
+arrival_from-later pace tick positive = go (cases_lt pace.first tick)
+  where
+    go : (pace.first < tick) ⊎ (tick ≤ pace.first) → tick ≤ arrival_from pace tick
+    go (inl l) = let e : ltb pace.first tick ≡ true = lt-ltb _ _ l in rw e (omega (arith, mod-lt (tick - 1 - pace.first) positive))
+    go (inr l) = let e : ltb pace.first tick ≡ false = le-ltb _ _ l in rw e l
+
+end_by-within : (paces : List Pace) (clock last : ℕ) → end_by paces clock last ≤ last
+end_by-within [] clock last = omega arith
+end_by-within (pace ∷ paces) clock last = omega (arith, end_by-within paces clock last)
+
+end_by-later : (paces : List Pace) (clock last : ℕ) → All IsPaced paces → clock < last → clock < end_by paces clock last
+end_by-later [] clock last paced early = early
+end_by-later (pace ∷ paces) clock last paced early =
+    let is : IsPaced pace = paced 0 pace (omega arith) in
+    omega (arith, is.3, arrival_from-later pace (clock + pace.lead) is.1, end_by-later paces clock last (λ k d h. paced (suc k) d (omega (arith, h))) early)
+
+pub have-ticks : (width horizon : ℕ) (paces : List Pace) → 1 ≤ width → All IsPaced paces → HaveTicks (record { width = width; horizon = horizon; paces = paces })
+have-ticks width horizon paces some paced clock early =
+    (end_by-later paces clock (min (clock + width) horizon) paced (omega (arith, some, early)), omega (arith, end_by-within paces clock (min (clock + width) horizon)))
 
 -- so windows lie in the lookahead of flip-flops that have their paces among these
 pub ending-ahead : (design : Design) (crossing : List Bool) (width horizon : ℕ) (paces : List Pace) → AreEnding design crossing width paces

@@ -1,5 +1,5 @@
 -- Where windows end: at ticks at which samples arrive.
-use Rattle.std.specs.Prelude.{ℕ, ◌+◌, ◌-◌, ◌%◌, nat_lt, List, [], ◌∷◌, min, if◌then◌else◌}
+use Rattle.std.specs.Prelude.{ℕ, ◌+◌, ◌-◌, ◌%◌, ◌<◌, ◌≤◌, nat_lt, List, [], ◌∷◌, min, if◌then◌else◌}
 use Rattle.cmb_engine.specs.declared.windows.Pace.{Pace}
 
 -- the most ticks of a window, the tick at which the last one ends, and the samples whose arrivals end windows
@@ -21,3 +21,7 @@ end_by (pace ∷ paces) clock last = min (arrival_from pace (clock + pace.lead))
 -- where a window ends that begins at a clock
 abbrev pub end_of : Windows → ℕ → ℕ
 end_of windows clock = end_by windows.paces clock (min (clock + windows.width) windows.horizon)
+
+-- each window has a tick at least, and ends within the horizon
+abbrev pub HaveTicks : Windows → Type 0
+HaveTicks windows = (clock : ℕ) → clock < windows.horizon → (clock < end_of windows clock) × (end_of windows clock ≤ windows.horizon)

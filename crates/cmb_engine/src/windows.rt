@@ -198,7 +198,7 @@ impl Windows {
     ghost use Rattle.std.specs.Prelude.{◌≡◌, ℕ, ◌+◌, ◌<◌, ◌≤◌, IfOk, IfSome};
     ghost use Rattle.cmb_design.specs.Timing.{delay};
     ghost use Rattle.cmb_engine.specs.Crossings.{IsCrossing, AreWithinLookahead};
-    ghost use Rattle.cmb_engine.specs.Windows.{end_of};
+    ghost use Rattle.cmb_engine.specs.Windows.{HaveTicks, end_of};
 
     /// Windows of a design, of at most so many ticks.
     pub fn of(alloc: Global, design: &Design, width: u32) -> Result<Windows, AllocError>
@@ -233,6 +233,7 @@ impl Windows {
         ensures ahead { IfOk result (λ made. IfSome made (AreWithinLookahead design.now crossing.now)) }
         ensures soon { IfOk result (λ made. IfSome made (λ windows. (net : ℕ) → IsCrossing design.now crossing.now net
             → delay design.now net 1 < width)) }
+        ensures each { IfOk result (λ made. IfSome made HaveTicks) }
     {
         let paces = paces_of(alloc, design)?;
         let mut paces = ending(alloc, &paces, width)?;

@@ -13,7 +13,7 @@ IsNetlistFault number = Within 1 8 number
 
 -- of a table
 abbrev pub IsTableFault : ℕ → Type 0
-IsTableFault number = Within 23 32 number ⊎ Within 34 37 number
+IsTableFault number = Within 23 32 number ⊎ (Within 34 37 number ⊎ (number ≡ 39))
 
 -- of the settings, and of what mode plain can run
 abbrev pub IsSettingsFault : ℕ → Type 0
@@ -30,7 +30,7 @@ IsFaultNumber number = IsNetlistFault number ⊎ (IsTableFault number ⊎ (IsSet
 abbrev pub place_of : ℕ → Place
 place_of number =
     if nat_le number 8 then Line
-    else if (nat_le 23 number && nat_le number 32) || (nat_le 34 number && nat_le number 37) then Record
+    else if (nat_le 23 number && nat_le number 32) || ((nat_le 34 number && nat_le number 37) || nat_eq number 39) then Record
     else if nat_eq number 38 then Listed
     else if nat_eq number 53 then Net
     else if nat_eq number 60 || nat_eq number 61 then Input

@@ -19,7 +19,8 @@ pub enum Place {
     Listed,
     /// The number of a net.
     Net,
-    /// The number of an input: 1 the netlist, 2 the delays, 3 the stimuli, 4 the clocks, 5 the list of nets.
+    /// The number of an input: 1 the netlist, 2 the delays, 3 the stimuli, 4 the clocks, 5 the list of nets, 7 what is
+    /// expected.
     Input,
     /// How many bytes were written.
     Bytes,
@@ -48,7 +49,7 @@ pub fn explanation_of(number: u32) -> Option<Explanation>
 {
     match number {
         1..=8 => netlist_fault(number).copied(),
-        23..=32 | 34..=37 => table_fault(number).copied(),
+        23..=32 | 34..=37 | 39 => table_fault(number).copied(),
         38 | 53 | 60..=62 | 70 => running_fault(number).copied(),
         _ => settings_fault(number).copied(),
     }

@@ -12,8 +12,8 @@ static HEADER: Explanation = Explanation {
     example: "\
 kind;NAND;3",
     advice: "\
-Begin delays with by,name,delay, stimuli with tick,net,value and clocks with net,first,period, in
-small letters. Between fields stands a comma: a spreadsheet that writes ; or tabs has to be told.
+Begin delays with by,name,delay, clocks with net,first,period, and stimuli and what is expected with
+tick,net,value, in small letters. Between fields stands a comma: a spreadsheet that writes ; or tabs has to be told.
 See also that each table went to its own option.",
 };
 
@@ -84,8 +84,8 @@ tick,net,value
 5,a,0
 5,a,1",
     advice: "\
-Keep one row of each kind, net or pin in the delays, of each tick and net in the stimuli, and of
-each net in the clocks.",
+Keep one row of each kind, net or pin in the delays, of each tick and net in the stimuli and in what
+is expected, and of each net in the clocks.",
 };
 
 static NOT_INPUT: Explanation = Explanation {
@@ -170,6 +170,18 @@ with y = NOT(a) in the netlist",
 Only a net that a DFF drives samples: name the flip-flop's own net, not its data.",
 };
 
+static BEYOND_HORIZON: Explanation = Explanation {
+    number: 39,
+    place: Place::Record,
+    meaning: "the tick isn't below the horizon",
+    example: "\
+tick,net,value
+400,y,1
+with --horizon 400",
+    advice: "\
+A run has the ticks 0 to one less than the horizon. Raise --horizon, or leave the row out.",
+};
+
 /// The explanation of a fault of a table; `None` of any other number.
 pub(crate) fn table_fault(number: u32) -> Option<&'static Explanation>
     ensures known { IsSome result ↔ IsTableFault number }
@@ -191,6 +203,7 @@ pub(crate) fn table_fault(number: u32) -> Option<&'static Explanation>
         35 => Some(&NO_PIN),
         36 => Some(&CLOCK_RANGE),
         37 => Some(&NOT_FLOP),
+        39 => Some(&BEYOND_HORIZON),
         _ => None,
     }
 }

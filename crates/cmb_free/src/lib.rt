@@ -1,4 +1,4 @@
-//! Free runs: workers that take turns of their own, and tell one another by links and a board.
+//! Free runs: workers that simulate clusters without rounds, and exchange messages and null messages while they run.
 #![tactic(auto)]
 
 mod backlog;

@@ -1,4 +1,4 @@
-//! What the program does with the system: it opens files, prints, tells what a run took, and ends with a status.
+//! The program's calls of the operating system: files, printed texts, what a run took, and the exit status.
 #![tactic(auto)]
 
 pub mod measures;

@@ -1,12 +1,13 @@
 //! What is printed at the end of a run, and its status: 0 where the line was done or help was asked for, 1 with a
-//! fault, 2 where the words are no line.
+//! fault, 2 where the words are no line, 3 where something came otherwise than was expected.
 
 ghost use Rattle.std.specs.Prelude.{◌≡◌, ◌≤◌, IfErr, IfOk};
 ghost use Rattle.std.specs.Process.{exit_status};
+ghost use Rattle.cmb_host.specs.Statuses.{done_status};
 
 use crate::tables::Told;
 use cmb_command::line_message;
-use cmb_inout::{Done, Fault, fault_line};
+use cmb_inout::{Comparison, Done, Fault, fault_line};
 use cmb_line::Line;
 use cmb_tell::done_words;
 use cmb_vcd::{ToWriter, write_whole};
@@ -34,9 +35,31 @@ pub fn tell(rt: &HostRuntime, fault: &Fault) -> ExitCode
     ExitCode::from(1)
 }
 
-/// What is told of a line that was done, or why it wasn't. The status is 0 where it was, else 1.
+// Prints on standard error how many rows differ, if memory allows.
+fn tell_differing(rt: &HostRuntime, told: &Comparison) {
+    let (differ, rows) = (told.differ, told.rows);
+    if let Ok(text) = format!(in rt.alloc(); "{differ} of {rows} rows differ\n") {
+        let _ = rt.stderr().write_all(text.as_bytes());
+    }
+}
+
+// The status of a line that was done.
+fn status_done(rt: &HostRuntime, done: &Done) -> ExitCode
+    ensures { exit_status result ≡ done_status done.now }
+{
+    match done {
+        Done::Compared(told) if told.differ > 0 => {
+            tell_differing(rt, told);
+            ExitCode::from(3)
+        }
+        _ => ExitCode::from(0),
+    }
+}
+
+/// What is told of a line that was done, or why it wasn't. The status is 0 where it was, or 3 where something came
+/// otherwise than was expected, and 1 where it wasn't.
 pub fn status_of(rt: &HostRuntime, line: &Line, done: Result<Done, Told>) -> ExitCode
-    ensures done { IfOk done (λ _. exit_status result ≡ 0) }
+    ensures done { IfOk done (λ done. exit_status result ≡ done_status done) }
     ensures fault { IfErr done (λ _. exit_status result ≡ 1) }
 {
     match done {
@@ -44,7 +67,7 @@ pub fn status_of(rt: &HostRuntime, line: &Line, done: Result<Done, Told>) -> Exi
             if line.explain {
                 let _ = rt.stderr().write_all(done_words(&done).as_bytes());
             }
-            ExitCode::from(0)
+            status_done(rt, &done)
         }
         Err(told) => {
             let status = tell(rt, &told.fault);

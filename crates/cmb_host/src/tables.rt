@@ -51,13 +51,14 @@ fn has_input(rt: &HostRuntime) -> bool {
     rt.stdin().read(&mut []).is_ok()
 }
 
-/// The tables and the list of nets, opened. One that isn't named has no bytes.
+/// The tables, the list of nets and what is expected, opened. One that isn't named has no bytes.
 #[derive(Drop)]
 pub struct Tables {
     pub delays: Option<FromReader<File>>,
     pub stimuli: Option<FromReader<File>>,
     pub clocks: Option<FromReader<File>>,
     pub list: Option<FromReader<File>>,
+    pub expected: Option<FromReader<File>>,
 }
 
 /// Opens the files that a line names, in the order of their inputs, and no others. Fault 61, with the input's number,
@@ -71,6 +72,8 @@ pub fn open_tables(rt: &HostRuntime, line: &Line) -> Result<Tables, Told>
         × (⟦<Option<FromReader<File>> as Source>⟧.failures tables.clocks ≡ 0)) }
     ensures list { IfOk result (λ tables. (IsSome tables.list ↔ IsSome line.now.only)
         × (⟦<Option<FromReader<File>> as Source>⟧.failures tables.list ≡ 0)) }
+    ensures expected { IfOk result (λ tables. (IsSome tables.expected ↔ IsSome line.now.expected)
+        × (⟦<Option<FromReader<File>> as Source>⟧.failures tables.expected ≡ 0)) }
     ensures fault { IfErr result (λ told. (input : ℕ) × IsNamed line.now input × (told.fault ≡ Read input)) }
 {
     let has_input = has_input(rt);
@@ -78,6 +81,7 @@ pub fn open_tables(rt: &HostRuntime, line: &Line) -> Result<Tables, Told>
     let stimuli = open(rt, &line.stimuli, 3)?;
     let clocks = open(rt, &line.clocks, 4)?;
     let list = open(rt, &line.only, 5)?;
+    let expected = open(rt, &line.expected, 7)?;
     if !has_input {
         return Err(Told {
             fault: Fault::Read { input: 1 },
@@ -89,6 +93,7 @@ pub fn open_tables(rt: &HostRuntime, line: &Line) -> Result<Tables, Told>
         stimuli,
         clocks,
         list,
+        expected,
     })
 }
 

@@ -1,4 +1,4 @@
-//! What a thread does that finds nothing to do, and that waits at a ring.
+//! How a thread waits for a bounded queue: it looks again, gives the processor away, and then sleeps.
 #![tactic(auto)]
 
 pub mod idle;

@@ -30,10 +30,11 @@ of_design design.Horizon = settings 20 (inl (omega arith, omega arith))
 of_design design.Clock = settings 21 (inl (omega arith, omega arith))
 of_design design.NoClock = settings 22 (inl (omega arith, omega arith))
 of_design design.TableTooLarge = settings 33 (inr (inl refl))
-of_design (design.PinName n) = table 34 (inr (omega arith, omega arith))
-of_design (design.NoPin n) = table 35 (inr (omega arith, omega arith))
-of_design (design.ClockRange n) = table 36 (inr (omega arith, omega arith))
-of_design (design.NotFlop n) = table 37 (inr (omega arith, omega arith))
+of_design (design.PinName n) = table 34 (inr (inl (omega arith, omega arith)))
+of_design (design.NoPin n) = table 35 (inr (inl (omega arith, omega arith)))
+of_design (design.ClockRange n) = table 36 (inr (inl (omega arith, omega arith)))
+of_design (design.NotFlop n) = table 37 (inr (inl (omega arith, omega arith)))
+of_design (design.BeyondHorizon n) = table 39 (inr (inr refl))
 of_design design.Memory = inr (inr (inr (inr (inr (inr refl)))))
 of_design f = table (fault_number f) (inl (omega arith, omega arith))
 
@@ -108,7 +109,8 @@ of_end n h =
 pub of_fault : (n : ℕ) → IsFaultNumber n → IsOfFault n
 of_fault n (inl h) = of_netlist n h
 of_fault n (inr (inl (inl h))) = of_read n h
-of_fault n (inr (inl (inr h))) = of_row n h
+of_fault n (inr (inl (inr (inl h)))) = of_row n h
+of_fault n (inr (inl (inr (inr e)))) = (Design (design.BeyondHorizon 1), sym e)
 of_fault n (inr (inr (inl (inl h)))) = of_setting n h
 of_fault n (inr (inr (inl (inr (inl e))))) = (Design design.TableTooLarge, sym e)
 of_fault n (inr (inr (inl (inr (inr (inl e)))))) = (Clusters, sym e)

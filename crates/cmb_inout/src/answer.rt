@@ -13,6 +13,17 @@ pub struct Report {
     pub written: u64,
 }
 
+/// What was expected of a run, and how much of it came otherwise.
+#[derive(Clone, Copy, Debug, PartialEq, Eq)]
+pub struct Comparison {
+    /// Of the text that tells which rows differ.
+    pub report: Report,
+    /// How many rows were expected.
+    pub rows: u32,
+    /// How many of them differ.
+    pub differ: u32,
+}
+
 /// What was done.
 #[derive(Clone, Copy, Debug, PartialEq, Eq)]
 pub enum Done {
@@ -20,6 +31,8 @@ pub enum Done {
     Ran(Report),
     /// The table of activities was written.
     Measured(Report),
+    /// The rows that differ were written.
+    Compared(Comparison),
     /// The counts were written.
     Checked(Counts),
 }

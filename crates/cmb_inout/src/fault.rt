@@ -13,13 +13,14 @@ use std::alloc::{AllocError, Global};
 use std::error::Error;
 use std::fmt;
 
-/// Why a simulation didn't write its text. Inputs are 1 the netlist, 2 the delays, 3 the stimuli, 4 the clocks and 5
-/// the list of nets.
+/// Why a simulation didn't write its text. Inputs are 1 the netlist, 2 the delays, 3 the stimuli, 4 the clocks, 5 the
+/// list of nets and 7 the table of what is expected.
 #[derive(Drop)]
 pub enum Fault {
     /// 1 to 8: the netlist is wrong, on a line.
     Bench(BenchFault),
-    /// 20 to 37: a table, the settings or the rows make no design, or the design is too large for its mode.
+    /// 20 to 37 and 39: a table, the settings or the rows make no design, the design is too large for its mode, or what
+    /// is expected of its run can't be.
     Design(DesignFault),
     /// 38: what stands on this line of the list of nets, counted from 1, is no net's name.
     Unknown { line: u32 },
@@ -106,7 +107,7 @@ impl From<StreamFault> for Fault {
 }
 
 impl Fault {
-    /// The fault's number: 1 to 8, 20 to 38, 40, 53, 54, 60 to 62, and 70 for want of memory.
+    /// The fault's number: 1 to 8, 20 to 40, 53, 54, 60 to 62, and 70 for want of memory.
     pub fn number(&self) -> u32
         ensures { result ≡ number_of self.now }
     {

@@ -8,7 +8,7 @@ pub mod laws;
 pub mod reading;
 pub mod source;
 
-pub use answer::{Done, Report};
+pub use answer::{Comparison, Done, Report};
 pub use fault::{Fault, fault_line};
 pub use reading::{ReadFault, read_whole};
 pub use source::{FromBytes, FromReader, Source};

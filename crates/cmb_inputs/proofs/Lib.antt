@@ -1,2 +1,3 @@
+pub mod Expectations
 pub mod Read
 pub mod Spelled

@@ -25,6 +25,10 @@ input number bytes before after = record { number = number; bytes = bytes; befor
 abbrev pub read_from : {S : Type 0} → source.Ghosts S → ℕ → S → S → Input
 read_from s number old new = input number (s.remaining old) (s.failures old) (s.failures new)
 
+-- where nets are chosen by a list, its text is read; so is the table of what is expected, in its place
+abbrev pub with_table : Choice
+with_table = Only Listed
+
 -- of each source one more failed read can be counted
 abbrev pub HaveRoom : ℕ → ℕ → ℕ → ℕ → Type 0
 HaveRoom bench delays stimuli clocks = (bench < 2 ^ 64 - 1) × (delays < 2 ^ 64 - 1) × (stimuli < 2 ^ 64 - 1) × (clocks < 2 ^ 64 - 1)
@@ -55,7 +59,7 @@ HasTooMany i = IsTooLong i.bytes
 
 -- ---- the texts
 
--- the names of nets are those of the list, where one is read
+-- the names of nets are those of the list, or of the table of what is expected, where one is read
 pub record Texts : Type 0 where
   pub bench : List ℕ
   pub delays : List ℕ

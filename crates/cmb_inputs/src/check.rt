@@ -52,7 +52,7 @@ pub fn check_design<B: Source, D: Source, S: Source, C: Source>(
         (read_from C.Source 4 clocks.old clocks.new) []) result }
 {
     let none = &mut FromBytes::new(&[]);
-    let texts = read_texts(alloc, Choice::All, bench, delays, stimuli, clocks, none)?;
+    let texts = read_texts(alloc, Choice::All, 5, bench, delays, stimuli, clocks, none)?;
     count_texts(alloc, &texts, settings)
 }
 

@@ -20,7 +20,7 @@ pub struct InputTexts {
     pub delays: Vec<u8>,
     pub stimuli: Vec<u8>,
     pub clocks: Vec<u8>,
-    /// The list of nets, empty where none is read.
+    /// What names nets: the list, or the table of what is expected of them; empty where none is read.
     pub names: Vec<u8>,
 }
 
@@ -51,28 +51,35 @@ fn take_and_give_back(alloc: Global) {
     let _ = Vec::<u8>::with_capacity(alloc, LARGE);
 }
 
-/// Reads the list that names the nets that are chosen whole, as input 5, and gives its text in bytes; where the choice
-/// has no list the text is empty, and nothing is read. The faults are those of `read_input`.
-pub fn read_names<L: Source>(alloc: Global, choice: Choice, list: &mut L) -> Result<Vec<u8>, Fault>
+/// Reads the list that names the nets that are chosen whole, as the input with this number, and gives its text in
+/// bytes; where the choice has no list the text is empty, and nothing is read. The faults are those of `read_input`.
+pub fn read_names<L: Source>(
+    alloc: Global,
+    choice: Choice,
+    number: u32,
+    list: &mut L,
+) -> Result<Vec<u8>, Fault>
     requires { L.failures list.old < 2 ^ 64 - 1 }
     ensures whole { IfOk result (λ names.
-        AreWhole (listed choice (read_from L.Source 5 list.old list.new)) (listed choice names.items)) }
+        AreWhole (listed choice (read_from L.Source number list.old list.new)) (listed choice names.items)) }
     ensures short { IfOk result (λ names. length names.items ≤ input_limit) }
-    ensures fault { IfErr result (LackTexts (listed choice (read_from L.Source 5 list.old list.new))) }
-    ensures failures { NoneFailedBut (TellsFailed result) (listed choice (read_from L.Source 5 list.old list.new)) }
+    ensures fault { IfErr result (LackTexts (listed choice (read_from L.Source number list.old list.new))) }
+    ensures failures { NoneFailedBut (TellsFailed result)
+        (listed choice (read_from L.Source number list.old list.new)) }
     ensures unread { (choice ≡ Choice.Only Pick.Listed → ⊥) → list.new ≡ list.old }
 {
     match choice {
-        Choice::Only(Pick::Listed) => read_input(alloc, list, 5),
+        Choice::Only(Pick::Listed) => read_input(alloc, list, number),
         Choice::Only(Pick::Outputs) | Choice::All => Ok(Vec::new(alloc)),
     }
 }
 
-/// Reads the inputs whole, in order, the list of nets as the last where one names the nets that are chosen: 60 where
-/// one has more than 16,777,216 bytes, 61 where a read of it failed, 70 where memory was refused.
+/// Reads the inputs whole, in order, the list of nets as the last, with this number, where one names the nets that are
+/// chosen: 60 where one has more than 16,777,216 bytes, 61 where a read of it failed, 70 where memory was refused.
 pub fn read_texts<B: Source, D: Source, S: Source, C: Source, L: Source>(
     alloc: Global,
     choice: Choice,
+    number: u32,
     bench: &mut B,
     delays: &mut D,
     stimuli: &mut S,
@@ -84,7 +91,8 @@ pub fn read_texts<B: Source, D: Source, S: Source, C: Source, L: Source>(
     requires list { L.failures list.old < 2 ^ 64 - 1 }
     ensures read { AreRead choice (in_order (read_from B.Source 1 bench.old bench.new)
         (read_from D.Source 2 delays.old delays.new) (read_from S.Source 3 stimuli.old stimuli.new)
-        (read_from C.Source 4 clocks.old clocks.new) (listed choice (read_from L.Source 5 list.old list.new))) result }
+        (read_from C.Source 4 clocks.old clocks.new)
+        (listed choice (read_from L.Source number list.old list.new))) result }
     ensures unread { (choice ≡ Choice.Only Pick.Listed → ⊥) → list.new ≡ list.old }
 {
     take_and_give_back(alloc);
@@ -93,7 +101,7 @@ pub fn read_texts<B: Source, D: Source, S: Source, C: Source, L: Source>(
         delays: read_input(alloc, delays, 2)?,
         stimuli: read_input(alloc, stimuli, 3)?,
         clocks: read_input(alloc, clocks, 4)?,
-        names: read_names(alloc, choice, list)?,
+        names: read_names(alloc, choice, number, list)?,
     })
 }
 

@@ -11,6 +11,8 @@ pub enum Task {
     Run,
     /// It is simulated, and how active its nets are is written.
     Activity,
+    /// It is simulated, and what was expected of that and came otherwise is written.
+    Expect,
     /// It is read and counted.
     Check,
 }
@@ -50,4 +52,6 @@ pub struct Line {
     pub clocks: Option<String>,
     /// The file of the list of nets.
     pub only: Option<String>,
+    /// The file of the table of what is expected.
+    pub expected: Option<String>,
 }

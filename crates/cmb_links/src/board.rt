@@ -33,7 +33,7 @@ impl TableRule<(), Views, Told> for Law {
     ghost first = { λ told. new_view (terms_of told) 0 true ∷ [] };
 }
 
-// What the steps tell. These types are for the proofs alone.
+// The steps of a board.
 struct Publish;
 
 impl Play<(), Views> for Publish {

@@ -1,14 +1,14 @@
 //! Which sinks need each class, and what it weighs.
 
-ghost use Rattle.std.specs.Prelude.{◌≡◌, ◌<◌, true, length, All, IfOk, IfSome, OnOk};
-ghost use Rattle.cmb_partition.specs.Inner.Shapes.{AreClasses, AreFamilies};
+ghost use Rattle.std.specs.Prelude.{◌≡◌, ◌<◌, length, All, IfOk, IfSome, OnOk};
+ghost use Rattle.cmb_partition.specs.Inner.Shapes.{AreFamilies};
 
 use crate::families::Families;
 use crate::lists::Lists;
 use crate::marks::Marks;
 use std::alloc::{AllocError, Global};
 
-/// The classes of a netlist's nets, and those of imports.
+/// The classes of a netlist's nets, and those of imports, with what they weigh.
 #[derive(Drop)]
 pub(crate) struct Classes {
     /// For each net its class.
@@ -67,8 +67,12 @@ fn steps_to(needed: &Lists, parents: &[u32]) -> usize {
     steps
 }
 
-// For each class the sinks that need it. Classes come behind their parents. `None` where that takes too many steps.
-fn all_needed(alloc: Global, families: &Families, most: usize) -> Result<Option<Lists>, AllocError>
+/// For each class the sinks that need it. Classes come behind their parents. `None` where that takes too many steps.
+pub(crate) fn all_needed(
+    alloc: Global,
+    families: &Families,
+    most: usize,
+) -> Result<Option<Lists>, AllocError>
     requires { AreFamilies families.now }
     ensures { IfOk result (λ found. IfSome found (λ needed.
         All (λ net. net < length families.now.classes.items) needed.items.items)) }
@@ -76,7 +80,7 @@ fn all_needed(alloc: Global, families: &Families, most: usize) -> Result<Option<
     let mut needed = Lists::new(alloc);
     let mut marks = Marks::new(alloc, families.classes.len())?;
     let mut steps = 0_usize;
-    for class in 0..families.weights.len() {
+    for class in 0..families.imports.len() {
         let parents = families.parents.of(class);
         steps = steps.saturating_add(steps_to(&needed, parents));
         if steps > most {
@@ -87,55 +91,4 @@ fn all_needed(alloc: Global, families: &Families, most: usize) -> Result<Option<
         needed.push(&found)?;
     }
     Ok(Some(needed))
-}
-
-// Adds the weights of nets to those of their classes: twice what they cost, so that an import weighs half.
-fn add_nets(weights: &mut [u32], costs: &[u32], of_nets: &[u32])
-    requires nets { length of_nets.now ≡ length costs.now }
-    requires below { All (λ class. class < length weights.old) of_nets.now }
-{
-    for net in 0..costs.len() {
-        let class = of_nets[net] as usize;
-        weights[class] = weights[class].saturating_add(costs[net].saturating_mul(2));
-    }
-}
-
-// Whether all numbers are below that.
-fn are_below(numbers: &[u32], bound: usize) -> bool
-    ensures { result ≡ true → All (λ number. number < bound) numbers.now }
-{
-    numbers.iter().all(|number| (*number as usize) < bound)
-}
-
-/// The classes of nets that cost so much each. `None` where it takes more steps than that to find which sinks need
-/// them.
-pub(crate) fn classes_of(
-    alloc: Global,
-    costs: &[u32],
-    families: Families,
-    most: usize,
-) -> Result<Option<Classes>, AllocError>
-    requires families { AreFamilies families }
-    requires long { length families.classes.items ≡ length costs.now }
-    ensures { IfOk result (λ found. IfSome found (AreClasses (length costs.now))) }
-{
-    let Some(needed) = all_needed(alloc, &families, most)? else {
-        return Ok(None);
-    };
-    let Families {
-        classes,
-        sinks,
-        parents: _,
-        mut weights,
-    } = families;
-    if !are_below(&classes, weights.len()) || u32::try_from(weights.len()).is_err() {
-        return Ok(None);
-    }
-    add_nets(&mut weights, costs, &classes);
-    Ok(Some(Classes {
-        of_nets: classes,
-        weights,
-        needed,
-        sinks: sinks.items,
-    }))
 }

@@ -5,33 +5,23 @@ ghost use Rattle.cmb_partition.specs.Partitions.{IsPartition};
 ghost use Rattle.cmb_partition.specs.Inner.Shapes.{AreClasses, IsShaped};
 
 use crate::check::is_lawful;
-use crate::classes::{Classes, classes_of};
-use crate::clusters::{Weighed, clusters_within, shared_classes};
+use crate::classes::Classes;
+use crate::clusters::{clusters_within, shared_classes};
 use crate::cones::cones_of;
 use crate::driven::partition_by;
-use crate::families::families_of;
 use crate::forest::trees_of_one;
 use crate::moves::{Places, Task};
 use crate::parts::{Part, Parts};
 use crate::shares::{Partition, Share};
-use crate::wiring::wiring_of;
+use crate::structure::Structure;
 use cmb_netlist::Netlist;
 use std::alloc::{AllocError, Global};
 
 /// A netlist is partitioned into no more shares than this.
 pub const MOST_SHARES: usize = 16;
 
-// To find which sinks need each class may take so many steps for each net, and so many more: an estimate.
-const STEPS: usize = 64;
-
-const FEW_STEPS: usize = 1_000_000;
-
-/// For each sink its part, and what the heaviest part weighs.
-#[derive(Drop)]
-struct Found {
-    places: Vec<Part>,
-    greatest: u32,
-}
+// A cluster weighs this part of an even share at most: an estimate.
+const CLUSTER: u32 = 8;
 
 // What all classes weigh.
 fn total_of(weights: &[u32]) -> u32 {
@@ -79,20 +69,17 @@ fn nowhere(alloc: Global, classes: usize, nets: usize) -> Result<Places, AllocEr
     })
 }
 
-// Clusters of at most that weight put into parts and moved.
-fn found_by(
-    alloc: Global,
-    classes: &Classes,
-    shared: &[Weighed],
-    count: u32,
-    most: u32,
-) -> Result<Found, AllocError>
+// Clusters put into parts and moved.
+fn rough(alloc: Global, classes: &Classes, count: u32) -> Result<Vec<Part>, AllocError>
+    requires some { 1 ≤ count }
     requires few { count ≤ 16 }
     requires nets { length classes.now.of_nets.items ≤ 65535 }
     requires classes { AreClasses (length classes.now.of_nets.items) classes.now }
-    ensures { IfOk result (λ found. length found.places.items ≡ length classes.now.of_nets.items) }
+    ensures { IfOk result (λ places. length places.items ≡ length classes.now.of_nets.items) }
 {
-    let roots = clusters_within(alloc, classes, shared, most)?;
+    let shared = shared_classes(alloc, classes)?;
+    let even = total_of(&classes.weights) / count;
+    let roots = clusters_within(alloc, classes, &shared, even / CLUSTER)?;
     let cones = cones_of(alloc, classes, &roots)?;
     let task = Task {
         weights: &classes.weights,
@@ -103,30 +90,7 @@ fn found_by(
     let mut places = nowhere(alloc, classes.weights.len(), roots.len())?;
     task.insert_all(alloc, &mut places, &clusters)?;
     task.refine(&mut places, &clusters);
-    Ok(Found {
-        places: spread(alloc, &roots, &places.of)?,
-        greatest: task.greatest(&places.parts),
-    })
-}
-
-// The best that comes of clusters of several weights: a fourth, an eighth and a sixteenth of an even share.
-fn rough(alloc: Global, classes: &Classes, count: u32) -> Result<Vec<Part>, AllocError>
-    requires some { 1 ≤ count }
-    requires few { count ≤ 16 }
-    requires nets { length classes.now.of_nets.items ≤ 65535 }
-    requires classes { AreClasses (length classes.now.of_nets.items) classes.now }
-    ensures { IfOk result (λ places. length places.items ≡ length classes.now.of_nets.items) }
-{
-    let shared = shared_classes(alloc, classes)?;
-    let even = total_of(&classes.weights) / count;
-    let mut best = found_by(alloc, classes, &shared, count, even / 4)?;
-    for part in [8, 16] {
-        let other = found_by(alloc, classes, &shared, count, even / part)?;
-        if other.greatest < best.greatest {
-            best = other;
-        }
-    }
-    Ok(best.places)
+    spread(alloc, &roots, &places.of)
 }
 
 // Puts sinks where they were found.
@@ -166,21 +130,6 @@ fn refined(
     put_all(&task, &mut places, &classes.sinks, found);
     task.refine(&mut places, &classes.sinks);
     Ok(places.of)
-}
-
-// The classes of a netlist, unless it takes too many steps to find which sinks need them.
-fn classes_within(
-    alloc: Global,
-    netlist: &Netlist,
-    costs: &[u32],
-) -> Result<Option<Classes>, AllocError>
-    requires { length costs.now ≡ length netlist.now.names }
-    ensures classes { IfOk result (λ found. IfSome found (AreClasses (length netlist.now.names))) }
-    ensures few { IfOk result (λ found. IfSome found (λ _. length netlist.now.names ≤ 65535)) }
-{
-    let wiring = wiring_of(alloc, netlist)?;
-    let families = families_of(alloc, netlist, costs, &wiring)?;
-    classes_of(alloc, costs, families, netlist.len() * STEPS + FEW_STEPS)
 }
 
 // The partition into so many parts, before it is checked.
@@ -227,23 +176,22 @@ fn count_for(most: u32, sinks: &[u32]) -> u32
 /// partitions*, Design Automation Conference 1982). What the parts weigh is measured by the sum of the fourth powers.
 ///
 /// The answer is `None` where there is nothing to part, which is to say fewer than two sinks (flip-flops, and nets that
-/// nothing reads), or a share that would be left with nothing; and where too many gates are in the cones of too many
-/// sinks, so that this would take long. Shares can come out heavy where cones overlap much: `load` and `total` tell.
-/// What comes of it is checked.
+/// nothing reads), or a share that would be left with nothing. Shares can come out heavy where cones overlap much:
+/// `load` and `total` tell. What comes of it is checked.
 pub fn partition(
     alloc: Global,
     netlist: &Netlist,
+    structure: Structure,
     costs: &[u32],
     most: u32,
 ) -> Result<Option<Partition>, AllocError>
-    requires { length costs.now ≡ length netlist.now.names }
+    requires structure { structure ≡ length netlist.now.names }
+    requires costs { length costs.now ≡ length netlist.now.names }
     ensures partition { IfOk result (λ found. IfSome found (IsPartition netlist.now)) }
     ensures some { IfOk result (λ found. IfSome found (λ partition. 2 ≤ length partition.shares.items)) }
     ensures few { IfOk result (λ found. IfSome found (λ partition. length partition.shares.items ≤ most)) }
 {
-    let Some(classes) = classes_within(alloc, netlist, costs)? else {
-        return Ok(None);
-    };
+    let classes = structure.weighed(alloc, costs)?;
     let count = count_for(most, &classes.sinks);
     if count < 2 {
         return Ok(None);

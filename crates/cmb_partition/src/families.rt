@@ -8,6 +8,9 @@ use crate::wiring::Wiring;
 use cmb_netlist::{Driver, Netlist};
 use std::alloc::{AllocError, Global};
 
+/// No net has this number.
+pub(crate) const NO_NET: u32 = u32::MAX;
+
 /// The nets of a netlist in classes. Each flip-flop is one, and each net that nothing reads: these are the sinks. A
 /// gate is of its readers' class where all are of one; else it begins a class, whose parents are those of its readers.
 /// What a component of gates has together is of one class. All inputs are of the first class, that has no parents.
@@ -19,8 +22,8 @@ pub(crate) struct Families {
     pub sinks: Lists,
     /// For each class its parents. Their numbers are lower.
     pub parents: Lists,
-    /// For each class what it weighs besides its nets, which weigh twice what they cost.
-    pub weights: Vec<u32>,
+    /// For each class the flip-flop whose import it is, if it is one; else `NO_NET`.
+    pub imports: Vec<u32>,
 }
 
 // Begins a class, and answers its number.
@@ -28,19 +31,19 @@ fn begin(
     families: &mut Families,
     sink: &[u32],
     parents: &[u32],
-    weight: u32,
+    import: u32,
 ) -> Result<u32, AllocError>
     requires families { AreFamilies families.old }
     requires sink { All (λ net. net < length families.old.classes.items) sink.now }
     ensures families { OnOk result (AreFamilies families.new) }
     ensures classes { families.new.classes ≡ families.old.classes }
 {
-    let Ok(class) = u32::try_from(families.weights.len()) else {
+    let Ok(class) = u32::try_from(families.imports.len()) else {
         return Err(AllocError);
     };
     families.sinks.push(sink)?;
     families.parents.push(parents)?;
-    families.weights.push(weight)?;
+    families.imports.push(import)?;
     Ok(class)
 }
 
@@ -53,7 +56,7 @@ fn add_flops(families: &mut Families, netlist: &Netlist) -> Result<(), AllocErro
 {
     for net in 0..netlist.len() {
         if matches!(netlist.driver(net), Driver::Flop(_)) {
-            let class = begin(families, &[net as u32], &[], 0)?;
+            let class = begin(families, &[net as u32], &[], NO_NET)?;
             families.classes[net] = class;
         }
     }
@@ -106,9 +109,9 @@ fn class_of(families: &mut Families, first: u32, parents: &[u32]) -> Result<u32,
     ensures classes { families.new.classes ≡ families.old.classes }
 {
     match parents {
-        [] => begin(families, &[first], &[], 0),
+        [] => begin(families, &[first], &[], NO_NET),
         [parent] => Ok(*parent),
-        several => begin(families, &[], several, 0),
+        several => begin(families, &[], several, NO_NET),
     }
 }
 
@@ -196,12 +199,10 @@ fn add_imports(
     alloc: Global,
     families: &mut Families,
     netlist: &Netlist,
-    costs: &[u32],
     wiring: &Wiring,
 ) -> Result<(), AllocError>
     requires families { AreFamilies families.old }
     requires long { length families.old.classes.items ≡ length netlist.now.names }
-    requires costs { length costs.now ≡ length netlist.now.names }
     requires wiring { IsWiring (length netlist.now.names) wiring.now }
     ensures families { OnOk result (AreFamilies families.new) }
     ensures long { OnOk result (length families.new.classes.items ≡ length netlist.now.names) }
@@ -209,7 +210,7 @@ fn add_imports(
     for net in 0..netlist.len() {
         if matches!(netlist.driver(net), Driver::Flop(_)) {
             let importers = importers_of(alloc, &families.classes, wiring, net)?;
-            let _ = begin(families, &[], &importers, costs[net])?;
+            let _ = begin(families, &[], &importers, net as u32)?;
         }
     }
     Ok(())
@@ -219,11 +220,9 @@ fn add_imports(
 pub(crate) fn families_of(
     alloc: Global,
     netlist: &Netlist,
-    costs: &[u32],
     wiring: &Wiring,
 ) -> Result<Families, AllocError>
     requires wiring { IsWiring (length netlist.now.names) wiring.now }
-    requires costs { length costs.now ≡ length netlist.now.names }
     ensures families { IfOk result AreFamilies }
     ensures long { IfOk result (λ families. length families.classes.items ≡ length netlist.now.names) }
 {
@@ -231,11 +230,11 @@ pub(crate) fn families_of(
         classes: vec![in alloc; 0u32; netlist.len()]?,
         sinks: Lists::new(alloc),
         parents: Lists::new(alloc),
-        weights: Vec::new(alloc),
+        imports: Vec::new(alloc),
     };
-    let _ = begin(&mut families, &[], &[], 0)?;
+    let _ = begin(&mut families, &[], &[], NO_NET)?;
     add_flops(&mut families, netlist)?;
     add_gates(alloc, &mut families, netlist, wiring)?;
-    add_imports(alloc, &mut families, netlist, costs, wiring)?;
+    add_imports(alloc, &mut families, netlist, wiring)?;
     Ok(families)
 }

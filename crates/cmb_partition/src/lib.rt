@@ -1,4 +1,4 @@
-//! The nets of a netlist partitioned among logical processes that tell each other flip-flops alone.
+//! Partitions of a netlist among logical processes, cut at flip-flops, with gates computed in several parts.
 #![tactic(auto)]
 
 mod check;
@@ -15,8 +15,10 @@ mod marks;
 mod moves;
 mod parts;
 pub mod shares;
+pub mod structure;
 mod wiring;
 
 pub use cut::{MOST_SHARES, partition};
 pub use loads::{load, total};
 pub use shares::{Partition, Share};
+pub use structure::{Structure, structure_of};

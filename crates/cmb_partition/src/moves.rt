@@ -168,13 +168,4 @@ impl<'a> Task<'a> {
         }
         Ok(())
     }
-
-    /// What the heaviest part weighs.
-    pub(crate) fn greatest(&self, parts: &Parts) -> u32 {
-        let mut most = 0_u32;
-        for number in 0..self.count {
-            most = most.max(parts.load(Part::of(number)));
-        }
-        most
-    }
 }

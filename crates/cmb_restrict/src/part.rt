@@ -140,7 +140,7 @@ pub(crate) fn netlist_of(
     Ok(Netlist::new(names, drivers, outputs))
 }
 
-/// The places of some nets in a list that has them all. Both rise, and there are `count` nets.
+/// The places of some nets in a list that rises and has them all, in their order. There are `count` nets.
 pub fn places_in(
     alloc: Global,
     count: usize,
@@ -151,10 +151,9 @@ pub fn places_in(
     requires rising { IsStrictlyIncreasing nets.now }
     requires few { length nets.now ≤ MAX_NETS }
     requires there { All (Contains nets.now) some.now }
-    requires some { IsStrictlyIncreasing some.now }
     ensures back { IfOk result (λ places. map (slice_index nets.now) places.items ≡ some.now) }
     ensures within { IfOk result (λ places. All (λ place. place < length nets.now) places.items) }
-    ensures rising { IfOk result (λ places. IsStrictlyIncreasing places.items) }
+    ensures rising { IfOk result (λ places. IsStrictlyIncreasing some.now → IsStrictlyIncreasing places.items) }
     ensures count { IfOk result (λ places. length places.items ≡ length some.now) }
 {
     let places = places_of(alloc, count, nets)?;

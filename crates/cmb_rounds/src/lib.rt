@@ -1,4 +1,4 @@
-//! Runs in rounds, which collect the waves of a design.
+//! Runs in rounds: in each, every worker steps its clusters, and then what is new is passed on.
 #![tactic(auto)]
 
 mod collected;

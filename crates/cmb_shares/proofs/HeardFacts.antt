@@ -13,7 +13,7 @@ use Rattle.cmb_words.specs.declared.changed.Changed.{Changed}
 use Rattle.cmb_shares.specs.declared.message.Envelope.{Envelope}
 use Rattle.cmb_shares.specs.Inner.Messages.{AreTold, IsMessage}
 use Rattle.cmb_shares.specs.Inner.Runs.{IsRun, Owns, Reads, Run, driven_by}
-use Rattle.cmb_shares.specs.Inner.Stations.{AreHeardOf, Covers, senders_of}
+use Rattle.cmb_shares.specs.Inner.Stations.{AreHeardOf, Covers, readers_of, senders_of}
 
 -- a mark that is set stands within its list
 pub set_within : (marks : List Bool) (net : ℕ) → get_or marks net false ≡ true → net < length marks
@@ -71,12 +71,17 @@ heard-given run number from upto senders given is within covers heard = record {
 
 -- ---- who tells
 
--- a message of the same sender leaves the senders as they are
+-- a message of the same sender leaves the senders as they are, and one to the same reader the readers
+same-set : (f : Envelope → ℕ) (channels : List Envelope) (place : ℕ) (next : Envelope) → f next ≡ f (get_or channels place next) → map f (set channels place next) ≡ map f channels
+same-set f channels place next same =
+    map-set f channels place next ∙ ap (λ n. set (map f channels) place n) same
+    ∙ sym (map-set f channels place (get_or channels place next)) ∙ ap (map f) (set-get_or channels place next)
+
 pub senders-set : (inlets : List Envelope) (place : ℕ) (next : Envelope) → next.sender ≡ (get_or inlets place next).sender → senders_of (set inlets place next) ≡ senders_of inlets
-senders-set inlets place next same =
-    let f : Envelope → ℕ = λ e. e.sender in
-    map-set f inlets place next ∙ ap (λ n. set (map f inlets) place n) same
-    ∙ sym (map-set f inlets place (get_or inlets place next)) ∙ ap (map f) (set-get_or inlets place next)
+senders-set = same-set (λ e. e.sender)
+
+pub readers-set : (feeds : List Envelope) (place : ℕ) (next : Envelope) → next.reader ≡ (get_or feeds place next).reader → readers_of (set feeds place next) ≡ readers_of feeds
+readers-set = same-set (λ e. e.reader)
 
 -- the first senders, and one more
 pub senders-more : (inlets : List Envelope) (place : ℕ) (d : Envelope) → place < length inlets

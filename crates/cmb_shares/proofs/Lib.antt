@@ -1,8 +1,11 @@
 pub mod ChannelFacts
 pub mod FlowFacts
 pub mod HeardFacts
+pub mod JoinFacts
 pub mod MergeFacts
 pub mod OpeningFacts
 pub mod PlaceFacts
+pub mod ProcessFacts
 pub mod StationFacts
 pub mod ToldFacts
+pub mod TraceFacts

@@ -12,7 +12,7 @@ use Rattle.cmb_design.specs.Nets.{is_flop}
 use Rattle.cmb_design.specs.Timing.{delay}
 use Rattle.cmb_engine.specs.Crossings.{AreWithinLookahead, IsCrossing}
 use Rattle.cmb_engine.specs.Shares.{IsDriven, IsGiven}
-use Rattle.cmb_engine.specs.Windows.{Windows}
+use Rattle.cmb_engine.specs.Windows.{HaveTicks, Windows}
 use Rattle.cmb_partition.specs.Partitions.{Crosses, Drives, IsPartition, Knows}
 use Rattle.cmb_partition.specs.declared.shares.Partition.{Partition}
 use Rattle.cmb_partition.specs.declared.shares.Share.{Share}
@@ -49,7 +49,7 @@ some-at (s ∷ more) zero within = (s, refl)
 some-at (s ∷ more) (suc number) within = some-at more number (omega (arith, within))
 
 module _ (design : Design) (partition : Partition) (windows : Windows) (is : IsPartition design.netlist partition) (ahead : AreWithinLookahead design partition.crossing.items windows)
-    (soon : (net : ℕ) → IsCrossing design partition.crossing.items net → delay design net 1 < windows.width) (horizon : windows.horizon ≡ design.horizon) (narrow : windows.width < 63) where
+    (soon : (net : ℕ) → IsCrossing design partition.crossing.items net → delay design net 1 < windows.width) (horizon : windows.horizon ≡ design.horizon) (narrow : windows.width < 63) (ticks : HaveTicks windows) where
   count : length (map marks partition.shares.items) ≡ length partition.shares.items
   count = length-map partition.shares.items marks
 
@@ -116,4 +116,5 @@ module _ (design : Design) (partition : Partition) (windows : Windows) (is : IsP
     soon = soon;
     horizon = horizon;
     narrow = omega (arith, narrow);
+    each = ticks;
   }

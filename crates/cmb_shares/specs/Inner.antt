@@ -4,6 +4,7 @@ pub mod Flows
 pub mod Merges
 pub mod Messages
 pub mod Opened
+pub mod Processes
 pub mod Runs
 pub mod Simulators
 pub mod Stations

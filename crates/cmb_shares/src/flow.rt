@@ -3,6 +3,7 @@
 ghost use Rattle.std.specs.Prelude.{◌≡◌, ℕ, suc, ◌<◌, ◌≤◌, length, [], IfOk, OnOk};
 ghost use Rattle.cmb_shares.specs.Inner.Channels.{Follows};
 ghost use Rattle.cmb_shares.specs.Inner.Flows.{AreMade, AreSources};
+ghost use Rattle.cmb_shares.specs.Inner.Processes.{Turns, text_of};
 ghost use Rattle.cmb_shares.specs.Inner.Runs.{IsRun, IsTurn};
 
 use crate::channel::Inlet;
@@ -81,7 +82,7 @@ impl<T: Terms> Source<T> {
     }
 }
 
-// Puts together what all shares tell of a window, in place of what `all` had.
+// Puts together what all shares tell of a window, in place of what `all` had: a turn of the text's process.
 fn gather<T: Terms, R: Wait>(
     rt: &R,
     sources: &mut [Source<T>],
@@ -95,6 +96,7 @@ fn gather<T: Terms, R: Wait>(
     ensures len { length sources.new ≡ length sources.old }
     ensures sources { OnOk result (AreSources T.run upto sources.new) }
     ensures made { OnOk result (AreMade T.run (length sources.old) from upto all.new.items) }
+    ensures turns { OnOk result (Turns T.run (text_of T.run from sources.old) (text_of T.run upto sources.new)) }
 {
     all.clear();
     for place in 0..sources.len() {

@@ -6,6 +6,7 @@ mod channel;
 pub mod costs;
 mod feeders;
 mod flow;
+pub mod laws;
 mod merge;
 mod message;
 pub mod opening;

@@ -4,9 +4,10 @@ ghost use Rattle.std.specs.Prelude.{◌≡◌, ◌<◌, ◌++◌, ◌∷◌, [],
 ghost use Rattle.cmb_design.specs.Value.{value};
 ghost use Rattle.cmb_engine.specs.Shares.{IsGiven, TellsThose};
 ghost use Rattle.cmb_shares.specs.Inner.Channels.{greeting};
+ghost use Rattle.cmb_shares.specs.Inner.Processes.{Turns, member_of};
 ghost use Rattle.cmb_shares.specs.Inner.Runs.{IsTurn, driven_by};
 ghost use Rattle.cmb_shares.specs.Inner.Simulators.{IsSimulator, IsToldAhead};
-ghost use Rattle.cmb_shares.specs.Inner.Stations.{AreFed, AreHeard, AreHeardOf, Covers, senders_of};
+ghost use Rattle.cmb_shares.specs.Inner.Stations.{AreFed, AreHeard, AreHeardOf, Covers, readers_of, senders_of};
 
 use crate::channel::{Inlet, Outlet};
 use crate::message::{Envelope, Message};
@@ -60,6 +61,9 @@ impl<'a, T: Terms> Model for Station<'a, T> {
       number = station.simulator.number;
       clock = station.simulator.engine.clock;
       senders = senders_of station.inlets.items;
+      inlets = station.inlets.items;
+      feeds = station.feeds.items;
+      text = station.text;
     } };
 
     ghost invariant = { λ station. IsStation T.run station.simulator station.inlets.items
@@ -95,7 +99,8 @@ impl<'a, T: Terms> Feed<'a, T> {
         requires sender { self.old.sender ≡ simulator.now.number }
         requires begins { self.old.upto ≡ simulator.now.engine.clock }
         requires told { IsToldAhead T.run simulator.now.number simulator.now.engine.clock upto told.now }
-        ensures { result ≡ true → (self.new.sender ≡ simulator.now.number) × (self.new.upto ≡ upto) }
+        ensures told { result ≡ true → (self.new.sender ≡ simulator.now.number) × (self.new.upto ≡ upto) }
+        ensures reader { result ≡ true → self.new.reader ≡ self.old.reader }
     {
         let mut changes = Vec::new(alloc);
         let owners = simulator.owners;
@@ -133,7 +138,8 @@ fn tell_all<'a, T: Terms, R: Wait>(
     requires turn { IsTurn T.run simulator.now.engine.clock upto }
     requires told { IsToldAhead T.run simulator.now.number simulator.now.engine.clock upto told.now }
     requires fed { AreFed simulator.now.number simulator.now.engine.clock feeds.old }
-    ensures { result ≡ true → AreFed simulator.now.number upto feeds.new }
+    ensures fed { result ≡ true → AreFed simulator.now.number upto feeds.new }
+    ensures readers { result ≡ true → readers_of feeds.new ≡ readers_of feeds.old }
 {
     for place in 0..feeds.len() {
         if !feeds[place].tell(rt, alloc, simulator, upto, told) {
@@ -143,15 +149,18 @@ fn tell_all<'a, T: Terms, R: Wait>(
     true
 }
 
-// Takes what others tell of a window, in place of what `given` had. Says whether it did so.
-fn hear_all<T: Terms, R: Wait>(
+// Takes what others tell of a window, in place of what `given` had. Says whether it did so. All were told before: shares
+// that take before they tell wait for one another.
+fn hear_all<'a, T: Terms, R: Wait>(
     rt: &R,
     simulator: &Simulator<'_>,
     upto: u32,
+    feeds: &[Feed<'a, T>],
     inlets: &mut [Inlet<T>],
     given: &mut Vec<Changed>,
 ) -> bool
     requires turn { IsTurn T.run simulator.now.engine.clock upto }
+    requires fed { AreFed simulator.now.number upto feeds.now }
     requires heard { AreHeard simulator.now.number simulator.now.engine.clock inlets.old }
     ensures heard { result ≡ true → AreHeard simulator.now.number upto inlets.new }
     ensures senders { result ≡ true → senders_of inlets.new ≡ senders_of inlets.old }
@@ -187,6 +196,7 @@ fn talk<'a, T: Terms, R: Wait>(
     requires heard { AreHeard simulator.now.number simulator.now.engine.clock inlets.old }
     requires covers { Covers T.run simulator.now.number (senders_of inlets.old) }
     ensures fed { result ≡ true → AreFed simulator.now.number upto feeds.new }
+    ensures readers { result ≡ true → readers_of feeds.new ≡ readers_of feeds.old }
     ensures heard { result ≡ true → AreHeard simulator.now.number upto inlets.new }
     ensures senders { result ≡ true → senders_of inlets.new ≡ senders_of inlets.old }
     ensures given { result ≡ true → TellsThose (IsGiven T.run.design (driven_by T.run simulator.now.number))
@@ -198,7 +208,7 @@ fn talk<'a, T: Terms, R: Wait>(
     if !tell_all(rt, alloc, simulator, upto, told, feeds) {
         return false;
     }
-    hear_all(rt, simulator, upto, inlets, given)
+    hear_all(rt, simulator, upto, feeds, inlets, given)
 }
 
 impl<'a, T: Terms> Station<'a, T> {
@@ -214,6 +224,9 @@ impl<'a, T: Terms> Station<'a, T> {
         requires text { text ≡ greeting simulator.number (length T.run.driven) }
         ensures number { result.number ≡ simulator.entry.number }
         ensures clock { result.clock ≡ 1 }
+        ensures inlets { result.inlets ≡ [] }
+        ensures feeds { result.feeds ≡ [] }
+        ensures text { result.text ≡ greeting result.number (length T.run.driven) }
     {
         Station {
             alloc,
@@ -232,6 +245,9 @@ impl<'a, T: Terms> Station<'a, T> {
         ensures number { self.new.number ≡ self.old.number }
         ensures clock { self.new.clock ≡ self.old.clock }
         ensures senders { OnOk result (self.new.senders ≡ self.old.senders ++ inlet.sender ∷ []) }
+        ensures inlets { OnOk result (self.new.inlets ≡ self.old.inlets ++ inlet ∷ []) }
+        ensures feeds { self.new.feeds ≡ self.old.feeds }
+        ensures text { self.new.text ≡ self.old.text }
     {
         self.inlets.push(inlet)?;
         Ok(())
@@ -241,13 +257,19 @@ impl<'a, T: Terms> Station<'a, T> {
     pub(crate) fn add_feed(&mut self, feed: Feed<'a, T>) -> Result<(), AllocError>
         requires sender { feed.sender ≡ self.old.number }
         requires begins { feed.upto ≡ self.old.clock }
-        ensures { self.new ≡ self.old }
+        ensures number { self.new.number ≡ self.old.number }
+        ensures clock { self.new.clock ≡ self.old.clock }
+        ensures senders { self.new.senders ≡ self.old.senders }
+        ensures inlets { self.new.inlets ≡ self.old.inlets }
+        ensures feeds { OnOk result (self.new.feeds ≡ self.old.feeds ++ feed.entry ∷ []) }
+        ensures text { self.new.text ≡ self.old.text }
     {
         self.feeds.push(feed)?;
         Ok(())
     }
 
-    // Goes on by a window. There is no station any more where another one ended early or memory was refused.
+    // Goes on by a window: a turn of its process. There is no station any more where another one ended early or memory
+    // was refused.
     fn step<R: Wait>(
         self,
         rt: &R,
@@ -258,6 +280,7 @@ impl<'a, T: Terms> Station<'a, T> {
         requires early { self.clock < T.run.windows.horizon }
         ensures number { IfSome result (λ next. next.number ≡ self.entry.number) }
         ensures senders { IfSome result (λ next. next.senders ≡ self.entry.senders) }
+        ensures turns { IfSome result (λ next. Turns T.run (member_of self.entry) (member_of next)) }
     {
         let Station {
             alloc,

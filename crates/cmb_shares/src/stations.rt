@@ -5,6 +5,7 @@ ghost use Rattle.std.specs.Prelude.{slice_index_or, false, true, IfOk, OnOk};
 ghost use Rattle.cmb_shares.specs.Inner.Channels.{greeting};
 ghost use Rattle.cmb_shares.specs.Inner.Flows.{AreSources};
 ghost use Rattle.cmb_shares.specs.Inner.Opened.{AreCovered, AreOpened, AreStations, IsEngineOf};
+ghost use Rattle.cmb_shares.specs.Inner.Processes.{AreJoined, AreLone, AreMembers};
 ghost use Rattle.cmb_shares.specs.Inner.Runs.{IsRun, driven_by};
 ghost use Rattle.cmb_shares.specs.Inner.Stations.{Standing};
 
@@ -46,6 +47,9 @@ fn station_of<'a, T: Terms>(
     ensures number { IfOk result (λ both. both.0.number ≡ number) }
     ensures clock { IfOk result (λ both. both.0.clock ≡ 1) }
     ensures source { IfOk result (λ both. both.1 ≡ greeting number shares) }
+    ensures inlets { IfOk result (λ both. both.0.inlets ≡ []) }
+    ensures feeds { IfOk result (λ both. both.0.feeds ≡ []) }
+    ensures text { IfOk result (λ both. both.0.text ≡ greeting number (length T.run.driven)) }
 {
     let Ok(windows) = windows.copy() else {
         drop(engine);
@@ -85,6 +89,7 @@ pub(crate) fn stations_of<'a, T: Terms>(
     ensures stations { IfOk result (λ both. AreStations both.0.items) }
     ensures told { IfOk result (λ both. length both.1.items ≡ length T.run.driven) }
     ensures sources { IfOk result (λ both. AreSources T.run 1 both.1.items) }
+    ensures lone { IfOk result (λ both. AreLone (length T.run.driven) both.0.items) }
 {
     let mut engines = engines;
     let shares = engines.len();
@@ -126,6 +131,8 @@ fn connect<'a, T: Terms>(
         → (slice_index_or stations.new k d).senders ≡ (slice_index_or stations.old k d).senders) }
     ensures heard { OnOk result ((d : Standing) → (slice_index_or stations.new reader d).senders
         ≡ (slice_index_or stations.old reader d).senders ++ sender ∷ []) }
+    ensures joined { OnOk result (AreJoined (length T.run.driven) stations.old
+        → AreJoined (length T.run.driven) stations.new) }
 {
     let (outlet, inlet) = channel::<T>(alloc, sender as u32, reader as u32, ROOM)?;
     stations[sender].add_feed(Feed::new(outlet, reader as u32, driven))?;
@@ -155,6 +162,8 @@ fn connect_feeder<'a, T: Terms>(
         → Contains (slice_index_or stations.new reader d).senders one) }
     ensures heard { OnOk result (feeds ≡ true
         → (d : Standing) → Contains (slice_index_or stations.new reader d).senders sender) }
+    ensures joined { OnOk result (AreJoined (length T.run.driven) stations.old
+        → AreJoined (length T.run.driven) stations.new) }
 {
     if !feeds {
         return Ok(());
@@ -183,6 +192,8 @@ fn connect_reader<'a, T: Terms>(
     ensures heard { OnOk result ((sender : ℕ) (d : Standing) → sender < length feeders.now
         → slice_index_or feeders.now sender false ≡ true
         → Contains (slice_index_or stations.new reader d).senders sender) }
+    ensures joined { OnOk result (AreJoined (length T.run.driven) stations.old
+        → AreJoined (length T.run.driven) stations.new) }
 {
     for sender in 0..feeders.len() {
         connect_feeder(alloc, stations, feeders[sender], sender, reader, driven)?;
@@ -190,7 +201,7 @@ fn connect_reader<'a, T: Terms>(
     Ok(())
 }
 
-/// Lays a channel from each share to each that it feeds. Errors: memory was refused.
+/// Lays a channel from each share to each that it feeds, which makes a network of them. Errors: memory was refused.
 pub(crate) fn connect_all<'a, T: Terms>(
     alloc: Global,
     design: &Design,
@@ -204,10 +215,14 @@ pub(crate) fn connect_all<'a, T: Terms>(
     requires driven { map (λ s. s.driven.items) partition.now.shares.items ≡ T.run.driven }
     requires stations { AreStations stations.old }
     requires count { length stations.old ≡ length T.run.driven }
+    requires lone { AreLone (length T.run.driven) stations.old }
     ensures len { length stations.new ≡ length stations.old }
     ensures stations { OnOk result (AreStations stations.new) }
     ensures covered { OnOk result (AreCovered T.run (length stations.old) stations.new) }
+    ensures members { OnOk result (AreMembers T.run stations.new) }
 {
+    // Its contract tells that there is a tick.
+    let _horizon = design.horizon();
     for reader in 0..stations.len() {
         let driven = &partition.shares[reader].driven;
         let shares = stations.len();

@@ -1,5 +1,6 @@
 pub mod AllNets
 pub mod Checks
+pub mod Comparisons
 pub mod Measured
 pub mod ModeFacts
 pub mod Outcomes

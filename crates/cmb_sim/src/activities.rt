@@ -94,7 +94,7 @@ pub fn measure<B: Source, D: Source, S: Source, C: Source, L: Source, O: Sink>(
     ensures unread { (request.choice ≡ Choice.Only Pick.Listed → ⊥) → list.new ≡ list.old }
 {
     let choice = request.choice;
-    let texts = read_texts(alloc, choice, bench, delays, stimuli, clocks, list)?;
+    let texts = read_texts(alloc, choice, 5, bench, delays, stimuli, clocks, list)?;
     let design = spelled_design(alloc, &texts, request.settings)?;
     let table = asked_table(alloc, request, &design, texts.names.as_slice())?;
     write_text(out, table.as_slice())?;

@@ -3,9 +3,10 @@
 ghost use Rattle.std.specs.Prelude.{◌≡◌, ◌-◌, ◌^◌, ◌<◌};
 ghost use Rattle.cmb_inputs.specs.Inputs.{HaveRoom, in_order, listed, read_from};
 ghost use Rattle.cmb_inputs.specs.Outputs.{written_to};
-ghost use Rattle.cmb_sim.specs.Tasks.{IsDone, choice_in};
+ghost use Rattle.cmb_sim.specs.Tasks.{IsDone, choice_in, last_input};
 
 use crate::activities::measure;
+use crate::expecting::compare;
 use crate::simulation::simulate_chosen;
 use cmb_inout::{Done, Fault, Source};
 use cmb_inputs::{check_design, write_counts};
@@ -15,9 +16,10 @@ use std::sync::Wait;
 use std::thread::Threads;
 
 /// Does what a line asks for, with what its inputs have: simulates and writes the waveforms of the nets that the line
-/// chooses, or how active these are, or counts and writes the counts. The list of nets is read where the line names one
-/// and asks for a simulation. The faults are those of `simulate_chosen`, of `measure` and of `check_design`; 62 comes
-/// also where the counts couldn't be written.
+/// chooses, or how active these are, or what came otherwise than was expected; or counts and writes the counts. The
+/// list of nets is read where the line names one and asks for waveforms or activities; it is the table of what is
+/// expected where the line asks for that. The faults are those of `simulate_chosen`, of `measure`, of `compare` and of
+/// `check_design`; 62 comes also where the counts couldn't be written.
 pub fn carry_out<
     R: AllocGlobal + Threads + Wait + Sync,
     B: Source,
@@ -43,7 +45,7 @@ pub fn carry_out<
     ensures done { IsDone line.now (in_order (read_from B.Source 1 bench.old bench.new)
         (read_from D.Source 2 delays.old delays.new) (read_from S.Source 3 stimuli.old stimuli.new)
         (read_from C.Source 4 clocks.old clocks.new)
-        (listed (choice_in line.now) (read_from L.Source 5 list.old list.new)))
+        (listed (choice_in line.now) (read_from L.Source (last_input line.now) list.old list.new)))
         (written_to O.Sink out.old out.new) result }
     ensures unread { (choice_in line.now ≡ Choice.Only Pick.Listed → ⊥) → list.new ≡ list.old }
 {
@@ -63,6 +65,11 @@ pub fn carry_out<
             let alloc = rt.alloc();
             let report = measure(alloc, bench, delays, stimuli, clocks, list, request, out)?;
             Ok(Done::Measured(report))
+        }
+        Task::Expect => {
+            let alloc = rt.alloc();
+            let told = compare(alloc, bench, delays, stimuli, clocks, list, request, out)?;
+            Ok(Done::Compared(told))
         }
         Task::Check => {
             let alloc = rt.alloc();

@@ -19,6 +19,7 @@ use cmb_inputs::chosen_nets;
 use cmb_line::{Choice, Mode, Request};
 use cmb_partition::Partition;
 use std::alloc::{AllocError, Global};
+use std::thread::Threads;
 
 /// How a text is made.
 #[derive(Drop)]
@@ -49,17 +50,27 @@ pub struct Plan {
 }
 
 // By the engine, each thread with a share of the nets where that pays.
-fn engine_way(alloc: Global, design: &Design, threads: u32) -> Result<Way, AllocError>
+fn engine_way<R: Threads + Sync>(
+    rt: &R,
+    alloc: Global,
+    design: &Design,
+    threads: u32,
+) -> Result<Way, AllocError>
     ensures { IfOk result (IsWayTo design.now (vcd design.now) ⊥) }
 {
-    match partition_that_pays(alloc, design, threads)? {
+    match partition_that_pays(rt, alloc, design, threads)? {
         Some(partition) => Ok(Way::Shares { partition, threads }),
         None => Ok(Way::Engine(threads)),
     }
 }
 
 // The way to the text of all nets.
-fn way_of(alloc: Global, request: Request, design: &Design) -> Result<Way, AllocError>
+fn way_of<R: Threads + Sync>(
+    rt: &R,
+    alloc: Global,
+    request: Request,
+    design: &Design,
+) -> Result<Way, AllocError>
     requires { CanRun request design.now }
     ensures way { IfOk result (IsWayTo design.now (vcd design.now)
         (CanBeStopped request.mode request.threads All)) }
@@ -74,7 +85,7 @@ fn way_of(alloc: Global, request: Request, design: &Design) -> Result<Way, Alloc
             Ok(Way::Free { workers, clusters })
         }
         (Mode::Rounds { .. } | Mode::Free { .. }, _) => {
-            engine_way(alloc, design, threads_in(request))
+            engine_way(rt, alloc, design, threads_in(request))
         }
     }
 }
@@ -106,20 +117,26 @@ fn is_held(mode: Mode, way: &Way) -> bool
 }
 
 // The plan for the text of all nets.
-fn plan_for_all(alloc: Global, request: Request, design: &Design) -> Result<Plan, Fault>
+fn plan_for_all<R: Threads + Sync>(
+    rt: &R,
+    alloc: Global,
+    request: Request,
+    design: &Design,
+) -> Result<Plan, Fault>
     requires { request.choice ≡ Choice.All }
     ensures plan { IfOk result (λ plan. (names : List ℕ) → IsPlan request design.now names plan) }
     ensures fault { IfErr result (λ fault. (names : List ℕ) → IsRefused request names design.now fault) }
 {
     check_mode(request, design)?;
-    let way = way_of(alloc, request, design)?;
+    let way = way_of(rt, alloc, request, design)?;
     let held = is_held(request.mode, &way);
     Ok(Plan { way, held })
 }
 
 /// The plan for what is asked for of a design, by the text of the list that names nets. The faults are 38, 33, 40 and
 /// 54, in this order, and 70.
-pub(crate) fn plan_of(
+pub(crate) fn plan_of<R: Threads + Sync>(
+    rt: &R,
     alloc: Global,
     request: Request,
     design: &Design,
@@ -130,7 +147,7 @@ pub(crate) fn plan_of(
     ensures fault { IfErr result (IsRefused request names.now design.now) }
 {
     match request.choice {
-        Choice::All => plan_for_all(alloc, request, design),
+        Choice::All => plan_for_all(rt, alloc, request, design),
         Choice::Only(pick) => {
             let nets = chosen_nets(alloc, pick, design, names)?;
             check_mode(request, design)?;

@@ -96,9 +96,9 @@ pub fn simulate_chosen<
 {
     let alloc = rt.alloc();
     let choice = request.choice;
-    let texts = read_texts(alloc, choice, bench, delays, stimuli, clocks, list)?;
+    let texts = read_texts(alloc, choice, 5, bench, delays, stimuli, clocks, list)?;
     let design = spelled_design(alloc, &texts, request.settings)?;
-    let plan = plan_of(alloc, request, &design, texts.names.as_slice())?;
+    let plan = plan_of(rt, alloc, request, &design, texts.names.as_slice())?;
     let written = write_plan(rt, &plan, &design, out)?;
     Ok(Report {
         nets: design.netlist().len() as u32,

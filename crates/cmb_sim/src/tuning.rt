@@ -1,13 +1,16 @@
 //! The thresholds by which a run is planned: each is an estimate, and none changes a text.
 
 ghost use Rattle.std.specs.Prelude.{◌≡◌, ◌≤◌, true, length, All, IfOk, IfSome};
+ghost use Rattle.cmb_design.specs.Exact.{nets_of};
 ghost use Rattle.cmb_partition.specs.Partitions.{IsPartition};
 
 use cmb_design::Design;
 use cmb_netlist::Driver;
-use cmb_partition::{Partition, load, partition, total};
+use cmb_partition::{Partition, Structure, load, partition, structure_of, total};
 use cmb_shares::costs_of;
 use std::alloc::{AllocError, Global};
+use std::thread;
+use std::thread::Threads;
 
 // Net and tick pairs up to which several workers run as they are asked to. Above it, what they hand to one another
 // takes longer than the engine takes for all nets.
@@ -18,7 +21,7 @@ const LEAST_THREADS: u32 = 3;
 
 // So many samples the flip-flops take at least, where shares pay: it stands for how much changes in a run, and for how
 // many batches go through the shares.
-const LEAST_SAMPLES: u64 = 262_144;
+const LEAST_SAMPLES: u64 = 524_288;
 
 // So many nets a netlist has at least, where shares pay.
 const LEAST_NETS: usize = 2_048;
@@ -71,9 +74,32 @@ fn is_even(costs: &[u32], partition: &Partition) -> bool
     true
 }
 
+// What a partition goes by: the structure of the netlist, if it isn't too large to be found quickly, and what each net
+// costs. A thread finds the structure beside the calling one, which measures the costs.
+fn measured<R: Threads + Sync>(
+    rt: &R,
+    alloc: Global,
+    design: &Design,
+) -> Result<(Option<Structure>, Vec<u32>), AllocError>
+    ensures structure { IfOk result (λ found. IfSome found.0 (λ structure. structure ≡ nets_of design.now)) }
+    ensures costs { IfOk result (λ found. length found.1.items ≡ nets_of design.now) }
+{
+    let (structure, costs) = thread::join(
+        rt,
+        move || -> Result<Option<Structure>, AllocError>
+            ensures { IfOk result (λ found. IfSome found (λ structure. structure ≡ nets_of design.entry.now)) }
+        { structure_of(alloc, design.netlist()) },
+        move || -> Result<Vec<u32>, AllocError>
+            ensures { IfOk result (λ costs. length costs.items ≡ nets_of design.entry.now) }
+        { costs_of(alloc, design, design.horizon() / PARTS) },
+    );
+    Ok((structure?, costs?))
+}
+
 /// The shares of a design's nets, where a thread for each pays beside the one that makes the text. Errors: memory was
 /// refused.
-pub(crate) fn partition_that_pays(
+pub(crate) fn partition_that_pays<R: Threads + Sync>(
+    rt: &R,
     alloc: Global,
     design: &Design,
     threads: u32,
@@ -83,8 +109,11 @@ pub(crate) fn partition_that_pays(
     if threads < LEAST_THREADS || !is_long(design) {
         return Ok(None);
     }
-    let costs = costs_of(alloc, design, design.horizon() / PARTS)?;
-    match partition(alloc, design.netlist(), &costs, threads - 1)? {
+    let (structure, costs) = measured(rt, alloc, design)?;
+    let Some(structure) = structure else {
+        return Ok(None);
+    };
+    match partition(alloc, design.netlist(), structure, &costs, threads - 1)? {
         Some(partition) if is_even(&costs, &partition) => Ok(Some(partition)),
         _ => Ok(None),
     }

@@ -100,6 +100,9 @@ fn wrong_field(table: Table, fault: DesignFault) -> Option<usize> {
         (Table::Stimuli, DesignFault::UnknownNet(_) | DesignFault::NotInput(_)) => Some(1),
         (Table::Stimuli, DesignFault::Level(_)) => Some(2),
         (Table::Clocks, DesignFault::UnknownNet(_) | DesignFault::NotFlop(_)) => Some(0),
+        (Table::Expected, DesignFault::Number(_) | DesignFault::BeyondHorizon(_)) => Some(0),
+        (Table::Expected, DesignFault::UnknownNet(_)) => Some(1),
+        (Table::Expected, DesignFault::Level(_)) => Some(2),
         _ => None,
     }
 }

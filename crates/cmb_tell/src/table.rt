@@ -5,6 +5,7 @@ ghost use Rattle.std.specs.Prelude.{◌≤◌, length};
 use crate::words::Given;
 use cmb_bench::read_bench;
 use cmb_design::{Design, DesignFault, Settings};
+use cmb_line::Task;
 use cmb_netlist::MAX_TEXT;
 use cmb_tables::{read_clocks, read_delays, read_stimuli};
 use std::alloc::Global;
@@ -15,9 +16,11 @@ pub(crate) enum Table {
     Delays,
     Stimuli,
     Clocks,
+    /// Of what is expected of a run. A design is made without it.
+    Expected,
 }
 
-/// The tables in the order in which they are read and checked.
+/// The tables of which a design is made, in the order in which they are read and checked.
 const TABLES: [Table; 3] = [Table::Delays, Table::Stimuli, Table::Clocks];
 
 /// The text of a table.
@@ -26,6 +29,7 @@ pub(crate) fn text_of<'a>(given: &Given<'a>, table: Table) -> &'a [u8] {
         Table::Delays => given.delays,
         Table::Stimuli => given.stimuli,
         Table::Clocks => given.clocks,
+        Table::Expected => given.list,
     }
 }
 
@@ -64,14 +68,14 @@ fn reading_fault(alloc: Global, given: &Given<'_>, table: Table) -> Option<Desig
     let text = text_if(given, table, table);
     match table {
         Table::Delays => read_delays(alloc, text).err(),
-        Table::Stimuli => read_stimuli(alloc, text).err(),
+        Table::Stimuli | Table::Expected => read_stimuli(alloc, text).err(),
         Table::Clocks => read_clocks(alloc, text).err(),
     }
 }
 
 /// The table in which a fault stands that was found by reading and checking: all tables are read in order, and then
-/// their rows are checked in order, so it is the first that has a fault there. `None` where memory was wanting, or
-/// where none has this fault.
+/// their rows are checked in order, so it is the first that has a fault there; where none has, it is that of what is
+/// expected, if the line has one. `None` where memory was wanting, or where none has this fault.
 pub(crate) fn table_of(alloc: Global, given: &Given<'_>, fault: DesignFault) -> Option<Table> {
     for table in TABLES {
         if let Some(found) = reading_fault(alloc, given, table) {
@@ -83,5 +87,8 @@ pub(crate) fn table_of(alloc: Global, given: &Given<'_>, fault: DesignFault) -> 
             return (found == fault).then_some(table);
         }
     }
-    None
+    match given.line.task {
+        Task::Expect => Some(Table::Expected),
+        _ => None,
+    }
 }

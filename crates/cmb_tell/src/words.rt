@@ -24,6 +24,7 @@ pub struct Given<'a> {
     pub delays: &'a [u8],
     pub stimuli: &'a [u8],
     pub clocks: &'a [u8],
+    /// The list of nets, or the table of what is expected.
     pub list: &'a [u8],
 }
 
@@ -34,6 +35,7 @@ fn input_name(line: &Line, input: u64) -> &str {
         3 => &line.stimuli,
         4 => &line.clocks,
         5 => &line.only,
+        7 => &line.expected,
         _ => return "the netlist",
     };
     match file {
@@ -48,6 +50,7 @@ fn number_of(table: Table) -> u64 {
         Table::Delays => 2,
         Table::Stimuli => 3,
         Table::Clocks => 4,
+        Table::Expected => 7,
     }
 }
 
@@ -196,6 +199,7 @@ pub fn done_words(done: &Done) -> &'static str
 {
     let nets = match done {
         Done::Ran(report) | Done::Measured(report) => report.nets as usize,
+        Done::Compared(told) => told.report.nets as usize,
         Done::Checked(counts) => counts.nets,
     };
     if nets == 0 { NO_NETS } else { "" }

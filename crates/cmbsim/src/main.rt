@@ -6,7 +6,7 @@ use cmb_command::{LineFault, read_line};
 use cmb_host::{
     Times, Told, help, kept, no_words, open_tables, refuse, stats_of, status_of, tell, told_of,
 };
-use cmb_sim::{DesignFault, Done, Fault, FromReader, Line, ToWriter, carry_out};
+use cmb_sim::{DesignFault, Done, Fault, FromReader, Line, Task, ToWriter, carry_out};
 use cmb_tell::{Given, Timed, Watch, Watched};
 use std::env;
 use std::io::Write;
@@ -49,7 +49,11 @@ fn do_line<R: AllocGlobal + Threads + Wait + Sync>(
         clock: rt,
         read: None,
     };
-    let mut list = kept(rt, line, tables.list);
+    let last = match line.task {
+        Task::Expect => tables.expected,
+        _ => tables.list,
+    };
+    let mut list = kept(rt, line, last);
     let mut out = Watched {
         sink: ToWriter::new(rt.stdout()),
         watch: Watch::new(rt.alloc(), rt, rt.stderr(), line),

@@ -1,5 +1,5 @@
-//! First the worked examples of boards and links. Then threads that publish, look, put and take over one circuit, and
-//! check what the contracts of boards and links say: each promise that is found is right, was published, and is not
+//! A stress test of boards and links, behind their worked examples. Threads publish, look, put and take over one
+//! circuit, and check what the contracts say: each promise that is found is right, was published, and is not
 //! below an earlier one; each piece that is taken is exact and begins where the one before it ended; the stop word and
 //! the number of finished workers never go back.
 #![tactic(auto)]

@@ -1,9 +1,12 @@
 //! Worked examples of what the engine of words and its runs are made of, as tests: words, calendars, components,
-//! partitions, parts of a design, shares of its nets, dumps, the text of chosen nets, and how active nets are.
+//! partitions, parts of a design, shares of its nets, dumps, the text of chosen nets, how active nets are, and what
+//! is expected of them.
 #![tactic(auto)]
 
 #[cfg(test)]
 mod activities;
+#[cfg(test)]
+mod ahead;
 #[cfg(test)]
 mod calendars;
 #[cfg(test)]
@@ -12,6 +15,8 @@ mod checks;
 mod components;
 #[cfg(test)]
 mod dumps;
+#[cfg(test)]
+mod expectations;
 #[cfg(test)]
 mod inverter;
 #[cfg(test)]

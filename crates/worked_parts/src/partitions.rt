@@ -3,7 +3,7 @@
 use crate::checks::{holds, same};
 use cmb_bench::read_bench;
 use cmb_netlist::Netlist;
-use cmb_partition::{Partition, Share, load, partition, total};
+use cmb_partition::{Partition, Share, load, partition, structure_of, total};
 use std::alloc::Global;
 use std::test::Fail;
 
@@ -28,10 +28,25 @@ fn is_cut(found: &Option<Partition>, one: &[bool], other: &[bool], crossing: &[b
     }
 }
 
+/// The partition of a netlist into so many shares at most, where nets cost so much.
+fn cut_by(
+    alloc: Global,
+    netlist: &Netlist,
+    costs: &[u32],
+    most: u32,
+) -> Result<Option<Partition>, Fail> {
+    match structure_of(alloc, netlist)? {
+        Some(structure) if costs.len() == netlist.len() => {
+            Ok(partition(alloc, netlist, structure, costs, most)?)
+        }
+        _ => Ok(None),
+    }
+}
+
 /// The partition of a netlist into so many shares at most, where each net costs as much as any other.
 fn cut_into(alloc: Global, netlist: &Netlist, most: u32) -> Result<Option<Partition>, Fail> {
     let costs = vec![in alloc; 1u32; netlist.len()]?;
-    Ok(partition(alloc, netlist, &costs, most)?)
+    cut_by(alloc, netlist, &costs, most)
 }
 
 /// The partition of two flip-flops that read nothing of each other.
@@ -127,10 +142,7 @@ fn ring_of_three(rt: HostRuntime) -> Result<(), Fail> {
 /// The partition of four flip-flops, each of which reads itself, into two shares, where they cost so much.
 fn weighed(alloc: Global, costs: &[u32]) -> Result<Option<Partition>, Fail> {
     let netlist = read_bench(alloc, b"a = DFF(a)\nb = DFF(b)\nc = DFF(c)\nd = DFF(d)\n")?;
-    if costs.len() != netlist.len() {
-        return Ok(None);
-    }
-    Ok(partition(alloc, &netlist, costs, 2)?)
+    cut_by(alloc, &netlist, costs, 2)
 }
 
 // The first costs as much as the others together.

@@ -16,7 +16,7 @@ use worked_inputs::{Inputs, design_of, has_gate, has_input, has_name};
 /// The nets `a`, `b`, `y`, `z` and `q`, by their numbers. `y` is made of `a`, `z` of `b` with a delay of two ticks, and
 /// `q` samples `z` at ticks 3 and 7.
 pub fn two_parts(rt: &impl Abort, alloc: Global) -> Result<Design, Fail>
-    ensures { IfOk result (λ design. nets_of design ≡ 5) }
+    ensures { IfOk result (λ design. (nets_of design ≡ 5) × (design.horizon ≡ 8)) }
 {
     let inputs = Inputs {
         netlist: b"INPUT(a)\nINPUT(b)\nOUTPUT(y)\nOUTPUT(z)\ny = NOT(a)\nz = NOT(b)\nq = DFF(z)\n",
@@ -31,6 +31,7 @@ pub fn two_parts(rt: &impl Abort, alloc: Global) -> Result<Design, Fail>
     };
     let design = design_of(alloc, inputs, settings)?;
     holds(rt, design.netlist().len() == 5);
+    holds(rt, design.horizon() == 8);
     Ok(design)
 }
 

@@ -5,7 +5,7 @@ ghost use Rattle.cmb_partition.specs.Partitions.{IsPartition};
 
 use crate::checks::holds;
 use cmb_design::{Design, Settings};
-use cmb_partition::{Partition, partition};
+use cmb_partition::{Partition, partition, structure_of};
 use cmb_shares::{Shares, costs_of, write_shares};
 use cmb_stream::{StreamFault, write_stream};
 use cmb_vcd::{Limited, Room};
@@ -16,8 +16,8 @@ use std::test::Fail;
 use std::thread::Threads;
 use worked_inputs::{Inputs, design_of, text_of};
 
-/// The nets `a`, `m` and `b`, by their numbers: two flip-flops that sample one another, `a` by an inverter, at ticks 10,
-/// 30, 50, 70 and 90 (a Johnson counter of two bits).
+/// The nets `a`, `m` and `b`, by their numbers: two flip-flops that sample one another, `a` by an inverter (a Johnson
+/// counter of two bits), at ticks 10, 30, 50, 70 and 90.
 fn counter(alloc: Global, delays: &[u8], horizon: u32) -> Result<Design, Fail> {
     let inputs = Inputs {
         netlist: b"OUTPUT(b)\na = DFF(m)\nm = NOT(b)\nb = DFF(a)\n",
@@ -91,12 +91,48 @@ fn is_text<R: Threads + Wait + Sync>(
     )
 }
 
+/// What the nets of a design cost, which has these four: the input `i`, the flip-flop `s`, which reads itself and so
+/// never changes, and the flip-flop `t`, which the inverter `n` turns at each sample.
+fn costs_of_four(alloc: Global) -> Result<Vec<u32>, Fail> {
+    let inputs = Inputs {
+        netlist: b"INPUT(i)\ns = DFF(s)\nt = DFF(n)\nn = NOT(t)\n",
+        delays: b"",
+        stimuli: b"",
+        clocks: b"",
+    };
+    let settings = Settings {
+        horizon: 100,
+        clock: Some((10, 20)),
+        init: Level::Zero,
+    };
+    let design = design_of(alloc, inputs, settings)?;
+    Ok(costs_of(alloc, &design, 100)?)
+}
+
+// Each share has its own inputs, so these cost nothing. Each other net costs something, and the more the more often it
+// changes: `n` does so one time more than `t`, from x to 1 at tick 1.
+#[test]
+fn costs(rt: HostRuntime) -> Result<(), Fail> {
+    let costs = costs_of_four(rt.alloc())?;
+    holds(
+        &rt,
+        match costs.as_slice() {
+            [0, 1, turned, inverted] => 1 < *turned && *turned < *inverted,
+            _ => false,
+        },
+    );
+    Ok(())
+}
+
 /// The partition of a design's nets into two shares.
 fn halves(alloc: Global, design: &Design) -> Result<Option<Partition>, AllocError>
     ensures { IfOk result (λ found. IfSome found (IsPartition design.now.netlist)) }
 {
     let costs = costs_of(alloc, design, design.horizon())?;
-    partition(alloc, design.netlist(), &costs, 2)
+    match structure_of(alloc, design.netlist())? {
+        Some(structure) => partition(alloc, design.netlist(), structure, &costs, 2),
+        None => Ok(None),
+    }
 }
 
 /// Whether two shares of the counter make the text of these lines.

@@ -8,8 +8,8 @@ use std::alloc::{AllocError, Global};
 use std::process::Abort;
 use std::test::Fail;
 
-// `a` rises at tick 5. The flip-flop samples it at 2, 6 and 10, so that `q` is 1 from tick 7 on. `y` is x at tick 0, and
-// 0 from tick 8 on; the last net is a tick behind it, inverted.
+// `a` rises at tick 5. The flip-flop samples it at 2, 6 and 10, so that `q` is 1 from tick 7 on. `y` is x at tick 0,
+// and 0 from tick 8 on; the last net is a tick behind it, inverted.
 fn sampled() -> Case<'static> {
     let case = bench_case(
         b"INPUT(a) OUTPUT(q)\nq = DFF(a)\ny = NAND(a, q)\nn\" = NOT(y)\n",

@@ -16,6 +16,8 @@ mod drips;
 #[cfg(test)]
 mod ends;
 #[cfg(test)]
+mod expectations;
+#[cfg(test)]
 mod faults;
 #[cfg(test)]
 mod meanings;

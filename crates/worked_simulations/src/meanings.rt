@@ -52,6 +52,7 @@ fn meanings_of_tables(rt: HostRuntime) -> Result<(), Fail> {
         DesignFault::NoPin(12),
         DesignFault::ClockRange(13),
         DesignFault::NotFlop(14),
+        DesignFault::BeyondHorizon(15),
     ] {
         same_meaning(&rt, alloc, Fault::Design(fault))?;
     }

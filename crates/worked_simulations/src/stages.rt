@@ -38,6 +38,7 @@ fn named(alloc: Global, list: &[u8]) -> Result<Vec<u32>, Fault> {
     let texts = read_texts(
         alloc,
         Choice::Only(Pick::Listed),
+        5,
         &mut FromBytes::new(netlist()),
         &mut FromBytes::new(b""),
         &mut FromBytes::new(b"tick,net,value\n0,a,0\n5,a,1\n"),
@@ -62,10 +63,12 @@ fn lists_by_stages(rt: HostRuntime) -> Result<(), Fail> {
     holds(&rt, nets.as_slice() == [1, 2].as_slice());
     same(&rt, place_of(&named(alloc, b"y\nv\n")), (38, 2));
     let mut list = dripping(b"y", 0);
-    let names = read_names(alloc, Choice::Only(Pick::Outputs), &mut list)?;
+    let names = read_names(alloc, Choice::Only(Pick::Outputs), 5, &mut list)?;
     holds(&rt, names.is_empty());
-    let listed = read_names(alloc, Choice::Only(Pick::Listed), &mut list);
+    let listed = read_names(alloc, Choice::Only(Pick::Listed), 5, &mut list);
     same(&rt, place_of(&listed), (61, 5));
+    let expected = read_names(alloc, Choice::Only(Pick::Listed), 7, &mut dripping(b"y", 0));
+    same(&rt, place_of(&expected), (61, 7));
     Ok(())
 }
 

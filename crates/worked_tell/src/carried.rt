@@ -15,6 +15,8 @@ pub struct Inputs<'a> {
     pub delays: &'a [u8],
     pub stimuli: &'a [u8],
     pub clocks: &'a [u8],
+    /// The table of what is expected.
+    pub expected: &'a [u8],
 }
 
 /// What came of a line.
@@ -72,6 +74,7 @@ pub fn carried<R: AllocGlobal + Threads + Wait + Sync>(
         clock,
         read: None,
     };
+    let mut expected = Kept::new(alloc, FromBytes::new(inputs.expected), line.explain);
     let mut out = Watched {
         sink: Room::new(alloc, 1000)?,
         watch: Watch::new(alloc, clock, Vec::new(alloc), &line),
@@ -83,7 +86,7 @@ pub fn carried<R: AllocGlobal + Threads + Wait + Sync>(
         &mut delays,
         &mut stimuli,
         &mut clocks,
-        &mut None::<FromBytes<'_>>,
+        &mut expected,
         &mut out,
     );
     out.watch.wipe();
@@ -94,7 +97,7 @@ pub fn carried<R: AllocGlobal + Threads + Wait + Sync>(
         delays: delays.given(),
         stimuli: stimuli.given(),
         clocks: clocks.source.given(),
-        list: &[],
+        list: expected.given(),
     };
     let words = words_of(alloc, &given, &answer)?;
     Ok(Outcome {

@@ -97,6 +97,11 @@ fn wrong_tasks(rt: HostRuntime) -> Result<(), Fail> {
         "check --horizon 10 --mode plain",
         "check --horizon 10 --stats",
         "check --horizon 10 --progress",
+        "expect --horizon 10",
+        "expect --expected want.csv",
+        "expect --horizon 10 --expected want.csv --only nets",
+        "expect --horizon 10 --expected want.csv --progress",
+        "run --horizon 10 --expected want.csv",
         "explain 9",
         "explain all",
         "explain 1 2",
@@ -122,9 +127,11 @@ fn wrong_clocks(rt: HostRuntime) -> Result<(), Fail> {
 fn help_and_explanations(rt: HostRuntime) -> Result<(), Fail> {
     for line in [
         "--help",
+        "-h",
         "help",
         "help run",
         "run --help",
+        "run -h",
         "--version",
         "-V",
         "explain",
@@ -172,6 +179,8 @@ fn tasks_of_lines(rt: HostRuntime) -> Result<(), Fail> {
     let alloc = rt.alloc();
     asks_for(&rt, alloc, "run --horizon 10", Task::Run, false)?;
     asks_for(&rt, alloc, "run --explain --horizon 10", Task::Run, true)?;
+    let expect = "expect --horizon 10 --expected want.csv";
+    asks_for(&rt, alloc, expect, Task::Expect, false)?;
     asks_for(
         &rt,
         alloc,
@@ -355,7 +364,7 @@ fn messages(rt: HostRuntime) -> Result<(), Fail> {
 fn version(rt: HostRuntime) -> Result<(), Fail> {
     let alloc = rt.alloc();
     let message = message_of(alloc, "--version")?;
-    same(&rt, message.as_str(), "cmbsim 0.9\n");
+    same(&rt, message.as_str(), "cmbsim 1\n");
     let message = message_of(alloc, "run --horizon 10 --slow")?;
     holds(&rt, !message.as_str().contains("< netlist.bench"));
     Ok(())
@@ -384,10 +393,28 @@ fn help_has_the_forms(rt: HostRuntime) -> Result<(), Fail> {
     Ok(())
 }
 
+// What `-h` says has the usage, but not the forms of the files nor a second line of an option.
+#[test]
+fn short_help(rt: HostRuntime) -> Result<(), Fail> {
+    for line in ["-h", "run -h"] {
+        let message = message_of(rt.alloc(), line)?;
+        contains(&rt, message.as_str(), "\nUsage: cmbsim ");
+        for part in ["INPUT(a)", "by,name,delay", "Status 1", "same in each mode"] {
+            holds(&rt, !message.as_str().contains(part));
+        }
+    }
+    Ok(())
+}
+
+// Both forms of help have each option of `run`.
 #[test]
 fn help_has_each_option(rt: HostRuntime) -> Result<(), Fail> {
-    let alloc = rt.alloc();
-    let message = message_of(alloc, "run --help")?;
+    options_stand_in(&rt, rt.alloc(), "run --help")?;
+    options_stand_in(&rt, rt.alloc(), "run -h")
+}
+
+fn options_stand_in(rt: &impl Abort, alloc: Global, line: &str) -> Result<(), Fail> {
+    let message = message_of(alloc, line)?;
     for option in [
         "--explain",
         "--progress",
@@ -405,7 +432,7 @@ fn help_has_each_option(rt: HostRuntime) -> Result<(), Fail> {
         "--only <FILE>",
         "--only-outputs",
     ] {
-        contains(&rt, message.as_str(), option);
+        contains(rt, message.as_str(), option);
     }
     Ok(())
 }

@@ -12,6 +12,7 @@ const INVERTER: Inputs<'static> = Inputs {
     delays: b"",
     stimuli: b"tick,net,value\n0,a,0\n5,a,1\n",
     clocks: b"",
+    expected: b"",
 };
 
 #[test]

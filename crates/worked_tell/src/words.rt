@@ -37,6 +37,7 @@ const FLOP: Inputs<'static> = Inputs {
     delays: b"",
     stimuli: b"",
     clocks: b"",
+    expected: b"",
 };
 
 #[test]
@@ -67,4 +68,40 @@ fn tables(rt: HostRuntime) -> Result<(), Fail> {
     };
     let words = "cmbsim: wait.csv, line 1: not the table's header: by;name;delay\n";
     is_told(&rt, &rt, line, delays, (23, 1, words))
+}
+
+// A line of `expect` with this table has this fault at this place, and these words.
+fn is_told_of<R: AllocGlobal + Abort + Threads + Wait + Sync>(
+    rt: &R,
+    clock: &HostRuntime,
+    expected: &[u8],
+    want: (u32, u64, &str),
+) -> Result<(), Fail> {
+    let line = "expect --horizon 10 --clock 2:4 --explain --expected want.csv";
+    is_told(rt, clock, line, Inputs { expected, ..FLOP }, want)
+}
+
+#[test]
+fn expectations(rt: HostRuntime) -> Result<(), Fail> {
+    let words = "cmbsim: want.csv, line 3: the tick isn't below the horizon: 10\n";
+    let late = b"tick,net,value\n9,y,x\n10,y,x\n";
+    is_told_of(&rt, &rt, late, (39, 3, words))?;
+    let words = "cmbsim: want.csv, line 2: the netlist hasn't this net: z\n";
+    is_told_of(&rt, &rt, b"tick,net,value\n9,z,x\n", (26, 2, words))?;
+    let words = "cmbsim: want.csv, line 2: a value is 0, 1, x or X: 2\n";
+    is_told_of(&rt, &rt, b"tick,net,value\n9,y,2\n", (31, 2, words))
+}
+
+#[test]
+fn expectation_that_is_not_met(rt: HostRuntime) -> Result<(), Fail> {
+    let line = "expect --horizon 10 --clock 2:4 --expected want.csv";
+    let inputs = Inputs {
+        expected: b"tick,net,value\n9,y,1\n9,a,x\n",
+        ..FLOP
+    };
+    let outcome = carried(&rt, &rt, line, inputs)?;
+    same(&rt, fault_of(&outcome.answer), (0, 0));
+    let text = b"tick,net,expected,value\n9,y,1,x\n";
+    same(&rt, outcome.text.as_slice() == text.as_slice(), true);
+    Ok(())
 }

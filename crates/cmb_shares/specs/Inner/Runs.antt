@@ -5,7 +5,7 @@ use Rattle.cmb_design.specs.Exact.{nets_of}
 use Rattle.cmb_design.specs.Timing.{delay}
 use Rattle.cmb_engine.specs.Crossings.{AreWithinLookahead, IsCrossing}
 use Rattle.cmb_engine.specs.Shares.{IsDriven, IsGiven}
-use Rattle.cmb_engine.specs.Windows.{Windows, end_of}
+use Rattle.cmb_engine.specs.Windows.{HaveTicks, Windows, end_of}
 
 -- a design, the share that owns each net, which nets cross, which each share drives, and where windows end
 pub record Run : Type 0 where
@@ -39,6 +39,7 @@ pub record IsRun (run : Run) : Type 0 where
   pub soon : (net : ℕ) → IsCrossing run.design run.crossing net → delay run.design net 1 < run.windows.width
   pub horizon : run.windows.horizon ≡ run.design.horizon
   pub narrow : run.windows.width ≤ 63
+  pub each : HaveTicks run.windows
 
 -- the window of a run from a tick on
 pub record IsTurn (run : Run) (from upto : ℕ) : Type 0 where

@@ -9,14 +9,20 @@ use Rattle.cmb_shares.specs.declared.simulator.Simulator.{Simulator}
 use Rattle.cmb_shares.specs.Inner.Runs.{Owns, Reads, Run, driven_by}
 use Rattle.cmb_shares.specs.Inner.Simulators.{IsSimulator}
 
--- the number of a share, the tick up to which it made windows, and the shares that tell it of theirs
+-- the number of a share, the tick up to which it made windows, the shares that tell it of theirs, and the last messages of its channels
 pub record Standing : Type 0 where
   pub number : ℕ
   pub clock : ℕ
   pub senders : List ℕ
+  pub inlets : List Envelope
+  pub feeds : List Envelope
+  pub text : Envelope
 
 abbrev pub senders_of : List Envelope → List ℕ
 senders_of inlets = map (λ e. e.sender) inlets
+
+abbrev pub readers_of : List Envelope → List ℕ
+readers_of feeds = map (λ e. e.reader) feeds
 
 -- channels to a reader, along which messages came up to a tick
 abbrev pub AreHeard : ℕ → ℕ → List Envelope → Type 0

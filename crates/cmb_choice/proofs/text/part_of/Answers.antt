@@ -1,6 +1,6 @@
 use Rattle.std.proofs.Common.{List, ℕ, arith, subst, sym}
 use Rattle.std.specs.Prelude.{All, Contains}
-use Rattle.cmb_choice.proofs.RunFacts.{part-among, part-table, part-text}
+use Rattle.cmb_choice.proofs.RunFacts.{part-among, part-levels, part-table, part-text, part-within}
 use Rattle.cmb_choice.proofs.text.part_of.Goals as goal
 
 pub places_in-requires-clause-there : goal.places_in-requires-clause-there
@@ -8,10 +8,19 @@ places_in-requires-clause-there c =
     let HasAll : List ℕ → Type 0 = λ nets. All (Contains nets) c.args.chosen.now in
     subst HasAll (sym c.deref-2.ensures.value) c.in_ok-nets.ensures.has
 
+pub returns-clause-within : goal.returns-clause-within
+returns-clause-within c =
+    part-within c.args.design.now c.in_ok-part.part c.in_ok-nets.nets.items c.deref-2.result.now _ (rw c.deref.ensures.value at c.in_ok-part.ensures.part) c.deref-2.ensures.value c.in-Ok.ensures.within
+
 pub returns-clause-among : goal.returns-clause-among
-returns-clause-among c =
+returns-clause-among c given =
     part-among c.args.design.now c.in_ok-part.part c.in_ok-nets.nets.items c.deref-2.result.now _ (rw c.deref.ensures.value at c.in_ok-part.ensures.part) c.deref-2.ensures.value
-    c.in-Ok.ensures.rising c.in-Ok.ensures.within (omega (arith, c.in-Ok.ensures.count, c.requires.few))
+    (c.in-Ok.ensures.rising given.rising) c.in-Ok.ensures.within (omega (arith, c.in-Ok.ensures.count, given.few))
+
+pub returns-clause-levels : goal.returns-clause-levels
+returns-clause-levels c =
+    part-levels c.args.design.now c.in_ok-part.part c.in_ok-nets.nets.items c.args.chosen.now _ (rw c.deref.ensures.value at c.in_ok-part.ensures.values)
+    (rw c.deref-2.ensures.value at c.in-Ok.ensures.within) (rw c.deref-2.ensures.value at c.in-Ok.ensures.back) c.in-Ok.ensures.count
 
 pub returns-clause-text : goal.returns-clause-text
 returns-clause-text c =

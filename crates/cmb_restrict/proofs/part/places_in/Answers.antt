@@ -19,6 +19,6 @@ returns c =
     record {
       back = IfOk-weaker c.renumbered_all.result _ _ (λ v is. places_back nets places some v.items are c.requires.rising c.requires.there is) found;
       within = IfOk-weaker c.renumbered_all.result _ _ (λ v is. places_within nets places some v.items are c.requires.rising c.requires.there is) found;
-      rising = IfOk-weaker c.renumbered_all.result _ _ (λ v is. places_rise nets places some v.items are c.requires.rising c.requires.there is c.requires.some) found;
+      rising = IfOk-weaker c.renumbered_all.result _ _ (λ v is rise. places_rise nets places some v.items are c.requires.rising c.requires.there is rise) found;
       count = IfOk-weaker c.renumbered_all.result _ _ (λ v is. places_count nets places some v.items are c.requires.rising c.requires.there is) found;
     }

@@ -5,7 +5,8 @@ use Rattle.cmb_words.specs.declared.changed.Changed.{Changed}
 use Rattle.cmb_shares.specs.declared.message.Envelope.{Envelope}
 use Rattle.cmb_shares.specs.Inner.Flows.{AreMade}
 use Rattle.cmb_shares.proofs.FlowFacts.{made-as, made-none}
-use Rattle.cmb_shares.proofs.PlaceFacts.{written-more, written-none}
+use Rattle.cmb_shares.proofs.PlaceFacts.{written-all, written-more, written-none}
+use Rattle.cmb_shares.proofs.ProcessFacts.{text-turns}
 use Rattle.cmb_shares.proofs.flow.gather.Goals as goal
 
 pub loop-place-init : goal.loop-place-init
@@ -38,3 +39,10 @@ loop-place-preserved g c =
           (c.in_ok-add.ensures.made reader
           (made-as run place next.sender c.args.from next.from c.args.upto next.upto c.loop-place.all.items (sym sender) (sym begins) (sym ends) was.made));
     }
+
+pub returns-clause-turns : goal.returns-clause-turns
+returns-clause-turns g c =
+    let was = c.loop-place.invariant in
+    let sources = c.loop-place.sources in
+    text-turns g.T.Terms.run c.args.sources.now sources c.args.from c.args.upto c.requires.turn.early was.len c.requires.sources
+    (written-all _ _ sources c.loop-place.place (omega (arith, c.loop-place-test.false, was.len)) was.at) c.requires.turn.end

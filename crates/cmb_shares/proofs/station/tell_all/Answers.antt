@@ -1,5 +1,7 @@
-use Rattle.std.proofs.Common.{◌∙◌, refl, arith}
-use Rattle.std.proofs.lemmas.List.{length-set}
+use Rattle.std.proofs.Common.{◌∙◌, ◌<◌, length, ap, refl, arith}
+use Rattle.std.proofs.lemmas.List.{get_or_default, length-set}
+use Rattle.cmb_shares.specs.declared.message.Envelope.{Envelope}
+use Rattle.cmb_shares.proofs.HeardFacts.{readers-set}
 use Rattle.cmb_shares.proofs.PlaceFacts.{written-all, written-more, written-none}
 use Rattle.cmb_shares.proofs.station.tell_all.Goals as goal
 
@@ -14,17 +16,23 @@ tell-requires-clause-begins g c =
     (was.at.rest c.loop-place.place c.index-feeds-place.result (omega arith) (omega (arith, c.loop-place-test.true, was.len))).1
 
 pub loop-place-init : goal.loop-place-init
-loop-place-init g c = record { len = refl; at = written-none _ _ c.args.feeds.now c.requires.fed }
+loop-place-init g c = record { len = refl; readers = refl; at = written-none _ _ c.args.feeds.now c.requires.fed }
 
 pub loop-place-preserved : goal.loop-place-preserved
 loop-place-preserved g c =
     let was = c.loop-place.invariant in
+    let next : Envelope = c.tell.new.self in
+    let old : Envelope = c.index-feeds-place.result in
+    let within : c.loop-place.place < length c.loop-place.feeds = omega (arith, c.loop-place-test.true, was.len) in
     record {
-      len = length-set c.loop-place.feeds c.loop-place.place c.tell.new.self ∙ was.len;
-      at = written-more _ _ c.loop-place.feeds c.loop-place.place c.tell.new.self (omega (arith, c.loop-place-test.true, was.len)) (c.tell.ensures c.if-not-tell.false) was.at;
+      len = length-set c.loop-place.feeds c.loop-place.place next ∙ was.len;
+      readers =
+          readers-set c.loop-place.feeds c.loop-place.place next
+          (c.tell.ensures.reader c.if-not-tell.false ∙ ap (λ (e : Envelope). e.reader) (get_or_default c.loop-place.feeds c.loop-place.place old next within)) ∙ was.readers;
+      at = written-more _ _ c.loop-place.feeds c.loop-place.place next within (c.tell.ensures.told c.if-not-tell.false) was.at;
     }
 
-pub returns : goal.returns
-returns g c = λ _.
+pub returns-clause-fed : goal.returns-clause-fed
+returns-clause-fed g c = λ _.
     let was = c.loop-place.invariant in
     written-all _ _ c.loop-place.feeds c.loop-place.place (omega (arith, c.loop-place-test.false, was.len)) was.at

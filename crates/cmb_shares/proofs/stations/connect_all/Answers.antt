@@ -10,6 +10,7 @@ use Rattle.cmb_partition.specs.declared.shares.Share.{Share}
 use Rattle.cmb_shares.specs.Inner.Runs.{driven_by}
 use Rattle.cmb_shares.specs.Inner.Stations.{Covers, Standing}
 use Rattle.cmb_shares.proofs.HeardFacts.{set_within}
+use Rattle.cmb_shares.proofs.JoinFacts.{are-members}
 use Rattle.cmb_shares.proofs.OpeningFacts.{marks-at}
 use Rattle.cmb_shares.proofs.stations.connect_all.Goals as goal
 
@@ -45,6 +46,7 @@ loop-reader-preserved g c =
     record {
       len = went.len ∙ was.len;
       stations = went.stations;
+      joined = went.joined was.joined;
       covered = λ k d below within.
           let by : ((k ≡ reader) ⊎ (k ≡ reader → ⊥)) → Covers run k (get_or next k d).senders =
           elim [
@@ -64,3 +66,10 @@ loop-reader-preserved g c =
           ] in
           by (cases_eq k reader);
     }
+
+pub returns-clause-members : goal.returns-clause-members
+returns-clause-members g c =
+    let was = c.loop-reader.invariant in
+    let lawful = c.requires.lawful in
+    are-members g.T.Terms.run c.loop-reader.stations lawful.each (omega (arith, c.horizon-horizon.ensures.value, c.horizon-horizon.ensures, lawful.horizon, ap (λ (x : Design). x.horizon) c.requires.design)) (was.len ∙ c.requires.count) was.joined
+    was.stations

@@ -12,6 +12,7 @@ loop-sender-preserved g c =
     record {
       len = went.len ∙ was.len;
       stations = went.stations;
+      joined = λ before. went.joined (was.joined before);
       others = λ k d within n. went.others k d (omega (arith, within, was.len)) n ∙ was.others k d within n;
       heard = λ s d below marked.
           let by : ((s ≡ sender) ⊎ (s ≡ sender → ⊥)) → Contains (get_or c.connect_feeder.new.stations c.args.reader d).senders s =

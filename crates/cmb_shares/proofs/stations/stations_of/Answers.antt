@@ -1,10 +1,12 @@
-use Rattle.std.proofs.Common.{◌≡◌, ◌∙◌, ℕ, ◌+◌, ◌<◌, ◌≤◌, List, length, get_or, ap, subst, sym, arith}
+use Rattle.std.proofs.Common.{◌≡◌, ◌∙◌, ℕ, ◌+◌, ◌<◌, ◌≤◌, List, [], length, get_or, ap, subst, sym, arith}
 use Rattle.std.proofs.lemmas.List.{length_push}
 use Rattle.std.proofs.lemmas.List.Edits.{length-remove}
 use Rattle.cmb_engine.specs.Shares.{ShareEngine}
 use Rattle.cmb_shares.specs.declared.message.Envelope.{Envelope}
+use Rattle.cmb_shares.specs.Inner.Channels.{greeting}
 use Rattle.cmb_shares.specs.Inner.Flows.{AreSources}
 use Rattle.cmb_shares.specs.Inner.Opened.{AreEngines, AreStations, IsEngineOf}
+use Rattle.cmb_shares.specs.Inner.Processes.{AreLone}
 use Rattle.cmb_shares.specs.Inner.Runs.{driven_by}
 use Rattle.cmb_shares.specs.Inner.Stations.{Standing}
 use Rattle.cmb_shares.proofs.StationFacts.{each-push, engines-rest, short-rest}
@@ -42,6 +44,10 @@ loop-number-preserved g c =
       stations =
           subst AreStations (sym put)
           (each-push (λ (k : ℕ) (s : Standing). (s.number ≡ k) × (s.clock ≡ 1)) c.loop-number.stations.items c.in_ok-station.station was.stations (made.number ∙ sym was.count, made.clock));
+      lone =
+          subst (AreLone (length run.driven)) (sym put)
+          (each-push (λ (k : ℕ) (s : Standing). (s.feeds ≡ []) × (s.inlets ≡ []) × (s.text ≡ greeting k (length run.driven))) c.loop-number.stations.items c.in_ok-station.station was.lone
+          (made.feeds, made.inlets, made.text ∙ ap (λ (k : ℕ). greeting k (length run.driven)) (sym was.count)));
       told = ap length put-source ∙ length_push c.loop-number.sources.items source ∙ ap (λ n. n + 1) was.told;
       sources =
           subst (AreSources run 1) (sym put-source)

@@ -2,6 +2,7 @@ use Rattle.std.proofs.Common.{◌≡◌, ℕ, ◌+◌, ◌<◌, ◌≤◌, lengt
 use Rattle.cmb_engine.specs.Shares.{ShareEngine}
 use Rattle.cmb_shares.specs.Inner.Flows.{AreSources}
 use Rattle.cmb_shares.specs.Inner.Opened.{AreEngines, AreStations}
+use Rattle.cmb_shares.specs.Inner.Processes.{AreLone}
 use Rattle.cmb_shares.proofs.stations.stations_of.Given as goal
 
 abbrev pub invariant-loop-number : goal.invariant-loop-number
@@ -12,6 +13,7 @@ invariant-loop-number g l = record {
   short : (k : ℕ) (d : ShareEngine) → k < length l.engines.items → g.T.Terms.run.windows.width ≤ (get_or l.engines.items k d).width;
   count : length l.stations.items ≡ l.number;
   stations : AreStations l.stations.items;
+  lone : AreLone (length g.T.Terms.run.driven) l.stations.items;
   told : length l.sources.items ≡ l.number;
   sources : AreSources g.T.Terms.run 1 l.sources.items;
 }

@@ -4,7 +4,7 @@ use Rattle.std.proofs.lemmas.List.{length-map}
 use Rattle.cmb_design.specs.Timing.{delay}
 use Rattle.cmb_engine.specs.Crossings.{AreWithinLookahead, IsCrossing}
 use Rattle.cmb_engine.specs.Shares.{ShareEngine}
-use Rattle.cmb_engine.specs.Windows.{Windows}
+use Rattle.cmb_engine.specs.Windows.{HaveTicks, Windows}
 use Rattle.cmb_partition.specs.declared.shares.Share.{Share}
 use Rattle.cmb_shares.specs.Inner.Opened.{IsEngineOf, run_of}
 use Rattle.cmb_shares.specs.Inner.Runs.{driven_by}
@@ -29,7 +29,7 @@ invariant_of-result g c =
     let engines = c.in_ok-engines.engines.items in
     let count : length (map (λ (s : Share). s.driven.items) partition.shares.items) ≡ length partition.shares.items = length-map partition.shares.items (λ (s : Share). s.driven.items) in
     record {
-      lawful = is-run design partition windows c.requires ahead soon (of (λ w. w.horizon ≡ design.horizon) made.horizon) (omega (arith, width, c.least_width-width.ensures.narrow));
+      lawful = is-run design partition windows c.requires ahead soon (of (λ w. w.horizon ≡ design.horizon) made.horizon) (omega (arith, width, c.least_width-width.ensures.narrow)) (of HaveTicks made.each);
       few = subst (λ n. n < 2 ^ 32) (sym count) c.requires.few;
       count = c.in_ok-engines.ensures.count ∙ sym count;
       each = λ k d h.

@@ -13,3 +13,6 @@ invariant_of-self g c =
     (λ h. ap (λ (e : Envelope). e.reader) (c.send.ensures.sent h ∙ c.new.ensures) ∙ sym was.0)
     (λ h. ap (λ (e : Envelope). e.reader) (c.send.ensures.kept h)) in
     (same ∙ was.0, (subst (λ n. n < length run.driven) (sym same) was.1.0, was.1.1 ∙ ap (driven_by run) (sym same)))
+
+pub returns-clause-reader : goal.returns-clause-reader
+returns-clause-reader g c = λ h. ap (λ (e : Envelope). e.reader) (c.send.ensures.sent h ∙ c.new.ensures) ∙ sym c.self.invariant.0 ∙ ap (λ (e : Envelope). e.reader) c.self.view_is

@@ -1,0 +1,3 @@
+-- What the functions inside the crate promise each other. No public contract cites it.
+pub mod Probes
+pub mod Traces

@@ -1,0 +1,4 @@
+pub mod Machine
+pub mod Network
+pub mod Runs
+pub mod Turns
