@@ -12,6 +12,7 @@ use Rattle.cmb_words.specs.declared.word.Word.{Word}
 use Rattle.cmb_words.specs.Changes.{IsStill, TellsNet, is_among}
 use Rattle.cmb_words.specs.Word.{level_at_place}
 use Rattle.cmb_words.specs.Holds.{AreSamples, Holds}
+use Rattle.cmb_words.proofs.StillFacts.{ticks-still}
 use Rattle.cmb_engine.specs.Inner.Cells.{Cell, Told, Gate, Flop, cell_at, is_made, cell_level, IsLawful, IsSteadyFrom}
 use Rattle.cmb_engine.specs.Inner.Circuits.{cell_row, IsFlopOf, MeetsCells, Shows}
 use Rattle.cmb_engine.specs.Inner.Exports.{moved_on, slots_of, AddsSlots, AreTakenBefore, HoldsAhead}
@@ -152,9 +153,9 @@ module _ (trace words : ℕ → ℕ → Level) (cells : List Cell) (count from t
         rw (b, past) refl
 
     pub slot-keeps : IsStill (trace slot) from to
-    slot-keeps tick late below =
+    slot-keeps = ticks-still (trace slot) from to (omega (arith, begins)) (λ tick late below.
         sym (meets slot (suc tick) (flop-made (cell_at cells slot) clock delay flop)
-        ∙ keeps (cell_at cells slot) tick flop (none_at tick late below (cases_Bool (arrives_by clock delay (suc tick)))))
+        ∙ keeps (cell_at cells slot) tick flop (none_at tick late below (cases_Bool (arrives_by clock delay (suc tick))))))
 
 -- ---- what is told of some
 

@@ -11,6 +11,7 @@ use Rattle.cmb_words.specs.Changes.{RisesWithin, IsStill, Tells, is_among}
 use Rattle.cmb_words.specs.Word.{level_at_place}
 use Rattle.cmb_words.specs.declared.word.Word.{Word}
 use Rattle.cmb_words.proofs.Rising.{rises-push, rises-wider, rises_at}
+use Rattle.cmb_words.proofs.StillFacts.{still-ticks, ticks-still}
 use Rattle.cmb_engine.specs.Inner.Cells.{IsSteadyFrom}
 use Rattle.cmb_engine.specs.Inner.Circuits.{AreQuiet, Shows}
 use Rattle.cmb_engine.specs.Inner.Words.{levels_of}
@@ -107,11 +108,11 @@ module _ (words : ℕ → ℕ → Level) (trace : ℕ → ℕ → Level) (count 
       ∙ ap (trace net) (omega (arith, from, begun, inside))
 
   pub steady-still : (net : ℕ) → net < nets → IsSteadyFrom (words net) first → IsStill (trace net) (to + first - 64) to
-  steady-still net below steady tick from upto =
+  steady-still net below steady = ticks-still (trace net) (to + first - 64) to (omega (arith, inside)) (λ tick from upto.
       sym (shown-at net tick below from (omega arith))
       ∙ first_level (tick + 64 - to) (omega (arith, from, inside)) (omega (arith, upto)) (cases_lt (tick + 64 - to) first)
       ∙ sym (steady (suc tick + 64 - to) (omega (arith, from, inside, begun)) (omega (arith, upto)))
-      ∙ shown-at net (suc tick) below (omega arith) upto
+      ∙ shown-at net (suc tick) below (omega arith) upto)
     where
       first_level : (place : ℕ) → first ≤ place + 1 → place < 64 → (place < first) ⊎ (first ≤ place) → words net place ≡ words net (first - 1)
       first_level place near small (inl l) = ap (words net) (omega (arith, near, l))
@@ -137,7 +138,7 @@ still-steady word from to begun later short still place late small =
     go (suc k) inside =
         let here : from - 1 + k + 64 - to ≡ 64 - (to - from) - 1 + k = omega arith in
         let there : suc (from - 1 + k) + 64 - to ≡ 64 - (to - from) - 1 + suc k = omega arith in
-        ap word (sym there) ∙ sym (still (from - 1 + k) (omega arith) (omega arith)) ∙ ap word here ∙ go k (omega arith)
+        ap word (sym there) ∙ sym (still-ticks (λ tick. word (tick + 64 - to)) from to still (from - 1 + k) (omega arith) (omega arith)) ∙ ap word here ∙ go k (omega arith)
 
 -- so what was collected moves
 pub collected-moves : (changed : List Changed) (from to : ℕ) → 1 ≤ from → from < to → to ≤ from + 63 → All (IsMoved (64 - (to - from))) changed → EachChanges from to changed

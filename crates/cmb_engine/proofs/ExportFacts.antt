@@ -17,6 +17,7 @@ use Rattle.cmb_design.specs.Value.{value}
 use Rattle.cmb_words.specs.declared.changed.Changed.{Changed}
 use Rattle.cmb_words.specs.declared.word.Word.{Word}
 use Rattle.cmb_words.specs.Changes.{TellsNet}
+use Rattle.cmb_words.proofs.StillFacts.{still-agrees}
 use Rattle.cmb_design.specs.declared.rows.Clock.{Clock}
 use Rattle.cmb_engine.specs.Crossings.{IsCrossing, IsWithinLookahead}
 use Rattle.cmb_engine.specs.Rows.{arrives as arrives_at, arrives_by}
@@ -267,7 +268,8 @@ module _ (design : Design) (circuit : Circuit) (is_circuit : IsCircuit design ci
       λ k d small. (right (get_or told k d) (all.right (get_or told k d) (Contains-get_or told k d small))).0,
       record {
         words = λ one among exported tick late below. (right one (all.right one among)).1 tick late below ∙ level one.net tick exported;
-        others = λ net exported none tick late below. sym (level net tick exported) ∙ all.others net exported none tick late below ∙ level net (suc tick) exported;
+        others = λ net exported none.
+            still-agrees (trace_of design circuit.wiring.roles.items circuit.lines.items net) (value design net) from to (λ tick late below. level net tick exported) (all.others net exported none);
       },
     )
       where

@@ -12,6 +12,7 @@ use Rattle.cmb_words.specs.declared.changed.Changed.{Changed}
 use Rattle.cmb_words.specs.Changes.{IsStill, is_among}
 use Rattle.cmb_words.specs.declared.word.Word.{Word}
 use Rattle.cmb_words.specs.Word.{level_at_place}
+use Rattle.cmb_words.proofs.StillFacts.{still-agrees, still-level}
 use Rattle.cmb_engine.specs.Inner.Bits.{has}
 use Rattle.cmb_engine.specs.Inner.Cells.{Cell, AreMarked, cell_at, is_made}
 use Rattle.cmb_engine.specs.Inner.Circuits.{Shows}
@@ -162,22 +163,13 @@ pub given-traced : (design : Design) (roles : List Role) (lines : List Pin) (fro
     → AreGiven (trace_of design roles lines) roles from to given
 given-traced design roles lines from to given lawful right = record {
   words = λ one among gift tick late small. right.words one among gift tick late small ∙ sym (same one.net tick gift);
-  others = λ net gift none tick late small. same net tick gift ∙ right.others net gift none tick late small ∙ sym (same net (suc tick) gift);
+  others = λ net gift none. still-agrees (value design net) (trace_of design roles lines net) from to (λ tick late small. sym (same net tick gift)) (right.others net gift none);
 }
   where
     same : (net tick : ℕ) → gives roles net ≡ true → trace_of design roles lines net tick ≡ value design net tick
     same net tick gift =
         trace-net design roles lines net tick (omega (arith, given-inside roles net gift, lawful.few))
         ∙ level-present design roles net tick (given-known roles net gift)
-
--- a waveform that is still has one level from the tick before a window on
-still-from : (level : ℕ → Level) (from upto tick : ℕ) → IsStill level from upto → 1 ≤ from → from ≤ tick + 1 → tick < upto → level tick ≡ level (from - 1)
-still-from level from upto zero still begun late small = ap level (omega arith)
-still-from level from upto (suc tick) still begun late small = go (cases_lt (tick + 1) from) (λ l. still-from level from upto tick still begun (omega arith) (omega arith))
-  where
-    go : (tick + 1 < from) ⊎ (from ≤ tick + 1) → (from ≤ tick + 1 → level tick ≡ level (from - 1)) → level (suc tick) ≡ level (from - 1)
-    go (inl l) so_far = ap level (omega arith)
-    go (inr l) so_far = sym (still tick (omega arith) small) ∙ so_far l
 
 -- ---- words into which what is told and given was written
 
@@ -208,13 +200,13 @@ module _ (trace : ℕ → ℕ → Level) (cells : List Cell) (roles : List Role)
       (λ tell among e l.
       (right.right tell among).0.level
       ∙ ap (λ n. trace n tell.tick) e
-      ∙ still-from (trace slot) from to tell.tick still window.begun (omega (arith, (right.right tell among).1)) (omega (arith, (right.right tell among).2))
+      ∙ still-level (trace slot) from to tell.tick window.begun still (omega (arith, (right.right tell among).1)) (omega (arith, (right.right tell among).2))
       ∙ sym now)
       (moved-held trace from ticks to first most (length cells) window old moved shows moves slot place inside late small ∙ sym now)
       ∙ sym (in_place-tick (trace slot) to place (omega arith))
     where
       now : trace slot (to + place - 64) ≡ trace slot (from - 1)
-      now = still-from (trace slot) from to (to + place - 64) still window.begun (omega arith) (omega arith)
+      now = still-level (trace slot) from to (to + place - 64) window.begun still (omega arith) (omega arith)
 
   -- what is given shows the trace
   word-shows : (one : Changed) → Contains given one → gives roles one.net ≡ true → (place : ℕ) → first ≤ place → place < 64 → level_at_place one.word place ≡ shown trace to one.net place

@@ -11,6 +11,7 @@ use Rattle.cmb_design.specs.Value.{value}
 use Rattle.cmb_engine.specs.Inner.Roles.{AreOf, Gives, is_driven, is_given, is_absent, driven_of, role_of, drives, gives, lacks, level_in}
 use Rattle.cmb_words.specs.declared.changed.Changed.{Changed}
 use Rattle.cmb_words.specs.Changes.{Tells, TellsNet}
+use Rattle.cmb_words.proofs.StillFacts.{still-agrees}
 use Rattle.cmb_engine.specs.Shares.{IsDriven, IsGiven, TellsThose}
 use Rattle.cmb_engine.specs.declared.role.Role.{Role}
 use Rattle.cmb_engine.specs.declared.role.Role.TheVariants.{Driven, Given, Absent}
@@ -294,8 +295,7 @@ pub share-tells : (design : Design) (roles : List Role) (from to : ℕ) (changed
 share-tells design roles from to changed are tells = record {
   words = λ one among driven tick late below.
       All-contains (TellsNet (level_in design roles) from to) changed one tells.words among tick late below ∙ driven-level design roles are one.net tick driven;
-  others = λ net driven none tick late below.
-      sym (driven-level design roles are net tick driven)
-      ∙ tells.others net (driven-net design roles are net driven).0 none tick late below
-      ∙ driven-level design roles are net (suc tick) driven;
+  others = λ net driven none.
+      still-agrees (level_in design roles net) (value design net) from to (λ tick late below. driven-level design roles are net tick driven)
+      (tells.others net (driven-net design roles are net driven).0 none);
 }

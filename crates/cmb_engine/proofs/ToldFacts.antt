@@ -17,6 +17,7 @@ use Rattle.cmb_design.specs.Value.{delayed}
 use Rattle.cmb_words.specs.declared.changed.Changed.{Changed}
 use Rattle.cmb_words.specs.Changes.{Tells, TellsNet, is_among}
 use Rattle.cmb_words.specs.Word.{level_at_place}
+use Rattle.cmb_words.proofs.StillFacts.{still-ticks}
 use Rattle.cmb_engine.specs.Inner.Ahead.{TellsAhead}
 use Rattle.cmb_engine.specs.Inner.Cells.{Cell, cell_at, is_made}
 use Rattle.cmb_engine.specs.Inner.Lines.{IsAhead, IsOfLine, NotesEach}
@@ -234,7 +235,7 @@ module _ (design : Design) (roles : List Role) (lines : List Pin) (most width ho
             let one = among-one line.net changed h in
             change one.0 one.1 one.2 (cases_Bool (same_level (level_at_place one.0.word (past + 64 - to - 1)) (level_at_place one.0.word (past + 64 - to))))
         go (inr h) =
-            let still = tells.others line.net net h (past - 1) (omega (arith, next, begun)) (omega (arith, next, ended)) in
+            let still = still-ticks (level_in design roles line.net) from to (tells.others line.net net h) (past - 1) (omega (arith, next, begun)) (omega (arith, next, ended)) in
             steady (still ∙ ap (λ n. level_in design roles line.net n) next)
 
     -- the calendar has what is told of the ticks from the window's end on

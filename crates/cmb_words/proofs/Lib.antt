@@ -5,3 +5,4 @@ pub mod MaskFacts
 pub mod PeriodFacts
 pub mod Rising
 pub mod SpanFacts
+pub mod StillFacts

@@ -1,6 +1,7 @@
 -- What the words of the nets that changed in a window tell of a waveform, given as the level of each net at each tick.
 use Rattle.std.specs.Prelude.{◌≡◌, ℕ, suc, ◌+◌, ◌-◌, ◌<◌, ◌≤◌, Bool, false, ◌==◌, List, [], ◌∷◌}
 use Rattle.std.specs.List.{All, list_any}
+use Rattle.cmb_wave.specs.Waveform.{changes_between}
 use Rattle.cmb_wave.specs.declared.level.Level.{Level}
 use Rattle.cmb_words.specs.declared.changed.Changed.{Changed}
 use Rattle.cmb_words.specs.Word.{level_at_place}
@@ -24,7 +25,7 @@ TellsNet level from upto changed = (tick : ℕ) → from ≤ suc tick → tick <
 
 -- no change at the ticks of [from, upto)
 abbrev pub IsStill : (ℕ → Level) → ℕ → ℕ → Type 0
-IsStill level from upto = (tick : ℕ) → from ≤ suc tick → suc tick < upto → level tick ≡ level (suc tick)
+IsStill level from upto = changes_between level from upto ≡ []
 
 abbrev pub is_among : ℕ → List Changed → Bool
 is_among net changed = list_any (λ c. c.net == net) changed
