@@ -7,8 +7,9 @@ use Rattle.cmb_wave.specs.declared.level.Level.TheVariants.{Zero, One, X}
 use Rattle.cmb_wave.specs.Waveform.{change_at, changes_between, count_below, level_before, same_level}
 use Rattle.cmb_wave.proofs.Lists.{same_level-same}
 use Rattle.cmb_words.specs.Changes.{IsStill}
-use Rattle.cmb_wave.proofs.Waveforms.{changes_between-suc}
+use Rattle.cmb_wave.proofs.Waveforms.{changes_between-suc, count_below-add}
 use Rattle.cmb_words.specs.Bits.{is_set_at, level_in, level_of_bits}
+use Rattle.cmb_words.proofs.StillFacts.{still-level}
 use Rattle.cmb_activity.specs.Activities.{IsActivity, ticks_at}
 use Rattle.cmb_activity.specs.declared.activity.Activity.{Activity}
 use Rattle.cmb_activity.specs.Inner.SetBits.{set_bits}
@@ -80,10 +81,7 @@ x_bit v x i = x_bit' (bit_at v i) (bit_at x i)
 -- ---- a waveform that is still
 
 pub still_at : (level : ℕ → Level) (from upto k : ℕ) → 1 ≤ from → IsStill level from upto → from + k ≤ upto → level (from - 1 + k) ≡ level (from - 1)
-still_at level from upto zero some still within = ap level (omega arith)
-still_at level from upto (suc k) some still within =
-    ap level (let e : from - 1 + suc k ≡ suc (from - 1 + k) = omega arith in e)
-    ∙ sym (still (from - 1 + k) (omega arith) (omega arith)) ∙ still_at level from upto k some still (omega arith)
+still_at level from upto k some still within = still-level level from upto (from - 1 + k) some still (omega (arith, some)) (omega (arith, some, within))
 
 pub still_ticks : (level : ℕ → Level) (wanted : Level) (from upto k : ℕ) → 1 ≤ from → IsStill level from upto → from + k ≤ upto
     → ticks_at level wanted (from + k) ≡ ticks_at level wanted from + (if same_level (level (from - 1)) wanted then k else 0)
@@ -117,19 +115,8 @@ before_of : (level : ℕ → Level) (tick : ℕ) → 1 ≤ tick → level_before
 before_of level zero some = absurd (omega arith)
 before_of level (suc tick) some = ap level (let e : tick ≡ suc tick - 1 = omega arith in e)
 
-pub still_count : (level : ℕ → Level) (from upto k : ℕ) → 1 ≤ from → IsStill level from upto → from + k ≤ upto
-    → count_below level (from + k) ≡ count_below level from
-still_count level from upto zero some still within = ap (count_below level) (let e : from + 0 ≡ from = omega arith in e)
-still_count level from upto (suc k) some still within =
-    let past : level_before level (from + k) ≡ level (from - 1) =
-    before_of level (from + k) (omega arith) ∙ ap level (let e : from + k - 1 ≡ from - 1 + k = omega arith in e)
-    ∙ still_at level from upto k some still (omega arith) in
-    let now : level (from + k) ≡ level (from - 1) =
-    ap level (let e : from + k ≡ from - 1 + suc k = omega arith in e) ∙ still_at level from upto (suc k) some still within in
-    let one : same_level (level_before level (from + k)) (level (from + k)) ≡ true = same_level-same _ _ (past ∙ sym now) in
-    let next : count_below level (suc (from + k)) ≡ count_below level (from + k) + 0 = rw one at (count_next level (from + k)) in
-    ap (count_below level) (let e : from + suc k ≡ suc (from + k) = omega arith in e)
-    ∙ omega (arith, next, still_count level from upto k some still (omega arith))
+pub still_count : (level : ℕ → Level) (from upto : ℕ) → from ≤ upto → IsStill level from upto → count_below level upto ≡ count_below level from
+still_count level from upto order still = count_below-add level from upto order ∙ omega (arith, ap length still)
 
 pub still_last : (level : ℕ → Level) (from upto : ℕ) → 1 ≤ from → from ≤ upto → IsStill level from upto → level (upto - 1) ≡ level (from - 1)
 still_last level from upto some order still =
@@ -141,7 +128,7 @@ pub still_activity : (level : ℕ → Level) (last : Level) (from upto : ℕ) (o
     → new.low ≡ old.low + (if same_level last Zero then upto - from else 0) → new.high ≡ old.high + (if same_level last One then upto - from else 0)
     → new.unknown ≡ old.unknown + (if same_level last X then upto - from else 0) → IsActivity level upto new
 still_activity level last from upto old new some order still at counted changes low high unknown = record {
-  changes = omega (arith, changes, counted.changes, ap (count_below level) whole, still_count level from upto (upto - from) some still (omega arith));
+  changes = omega (arith, changes, counted.changes, still_count level from upto order still);
   low = low ∙ ap (λ (n : ℕ). n + (if same_level last Zero then upto - from else 0)) counted.low ∙ sym (each Zero);
   high = high ∙ ap (λ (n : ℕ). n + (if same_level last One then upto - from else 0)) counted.high ∙ sym (each One);
   unknown = unknown ∙ ap (λ (n : ℕ). n + (if same_level last X then upto - from else 0)) counted.unknown ∙ sym (each X);

@@ -10,6 +10,7 @@ use Rattle.cmb_words.specs.Word.{level_at_place}
 use Rattle.cmb_wave.specs.declared.level.Level.{Level}
 use Rattle.cmb_words.specs.declared.changed.Changed.{Changed}
 use Rattle.cmb_words.specs.Changes.{IsStill, RisesWithin, Tells, TellsNet, is_among}
+use Rattle.cmb_words.proofs.StillFacts.{still-append, still-empty}
 use Rattle.cmb_activity.specs.declared.tally.Tally.{Tally}
 use Rattle.cmb_activity.specs.Activities.{AreActivitiesOf, IsActivity}
 use Rattle.cmb_activity.specs.declared.activity.Activity.{Activity}
@@ -30,26 +31,18 @@ pub record IsAmid (old : List Tally) (changed : List Changed) (nets from upto : 
   pub before : (net : ℕ) (d : Tally) → low ≤ net → net < nets → (get_or tallies net d).upto ≤ from
   pub counted : (level : ℕ → ℕ → Level) → AreTallies level nets from old → Tells level nets from upto changed → AreCounted level nets low from upto rest tallies
 
--- a waveform that is still in two spans that meet is so in both
-pub still_on : (level : ℕ → Level) (a b c : ℕ) → IsStill level a b → IsStill level b c → IsStill level a c
-still_on level a b c first then tick from below = go (cases_lt (suc tick) b)
-  where
-    go : (suc tick < b) ⊎ (b ≤ suc tick) → level tick ≡ level (suc tick)
-    go (inl early) = first tick from early
-    go (inr late) = then tick late below
-
 later_at : (level : ℕ → Level) (from upto : ℕ) (tally : Tally) → from ≤ upto → IsStill level from upto → IsTallyAt level from tally → IsTallyAt level upto tally
 later_at level from upto tally order still at = record {
   tallied = at.tallied;
   within = omega (arith, at.within);
-  still = still_on level tally.upto from upto at.still still;
+  still = still-append level tally.upto from upto at.within order at.still still;
 }
 
 tallied_at : (level : ℕ → Level) (upto : ℕ) (tally : Tally) → tally.upto ≡ upto → IsTally level tally → IsTallyAt level upto tally
 tallied_at level upto tally at tallied = record {
   tallied = tallied;
   within = omega (arith, at);
-  still = λ tick from below. absurd (omega (arith, at, from, below));
+  still = still-empty level tally.upto upto (omega (arith, at));
 }
 
 not_among : (net low nets : ℕ) (changed : List Changed) → net < low → RisesWithin low nets changed → is_among net changed ≡ false

@@ -1,2 +1,3 @@
 mod LevelFacts
+pub mod PruneFacts
 pub mod RunFacts

@@ -5,7 +5,7 @@ ghost use Rattle.cmb_activity.specs.Texts.{activity_table};
 ghost use Rattle.cmb_design.specs.Exact.{nets_of};
 ghost use Rattle.cmb_dump.specs.Excerpts.{AreAmong};
 
-use crate::text::part_of;
+use crate::part::part_of;
 use cmb_activity::activity_text;
 use cmb_design::Design;
 use std::alloc::{AllocError, Global};

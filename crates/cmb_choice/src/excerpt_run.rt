@@ -8,6 +8,7 @@ ghost use Rattle.cmb_design.specs.Value.{value};
 ghost use Rattle.cmb_choice.specs.Inner.Runs.{shown_text};
 ghost use Rattle.cmb_dump.specs.Excerpts.{AreAmong};
 
+use crate::part::Part;
 use cmb_design::Design;
 use cmb_dump::Excerpt;
 use cmb_engine::{Engine, start_level};
@@ -79,20 +80,19 @@ impl<'a> Model for Run<'a> {
 }
 
 impl<'a> Run<'a> {
-    /// The text up to tick 1: the declarations, and the levels at tick 0.
-    pub(crate) fn open(
-        alloc: Global,
-        design: &'a Design,
-        nets: &'a [u32],
-    ) -> Result<Run<'a>, AllocError>
-        requires { AreAmong (nets_of design.now) nets.now }
-        ensures design { IfOk result (λ run. run.design ≡ design.entry.now) }
-        ensures nets { IfOk result (λ run. run.nets ≡ nets.entry.now) }
-        ensures text { IfOk result (λ run. run.text ≡ shown_text design.entry.now nets.entry.now run.clock) }
-        ensures within { IfOk result (λ run. run.clock ≤ design.entry.now.horizon) }
+    /// The text up to tick 1 of a part's chosen nets: the declarations, and the levels at tick 0. It takes a part, so that
+    /// only what these nets need is simulated.
+    pub(crate) fn open(alloc: Global, part: &'a Part) -> Result<Run<'a>, AllocError>
+        requires { AreAmong (nets_of part.now.design) part.now.nets }
+        ensures design { IfOk result (λ run. run.design ≡ part.entry.now.design) }
+        ensures nets { IfOk result (λ run. run.nets ≡ part.entry.now.nets) }
+        ensures text { IfOk result (λ run. run.text
+            ≡ shown_text part.entry.now.design part.entry.now.nets run.clock) }
+        ensures within { IfOk result (λ run. run.clock ≤ part.entry.now.design.horizon) }
     {
+        let design = &part.design;
         let engine = Engine::open(alloc, design)?;
-        let Ok((excerpt, text)) = first_text(alloc, design, nets) else {
+        let Ok((excerpt, text)) = first_text(alloc, design, &part.nets) else {
             drop(engine);
             return Err(AllocError);
         };

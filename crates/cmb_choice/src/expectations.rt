@@ -7,7 +7,7 @@ ghost use Rattle.cmb_choice.specs.Inner.Levels.{AreLevelsAt, AreRenumbered};
 ghost use Rattle.cmb_expect.specs.Expectations.{differs};
 ghost use Rattle.cmb_expect.specs.Texts.{difference_table};
 
-use crate::text::part_of;
+use crate::part::part_of;
 use cmb_design::{Design, Expected};
 use cmb_expect::{Differences, differing_rows, levels_found};
 use cmb_wave::Level;

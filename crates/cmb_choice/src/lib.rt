@@ -5,8 +5,10 @@
 pub mod activities;
 mod excerpt_run;
 pub mod expectations;
+pub mod part;
 pub mod text;
 
 pub use activities::chosen_activity_text;
 pub use expectations::expected_differences;
+pub use part::{Part, part_of};
 pub use text::chosen_text;

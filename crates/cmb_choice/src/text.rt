@@ -1,59 +1,21 @@
 //! The text of chosen nets.
 
-ghost use Rattle.std.specs.Prelude.{◌≡◌, ◌<◌, ◌≤◌, ℕ, length, map, slice_index, All, IfOk};
-ghost use Rattle.cmb_activity.specs.Texts.{activity_table};
-ghost use Rattle.cmb_choice.specs.Parts.{IsPartOf};
+ghost use Rattle.std.specs.Prelude.{◌≡◌, IfOk};
 ghost use Rattle.cmb_design.specs.Exact.{nets_of};
-ghost use Rattle.cmb_design.specs.Value.{value};
 ghost use Rattle.cmb_dump.specs.Excerpts.{AreAmong};
 ghost use Rattle.cmb_vcd.specs.Chosen.{vcd_of};
 
 use crate::excerpt_run::Run;
+use crate::part::{Part, part_of};
 use cmb_design::Design;
-use cmb_restrict::{closure, places_in, restrict};
 use std::alloc::{AllocError, Global};
 
-/// The part of a design on which chosen nets depend, and the numbers there of the chosen nets, in their order.
-#[derive(Drop)]
-pub struct Part {
-    pub design: Design,
-    pub nets: Vec<u32>,
-}
-
-/// The least part of a design that has the chosen nets, and with each net those that its value rule asks for. The
-/// chosen nets have the same levels and the same text there, and are as active; they rise where they rise in the whole.
-pub fn part_of(alloc: Global, design: &Design, chosen: &[u32]) -> Result<Part, AllocError>
-    requires { All (λ net. net < nets_of design.now) chosen.now }
-    ensures part { IfOk result (λ part. IsPartOf design.now chosen.now part.design part.nets.items) }
-    ensures within { IfOk result (λ part. All (λ net. net < nets_of part.design) part.nets.items) }
-    ensures among { IfOk result (λ part. AreAmong (nets_of design.now) chosen.now
-        → AreAmong (nets_of part.design) part.nets.items) }
-    ensures count { IfOk result (λ part. length part.nets.items ≡ length chosen.now) }
-    ensures levels { IfOk result (λ part. (i tick : ℕ) → i < length chosen.now
-        → value part.design (slice_index part.nets.items i) tick ≡ value design.now (slice_index chosen.now i) tick) }
-    ensures text { IfOk result (λ part. vcd_of part.design part.nets.items ≡ vcd_of design.now chosen.now) }
-    ensures activity { IfOk result (λ part.
-        activity_table part.design part.nets.items ≡ activity_table design.now chosen.now) }
+/// The VCD text of the chosen nets of a part's run, which rise, whole in memory.
+fn shown_text(alloc: Global, part: &Part) -> Result<Vec<u8>, AllocError>
+    requires { AreAmong (nets_of part.now.design) part.now.nets }
+    ensures { IfOk result (λ text. text.items ≡ vcd_of part.now.design part.now.nets) }
 {
-    let count = design.netlist().len();
-    let nets = closure(alloc, design.netlist(), chosen)?;
-    let part = restrict(alloc, design, &nets)?;
-    let Ok(places) = places_in(alloc, count, &nets, chosen) else {
-        drop(part);
-        return Err(AllocError);
-    };
-    Ok(Part {
-        design: part,
-        nets: places,
-    })
-}
-
-/// The VCD text of some nets of a design's run, which rise, whole in memory. All nets of the design are simulated.
-fn shown_text(alloc: Global, design: &Design, nets: &[u32]) -> Result<Vec<u8>, AllocError>
-    requires { AreAmong (nets_of design.now) nets.now }
-    ensures { IfOk result (λ text. text.items ≡ vcd_of design.now nets.now) }
-{
-    let mut run = Run::open(alloc, design, nets)?;
+    let mut run = Run::open(alloc, part)?;
     while !run.is_done() {
         run = run.step()?;
     }
@@ -67,7 +29,7 @@ pub fn chosen_text(alloc: Global, design: &Design, chosen: &[u32]) -> Result<Vec
     ensures { IfOk result (λ text. text.items ≡ vcd_of design.now chosen.now) }
 {
     let part = part_of(alloc, design, chosen)?;
-    let text = shown_text(alloc, &part.design, &part.nets);
+    let text = shown_text(alloc, &part);
     drop(part);
     text
 }

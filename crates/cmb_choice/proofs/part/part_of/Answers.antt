@@ -1,7 +1,7 @@
 use Rattle.std.proofs.Common.{List, ℕ, arith, subst, sym}
 use Rattle.std.specs.Prelude.{All, Contains}
 use Rattle.cmb_choice.proofs.RunFacts.{part-among, part-levels, part-table, part-text, part-within}
-use Rattle.cmb_choice.proofs.text.part_of.Goals as goal
+use Rattle.cmb_choice.proofs.part.part_of.Goals as goal
 
 pub places_in-requires-clause-there : goal.places_in-requires-clause-there
 places_in-requires-clause-there c =
