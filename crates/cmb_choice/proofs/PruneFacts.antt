@@ -30,7 +30,7 @@ rising-same nets i k rising early late same = by (cases_lt i k) (cases_lt k i)
 
 module _ (whole part : Netlist) (nets : List ℕ) (closed : IsClosed whole nets) (is : IsPart whole nets part) (sound : IsNetlist part) where
   -- the net of the whole that a net of the part is
-  whole-net : ℕ → ℕ
+  abbrev whole-net : ℕ → ℕ
   whole-net net = get_or nets net 0
 
   whole-contains : (others : List ℕ) (net : ℕ) → Contains others net → Contains (map whole-net others) (whole-net net)

@@ -49,6 +49,9 @@ pub fn part_of(alloc: Global, design: &Design, chosen: &[u32]) -> Result<Part, A
     let count = design.netlist().len();
     let nets = closure(alloc, design.netlist(), chosen)?;
     let part = restrict(alloc, design, &nets)?;
+    // The proof learns here that the part's netlist is lawful.
+    let netlist = part.netlist();
+    let _kept = netlist.len();
     let Ok(places) = places_in(alloc, count, &nets, chosen) else {
         drop(part);
         return Err(AllocError);

@@ -3,6 +3,7 @@ use Rattle.std.specs.Prelude.{All}
 use Rattle.cmb_design.specs.Exact.{nets_of}
 use Rattle.cmb_design.specs.Value.{value}
 use Rattle.cmb_choice.specs.Inner.Levels.{AreLevelsAt}
+use Rattle.cmb_choice.specs.Parts.{Part}
 use Rattle.cmb_choice.proofs.LevelFacts.{levels-back, named-within}
 use Rattle.cmb_choice.proofs.expectations.expected_differences.Goals as goal
 
@@ -14,9 +15,10 @@ part_of-requires c =
 
 pub differing_rows-requires-clause-found : goal.differing_rows-requires-clause-found
 differing_rows-requires-clause-found c =
-    let part = c.in_ok-part.part in
+    let part = c.part.inside in
+    let Agree : Part → List ℕ → Type 0 = λ p nets. (i tick : ℕ) → i < length nets → value p.design (get_or p.nets i 0) tick ≡ value c.args.design.now (get_or nets i 0) tick in
     let at : AreLevelsAt part.design part.nets.items c.args.rows.now c.in_ok-found.field-0.items =
     subst (λ (nets : List ℕ). AreLevelsAt part.design nets c.args.rows.now c.in_ok-found.field-0.items) c.deref-2.ensures.value c.in_ok-found.ensures in
-    let levels : (i tick : ℕ) → i < length c.in_ok-nets.nets.items → value part.design (get_or part.nets.items i 0) tick ≡ value c.args.design.now (get_or c.in_ok-nets.nets.items i 0) tick =
-    subst (λ (nets : List ℕ). (i tick : ℕ) → i < length nets → value part.design (get_or part.nets.items i 0) tick ≡ value c.args.design.now (get_or nets i 0) tick) c.deref.ensures.value c.in_ok-part.ensures.levels in
+    let levels : Agree (record { design = part.design; nets = part.nets.items }) c.in_ok-nets.nets.items =
+    subst (λ (p : Part). Agree p c.in_ok-nets.nets.items) (sym c.part.view_is) (subst (Agree c.in_ok-part.part) c.deref.ensures.value c.in_ok-part.ensures.levels) in
     c.deref-3.ensures.value ∙ levels-back c.args.design.now part.design c.args.rows.now c.in_ok-nets.nets.items part.nets.items c.in_ok-found.field-0.items at c.in_ok-nets.ensures levels

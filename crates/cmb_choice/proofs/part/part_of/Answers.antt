@@ -1,5 +1,8 @@
 use Rattle.std.proofs.Common.{List, ℕ, arith, subst, sym}
 use Rattle.std.specs.Prelude.{All, Contains}
+use Rattle.cmb_netlist.specs.Netlist.{IsNetlist, Netlist}
+use Rattle.cmb_restrict.specs.Closed.{IsClosure}
+use Rattle.cmb_choice.proofs.PruneFacts.{part-pruned}
 use Rattle.cmb_choice.proofs.RunFacts.{part-among, part-levels, part-table, part-text, part-within}
 use Rattle.cmb_choice.proofs.part.part_of.Goals as goal
 
@@ -31,3 +34,12 @@ pub returns-clause-activity : goal.returns-clause-activity
 returns-clause-activity c =
     part-table c.args.design.now c.in_ok-part.part c.in_ok-nets.nets.items c.args.chosen.now _ (rw c.deref.ensures.value at c.in_ok-part.ensures.part) (rw c.deref.ensures.value at c.in_ok-part.ensures.values)
     (rw c.deref-2.ensures.value at c.in-Ok.ensures.within) (rw c.deref-2.ensures.value at c.in-Ok.ensures.back)
+
+pub invariant_of-result : goal.invariant_of-result
+invariant_of-result c =
+    let whole = c.args.design.now.netlist in
+    let nets = c.in_ok-nets.nets.items in
+    let least : IsClosure whole c.args.chosen.now nets = subst (λ (netlist : Netlist). IsClosure netlist c.args.chosen.now nets) c.netlist-2.ensures c.in_ok-nets.ensures in
+    let part = rw c.deref.ensures.value at c.in_ok-part.ensures.part in
+    part-pruned whole c.in_ok-part.part.netlist nets least.closed part.netlist (subst IsNetlist c.netlist-netlist.ensures c.len-kept.ensures.sound) c.args.chosen.now c.in-Ok.places.items least
+    (rw c.deref-2.ensures.value at c.in-Ok.ensures.back)

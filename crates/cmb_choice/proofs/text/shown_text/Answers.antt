@@ -11,11 +11,11 @@ loop-run-preserved c =
       design = c.in_ok-run-2.ensures.design ∙ was.design;
       nets = c.in_ok-run-2.ensures.nets ∙ was.nets;
       within = subst IsWithin was.design c.in_ok-run-2.ensures.within;
-      text = next-text c.args.design.now _ c.args.nets.now _ _ _ _ _ was.design was.nets was.text c.in_ok-run-2.ensures.text;
+      text = next-text c.args.part.now.design _ c.args.part.now.nets _ _ _ _ _ was.design was.nets was.text c.in_ok-run-2.ensures.text;
     }
 
 pub returns : goal.returns
 returns c =
     let was = c.loop-run.invariant in
     let done = c.is_done.ensures.done c.loop-run-test.false in
-    shown-whole c.args.design.now _ c.args.nets.now _ _ _ was.design was.nets (omega (arith, done, was.within, ap (λ (d : Design). d.horizon) was.design)) (c.into_text.ensures ∙ was.text)
+    shown-whole c.args.part.now.design _ c.args.part.now.nets _ _ _ was.design was.nets (omega (arith, done, was.within, ap (λ (d : Design). d.horizon) was.design)) (c.into_text.ensures ∙ was.text)
