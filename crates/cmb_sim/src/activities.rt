@@ -100,7 +100,9 @@ fn measure_texts<O: Sink>(
     ensures { IsTabled request (texts_in texts.now) (written_to O.Sink out.old out.new) result }
 {
     let design = spelled_design(alloc, texts, request.settings)?;
-    measure_design(alloc, request, &design, texts.names.as_slice(), out)
+    let told = measure_design(alloc, request, &design, texts.names.as_slice(), out);
+    drop(design);
+    told
 }
 
 /// Reads what `simulate_chosen` reads, with the same faults before the text, and writes in the place of the waveforms

@@ -78,7 +78,9 @@ fn compare_texts<O: Sink>(
     ensures { AreCompared request (texts_in texts.now) (written_to O.Sink out.old out.new) result }
 {
     let design = spelled_design(alloc, texts, request.settings)?;
-    compare_design(alloc, request, &design, texts.names.as_slice(), out)
+    let told = compare_design(alloc, request, &design, texts.names.as_slice(), out);
+    drop(design);
+    told
 }
 
 /// Reads what `simulate` reads and then a table of what is expected of its run, as input 7, and writes in the place of

@@ -94,7 +94,9 @@ fn simulate_texts<R: AllocGlobal + Threads + Wait + Sync, O: Sink>(
     ensures { IsRun request (texts_in texts.now) (written_to O.Sink out.old out.new) result }
 {
     let design = spelled_design(alloc, texts, request.settings)?;
-    simulate_design(rt, alloc, request, &design, texts.names.as_slice(), out)
+    let told = simulate_design(rt, alloc, request, &design, texts.names.as_slice(), out);
+    drop(design);
+    told
 }
 
 /// Simulates as `simulate` does, by threads that share the work where a number of them is given, and writes the

@@ -13,4 +13,4 @@ returns-in_err-design g c =
 pub returns : goal.returns
 returns g c =
     IsTabled-spelled c.args.request (texts_in c.args.texts.now) c.in_ok-design.design _ _ c.in_ok-design.ensures.ok
-    (rw c.as_slice.ensures.value at c.measure_design.ensures)
+    (rw c.as_slice.ensures.value at c.measure_design-told.ensures)
