@@ -1,3 +1,4 @@
 -- What the functions inside the crate promise each other. No public contract cites it.
 pub mod Compared
+pub mod Designs
 pub mod Plans

@@ -5,9 +5,10 @@ ghost use Rattle.std.specs.List.{range_with_len};
 ghost use Rattle.cmb_activity.specs.Texts.{activity_table};
 ghost use Rattle.cmb_design.specs.Exact.{nets_of};
 ghost use Rattle.cmb_inout.specs.Sources.{input_limit};
-ghost use Rattle.cmb_inputs.specs.Inputs.{HaveRoom, in_order, listed, read_from};
+ghost use Rattle.cmb_inputs.specs.Inputs.{CanBeInputs, HaveRoom, in_order, listed, read_from, texts_in};
 ghost use Rattle.cmb_inputs.specs.Outputs.{written_to};
-ghost use Rattle.cmb_sim.specs.Activities.{IsMeasured, IsTableOf};
+ghost use Rattle.cmb_sim.specs.Activities.{IsMeasured, IsTableOf, IsTabled};
+ghost use Rattle.cmb_sim.specs.Inner.Designs.{IsTabledOf};
 ghost use Rattle.cmb_sim.specs.Simulation.{CanRun, IsRefused};
 
 use crate::modes::check_mode;
@@ -15,7 +16,7 @@ use cmb_activity::activity_text;
 use cmb_choice::chosen_activity_text;
 use cmb_design::Design;
 use cmb_inout::{Fault, Report, Source};
-use cmb_inputs::{chosen_nets, read_texts, spelled_design, write_text};
+use cmb_inputs::{InputTexts, chosen_nets, read_texts, spelled_design, write_text};
 use cmb_line::{Choice, Pick, Request};
 use cmb_vcd::Sink;
 use std::alloc::{AllocError, Global};
@@ -66,6 +67,44 @@ fn asked_table(
     }
 }
 
+// Writes the table that is asked for of a design, by the text of the list that names nets.
+fn measure_design<O: Sink>(
+    alloc: Global,
+    request: Request,
+    design: &Design,
+    names: &[u8],
+    out: &mut O,
+) -> Result<Report, Fault>
+    requires names { length names.now ≤ input_limit }
+    requires out { O.failures out.old < 2 ^ 64 - 1 }
+    ensures { IsTabledOf request design.now names.now (written_to O.Sink out.old out.new) result }
+{
+    let table = asked_table(alloc, request, design, names)?;
+    write_text(out, table.as_slice())?;
+    Ok(Report {
+        nets: design.netlist().len() as u32,
+        horizon: design.horizon(),
+        written: table.len() as u64,
+    })
+}
+
+// Does the same of the design that texts spell, as `measure` does once its inputs are read.
+fn measure_texts<O: Sink>(
+    alloc: Global,
+    texts: &InputTexts,
+    request: Request,
+    out: &mut O,
+) -> Result<Report, Fault>
+    requires texts { CanBeInputs (texts_in texts.now) }
+    requires out { O.failures out.old < 2 ^ 64 - 1 }
+    ensures { IsTabled request (texts_in texts.now) (written_to O.Sink out.old out.new) result }
+{
+    let design = spelled_design(alloc, texts, request.settings)?;
+    let told = measure_design(alloc, request, &design, texts.names.as_slice(), out);
+    drop(design);
+    told
+}
+
 /// Reads what `simulate_chosen` reads, with the same faults before the text, and writes in the place of the waveforms
 /// of the chosen nets how active these are: for each, by rising number, how often it changes after tick 0, and at how
 /// many ticks it is 0, 1 and x, under the header `net,changes,low,high,unknown`. Only nets on which a chosen one
@@ -95,12 +134,5 @@ pub fn measure<B: Source, D: Source, S: Source, C: Source, L: Source, O: Sink>(
 {
     let choice = request.choice;
     let texts = read_texts(alloc, choice, 5, bench, delays, stimuli, clocks, list)?;
-    let design = spelled_design(alloc, &texts, request.settings)?;
-    let table = asked_table(alloc, request, &design, texts.names.as_slice())?;
-    write_text(out, table.as_slice())?;
-    Ok(Report {
-        nets: design.netlist().len() as u32,
-        horizon: design.horizon(),
-        written: table.len() as u64,
-    })
+    measure_texts(alloc, &texts, request, out)
 }

@@ -5,10 +5,11 @@ ghost use Rattle.cmb_expect.specs.Expectations.{differs};
 ghost use Rattle.cmb_expect.specs.Texts.{difference_table};
 ghost use Rattle.cmb_inout.specs.Sources.{input_limit};
 ghost use Rattle.cmb_inputs.specs.Expected.{AreExpected};
-ghost use Rattle.cmb_inputs.specs.Inputs.{HaveRoom, in_order, read_from};
+ghost use Rattle.cmb_inputs.specs.Inputs.{CanBeInputs, HaveRoom, in_order, read_from, texts_in};
 ghost use Rattle.cmb_inputs.specs.Outputs.{written_to};
-ghost use Rattle.cmb_sim.specs.Expecting.{IsComparison, IsUncompared};
+ghost use Rattle.cmb_sim.specs.Expecting.{AreCompared, IsComparison, IsUncompared};
 ghost use Rattle.cmb_sim.specs.Inner.Compared.{IsCompared};
+ghost use Rattle.cmb_sim.specs.Inner.Designs.{IsComparisonOf};
 ghost use Rattle.cmb_sim.specs.Simulation.{CanRun};
 
 use crate::modes::check_mode;
@@ -16,7 +17,7 @@ use cmb_choice::expected_differences;
 use cmb_design::Design;
 use cmb_expect::Differences;
 use cmb_inout::{Comparison, Fault, Report, Source};
-use cmb_inputs::{expected_in, read_texts, spelled_design, write_text};
+use cmb_inputs::{InputTexts, expected_in, read_texts, spelled_design, write_text};
 use cmb_line::{Choice, Pick, Request};
 use cmb_vcd::Sink;
 use std::alloc::Global;
@@ -38,6 +39,48 @@ fn compared(
     check_mode(request, design)?;
     let told = expected_differences(alloc, design, &rows)?;
     Ok((rows.len() as u32, told))
+}
+
+// Writes the rows of a table that differ from a design's run.
+fn compare_design<O: Sink>(
+    alloc: Global,
+    request: Request,
+    design: &Design,
+    table: &[u8],
+    out: &mut O,
+) -> Result<Comparison, Fault>
+    requires table { length table.now ≤ input_limit }
+    requires out { O.failures out.old < 2 ^ 64 - 1 }
+    ensures { IsComparisonOf request design.now table.now (written_to O.Sink out.old out.new) result }
+{
+    let (rows, told) = compared(alloc, request, design, table)?;
+    write_text(out, told.text.as_slice())?;
+    Ok(Comparison {
+        report: Report {
+            nets: design.netlist().len() as u32,
+            horizon: design.horizon(),
+            written: told.text.len() as u64,
+        },
+        rows,
+        differ: told.count,
+    })
+}
+
+// Does the same with the design that texts spell, as `compare` does once its inputs are read.
+fn compare_texts<O: Sink>(
+    alloc: Global,
+    texts: &InputTexts,
+    request: Request,
+    out: &mut O,
+) -> Result<Comparison, Fault>
+    requires texts { CanBeInputs (texts_in texts.now) }
+    requires out { O.failures out.old < 2 ^ 64 - 1 }
+    ensures { AreCompared request (texts_in texts.now) (written_to O.Sink out.old out.new) result }
+{
+    let design = spelled_design(alloc, texts, request.settings)?;
+    let told = compare_design(alloc, request, &design, texts.names.as_slice(), out);
+    drop(design);
+    told
 }
 
 /// Reads what `simulate` reads and then a table of what is expected of its run, as input 7, and writes in the place of
@@ -70,16 +113,5 @@ pub fn compare<B: Source, D: Source, S: Source, C: Source, E: Source, O: Sink>(
 {
     let choice = Choice::Only(Pick::Listed);
     let texts = read_texts(alloc, choice, 7, bench, delays, stimuli, clocks, expected)?;
-    let design = spelled_design(alloc, &texts, request.settings)?;
-    let (rows, told) = compared(alloc, request, &design, texts.names.as_slice())?;
-    write_text(out, told.text.as_slice())?;
-    Ok(Comparison {
-        report: Report {
-            nets: design.netlist().len() as u32,
-            horizon: design.horizon(),
-            written: told.text.len() as u64,
-        },
-        rows,
-        differ: told.count,
-    })
+    compare_texts(alloc, &texts, request, out)
 }

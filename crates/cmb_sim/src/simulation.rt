@@ -1,17 +1,20 @@
 //! A whole simulation.
 
-ghost use Rattle.std.specs.Prelude.{◌≡◌, ◌-◌, ◌^◌, ◌<◌, [], None};
-ghost use Rattle.cmb_inputs.specs.Inputs.{HaveRoom, in_order, listed, read_from};
+ghost use Rattle.std.specs.Prelude.{◌≡◌, ◌-◌, ◌^◌, ◌<◌, ◌≤◌, [], length, None};
+ghost use Rattle.cmb_inout.specs.Sources.{input_limit};
+ghost use Rattle.cmb_inputs.specs.Inputs.{CanBeInputs, HaveRoom, in_order, listed, read_from, texts_in};
 ghost use Rattle.cmb_inputs.specs.Outputs.{written_to};
-ghost use Rattle.cmb_sim.specs.Simulation.{IsOutcome, of_all};
+ghost use Rattle.cmb_sim.specs.Inner.Designs.{IsRunOf};
+ghost use Rattle.cmb_sim.specs.Simulation.{IsOutcome, IsRun, of_all};
 
 use crate::plan::plan_of;
 use crate::running::write_plan;
-use cmb_design::Settings;
+use cmb_design::{Design, Settings};
 use cmb_inout::{Fault, FromBytes, Report, Source};
-use cmb_inputs::{read_texts, spelled_design};
+use cmb_inputs::{InputTexts, read_texts, spelled_design};
 use cmb_line::{Choice, Mode, Pick, Request};
 use cmb_vcd::Sink;
+use std::alloc::Global;
 use std::sync::Wait;
 use std::thread::Threads;
 
@@ -56,6 +59,46 @@ pub fn simulate<
     simulate_chosen(rt, bench, delays, stimuli, clocks, list, request, out)
 }
 
+// Simulates a design, and writes the waveforms that are asked for, by the text of the list that names nets.
+fn simulate_design<R: AllocGlobal + Threads + Wait + Sync, O: Sink>(
+    rt: &R,
+    alloc: Global,
+    request: Request,
+    design: &Design,
+    names: &[u8],
+    out: &mut O,
+) -> Result<Report, Fault>
+    requires names { length names.now ≤ input_limit }
+    requires out { O.failures out.old < 2 ^ 64 - 1 }
+    ensures { IsRunOf request design.now names.now (written_to O.Sink out.old out.new) result }
+{
+    let plan = plan_of(rt, alloc, request, design, names)?;
+    let written = write_plan(rt, &plan, design, out)?;
+    Ok(Report {
+        nets: design.netlist().len() as u32,
+        horizon: design.horizon(),
+        written,
+    })
+}
+
+// Does the same with the design that texts spell, as `simulate_chosen` does once its inputs are read.
+fn simulate_texts<R: AllocGlobal + Threads + Wait + Sync, O: Sink>(
+    rt: &R,
+    alloc: Global,
+    texts: &InputTexts,
+    request: Request,
+    out: &mut O,
+) -> Result<Report, Fault>
+    requires texts { CanBeInputs (texts_in texts.now) }
+    requires out { O.failures out.old < 2 ^ 64 - 1 }
+    ensures { IsRun request (texts_in texts.now) (written_to O.Sink out.old out.new) result }
+{
+    let design = spelled_design(alloc, texts, request.settings)?;
+    let told = simulate_design(rt, alloc, request, &design, texts.names.as_slice(), out);
+    drop(design);
+    told
+}
+
 /// Simulates as `simulate` does, by threads that share the work where a number of them is given, and writes the
 /// waveforms of the chosen nets: of some the declarations and the levels of these alone, by rising number, each with
 /// the code of its place among them. Only nets on which a chosen one depends are simulated; but mode plain fills its
@@ -97,12 +140,5 @@ pub fn simulate_chosen<
     let alloc = rt.alloc();
     let choice = request.choice;
     let texts = read_texts(alloc, choice, 5, bench, delays, stimuli, clocks, list)?;
-    let design = spelled_design(alloc, &texts, request.settings)?;
-    let plan = plan_of(rt, alloc, request, &design, texts.names.as_slice())?;
-    let written = write_plan(rt, &plan, &design, out)?;
-    Ok(Report {
-        nets: design.netlist().len() as u32,
-        horizon: design.horizon(),
-        written,
-    })
+    simulate_texts(rt, alloc, &texts, request, out)
 }
