@@ -45,6 +45,28 @@ rests-held own input delay arrival period first samples steady same = record {
     go place late small (inl a) = rw a (steady place late small ∙ sym (same (place - delay) (omega arith) (omega arith)))
     go place late small (inr a) = rw a (steady place late small ∙ sym (before place late small (cases_lt (place - 1) first)))
 
+-- words that move on hold their last level
+pub moved-steady : (words : ℕ → ℕ → Level) (ticks slot : ℕ) → 64 - ticks < 64 → IsSteadyFrom (moved_on words ticks slot) (64 - ticks)
+moved-steady words ticks slot some place late small =
+    let here : min (place + ticks) 63 ≡ 63 = omega (arith, late) in
+    let there : min (64 - ticks - 1 + ticks) 63 ≡ 63 = omega (arith, some) in
+    ap (words slot) (here ∙ sym there)
+
+-- so does a flip-flop's word, where its data have that level
+pub moved-rests : (words : ℕ → ℕ → Level) (slot ticks arrival : ℕ) (clock : Clock) (pin : Pin) → 1 ≤ ticks → ticks < 64 → pin.delay ≤ 64 - ticks → 64 - ticks ≤ arrival → 1 ≤ clock.period
+    → ((place : ℕ) → min (64 - pin.delay) 63 ≤ place → place < 64 → words pin.net place ≡ words slot 63) → HoldsAhead words (moved_on words ticks slot) ticks arrival slot (Flop clock pin)
+moved-rests words slot ticks arrival clock pin some fits near later paced same =
+    rests-held (moved_on words ticks slot) (moved_on words ticks pin.net) pin.delay arrival clock.period (64 - ticks)
+    (record { least = omega (arith, fits); most = omega (arith, some); near = near; later = later; some = paced })
+    (λ place late small. ap (words slot) (ends place (omega (arith, late)) ∙ sym (ends (64 - ticks - 1) (omega (arith, fits)))))
+    (λ place late small. same (min (place + ticks) 63) (reaches place late) (omega arith) ∙ ap (words slot) (sym (ends (64 - ticks - 1) (omega (arith, fits)))))
+  where
+    ends : (place : ℕ) → 63 ≤ place + ticks → min (place + ticks) 63 ≡ 63
+    ends place late = omega (arith, late)
+
+    reaches : (place : ℕ) → 64 - ticks - pin.delay ≤ place → min (64 - pin.delay) 63 ≤ min (place + ticks) 63
+    reaches place late = omega (arith, late, near, fits)
+
 -- the word of a flip-flop at the end of a window, by the words at its begin, where its samples were taken before
 module _ (trace words : ℕ → ℕ → Level) (cells : List Cell) (count from ticks to first : ℕ) (meets : MeetsCells trace (cell_at cells)) (shows : Shows words trace count from)
     (window : IsWindow from ticks to first 0) (slot : ℕ) (clock : Clock) (pin : Pin) (is : cell_at cells slot ≡ Flop clock pin) (inside : slot < count) (lawful : IsLawful count first (Flop clock pin))

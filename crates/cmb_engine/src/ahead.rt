@@ -1,12 +1,11 @@
 //! What is told ahead: what flip-flops do in a window that isn't made yet. Their samples that arrive there were taken
 //! before it.
 
-ghost use Rattle.std.specs.Prelude.{◌≡◌, ℕ, ◌+◌, ◌-◌, ◌<◌, ◌≤◌, true, [], All, OnOk, length};
-ghost use Rattle.cmb_words.specs.Holds.{AreSamples, Holds};
+ghost use Rattle.std.specs.Prelude.{◌≡◌, ℕ, ◌+◌, ◌-◌, ◌<◌, ◌≤◌, true, [], All, MatchOption, OnOk, length};
 ghost use Rattle.cmb_words.specs.Word.{level_at_place};
-ghost use Rattle.cmb_engine.specs.Inner.Cells.{cell_at, is_made, IsLawful, IsSteadyFrom};
+ghost use Rattle.cmb_engine.specs.Inner.Cells.{cell_at, is_made, IsLawful};
 ghost use Rattle.cmb_engine.specs.Inner.Circuits.{IsGroup};
-ghost use Rattle.cmb_engine.specs.Inner.Exports.{slots_of, AddsAhead, AreTakenBefore, HoldsAhead};
+ghost use Rattle.cmb_engine.specs.Inner.Exports.{moved_on, slots_of, AddsAhead, AreTakenBefore, HoldsAhead};
 ghost use Rattle.cmb_engine.specs.Inner.Windows.{HasWindow};
 ghost use Rattle.cmb_engine.specs.Inner.Words.{levels_of};
 
@@ -17,39 +16,34 @@ use cmb_netlist::MAX_NETS;
 use cmb_words::{Changed, Word, held};
 use std::alloc::AllocError;
 
-// The word of a flip-flop that held its level from a place on so far, as `held` gives it. Mostly its data have that
-// level too, as far back as samples were taken, and then nothing changes.
-#[inline]
-fn next_word(own: Word, input: Word, delay: u32, arrival: u32, period: u32, first: u32) -> Word
-    requires samples { AreSamples delay arrival period first }
-    requires steady { IsSteadyFrom (level_at_place own) first }
-    ensures { Holds (level_at_place own) (level_at_place input) (level_at_place result) delay arrival period first }
-{
-    if input.differs_from(own.everywhere(first - 1), first - delay) {
-        held(own, input, delay, arrival, period, first)
-    } else {
-        own
-    }
-}
-
-// The word that a flip-flop has so many ticks later, where samples arrive from a place on.
-fn word_ahead(cells: &Cells, words: &[Word], slot: usize, arrival: u32, ticks: u32) -> Word
+// The word that a flip-flop has so many ticks later, where samples arrive from a place on. There is none where it keeps
+// its level: mostly its data have that level too, as far back as these samples were taken.
+fn word_ahead(cells: &Cells, words: &[Word], slot: usize, arrival: u32, ticks: u32) -> Option<Word>
     requires nets { length cells.now ≡ length words.now }
     requires slot { slot < length words.now }
     requires lawful { IsLawful (length words.now) (64 - ticks) (cell_at cells.now slot) }
     requires some { 1 ≤ ticks }
     requires fits { ticks < 64 }
     requires arrival { 64 - ticks ≤ arrival }
-    ensures { HoldsAhead (levels_of words.now) (level_at_place result) ticks arrival slot (cell_at cells.now slot) }
+    ensures { MatchOption result
+        (HoldsAhead (levels_of words.now) (moved_on (levels_of words.now) ticks slot) ticks arrival slot
+        (cell_at cells.now slot))
+        (λ word. HoldsAhead (levels_of words.now) (level_at_place word) ticks arrival slot (cell_at cells.now slot)) }
 {
-    let own = words[slot].advanced(ticks);
-    match cells.flop(slot) {
-        Some((clock, pin)) => {
-            let input = words[pin.net as usize].advanced(ticks);
-            next_word(own, input, pin.delay, arrival, clock.period, 64 - ticks)
-        }
-        None => own,
+    let (clock, pin) = cells.flop(slot)?;
+    let own = words[slot];
+    let input = words[pin.net as usize];
+    if !input.differs_from(own.everywhere(63), (64 - pin.delay).min(63)) {
+        return None;
     }
+    Some(held(
+        own.advanced(ticks),
+        input.advanced(ticks),
+        pin.delay,
+        arrival,
+        clock.period,
+        64 - ticks,
+    ))
 }
 
 // Adds the flip-flops of a group that change in a window.
@@ -78,12 +72,13 @@ fn tell_group(
         return Ok(());
     }
     for slot in &group.flops {
-        let word = word_ahead(cells, words, *slot as usize, arrival, ticks);
-        if !word.is_steady_from(first) {
-            told.push(Changed {
-                net: *slot as u16,
-                word,
-            })?;
+        if let Some(word) = word_ahead(cells, words, *slot as usize, arrival, ticks) {
+            if !word.is_steady_from(first) {
+                told.push(Changed {
+                    net: *slot as u16,
+                    word,
+                })?;
+            }
         }
     }
     Ok(())

@@ -3,15 +3,16 @@ use Rattle.std.proofs.lemmas.List.{take_all}
 use Rattle.std.proofs.lemmas.List.Elements.{All-contains}
 use Rattle.cmb_words.specs.declared.changed.Changed.{Changed}
 use Rattle.cmb_words.specs.Word.{level_at_place}
-use Rattle.cmb_engine.specs.Inner.Cells.{IsLawful, cell_at}
-use Rattle.cmb_engine.specs.Inner.Circuits.{IsFlopOf}
-use Rattle.cmb_engine.specs.Inner.Exports.{AddsSlots}
+use Rattle.cmb_engine.specs.Inner.Cells.{IsLawful, IsSteadyFrom, cell_at}
+use Rattle.cmb_wave.specs.declared.level.Level.{Level}
+use Rattle.cmb_engine.specs.Inner.Circuits.{IsFlopOf, MeetsCells, Shows}
+use Rattle.cmb_engine.specs.Inner.Exports.{AddsSlots, HoldsAhead, moved_on}
 use Rattle.cmb_engine.specs.Inner.Words.{levels_of}
-use Rattle.cmb_engine.proofs.AheadFacts.{adds-all_still, adds-one, adds-still, slot-keeps, slot-still, slot-told}
+use Rattle.cmb_engine.proofs.AheadFacts.{adds-all_still, adds-one, adds-still, moved-steady, slot-keeps, slot-still, slot-told}
 use Rattle.cmb_engine.proofs.GroupFacts.{flop-inside, group-paced, none-arrives}
 use Rattle.cmb_engine.proofs.WindowFacts.{IsWindow}
 use Rattle.cmb_engine.proofs.ahead.tell_group.Goals as goal
-use Rattle.cmb_engine.proofs.ahead.tell_group.Goals.{then-not-is_steady_from+in_ok-push, else-not-is_steady_from}
+use Rattle.cmb_engine.proofs.ahead.tell_group.Goals.{in-Some+then-not-is_steady_from+in_ok-push, in-Some+else-not-is_steady_from, in_default}
 
 pub first_arrival-arrival-requires-clause-clock : goal.first_arrival-arrival-requires-clause-clock
 first_arrival-arrival-requires-clause-clock c =
@@ -42,22 +43,22 @@ returns-then-arrival-ge64 c = λ trace meets shows.
 pub loop-slot-preserved : goal.loop-slot-preserved
 loop-slot-preserved c = λ trace meets shows.
     let so_far : AddsSlots trace (take c.loop-slot.slot-index slots) (c.args.to - c.args.ticks) c.args.to c.args.told.now.items c.loop-slot.told.items = c.loop-slot.invariant trace meets shows in
-    elim c.if-not-is_steady_from.branch [
-      | then-not-is_steady_from+in_ok-push w ↦
+    elim c.match-word_ahead.branch [
+      | in-Some+then-not-is_steady_from+in_ok-push w ↦
           subst (λ (told : List Changed). AddsSlots trace (take (c.loop-slot.slot-index + 1) slots) (c.args.to - c.args.ticks) c.args.to c.args.told.now.items told) (sym (ap (λ (told : Vec Changed Global). told.items) w.told-is ∙ w.in_ok-push.ensures.items))
           (adds-one trace (c.args.to - c.args.ticks) c.args.to slots c.loop-slot.slot-index 0 c.args.told.now.items c.loop-slot.told.items
-          (record { net = slot; word = c.word_ahead-word.result }) c.loop-slot-test.true refl
+          (record { net = slot; word = w.in-Some.word }) c.loop-slot-test.true refl
           (slot-told trace (levels_of c.args.words.now) c.args.cells.now (length c.args.words.now) (c.args.to - c.args.ticks) c.args.ticks c.args.to (64 - c.args.ticks) meets shows
           window c.args.group.now.clock c.args.group.now.delay c.requires.taken slot c.first_arrival-arrival.result flop inside (c.requires.lawful slot inside)
-          c.first_arrival-arrival.ensures.arrives (level_at_place c.word_ahead-word.result) c.word_ahead-word.ensures c.word_ahead-word.result (λ place. refl) _ refl)
+          c.first_arrival-arrival.ensures.arrives (level_at_place w.in-Some.word) w.in-Some.ensures w.in-Some.word (λ place. refl) _ refl)
           so_far)
-      | else-not-is_steady_from w ↦
+      | in-Some+else-not-is_steady_from w ↦
           subst (λ (told : List Changed). AddsSlots trace (take (c.loop-slot.slot-index + 1) slots) (c.args.to - c.args.ticks) c.args.to c.args.told.now.items told) (sym (ap (λ (told : Vec Changed Global). told.items) w.told-is))
-          (adds-still trace (c.args.to - c.args.ticks) c.args.to slots c.loop-slot.slot-index 0 c.args.told.now.items c.loop-slot.told.items c.loop-slot-test.true
-          (slot-still trace (levels_of c.args.words.now) c.args.cells.now (length c.args.words.now) (c.args.to - c.args.ticks) c.args.ticks c.args.to (64 - c.args.ticks) meets shows
-          window c.args.group.now.clock c.args.group.now.delay c.requires.taken slot c.first_arrival-arrival.result flop inside (c.requires.lawful slot inside)
-          c.first_arrival-arrival.ensures.arrives (level_at_place c.word_ahead-word.result) c.word_ahead-word.ensures (c.is_steady_from.ensures.steady w.if-not-is_steady_from.false))
-          so_far)
+          (stays trace meets shows so_far (level_at_place w.in-Some.word) w.in-Some.ensures (w.is_steady_from.ensures.steady w.if-not-is_steady_from.false))
+      | in_default w ↦
+          subst (λ (told : List Changed). AddsSlots trace (take (c.loop-slot.slot-index + 1) slots) (c.args.to - c.args.ticks) c.args.to c.args.told.now.items told) (sym (ap (λ (told : Vec Changed Global). told.items) w.told-is))
+          (stays trace meets shows so_far (moved_on (levels_of c.args.words.now) c.args.ticks slot) w.in_default.ensures
+          (moved-steady (levels_of c.args.words.now) c.args.ticks slot c.requires.window.1))
     ]
   where
     slots : List ℕ
@@ -75,6 +76,19 @@ loop-slot-preserved c = λ trace meets shows.
 
     inside : slot < length c.args.words.now
     inside = omega (arith, flop-inside c.args.cells.now slot c.args.group.now.clock c.args.group.now.delay flop, c.requires.nets)
+
+    -- a flip-flop that keeps its level tells nothing
+    stays : (trace : ℕ → ℕ → Level) → MeetsCells trace (cell_at c.args.cells.now) → Shows (levels_of c.args.words.now) trace (length c.args.words.now) (c.args.to - c.args.ticks)
+        → AddsSlots trace (take c.loop-slot.slot-index slots) (c.args.to - c.args.ticks) c.args.to c.args.told.now.items c.loop-slot.told.items
+        → (held : ℕ → Level) → HoldsAhead (levels_of c.args.words.now) held c.args.ticks c.first_arrival-arrival.result slot (cell_at c.args.cells.now slot)
+        → IsSteadyFrom held (64 - c.args.ticks)
+        → AddsSlots trace (take (c.loop-slot.slot-index + 1) slots) (c.args.to - c.args.ticks) c.args.to c.args.told.now.items c.loop-slot.told.items
+    stays trace meets shows so_far held holds steady =
+        adds-still trace (c.args.to - c.args.ticks) c.args.to slots c.loop-slot.slot-index 0 c.args.told.now.items c.loop-slot.told.items c.loop-slot-test.true
+        (slot-still trace (levels_of c.args.words.now) c.args.cells.now (length c.args.words.now) (c.args.to - c.args.ticks) c.args.ticks c.args.to (64 - c.args.ticks) meets shows
+        window c.args.group.now.clock c.args.group.now.delay c.requires.taken slot c.first_arrival-arrival.result flop inside (c.requires.lawful slot inside)
+        c.first_arrival-arrival.ensures.arrives held holds steady)
+        so_far
 
 pub returns : goal.returns
 returns c = λ trace meets shows.

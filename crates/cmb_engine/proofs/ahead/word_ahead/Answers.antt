@@ -1,15 +1,30 @@
-use Rattle.std.proofs.Common.{◌-◌, sym, subst, length}
+use Rattle.std.proofs.Common.{ℕ, ◌-◌, ◌≤◌, length, sym, subst, ◌∙◌, arith}
 use Rattle.cmb_words.specs.Word.{level_at_place}
 use Rattle.cmb_engine.specs.Inner.Cells.{Cell, Flop, IsLawful}
-use Rattle.cmb_engine.specs.Inner.Exports.{HoldsAhead}
+use Rattle.cmb_engine.specs.Inner.Exports.{moved_on, HoldsAhead}
 use Rattle.cmb_engine.specs.Inner.Words.{levels_of}
-use Rattle.cmb_engine.proofs.AheadFacts.{moved-held}
+use Rattle.cmb_engine.proofs.AheadFacts.{moved-held, moved-rests}
+use Rattle.cmb_engine.proofs.WordFacts.{levels_of-read}
 use Rattle.cmb_engine.proofs.ahead.word_ahead.Goals as goal
 
-pub returns-in-Some : goal.returns-in-Some
-returns-in-Some c =
-    let lawful : IsLawful (length c.args.words.now) (64 - c.args.ticks) (Flop c.in-Some.clock c.in-Some.pin) =
-    subst (λ (cell : Cell). IsLawful (length c.args.words.now) (64 - c.args.ticks) cell) c.in-Some.ensures c.requires.lawful in
-    subst (λ (cell : Cell). HoldsAhead (levels_of c.args.words.now) (level_at_place c.next_word.result) c.args.ticks c.args.arrival c.args.slot cell) (sym c.in-Some.ensures)
-    (moved-held c.args.words.now c.advanced-own.result c.advanced-input.result c.args.slot c.args.ticks c.args.arrival c.in-Some.clock c.in-Some.pin c.index-words-slot.result c.index-words-pin.result
-    (level_at_place c.next_word.result) c.requires.some c.requires.fits c.requires.slot c.index-words-slot.is lawful.1 c.index-words-pin.is c.advanced-own.ensures c.advanced-input.ensures c.next_word.ensures)
+pub returns-then-not-differs_from : goal.returns-then-not-differs_from
+returns-then-not-differs_from c =
+    subst (λ (cell : Cell). HoldsAhead (levels_of c.args.words.now) (moved_on (levels_of c.args.words.now) c.args.ticks c.args.slot) c.args.ticks c.args.arrival c.args.slot cell)
+    (sym c.in_ok-clock.ensures)
+    (moved-rests (levels_of c.args.words.now) c.args.slot c.args.ticks c.args.arrival c.in_ok-clock.clock c.in_ok-clock.pin c.requires.some c.requires.fits lawful.2 c.requires.arrival lawful.0.1
+    (λ place late small.
+    levels_of-read c.args.words.now c.in_ok-clock.pin.net c.index-words-pin.result place lawful.1 c.index-words-pin.is
+    ∙ c.differs_from.ensures.same c.if-not-differs_from.true place (omega (arith, late, c.min.ensures)) small
+    ∙ c.everywhere.ensures place small
+    ∙ sym (levels_of-read c.args.words.now c.args.slot c.index-words-slot.result 63 c.requires.slot c.index-words-slot.is)))
+  where
+    lawful : IsLawful (length c.args.words.now) (64 - c.args.ticks) (Flop c.in_ok-clock.clock c.in_ok-clock.pin)
+    lawful = subst (λ (cell : Cell). IsLawful (length c.args.words.now) (64 - c.args.ticks) cell) c.in_ok-clock.ensures c.requires.lawful
+
+pub returns : goal.returns
+returns c =
+    let lawful : IsLawful (length c.args.words.now) (64 - c.args.ticks) (Flop c.in_ok-clock.clock c.in_ok-clock.pin) =
+    subst (λ (cell : Cell). IsLawful (length c.args.words.now) (64 - c.args.ticks) cell) c.in_ok-clock.ensures c.requires.lawful in
+    subst (λ (cell : Cell). HoldsAhead (levels_of c.args.words.now) (level_at_place c.held.result) c.args.ticks c.args.arrival c.args.slot cell) (sym c.in_ok-clock.ensures)
+    (moved-held c.args.words.now c.advanced.result c.advanced-2.result c.args.slot c.args.ticks c.args.arrival c.in_ok-clock.clock c.in_ok-clock.pin c.index-words-slot.result c.index-words-pin.result
+    (level_at_place c.held.result) c.requires.some c.requires.fits c.requires.slot c.index-words-slot.is lawful.1 c.index-words-pin.is c.advanced.ensures c.advanced-2.ensures c.held.ensures)
