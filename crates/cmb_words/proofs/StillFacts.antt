@@ -13,6 +13,7 @@ still-ticks level from upto still tick late below = go (cases_lt tick from) ∙ 
   where
     held : (t : ℕ) → from ≤ t → t < upto → level_before level from ≡ level t
     held t a b = ap (λ changes. level_at (level_before level from) changes t) (sym still) ∙ level_at-changes_between level from upto t a b
+
     go : (tick < from) ⊎ (from ≤ tick) → level tick ≡ level_before level from
     go (inl l) = ap (level_before level) (let e : suc tick ≡ from = omega (arith, l, late) in e)
     go (inr l) = sym (held tick l (omega (arith, below)))
@@ -47,6 +48,7 @@ still-agrees f g from upto same still = go (cases_lt from upto)
     before : (tick : ℕ) → from ≡ tick → from < upto → level_before f tick ≡ level_before g tick
     before zero e l = refl
     before (suc tick) e l = same tick (omega (arith, e)) (omega (arith, e, l))
+
     go : (from < upto) ⊎ (upto ≤ from) → IsStill g from upto
     go (inl l) = sym (changes_between-agree f g from upto (before from refl l) (λ tick late below. same tick (omega (arith, late)) below)) ∙ still
     go (inr l) = still-empty g from upto l
