@@ -2,6 +2,7 @@ pub mod Below
 pub mod Clocks
 pub mod Counting
 pub mod DriverKinds
+pub mod Inner
 pub mod Largest
 pub mod Loops
 pub mod Texts
