@@ -5,5 +5,6 @@ pub mod DriverKinds
 pub mod Inner
 pub mod Largest
 pub mod Loops
+pub mod Paths
 pub mod Texts
 pub mod Unused

@@ -11,6 +11,13 @@ use cmb_design::{Clock, Design};
 use std::alloc::{AllocError, Global};
 use std::collections::BTreeSet;
 
+/// Whether two clocks have the same ticks.
+pub(crate) fn is_same(one: Clock, other: Clock) -> bool
+    ensures { result ≡ same_clock one other }
+{
+    one.first == other.first && one.period == other.period
+}
+
 // Adds a clock, unless it is there.
 fn note_clock(clocks: &mut BTreeSet<(u32, u32)>, clock: Clock) -> Result<(), AllocError>
     ensures found { OnOk result ((other : AnyClock) → has_clock clocks.new other
