@@ -1,5 +1,5 @@
 //! What a design is made of, in numbers: nets by their drivers, inputs that nothing drives, feedback loops, the
-//! largest delay, clocks and rows.
+//! largest delay, the longest path, clocks and rows.
 #![tactic(auto)]
 
 mod arrivals;
