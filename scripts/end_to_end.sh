@@ -61,6 +61,7 @@ inverter_counts='       2  nets
        0  nets in loops of gates alone
        0  nets that drive nothing and are no outputs
        1  ticks in the largest delay
+       1  ticks in the longest path
        0  different clocks of flip-flops
        0  rows of delays
        0  rows of stimuli

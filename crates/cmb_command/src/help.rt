@@ -51,7 +51,8 @@ Reads what run would simulate, and counts its nets, gates, flip-flops, clocks an
 It has the faults and statuses of run. It prints how many nets, inputs, gates of each kind and
 flip-flops there are; how many inputs are x at all ticks, and flip-flops never sample; how many nets
 are in feedback loops, and in loops of gates alone; how many drive nothing and are no outputs; the
-largest delay; how many different clocks flip-flops sample by; and how many rows each table has.";
+largest delay and the longest path; how many different clocks flip-flops sample by; and how many
+rows each table has.";
 
 pub const EXPLAIN_FAULT: &str = "\
 Says a fault in words too, with its file and its line or record

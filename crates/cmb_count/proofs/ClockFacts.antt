@@ -1,9 +1,9 @@
 -- The clocks of the first flip-flops.
-use Rattle.std.proofs.Common.{◌≡◌, ◌∙◌, ◌||◌, ◌++◌, ℕ, ◌+◌, Bool, true, false, List, [], ◌∷◌, add-one, ap, sym, refl, arith}
-use Rattle.std.specs.List.{list_any}
-use Rattle.std.specs.Prelude.{if◌then◌else◌}
-use Rattle.std.proofs.lemmas.Bool.{and_parts, eqb-true}
-use Rattle.std.proofs.lemmas.List.Folds.{list_any-append}
+use Rattle.std.proofs.Common.{◌≡◌, ◌∙◌, ◌||◌, ℕ, ◌+◌, Bool, true, false, cond, add-one, ap, sym, refl, arith}
+use Rattle.std.specs.Cmp.{both_tied, unsigned_ties}
+use Rattle.std.specs.Ordering.{is_eq, nat_cmp}
+use Rattle.std.specs.Prelude.{◌==◌, ◌&&◌, if◌then◌else◌}
+use Rattle.std.proofs.lemmas.Bool.{eq-eqb, eqb-false, eqb-true, ne_eqb}
 use Rattle.cmb_netlist.specs.Netlist.{driver_of}
 use Rattle.cmb_design.specs.Design.{Design}
 use Rattle.cmb_design.specs.Nets.{is_flop}
@@ -12,43 +12,37 @@ use Rattle.cmb_design.specs.Timing.{clock_of}
 use Rattle.cmb_design.specs.declared.rows.Clock.{Clock}
 use Rattle.cmb_count.specs.Below.{count_below}
 use Rattle.cmb_count.specs.Clocks.{is_clocked_by, is_first_clocked, same_clock}
+use Rattle.cmb_count.specs.Inner.ClockSets.{pair_cmp}
 use Rattle.cmb_count.proofs.BelowFacts.{count_below-fail, count_below_next}
 
 or_same : (a : Bool) → a ≡ (a || false)
 or_same true = refl
 or_same false = refl
 
-or_is_true : (a : Bool) → (a || true) ≡ true
-or_is_true true = refl
-or_is_true false = refl
+-- clocks are the same whose pairs the order doesn't tell apart
+tied : (one other : Clock) → same_clock one other ≡ is_eq (pair_cmp (one.first, one.period) (other.first, other.period))
+tied one other = both_tied _ _ (nat_cmp one.first other.first) (nat_cmp one.period other.period) (unsigned_ties one.first other.first) (unsigned_ties one.period other.period)
 
-abbrev of_ticks : ℕ → ℕ → Clock
-of_ticks first period = record { first = first; period = period }
-
-same_is : (one other : Clock) → same_clock one other ≡ true → one ≡ other
-same_is one other same =
-    let first : one.first ≡ other.first = eqb-true one.first other.first (and_parts _ _ same).0 in
-    let period : one.period ≡ other.period = eqb-true one.period other.period (and_parts _ _ same).1 in
-    ap (λ n. of_ticks n one.period) first ∙ ap (of_ticks other.first) period
-
-any_same : (clocks : List Clock) (one other : Clock) → same_clock one other ≡ true → list_any (same_clock one) clocks ≡ list_any (same_clock other) clocks
-any_same clocks one other same = ap (λ (clock : Clock). list_any (same_clock clock) clocks) (same_is one other same)
-
--- a clock that is there needn't come once more
-pub found_again : (clocks : List Clock) (clock : Clock) → list_any (same_clock clock) clocks ≡ true
-    → (other : Clock) → list_any (same_clock other) clocks ≡ (list_any (same_clock other) clocks || same_clock other clock)
-found_again clocks clock there other = by (same_clock other clock) refl
+eqb-sym : (a b : ℕ) → (a == b) ≡ (b == a)
+eqb-sym a b = by (a == b) refl
   where
-    by : (b : Bool) → same_clock other clock ≡ b → list_any (same_clock other) clocks ≡ (list_any (same_clock other) clocks || same_clock other clock)
-    by true e =
-        let yes : list_any (same_clock other) clocks ≡ true = any_same clocks other clock e ∙ there in
-        rw (yes) refl
-    by false e = or_same (list_any (same_clock other) clocks) ∙ ap (λ b. list_any (same_clock other) clocks || b) (sym e)
+    by : (t : Bool) → (a == b) ≡ t → (a == b) ≡ (b == a)
+    by true e = e ∙ sym (eq-eqb b a (sym (eqb-true a b e)))
+    by false e = e ∙ sym (ne_eqb b a (λ same. eqb-false a b e (sym same)))
 
--- one that isn't comes behind the others
-pub found_more : (clocks : List Clock) (clock : Clock)
-    → (other : Clock) → list_any (same_clock other) (clocks ++ clock ∷ []) ≡ (list_any (same_clock other) clocks || same_clock other clock)
-found_more clocks clock other = list_any-append (same_clock other) clocks (clock ∷ []) ∙ ap (λ b. list_any (same_clock other) clocks || b) (sym (or_same (same_clock other clock)))
+same_sym : (one other : Clock) → same_clock one other ≡ same_clock other one
+same_sym one other = ap (λ b. b && (one.period == other.period)) (eqb-sym one.first other.first) ∙ ap (λ b. (other.first == one.first) && b) (eqb-sym one.period other.period)
+
+or_cond : (a b : Bool) → cond a true b ≡ (b || a)
+or_cond true true = refl
+or_cond true false = refl
+or_cond false true = refl
+or_cond false false = refl
+
+-- what a set has after a clock was put into it
+pub noted : (b new : Bool) (clock other : Clock) → new ≡ cond (is_eq (pair_cmp (clock.first, clock.period) (other.first, other.period))) true b
+    → new ≡ (b || same_clock other clock)
+noted b new clock other is = is ∙ ap (λ t. cond t true b) (sym (tied clock other) ∙ same_sym clock other) ∙ or_cond (same_clock other clock) b
 
 -- a net that is no flip-flop has no clock
 pub passed : (design : Design) (net : ℕ) (clock : Clock) (b : Bool) → is_flop (driver_of design.netlist net) ≡ false
@@ -80,6 +74,6 @@ met_count design net n false flop old is =
     let f : count_below (is_first_clocked design) (net + 1) ≡ count_below (is_first_clocked design) net + 1 = rw passes at e in omega (arith, f, is)
 
 -- below net 0 there is none
-pub none_before : (design : Design) (clock : Clock) → list_any (same_clock clock) [] ≡ any_below (is_clocked_by design clock) 0
+pub none_before : (design : Design) (clock : Clock) → false ≡ any_below (is_clocked_by design clock) 0
 unfolding any_below
 none_before design clock = refl

@@ -8,10 +8,12 @@ use Rattle.cmb_count.specs.Clocks.{clock_count}
 use Rattle.cmb_count.specs.Largest.{IsLargestDelay}
 use Rattle.cmb_count.specs.Loops.{IsLoopCount}
 use Rattle.cmb_count.specs.DriverKinds.{kind_count, silent_count, still_count}
+use Rattle.cmb_count.specs.Paths.{IsLongest}
 use Rattle.cmb_count.specs.Unused.{unused_count}
 use Rattle.cmb_count.specs.declared.counts.Counts.{Counts}
 use Rattle.cmb_count.specs.declared.counts.GateCounts.{GateCounts}
 use Rattle.cmb_count.specs.declared.drivers.DriverKind.TheVariants.{Inputs, Gates, Flops}
+use Rattle.cmb_count.specs.declared.paths.Between.TheVariants.{All}
 
 -- the gates of each kind
 pub record AreGateCounts (netlist : Netlist) (gates : GateCounts) : Type 0 where
@@ -35,6 +37,7 @@ pub record AreCounts (design : Design) (counts : Counts) : Type 0 where
   pub in_gate_loops : IsLoopCount design.netlist steps.Gates counts.in_gate_loops
   pub unused : counts.unused ≡ unused_count design.netlist
   pub largest_delay : IsLargestDelay design counts.largest_delay
+  pub longest : IsLongest design All counts.longest
   pub clocks : counts.clocks ≡ clock_count design
   pub delay_rows : counts.delay_rows ≡ length design.delays
   pub stimulus_rows : counts.stimulus_rows ≡ length design.stimuli

@@ -2,7 +2,9 @@ pub mod Below
 pub mod Clocks
 pub mod Counting
 pub mod DriverKinds
+pub mod Inner
 pub mod Largest
 pub mod Loops
+pub mod Paths
 pub mod Texts
 pub mod Unused

@@ -4,6 +4,8 @@ use Rattle.std.specs.Fmt.{format_spec, styled_decimal}
 use Rattle.std.specs.List.{flat_map}
 use Rattle.cmb_count.specs.declared.counts.Counts.{Counts}
 use Rattle.cmb_count.specs.declared.counts.GateCounts.{GateCounts}
+use Rattle.cmb_count.specs.declared.paths.Longest.{Longest}
+use Rattle.cmb_count.specs.declared.paths.Longest.TheVariants.{NoPath, Path, Unbounded}
 
 -- a number at the right of eight columns, and what it counts
 abbrev pub row : ℕ → List ℕ → List ℕ
@@ -49,8 +51,14 @@ other_rows counts = rows (
     ∷ (counts.largest_delay, codes "ticks in the largest delay")
     ∷ [])
 
+-- where gates form a loop on a path, no path is the longest
+abbrev pub longest_row : Longest → List ℕ
+longest_row NoPath = row 0 (codes "ticks in the longest path: there is none")
+longest_row (Path net ticks) = row ticks (codes "ticks in the longest path")
+longest_row Unbounded = codes "     inf  ticks in the longest path: gates form a loop on it\n"
+
 abbrev pub net_rows : Counts → List ℕ
-net_rows counts = input_rows counts ++ (gate_rows counts.gates ++ other_rows counts)
+net_rows counts = input_rows counts ++ (gate_rows counts.gates ++ (other_rows counts ++ longest_row counts.longest))
 
 abbrev pub counts_rows : Counts → List ℕ
 counts_rows counts = net_rows counts ++ table_rows counts

@@ -7,6 +7,7 @@ use crate::clocks::count_clocks;
 use crate::drivers::{DriverKind, count_drivers, count_silent, count_still};
 use crate::largest::largest_delay;
 use crate::loops::count_loops;
+use crate::paths::{Between, Longest, longest_path};
 use crate::unused::count_unused;
 use cmb_design::Design;
 use cmb_loops::Steps;
@@ -46,6 +47,8 @@ pub struct Counts {
     pub unused: usize,
     /// The largest delay of a pin, in ticks; 0 where there are no pins.
     pub largest_delay: u32,
+    /// The longest path from inputs and flip-flops through gates.
+    pub longest: Longest,
     /// The different clocks of flip-flops.
     pub clocks: usize,
     /// The rows of the table of delays, without its header.
@@ -87,6 +90,7 @@ pub fn count_design(alloc: Global, design: &Design) -> Result<Counts, AllocError
         in_gate_loops: count_loops(alloc, netlist, Steps::Gates)?,
         unused: count_unused(alloc, netlist)?,
         largest_delay: largest_delay(design),
+        longest: longest_path(alloc, design, Between::All)?,
         clocks: count_clocks(alloc, design)?,
         delay_rows: design.delay_rows(),
         stimulus_rows: design.stimulus_rows(),

@@ -2,9 +2,10 @@
 
 ghost use Rattle.std.specs.Prelude.{◌≡◌, ◌++◌, IfOk, OnOk, string_bytes};
 ghost use Rattle.std.specs.List.{flat_map};
-ghost use Rattle.cmb_count.specs.Texts.{counts_rows, gate_rows, net_rows, row, table_rows};
+ghost use Rattle.cmb_count.specs.Texts.{counts_rows, gate_rows, longest_row, net_rows, row, table_rows};
 
 use crate::counts::{Counts, GateCounts};
+use crate::paths::Longest;
 use std::alloc::{AllocError, Global};
 
 // Rows, each of a number and what it counts.
@@ -50,6 +51,20 @@ fn push_tables(text: &mut String, counts: &Counts) -> Result<(), AllocError>
     )
 }
 
+fn push_longest(text: &mut String, longest: Longest) -> Result<(), AllocError>
+    ensures { OnOk result (string_bytes text.new ≡ string_bytes text.old ++ longest_row longest) }
+{
+    match longest {
+        Longest::NoPath => push_rows(text, &[(0, "ticks in the longest path: there is none")]),
+        Longest::Path { ticks, .. } => {
+            push_rows(text, &[(ticks as usize, "ticks in the longest path")])
+        }
+        Longest::Unbounded => {
+            text.push_str("     inf  ticks in the longest path: gates form a loop on it\n")
+        }
+    }
+}
+
 fn push_nets(text: &mut String, counts: &Counts) -> Result<(), AllocError>
     ensures { OnOk result (string_bytes text.new ≡ string_bytes text.old ++ net_rows counts.now) }
 {
@@ -72,7 +87,8 @@ fn push_nets(text: &mut String, counts: &Counts) -> Result<(), AllocError>
             (counts.unused, "nets that drive nothing and are no outputs"),
             (counts.largest_delay as usize, "ticks in the largest delay"),
         ],
-    )
+    )?;
+    push_longest(text, counts.longest)
 }
 
 /// The counts as a text, each on a line of its own.

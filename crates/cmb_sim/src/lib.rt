@@ -15,7 +15,7 @@ mod tuning;
 pub use activities::measure;
 pub use carrying::carry_out;
 pub use cmb_bench::{BenchFault, FaultKind};
-pub use cmb_count::{Counts, counts_text};
+pub use cmb_count::{Counts, Longest, counts_text};
 pub use cmb_design::{DesignFault, Settings};
 pub use cmb_inout::{
     Comparison, Done, Fault, FromBytes, FromReader, ReadFault, Report, Source, fault_line,

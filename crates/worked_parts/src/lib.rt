@@ -28,6 +28,8 @@ mod partitions;
 #[cfg(test)]
 mod parts;
 #[cfg(test)]
+mod paths;
+#[cfg(test)]
 mod shares;
 #[cfg(test)]
 mod texts;

@@ -46,7 +46,8 @@ fn counts(rt: HostRuntime) -> Result<(), Fail> {
         "       1  flip-flops\n       0  flip-flops that never sample\n",
         "       4  nets in feedback loops\n       0  nets in loops of gates alone\n",
         "       1  nets that drive nothing and are no outputs\n",
-        "       7  ticks in the largest delay\n       1  different clocks of flip-flops\n",
+        "       7  ticks in the largest delay\n      14  ticks in the longest path\n",
+        "       1  different clocks of flip-flops\n",
         "       2  rows of delays\n       2  rows of stimuli\n       0  rows of clocks\n",
     ] {
         same(&rt, (row, text.as_str().contains(row)), (row, true));

@@ -1,7 +1,11 @@
-use Rattle.std.proofs.Common.{◌≡◌, ◌∙◌, ap, refl, sym}
+use Rattle.std.proofs.Common.{◌≡◌, ◌∙◌, ap, sym}
 use Rattle.cmb_netlist.specs.Netlist.{Netlist, driver_of}
 use Rattle.cmb_design.specs.Nets.{is_flop}
 use Rattle.cmb_design.specs.Timing.{clock_of}
+use Rattle.std.specs.List.{list_any}
+use Rattle.std.specs.BTreeMap.{is_at}
+use Rattle.cmb_count.specs.Clocks.{is_first_clocked}
+use Rattle.cmb_count.specs.Inner.ClockSets.{pair_cmp}
 use Rattle.cmb_count.proofs.ClockFacts.{met, met_count, none_before, passed, passed_count}
 use Rattle.cmb_count.proofs.BelowFacts.{count_below_none}
 use Rattle.cmb_count.proofs.clocks.count_clocks.Goals.{then-has_kind+in_ok-note_clock, else-has_kind}
@@ -9,8 +13,8 @@ use Rattle.cmb_count.proofs.clocks.count_clocks.Goals as goal
 
 pub loop-net-init : goal.loop-net-init
 loop-net-init c = record {
-  count = rw (c.new-clocks.ensures.items, count_below_none) refl;
-  found = λ clock. rw (c.new-clocks.ensures.items) (none_before c.args.design.now clock);
+  count = c.new-clocks.ensures.len ∙ sym (count_below_none (is_first_clocked c.args.design.now));
+  found = λ clock. ap (list_any (is_at (pair_cmp (clock.first, clock.period)))) c.new-clocks.ensures.empty ∙ none_before c.args.design.now clock;
 }
 
 pub loop-net-preserved : goal.loop-net-preserved

@@ -22,6 +22,7 @@ returns c =
       in_gate_loops = subst (λ (netlist : Netlist). IsLoopCount netlist steps.Gates c.in_ok-count_loops-2.field-0) same c.in_ok-count_loops-2.ensures;
       unused = c.in_ok-count_unused.ensures ∙ ap unused_count same;
       largest_delay = c.largest_delay.ensures;
+      longest = c.in_ok-longest_path.ensures;
       clocks = c.in_ok-count_clocks.ensures;
       delay_rows = c.delay_rows.ensures;
       stimulus_rows = c.stimulus_rows.ensures;
