@@ -8,6 +8,7 @@ use Rattle.cmb_design.specs.Value.{value}
 use Rattle.cmb_engine.specs.Shares.{IsDriven, TellsThose}
 use Rattle.cmb_words.specs.Changes.{IsStill, RisesWithin, TellsNet, is_among}
 use Rattle.cmb_words.specs.declared.changed.Changed.{Changed}
+use Rattle.cmb_words.proofs.StillFacts.{still-empty}
 use Rattle.cmb_shares.specs.declared.simulator.Simulator.{Simulator}
 use Rattle.cmb_shares.specs.Inner.Messages.{AreTold}
 use Rattle.cmb_shares.specs.Inner.Runs.{IsRun, Owns, Reads, Run, driven_by}
@@ -109,3 +110,14 @@ told-fed run s reader from upto told is within only tells =
     (λ one there own. tells.words one there (All-contains (λ (c : Changed). Contains s.engine.exports c.net) told one only there))
     (λ net own reads none. tells.others net ((is.exports net).1 (is.lawful.owned s.number net is.number own, is.lawful.known reader net within (reads within))) none)
     (λ text. absurd (omega (arith, text, within)))
+
+-- of no tick nothing is told
+pub told-nothing : (run : Run) (sender reader tick : ℕ) (changes : List Changed) → changes ≡ [] → AreTold run sender reader tick tick changes
+told-nothing run sender reader tick changes none =
+    subst (AreTold run sender reader tick tick) (sym none)
+    (record {
+      rises = λ text. tt;
+      among = λ k d small. absurd (omega (arith, small));
+      words = λ k d small. absurd (omega (arith, small));
+      others = λ net owned read missing. still-empty (value run.design net) tick tick (omega arith);
+    })
