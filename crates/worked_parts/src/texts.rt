@@ -5,8 +5,7 @@ ghost use Rattle.cmb_design.specs.Exact.{nets_of};
 
 use crate::checks::holds;
 use crate::parts::{part_alone, two_parts};
-use cmb_choice::chosen_text;
-use cmb_choice::text::part_of;
+use cmb_choice::{chosen_text, part_of};
 use cmb_design::Design;
 use std::alloc::Global;
 use std::process::Abort;
