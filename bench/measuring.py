@@ -187,7 +187,7 @@ def words_of(folder):
     """The words of the program's line for a circuit, and its netlist."""
     with open(os.path.join(folder, "options")) as file:
         words = ["run"] + file.read().split()
-    for table in ("delays", "stimuli", "clocks"):
+    for table in ("delays", "stimuli", "clocks", "initial"):
         path = os.path.join(folder, table + ".csv")
         if os.path.exists(path):
             words += ["--" + table, path]

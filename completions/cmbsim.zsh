@@ -26,7 +26,7 @@ _cmbsim() {
         '21:the common clock'\''s first tick is above 1,000,000, or its period isn'\''t 1 to 1,000,000'
         '22:a flip-flop has no clock row, and there is no common clock'
         '23:not the table'\''s header'
-        '24:not three fields'
+        '24:not as many fields as the header'
         '25:a number is 1 to 10 digits'
         '26:the netlist hasn'\''t this net'
         '27:no such kind'
@@ -66,7 +66,9 @@ _cmbsim() {
                         '--delays[Table of delays in ticks; a pin without a row has a delay of 1]:FILE:_files' \
                         '--stimuli[Table of the levels of inputs; an input is x before its first row]:FILE:_files' \
                         '--clocks[Table of when single flip-flops sample, in the place of --clock]:FILE:_files' \
+                        '--initial[Table of the first levels of single flip-flops, in the place of --init]:FILE:_files' \
                         '--explain[Says a fault in words too, with its file and its line or record]' \
+                        '--no-explain[Says a fault by its one line alone, on a terminal too]' \
                         '--mode[How the text is made, and when it is written]:MODE:(rounds free plain)' \
                         '--threads[Threads that share the work as it pays, 1 to 64]:N: ' \
                         '--workers[Or, in a short run\: workers with nets of their own, 1 to 64]:W: ' \
@@ -85,7 +87,9 @@ _cmbsim() {
                         '--delays[Table of delays in ticks; a pin without a row has a delay of 1]:FILE:_files' \
                         '--stimuli[Table of the levels of inputs; an input is x before its first row]:FILE:_files' \
                         '--clocks[Table of when single flip-flops sample, in the place of --clock]:FILE:_files' \
+                        '--initial[Table of the first levels of single flip-flops, in the place of --init]:FILE:_files' \
                         '--explain[Says a fault in words too, with its file and its line or record]' \
+                        '--no-explain[Says a fault by its one line alone, on a terminal too]' \
                         '--mode[How the text is made, and when it is written]:MODE:(rounds free plain)' \
                         '--threads[Threads that share the work as it pays, 1 to 64]:N: ' \
                         '--workers[Or, in a short run\: workers with nets of their own, 1 to 64]:W: ' \
@@ -102,7 +106,9 @@ _cmbsim() {
                         '--delays[Table of delays in ticks; a pin without a row has a delay of 1]:FILE:_files' \
                         '--stimuli[Table of the levels of inputs; an input is x before its first row]:FILE:_files' \
                         '--clocks[Table of when single flip-flops sample, in the place of --clock]:FILE:_files' \
+                        '--initial[Table of the first levels of single flip-flops, in the place of --init]:FILE:_files' \
                         '--explain[Says a fault in words too, with its file and its line or record]' \
+                        '--no-explain[Says a fault by its one line alone, on a terminal too]' \
                         '--mode[How the text is made, and when it is written]:MODE:(rounds free plain)' \
                         '--threads[Threads that share the work as it pays, 1 to 64]:N: ' \
                         '--workers[Or, in a short run\: workers with nets of their own, 1 to 64]:W: ' \
@@ -118,7 +124,10 @@ _cmbsim() {
                         '--delays[Table of delays in ticks; a pin without a row has a delay of 1]:FILE:_files' \
                         '--stimuli[Table of the levels of inputs; an input is x before its first row]:FILE:_files' \
                         '--clocks[Table of when single flip-flops sample, in the place of --clock]:FILE:_files' \
+                        '--initial[Table of the first levels of single flip-flops, in the place of --init]:FILE:_files' \
                         '--explain[Says a fault in words too, with its file and its line or record]' \
+                        '--no-explain[Says a fault by its one line alone, on a terminal too]' \
+                        '--all[Names all that is counted, and not the first twenty alone]' \
                         '(- *)'{-h,--help}'[Print help (see more with '\''--help'\'')]'
                     ;;
                 explain) (( CURRENT == 2 )) && _describe -t faults fault faults ;;

@@ -22,7 +22,7 @@ _cmbsim() {{
     local current=${{COMP_WORDS[COMP_CWORD]}} before=${{COMP_WORDS[COMP_CWORD - 1]}} words=
     case $COMP_CWORD:$before in
         1:*) words="{commands} help {flags}" ;;
-        2:explain) words="{faults}" ;;
+        2:explain) words="{faults} {explaining}" ;;
         2:help) words="{commands}" ;;
 {values}
         {files})
@@ -47,7 +47,8 @@ def bash(whole, commands, faults):
     every = {it.name: it for command in commands for it in command.options if it.takes}.values()
     files = [it for it in every if it.takes == "FILE"]
     return f"# {HEAD.format('bash', 'bash-completion')}\n" + BASH.format(
-        commands=" ".join(it.name for it in commands), flags=flags_of(whole), faults=" ".join(number for number, _, _ in faults),
+        commands=" ".join(it.name for it in commands), flags=flags_of(whole),
+        explaining=" ".join(flags_of(it) for it in commands if it.name == "explain"), faults=" ".join(number for number, _, _ in faults),
         values="\n".join(f'        *:--{it.name}) words="{" ".join(it.values)}" ;;' for it in every if it.values),
         files=" | ".join(f"*:--{it.name}" for it in files),
         others=" | ".join(f"*:--{it.name}" for it in every if it not in files and not it.values),

@@ -20,7 +20,7 @@ declare -A statuses
 tables() { # tables NAME: each table of the example is a file of its own
     local folder=$examples/$1 table
     words=()
-    for table in delays stimuli clocks; do
+    for table in delays stimuli clocks initial; do
         if [ -f "$folder/$table.csv" ]; then
             words+=("--$table" "$1.$table.csv")
             data+=(--data "$1.$table.csv=$folder/$table.csv")
@@ -47,6 +47,7 @@ words_of() { # words_of CASE WORDS..: what the case is run with, a word a line
 inverter_counts='       2  nets
        1  inputs
        1  inputs that are x at all ticks
+       -  a
        0  gates AND
        0  gates NAND
        0  gates OR
@@ -62,10 +63,12 @@ inverter_counts='       2  nets
        0  nets that drive nothing and are no outputs
        1  ticks in the largest delay
        1  ticks in the longest path
+       -  y
        0  different clocks of flip-flops
        0  rows of delays
        0  rows of stimuli
        0  rows of clocks
+       0  rows of first levels
 '
 
 counted() { # counted NAME TEXT TASK WORDS..: the text is on standard output, of the netlist of the example
@@ -113,6 +116,7 @@ refused check_with_a_mode 2 check --horizon 10 --mode plain
 refused check_of_a_missing_file 1 check --horizon 10 --stimuli missing.csv
 refused check_of_a_netlist_as_a_table 1 check --horizon 10 --delays inverter.netlist.csv
 counted inverter "$inverter_counts" check --horizon 10
+refused run_that_names_all 2 run --horizon 10 --all
 counted inverter $'net,changes,low,high,unknown\na,0,0,0,10\ny,0,0,0,10\n' activity --horizon 10
 refused activity_with_stats 2 activity --horizon 10 --stats
 refused activity_with_progress 2 activity --horizon 10 --progress
@@ -199,6 +203,26 @@ as_expected() {
     fi
 }
 
+# turned NAME LINE WORDS..: with the level in this line of expected.csv turned, that row is told, and no other
+turned() {
+    local folder=$examples/$1 line=$2 table=$faulty/turned.csv options tick net level told status wanted
+    shift 2
+    read -r -a options <"$folder/options"
+    awk -F, -v OFS=, -v line="$line" 'NR == line {$3 = 1 - $3} 1' "$folder/expected.csv" >"$table"
+    told=$("$program" expect "${options[@]}" --stimuli "$folder/stimuli.csv" --expected "$table" "$@" <"$folder/netlist.bench" 2>"$table.said")
+    status=$?
+    IFS=, read -r tick net level < <(sed -n "${line}p" "$folder/expected.csv")
+    wanted="3 tick,net,expected,value
+$tick,$net,$((1 - level)),$level
+1 of $(($(wc -l <"$table") - 1)) rows differ"
+    if [ "$status $told"$'\n'"$(cat "$table.said")" = "$wanted" ]; then
+        passed=$((passed + 1))
+    else
+        failed=$((failed + 1))
+        echo "end to end: a turned row of $folder FAILED: $status $told $(cat "$table.said")"
+    fi
+}
+
 # looped NAME: how many nets are in loops is what a search of its own finds
 looped() {
     local netlist=$examples/$1/netlist.bench
@@ -243,7 +267,7 @@ told() {
 # told_of_table N P TABLE ROWS: the same of a table, whose header stands before the rows
 told_of_table() {
     local headers
-    declare -A headers=([delays]=by,name,delay [stimuli]=tick,net,value [clocks]=net,first,period)
+    declare -A headers=([delays]=by,name,delay [stimuli]=tick,net,value [clocks]=net,first,period [initial]=net,value)
     printf "${headers[$3]}\n$4\n" >"$faulty/$3.csv"
     told "$1" "$2" "$clocked" --clock 2:4 "--$3" "$3.csv"
 }
@@ -282,24 +306,30 @@ told_of_tables() { # the faults 23 to 32 and 34 to 37
         told 23 1 "$clocked" --clock 2:4 "--$table" header.csv
         told_of_table 24 2 "$table" 'y,1'
     done
+    told 23 1 "$clocked" --clock 2:4 --initial header.csv
+    told_of_table 24 2 initial 'y,1,0'
     told_of_table 25 2 delays 'net,y,3ns'
     told_of_table 25 2 stimuli '-1,a,0'
     told_of_table 25 2 clocks 'q,1,'
     told_of_table 26 3 delays 'net,y,3\nnet,Y,3'
     told_of_table 26 3 stimuli '1,a,0\n2,A,0'
     told_of_table 26 2 clocks 'Q,1,2'
+    told_of_table 26 2 initial 'Q,1'
     told_of_table 27 2 delays 'kind,MUX,3'
     told_of_table 28 2 delays 'net,y,0'
     told_of_table 29 3 delays 'net,y,2\nnet,y,3'
     told_of_table 29 3 stimuli '1,a,0\n1,a,1'
     told_of_table 29 3 clocks 'q,1,2\nq,1,3'
+    told_of_table 29 3 initial 'q,1\nq,1'
     told_of_table 30 2 stimuli '1,y,0'
     told_of_table 31 2 stimuli '1,a,z'
+    told_of_table 31 2 initial 'q,z'
     told_of_table 32 2 delays 'net,a,2'
     told_of_table 34 2 delays 'pin,y,2'
     told_of_table 35 2 delays 'pin,y:3,2'
     told_of_table 36 2 clocks 'q,1,0'
     told_of_table 37 2 clocks 'y,1,2'
+    told_of_table 37 2 initial 'y,1'
 }
 
 told_of_lists() { # the fault 38, and 60 and 61 of a list
@@ -317,9 +347,11 @@ told_of_the_machine() { # the faults 60, 61 and 70; 62 is that of a full disk
     told 60 2 "$clocked" --delays long.csv
     told 60 3 "$clocked" --stimuli long.csv
     told 60 4 "$clocked" --clocks long.csv
+    told 60 6 "$clocked" --initial long.csv
     told 61 2 "$clocked" --delays missing.csv
     told 61 3 "$clocked" --stimuli missing.csv
     told 61 4 "$clocked" --clocks .
+    told 61 6 "$clocked" --initial missing.csv
     said=$(cd "$faulty" && {
         "$program" run --horizon 10 <long.csv
         "$program" run --horizon 10 <&-
@@ -370,8 +402,11 @@ told_in_words() {
     printf 'by,name,delay\nnet,y,2\nnet,y,3\n' >"$faulty/delays.csv"
     in_words "delays.csv, line 3: an earlier row is about the same: net,y,3" "$clocked" --clock 2:4 --delays delays.csv
     printf 'net;first;period\n' >"$faulty/clocks.csv"
-    in_words "clocks.csv, line 1: not the table's header: net;first;period" "$clocked" --clock 2:4 --clocks clocks.csv
+    in_words "clocks.csv, line 1: not the table's header: net;first;period; it has to be net,first,period" "$clocked" --clock 2:4 --clocks clocks.csv
+    printf 'net,value\nq,0\ny,1\n' >"$faulty/initial.csv"
+    in_words "initial.csv, line 3: the net isn't driven by a flip-flop: y" "$clocked" --clock 2:4 --initial initial.csv
     in_words "nets, line 4: no net has this name: Y" "$clocked" --clock 2:4 --only nets
+    in_words '.: Is a directory (os error 21)' "$clocked" --clock 2:4 --stimuli .
     local said
     said=$("$program" run --horizon 10 --explain 2>&1 >/dev/null </dev/null)
     if [ "$said" = "cmbsim: the netlist has no nets, so its waveforms have none, and some viewers refuse to open them" ]; then
@@ -494,6 +529,7 @@ on_full_disk activity --horizon 10
 on_full_disk --help
 on_full_disk --version
 real aes128 --mode plain
+real processor --mode plain
 for name in aes128 sha256 processor; do
     real "$name"
     real "$name" --mode rounds --workers 2 --clusters 2
@@ -505,6 +541,11 @@ outputs processor
 outputs processor --mode free
 as_expected processor
 as_expected processor --mode free
+as_expected processor --mode plain
+# The first row, one in between, and the one by which the processor has halted.
+turned processor 2
+turned processor 40 --mode plain
+turned processor 80 --mode free
 # Some 60 MB of text. None of the registers reads another.
 shared_out "600 LFSRs of 16" 12000
 # By one engine, by a team, and by shares.

@@ -8,7 +8,7 @@ cd "$(dirname "$0")/.."
 folder=$PWD/examples/$name
 read -r -a words <"$folder/options"
 data=()
-for table in delays stimuli clocks; do
+for table in delays stimuli clocks initial; do
     if [ -f "$folder/$table.csv" ]; then
         words+=("--$table" "$table.csv")
         data+=(--data "$table.csv=$folder/$table.csv")

@@ -29,6 +29,7 @@ class Buses:
     def __init__(self, dump, path=None):
         """The path is that of names.csv, beside which buses.csv stands."""
         self.nets = dump.names()
+        self.places = dump.places
         self.names = read_names(path) if path else {}
         self.has_tables = path is not None
         self.ends = {**dump.buses(), **(read_buses(os.path.join(os.path.dirname(path), "buses.csv")) if path else {})}

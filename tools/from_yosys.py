@@ -6,8 +6,8 @@
 
 FOLDER gets netlist.bench; constants.csv, the levels of inputs that are constants; ports.csv, the ports as declared; buses.csv,
 the buses whose rightmost bit isn't bit 0; names.csv, what became of bits of the source that have no net of their own; and
-clocks.csv where there are several clocks. It also gets two files to begin with, which are left as they are where they stand
-already: stimuli.csv, with each input at 0 from tick 0 on, and options, words for the program's line.
+clocks.csv where there are several clocks; and initial.csv, what flip-flops begin with, where that differs. It also gets two
+files to begin with, which are left as they are where they stand already: stimuli.csv, with each input at 0 from tick 0 on, and options, words for the program's line.
 
 Bits of buses are named as name[3], and what has no name in the source as _7_. An output that shows an input, a constant or a
 register of another name is a gate BUFF. Each cell becomes one gate, with a delay of its own. The clock is no net of such a
@@ -236,8 +236,14 @@ def clocks_of(design, given):
     return table(["net", "first", "period"], *((name(it.output), *given[name(it.clock[0]), it.clock[1]]) for it in design.cells if it.clock))
 
 
+def initial_of(design):
+    """The table of what each flip-flop begins with."""
+    flops = (it.output for it in design.cells if it.clock)
+    return table(["net", "value"], *((design.names.of(bit), design.first_levels.get(bit, "x")) for bit in flops))
+
+
 def init_of(design):
-    """What all flip-flops begin with, and whether that is what the design says."""
+    """What all flip-flops begin with, x where that differs, and whether it is what the design says."""
     wanted = {design.first_levels.get(cell.output, "x") for cell in design.cells if cell.clock}
     return (wanted.pop(), True) if len(wanted) == 1 else ("x", not wanted)
 
@@ -270,13 +276,14 @@ def files_of(design, given):
              "options": options_of(design, given, (path // 10 + 1) * 10)}
     if len(design.clocks) > 1:
         files["clocks.csv"] = clocks_of(design, given)
+    if not init_of(design)[1]:
+        files["initial.csv"] = initial_of(design)
     flops = sum(design.clocks.values())
     lines = [f"{nets} nets: {nets - len(ordered)} inputs, {flops} flip-flops, {len(ordered) - flops} gates"]
     lines += ["there are loops of gates, so no path is the longest" if has_loop else
               f"the longest path is of {path} gates, so the shortest period is of {path + 1} ticks, if each gate takes one"]
     lines += [f"{name} is the constant {level}" for name, level in design.constants()]
-    lines += [] if init_of(design)[1] else ["flip-flops begin with different levels in the design, and here all with x, or as --init says: "
-                                            "from_verilog.sh --zero-init has them begin as the design says"]
+    lines += [] if init_of(design)[1] else ["flip-flops begin with different levels, which initial.csv has"]
     lines += [f"cmbsim takes {MOST_NETS} nets, so this is too large"] if nets > MOST_NETS else []
     lines += [f"{OPTIONS[edge]} {name}: a period of {period} ticks is shorter" for (name, edge), (_, period) in given.items() if period <= path]
     return files, lines, path + 1
@@ -307,6 +314,8 @@ def said_of_kept(design, given, folder, shortest):
         lines += [f"{folder}/stimuli.csv has no row of {', '.join(without)}: x at all ticks"] if without else []
     if len(design.clocks) < 2 and read_text(folder, "clocks.csv") is not None:
         lines += [f"{folder}/clocks.csv is there, and the design has no two clocks"]
+    if init_of(design)[1] and read_text(folder, "initial.csv") is not None:
+        lines += [f"{folder}/initial.csv is there, and flip-flops begin alike"]
     return lines
 
 

@@ -12,7 +12,6 @@ Status 2: there is no net of such a name, or the dump or a table can't be read."
 import argparse
 import itertools
 import math
-import re
 import sys
 
 from buses import Buses, runs_of, said_of
@@ -23,36 +22,31 @@ NET, BUS = "@28", "@22"
 SCALE = 203  # a pixel shows 2 to the power of the zoom units of time, over this number, as was seen of GTKWave 3.3
 
 
-def variable(name):
-    """The name as the dump declares it."""
-    return "top." + (name if re.fullmatch(r"[A-Za-z_][\w$]*", name) else "\\" + name)
-
-
-def lines_of_part(bits, nets, is_whole):
+def lines_of_part(bits, nets, places, is_whole):
     """The lines of digits, with whether all bits of these are there."""
     there = [bit for bit in bits if nets[bit]]
     if not there:
         return []
-    return [BUS if is_whole else NET, " ".join([f"#{{{','.join(runs_of(there))}}}", *(variable(nets[bit]) for bit in there)])]
+    return [BUS if is_whole else NET, " ".join([f"#{{{','.join(runs_of(there))}}}", *(places[nets[bit]] for bit in there)])]
 
 
-def lines_of_bus(bits, nets):
+def lines_of_bus(bits, nets, places):
     """The lines of a bus: digits with all their bits are shown together, others by themselves."""
     first = len(bits) % 4
     digits = [bits[at:at + 4] for at in range(first, len(bits), 4)]
     digits = ([bits[:first]] if first else []) + digits
     parts = itertools.groupby(digits, lambda digit: all(nets[bit] for bit in digit))
-    return [line for is_whole, part in parts for line in lines_of_part([bit for digit in part for bit in digit], nets, is_whole)]
+    return [line for is_whole, part in parts for line in lines_of_part([bit for digit in part for bit in digit], nets, places, is_whole)]
 
 
 def lines_of(name, buses):
     """The lines of a net or a bus and which of its bits have no net, or None where there is no such name."""
     if buses.has(name):
         net = buses.net_of(name)
-        return [NET, variable(name) if net == name else f"+{{{name}}} {variable(net)}"] if net else [], [] if net else [name]
+        return [NET, buses.places[name] if net == name else f"+{{{name}}} {buses.places[net]}"] if net else [], [] if net else [name]
     bits = buses.bits(name)
     nets = {bit: buses.net_of(bit) for bit in bits}
-    return (lines_of_bus(bits, nets), [bit for bit in bits if not nets[bit]]) if bits else None
+    return (lines_of_bus(bits, nets, buses.places), [bit for bit in bits if not nets[bit]]) if bits else None
 
 
 def head_of(end, width):

@@ -31,7 +31,7 @@ def fitting(pattern, nets):
     found = {net for net in nets if fits.fullmatch(net)}
     if found or "*" in pattern or "?" in pattern:
         return found
-    bit = re.compile(re.escape(pattern) + r"\[(0|[1-9]\d*)\]")
+    bit = re.compile(re.escape(pattern) + r"\[[0-9]+\]")
     return {net for net in nets if bit.fullmatch(net)}
 
 

@@ -1,6 +1,6 @@
 #!/usr/bin/env bash
 # simulate.sh FOLDER [WORDS..]: runs cmbsim on the files of a folder: netlist.bench; options, words for the program's line; and of delays.csv,
-# stimuli.csv, constants.csv and clocks.csv those that are there. The words are further options of `cmbsim run`.
+# stimuli.csv, constants.csv, clocks.csv and initial.csv those that are there. The words are further options of `cmbsim run`.
 # The program is $CMBSIM, else cmbsim of the path, else out/cmbsim of this repository.
 set -euo pipefail
 if [ $# = 0 ] || [ "$1" = --help ]; then
@@ -22,7 +22,7 @@ words=()
 if [ -f "$folder/options" ]; then
     read -r -d '' -a words <"$folder/options" || true
 fi
-for table in delays clocks; do
+for table in delays clocks initial; do
     if [ -f "$folder/$table.csv" ]; then
         words+=("--$table" "$folder/$table.csv")
     fi

@@ -133,8 +133,8 @@ def test_simulate():
     files["stimuli.csv"] += "\n5,_1_,x\n"
     see("a constant that has stimuli", simulated(files)[1].split("\n")[1:-2], ["tick,net,value", "0,a,1", "5,_1_,x", "0,_0_,0"])
     del files["stimuli.csv"], files["options"]
-    see("constants alone", simulated({**files, "delays.csv": "", "clocks.csv": ""}), (
-        3, "run --delays a b/delays.csv --clocks a b/clocks.csv --stimuli ROOM/stimuli.csv\ntick,net,value\n0,_0_,0\n0,_1_,1\nINPUT(a)\n"))
+    see("constants alone", simulated({**files, "delays.csv": "", "clocks.csv": "", "initial.csv": ""}), (
+        3, "run --delays a b/delays.csv --clocks a b/clocks.csv --initial a b/initial.csv --stimuli ROOM/stimuli.csv\ntick,net,value\n0,_0_,0\n0,_1_,1\nINPUT(a)\n"))
     see("no constants", simulated({**files, "constants.csv": "tick,net,value\n"}), (3, "run\nINPUT(a)\n"))
     see("the program of the path", simulated({"netlist.bench": ""}, program=None), (3, "run\n"))
     see("no program", simulated({"netlist.bench": ""}, program="none"), (2, "simulate.sh: there is no program none: run make build\n"))
@@ -267,7 +267,10 @@ endmodule
 
 def test_first_levels():
     plain = Made(SEEDED)
-    see("levels that differ", (plain.status, "--zero-init" in plain.out, "--init" in plain.files["options"]), (0, True, False))
+    see("levels that differ", (plain.status, "begin with different levels" in plain.out, "--init" in plain.files["options"]), (0, True, False))
+    rows = plain.files["initial.csv"].split()
+    see("levels by rows", (rows[0], sorted(rows[1:])), ("net,value", sorted(
+        [*(f"lfsr[{bit}],{level}" for bit, level in enumerate(reversed("10110"))), "out[0],x", "out[1],x"])))
     made, found = Made(SEEDED, ["--zero-init"]), []
     see("levels by zinit", (made.status, made.out.split("\n")[0], made.files["options"].split()[-2:]),
         (0, "--zero-init: registers for which the source says nothing begin with 0, where Verilog has x", ["--init", "0"]))

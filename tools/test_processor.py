@@ -15,7 +15,7 @@ from test_tools import COUNTS, TOP, run, see
 from vcd import Dump
 
 FOLDER = f"{TOP}/examples/processor"
-LIMIT, FIRST, PERIOD, HORIZON = 20, 39, 40, 54000
+LIMIT, FIRST, PERIOD, HORIZON = 16, 29, 30, 24000
 BITS = [f"out[{i}]" for i in range(8)]
 BENCH = f"""`timescale 1ns/1ns
 module bench;

@@ -91,6 +91,12 @@ $enddefinitions $end
 """
 
 
+# The same nets, all in one module, as cmbsim declares them without scopes and with them.
+FLAT = BITS.replace("by hand", "cmbsim 1").replace("! clear", "! \\gen[0].clear").replace("\\count", "\\gen[0].count")
+SCOPED = BITS.replace("by hand", "cmbsim 1").replace("module top $end", "module top $end\n$scope module \\gen[0] $end", 1).replace(
+    "\\count[", "count [").replace("$upscope $end", "$upscope $end\n$upscope $end", 1)
+
+
 def compared(name, files, words, wanted):
     with tempfile.TemporaryDirectory() as folder:
         put(folder, files)
@@ -131,6 +137,8 @@ def test_compare_names():
     compared("a scope that isn't named", pair(bench), [], (
         1, "only in a.vcd: clear, count[0], count[1]\nonly in b.vcd: clock, dut.count[1], dut.count[0], dut.clear\n", ""))
     compared("a scope that is", pair(bench), ["--scope-b", "test.dut"], (0, "the same: 3 nets\n", ""))
+    compared("names and scopes", pair(SCOPED, FLAT), [], (0, "the same: 3 nets\n", ""))
+    compared("nets of one scope", pair(SCOPED), ["--scope-b", "top.gen[0]"], (0, "the same: 3 nets\n", ""))
 
 
 def test_unreadable():
@@ -163,6 +171,9 @@ def test_gtkw():
               "[pattern_trace] 1", "[pattern_trace] 0", ""]
     ran = run(".", ["gtkw.py", "--width", "430", "clear", "count", "count[0]"], BITS)
     see("gtkw", (ran[0], ran[1].split("\n"), ran[2]), (0, wanted, ""))
+    scoped = run(".", ["gtkw.py", "gen[0].clear", "gen[0].count"], SCOPED)
+    see("gtkw, with scopes", (scoped[0], scoped[1].split("\n")[7:-3], scoped[2]),
+        (0, ["@28", "top.\\gen[0].clear", "@22", "#{gen[0].count[1:0]} top.\\gen[0].count[1] top.\\gen[0].count[0]"], ""))
     see("gtkw, no such net", run(".", ["gtkw.py", "carry"], BITS), (2, "", "gtkw: there is no net carry\n"))
 
 
@@ -331,11 +342,26 @@ def test_kept():
             ("inputs without levels", {"stimuli.csv": "tick,net,value\n0,d[4],0\n0,e[0],1\n", "options": "--init 0"},
              "d/stimuli.csv has no row of d[5], e[1]: x at all ticks\n"),
             ("clocks of earlier", {"stimuli.csv": FILES["stimuli.csv"], "options": "--init 0", "clocks.csv": "mine\n"},
-             "d/clocks.csv is there, and the design has no two clocks\n")):
+             "d/clocks.csv is there, and the design has no two clocks\n"),
+            ("first levels of earlier", {"stimuli.csv": FILES["stimuli.csv"], "options": "--init 0", "initial.csv": "mine\n"},
+             "d/initial.csv is there, and flip-flops begin alike\n")):
         see(name, converted(WHOLE, files=mine), ((0, SAID + said + left, ""), {**FILES, **mine}))
     mine = {"stimuli.csv": FILES["stimuli.csv"], "options": "--clock 3:4 --init 0\n"}
     for ticks, said in (("3:4", ""), ("3:5", "d/options has the clock 3:4\n")):
         see(f"a clock {ticks}", converted(WHOLE, ["--clock", f"clk={ticks}"], mine), ((0, SAID + said + left, ""), {**FILES, **mine}))
+
+
+def test_first_levels():
+    ports = {"clk": port("input", 2), "d": port("input", 4), "q": port("output", 6)}
+    cells = [flop(2, 4, 5), flop(2, 5, 6), flop(2, 6, 7)]
+    wires = {"p": {"bits": [5, 7], "attributes": {"init": "x1"}}, "q": {"bits": [6], "attributes": {"init": "0"}}}
+    (status, said, _), files = converted(design(ports, cells, wires))
+    see("levels that differ", (status, files["initial.csv"], files["options"]),
+        (0, "net,value\np[0],1\nq,0\np[1],x\n", "--horizon 200 --clock 9:10\n"))
+    see("levels that differ are told", "flip-flops begin with different levels, which initial.csv has\n" in said, True)
+    wires["q"]["attributes"]["init"] = wires["p"]["attributes"]["init"] = "1"
+    files = converted(design(ports, cells[:2], wires))[1]
+    see("levels that are alike", ("initial.csv" in files, files["options"]), (False, "--horizon 200 --clock 9:10 --init 1\n"))
 
 
 def test_clocks():
@@ -418,7 +444,7 @@ def test_other_shells():
 def test_words():
     words = set()
     for name in ("reading", "explaining", "options"):
-        with open(f"{TOP}/crates/cmb_command/src/{name}.rt", encoding="utf-8") as file:
+        with open(f"{TOP}/crates/cmb_cli/src/{name}.rt", encoding="utf-8") as file:
             words |= set(re.findall(r'(?:Command::new\(alloc, |name: )"([a-z-]+)"', file.read())) - {"cmbsim"}
     with open(f"{TOP}/docs/cmbsim.1", encoding="ascii") as file:
         manual = file.read().replace("\\-", "-")
@@ -495,7 +521,7 @@ def test_saif():
 
 
 def main():
-    for test in (test_compare, test_compare_names, test_unreadable, test_read, test_gtkw, test_parts, test_gtkw_parts, test_convert, test_kept, test_clocks, test_refusals, test_loops,
+    for test in (test_compare, test_compare_names, test_unreadable, test_read, test_gtkw, test_parts, test_gtkw_parts, test_convert, test_kept, test_first_levels, test_clocks, test_refusals, test_loops,
                  test_completions, test_other_shells, test_words, test_nets, test_saif):
         test()
     print(f"{COUNTS['passed']} passed, {COUNTS['failed']} failed")

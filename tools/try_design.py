@@ -3,7 +3,7 @@
 
   try_design.py [--seed N] [--cycles N] [--keep FOLDER] MODULE FILE
 
-The gates are those of from_verilog.sh, with --async, --latches and --zero-init where it asks for them, simulated by simulate.sh.
+The gates are those of from_verilog.sh, with --async and --latches where it asks for them, simulated by simulate.sh.
 Inputs change a tick behind the rising edges of all clocks, and levels are compared a tick before the next: an x of either side
 may be any level there. Where there are resets, by their names, one run has them at first and now and then, and another never.
 
@@ -24,8 +24,7 @@ LOW = re.compile(r"^n|_n_|_ni?$|(rst|reset|clear|clr)n$", re.IGNORECASE)  # what
 LIMIT = 120  # as many seconds may a command take
 UNTIMED = 500  # the ticks of half a period where no longest path is told
 # What from_verilog.sh says, and the option that helps.
-HELP = [("--async", "from_verilog.sh --async"), ("--latches", "from_verilog.sh --latches"),
-        ("--zero-init", "begin with different levels")]
+HELP = [("--async", "from_verilog.sh --async"), ("--latches", "from_verilog.sh --latches")]
 
 
 class Refused(Exception):

@@ -39,20 +39,22 @@ def widened(value, size):
 
 
 class Dump:
-    """A dump: the femtoseconds of one unit of its time; its variables, by code; and, read once, the blocks of its changes."""
+    """A dump: the femtoseconds of one unit of its time; its variables, by code; where each stands; and, read once, the blocks of its
+    changes."""
 
     def __init__(self, path, lines, scope=None):
-        self.path, self.line, self.unit = path, 0, 10 ** UNITS["ns"]
+        self.path, self.line, self.unit, self.is_own = path, 0, 10 ** UNITS["ns"], False
         self.words = self.words_of(lines)
         declared = list(self.declarations())
-        inner = scope.split(".") if scope else os.path.commonprefix([scopes for scopes, _, _ in declared])
-        self.variables, self.single = {}, {}
-        for scopes, code, bits in declared:
+        inner = scope.split(".") if scope else ["top"] if self.is_own else os.path.commonprefix([scopes for scopes, *_ in declared])
+        self.variables, self.single, self.places = {}, {}, {}
+        for scopes, code, bits, place in declared:
             if scopes[:len(inner)] == inner:
                 names = [".".join(scopes[len(inner):] + [bit]) for bit in bits]
                 self.variables.setdefault(code, []).append(names)
+                self.places.update(dict.fromkeys(names, place))
         self.single = {code: found[0][0] for code, found in self.variables.items() if len(found) == 1 and len(found[0]) == 1}
-        self.others = {code for _, code, _ in declared} - set(self.variables)
+        self.others = {code for _, code, *_ in declared} - set(self.variables)
 
     def words_of(self, lines):
         for self.line, line in enumerate(lines, 1):
@@ -71,8 +73,8 @@ class Dump:
         raise self.fault(f"{keyword} has no $end")
 
     def declarations(self):
-        """Each variable with its scopes, its code and the names of its bits."""
-        scopes = []
+        """Each variable with its scopes, its code, the names of its bits, and its place as the dump writes it."""
+        scopes, written = [], []
         for word in self.words:
             if not word.startswith("$"):
                 raise self.fault(f"{word[:40]!r} stands where a declaration should")
@@ -83,12 +85,16 @@ class Dump:
                 self.unit = unit_of("".join(said))
                 if self.unit is None:
                     raise self.fault(f"no time scale is {' '.join(said)[:40]!r}")
+            elif word == "$version":
+                self.is_own = said[:1] == ["cmbsim"]
             elif word in ("$scope", "$upscope"):
-                scopes = scopes + said[-1:] if word == "$scope" else scopes[:-1]
+                written = written + said[-1:] if word == "$scope" else written[:-1]
+                scopes = [name.removeprefix("\\") for name in written]
             elif word == "$var":
                 if len(said) < 4 or not re.fullmatch("[1-9][0-9]{0,6}", said[1]):
                     raise self.fault(f"no variable is {' '.join(said)[:80]!r}")
-                yield scopes, said[2], bits_of(said[0], int(said[1]), "".join(said[3:]))
+                reference = "".join(said[3:])
+                yield scopes, said[2], bits_of(said[0], int(said[1]), reference), ".".join([*written, reference])
         raise self.fault("the text ends before $enddefinitions")
 
     def names(self):

@@ -13,7 +13,7 @@ log=$(mktemp)
 trap 'rm -f "$log"' EXIT
 passed=0
 failed=0
-for script in ends.sh streams.py refuse_each.py damaged.py largest.py shared_runs.py free_load.sh; do
+for script in ends.sh streams.py terminal.py refuse_each.py damaged.py largest.py shared_runs.py free_load.sh; do
     echo "== $script"
     "scripts/hostile/$script" | tee "$log"
     last=$(tail -1 "$log")

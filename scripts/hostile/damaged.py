@@ -26,6 +26,7 @@ CASE = Case(
         "delays": b'by,name,delay\nkind,DFF,2\nnet,y,"3"\n\npin, y:02 ,1\n',
         "stimuli": b'tick,net,value\r\n0,a,0\r\n3,"a",1\r\n07,a,X\r\n',
         "clocks": b"net,first,period\np,4,3\n",
+        "initial": b"net,value\n p ,1\n",
     },
 )
 
@@ -35,6 +36,7 @@ FAULTS = {
     "delays": {23, 24, 25, 26, 27, 28, 29, 32, 34, 35},
     "stimuli": {23, 24, 25, 26, 29, 30, 31},
     "clocks": {22, 23, 24, 25, 26, 29, 36, 37},
+    "initial": {23, 24, 26, 29, 31, 37},
 }
 
 
@@ -55,7 +57,7 @@ def damaged(data, values):
 
 
 def inputs(values):
-    for which in ("netlist", "delays", "stimuli", "clocks"):
+    for which in ("netlist", *CASE.tables):
         for text in damaged(CASE.netlist if which == "netlist" else CASE.tables[which], values):
             yield which, text
 

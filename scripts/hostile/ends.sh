@@ -119,7 +119,7 @@ for mode in "${modes[@]}"; do
 
     # Files by the number of their input: missing, a folder, one that may not be read, one that stands below a file.
     number=2
-    for table in delays stimuli clocks only; do
+    for table in delays stimuli clocks only initial; do
         for file in "$room/missing" "$room" "$room/empty/below" ""; do
             timeout 60 "$program" run --horizon 10 "--$table" "$file" "${words[@]}" <"$room/inverter" >"$room/out" 2>"$room/err"
             check "$mode: --$table '${file#"$room"}'" "1 0 cmbsim: fault 61 at $number" "$? $(stat -c %s "$room/out") $(told)"

@@ -197,11 +197,12 @@ def full_tables():
     yield Large("16 MB of one stimulus repeated", one, ten, 10, 400, table("stimuli", stimuli, lambda: [b"1,a,1\n"] * 2_800_000), 1, b"cmbsim: fault 29 at 3\n")
     yield Large("16 MB of delays of pins", lambda: operands(1_500_000), ten, 20, 700, table("delays", delays, lambda: (b"pin,y:%d,2\n" % (i + 1) for i in range(1_400_000))))
     yield Large("65,534 clocks", lambda: shift_register(MOST - 1), ["--horizon", "1000"], 20, 600, table("clocks", clocks, lambda: (b"q%d,%d,000000000%d\n" % (i, i % 7, 1 + i % 9) for i in range(MOST - 1))))
+    yield Large("65,534 first levels", lambda: shift_register(MOST - 1), ["--horizon", "1000", "--clock", "1:9"], 20, 600, table("initial", b"net,value", lambda: (b"q%d,%d\n" % (i, i % 2) for i in range(MOST - 1))))
     yield Large("16 MB of empty lines", one, ten, 5, 100, {"stimuli": lambda: fill([b"\n" * 65536] * 1000)})
     yield Large("16 MB of commas", one, ten, 10, 700, {"delays": lambda: fill([b"," * 65536] * 1000)}, 1, b"cmbsim: fault 23 at 1\n")
     yield Large("16 MB in one field", one, ten, 5, 400, {"delays": lambda: fill([b"a" * 65536] * 1000)}, 1, b"cmbsim: fault 23 at 1\n")
     yield Large("16 MB in an open quote", flop, ten + ["--clock", "1:1"], 5, 400, {"clocks": lambda: fill([b'net,first,period\n"'] + [b'x""\n' * 16384] * 1000)}, 1, b"cmbsim: fault 24 at 2\n")
-    for number, name in enumerate(("netlist", "delays", "stimuli", "clocks"), 1):
+    for number, name in ((1, "netlist"), (2, "delays"), (3, "stimuli"), (4, "clocks"), (6, "initial")):
         over = lambda: [b" " * INPUT_LIMIT, b"\n"]
         netlist, tables = (over, None) if name == "netlist" else (one, {name: over})
         yield Large(f"a byte too many in the {name}", netlist, ten, 5, 100, tables, 1, b"cmbsim: fault 60 at %d\n" % number)

@@ -15,7 +15,7 @@ HERE = os.path.dirname(os.path.abspath(__file__))
 ROOT = os.path.dirname(os.path.dirname(HERE))
 PROGRAM = os.path.abspath(os.environ.get("CMBSIM", os.path.join(ROOT, "out", "cmbsim")))
 JOBS = int(os.environ.get("JOBS", "0")) or max(1, (os.cpu_count() or 2) // 2)
-TABLES = ("delays", "stimuli", "clocks")
+TABLES = ("delays", "stimuli", "clocks", "initial")
 
 # Each fault that the program can have, with the kind of its place.
 PLACES = {
@@ -176,6 +176,13 @@ def clocks():
     }
     words = ["--horizon", "12", "--clock", "2:4", "--init", "0"]
     return Case("clocks", b"INPUT(a)\np = DFF(a)\nq = DFF(p)\n", words, tables, text("a p q", body))
+
+
+def levels():
+    """Of `clocks` the second flip-flop begins with a level of its own."""
+    case = clocks()
+    tables = dict(case.tables, initial=b"net,value\nq,1\n")
+    return Case("levels", case.netlist, case.words, tables, text("a p q", '#0 0! 0" 1# #3 1! #5 0# #7 1" #8 1# #12'))
 
 
 def listed():

@@ -7,8 +7,8 @@ use Rattle.cmb_wave.specs.declared.level.Level.{Level}
 use Rattle.cmb_wave.specs.declared.level.Level.TheVariants.{Zero, One, X}
 use Rattle.cmb_wave.specs.Waveform.{count_below}
 use Rattle.cmb_netlist.specs.Netlist.{name_of}
-use Rattle.cmb_design.specs.Design.{Design}
-use Rattle.cmb_design.specs.Value.{value}
+use Rattle.cmb_design_model.specs.Design.{Design}
+use Rattle.cmb_design_model.specs.Value.{value}
 use Rattle.cmb_activity.specs.Activities.{ticks_at}
 use Rattle.cmb_activity.specs.Texts.{activity_table, header, net_row, row}
 

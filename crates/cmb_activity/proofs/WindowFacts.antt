@@ -11,6 +11,7 @@ use Rattle.cmb_wave.specs.declared.level.Level.{Level}
 use Rattle.cmb_words.specs.declared.changed.Changed.{Changed}
 use Rattle.cmb_words.specs.Changes.{IsStill, RisesWithin, Tells, TellsNet, is_among}
 use Rattle.cmb_words.proofs.StillFacts.{still-append, still-empty}
+use Rattle.cmb_words.proofs.TellsFacts.{tells-level}
 use Rattle.cmb_activity.specs.declared.tally.Tally.{Tally}
 use Rattle.cmb_activity.specs.Activities.{AreActivitiesOf, IsActivity}
 use Rattle.cmb_activity.specs.declared.activity.Activity.{Activity}
@@ -106,7 +107,7 @@ goes_on old changed nets from upto c cs tallies was new order amid at is counts 
         this : IsTallyAt (level c.net) upto new
         this =
             tallied_at (level c.net) upto new at
-            (counts (level c.net) (subst (IsTallyAt (level c.net) from) (sym is) (so_far.left c.net was amid.rises.0 amid.rises.1)) (λ tick after below. told tick (omega (arith, after)) below))
+            (counts (level c.net) (subst (IsTallyAt (level c.net) from) (sym is) (so_far.left c.net was amid.rises.0 amid.rises.1)) (λ tick after below. tells-level level from upto c told tick (omega (arith, after)) below))
 
         early : (net : ℕ) (d : Tally) → net < nets → net < c.net → (net < amid.low) ⊎ (amid.low ≤ net) → IsTallyAt (level net) upto (get_or tallies net d)
         early net d within below (inl counted) = so_far.done net d counted within

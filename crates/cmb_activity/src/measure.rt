@@ -2,15 +2,15 @@
 
 ghost use Rattle.std.specs.Prelude.{◌≡◌, ◌+◌, ◌<◌, ◌≤◌, ℕ, length, All, IfOk, OnOk};
 ghost use Rattle.cmb_wave.specs.declared.level.Level.{Level};
-ghost use Rattle.cmb_design.specs.Exact.{nets_of};
-ghost use Rattle.cmb_design.specs.Value.{value};
+ghost use Rattle.cmb_design_model.specs.Exact.{nets_of};
+ghost use Rattle.cmb_design_model.specs.Value.{value};
 ghost use Rattle.cmb_words.specs.Changes.{RisesWithin, Tells};
 ghost use Rattle.cmb_activity.specs.Activities.{AreActivities, AreActivitiesOf};
 ghost use Rattle.cmb_activity.specs.Inner.Tallies.{AreTallies};
 
 use crate::activity::Activity;
 use crate::tally::Tally;
-use cmb_design::Design;
+use cmb_design_model::Design;
 use cmb_engine::{Engine, start_level};
 use cmb_words::Changed;
 use std::alloc::{AllocError, Global};

@@ -2,14 +2,14 @@
 
 ghost use Rattle.std.specs.Prelude.{◌≡◌, ◌<◌, ◌==◌, ◌++◌, All, IfOk, OnOk, codes, decimal};
 ghost use Rattle.std.specs.List.{list_any};
-ghost use Rattle.cmb_design.specs.Exact.{nets_of};
-ghost use Rattle.cmb_design.specs.Value.{value};
+ghost use Rattle.cmb_design_model.specs.Exact.{nets_of};
+ghost use Rattle.cmb_design_model.specs.Value.{value};
 ghost use Rattle.cmb_activity.specs.Activities.{AreActivities, IsActivity};
 ghost use Rattle.cmb_activity.specs.Texts.{activity_table, doubled, field, net_row, quoted, row};
 
 use crate::activity::Activity;
 use crate::measure::activities;
-use cmb_design::Design;
+use cmb_design_model::Design;
 use itoa::Buffer;
 use std::alloc::{AllocError, Global};
 

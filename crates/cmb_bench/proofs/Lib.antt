@@ -22,3 +22,5 @@ pub mod Alone
 pub mod Sound
 pub mod Either
 pub mod ListedFacts
+pub mod BusFacts
+pub mod MemberFacts

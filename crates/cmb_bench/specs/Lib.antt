@@ -4,6 +4,7 @@ pub mod Statement
 pub mod Grammar
 pub mod Meaning
 pub mod FirstFault
+pub mod Buses
 pub mod Listed
 -- what the functions inside the crate promise each other
 -- what the functions inside the crate promise each other

@@ -3,6 +3,7 @@
 #![tactic(auto)]
 
 mod build;
+mod buses;
 mod fault;
 pub mod laws;
 mod listed;

@@ -115,7 +115,7 @@ fn used_name<'a>(cursor: &mut Cursor<'a>) -> Result<Use<'a>, ReadError>
 }
 
 /// Adds a name, and says whether it is new.
-fn insert_name(names: &mut IndexSet<Name>, name: &[u8]) -> Result<bool, ReadError>
+pub(crate) fn insert_name(names: &mut IndexSet<Name>, name: &[u8]) -> Result<bool, ReadError>
     ensures new { IfOk result (λ new. new ≡ not (is_member name.now names.old.keys)) }
     ensures names { IfOk result (λ new.
         names.new.keys ≡ (if new then names.old.keys ++ name.now ∷ [] else names.old.keys)) }

@@ -1,17 +1,21 @@
 -- what the public contracts rest on
-pub mod Assigns
-pub mod Clustering
-pub mod Clusters
-pub mod Deliveries
-pub mod Directory
-pub mod Exactness
-pub mod Faults
-pub mod Onward
-pub mod Opened
-pub mod Reach
-pub mod Rows
-pub mod Step
-pub mod Sweep
-pub mod Trims
--- what the functions inside the crate promise each other
-pub mod Inner
+pub use Rattle.cmb_core_cluster.specs.Assigns
+pub use Rattle.cmb_core_cluster.specs.Clustering
+pub use Rattle.cmb_core_cluster.specs.Clusters
+pub use Rattle.cmb_core_cluster.specs.Deliveries
+pub use Rattle.cmb_core_cluster.specs.Directory
+pub use Rattle.cmb_core_cluster.specs.Exactness
+pub use Rattle.cmb_core_cluster.specs.Faults
+pub use Rattle.cmb_core_cluster.specs.Onward
+pub use Rattle.cmb_core_cluster.specs.Opened
+pub use Rattle.cmb_core_cluster.specs.Reach
+pub use Rattle.cmb_core_cluster.specs.Rows
+pub use Rattle.cmb_core_cluster.specs.Step
+pub use Rattle.cmb_core_cluster.specs.Sweep
+pub use Rattle.cmb_core_cluster.specs.Trims
+pub use Rattle.cmb_core_protocol.specs.Clocks
+pub use Rattle.cmb_core_protocol.specs.PlayFaults
+pub use Rattle.cmb_core_protocol.specs.Run
+pub use Rattle.cmb_core_world.specs.Play
+pub use Rattle.cmb_core_world.specs.Rounds
+pub use Rattle.cmb_core_world.specs.World

@@ -5,8 +5,8 @@ use Rattle.std.proofs.lemmas.Bool.{cases_eq, cases_lt}
 use Rattle.std.proofs.lemmas.List.{get_or_default, get_or_past, get_or-replicate, get_or-set_same, get_or-set_other, length-replicate, length-set}
 use Rattle.std.proofs.lemmas.List.Elements.{All-get_or}
 use Rattle.cmb_netlist.specs.Netlist.{IsNetlist}
-use Rattle.cmb_design.specs.Design.{Design}
-use Rattle.cmb_design.specs.Timing.{delay}
+use Rattle.cmb_design_model.specs.Design.{Design}
+use Rattle.cmb_design_model.specs.Timing.{delay}
 use Rattle.cmb_count.specs.Inner.Arrivals.{AreArrivals, AreComponents, AreSettled, Covers, IsArrivalAt, IsEndless, IsReached, IsSettled, IsWithin, closed, endless, launched, later_by, time_of}
 use Rattle.cmb_count.specs.Paths.{Arrives, Path, here, on, is_origin, launch, operands}
 use Rattle.cmb_count.specs.declared.arrivals.Arrival.{Arrival}

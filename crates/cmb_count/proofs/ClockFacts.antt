@@ -5,11 +5,11 @@ use Rattle.std.specs.Ordering.{is_eq, nat_cmp}
 use Rattle.std.specs.Prelude.{◌==◌, ◌&&◌, if◌then◌else◌}
 use Rattle.std.proofs.lemmas.Bool.{eq-eqb, eqb-false, eqb-true, ne_eqb}
 use Rattle.cmb_netlist.specs.Netlist.{driver_of}
-use Rattle.cmb_design.specs.Design.{Design}
-use Rattle.cmb_design.specs.Nets.{is_flop}
-use Rattle.cmb_design.specs.Settings.{any_below}
-use Rattle.cmb_design.specs.Timing.{clock_of}
-use Rattle.cmb_design.specs.declared.rows.Clock.{Clock}
+use Rattle.cmb_design_model.specs.Design.{Design}
+use Rattle.cmb_design_model.specs.Nets.{is_flop}
+use Rattle.cmb_design_model.specs.Settings.{any_below}
+use Rattle.cmb_design_model.specs.Timing.{clock_of}
+use Rattle.cmb_design_model.specs.declared.rows.Clock.{Clock}
 use Rattle.cmb_count.specs.Below.{count_below}
 use Rattle.cmb_count.specs.Clocks.{is_clocked_by, is_first_clocked, same_clock}
 use Rattle.cmb_count.specs.Inner.ClockSets.{pair_cmp}

@@ -1,9 +1,9 @@
 -- The greater of a delay and of those before it.
 use Rattle.std.proofs.Common.{◌≡◌, ℕ, ◌+◌, ◌<◌, ◌≤◌, Bool, true, false, nat_lt, max, inr, arith, refl, subst, length}
 use Rattle.std.proofs.lemmas.Bool.{ltb-true, ltb-false}
-use Rattle.cmb_design.specs.Design.{Design}
-use Rattle.cmb_design.specs.Nets.{pins_at}
-use Rattle.cmb_design.specs.Timing.{delay}
+use Rattle.cmb_design_model.specs.Design.{Design}
+use Rattle.cmb_design_model.specs.Nets.{pins_at}
+use Rattle.cmb_design_model.specs.Timing.{delay}
 use Rattle.cmb_count.specs.Largest.{IsDelayOfPin}
 
 -- what holds of pins up to one, and of the next, holds of pins up to the next

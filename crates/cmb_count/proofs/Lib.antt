@@ -6,3 +6,5 @@ mod OrderFacts
 mod PathFacts
 mod ArrivalFacts
 mod LongestFacts
+mod FirstFacts
+mod FoundFacts

@@ -5,8 +5,8 @@ use Rattle.std.proofs.lemmas.List.{get_or_past}
 use Rattle.cmb_netlist.specs.Netlist.{Netlist, IsNetlist, driver_of}
 use Rattle.cmb_netlist.specs.declared.netlist.Driver.{Driver}
 use Rattle.cmb_netlist.specs.declared.netlist.Driver.TheVariants.{Input, Gate, Flop}
-use Rattle.cmb_design.specs.Design.{Design}
-use Rattle.cmb_design.proofs.PlainFacts.{driver-wired}
+use Rattle.cmb_design_model.specs.Design.{Design}
+use Rattle.cmb_design_model.proofs.PlainFacts.{driver-wired}
 use Rattle.cmb_count.specs.Inner.Arrivals.{Covers, IsReached}
 use Rattle.cmb_count.specs.Inner.LongestPaths.{AreFound, AreLatest, Bounds, IsLongestSoFar, IsOutput, is_sampled, longest_at, time_at}
 use Rattle.cmb_count.specs.Paths.{Arrives, IsEnd, IsLongest, Settles}
@@ -14,7 +14,7 @@ use Rattle.cmb_count.specs.declared.arrivals.Arrival.{Arrival}
 use Rattle.cmb_count.specs.declared.arrivals.Arrival.TheVariants.{Never, At, Unbounded as Ever}
 use Rattle.cmb_count.specs.declared.arrivals.Arrivals.{Arrivals}
 use Rattle.cmb_count.specs.declared.paths.Between.{Between}
-use Rattle.cmb_count.specs.declared.paths.Between.TheVariants.{All, Clocked}
+use Rattle.cmb_count.specs.declared.paths.Between.TheVariants.{All, Clocked, InputsTo, OthersTo}
 use Rattle.cmb_count.specs.declared.paths.Longest.{Longest}
 use Rattle.cmb_count.specs.declared.paths.Longest.TheVariants.{NoPath, Path as To, Unbounded}
 
@@ -97,6 +97,8 @@ end_skipped paths design k net none (inr h) = by (cases_lt h.0 k)
 pub end_of_flop : (paths : Between) (design : Design) (k x : ℕ) → driver_of design.netlist k ≡ Flop x → is_sampled paths design k ≡ true → IsEnd paths design x
 end_of_flop All design k x is sampled = inr (k, is)
 end_of_flop (Clocked clock) design k x is sampled = (k, is, sampled)
+end_of_flop (InputsTo clock) design k x is sampled = (k, is, sampled)
+end_of_flop (OthersTo clock) design k x is sampled = (k, is, sampled)
 
 -- a flip-flop's net is one
 flop_within : (netlist : Netlist) (flop net : ℕ) → IsNetlist netlist → driver_of netlist flop ≡ Flop net → flop < length netlist.names
@@ -110,6 +112,8 @@ pub end_all : (paths : Between) (design : Design) (net : ℕ) → IsNetlist desi
 end_all All design net sound (inl h) = inl h
 end_all All design net sound (inr h) = inr (h.0, flop_within design.netlist h.0 net sound h.1, h.1, refl)
 end_all (Clocked clock) design net sound h = inr (h.0, flop_within design.netlist h.0 net sound h.1, h.1, h.2)
+end_all (InputsTo clock) design net sound h = inr (h.0, flop_within design.netlist h.0 net sound h.1, h.1, h.2)
+end_all (OthersTo clock) design net sound h = inr (h.0, flop_within design.netlist h.0 net sound h.1, h.1, h.2)
 
 -- ---- all ends
 
@@ -128,3 +132,5 @@ end_within All design net sound (inl h) =
     let low = sound.outputs h.0 net h.1 in subst (λ (k : ℕ). k < length design.netlist.names) h.2 low
 end_within All design net sound (inr h) = driver-wired design.netlist h.0 (Flop net) sound (flop_within design.netlist h.0 net sound h.1) (sym h.1)
 end_within (Clocked clock) design net sound h = driver-wired design.netlist h.0 (Flop net) sound (flop_within design.netlist h.0 net sound h.1) (sym h.1)
+end_within (InputsTo clock) design net sound h = driver-wired design.netlist h.0 (Flop net) sound (flop_within design.netlist h.0 net sound h.1) (sym h.1)
+end_within (OthersTo clock) design net sound h = driver-wired design.netlist h.0 (Flop net) sound (flop_within design.netlist h.0 net sound h.1) (sym h.1)

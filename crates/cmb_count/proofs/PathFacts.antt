@@ -7,13 +7,13 @@ use Rattle.std.proofs.lemmas.List.Elements.{All-get_or, All-nil, Contains-get_or
 use Rattle.cmb_netlist.specs.Netlist.{Netlist, IsNetlist, IsWired, driver_of}
 use Rattle.cmb_netlist.specs.declared.netlist.Driver.{Driver}
 use Rattle.cmb_netlist.specs.declared.netlist.Driver.TheVariants.{Input, Gate, Flop}
-use Rattle.cmb_design.specs.Design.{Design}
-use Rattle.cmb_design.specs.Timing.{delay}
-use Rattle.cmb_design.proofs.PlainFacts.{driver-wired}
-use Rattle.cmb_design.proofs.SampleFacts.{delay-positive}
-use Rattle.cmb_loops.specs.Loops.{AreLoops, AreStrongComponents, IsInLoop, Reaches, Walk, one, more, targets, targets_of}
-use Rattle.cmb_loops.specs.declared.steps.Steps.TheVariants as steps
-use Rattle.cmb_loops.proofs.WalkFacts.{reach_from, reach_to, walk_on}
+use Rattle.cmb_design_model.specs.Design.{Design}
+use Rattle.cmb_design_model.specs.Timing.{delay}
+use Rattle.cmb_design_model.proofs.PlainFacts.{driver-wired}
+use Rattle.cmb_design_model.proofs.SampleFacts.{delay-positive}
+use Rattle.cmb_graph.specs.Loops.{AreLoops, AreStrongComponents, IsInLoop, Reaches, Walk, one, more, targets, targets_of}
+use Rattle.cmb_graph.specs.declared.steps.Steps.TheVariants as steps
+use Rattle.cmb_graph.proofs.WalkFacts.{reach_from, reach_to, walk_on}
 use Rattle.cmb_count.specs.Inner.Arrivals.{IsReached, endless}
 use Rattle.cmb_count.specs.Paths.{Arrives, Path, here, on, operands}
 use Rattle.cmb_count.specs.declared.arrivals.Arrival.{Arrival}

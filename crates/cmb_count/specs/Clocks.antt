@@ -1,11 +1,11 @@
 -- The clocks by which flip-flops sample.
 use Rattle.std.specs.Prelude.{ℕ, Bool, ◌==◌, ◌&&◌, not, length}
 use Rattle.cmb_netlist.specs.Netlist.{driver_of}
-use Rattle.cmb_design.specs.Design.{Design}
-use Rattle.cmb_design.specs.Nets.{is_flop}
-use Rattle.cmb_design.specs.Settings.{any_below}
-use Rattle.cmb_design.specs.Timing.{clock_of}
-use Rattle.cmb_design.specs.declared.rows.Clock.{Clock}
+use Rattle.cmb_design_model.specs.Design.{Design}
+use Rattle.cmb_design_model.specs.Nets.{is_flop}
+use Rattle.cmb_design_model.specs.Settings.{any_below}
+use Rattle.cmb_design_model.specs.Timing.{clock_of}
+use Rattle.cmb_design_model.specs.declared.rows.Clock.{Clock}
 use Rattle.cmb_count.specs.Below.{count_below}
 
 -- clocks are the same that have the same first tick and the same period

@@ -2,8 +2,8 @@
 use Rattle.std.specs.Prelude.{◌≡◌, length}
 use Rattle.cmb_netlist.specs.Netlist.{Netlist}
 use Rattle.cmb_netlist.specs.declared.netlist.Kind.TheVariants as kind
-use Rattle.cmb_design.specs.Design.{Design}
-use Rattle.cmb_loops.specs.declared.steps.Steps.TheVariants as steps
+use Rattle.cmb_design_model.specs.Design.{Design}
+use Rattle.cmb_graph.specs.declared.steps.Steps.TheVariants as steps
 use Rattle.cmb_count.specs.Clocks.{clock_count}
 use Rattle.cmb_count.specs.Largest.{IsLargestDelay}
 use Rattle.cmb_count.specs.Loops.{IsLoopCount}
@@ -42,3 +42,4 @@ pub record AreCounts (design : Design) (counts : Counts) : Type 0 where
   pub delay_rows : counts.delay_rows ≡ length design.delays
   pub stimulus_rows : counts.stimulus_rows ≡ length design.stimuli
   pub clock_rows : counts.clock_rows ≡ length design.clocks
+  pub initial_rows : counts.initial_rows ≡ length design.initial

@@ -2,9 +2,9 @@
 use Rattle.std.specs.Prelude.{ℕ, Bool, ◌==◌, ◌&&◌, length, nat_le}
 use Rattle.cmb_netlist.specs.Netlist.{Netlist, driver_of}
 use Rattle.cmb_netlist.specs.declared.netlist.Driver.{Driver}
-use Rattle.cmb_design.specs.Design.{Design}
-use Rattle.cmb_design.specs.Nets.{driver_cell, is_at, is_flop, is_input, kind_number}
-use Rattle.cmb_design.specs.Timing.{clock_of, stimulus}
+use Rattle.cmb_design_model.specs.Design.{Design}
+use Rattle.cmb_design_model.specs.Nets.{driver_cell, is_at, is_flop, is_input, kind_number}
+use Rattle.cmb_design_model.specs.Timing.{clock_of, stimulus}
 use Rattle.cmb_wave.specs.Waveform.{changes_between}
 use Rattle.cmb_count.specs.Below.{count_below}
 use Rattle.cmb_count.specs.declared.drivers.DriverKind.{DriverKind}

@@ -2,3 +2,4 @@
 pub mod Arrivals
 pub mod ClockSets
 pub mod LongestPaths
+pub mod Marks

@@ -1,8 +1,8 @@
 -- The largest delay of a design.
 use Rattle.std.specs.Prelude.{◌≡◌, ℕ, ◌<◌, ◌≤◌, ◌⊎◌, length}
-use Rattle.cmb_design.specs.Design.{Design}
-use Rattle.cmb_design.specs.Nets.{pins_at}
-use Rattle.cmb_design.specs.Timing.{delay}
+use Rattle.cmb_design_model.specs.Design.{Design}
+use Rattle.cmb_design_model.specs.Nets.{pins_at}
+use Rattle.cmb_design_model.specs.Timing.{delay}
 
 -- no pin of the nets below this number has a greater delay
 abbrev pub BoundsBelow : Design → ℕ → ℕ → Type 0

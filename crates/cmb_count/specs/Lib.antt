@@ -2,6 +2,7 @@ pub mod Below
 pub mod Clocks
 pub mod Counting
 pub mod DriverKinds
+pub mod Findings
 pub mod Inner
 pub mod Largest
 pub mod Loops

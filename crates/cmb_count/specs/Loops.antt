@@ -1,8 +1,8 @@
 -- Nets in feedback loops.
 use Rattle.std.specs.Prelude.{◌≡◌, ℕ, Bool, List, count_by}
 use Rattle.cmb_netlist.specs.Netlist.{Netlist}
-use Rattle.cmb_loops.specs.Loops.{AreLoops}
-use Rattle.cmb_loops.specs.declared.steps.Steps.{Steps}
+use Rattle.cmb_graph.specs.Loops.{AreLoops}
+use Rattle.cmb_graph.specs.declared.steps.Steps.{Steps}
 
 -- as many nets are in loops: each of them is marked, and no other
 pub record IsLoopCount (netlist : Netlist) (steps : Steps) (number : ℕ) : Type 0 where

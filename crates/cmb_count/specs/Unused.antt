@@ -2,7 +2,7 @@
 use Rattle.std.specs.Prelude.{ℕ, Bool, not, ◌||◌, List, length, nat_eq}
 use Rattle.std.specs.List.{list_any}
 use Rattle.cmb_netlist.specs.Netlist.{Netlist, driver_of, pins_of}
-use Rattle.cmb_design.specs.Settings.{any_below}
+use Rattle.cmb_design_model.specs.Settings.{any_below}
 use Rattle.cmb_count.specs.Below.{count_below}
 
 -- the net is one of these

@@ -1,9 +1,10 @@
 //! When changes arrive at nets, at the latest.
 
-ghost use Rattle.std.specs.Prelude.{◌≡◌, ◌⊎◌, ◌+◌, ◌*◌, ℕ, ◌<◌, ◌≤◌, true, false, length, slice_index, slice_index_or, All, IfOk};
+ghost use Rattle.std.specs.Prelude.{◌≡◌, ◌⊎◌, ◌+◌, ◌*◌, ℕ, ◌<◌, ◌≤◌, true, false, length, slice_index, slice_index_or};
+ghost use Rattle.std.specs.Prelude.{All, IfOk};
 ghost use Rattle.cmb_netlist.specs.Netlist.{IsNetlist};
-ghost use Rattle.cmb_loops.specs.Loops.{AreStrongComponents};
-ghost use Rattle.cmb_loops.specs.declared.steps.Steps.TheVariants.{Gates};
+ghost use Rattle.cmb_graph.specs.Loops.{AreStrongComponents};
+ghost use Rattle.cmb_graph.specs.declared.steps.Steps.TheVariants.{Gates};
 ghost use Rattle.cmb_count.specs.Inner.Arrivals.{AreComponents, AreSettled, Covers, IsArrivalAt, IsWithin};
 ghost use Rattle.cmb_count.specs.Inner.Arrivals.{endless as endless_of, closed as closed_by, launched as launched_at};
 ghost use Rattle.cmb_count.specs.Inner.Arrivals.{later_by, time_of};
@@ -12,8 +13,8 @@ ghost use Rattle.cmb_count.specs.declared.arrivals.Arrival.TheVariants.{Never};
 
 use crate::components::{Components, components_of};
 use crate::paths::{Between, is_origin};
-use cmb_design::Design;
-use cmb_loops::{Steps, targets_from};
+use cmb_design_model::Design;
+use cmb_graph::{Steps, targets_from};
 use cmb_netlist::Driver;
 use std::alloc::{AllocError, Global};
 

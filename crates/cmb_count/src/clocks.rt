@@ -2,12 +2,12 @@
 
 ghost use Rattle.std.specs.Prelude.{◌≡◌, ◌||◌, ◌+◌, if◌then◌else◌, IfOk, OnOk};
 ghost use Rattle.std.specs.BTreeSet.{btree_set_len};
-ghost use Rattle.cmb_design.specs.declared.rows.Clock.{Clock as AnyClock};
+ghost use Rattle.cmb_design_model.specs.declared.rows.Clock.{Clock as AnyClock};
 ghost use Rattle.cmb_count.specs.Clocks.{clock_count, same_clock};
 ghost use Rattle.cmb_count.specs.Inner.ClockSets.{has_clock};
 
 use crate::drivers::{DriverKind, has_kind};
-use cmb_design::{Clock, Design};
+use cmb_design_model::{Clock, Design};
 use std::alloc::{AllocError, Global};
 use std::collections::BTreeSet;
 

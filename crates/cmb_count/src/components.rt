@@ -4,7 +4,7 @@ ghost use Rattle.std.specs.Prelude.{◌≡◌, ◌≤◌, length, IfOk};
 ghost use Rattle.cmb_netlist.specs.Netlist.{IsNetlist};
 ghost use Rattle.cmb_count.specs.Inner.Arrivals.{AreComponents, IsOrder};
 
-use cmb_loops::{Steps, nets_in_loops, strong_components};
+use cmb_graph::{Steps, nets_in_loops, strong_components};
 use cmb_netlist::Netlist;
 use std::alloc::{AllocError, Global};
 

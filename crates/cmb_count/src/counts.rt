@@ -9,8 +9,8 @@ use crate::largest::largest_delay;
 use crate::loops::count_loops;
 use crate::paths::{Between, Longest, longest_path};
 use crate::unused::count_unused;
-use cmb_design::Design;
-use cmb_loops::Steps;
+use cmb_design_model::Design;
+use cmb_graph::Steps;
 use cmb_netlist::{Kind, Netlist};
 use std::alloc::{AllocError, Global};
 
@@ -57,6 +57,8 @@ pub struct Counts {
     pub stimulus_rows: usize,
     /// The rows of the table of clocks, without its header.
     pub clock_rows: usize,
+    /// The rows of the table of first levels, without its header.
+    pub initial_rows: usize,
 }
 
 fn count_gates(netlist: &Netlist) -> GateCounts
@@ -95,5 +97,6 @@ pub fn count_design(alloc: Global, design: &Design) -> Result<Counts, AllocError
         delay_rows: design.delay_rows(),
         stimulus_rows: design.stimulus_rows(),
         clock_rows: design.clock_rows(),
+        initial_rows: design.initial_rows(),
     })
 }

@@ -2,10 +2,10 @@
 
 ghost use Rattle.std.specs.Prelude.{◌≡◌, ◌<◌, ◌≤◌, ◌==◌, length};
 ghost use Rattle.cmb_netlist.specs.Netlist.{driver_of};
-ghost use Rattle.cmb_design.specs.Nets.{driver_cell, is_at, kind_number};
+ghost use Rattle.cmb_design_model.specs.Nets.{driver_cell, is_at, kind_number};
 ghost use Rattle.cmb_count.specs.DriverKinds.{has_kind, is_silent, is_still, kind_count, silent_count, still_count};
 
-use cmb_design::Design;
+use cmb_design_model::Design;
 use cmb_netlist::{Driver, Kind, Netlist};
 
 /// What drives the nets that are counted together.
@@ -53,7 +53,7 @@ pub fn count_drivers(netlist: &Netlist, wanted: &DriverKind) -> usize
     count
 }
 
-fn is_silent_input(design: &Design, net: usize) -> bool
+pub(crate) fn is_silent_input(design: &Design, net: usize) -> bool
     requires { net < length design.now.netlist.names }
     ensures { result ≡ is_silent design.now net }
 {
@@ -73,7 +73,7 @@ pub fn count_silent(design: &Design) -> usize
     count
 }
 
-fn is_still_flop(design: &Design, net: usize) -> bool
+pub(crate) fn is_still_flop(design: &Design, net: usize) -> bool
     requires { net < length design.now.netlist.names }
     ensures { result ≡ is_still design.now net }
 {

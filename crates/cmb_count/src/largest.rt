@@ -2,11 +2,11 @@
 
 ghost use Rattle.std.specs.Prelude.{◌≡◌, ◌⊎◌, ℕ, ◌<◌, ◌≤◌, length};
 ghost use Rattle.cmb_netlist.specs.Netlist.{pins_of};
-ghost use Rattle.cmb_design.specs.Nets.{pins_at};
-ghost use Rattle.cmb_design.specs.Timing.{delay};
+ghost use Rattle.cmb_design_model.specs.Nets.{pins_at};
+ghost use Rattle.cmb_design_model.specs.Timing.{delay};
 ghost use Rattle.cmb_count.specs.Largest.{BoundsBelow, IsDelayOfPin, IsLargestDelay};
 
-use cmb_design::Design;
+use cmb_design_model::Design;
 use cmb_netlist::Driver;
 
 fn pin_count(driver: &Driver) -> usize

@@ -3,7 +3,7 @@
 ghost use Rattle.std.specs.Prelude.{IfOk};
 ghost use Rattle.cmb_count.specs.Loops.{IsLoopCount};
 
-use cmb_loops::{Steps, nets_in_loops};
+use cmb_graph::{Steps, nets_in_loops};
 use cmb_netlist::Netlist;
 use std::alloc::{AllocError, Global};
 

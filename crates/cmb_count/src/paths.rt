@@ -4,12 +4,13 @@ ghost use Rattle.std.specs.Prelude.{◌≡◌, ◌⊎◌, ℕ, ◌<◌, true, fa
 ghost use Rattle.cmb_netlist.specs.Netlist.{IsNetlist, driver_of};
 ghost use Rattle.cmb_netlist.specs.declared.netlist.Driver.TheVariants.{Flop};
 ghost use Rattle.cmb_count.specs.Paths.{IsEnd, IsLongest, is_origin};
-ghost use Rattle.cmb_count.specs.Inner.LongestPaths.{AreLatest, Bounds, IsLongestSoFar, IsOutput, is_sampled as is_sampled_by, longest_at as longest_to};
+ghost use Rattle.cmb_count.specs.Inner.LongestPaths.{AreLatest, Bounds, IsLongestSoFar, IsOutput};
+ghost use Rattle.cmb_count.specs.Inner.LongestPaths.{is_sampled as is_sampled_by, longest_at as longest_to};
 
 use crate::arrivals::{Arrival, Arrivals, arrivals_of};
 use crate::clocks::is_same;
 use crate::drivers::{DriverKind, has_kind};
-use cmb_design::{Clock, Design};
+use cmb_design_model::{Clock, Design};
 use cmb_netlist::Driver;
 use std::alloc::{AllocError, Global};
 
@@ -20,6 +21,10 @@ pub enum Between {
     All,
     /// From flip-flops of a clock to data of flip-flops of that clock.
     Clocked(Clock),
+    /// From inputs to data of flip-flops of a clock.
+    InputsTo(Clock),
+    /// From flip-flops of other clocks to data of flip-flops of a clock.
+    OthersTo(Clock),
 }
 
 /// The longest of some paths.
@@ -46,6 +51,10 @@ pub(crate) fn is_origin(between: Between, design: &Design, net: usize) -> bool
         Between::Clocked(clock) => {
             has_kind(&DriverKind::Flops, driver) && is_same(clock, design.clock(net))
         }
+        Between::InputsTo(_) => has_kind(&DriverKind::Inputs, driver),
+        Between::OthersTo(clock) => {
+            has_kind(&DriverKind::Flops, driver) && !is_same(clock, design.clock(net))
+        }
     }
 }
 
@@ -55,7 +64,9 @@ fn is_sampled(between: Between, design: &Design, net: usize) -> bool
 {
     match between {
         Between::All => true,
-        Between::Clocked(clock) => is_same(clock, design.clock(net)),
+        Between::Clocked(clock) | Between::InputsTo(clock) | Between::OthersTo(clock) => {
+            is_same(clock, design.clock(net))
+        }
     }
 }
 
@@ -63,7 +74,8 @@ fn is_sampled(between: Between, design: &Design, net: usize) -> bool
 fn data_at(between: Between, design: &Design, net: usize) -> Option<usize>
     requires { net < length design.now.netlist.names }
     ensures { MatchOption result
-        ((source : ℕ) → driver_of design.now.netlist net ≡ Flop source → is_sampled_by between design.now net ≡ true → ⊥)
+        ((source : ℕ) → driver_of design.now.netlist net ≡ Flop source
+        → is_sampled_by between design.now net ≡ true → ⊥)
         (λ source. (driver_of design.now.netlist net ≡ Flop source) × (is_sampled_by between design.now net ≡ true)) }
 {
     match design.netlist().driver(net) {
@@ -143,7 +155,7 @@ fn longest_to_data(
     longest
 }
 
-/// The longest of the paths between inputs, flip-flops and outputs, or between the flip-flops of a clock, as static
+/// The longest of the paths between inputs, flip-flops and outputs, or of those to the flip-flops of a clock, as static
 /// timing analysis has it: by how many ticks a change of an input, or a sample, comes to data of a flip-flop or to an
 /// output at the latest. A flip-flop's delay counts at the beginning of a path. Work is linear in the nets and pins,
 /// but for a sort of the nets.
@@ -154,7 +166,7 @@ pub fn longest_path(alloc: Global, design: &Design, between: Between) -> Result<
     let arrivals = arrivals_of(alloc, design, between)?;
     let least = match between {
         Between::All => longest_to_outputs(design, &arrivals),
-        Between::Clocked(_) => Longest::NoPath,
+        Between::Clocked(_) | Between::InputsTo(_) | Between::OthersTo(_) => Longest::NoPath,
     };
     Ok(longest_to_data(design, between, &arrivals, least))
 }

@@ -3,6 +3,7 @@
 ghost use Rattle.std.specs.Prelude.{◌≡◌, ◌||◌, ℕ, ◌<◌, ◌≤◌, false, not, length, slice_index_or, All, IfOk};
 ghost use Rattle.cmb_netlist.specs.Netlist.{IsNetlist, driver_of, pins_of};
 ghost use Rattle.cmb_count.specs.Below.{count_below};
+ghost use Rattle.cmb_count.specs.Inner.Marks.{AreUsed};
 ghost use Rattle.cmb_count.specs.Unused.{is_among, is_used_below, unused_count};
 
 use cmb_netlist::{Driver, Netlist};
@@ -60,6 +61,16 @@ fn count_unset(marks: &[bool]) -> usize
         count += usize::from(!marks[net]);
     }
     count
+}
+
+/// For each net whether it drives something: a pin reads it, or it is an output.
+pub(crate) fn used_marks(alloc: Global, netlist: &Netlist) -> Result<Vec<bool>, AllocError>
+    ensures { IfOk result (λ marks. AreUsed netlist.now marks.items) }
+{
+    let mut all = vec![in alloc; false; netlist.len()]?;
+    let marks = all.as_mut_slice();
+    mark_used(marks, netlist);
+    Ok(all)
 }
 
 /// How many nets drive nothing: no pin reads them, and they are no outputs.

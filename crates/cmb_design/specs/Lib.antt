@@ -1,20 +1,20 @@
 -- what the public contracts rest on
-pub mod Checks
-pub mod Nets
-pub mod Rows
-pub mod Design
-pub mod Timing
-pub mod Settings
-pub mod Lawful
-pub mod Gate
-pub mod Value
-pub mod Exact
-pub mod Examples
-pub mod Faults
-pub mod Ranges
-pub mod Plain
-pub mod Part
-pub mod Expected
--- what the functions inside the crate promise each other
--- what the functions inside the crate promise each other
-pub mod Inner
+pub use Rattle.cmb_design_model.specs.Checks
+pub use Rattle.cmb_design_model.specs.Nets
+pub use Rattle.cmb_design_model.specs.Rows
+pub use Rattle.cmb_design_model.specs.Design
+pub use Rattle.cmb_design_model.specs.Timing
+pub use Rattle.cmb_design_model.specs.Settings
+pub use Rattle.cmb_design_model.specs.Lawful
+pub use Rattle.cmb_design_model.specs.Gate
+pub use Rattle.cmb_design_model.specs.Value
+pub use Rattle.cmb_design_model.specs.Exact
+pub use Rattle.cmb_design_model.specs.Examples
+pub use Rattle.cmb_design_model.specs.Faults
+pub use Rattle.cmb_design_model.specs.Ranges
+pub use Rattle.cmb_design_model.specs.Plain
+pub use Rattle.cmb_design_model.specs.Part
+pub use Rattle.cmb_design_model.specs.Expected
+pub use Rattle.cmb_design_tables.specs.Fields
+pub use Rattle.cmb_design_tables.specs.Records
+pub use Rattle.cmb_design_tables.specs.Readers

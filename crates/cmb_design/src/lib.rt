@@ -1,31 +1,10 @@
-//! A design: a netlist with its delays, its stimuli and its sampling clocks.
+//! The door to designs: a design with its settings, the readers of its tables, gate functions, and the values of its
+//! nets by a plain table.
 #![tactic(auto)]
 
-mod clocks;
-mod delays;
-pub mod design;
-pub mod examples;
-pub mod expected;
-pub mod fault;
-pub mod gates;
-pub mod laws;
-mod nets;
-mod part;
-pub mod plain;
-mod plain_cells;
-mod plain_table;
-pub mod rows;
-mod samples;
-pub mod settings;
-mod stimuli;
-mod told;
-
-pub use design::Design;
-pub use expected::{Expected, expected_rows};
-pub use fault::DesignFault;
-pub use gates::gate;
-pub use plain::{MOST_CELLS, plain_waves};
-pub use rows::{
-    Clock, ClockRow, ClockRows, DelayRow, DelayRows, Delayed, StimulusRow, StimulusRows,
+pub use cmb_design_model::{
+    Clock, ClockRow, ClockRows, DelayRow, DelayRows, Delayed, Design, DesignFault, Expected,
+    InitialRow, InitialRows, MOST_CELLS, Settings, StimulusRow, StimulusRows, expected_rows, gate,
+    plain_waves,
 };
-pub use settings::Settings;
+pub use cmb_design_tables::{read_clocks, read_delays, read_initial, read_stimuli};

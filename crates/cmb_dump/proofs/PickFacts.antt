@@ -7,9 +7,10 @@ use Rattle.std.proofs.lemmas.List.{get_or-set_same, get_or-set_other, length-set
 use Rattle.std.proofs.lemmas.List.Elements.{All-cons, All-head, All-nil, All-tail}
 use Rattle.std.proofs.lemmas.List.Kept.{AllPairs-from_increasing}
 use Rattle.cmb_wave.specs.declared.level.Level.{Level}
-use Rattle.cmb_design.proofs.LevelFacts.{push-rest}
+use Rattle.cmb_design_model.proofs.LevelFacts.{push-rest}
 use Rattle.cmb_words.specs.declared.changed.Changed.{Changed}
 use Rattle.cmb_words.specs.Changes.{IsWindow, RisesWithin, Tells, TellsNet, is_among}
+use Rattle.cmb_words.proofs.TellsFacts.{tells-same}
 use Rattle.cmb_dump.specs.Excerpts.{AreAmong, levels_at}
 use Rattle.cmb_dump.specs.Inner.Picks.{ArePlaces, picked_of}
 
@@ -133,7 +134,7 @@ module _ (count : ℕ) (nets places : List ℕ) (among : AreAmong count nets) (a
           let placed : get_or places c.net 0 < length nets = ltb-true _ _ e in
           let is : get_or nets (get_or places c.net 0) 0 ≡ c.net = are.there c.net rises.1 placed in
           All-cons (TellsNet (levels_at level nets) from upto) (record { net = get_or places c.net 0; word = c.word }) (picked_of places (length nets) cs)
-          (λ tick a b. All-head (TellsNet level from upto) c cs told tick a b ∙ ap (λ n. level n tick) (sym is)) rest
+          (tells-same level (levels_at level nets) from upto c (record { net = get_or places c.net 0; word = c.word }) refl (λ tick. ap (λ n. level n tick) (sym is)) (All-head (TellsNet level from upto) c cs told)) rest
       by false e rest = rest
 
   picked_others : (p : ℕ) (changed : List Changed) → p < length nets → is_among p (picked_of places (length nets) changed) ≡ false → is_among (get_or nets p 0) changed ≡ false

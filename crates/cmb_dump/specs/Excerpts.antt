@@ -2,9 +2,9 @@
 use Rattle.std.specs.Prelude.{ℕ, ◌<◌, ◌≤◌, List, length, slice_index, All}
 use Rattle.std.specs.List.Sorted.{IsStrictlyIncreasing}
 use Rattle.cmb_wave.specs.declared.level.Level.{Level}
-use Rattle.cmb_design.specs.Design.{Design}
-use Rattle.cmb_vcd.specs.Chosen.{names_of}
-use Rattle.cmb_vcd.specs.Vcd.{part_text}
+use Rattle.cmb_design_model.specs.Design.{Design}
+use Rattle.cmb_run_text.specs.Chosen.{names_of}
+use Rattle.cmb_run_text.specs.Vcd.{part_text}
 
 -- nets among so many, by rising number
 pub record AreAmong (count : ℕ) (nets : List ℕ) : Type 0 where

@@ -1,12 +1,12 @@
 //! The ends of the nets' lines, made once.
 
 ghost use Rattle.std.specs.Prelude.{◌≡◌, ◌≤◌, length, IfOk};
-ghost use Rattle.cmb_vcd.specs.Vcd.{code, line};
+ghost use Rattle.cmb_run_text.specs.Vcd.{code, line};
 ghost use Rattle.cmb_dump.specs.Inner.Tails.{AreTails, tail_bytes};
 
 use crate::tail::Tail;
 use cmb_netlist::MAX_NETS;
-use cmb_vcd::ready_codes::{Code, code_of};
+use cmb_run_text::ready_codes::{Code, code_of};
 use std::alloc::{AllocError, Global};
 
 fn tail_of(net: u16) -> Tail

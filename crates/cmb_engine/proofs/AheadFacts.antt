@@ -6,13 +6,14 @@ use Rattle.std.proofs.lemmas.List.{append-nil, take_more}
 use Rattle.std.proofs.lemmas.List.Elements.{Contains-append_cases, Contains-append_left, Contains-append_right, Contains-push_cases}
 use Rattle.std.proofs.lemmas.List.Folds.{list_any-append}
 use Rattle.cmb_wave.specs.declared.level.Level.{Level}
-use Rattle.cmb_design.specs.declared.rows.Clock.{Clock}
+use Rattle.cmb_design_model.specs.declared.rows.Clock.{Clock}
 use Rattle.cmb_words.specs.declared.changed.Changed.{Changed}
 use Rattle.cmb_words.specs.declared.word.Word.{Word}
 use Rattle.cmb_words.specs.Changes.{IsStill, TellsNet, is_among}
 use Rattle.cmb_words.specs.Word.{level_at_place}
 use Rattle.cmb_words.specs.Holds.{AreSamples, Holds}
 use Rattle.cmb_words.proofs.StillFacts.{ticks-still}
+use Rattle.cmb_words.proofs.TellsFacts.{levels-tell}
 use Rattle.cmb_engine.specs.Inner.Cells.{Cell, Told, Gate, Flop, cell_at, is_made, cell_level, IsLawful, IsSteadyFrom}
 use Rattle.cmb_engine.specs.Inner.Circuits.{cell_row, IsFlopOf, MeetsCells, Shows}
 use Rattle.cmb_engine.specs.Inner.Exports.{moved_on, slots_of, AddsSlots, AreTakenBefore, HoldsAhead}
@@ -150,8 +151,8 @@ module _ (trace words : ℕ → ℕ → Level) (cells : List Cell) (count from t
     begins = omega arith
 
     pub slot-told : (word : Word) → ((place : ℕ) → held place ≡ level_at_place word place) → (one : Changed) → one ≡ record { net = slot; word = word } → TellsNet trace from to one
-    slot-told word same one is = rw is (λ tick late below.
-        sym (same (tick + 64 - to)) ∙ shown-at (λ other. held) (λ other. trace slot) 1 1 to first [] slot-shows (omega arith) (omega arith) (omega arith) 0 tick (omega arith) (omega (arith, begins, late)) below)
+    slot-told word same one is = rw is (levels-tell trace from to (record { net = slot; word = word }) (omega (arith, begins)) (λ tick late below.
+        sym (same (tick + 64 - to)) ∙ shown-at (λ other. held) (λ other. trace slot) 1 1 to first [] slot-shows (omega arith) (omega arith) (omega arith) 0 tick (omega arith) (omega (arith, begins, late)) below))
 
     pub slot-still : IsSteadyFrom held first → IsStill (trace slot) from to
     slot-still steady =

@@ -3,12 +3,12 @@ use Rattle.std.proofs.Common.{◌≡◌, ℕ, suc, ◌+◌, ◌-◌, ◌*◌, �
 use Rattle.std.proofs.lemmas.Bool.{lt-ltb, le-ltb, le-leb, leb-true, eqb-true, eq-eqb, and_parts, and_from, cases_lt, false≢true}
 use Rattle.std.proofs.lemmas.Nat.{div-mul-add, mod-mul-add}
 use Rattle.cmb_wave.specs.declared.level.Level.{Level}
-use Rattle.cmb_design.specs.declared.rows.Clock.{Clock}
-use Rattle.cmb_design.specs.Design.{Design}
-use Rattle.cmb_design.specs.Timing.{clock_of, delay, IsSample, last_sample}
-use Rattle.cmb_design.specs.Value.{flop_level}
-use Rattle.cmb_design.proofs.AskFacts.{clock_of-positive}
-use Rattle.cmb_design.proofs.SampleFacts.{delay-positive, last_sample-none, last_sample-some}
+use Rattle.cmb_design_model.specs.declared.rows.Clock.{Clock}
+use Rattle.cmb_design_model.specs.Design.{Design}
+use Rattle.cmb_design_model.specs.Timing.{clock_of, delay, initial_level, IsSample, last_sample}
+use Rattle.cmb_design_model.specs.Value.{flop_level}
+use Rattle.cmb_design_model.proofs.AskFacts.{clock_of-positive}
+use Rattle.cmb_design_model.proofs.SampleFacts.{delay-positive, last_sample-none, last_sample-some}
 use Rattle.cmb_engine.specs.Rows.{arrives, arrives_by}
 
 pub arrives_parts : (clock : Clock) (ticks tick : ℕ) → arrives_by clock ticks tick ≡ true
@@ -38,11 +38,11 @@ same_turn n period positive some =
     ap (λ m. m / period) e ∙ div-mul-add (suc n / period) period (suc n % period - 1) (omega arith)
 
 module _ (design : Design) (level : ℕ → Level) (net : ℕ) where
-  -- below its first arrival a flip-flop has its initial level
-  flop_level-early : (tick : ℕ) → tick < (clock_of design net).first + delay design net 1 → flop_level design level net tick ≡ design.init
+  -- below its first arrival a flip-flop has its first level
+  flop_level-early : (tick : ℕ) → tick < (clock_of design net).first + delay design net 1 → flop_level design level net tick ≡ initial_level design net
   flop_level-early tick early = go (cases_lt tick (delay design net 1))
     where
-      go : (tick < delay design net 1) ⊎ (delay design net 1 ≤ tick) → flop_level design level net tick ≡ design.init
+      go : (tick < delay design net 1) ⊎ (delay design net 1 ≤ tick) → flop_level design level net tick ≡ initial_level design net
       go (inl l) = let e : ltb tick (delay design net 1) ≡ true = lt-ltb _ _ l in rw e
       go (inr l) =
           let e : ltb tick (delay design net 1) ≡ false = le-ltb _ _ l in
@@ -57,7 +57,7 @@ module _ (design : Design) (level : ℕ → Level) (net : ℕ) where
       let some = last_sample-some (clock_of design net) (tick - delay design net 1) (omega arith) in
       rw (e, some)
 
-  pub flop_level-start : flop_level design level net 0 ≡ design.init
+  pub flop_level-start : flop_level design level net 0 ≡ initial_level design net
   flop_level-start = flop_level-early 0 (omega (arith, delay-positive design net 1))
 
   pub flop_level-takes : (tick : ℕ) → arrives design net tick ≡ true → flop_level design level net tick ≡ level (tick - delay design net 1)

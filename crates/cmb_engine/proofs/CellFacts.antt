@@ -3,7 +3,7 @@ use Rattle.std.proofs.Common.{◌≡◌, ℕ, zero, suc, ◌+◌, ◌-◌, ◌<�
 use Rattle.std.proofs.lemmas.Bool.{cases_lt, cases_Bool, false≢true}
 use Rattle.std.specs.List.{AllByRecursion}
 use Rattle.cmb_wave.specs.declared.level.Level.{Level}
-use Rattle.cmb_design.specs.Gate.{gate}
+use Rattle.cmb_design_model.specs.Gate.{gate}
 use Rattle.cmb_engine.specs.Rows.{arrives_by}
 use Rattle.cmb_engine.specs.Inner.Cells.{Cell, Told, Gate, Flop, is_made, seen, cell_level, EachSeen, IsMade, IsSettled, IsSteady, IsReadable, IsReady, IsTrueBelow}
 use Rattle.cmb_engine.specs.declared.cell.Pin.{Pin}

@@ -12,6 +12,7 @@ use Rattle.cmb_words.specs.Word.{level_at_place}
 use Rattle.cmb_words.specs.declared.word.Word.{Word}
 use Rattle.cmb_words.proofs.Rising.{rises-push, rises-wider, rises_at}
 use Rattle.cmb_words.proofs.StillFacts.{still-ticks, ticks-still}
+use Rattle.cmb_words.proofs.TellsFacts.{levels-tell}
 use Rattle.cmb_engine.specs.Inner.Cells.{IsSteadyFrom}
 use Rattle.cmb_engine.specs.Inner.Circuits.{AreQuiet, Shows}
 use Rattle.cmb_engine.specs.Inner.Words.{levels_of}
@@ -118,12 +119,14 @@ module _ (words : ℕ → ℕ → Level) (trace : ℕ → ℕ → Level) (count 
       first_level place near small (inl l) = ap (words net) (omega (arith, near, l))
       first_level place near small (inr l) = steady place l small
 
-  pub collected-tells : RisesWithin 0 nets changed → All (HasWord words) changed → ((net : ℕ) → net < nets → is_among net changed ≡ false → IsSteadyFrom (words net) first)
+  pub collected-tells : first ≤ 64 → RisesWithin 0 nets changed → All (HasWord words) changed → ((net : ℕ) → net < nets → is_among net changed ≡ false → IsSteadyFrom (words net) first)
       → Tells trace nets (to + first - 64) to changed
-  collected-tells rises right others = record {
-    words = λ k d small tick from upto.
+  collected-tells most rises right others = record {
+    words = λ k d small.
+        levels-tell trace (to + first - 64) to (get_or changed k d) (omega (arith, most))
+        (λ tick from upto.
         right k d small (tick + 64 - to) (omega (arith, upto, from, inside))
-        ∙ shown-at (get_or changed k d).net tick (rises_at 0 nets changed k d rises small) from upto;
+        ∙ shown-at (get_or changed k d).net tick (rises_at 0 nets changed k d rises small) from upto);
     others = λ net below other. steady-still net below (others net below other);
   }
 

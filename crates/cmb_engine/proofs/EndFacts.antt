@@ -3,9 +3,9 @@ use Rattle.std.proofs.Common.{◌≡◌, ℕ, zero, suc, ◌+◌, ◌-◌, ◌*�
 use Rattle.std.specs.Prelude.{All, Contains}
 use Rattle.std.proofs.lemmas.Nat.{mul-le}
 use Rattle.std.proofs.lemmas.Bool.{lt-ltb, le-ltb, cases_eq, cases_lt}
-use Rattle.cmb_design.specs.Design.{Design}
-use Rattle.cmb_design.specs.Timing.{clock_of, delay}
-use Rattle.cmb_design.proofs.AskFacts.{clock_of-positive}
+use Rattle.cmb_design_model.specs.Design.{Design}
+use Rattle.cmb_design_model.specs.Timing.{clock_of, delay}
+use Rattle.cmb_design_model.proofs.AskFacts.{clock_of-positive}
 use Rattle.cmb_engine.specs.Crossings.{AreWithinLookahead, IsCrossing}
 use Rattle.cmb_engine.specs.Inner.Ends.{IsPaced, pace_of, AreEnding}
 use Rattle.cmb_engine.specs.Windows.{HaveTicks, arrival_from, end_by}

@@ -1,12 +1,12 @@
 -- What an engine's state tells of its design, and how it goes on.
 use Rattle.std.proofs.Common.{◌≡◌, ℕ, ◌+◌, ◌-◌, ◌<◌, ◌≤◌, false, List, length, sym, ap, subst, ◌∙◌, arith}
 use Rattle.std.specs.Prelude.{All, Contains}
-use Rattle.cmb_calendar.specs.Calendars.{Calendar, AreInOrder, Takes}
-use Rattle.cmb_calendar.specs.declared.tell.Tell.{Tell}
+use Rattle.cmb_wheel.specs.Calendars.{Calendar, AreInOrder, Takes}
+use Rattle.cmb_wheel.specs.declared.event.LevelEvent.{LevelEvent}
 use Rattle.cmb_wave.specs.declared.level.Level.{Level}
-use Rattle.cmb_design.specs.Design.{Design}
-use Rattle.cmb_design.specs.Exact.{nets_of}
-use Rattle.cmb_design.specs.Value.{value}
+use Rattle.cmb_design_model.specs.Design.{Design}
+use Rattle.cmb_design_model.specs.Exact.{nets_of}
+use Rattle.cmb_design_model.specs.Value.{value}
 use Rattle.cmb_words.specs.declared.changed.Changed.{Changed}
 use Rattle.cmb_words.specs.declared.word.Word.{Word}
 use Rattle.cmb_words.specs.Changes.{RisesWithin, Tells, is_among}
@@ -36,7 +36,7 @@ module _ (design : Design) (circuit : Circuit) (state : State) (is_circuit : IsC
       (omega (arith, inside, is_circuit.plan.count), is_circuit.plan.others slot inside (given-other circuit.wiring.roles.items slot gift))
 
   -- a window up to a tick, of which the tells were taken out
-  module _ (between : Calendar) (taken : List Tell) (to : ℕ) (later : state.clock < to) (short : to ≤ state.clock + circuit.width) (within : to ≤ design.horizon)
+  module _ (between : Calendar) (taken : List LevelEvent) (to : ℕ) (later : state.clock < to) (short : to ≤ state.clock + circuit.width) (within : to ≤ design.horizon)
       (takes : Takes to state.calendar between taken) where
     place : to + (64 - (to - state.clock)) ≡ state.clock + 64
     place = omega (arith, later, short, is_circuit.plan.fits)
@@ -46,7 +46,7 @@ module _ (design : Design) (circuit : Circuit) (state : State) (is_circuit : IsC
         taken-tells design circuit.wiring.roles.items circuit.lines.items circuit.wiring.most circuit.width circuit.wiring.cells is_circuit.plan state.calendar between taken state.clock to
         (64 - (to - state.clock)) is_state.ahead is_state.begun later short within place takes
 
-    pub told-slots : AreInOrder taken → (tell : Tell) → Contains taken tell
+    pub told-slots : AreInOrder taken → (tell : LevelEvent) → Contains taken tell
         → (tell.slot < length circuit.wiring.cells) × (is_made (cell_at circuit.wiring.cells tell.slot) ≡ false) × (to ≤ tell.tick + (to - state.clock)) × (tell.tick < to)
     told-slots order tell h =
         let right = (window-tells order).right tell h in
@@ -56,7 +56,7 @@ module _ (design : Design) (circuit : Circuit) (state : State) (is_circuit : IsC
     back = omega (arith, later)
 
     -- words that went on by the window show what the slots show up to its end
-    pub next-shows : (old new : List Word) (tells : List Tell) (given : List Changed) → AreGiven (value design) circuit.wiring.roles.items state.clock to given → old ≡ state.words.items → tells ≡ taken → AreInOrder taken
+    pub next-shows : (old new : List Word) (tells : List LevelEvent) (given : List Changed) → AreGiven (value design) circuit.wiring.roles.items state.clock to given → old ≡ state.words.items → tells ≡ taken → AreInOrder taken
         → ((trace : ℕ → ℕ → Level) → MeetsCells trace (cell_at circuit.wiring.cells) → Shows (levels_of old) trace (length old) (to - (to - state.clock))
         → AreOfWindow trace (cell_at circuit.wiring.cells) (gives circuit.wiring.roles.items) (length old) (to - (to - state.clock)) to tells
         → AreGiven trace circuit.wiring.roles.items (to - (to - state.clock)) to given → Shows (levels_of new) trace (length old) to)
@@ -71,7 +71,7 @@ module _ (design : Design) (circuit : Circuit) (state : State) (is_circuit : IsC
         subst (λ (ws : List Word). Shows (levels_of ws) trace (length ws) (to - (to - state.clock))) (sym same) known in
         let told : AreOfWindow trace (cell_at circuit.wiring.cells) (gives circuit.wiring.roles.items) (length circuit.wiring.cells) (to - (to - state.clock)) to tells =
         subst (λ (t : ℕ). AreOfWindow trace (cell_at circuit.wiring.cells) (gives circuit.wiring.roles.items) (length circuit.wiring.cells) t to tells) (sym back)
-        (subst (λ (xs : List Tell). AreOfWindow trace (cell_at circuit.wiring.cells) (gives circuit.wiring.roles.items) (length circuit.wiring.cells) state.clock to xs) (sym those) (window-tells order)) in
+        (subst (λ (xs : List LevelEvent). AreOfWindow trace (cell_at circuit.wiring.cells) (gives circuit.wiring.roles.items) (length circuit.wiring.cells) state.clock to xs) (sym those) (window-tells order)) in
         subst (λ (n : ℕ). Shows (levels_of new) trace n to) count
         (shows trace is_circuit.plan.meets before
         (subst (λ (n : ℕ). AreOfWindow trace (cell_at circuit.wiring.cells) (gives circuit.wiring.roles.items) n (to - (to - state.clock)) to tells) (sym count) told)
@@ -88,7 +88,7 @@ module _ (design : Design) (circuit : Circuit) (state : State) (is_circuit : IsC
           subst (λ (from : ℕ). Tells (level_in design circuit.wiring.roles.items) (nets_of design) from to changed) begins
           (collected-tells (levels_of words) (level_in design circuit.wiring.roles.items) (nets_of design) (nets_of design) to (64 - (to - state.clock)) changed
           (shows-nets (levels_of words) design circuit.wiring.roles.items circuit.lines.items (length circuit.wiring.cells) to (omega (arith, is_circuit.plan.count)) shows)
-          (omega arith) (omega (arith, short, is_circuit.plan.fits)) (omega (arith, place, is_state.begun)) rises right others)
+          (omega arith) (omega (arith, short, is_circuit.plan.fits)) (omega (arith, place, is_state.begun)) (omega arith) rises right others)
 
       pub next-ahead : (new : Calendar) → NotesEach (IsOfLine changed circuit.lines.items (nets_of design) to (64 - (to - state.clock))) between new
           → new.horizon ≡ between.horizon → new.clock ≡ between.clock → TellsAhead design circuit.wiring.roles.items circuit.lines.items circuit.wiring.cells to new

@@ -9,16 +9,17 @@ use Rattle.cmb_netlist.specs.Netlist.{driver_of}
 use Rattle.cmb_netlist.specs.declared.netlist.Driver.{Driver}
 use Rattle.cmb_netlist.specs.declared.netlist.Driver.TheVariants as driver
 use Rattle.cmb_netlist.specs.declared.netlist.Driver.TheVariants.{Input}
-use Rattle.cmb_design.specs.Design.{Design}
-use Rattle.cmb_design.specs.Exact.{nets_of}
-use Rattle.cmb_design.specs.Nets.{is_flop as is_flop_driver}
-use Rattle.cmb_design.specs.Timing.{delay}
-use Rattle.cmb_design.specs.Value.{value}
+use Rattle.cmb_design_model.specs.Design.{Design}
+use Rattle.cmb_design_model.specs.Exact.{nets_of}
+use Rattle.cmb_design_model.specs.Nets.{is_flop as is_flop_driver}
+use Rattle.cmb_design_model.specs.Timing.{delay}
+use Rattle.cmb_design_model.specs.Value.{value}
 use Rattle.cmb_words.specs.declared.changed.Changed.{Changed}
 use Rattle.cmb_words.specs.declared.word.Word.{Word}
 use Rattle.cmb_words.specs.Changes.{TellsNet}
 use Rattle.cmb_words.proofs.StillFacts.{still-agrees}
-use Rattle.cmb_design.specs.declared.rows.Clock.{Clock}
+use Rattle.cmb_words.proofs.TellsFacts.{tells-same}
+use Rattle.cmb_design_model.specs.declared.rows.Clock.{Clock}
 use Rattle.cmb_engine.specs.Crossings.{IsCrossing, IsWithinLookahead}
 use Rattle.cmb_engine.specs.Rows.{arrives as arrives_at, arrives_by}
 use Rattle.cmb_engine.specs.Shares.{IsDriven, TellsThose}
@@ -267,7 +268,9 @@ module _ (design : Design) (circuit : Circuit) (is_circuit : IsCircuit design ci
     exports-tell exports are words shows told adds = (
       λ k d small. (right (get_or told k d) (all.right (get_or told k d) (Contains-get_or told k d small))).0,
       record {
-        words = λ one among exported tick late below. (right one (all.right one among)).1 tick late below ∙ level one.net tick exported;
+        words = λ one among exported.
+            tells-same (trace_of design circuit.wiring.roles.items circuit.lines.items) (value design) from to one one refl (λ tick. level one.net tick exported)
+            (right one (all.right one among)).1;
         others = λ net exported none.
             still-agrees (trace_of design circuit.wiring.roles.items circuit.lines.items net) (value design net) from to (λ tick late below. level net tick exported) (all.others net exported none);
       },

@@ -5,14 +5,15 @@ use Rattle.std.proofs.lemmas.Bool.{cases_lt, cases_eq, cases_Bool, eq-eqb, ne_eq
 use Rattle.std.proofs.lemmas.List.Elements.{Contains-append_left, Contains-append_right, Contains-push}
 use Rattle.std.proofs.lemmas.List.Folds.{list_any-append}
 use Rattle.cmb_wave.specs.declared.level.Level.{Level}
-use Rattle.cmb_calendar.specs.declared.tell.Tell.{Tell}
-use Rattle.cmb_design.specs.Design.{Design}
-use Rattle.cmb_design.specs.Value.{value}
+use Rattle.cmb_wheel.specs.declared.event.LevelEvent.{LevelEvent}
+use Rattle.cmb_design_model.specs.Design.{Design}
+use Rattle.cmb_design_model.specs.Value.{value}
 use Rattle.cmb_words.specs.declared.changed.Changed.{Changed}
 use Rattle.cmb_words.specs.Changes.{IsStill, is_among}
 use Rattle.cmb_words.specs.declared.word.Word.{Word}
 use Rattle.cmb_words.specs.Word.{level_at_place}
 use Rattle.cmb_words.proofs.StillFacts.{still-agrees, still-level}
+use Rattle.cmb_words.proofs.TellsFacts.{tells-level, tells-same}
 use Rattle.cmb_engine.specs.Inner.Bits.{has}
 use Rattle.cmb_engine.specs.Inner.Cells.{Cell, AreMarked, cell_at, is_made}
 use Rattle.cmb_engine.specs.Inner.Circuits.{Shows}
@@ -162,7 +163,8 @@ written-on roles xs ys old mid new first g h = record {
 pub given-traced : (design : Design) (roles : List Role) (lines : List Pin) (from to : ℕ) (given : List Changed) → AreRoles design roles → AreGiven (value design) roles from to given
     → AreGiven (trace_of design roles lines) roles from to given
 given-traced design roles lines from to given lawful right = record {
-  words = λ one among gift tick late small. right.words one among gift tick late small ∙ sym (same one.net tick gift);
+  words = λ one among gift.
+      tells-same (value design) (trace_of design roles lines) from to one one refl (λ tick. sym (same one.net tick gift)) (right.words one among gift);
   others = λ net gift none. still-agrees (value design net) (trace_of design roles lines net) from to (λ tick late small. sym (same net tick gift)) (right.others net gift none);
 }
   where
@@ -175,7 +177,7 @@ given-traced design roles lines from to given lawful right = record {
 
 module _ (trace : ℕ → ℕ → Level) (cells : List Cell) (roles : List Role) (from ticks to first most : ℕ) (window : IsWindow from ticks to first most) (old moved told new : ℕ → ℕ → Level)
     (shows : Shows old trace (length cells) from) (moves : (slot place : ℕ) → place < 64 → moved slot place ≡ old slot (min (place + ticks) 63))
-    (tells : List Tell) (right : AreOfWindow trace (cell_at cells) (gives roles) (length cells) from to tells) (given : List Changed) (gifts : AreGiven trace roles from to given)
+    (tells : List LevelEvent) (right : AreOfWindow trace (cell_at cells) (gives roles) (length cells) from to tells) (given : List Changed) (gifts : AreGiven trace roles from to given)
     (told_nets : AreToldNets cells roles)
     (told_words : (slot place : ℕ) → slot < length cells → place < 64 → told slot place ≡ told_level tells slot (moved slot place) (to + place - 64))
     (writes : AreWritten roles given told new first) where
@@ -213,7 +215,7 @@ module _ (trace : ℕ → ℕ → Level) (cells : List Cell) (roles : List Role)
   word-shows one among gift place late small =
       let at : to + place - 64 + 64 - to ≡ place = omega arith in
       ap (level_at_place one.word) (sym at)
-      ∙ gifts.words one among gift (to + place - 64) (omega arith) (omega arith)
+      ∙ tells-level trace from to one (gifts.words one among gift) (to + place - 64) (omega arith) (omega arith)
       ∙ sym (in_place-tick (trace one.net) to place (omega arith))
 
   -- all told slots show the trace
@@ -250,7 +252,7 @@ module _ (trace : ℕ → ℕ → Level) (cells : List Cell) (roles : List Role)
       idle (inr other) = other
 
   -- a slot whose readers aren't all marked is as it was
-  pub unmarked-kept : (readers : List (List ℕ)) (marks : List ℕ) → ((tell : Tell) → Contains tells tell → AreMarked (has marks) (get_or readers tell.slot []))
+  pub unmarked-kept : (readers : List (List ℕ)) (marks : List ℕ) → ((tell : LevelEvent) → Contains tells tell → AreMarked (has marks) (get_or readers tell.slot []))
       → ((slot : ℕ) → is_written roles given slot ≡ true → AreMarked (has marks) (get_or readers slot []))
       → (slot : ℕ) → slot < length cells → (AreMarked (has marks) (get_or readers slot []) → ⊥) → (place : ℕ) → place < 64 → new slot place ≡ moved slot place
   unmarked-kept readers marks told_news given_news slot inside none place small =

@@ -7,7 +7,7 @@ use Rattle.std.proofs.lemmas.List.{get_or_default}
 use Rattle.std.proofs.lemmas.List.Elements.{All-push, Contains-append_left, Contains-push}
 use Rattle.std.proofs.lemmas.List.Sorted.{All-permutation, Contains-permutation}
 use Rattle.cmb_wave.specs.declared.level.Level.{Level}
-use Rattle.cmb_design.specs.declared.rows.Clock.{Clock}
+use Rattle.cmb_design_model.specs.declared.rows.Clock.{Clock}
 use Rattle.cmb_engine.specs.Inner.Cells.{Cell, Told, Gate, Flop, IsLawful, IsPace, IsSteady, cell_at, is_flop, is_made}
 use Rattle.cmb_engine.specs.Inner.Bits.{has}
 use Rattle.cmb_engine.specs.Inner.Orders.{Order, is_marked, rank_in}

@@ -3,8 +3,8 @@ use Rattle.std.proofs.Common.{◌≡◌, ℕ, ◌+◌, ◌<◌, ◌⊎◌, inl, 
 use Rattle.std.specs.Prelude.{Contains}
 use Rattle.std.proofs.lemmas.List.{take_more}
 use Rattle.std.proofs.lemmas.List.Elements.{Contains-append_left, Contains-push, Contains-push_cases}
-use Rattle.cmb_calendar.specs.Calendars.{Calendar, Notes, SameTicks}
-use Rattle.cmb_calendar.specs.declared.tell.Tell.{Tell}
+use Rattle.cmb_wheel.specs.Calendars.{Calendar, Notes, SameTicks}
+use Rattle.cmb_wheel.specs.declared.event.LevelEvent.{LevelEvent}
 use Rattle.cmb_engine.specs.Inner.Lines.{NotesEach}
 
 pub ticks-same : (calendar : Calendar) → SameTicks calendar calendar
@@ -14,7 +14,7 @@ pub ticks-on : (old between new : Calendar) → SameTicks old between → SameTi
 ticks-on old between new g h = record { horizon = h.horizon ∙ g.horizon; clock = h.clock ∙ g.clock }
 
 -- nothing is told
-pub notes-none : (IsNew : Tell → Type 0) (calendar : Calendar) → ((tell : Tell) → IsNew tell → ⊥) → NotesEach IsNew calendar calendar
+pub notes-none : (IsNew : LevelEvent → Type 0) (calendar : Calendar) → ((tell : LevelEvent) → IsNew tell → ⊥) → NotesEach IsNew calendar calendar
 notes-none IsNew calendar none tell = (inl, back)
   where
     back : Contains calendar.tells tell ⊎ (IsNew tell × (tell.tick < calendar.horizon)) → Contains calendar.tells tell
@@ -22,19 +22,19 @@ notes-none IsNew calendar none tell = (inl, back)
     back (inr h) = absurd (none tell h.0)
 
 -- one thing is told
-pub notes-one : (old new : Calendar) (one : Tell) → Notes old new one → NotesEach (λ tell. tell ≡ one) old new
+pub notes-one : (old new : Calendar) (one : LevelEvent) → Notes old new one → NotesEach (λ tell. tell ≡ one) old new
 notes-one old new one notes tell = (λ h. there ((notes tell).0 h), λ h. (notes tell).1 (back h))
   where
     there : Contains old.tells tell ⊎ ((tell ≡ one) × (one.tick < old.horizon)) → Contains old.tells tell ⊎ ((tell ≡ one) × (tell.tick < old.horizon))
     there (inl h) = inl h
-    there (inr h) = inr (h.0, subst (λ (t : Tell). t.tick < old.horizon) (sym h.0) h.1)
+    there (inr h) = inr (h.0, subst (λ (t : LevelEvent). t.tick < old.horizon) (sym h.0) h.1)
 
     back : Contains old.tells tell ⊎ ((tell ≡ one) × (tell.tick < old.horizon)) → Contains old.tells tell ⊎ ((tell ≡ one) × (one.tick < old.horizon))
     back (inl h) = inl h
-    back (inr h) = inr (h.0, subst (λ (t : Tell). t.tick < old.horizon) h.0 h.1)
+    back (inr h) = inr (h.0, subst (λ (t : LevelEvent). t.tick < old.horizon) h.0 h.1)
 
 -- the same in other words
-pub notes-as : (IsNew IsOther : Tell → Type 0) (old new : Calendar) → ((tell : Tell) → IsNew tell → IsOther tell) → ((tell : Tell) → IsOther tell → IsNew tell)
+pub notes-as : (IsNew IsOther : LevelEvent → Type 0) (old new : Calendar) → ((tell : LevelEvent) → IsNew tell → IsOther tell) → ((tell : LevelEvent) → IsOther tell → IsNew tell)
     → NotesEach IsNew old new → NotesEach IsOther old new
 notes-as IsNew IsOther old new to from notes tell = (λ h. there ((notes tell).0 h), λ h. (notes tell).1 (back h))
   where
@@ -47,8 +47,8 @@ notes-as IsNew IsOther old new to from notes tell = (λ h. there ((notes tell).0
     back (inr h) = inr (from tell h.0, h.1)
 
 -- some things, and then others
-pub notes-more : (IsFirst IsSecond IsNew : Tell → Type 0) (old between new : Calendar) → between.horizon ≡ old.horizon
-    → ((tell : Tell) → IsNew tell → IsFirst tell ⊎ IsSecond tell) → ((tell : Tell) → IsFirst tell → IsNew tell) → ((tell : Tell) → IsSecond tell → IsNew tell)
+pub notes-more : (IsFirst IsSecond IsNew : LevelEvent → Type 0) (old between new : Calendar) → between.horizon ≡ old.horizon
+    → ((tell : LevelEvent) → IsNew tell → IsFirst tell ⊎ IsSecond tell) → ((tell : LevelEvent) → IsFirst tell → IsNew tell) → ((tell : LevelEvent) → IsSecond tell → IsNew tell)
     → NotesEach IsFirst old between → NotesEach IsSecond between new → NotesEach IsNew old new
 notes-more IsFirst IsSecond IsNew old between new same parts first second before after tell = (λ h. there ((after tell).0 h), back)
   where

@@ -1,11 +1,11 @@
 -- What the calendar of an engine that begins has.
 use Rattle.std.proofs.Common.{◌≡◌, ◌⊎◌, inl, inr, ℕ, ◌+◌, ◌<◌, List, [], length, sym, ap, subst, ◌∙◌, arith}
 use Rattle.std.specs.Prelude.{Contains}
-use Rattle.cmb_calendar.specs.Calendars.{Calendar, SameTicks}
-use Rattle.cmb_calendar.specs.declared.tell.Tell.{Tell}
+use Rattle.cmb_wheel.specs.Calendars.{Calendar, SameTicks}
+use Rattle.cmb_wheel.specs.declared.event.LevelEvent.{LevelEvent}
 use Rattle.cmb_wave.specs.declared.level.Level.{Level}
-use Rattle.cmb_design.specs.Design.{Design}
-use Rattle.cmb_design.specs.Exact.{nets_of}
+use Rattle.cmb_design_model.specs.Design.{Design}
+use Rattle.cmb_design_model.specs.Exact.{nets_of}
 use Rattle.cmb_words.specs.declared.word.Word.{Word}
 use Rattle.cmb_engine.specs.Inner.Ahead.{TellsAhead}
 use Rattle.cmb_engine.specs.Inner.Cells.{Cell}
@@ -33,14 +33,14 @@ module _ (design : Design) (roles : List Role) (lines : List Pin) (most width : 
     (shows : Shows words (trace_of design roles lines) (nets_of design + length lines) 1) (empty noted started : Calendar) (none : empty.tells ≡ [])
     (ends : empty.horizon ≡ design.horizon) (zero : empty.clock ≡ 0) (first : SameTicks empty noted) (second : SameTicks noted started)
     (inputs : NotesEach (IsOfInput design roles) empty noted) (starts : NotesEach (IsOfStart words lines (nets_of design)) noted started) where
-  noted-below : (tell : Tell) → Contains noted.tells tell → tell.tick < design.horizon
+  noted-below : (tell : LevelEvent) → Contains noted.tells tell → tell.tick < design.horizon
   noted-below tell h = go ((inputs tell).0 h)
     where
       go : Contains empty.tells tell ⊎ (IsOfInput design roles tell × (tell.tick < empty.horizon)) → tell.tick < design.horizon
       go (inl h) = absurd (omega (arith, h.1, ap length none))
       go (inr h) = omega (arith, h.1, ends)
 
-  started-below : (tell : Tell) → Contains started.tells tell → tell.tick < design.horizon
+  started-below : (tell : LevelEvent) → Contains started.tells tell → tell.tick < design.horizon
   started-below tell h = go ((starts tell).0 h)
     where
       go : Contains noted.tells tell ⊎ (IsOfStart words lines (nets_of design) tell × (tell.tick < noted.horizon)) → tell.tick < design.horizon

@@ -13,13 +13,13 @@ use Rattle.cmb_netlist.specs.declared.netlist.Driver.TheVariants as driver
 use Rattle.cmb_netlist.specs.declared.netlist.Kind.{Kind}
 use Rattle.cmb_netlist.specs.declared.netlist.Kind.TheVariants.{And, Nand, Or, Nor, Xor, Xnor, Not, Buff}
 use Rattle.cmb_netlist.specs.Netlist.{Netlist, driver_of, pins_of as operands_of, IsNetlist, IsWired, MayTake}
-use Rattle.cmb_design.specs.declared.rows.Clock.{Clock}
-use Rattle.cmb_design.specs.Design.{Design}
-use Rattle.cmb_design.specs.Exact.{nets_of}
-use Rattle.cmb_design.specs.Gate.{gate}
-use Rattle.cmb_design.specs.Timing.{delay}
-use Rattle.cmb_design.specs.Value.{delayed, pin_levels, value}
-use Rattle.cmb_design.proofs.ValueFacts.{value-at_gate}
+use Rattle.cmb_design_model.specs.declared.rows.Clock.{Clock}
+use Rattle.cmb_design_model.specs.Design.{Design}
+use Rattle.cmb_design_model.specs.Exact.{nets_of}
+use Rattle.cmb_design_model.specs.Gate.{gate}
+use Rattle.cmb_design_model.specs.Timing.{delay}
+use Rattle.cmb_design_model.specs.Value.{delayed, pin_levels, value}
+use Rattle.cmb_design_model.proofs.ValueFacts.{value-at_gate}
 use Rattle.cmb_engine.specs.Inner.Cells.{Cell, Told, Gate, Flop, cell_at, is_made, pins_of, IsLawful}
 use Rattle.cmb_engine.specs.Inner.Circuits.{MeetsCells, cell_row, seen_at}
 use Rattle.cmb_engine.specs.Inner.Plans.{pins_from, cell_as, cell_by, cell_in, AreCells, AreLines, CellStandsFor, Grows, Pushes, StandsFor}

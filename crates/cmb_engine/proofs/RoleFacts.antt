@@ -5,13 +5,14 @@ use Rattle.std.proofs.lemmas.Bool.{cases_Bool, cases_eq, cases_lt, false≢true}
 use Rattle.std.proofs.lemmas.List.{get_or_past, length-map, take_more}
 use Rattle.std.proofs.lemmas.List.Elements.{All-contains, Contains-get_or}
 use Rattle.cmb_netlist.specs.Netlist.{driver_of, pins_of, IsNetlist}
-use Rattle.cmb_design.specs.Design.{Design}
-use Rattle.cmb_design.specs.Exact.{nets_of}
-use Rattle.cmb_design.specs.Value.{value}
+use Rattle.cmb_design_model.specs.Design.{Design}
+use Rattle.cmb_design_model.specs.Exact.{nets_of}
+use Rattle.cmb_design_model.specs.Value.{value}
 use Rattle.cmb_engine.specs.Inner.Roles.{AreOf, Gives, is_driven, is_given, is_absent, driven_of, role_of, drives, gives, lacks, level_in}
 use Rattle.cmb_words.specs.declared.changed.Changed.{Changed}
 use Rattle.cmb_words.specs.Changes.{Tells, TellsNet}
 use Rattle.cmb_words.proofs.StillFacts.{still-agrees}
+use Rattle.cmb_words.proofs.TellsFacts.{tells-same}
 use Rattle.cmb_engine.specs.Shares.{IsDriven, IsGiven, TellsThose}
 use Rattle.cmb_engine.specs.declared.role.Role.{Role}
 use Rattle.cmb_engine.specs.declared.role.Role.TheVariants.{Driven, Given, Absent}
@@ -293,8 +294,9 @@ driven-level design roles are net tick is = level-present design roles net tick 
 pub share-tells : (design : Design) (roles : List Role) (from to : ℕ) (changed : List Changed) → AreOf design (driven_of roles) roles
     → Tells (level_in design roles) (nets_of design) from to changed → TellsThose (IsDriven (driven_of roles)) (value design) from to changed
 share-tells design roles from to changed are tells = record {
-  words = λ one among driven tick late below.
-      All-contains (TellsNet (level_in design roles) from to) changed one tells.words among tick late below ∙ driven-level design roles are one.net tick driven;
+  words = λ one among driven.
+      tells-same (level_in design roles) (value design) from to one one refl (λ tick. driven-level design roles are one.net tick driven)
+      (All-contains (TellsNet (level_in design roles) from to) changed one tells.words among);
   others = λ net driven none.
       still-agrees (level_in design roles net) (value design net) from to (λ tick late below. driven-level design roles are net tick driven)
       (tells.others net (driven-net design roles are net driven).0 none);

@@ -5,12 +5,12 @@ use Rattle.cmb_wave.specs.declared.level.Level.{Level}
 use Rattle.cmb_netlist.specs.declared.netlist.Driver.{Driver}
 use Rattle.cmb_netlist.specs.declared.netlist.Driver.TheVariants.{Input, Gate, Flop}
 use Rattle.cmb_netlist.specs.Netlist.{driver_of}
-use Rattle.cmb_design.specs.Design.{Design}
-use Rattle.cmb_design.specs.Gate.{gate}
-use Rattle.cmb_design.specs.Timing.{delay}
-use Rattle.cmb_design.specs.Value.{delayed, pin_levels, value}
-use Rattle.cmb_design.proofs.SampleFacts.{delay-positive}
-use Rattle.cmb_design.proofs.ValueFacts.{value-at_input, value-at_gate, value-at_flop}
+use Rattle.cmb_design_model.specs.Design.{Design}
+use Rattle.cmb_design_model.specs.Gate.{gate}
+use Rattle.cmb_design_model.specs.Timing.{delay, initial_level}
+use Rattle.cmb_design_model.specs.Value.{delayed, pin_levels, value}
+use Rattle.cmb_design_model.proofs.SampleFacts.{delay-positive}
+use Rattle.cmb_design_model.proofs.ValueFacts.{value-at_input, value-at_gate, value-at_flop}
 use Rattle.cmb_engine.specs.Rows.{arrives, flop_row, level_held, row, LooksAt}
 use Rattle.cmb_engine.proofs.ArrivalFacts.{arrives_parts, flop_level-start, flop_level-takes, flop_level-holds}
 
@@ -61,7 +61,7 @@ module _ (design : Design) (f g : ℕ → ℕ → Level) (net tick : ℕ) where
       rw a (same (tick - delay design net 1) (omega arith) a)
   flop_row-same source same own (inr a) = rw a (held tick own)
     where
-      held : (tick : ℕ) → ((t : ℕ) → t < tick → f net t ≡ g net t) → level_held design.init (f net) tick ≡ level_held design.init (g net) tick
+      held : (tick : ℕ) → ((t : ℕ) → t < tick → f net t ≡ g net t) → level_held (initial_level design net) (f net) tick ≡ level_held (initial_level design net) (g net) tick
       held zero own = refl
       held (suc tick) own = own tick (omega arith)
 

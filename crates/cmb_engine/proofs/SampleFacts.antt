@@ -2,7 +2,7 @@
 use Rattle.std.proofs.Common.{◌≡◌, ℕ, suc, ◌+◌, ◌-◌, ◌*◌, ◌/◌, ◌%◌, ◌<◌, ◌≤◌, ◌≢◌, ◌==◌, ◌&&◌, ◌⊎◌, inl, inr, false, sym, ap, ap₂, ◌∙◌, arith, mod-lt, div-add-mod', nat_le}
 use Rattle.std.proofs.lemmas.Bool.{le-leb, lt-leb, ne_eqb, cases_lt}
 use Rattle.std.proofs.lemmas.Nat.{mod-mul-add}
-use Rattle.cmb_design.specs.declared.rows.Clock.{Clock}
+use Rattle.cmb_design_model.specs.declared.rows.Clock.{Clock}
 use Rattle.cmb_engine.specs.Rows.{arrives_by}
 
 -- whole periods more leave the remainder

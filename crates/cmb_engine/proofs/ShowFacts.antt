@@ -4,22 +4,22 @@ use Rattle.std.specs.Prelude.{nat_le, Contains, if◌then◌else◌}
 use Rattle.std.proofs.lemmas.Bool.{cases_lt, cases_eq, cases_Bool, ne_eqb, eq-eqb, eqb-true, leb-true, le-leb, lt-leb, and_parts, and_from, and_left, and_right}
 use Rattle.std.proofs.lemmas.List.Elements.{Contains-get_or, Contains-append_right, Contains-append_cases}
 use Rattle.cmb_wave.specs.declared.level.Level.{Level}
-use Rattle.cmb_calendar.specs.Calendars.{AreInOrder}
-use Rattle.cmb_calendar.specs.declared.tell.Tell.{Tell}
+use Rattle.cmb_wheel.specs.Calendars.{AreInOrder}
+use Rattle.cmb_wheel.specs.declared.event.LevelEvent.{LevelEvent}
 use Rattle.cmb_engine.specs.Inner.Cells.{Cell, is_made}
 use Rattle.cmb_engine.specs.Inner.Tells.{told_level, IsTold, AreOfWindow}
 
-first-among : (tell : Tell) (tells : List Tell) → Contains (tell ∷ tells) tell
+first-among : (tell : LevelEvent) (tells : List LevelEvent) → Contains (tell ∷ tells) tell
 first-among tell tells = Contains-get_or (tell ∷ tells) 0 tell (omega arith)
 
-later-among : (tell : Tell) (tells : List Tell) (other : Tell) → Contains tells other → Contains (tell ∷ tells) other
+later-among : (tell : LevelEvent) (tells : List LevelEvent) (other : LevelEvent) → Contains tells other → Contains (tell ∷ tells) other
 later-among tell tells other among = Contains-append_right (tell ∷ []) tells other among
 
-none-among : (tell : Tell) → Contains [] tell → ⊥
+none-among : (tell : LevelEvent) → Contains [] tell → ⊥
 none-among tell among = omega (arith, among.1)
 
 -- a slot has a level that it had, if what is told of it up to a tick says nothing else
-pub told-same : (tells : List Tell) (slot tick : ℕ) (level held : Level) → ((tell : Tell) → Contains tells tell → tell.slot ≡ slot → tell.tick ≤ tick → tell.level ≡ level) → held ≡ level
+pub told-same : (tells : List LevelEvent) (slot tick : ℕ) (level held : Level) → ((tell : LevelEvent) → Contains tells tell → tell.slot ≡ slot → tell.tick ≤ tick → tell.level ≡ level) → held ≡ level
     → told_level tells slot held tick ≡ level
 told-same [] slot tick level held says is = is
 told-same (tell ∷ tells) slot tick level held says is =
@@ -34,11 +34,11 @@ told-same (tell ∷ tells) slot tick level held says is =
     go (inr a) = rw a is
 
 -- so it has that level where nothing is told of it
-pub told-keeps : (tells : List Tell) (slot tick : ℕ) (held : Level) → ((tell : Tell) → Contains tells tell → tell.slot ≡ slot → tell.tick ≤ tick → ⊥) → told_level tells slot held tick ≡ held
+pub told-keeps : (tells : List LevelEvent) (slot tick : ℕ) (held : Level) → ((tell : LevelEvent) → Contains tells tell → tell.slot ≡ slot → tell.tick ≤ tick → ⊥) → told_level tells slot held tick ≡ held
 told-keeps tells slot tick held none = told-same tells slot tick held held (λ tell among e l. absurd (none tell among e l)) refl
 
 -- what one tell does at a tick it did at the tick before, but where it is of that tick
-one-step : (tell : Tell) (slot tick : ℕ) (held early : Level) → 1 ≤ tick → held ≡ early → (tell.slot ≡ slot → tell.tick ≡ tick → ⊥)
+one-step : (tell : LevelEvent) (slot tick : ℕ) (held early : Level) → 1 ≤ tick → held ≡ early → (tell.slot ≡ slot → tell.tick ≡ tick → ⊥)
     → (if tell.slot == slot && nat_le tell.tick tick then tell.level else held) ≡ (if tell.slot == slot && nat_le tell.tick (tick - 1) then tell.level else early)
 one-step tell slot tick held early begun same other = go (cases_eq tell.slot slot) (cases_lt tell.tick tick)
   where
@@ -57,33 +57,33 @@ one-step tell slot tick held early begun same other = go (cases_eq tell.slot slo
         let before : (tell.slot == slot && nat_le tell.tick (tick - 1)) ≡ false = and_left _ (nat_le tell.tick (tick - 1)) (ne_eqb tell.slot slot e) in
         rw (now, before) same
 
-abbrev IsNoneAt : List Tell → ℕ → ℕ → Type 0
-IsNoneAt tells slot tick = (tell : Tell) → Contains tells tell → tell.slot ≡ slot → tell.tick ≡ tick → ⊥
+abbrev IsNoneAt : List LevelEvent → ℕ → ℕ → Type 0
+IsNoneAt tells slot tick = (tell : LevelEvent) → Contains tells tell → tell.slot ≡ slot → tell.tick ≡ tick → ⊥
 
 -- at a tick a slot has the level that is told of it there, or no tell is of that tick, and it has what it had
-abbrev IsStep : List Tell → ℕ → ℕ → Level → Level → Level → Type 0
+abbrev IsStep : List LevelEvent → ℕ → ℕ → Level → Level → Level → Type 0
 IsStep tells slot tick level held early =
     (told_level tells slot held tick ≡ level) ⊎ (IsNoneAt tells slot tick × (told_level tells slot held tick ≡ told_level tells slot early (tick - 1)))
 
-only-among : (tell other : Tell) → Contains (tell ∷ []) other → tell ≡ other
+only-among : (tell other : LevelEvent) → Contains (tell ∷ []) other → tell ≡ other
 only-among tell other among = go among.0 among.1 among.2
   where
     go : (k : ℕ) → k < length (tell ∷ []) → get_or (tell ∷ []) k other ≡ other → tell ≡ other
     go zero l e = e
     go (suc k) l e = absurd (omega arith)
 
-step-more : (tell : Tell) (tells : List Tell) (slot tick : ℕ) (level held early : Level) → (tell.slot ≡ slot → tell.tick ≡ tick → ⊥)
+step-more : (tell : LevelEvent) (tells : List LevelEvent) (slot tick : ℕ) (level held early : Level) → (tell.slot ≡ slot → tell.tick ≡ tick → ⊥)
     → IsStep tells slot tick level (if tell.slot == slot && nat_le tell.tick tick then tell.level else held) (if tell.slot == slot && nat_le tell.tick (tick - 1) then tell.level else early)
     → IsStep (tell ∷ tells) slot tick level held early
 step-more tell tells slot tick level held early other (inl e) = inl e
 step-more tell tells slot tick level held early other (inr none) = inr (λ later among e k. go later e k (Contains-append_cases (tell ∷ []) tells later among), none.1)
   where
-    go : (later : Tell) → later.slot ≡ slot → later.tick ≡ tick → Contains (tell ∷ []) later ⊎ Contains tells later → ⊥
-    go later e k (inl among) = let is : tell ≡ later = only-among tell later among in other (ap (λ (t : Tell). t.slot) is ∙ e) (ap (λ (t : Tell). t.tick) is ∙ k)
+    go : (later : LevelEvent) → later.slot ≡ slot → later.tick ≡ tick → Contains (tell ∷ []) later ⊎ Contains tells later → ⊥
+    go later e k (inl among) = let is : tell ≡ later = only-among tell later among in other (ap (λ (t : LevelEvent). t.slot) is ∙ e) (ap (λ (t : LevelEvent). t.tick) is ∙ k)
     go later e k (inr among) = none.0 later among e k
 
-told-step : (tells : List Tell) (slot tick : ℕ) (level held early : Level) → 1 ≤ tick → AreInOrder tells
-    → ((tell : Tell) → Contains tells tell → tell.slot ≡ slot → tell.tick ≡ tick → tell.level ≡ level) → held ≡ early → IsStep tells slot tick level held early
+told-step : (tells : List LevelEvent) (slot tick : ℕ) (level held early : Level) → 1 ≤ tick → AreInOrder tells
+    → ((tell : LevelEvent) → Contains tells tell → tell.slot ≡ slot → tell.tick ≡ tick → tell.level ≡ level) → held ≡ early → IsStep tells slot tick level held early
 told-step [] slot tick level held early begun order says same = inr (λ tell among. absurd (none-among tell among), same)
 told-step (tell ∷ tells) slot tick level held early begun order says same =
     go (cases_eq tell.slot slot) (cases_eq tell.tick tick)
@@ -104,7 +104,7 @@ told-step (tell ∷ tells) slot tick level held early begun order says same =
     go (inl e) (inr k) rest = rest (λ a b. k b)
     go (inr e) _ rest = rest (λ a b. e a)
 
-module _ (trace : ℕ → ℕ → Level) (cells : ℕ → Cell) (gives : ℕ → Bool) (count from upto : ℕ) (tells : List Tell) (slot : ℕ) (window : AreOfWindow trace cells gives count from upto tells)
+module _ (trace : ℕ → ℕ → Level) (cells : ℕ → Cell) (gives : ℕ → Bool) (count from upto : ℕ) (tells : List LevelEvent) (slot : ℕ) (window : AreOfWindow trace cells gives count from upto tells)
     (begun : 1 ≤ from) (inside : slot < count) (told : is_made (cells slot) ≡ false) (other : gives slot ≡ false) where
   shows-before : (tick : ℕ) → tick ≡ from - 1 → told_level tells slot (trace slot (from - 1)) tick ≡ trace slot tick
   shows-before tick is =

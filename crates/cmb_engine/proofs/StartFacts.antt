@@ -9,12 +9,12 @@ use Rattle.cmb_wave.specs.Waveform.{same_level}
 use Rattle.cmb_wave.proofs.Lists.{differs_of_test, test_of_same}
 use Rattle.cmb_netlist.specs.Netlist.{driver_of}
 use Rattle.cmb_netlist.specs.declared.netlist.Driver.TheVariants.{Input}
-use Rattle.cmb_calendar.specs.Calendars.{Calendar}
-use Rattle.cmb_calendar.specs.declared.tell.Tell.{Tell}
-use Rattle.cmb_design.specs.Design.{Design}
-use Rattle.cmb_design.specs.Exact.{nets_of}
-use Rattle.cmb_design.specs.Timing.{stimulus}
-use Rattle.cmb_design.proofs.ValueFacts.{value-at_input}
+use Rattle.cmb_wheel.specs.Calendars.{Calendar}
+use Rattle.cmb_wheel.specs.declared.event.LevelEvent.{LevelEvent}
+use Rattle.cmb_design_model.specs.Design.{Design}
+use Rattle.cmb_design_model.specs.Exact.{nets_of}
+use Rattle.cmb_design_model.specs.Timing.{stimulus}
+use Rattle.cmb_design_model.proofs.ValueFacts.{value-at_input}
 use Rattle.cmb_engine.specs.Inner.Cells.{Cell, cell_at, is_made}
 use Rattle.cmb_engine.specs.Inner.Circuits.{Shows}
 use Rattle.cmb_engine.specs.Inner.Lines.{NotesEach}
@@ -28,11 +28,11 @@ use Rattle.cmb_engine.proofs.RoleFacts.{driven-known, level-absent, level-presen
 use Rattle.cmb_engine.proofs.SlotFacts.{trace-behind, trace-net, reach-line}
 use Rattle.cmb_engine.proofs.ZeroFacts.{line-early}
 
-abbrev tell_to : ℕ → ℕ → Level → Tell
+abbrev tell_to : ℕ → ℕ → Level → LevelEvent
 tell_to slot tick level = record { tick = tick; slot = slot; level = level }
 
 -- a tell says what a slot shows at a tick
-abbrev tell_at : (ℕ → ℕ → Level) → ℕ → ℕ → Tell
+abbrev tell_at : (ℕ → ℕ → Level) → ℕ → ℕ → LevelEvent
 tell_at trace slot tick = tell_to slot tick (trace slot tick)
 
 -- a level is another one or not
@@ -72,7 +72,7 @@ module _ (design : Design) (roles : List Role) (lines : List Pin) (most width : 
       let lawful = plan.sources number line (slice_get_within lines number line has) in
       (omega (arith, lawful.0, ap (λ (p : Pin). p.net) is), omega (arith, lawful.1, plan.wide, ap (λ (p : Pin). p.delay) is))
 
-  input-right : (tell : Tell) → IsOfInput design roles tell → IsRight (trace_of design roles lines) (cell_at cells) (length cells) tell × (1 ≤ tell.tick)
+  input-right : (tell : LevelEvent) → IsOfInput design roles tell → IsRight (trace_of design roles lines) (cell_at cells) (length cells) tell × (1 ≤ tell.tick)
   input-right tell h = (
     record {
       slot = omega (arith, h.net, plan.count);
@@ -82,7 +82,7 @@ module _ (design : Design) (roles : List Role) (lines : List Pin) (most width : 
     h.change.later,
   )
 
-  input-told : (tells : List Tell) → ((tell : Tell) → IsOfInput design roles tell → tell.tick < design.horizon → Contains tells tell)
+  input-told : (tells : List LevelEvent) → ((tell : LevelEvent) → IsOfInput design roles tell → tell.tick < design.horizon → Contains tells tell)
       → (slot tick : ℕ) → slot < nets_of design → drives roles slot ≡ true → is_made (cell_at cells slot) ≡ false → 1 ≤ tick → tick < design.horizon → IsTold (trace_of design roles lines) tells slot tick
   input-told tells has slot tick inside driven told later within = go (same-cases (trace_of design roles lines slot (tick - 1)) (trace_of design roles lines slot tick))
     where
@@ -116,9 +116,9 @@ module _ (design : Design) (roles : List Role) (lines : List Pin) (most width : 
         word-shows line (line-lawful number line has).0
         ∙ sym (line-shows number line.delay line has ∙ line-late (level_in design roles) line line.delay (omega arith) ∙ ap (level_in design roles line.net) none)
 
-    start-right : (tell : Tell) → IsOfStart words lines (nets_of design) tell → IsRight (trace_of design roles lines) (cell_at cells) (length cells) tell × (1 ≤ tell.tick)
+    start-right : (tell : LevelEvent) → IsOfStart words lines (nets_of design) tell → IsRight (trace_of design roles lines) (cell_at cells) (length cells) tell × (1 ≤ tell.tick)
     start-right tell h =
-        subst (λ (t : Tell). IsRight (trace_of design roles lines) (cell_at cells) (length cells) t × (1 ≤ t.tick)) (sym h.is) (
+        subst (λ (t : LevelEvent). IsRight (trace_of design roles lines) (cell_at cells) (length cells) t × (1 ≤ t.tick)) (sym h.is) (
           record {
             slot = omega (arith, slice_get_within lines h.number h.line h.has_number, plan.count);
             told = plan.told (nets_of design + h.number) (omega arith);
@@ -127,7 +127,7 @@ module _ (design : Design) (roles : List Role) (lines : List Pin) (most width : 
           (line-lawful h.number h.line h.has_number).1,
         )
 
-    start-told : (tells : List Tell) → ((tell : Tell) → IsOfStart words lines (nets_of design) tell → tell.tick < design.horizon → Contains tells tell)
+    start-told : (tells : List LevelEvent) → ((tell : LevelEvent) → IsOfStart words lines (nets_of design) tell → tell.tick < design.horizon → Contains tells tell)
         → (number tick : ℕ) (line : Pin) → slice_get lines number ≡ Some line → 1 ≤ tick → tick < 1 + line.delay → tick < design.horizon
         → IsTold (trace_of design roles lines) tells (nets_of design + number) tick
     start-told tells has number tick line is later reach within = go (cases_lt tick line.delay)
@@ -157,20 +157,20 @@ module _ (design : Design) (roles : List Role) (lines : List Pin) (most width : 
         → AreTold (trace_of design roles lines) (cell_at cells) (gives roles) (length cells) (reach_of (nets_of design) lines design.horizon) design.horizon 1 started.tells
     starts-told empty noted started none horizon same inputs starts = record { right = λ tell h. right tell ((starts tell).0 h); all = all }
       where
-        early : (tell : Tell) → Contains empty.tells tell ⊎ (IsOfInput design roles tell × (tell.tick < empty.horizon))
+        early : (tell : LevelEvent) → Contains empty.tells tell ⊎ (IsOfInput design roles tell × (tell.tick < empty.horizon))
             → IsRight (trace_of design roles lines) (cell_at cells) (length cells) tell × (1 ≤ tell.tick)
         early tell (inl h) = absurd (omega (arith, h.1, ap length none))
         early tell (inr h) = input-right tell h.0
 
-        right : (tell : Tell) → Contains noted.tells tell ⊎ (IsOfStart words lines (nets_of design) tell × (tell.tick < noted.horizon))
+        right : (tell : LevelEvent) → Contains noted.tells tell ⊎ (IsOfStart words lines (nets_of design) tell × (tell.tick < noted.horizon))
             → IsRight (trace_of design roles lines) (cell_at cells) (length cells) tell × (1 ≤ tell.tick)
         right tell (inl h) = early tell ((inputs tell).0 h)
         right tell (inr h) = start-right tell h.0
 
-        has-input : (tell : Tell) → IsOfInput design roles tell → tell.tick < design.horizon → Contains started.tells tell
+        has-input : (tell : LevelEvent) → IsOfInput design roles tell → tell.tick < design.horizon → Contains started.tells tell
         has-input tell h within = (starts tell).1 (inl ((inputs tell).1 (inr (h, omega (arith, within, horizon)))))
 
-        has-start : (tell : Tell) → IsOfStart words lines (nets_of design) tell → tell.tick < design.horizon → Contains started.tells tell
+        has-start : (tell : LevelEvent) → IsOfStart words lines (nets_of design) tell → tell.tick < design.horizon → Contains started.tells tell
         has-start tell h within = (starts tell).1 (inr (h, omega (arith, within, horizon, same)))
 
         all : (slot tick : ℕ) → slot < length cells → is_made (cell_at cells slot) ≡ false → gives roles slot ≡ false → 1 ≤ tick → tick < 1 + reach_of (nets_of design) lines design.horizon slot

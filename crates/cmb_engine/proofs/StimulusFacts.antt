@@ -9,11 +9,11 @@ use Rattle.cmb_wave.specs.Waveform.{level_before, change_at, changes_between}
 use Rattle.cmb_wave.proofs.Waveforms.{change_at-cases, changes_between-same, changes_between-suc}
 use Rattle.cmb_netlist.specs.Netlist.{driver_of}
 use Rattle.cmb_netlist.specs.declared.netlist.Driver.TheVariants.{Input}
-use Rattle.cmb_calendar.specs.Calendars.{Calendar, Notes}
-use Rattle.cmb_calendar.specs.declared.tell.Tell.{Tell}
-use Rattle.cmb_design.specs.Design.{Design}
-use Rattle.cmb_design.specs.Exact.{nets_of}
-use Rattle.cmb_design.specs.Timing.{stimulus}
+use Rattle.cmb_wheel.specs.Calendars.{Calendar, Notes}
+use Rattle.cmb_wheel.specs.declared.event.LevelEvent.{LevelEvent}
+use Rattle.cmb_design_model.specs.Design.{Design}
+use Rattle.cmb_design_model.specs.Exact.{nets_of}
+use Rattle.cmb_design_model.specs.Timing.{stimulus}
 use Rattle.cmb_engine.specs.Inner.Lines.{NotesEach}
 use Rattle.cmb_engine.specs.Inner.Roles.{drives}
 use Rattle.cmb_engine.specs.Inner.Starts.{IsOfInput, IsOfStimulus}
@@ -21,11 +21,11 @@ use Rattle.cmb_engine.specs.declared.role.Role.{Role}
 use Rattle.cmb_engine.proofs.NoteFacts.{notes-one, notes-as, notes-more, taken-before, taken-last, taken-cases}
 
 -- a change is told of a slot
-abbrev pub tell_to : ℕ → Change → Tell
+abbrev pub tell_to : ℕ → Change → LevelEvent
 tell_to slot change = record { tick = change.tick; slot = slot; level = change.level }
 
 -- a tell is of one of some changes of a slot, after tick 0
-pub record IsOfChanges (changes : List Change) (slot : ℕ) (tell : Tell) : Type 0 where
+pub record IsOfChanges (changes : List Change) (slot : ℕ) (tell : LevelEvent) : Type 0 where
   pub change : Change
   pub among : Contains changes change
   pub later : 1 ≤ change.tick
@@ -99,7 +99,7 @@ among-changes level (suc to) tick within differs =
 
 module _ (changes : List Change) (i : ℕ) (d : Change) (slot : ℕ) (inside : i < length changes) (old between new : Calendar) (same : between.horizon ≡ old.horizon)
     (so_far : NotesEach (IsOfChanges (take i changes) slot) old between) where
-  before : (tell : Tell) → IsOfChanges (take i changes) slot tell → IsOfChanges (take (i + 1) changes) slot tell
+  before : (tell : LevelEvent) → IsOfChanges (take i changes) slot tell → IsOfChanges (take (i + 1) changes) slot tell
   before tell h = record { change = h.change; among = taken-before changes i d inside h.change h.among; later = h.later; is = h.is }
 
   pub changes-noted : 1 ≤ (get_or changes i d).tick → Notes between new (tell_to slot (get_or changes i d))
@@ -108,19 +108,19 @@ module _ (changes : List Change) (i : ℕ) (d : Change) (slot : ℕ) (inside : i
       notes-more (IsOfChanges (take i changes) slot) (λ tell. tell ≡ tell_to slot (get_or changes i d)) (IsOfChanges (take (i + 1) changes) slot) old between new same
       (λ tell h. parts tell h (taken-cases changes i d inside h.change h.among)) before last so_far (notes-one between new (tell_to slot (get_or changes i d)) noted)
     where
-      parts : (tell : Tell) (h : IsOfChanges (take (i + 1) changes) slot tell) → Contains (take i changes) h.change ⊎ (get_or changes i d ≡ h.change)
+      parts : (tell : LevelEvent) (h : IsOfChanges (take (i + 1) changes) slot tell) → Contains (take i changes) h.change ⊎ (get_or changes i d ≡ h.change)
           → IsOfChanges (take i changes) slot tell ⊎ (tell ≡ tell_to slot (get_or changes i d))
       parts tell h (inl early) = inl (record { change = h.change; among = early; later = h.later; is = h.is })
       parts tell h (inr here) = inr (h.is ∙ ap (tell_to slot) (sym here))
 
-      last : (tell : Tell) → tell ≡ tell_to slot (get_or changes i d) → IsOfChanges (take (i + 1) changes) slot tell
+      last : (tell : LevelEvent) → tell ≡ tell_to slot (get_or changes i d) → IsOfChanges (take (i + 1) changes) slot tell
       last tell is = record { change = get_or changes i d; among = taken-last changes i d inside; later = late; is = is }
 
   pub changes-passed : (get_or changes i d).tick < 1 → NotesEach (IsOfChanges (take (i + 1) changes) slot) old between
   changes-passed early = notes-as (IsOfChanges (take i changes) slot) (IsOfChanges (take (i + 1) changes) slot) old between before
       (λ tell h. kept tell h (taken-cases changes i d inside h.change h.among)) so_far
     where
-      kept : (tell : Tell) (h : IsOfChanges (take (i + 1) changes) slot tell) → Contains (take i changes) h.change ⊎ (get_or changes i d ≡ h.change) → IsOfChanges (take i changes) slot tell
+      kept : (tell : LevelEvent) (h : IsOfChanges (take (i + 1) changes) slot tell) → Contains (take i changes) h.change ⊎ (get_or changes i d ≡ h.change) → IsOfChanges (take i changes) slot tell
       kept tell h (inl among) = record { change = h.change; among = among; later = h.later; is = h.is }
       kept tell h (inr here) = absurd (omega (arith, early, h.later, ap (λ (c : Change). c.tick) here))
 
@@ -131,21 +131,21 @@ pub changes-are_stimulus : (design : Design) (net : ℕ) (old new : Calendar)
 changes-are_stimulus design net old new notes =
     notes-as (IsOfChanges (changes_between (stimulus design net) 0 design.horizon) net) (IsOfStimulus design net) old new there back notes
   where
-    there : (tell : Tell) → IsOfChanges (changes_between (stimulus design net) 0 design.horizon) net tell → IsOfStimulus design net tell
+    there : (tell : LevelEvent) → IsOfChanges (changes_between (stimulus design net) 0 design.horizon) net tell → IsOfStimulus design net tell
     there tell h =
         let is = change-among (stimulus design net) design.horizon h.change h.among in
-        let at : h.change.tick ≡ tell.tick = ap (λ (t : Tell). t.tick) (sym h.is) in
+        let at : h.change.tick ≡ tell.tick = ap (λ (t : LevelEvent). t.tick) (sym h.is) in
         let differs : stimulus design net (h.change.tick - 1) ≢ stimulus design net h.change.tick =
         λ same. is.2 (sym (before-later (stimulus design net) h.change.tick h.later ∙ same)) in
         record {
-          slot = ap (λ (t : Tell). t.slot) h.is;
+          slot = ap (λ (t : LevelEvent). t.slot) h.is;
           later = omega (arith, at, h.later);
           within = omega (arith, at, is.0);
           differs = subst (λ (t : ℕ). stimulus design net (t - 1) ≢ stimulus design net t) at differs;
-          level = ap (λ (t : Tell). t.level) h.is ∙ is.1 ∙ ap (stimulus design net) at;
+          level = ap (λ (t : LevelEvent). t.level) h.is ∙ is.1 ∙ ap (stimulus design net) at;
         }
 
-    back : (tell : Tell) → IsOfStimulus design net tell → IsOfChanges (changes_between (stimulus design net) 0 design.horizon) net tell
+    back : (tell : LevelEvent) → IsOfStimulus design net tell → IsOfChanges (changes_between (stimulus design net) 0 design.horizon) net tell
     back tell h = record {
       change = change_to (stimulus design net) tell.tick;
       among = among-changes (stimulus design net) design.horizon tell.tick h.within (λ same. h.differs (sym (same ∙ before-later (stimulus design net) tell.tick h.later)));
@@ -163,14 +163,14 @@ module _ (design : Design) (roles : List Role) (net : ℕ) (old between new : Ca
       notes-more (λ tell. IsOfInput design roles tell × (tell.slot < net)) (IsOfStimulus design net) (λ tell. IsOfInput design roles tell × (tell.slot < net + 1)) old between new same
       (λ tell h. parts tell h (cases_lt tell.slot net)) (λ tell h. (h.0, omega (arith, h.1))) last so_far noted
     where
-      parts : (tell : Tell) → IsOfInput design roles tell × (tell.slot < net + 1) → (tell.slot < net) ⊎ (net ≤ tell.slot)
+      parts : (tell : LevelEvent) → IsOfInput design roles tell × (tell.slot < net + 1) → (tell.slot < net) ⊎ (net ≤ tell.slot)
           → (IsOfInput design roles tell × (tell.slot < net)) ⊎ IsOfStimulus design net tell
       parts tell h (inl l) = inl (h.0, l)
       parts tell h (inr l) =
           let e : tell.slot ≡ net = omega (arith, l, h.1) in
           inr (subst (λ (n : ℕ). IsOfStimulus design n tell) e h.0.change)
 
-      last : (tell : Tell) → IsOfStimulus design net tell → IsOfInput design roles tell × (tell.slot < net + 1)
+      last : (tell : LevelEvent) → IsOfStimulus design net tell → IsOfInput design roles tell × (tell.slot < net + 1)
       last tell h =
           let input : IsOfInput design roles tell = record {
             net = omega (arith, h.slot, inside);
@@ -185,7 +185,7 @@ module _ (design : Design) (roles : List Role) (net : ℕ) (old between new : Ca
       notes-as (λ tell. IsOfInput design roles tell × (tell.slot < net)) (λ tell. IsOfInput design roles tell × (tell.slot < net + 1)) old between
       (λ tell h. (h.0, omega (arith, h.1))) (λ tell h. kept tell h (cases_lt tell.slot net)) so_far
     where
-      kept : (tell : Tell) → IsOfInput design roles tell × (tell.slot < net + 1) → (tell.slot < net) ⊎ (net ≤ tell.slot) → IsOfInput design roles tell × (tell.slot < net)
+      kept : (tell : LevelEvent) → IsOfInput design roles tell × (tell.slot < net + 1) → (tell.slot < net) ⊎ (net ≤ tell.slot) → IsOfInput design roles tell × (tell.slot < net)
       kept tell h (inl l) = (h.0, l)
       kept tell h (inr l) =
           let e : tell.slot ≡ net = omega (arith, l, h.1) in

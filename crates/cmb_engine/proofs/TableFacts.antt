@@ -2,8 +2,8 @@
 use Rattle.std.proofs.Common.{◌≡◌, ℕ, zero, suc, ◌+◌, ◌<◌, List, [], ◌∷◌, ◌++◌, length, map, take, get_or, refl, ap₂, sym, ◌∙◌, ap, arith}
 use Rattle.std.proofs.lemmas.List.{get_or_default, length-append, length-map, length-take, take_more}
 use Rattle.cmb_netlist.specs.declared.netlist.Kind.{Kind}
-use Rattle.cmb_design.specs.Design.{Design}
-use Rattle.cmb_design.specs.Timing.{delay}
+use Rattle.cmb_design_model.specs.Design.{Design}
+use Rattle.cmb_design_model.specs.Timing.{delay}
 use Rattle.cmb_engine.specs.Inner.Plans.{pins_from}
 use Rattle.cmb_engine.specs.Inner.Cells.{Cell, Told, Gate, cell_at}
 use Rattle.std.specs.Prelude.{All}

@@ -6,25 +6,25 @@ use Rattle.std.proofs.lemmas.List.{take_more}
 use Rattle.cmb_wave.specs.declared.level.Level.{Level}
 use Rattle.cmb_words.specs.declared.word.Word.{Word}
 use Rattle.cmb_words.specs.Word.{level_at_place}
-use Rattle.cmb_calendar.specs.declared.tell.Tell.{Tell}
+use Rattle.cmb_wheel.specs.declared.event.LevelEvent.{LevelEvent}
 use Rattle.cmb_engine.specs.Inner.Tells.{told_level}
 use Rattle.cmb_engine.specs.Inner.Words.{levels_of}
 use Rattle.cmb_engine.proofs.WordFacts.{levels_of-set_same, levels_of-set_other}
 
-pub told-append : (early late : List Tell) (slot : ℕ) (held : Level) (tick : ℕ) → told_level (early ++ late) slot held tick ≡ told_level late slot (told_level early slot held tick) tick
+pub told-append : (early late : List LevelEvent) (slot : ℕ) (held : Level) (tick : ℕ) → told_level (early ++ late) slot held tick ≡ told_level late slot (told_level early slot held tick) tick
 told-append [] late slot held tick = refl
 told-append (tell ∷ early) late slot held tick =
     told-append early late slot (if tell.slot == slot && nat_le tell.tick tick then tell.level else held) tick
 
 -- one tell more
-pub told-more : (tells : List Tell) (k : ℕ) (d : Tell) (slot : ℕ) (held : Level) (tick : ℕ) → k < length tells
+pub told-more : (tells : List LevelEvent) (k : ℕ) (d : LevelEvent) (slot : ℕ) (held : Level) (tick : ℕ) → k < length tells
     → told_level (take (k + 1) tells) slot held tick ≡ told_level (get_or tells k d ∷ []) slot (told_level (take k tells) slot held tick) tick
 told-more tells k d slot held tick small =
-    ap (λ (some : List Tell). told_level some slot held tick) (take_more tells k d small)
+    ap (λ (some : List LevelEvent). told_level some slot held tick) (take_more tells k d small)
     ∙ told-append (take k tells) (get_or tells k d ∷ []) slot held tick
 
 -- a word that has the tell's level from its place on, and is the slot's own below it, shows what is told
-pub told-written : (words : List Word) (tell : Tell) (word : Word) (to slot place : ℕ) → tell.slot < length words → 1 ≤ tell.tick → to ≤ tell.tick + 64
+pub told-written : (words : List Word) (tell : LevelEvent) (word : Word) (to slot place : ℕ) → tell.slot < length words → 1 ≤ tell.tick → to ≤ tell.tick + 64
     → ((i : ℕ) → i < tell.tick + 64 - to → level_at_place word i ≡ levels_of words tell.slot i)
     → ((i : ℕ) → tell.tick + 64 - to ≤ i → i < 64 → level_at_place word i ≡ tell.level) → place < 64
     → levels_of (set words tell.slot word) slot place ≡ told_level (tell ∷ []) slot (levels_of words slot place) (to + place - 64)

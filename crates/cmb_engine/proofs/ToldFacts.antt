@@ -9,15 +9,16 @@ use Rattle.std.proofs.lemmas.Option.{slice_get_cases, slice_get_within, get_or_f
 use Rattle.cmb_wave.specs.declared.level.Level.{Level}
 use Rattle.cmb_wave.specs.Waveform.{same_level}
 use Rattle.cmb_wave.proofs.Lists.{same_level-same, test_of_same}
-use Rattle.cmb_calendar.specs.Calendars.{Calendar, Takes, AreInOrder}
-use Rattle.cmb_calendar.specs.declared.tell.Tell.{Tell}
-use Rattle.cmb_design.specs.Design.{Design}
-use Rattle.cmb_design.specs.Exact.{nets_of}
-use Rattle.cmb_design.specs.Value.{delayed}
+use Rattle.cmb_wheel.specs.Calendars.{Calendar, Takes, AreInOrder}
+use Rattle.cmb_wheel.specs.declared.event.LevelEvent.{LevelEvent}
+use Rattle.cmb_design_model.specs.Design.{Design}
+use Rattle.cmb_design_model.specs.Exact.{nets_of}
+use Rattle.cmb_design_model.specs.Value.{delayed}
 use Rattle.cmb_words.specs.declared.changed.Changed.{Changed}
 use Rattle.cmb_words.specs.Changes.{Tells, TellsNet, is_among}
 use Rattle.cmb_words.specs.Word.{level_at_place}
 use Rattle.cmb_words.proofs.StillFacts.{still-ticks}
+use Rattle.cmb_words.proofs.TellsFacts.{tells-level}
 use Rattle.cmb_engine.specs.Inner.Ahead.{TellsAhead}
 use Rattle.cmb_engine.specs.Inner.Cells.{Cell, cell_at, is_made}
 use Rattle.cmb_engine.specs.Inner.Lines.{IsAhead, IsOfLine, NotesEach}
@@ -57,9 +58,9 @@ word-tells : (level : ℕ → ℕ → Level) (from to first place tick : ℕ) (o
     → tick + 64 ≡ to + place → level_at_place one.word place ≡ level one.net tick
 word-tells level from to first place tick one tells window late small at =
     let e : tick + 64 - to ≡ place = omega arith in
-    ap (λ n. level_at_place one.word n) (sym e) ∙ tells tick (omega arith) (omega arith)
+    ap (λ n. level_at_place one.word n) (sym e) ∙ tells-level level from to one tells tick (omega arith) (omega arith)
 
-abbrev tell_at : ℕ → ℕ → Level → Tell
+abbrev tell_at : ℕ → ℕ → Level → LevelEvent
 tell_at tick slot level = record { tick = tick; slot = slot; level = level }
 
 tell-same : (tick tick' slot slot' : ℕ) (level level' : Level) → tick ≡ tick' → slot ≡ slot' → level ≡ level' → tell_at tick slot level ≡ tell_at tick' slot' level'
@@ -68,8 +69,8 @@ tell-same tick tick' slot slot' level level' a b c =
 
 -- what is told of a window is taken: `from` is the clock, `to` where it goes
 module _ (design : Design) (roles : List Role) (lines : List Pin) (most width horizon : ℕ) (cells : List Cell) (plan : IsPlan design roles lines most width cells)
-    (old between : Calendar) (taken : List Tell) (from to first : ℕ) (window : IsWindow old width horizon from to first) (takes : Takes to old between taken)
-    (below : (tell : Tell) → Contains old.tells tell → tell.tick < horizon)
+    (old between : Calendar) (taken : List LevelEvent) (from to first : ℕ) (window : IsWindow old width horizon from to first) (takes : Takes to old between taken)
+    (below : (tell : LevelEvent) → Contains old.tells tell → tell.tick < horizon)
     (told : AreTold (trace_of design roles lines) (cell_at cells) (gives roles) (length cells) (reach_of (nets_of design) lines horizon) horizon from old.tells) where
   -- a line of a slot
   line-of : (slot : ℕ) → slot < length cells → nets_of design ≤ slot
@@ -126,7 +127,7 @@ module _ (design : Design) (roles : List Role) (lines : List Pin) (most width ho
     same = takes.horizon ∙ window.same_horizon
 
     -- nothing is told of the horizon or of what lies behind it
-    pub still-below : (tell : Tell) → Contains new.tells tell → tell.tick < horizon
+    pub still-below : (tell : LevelEvent) → Contains new.tells tell → tell.tick < horizon
     still-below tell h = go ((noted tell).0 h)
       where
         go : Contains between.tells tell ⊎ (IsOfLine changed lines (nets_of design) to first tell × (tell.tick < between.horizon)) → tell.tick < horizon
@@ -134,9 +135,9 @@ module _ (design : Design) (roles : List Role) (lines : List Pin) (most width ho
         go (inr a) = omega (arith, a.1, same)
 
     -- a tell of a line is right, and ahead of the window
-    noted-right : (tell : Tell) → IsOfLine changed lines (nets_of design) to first tell → IsRight (trace_of design roles lines) (cell_at cells) (length cells) tell × (to ≤ tell.tick)
+    noted-right : (tell : LevelEvent) → IsOfLine changed lines (nets_of design) to first tell → IsRight (trace_of design roles lines) (cell_at cells) (length cells) tell × (to ≤ tell.tick)
     noted-right tell h =
-        subst (λ (t : Tell). IsRight (trace_of design roles lines) (cell_at cells) (length cells) t × (to ≤ t.tick)) (sym h.change.is)
+        subst (λ (t : LevelEvent). IsRight (trace_of design roles lines) (cell_at cells) (length cells) t × (to ≤ t.tick)) (sym h.change.is)
         (record { slot = omega (arith, inside, plan.count); told = plan.told (nets_of design + h.number) (omega arith); level = level }, omega (arith, source.1, window.place, h.change.from, window.short))
       where
         inside : h.number < length lines
@@ -246,7 +247,7 @@ module _ (design : Design) (roles : List Role) (lines : List Pin) (most width ho
           split slot tick inside untold other late ahead near (cases_lt tick (from + reach_of (nets_of design) lines horizon slot)) (cases_lt slot (nets_of design));
     }
       where
-        judged : (tell : Tell) → Contains between.tells tell ⊎ (IsOfLine changed lines (nets_of design) to first tell × (tell.tick < between.horizon))
+        judged : (tell : LevelEvent) → Contains between.tells tell ⊎ (IsOfLine changed lines (nets_of design) to first tell × (tell.tick < between.horizon))
             → IsRight (trace_of design roles lines) (cell_at cells) (length cells) tell × (to ≤ tell.tick)
         judged tell (inl a) =
             let late = (takes.late tell).0 a in
@@ -268,7 +269,7 @@ module _ (design : Design) (roles : List Role) (lines : List Pin) (most width ho
 -- ---- the same of an engine's calendar
 
 module _ (design : Design) (roles : List Role) (lines : List Pin) (most width : ℕ) (cells : List Cell) (plan : IsPlan design roles lines most width cells)
-    (old between : Calendar) (taken : List Tell) (from to first : ℕ) (kept : TellsAhead design roles lines cells from old)
+    (old between : Calendar) (taken : List LevelEvent) (from to first : ℕ) (kept : TellsAhead design roles lines cells from old)
     (begun : 1 ≤ from) (some : from < to) (short : to ≤ from + width) (within : to ≤ design.horizon) (place : to + first ≡ from + 64) (takes : Takes to old between taken) where
   window : IsWindow old width design.horizon from to first
   window = record {

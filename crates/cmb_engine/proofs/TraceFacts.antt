@@ -5,8 +5,8 @@ use Rattle.std.proofs.lemmas.List.{get_or_past}
 use Rattle.std.proofs.lemmas.List.Elements.{All-weaker, recursion_from_All}
 use Rattle.std.specs.List.{AllByRecursion, list_any}
 use Rattle.cmb_wave.specs.declared.level.Level.{Level}
-use Rattle.cmb_design.specs.declared.rows.Clock.{Clock}
-use Rattle.cmb_design.specs.Gate.{gate}
+use Rattle.cmb_design_model.specs.declared.rows.Clock.{Clock}
+use Rattle.cmb_design_model.specs.Gate.{gate}
 use Rattle.cmb_engine.specs.Rows.{arrives_by}
 use Rattle.cmb_engine.specs.Inner.Cells.{Cell, Told, Gate, Flop, is_made, seen, cell_level, EachSeen, IsSettled, IsLawful, cell_at, pins_of}
 use Rattle.cmb_engine.specs.Inner.Circuits.{seen_at, cell_row, MeetsCells}

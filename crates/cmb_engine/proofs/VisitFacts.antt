@@ -3,7 +3,7 @@ use Rattle.std.proofs.Common.{◌≡◌, ◌≢◌, ℕ, ◌+◌, ◌-◌, ◌<�
 use Rattle.std.proofs.lemmas.Bool.{ne_eqb, eq-eqb, cases_eq, cases_lt, cases_Bool, false≢true, or_left, or_right}
 use Rattle.std.specs.List.{AllByRecursion, list_any}
 use Rattle.cmb_wave.specs.declared.level.Level.{Level}
-use Rattle.cmb_design.specs.declared.rows.Clock.{Clock}
+use Rattle.cmb_design_model.specs.declared.rows.Clock.{Clock}
 use Rattle.cmb_engine.specs.Inner.Bits.{has}
 use Rattle.cmb_engine.specs.Rows.{arrives_by}
 use Rattle.cmb_engine.specs.Inner.Cells.{Cell, Told, Gate, Flop, is_made, seen, cell_level, EachSeen, IsMade, IsSettled, AreReaders, Relies, cell_at, reads}

@@ -3,9 +3,9 @@ use Rattle.std.proofs.Common.{◌≡◌, ℕ, ◌+◌, ◌-◌, ◌<◌, ◌≤�
 use Rattle.std.specs.List.{AllByRecursion}
 use Rattle.std.proofs.lemmas.Bool.{cases_lt, cases_Bool, false≢true}
 use Rattle.cmb_wave.specs.declared.level.Level.{Level}
-use Rattle.cmb_design.specs.declared.rows.Clock.{Clock}
-use Rattle.cmb_design.specs.Gate.{gate}
-use Rattle.cmb_design.specs.Value.{delayed}
+use Rattle.cmb_design_model.specs.declared.rows.Clock.{Clock}
+use Rattle.cmb_design_model.specs.Gate.{gate}
+use Rattle.cmb_design_model.specs.Value.{delayed}
 use Rattle.cmb_engine.specs.Inner.Bits.{has}
 use Rattle.cmb_engine.specs.Inner.Cells.{Cell, Told, Gate, Flop, is_gate, is_made, seen, AreClosed, IsSteady, IsSteadyFrom, IsReadable, IsReady, IsTrueBelow, IsWired, AreMarked, AreSettled, KeepsTold, cell_at, pins_of, reads}
 use Rattle.cmb_engine.specs.Inner.Circuits.{cell_row, AreFlops, Arrives, AreQuiet, IsFlopOf, IsInGroup, IsMarkedOrRests, IsWiring, MeetsCells, Shows}

@@ -12,15 +12,15 @@ use Rattle.cmb_netlist.specs.declared.netlist.Driver.TheVariants.{Gate, Flop}
 use Rattle.cmb_netlist.specs.declared.netlist.Kind.{Kind}
 use Rattle.cmb_netlist.specs.declared.netlist.Kind.TheVariants.{And, Nand, Or, Nor, Xor, Xnor, Not, Buff}
 use Rattle.cmb_netlist.specs.Netlist.{driver_of, IsNetlist}
-use Rattle.cmb_design.specs.Design.{Design}
-use Rattle.cmb_design.specs.Gate.{gate}
-use Rattle.cmb_design.specs.Timing.{delay}
-use Rattle.cmb_design.specs.Value.{pin_levels, value}
-use Rattle.cmb_design.proofs.SampleFacts.{delay-positive}
-use Rattle.cmb_design.proofs.ValueFacts.{value-at_gate, value-at_flop}
+use Rattle.cmb_design_model.specs.Design.{Design}
+use Rattle.cmb_design_model.specs.Gate.{gate}
+use Rattle.cmb_design_model.specs.Timing.{delay, initial_level}
+use Rattle.cmb_design_model.specs.Value.{pin_levels, value}
+use Rattle.cmb_design_model.proofs.SampleFacts.{delay-positive}
+use Rattle.cmb_design_model.proofs.ValueFacts.{value-at_gate, value-at_flop}
 use Rattle.cmb_words.specs.declared.word.Word.{Word}
 use Rattle.cmb_words.specs.Word.{level_at_place}
-use Rattle.cmb_design.specs.Exact.{nets_of}
+use Rattle.cmb_design_model.specs.Exact.{nets_of}
 use Rattle.cmb_engine.specs.Inner.Circuits.{Shows}
 use Rattle.cmb_engine.specs.Inner.Roles.{level_in}
 use Rattle.cmb_engine.specs.Inner.Traces.{line_level, trace_of}
@@ -72,7 +72,7 @@ gate-starts design net kind operands is e =
     some [] none = absurd (omega (arith, none))
     some (operand ∷ operands) more = gate-x kind operand operands
 
-pub flop-starts : (design : Design) (net source : ℕ) → driver_of design.netlist net ≡ Flop source → value design net 0 ≡ design.init
+pub flop-starts : (design : Design) (net source : ℕ) → driver_of design.netlist net ≡ Flop source → value design net 0 ≡ initial_level design net
 flop-starts design net source e = value-at_flop design net 0 source e ∙ flop_level-start design (value design source) net
 
 -- ---- lines

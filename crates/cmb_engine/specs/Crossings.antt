@@ -1,9 +1,9 @@
 -- Crossing flip-flops: those that shares tell one another, and how far ahead they are known.
 use Rattle.std.specs.Prelude.{◌≡◌, ℕ, ◌+◌, ◌<◌, ◌≤◌, Bool, true, false, List, slice_index_or}
 use Rattle.cmb_netlist.specs.Netlist.{driver_of}
-use Rattle.cmb_design.specs.Design.{Design}
-use Rattle.cmb_design.specs.Nets.{is_flop}
-use Rattle.cmb_design.specs.Timing.{delay}
+use Rattle.cmb_design_model.specs.Design.{Design}
+use Rattle.cmb_design_model.specs.Nets.{is_flop}
+use Rattle.cmb_design_model.specs.Timing.{delay}
 use Rattle.cmb_engine.specs.Rows.{arrives}
 use Rattle.cmb_engine.specs.Windows.{Windows, end_of}
 

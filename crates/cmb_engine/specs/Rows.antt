@@ -4,11 +4,11 @@ use Rattle.std.specs.Prelude.{◌≡◌, ℕ, zero, suc, ◌+◌, ◌-◌, ◌%�
 use Rattle.cmb_wave.specs.declared.level.Level.{Level}
 use Rattle.cmb_netlist.specs.declared.netlist.Driver.{Driver}
 use Rattle.cmb_netlist.specs.declared.netlist.Driver.TheVariants.{Input, Gate, Flop}
-use Rattle.cmb_design.specs.declared.rows.Clock.{Clock}
-use Rattle.cmb_design.specs.Design.{Design}
-use Rattle.cmb_design.specs.Gate.{gate}
-use Rattle.cmb_design.specs.Timing.{clock_of, delay, stimulus}
-use Rattle.cmb_design.specs.Value.{pin_levels}
+use Rattle.cmb_design_model.specs.declared.rows.Clock.{Clock}
+use Rattle.cmb_design_model.specs.Design.{Design}
+use Rattle.cmb_design_model.specs.Gate.{gate}
+use Rattle.cmb_design_model.specs.Timing.{clock_of, delay, initial_level, stimulus}
+use Rattle.cmb_design_model.specs.Value.{pin_levels}
 
 -- whether this tick is so many ticks after a sample tick
 abbrev pub arrives_by : Clock → ℕ → ℕ → Bool
@@ -27,7 +27,7 @@ level_held init level (suc tick) = level tick
 -- a flip-flop's level: where a sample arrives that of its data when it was taken, else its own of the tick before
 abbrev pub flop_row : Design → (ℕ → ℕ → Level) → ℕ → ℕ → ℕ → Level
 flop_row design level net tick source =
-    if arrives design net tick then level source (tick - delay design net 1) else level_held design.init (level net) tick
+    if arrives design net tick then level source (tick - delay design net 1) else level_held (initial_level design net) (level net) tick
 
 -- the level of a net at a tick by its driver
 abbrev pub row : Design → (ℕ → ℕ → Level) → ℕ → ℕ → Driver → Level

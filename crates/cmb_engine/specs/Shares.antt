@@ -2,10 +2,9 @@
 use Rattle.std.specs.Prelude.{◌≡◌, ℕ, ◌+◌, ◌-◌, All, Bool, true, false, List, Contains, slice_index_or}
 use Rattle.cmb_wave.specs.declared.level.Level.{Level}
 use Rattle.cmb_netlist.specs.Netlist.{driver_of, pins_of}
-use Rattle.cmb_design.specs.Design.{Design}
+use Rattle.cmb_design_model.specs.Design.{Design}
 use Rattle.cmb_words.specs.declared.changed.Changed.{Changed}
-use Rattle.cmb_words.specs.Changes.{IsStill, TellsNet, is_among}
-use Rattle.cmb_words.specs.Word.{level_at_place}
+use Rattle.cmb_words.specs.Changes.{IsStill, TellsNet, is_among, levels_up_to}
 
 -- a design, which of its nets are driven and which of these are told ahead, the most ticks of a window, and the tick below which the
 -- driven nets are known
@@ -33,4 +32,4 @@ pub record TellsThose (Those : ℕ → Type 0) (level : ℕ → ℕ → Level) (
 
 -- each word changes at some tick of [from, upto), at whose end it ends
 abbrev pub EachChanges : ℕ → ℕ → List Changed → Type 0
-EachChanges from upto changed = All (λ one. IsStill (λ tick. level_at_place one.word (tick + 64 - upto)) from upto → ⊥) changed
+EachChanges from upto changed = All (λ one. IsStill (levels_up_to upto one.word) from upto → ⊥) changed

@@ -1,4 +1,4 @@
-//! What is told ahead: what flip-flops do in a window that isn't made yet. Their samples that arrive there were taken
+//! What is sent ahead: what flip-flops do in a window that isn't made yet. Their samples that arrive there were taken
 //! before it.
 
 ghost use Rattle.std.specs.Prelude.{◌≡◌, ℕ, ◌+◌, ◌-◌, ◌<◌, ◌≤◌, true, [], All, MatchOption, OnOk, length};

@@ -6,7 +6,7 @@ ghost use Rattle.cmb_engine.specs.Inner.Cells.{IsPace};
 ghost use Rattle.cmb_engine.specs.Rows.{arrives_by};
 ghost use Rattle.cmb_engine.specs.Inner.Windows.{HasWindow};
 
-use cmb_design::Clock;
+use cmb_design_model::Clock;
 
 /// When the samples of a clock, some ticks after they were taken, arrive first in a window. Flip-flops that are visited
 /// one after another mostly have the same clock and delay, so that what was worked out for one serves the next.

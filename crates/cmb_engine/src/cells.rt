@@ -17,7 +17,7 @@ use crate::arrivals::Arrival;
 use crate::cell::Pin;
 use crate::readers::{Numbers, push_pins};
 use crate::visit::{double_word, flop_word, gate_word, single_word};
-use cmb_design::Clock;
+use cmb_design_model::Clock;
 use cmb_netlist::Kind;
 use cmb_words::{Word, spliced};
 use std::alloc::{AllocError, Global};
@@ -114,7 +114,7 @@ impl Cells {
         Ok(())
     }
 
-    /// Adds a net whose word is told.
+    /// Adds a net whose word comes of events.
     pub(crate) fn push_told(&mut self) -> Result<(), AllocError>
         ensures { OnOk result (self.new ≡ self.old ++ Told ∷ []) }
     {
@@ -150,7 +150,7 @@ impl Cells {
         }
     }
 
-    /// Adds so many nets whose words are told.
+    /// Adds so many nets whose words come of events.
     pub(crate) fn push_told_ones(&mut self, count: usize) -> Result<(), AllocError>
         ensures { OnOk result (self.new ≡ self.old ++ replicate count Told) }
     {
@@ -180,8 +180,8 @@ impl Cells {
         }
     }
 
-    /// Whether a slot's word waits for no other slot of its window: it is told, or that of a flip-flop whose clock has
-    /// such a period at least.
+    /// Whether a slot's word waits for no other slot of its window: it comes of events, or is a flip-flop's whose clock
+    /// has such a period at least.
     pub(crate) fn is_source(&self, slot: usize, shortest: u32) -> bool
         requires { slot < length self.now }
     {

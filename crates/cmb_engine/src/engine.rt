@@ -1,14 +1,14 @@
 //! The engine of a design.
 
 ghost use Rattle.std.specs.Prelude.{◌≡◌, ◌+◌, ◌<◌, ◌≤◌, IfOk};
-ghost use Rattle.cmb_design.specs.Exact.{nets_of};
-ghost use Rattle.cmb_design.specs.Value.{value};
+ghost use Rattle.cmb_design_model.specs.Exact.{nets_of};
+ghost use Rattle.cmb_design_model.specs.Value.{value};
 ghost use Rattle.cmb_engine.specs.Shares.{EachChanges};
 ghost use Rattle.cmb_words.specs.Changes.{IsWindow, Tells};
 
 use crate::share::ShareEngine;
 use crate::windows::Windows;
-use cmb_design::Design;
+use cmb_design_model::Design;
 use cmb_words::Changed;
 use std::alloc::{AllocError, Global};
 use std::marker::Model;

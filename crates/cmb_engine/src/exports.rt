@@ -1,4 +1,4 @@
-//! The flip-flops that a share tells ahead.
+//! The flip-flops whose changes a share sends ahead.
 
 ghost use Rattle.std.specs.Prelude.{◌≡◌, ℕ, ◌↔◌, false, true, List, All, Contains, IfOk, slice_index_or};
 ghost use Rattle.cmb_engine.specs.Inner.Cells.{Cell};

@@ -2,7 +2,7 @@
 
 ghost use Rattle.std.specs.Prelude.{◌≡◌, ℕ, ◌+◌, ◌-◌, ◌*◌, ◌^◌, ◌<◌, ◌≤◌, List, false, true, All, Contains, IfOk, OnOk};
 ghost use Rattle.std.specs.Prelude.{length, slice_index_or};
-ghost use Rattle.cmb_design.specs.declared.rows.Clock.{Clock};
+ghost use Rattle.cmb_design_model.specs.declared.rows.Clock.{Clock};
 ghost use Rattle.cmb_engine.specs.Inner.Bits.{has};
 ghost use Rattle.cmb_engine.specs.Inner.Cells.{Cell, IsLawful, IsPace, IsSteady, cell_at};
 ghost use Rattle.cmb_engine.specs.Inner.Circuits.{AreFlops, AreMembers, IsFlopOf, IsGroup, IsInGroup, IsMarkedOrRests};
@@ -16,7 +16,7 @@ use crate::cells::Cells;
 use crate::group::{Group, Member};
 use crate::marks::Marks;
 use crate::order::Order;
-use cmb_design::Clock;
+use cmb_design_model::Clock;
 use cmb_words::Word;
 use std::alloc::{AllocError, Global};
 

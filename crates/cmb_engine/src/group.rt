@@ -1,6 +1,6 @@
 //! Groups of flip-flops.
 
-use cmb_design::Clock;
+use cmb_design_model::Clock;
 
 /// A flip-flop: its clock, how many ticks after it was taken a sample arrives, and its slot.
 #[derive(Clone, Copy)]

@@ -3,9 +3,9 @@
 ghost use Rattle.std.specs.Prelude.{◌≡◌, ℕ, ◌-◌, ◌<◌, ◌≤◌, ◌↔◌, suc, Bool, false, IsTrue};
 ghost use Rattle.cmb_wave.specs.declared.level.Level.{Level};
 ghost use Rattle.cmb_netlist.specs.Netlist.{driver_of};
-ghost use Rattle.cmb_design.specs.Design.{Design};
-ghost use Rattle.cmb_design.specs.Timing.{clock_of, delay, IsSample};
-ghost use Rattle.cmb_design.specs.Value.{flop_level, value};
+ghost use Rattle.cmb_design_model.specs.Design.{Design};
+ghost use Rattle.cmb_design_model.specs.Timing.{clock_of, delay, initial_level, IsSample};
+ghost use Rattle.cmb_design_model.specs.Value.{flop_level, value};
 ghost use Rattle.cmb_engine.specs.Rows.{arrives, row, LooksAt};
 
 /// A sample of a flip-flop arrives its delay after it was taken.
@@ -15,9 +15,10 @@ pub fn samples_arrive()
         ↔ (delay design net 1 ≤ tick) × IsSample (clock_of design net) (tick - delay design net 1) }
 {}
 
-/// A flip-flop takes its data's level where a sample arrives, and else holds its own: at tick 0 the initial level.
+/// A flip-flop takes its data's level where a sample arrives, and else holds its own: at tick 0 its first level.
 pub fn flops_hold()
-    ensures start { (design : Design) (level : ℕ → Level) (net : ℕ) → flop_level design level net 0 ≡ design.init }
+    ensures start { (design : Design) (level : ℕ → Level) (net : ℕ) → flop_level design level net 0
+        ≡ initial_level design net }
     ensures takes { (design : Design) (level : ℕ → Level) (net tick : ℕ)
         → IsTrue (arrives design net tick)
         → flop_level design level net tick ≡ level (tick - delay design net 1) }

@@ -1,15 +1,15 @@
-//! Lines: slots that show another net's waveform some ticks later. What a net's words say of it is told of the lines
-//! ahead.
+//! Lines: slots that show another net's waveform some ticks later. What a net's words say of it is scheduled for the
+//! lines ahead.
 
 ghost use Rattle.std.specs.Prelude.{◌≡◌, ◌+◌, ◌^◌, ◌<◌, ◌≤◌, All, IfOk, OnOk, length};
-ghost use Rattle.cmb_calendar.specs.Calendars.{SameTicks};
+ghost use Rattle.cmb_wheel.specs.Calendars.{SameTicks};
 ghost use Rattle.cmb_words.specs.Changes.{RisesWithin};
 ghost use Rattle.cmb_engine.specs.Inner.Lines.{AreFollowers, IsAhead, IsOfChange, IsOfFollower, IsOfLine, NotesEach};
 ghost use Rattle.cmb_engine.specs.Inner.Windows.{HasWindow};
 
 use crate::cell::Pin;
 use crate::readers::{Readers, empty_lists, push_reader};
-use cmb_calendar::{Calendar, Tell};
+use cmb_wheel::{Calendar, LevelEvent};
 use cmb_words::{Changed, Places, Word};
 use std::alloc::{AllocError, Global};
 
@@ -46,7 +46,7 @@ fn note_changes(
 {
     let changes = word.changes_from(first);
     for place in Places::of(changes) {
-        calendar.note(Tell {
+        calendar.note(LevelEvent {
             tick: to + place - 64 + delay,
             slot,
             level: word.level(place),

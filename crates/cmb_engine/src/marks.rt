@@ -33,7 +33,7 @@ impl Model for Marks {
 
 /// Some numbers: the set places of a word, counted from its first number on.
 #[derive(Clone, Copy)]
-pub(crate) struct Batch {
+pub(crate) struct Marked {
     pub base: usize,
     pub places: u64,
     ghost fits: { base + 64 ≤ 2 ^ 64 },
@@ -100,7 +100,7 @@ impl Marks {
     /// marks. The walk then has passed the level's numbers in the word. `levels` has the numbers with which a level
     /// begins.
     #[inline]
-    pub(crate) fn take(&mut self, walk: &mut Walk, levels: &Bits) -> Option<Batch>
+    pub(crate) fn take(&mut self, walk: &mut Walk, levels: &Bits) -> Option<Marked>
         ensures { MatchOption result
             (HasNone self.old (walked walk.old) (64 * length self.old) × (self.new ≡ self.old))
             (λ batch. IsTaken self.old self.new (walked walk.old) (walked walk.new) batch.base batch.places) }
@@ -115,7 +115,7 @@ impl Marks {
             self.high.remove(word);
         }
         *walk = Walk::behind(word, end - 1);
-        Some(Batch {
+        Some(Marked {
             base: 64 * word,
             places,
         })

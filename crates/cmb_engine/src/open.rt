@@ -20,8 +20,8 @@ use crate::start::start_words;
 use crate::state::State;
 use crate::stimuli::{note_starts, note_stimuli};
 use crate::wiring::Wiring;
-use cmb_calendar::Calendar;
-use cmb_design::Design;
+use cmb_design_model::Design;
+use cmb_wheel::Calendar;
 use cmb_words::Word;
 use std::alloc::{AllocError, Global};
 

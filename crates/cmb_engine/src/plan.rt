@@ -4,8 +4,8 @@ ghost use Rattle.std.specs.Prelude.{◌≡◌, ◌+◌, ◌^◌, ◌<◌, ◌≤
 ghost use Rattle.std.specs.List.{AllZip};
 ghost use Rattle.cmb_netlist.specs.Netlist.{driver_of, pins_of, IsNetlist};
 ghost use Rattle.cmb_netlist.specs.declared.netlist.Driver.TheVariants as driver;
-ghost use Rattle.cmb_design.specs.Exact.{nets_of};
-ghost use Rattle.cmb_design.specs.Ranges.{IsDelay};
+ghost use Rattle.cmb_design_model.specs.Exact.{nets_of};
+ghost use Rattle.cmb_design_model.specs.Ranges.{IsDelay};
 ghost use Rattle.cmb_engine.specs.Inner.Plans.{cell_as, cell_in, pins_from};
 ghost use Rattle.cmb_engine.specs.Inner.Plans.{AreCells, AreLines, Grows, Pushes, StandsFor};
 ghost use Rattle.cmb_engine.specs.Inner.Roles.{role_of, AreRoles};
@@ -14,7 +14,7 @@ ghost use Rattle.cmb_engine.specs.Inner.Traces.{IsPlan};
 use crate::cell::Pin;
 use crate::cells::Cells;
 use crate::role::{Role, is_driven};
-use cmb_design::{Clock, Design};
+use cmb_design_model::{Clock, Design};
 use cmb_netlist::{Driver, MAX_NETS};
 use std::alloc::{AllocError, Global};
 
@@ -23,7 +23,7 @@ const LONGEST_SHORT: u32 = 31;
 
 /// The cells of a design's slots. Lines are slots behind the nets.
 #[derive(Drop)]
-pub(crate) struct Plan {
+pub(crate) struct CellPlan {
     pub cells: Cells,
     /// The net that each line shows, and how many ticks later.
     pub lines: Vec<Pin>,
@@ -209,7 +209,11 @@ fn width_of(lines: &[Pin], most: u32) -> u32
 }
 
 /// The plan of a design.
-pub(crate) fn plan_of(alloc: Global, design: &Design, roles: &[Role]) -> Result<Plan, AllocError>
+pub(crate) fn plan_of(
+    alloc: Global,
+    design: &Design,
+    roles: &[Role],
+) -> Result<CellPlan, AllocError>
     requires { AreRoles design.now roles.now }
     ensures plan { IfOk result (λ plan. IsPlan design.now roles.now plan.lines.items plan.most plan.width plan.cells) }
     ensures few { IfOk result (λ plan. length plan.cells < 2 ^ 32) }
@@ -217,7 +221,7 @@ pub(crate) fn plan_of(alloc: Global, design: &Design, roles: &[Role]) -> Result<
     let mut lines = Lines::new(alloc, design.netlist().len());
     let mut cells = net_cells(alloc, design, roles, &mut lines)?;
     cells.push_told_ones(lines.list.len())?;
-    Ok(Plan {
+    Ok(CellPlan {
         cells,
         width: width_of(&lines.list, lines.most),
         most: lines.most,

@@ -18,7 +18,7 @@ ghost use Rattle.cmb_engine.specs.Inner.Words.{levels_of, Writes};
 use crate::arrivals::{Arrival, any_arrival};
 use crate::cells::Cells;
 use crate::fanout::Fanout;
-use crate::marks::{Batch, Marks};
+use crate::marks::{Marked, Marks};
 use crate::order::Order;
 use crate::readers::Readers;
 use crate::walk::Walk;
@@ -78,7 +78,7 @@ fn make_words(
     order: &Order,
     words: &mut [Word],
     last: &mut Arrival,
-    batch: Batch,
+    batch: Marked,
     to: u32,
     first: u32,
 ) -> u64
@@ -122,7 +122,7 @@ fn mark_flops(marks: &mut Marks, flops: &Readers, slot: usize, opened: bool)
 }
 
 // Puts the slots of a batch among the live ones, and marks those that read them.
-fn pass_on(fanout: &Fanout, news: Batch, opened: bool, live: &mut Marks, marks: &mut Marks)
+fn pass_on(fanout: &Fanout, news: Marked, opened: bool, live: &mut Marks, marks: &mut Marks)
     requires within { (rank : ℕ) → rank < length fanout.now.order.slots
         → slice_index fanout.now.order.slots rank < 64 * length live.old }
     requires gates { AreBelow (64 * length marks.old) fanout.now.gates }
@@ -182,7 +182,7 @@ pub(crate) fn sweep(
             first,
         );
         let base = batch.base;
-        let news = Batch { base, places };
+        let news = Marked { base, places };
         pass_on(fanout, news, opened, live, marks);
     }
 }

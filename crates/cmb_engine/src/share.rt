@@ -1,9 +1,9 @@
 //! The engine of a share of a design's nets.
 
 ghost use Rattle.std.specs.Prelude.{◌≡◌, ℕ, ◌+◌, ◌<◌, ◌≤◌, ◌↔◌, All, Contains, IfOk, OnOk, [], length};
-ghost use Rattle.cmb_design.specs.Exact.{nets_of};
-ghost use Rattle.cmb_design.specs.Timing.{delay};
-ghost use Rattle.cmb_design.specs.Value.{value};
+ghost use Rattle.cmb_design_model.specs.Exact.{nets_of};
+ghost use Rattle.cmb_design_model.specs.Timing.{delay};
+ghost use Rattle.cmb_design_model.specs.Value.{value};
 ghost use Rattle.cmb_engine.specs.Crossings.{IsCrossing, IsWithinLookahead};
 ghost use Rattle.cmb_engine.specs.Inner.Roles.{driven_of, AreOf};
 ghost use Rattle.cmb_engine.specs.Shares.{IsDriven, IsGiven, EachChanges, TellsThose};
@@ -18,7 +18,7 @@ use crate::group::Group;
 use crate::open::{open_circuit, open_state};
 use crate::sharing::roles_of;
 use crate::state::State;
-use cmb_design::Design;
+use cmb_design_model::Design;
 use cmb_words::Changed;
 use std::alloc::{AllocError, Global};
 use std::marker::Model;
@@ -109,7 +109,7 @@ impl<'d> ShareEngine<'d> {
         ShareEngine::begin(alloc, design, circuit)
     }
 
-    /// The same engine, by which the crossing ones of its flip-flops are told ahead.
+    /// The same engine, which gives the changes of its crossing flip-flops ahead.
     pub fn exporting(self, alloc: Global, crossing: &[bool]) -> Result<ShareEngine<'d>, AllocError>
         ensures design { IfOk result (λ engine. engine.design ≡ self.entry.design) }
         ensures driven { IfOk result (λ engine. engine.driven ≡ self.entry.driven) }

@@ -2,11 +2,11 @@
 
 ghost use Rattle.std.specs.Prelude.{◌≡◌, ℕ, ◌<◌, ◌∷◌, [], false, All, IfOk, length};
 ghost use Rattle.cmb_netlist.specs.Netlist.{driver_of, pins_of, IsNetlist};
-ghost use Rattle.cmb_design.specs.Exact.{nets_of};
+ghost use Rattle.cmb_design_model.specs.Exact.{nets_of};
 ghost use Rattle.cmb_engine.specs.Inner.Roles.{driven_of, gives, is_driven, is_given, AreOf, Gives};
 
 use crate::role::Role;
-use cmb_design::Design;
+use cmb_design_model::Design;
 use cmb_netlist::Driver;
 use std::alloc::{AllocError, Global};
 

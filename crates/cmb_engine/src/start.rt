@@ -2,8 +2,8 @@
 
 ghost use Rattle.std.specs.Prelude.{◌≡◌, ℕ, ◌+◌, ◌<◌, ◌≤◌, List, All, IfOk, length};
 ghost use Rattle.cmb_wave.specs.declared.level.Level.{Level};
-ghost use Rattle.cmb_design.specs.Exact.{nets_of};
-ghost use Rattle.cmb_design.specs.Value.{value};
+ghost use Rattle.cmb_design_model.specs.Exact.{nets_of};
+ghost use Rattle.cmb_design_model.specs.Value.{value};
 ghost use Rattle.cmb_words.specs.Word.{level_at_place};
 ghost use Rattle.cmb_engine.specs.Inner.Circuits.{Shows};
 ghost use Rattle.cmb_engine.specs.Inner.Traces.{trace_of};
@@ -12,13 +12,13 @@ ghost use Rattle.cmb_engine.specs.Inner.Words.{levels_of};
 ghost use Rattle.cmb_engine.specs.declared.role.Role.{Role};
 
 use crate::cell::Pin;
-use cmb_design::Design;
+use cmb_design_model::Design;
 use cmb_netlist::Driver;
 use cmb_wave::Level;
 use cmb_words::Word;
 use std::alloc::{AllocError, Global};
 
-/// The level of a net, given by its number, at tick 0: an input's by its stimulus, a flip-flop's the initial one, and a
+/// The level of a net, given by its number, at tick 0: an input's by its stimulus, a flip-flop's its first one, and a
 /// gate's x, since before tick 0 all its pins are.
 pub fn start_level(design: &Design, net: usize) -> Level
     requires { net < nets_of design.now }
@@ -30,7 +30,7 @@ pub fn start_level(design: &Design, net: usize) -> Level
     match netlist.driver(net) {
         Driver::Input => design.stim(net, 0),
         Driver::Gate(_, _) => Level::X,
-        Driver::Flop(_) => design.init(),
+        Driver::Flop(_) => design.init(net),
     }
 }
 

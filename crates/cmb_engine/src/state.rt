@@ -1,8 +1,8 @@
 //! The state of an engine, and its way from window to window.
 
 ghost use Rattle.std.specs.Prelude.{◌≡◌, ◌+◌, ◌<◌, ◌≤◌, OnOk};
-ghost use Rattle.cmb_design.specs.Exact.{nets_of};
-ghost use Rattle.cmb_design.specs.Value.{value};
+ghost use Rattle.cmb_design_model.specs.Exact.{nets_of};
+ghost use Rattle.cmb_design_model.specs.Value.{value};
 ghost use Rattle.cmb_words.specs.Changes.{IsWindow, Tells};
 ghost use Rattle.cmb_engine.specs.Inner.Gifts.{AreGiven};
 ghost use Rattle.cmb_engine.specs.Inner.Roles.{level_in};
@@ -14,8 +14,8 @@ use crate::collect::collect;
 use crate::lines::note_lines;
 use crate::marks::Marks;
 use crate::window::go_on;
-use cmb_calendar::{Calendar, Tell};
-use cmb_design::Design;
+use cmb_design_model::Design;
+use cmb_wheel::{Calendar, LevelEvent};
 use cmb_words::{Changed, Word};
 use std::alloc::AllocError;
 
@@ -28,16 +28,16 @@ pub(crate) struct State {
     pub live: Marks,
     /// The slots with news.
     pub marks: Marks,
-    /// What is told from the clock on.
+    /// The events from the clock on.
     pub calendar: Calendar,
-    /// Room for what is told of a window.
-    pub tells: Vec<Tell>,
+    /// A buffer for the events of a window.
+    pub tells: Vec<LevelEvent>,
     /// The tick below which all slots are known.
     pub clock: u32,
 }
 
 impl State {
-    /// Goes on by a window up to a tick, of which the given nets are told, and says which nets changed in it. After an
+    /// Goes on by a window up to a tick, with the changes of given nets, and says which nets changed in it. After an
     /// Err it isn't to be used again.
     pub(crate) fn advance(
         &mut self,

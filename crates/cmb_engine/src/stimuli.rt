@@ -1,10 +1,10 @@
-//! What is told of told slots when an engine begins.
+//! The events of inputs when an engine begins.
 
 ghost use Rattle.std.specs.Prelude.{◌≡◌, ◌+◌, ◌^◌, ◌<◌, true, All, OnOk, length};
 ghost use Rattle.cmb_netlist.specs.Netlist.{driver_of};
 ghost use Rattle.cmb_netlist.specs.declared.netlist.Driver.TheVariants.{Input};
-ghost use Rattle.cmb_calendar.specs.Calendars.{SameTicks};
-ghost use Rattle.cmb_design.specs.Exact.{nets_of};
+ghost use Rattle.cmb_wheel.specs.Calendars.{SameTicks};
+ghost use Rattle.cmb_design_model.specs.Exact.{nets_of};
 ghost use Rattle.cmb_engine.specs.Inner.Lines.{NotesEach};
 ghost use Rattle.cmb_engine.specs.Inner.Roles.{drives};
 ghost use Rattle.cmb_engine.specs.Inner.Starts.{IsOfInput, IsOfStart, IsOfStimulus};
@@ -12,10 +12,10 @@ ghost use Rattle.cmb_engine.specs.Inner.Words.{levels_of};
 
 use crate::cell::Pin;
 use crate::role::{Role, is_driven};
-use cmb_calendar::{Calendar, Tell};
-use cmb_design::Design;
+use cmb_design_model::Design;
 use cmb_netlist::Driver;
 use cmb_wave::Level;
+use cmb_wheel::{Calendar, LevelEvent};
 use cmb_words::Word;
 use std::alloc::AllocError;
 
@@ -29,7 +29,7 @@ fn note_stimulus(design: &Design, net: usize, calendar: &mut Calendar) -> Result
 {
     for change in design.stim_changes(net) {
         if change.tick > 0 {
-            calendar.note(Tell {
+            calendar.note(LevelEvent {
                 tick: change.tick,
                 slot: net as u32,
                 level: change.level,
@@ -86,7 +86,7 @@ pub(crate) fn note_starts(
     for (number, line) in lines.iter().enumerate() {
         let level = words[line.net as usize].level(63);
         if level != Level::X {
-            calendar.note(Tell {
+            calendar.note(LevelEvent {
                 tick: line.delay,
                 slot: (nets + number) as u32,
                 level,

@@ -1,8 +1,8 @@
-//! What is told of slots in a window.
+//! The events of slots in a window.
 
 ghost use Rattle.std.specs.Prelude.{◌≡◌, ℕ, ◌+◌, ◌-◌, ◌*◌, ◌<◌, ◌≤◌, [], ◌∷◌, All, Contains, length};
 ghost use Rattle.std.specs.Prelude.{slice_index_or};
-ghost use Rattle.cmb_calendar.specs.declared.tell.Tell.{Tell};
+ghost use Rattle.cmb_wheel.specs.declared.event.LevelEvent.{LevelEvent};
 ghost use Rattle.cmb_engine.specs.Inner.Bits.{has};
 ghost use Rattle.cmb_engine.specs.Inner.Cells.{AreBelow, AreMarked};
 ghost use Rattle.cmb_engine.specs.Inner.Tells.{told_level};
@@ -11,20 +11,20 @@ ghost use Rattle.cmb_engine.specs.Inner.Words.{levels_of, Writes};
 use crate::marks::Marks;
 use crate::readers::Readers;
 use crate::settle::put_word;
-use cmb_calendar::Tell;
+use cmb_wheel::LevelEvent;
 use cmb_words::Word;
 
-/// Writes what is told into the words that end before a tick, and marks who reads the slots that it is told of.
+/// Writes events into the words that end before a tick, and marks who reads the slots of these events.
 #[inline(never)]
 pub(crate) fn write_told(
-    tells: &[Tell],
+    tells: &[LevelEvent],
     readers: &Readers,
     words: &mut [Word],
     live: &mut Marks,
     marks: &mut Marks,
     to: u32,
 )
-    requires slots { (tell : Tell) → Contains tells.now tell
+    requires slots { (tell : LevelEvent) → Contains tells.now tell
         → (tell.slot < length words.old) × (1 ≤ tell.tick) × (to ≤ tell.tick + 64) × (tell.tick < to) }
     requires lists { length readers.now ≡ length words.old }
     requires within { AreBelow (64 * length marks.old) readers.now }
@@ -33,7 +33,7 @@ pub(crate) fn write_told(
     ensures writes { Writes words.old words.new live.old live.new marks.old marks.new }
     ensures words { (slot place : ℕ) → slot < length words.old → place < 64 → levels_of words.new slot place
         ≡ told_level tells.now slot (levels_of words.old slot place) (to + place - 64) }
-    ensures news { (tell : Tell) → Contains tells.now tell
+    ensures news { (tell : LevelEvent) → Contains tells.now tell
         → AreMarked (has marks.new) (slice_index_or readers.now tell.slot []) }
 {
     for tell in tells {

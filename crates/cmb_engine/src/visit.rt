@@ -1,7 +1,7 @@
 //! What the cell of a net makes of the words of others.
 
 ghost use Rattle.std.specs.Prelude.{◌≡◌, ℕ, ◌+◌, ◌-◌, ◌<◌, ◌≤◌, List, [], ◌∷◌, All, length, map, if◌then◌else◌};
-ghost use Rattle.cmb_design.specs.Gate.{gate};
+ghost use Rattle.cmb_design_model.specs.Gate.{gate};
 ghost use Rattle.cmb_words.specs.Word.{level_at_place};
 ghost use Rattle.cmb_engine.specs.Inner.Arrivals.{IsArrival};
 ghost use Rattle.cmb_engine.specs.Inner.Cells.{seen, IsPace};
@@ -11,7 +11,7 @@ ghost use Rattle.cmb_engine.specs.Inner.Words.{levels_of};
 
 use crate::arrivals::{Arrival, arrival_of};
 use crate::cell::Pin;
-use cmb_design::Clock;
+use cmb_design_model::Clock;
 use cmb_netlist::Kind;
 use cmb_words::{Word, completed, gate1, gate2, held, join};
 

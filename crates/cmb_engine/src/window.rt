@@ -2,7 +2,7 @@
 
 ghost use Rattle.std.specs.Prelude.{◌≡◌, ℕ, ◌+◌, ◌-◌, ◌*◌, ◌<◌, ◌≤◌, false, length, Contains};
 ghost use Rattle.cmb_wave.specs.declared.level.Level.{Level};
-ghost use Rattle.cmb_calendar.specs.declared.tell.Tell.{Tell};
+ghost use Rattle.cmb_wheel.specs.declared.event.LevelEvent.{LevelEvent};
 ghost use Rattle.cmb_engine.specs.Inner.Bits.{has};
 ghost use Rattle.cmb_engine.specs.Inner.Cells.{cell_at, is_made};
 ghost use Rattle.cmb_engine.specs.Inner.Circuits.{AreQuiet, IsWiring, MeetsCells, Shows};
@@ -20,14 +20,14 @@ use crate::role::Role;
 use crate::settle::settle;
 use crate::told::write_told;
 use crate::wiring::Wiring;
-use cmb_calendar::Tell;
+use cmb_wheel::LevelEvent;
 use cmb_words::{Changed, Word};
 
-/// Goes on by a window of so many ticks, up to the clock `to`, where the tells are those of its ticks, and what others
+/// Goes on by a window of so many ticks, up to the clock `to`, where the events are those of its ticks, and what others
 /// drive is given: words that show what the slots do up to the clock before show it up to this one then.
 pub(crate) fn go_on(
     wiring: &Wiring,
-    tells: &[Tell],
+    tells: &[LevelEvent],
     given: &[Changed],
     words: &mut [Word],
     live: &mut Marks,
@@ -46,7 +46,7 @@ pub(crate) fn go_on(
     requires later { ticks < to }
     requires to { to ≤ 1000000 }
     requires quiet { AreQuiet (levels_of words.old) (has live.old) (length words.old) }
-    requires told { (tell : Tell) → Contains tells.now tell
+    requires told { (tell : LevelEvent) → Contains tells.now tell
         → (tell.slot < length words.old) × (is_made (cell_at wiring.now.cells tell.slot) ≡ false)
         × (to ≤ tell.tick + ticks) × (tell.tick < to) }
     ensures len { length words.new ≡ length words.old }

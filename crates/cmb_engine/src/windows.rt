@@ -2,14 +2,14 @@
 //! when the window begins, so windows end where samples arrive.
 
 ghost use Rattle.std.specs.Prelude.{◌≡◌, ℕ, ◌<◌, ◌≤◌, true, All, Contains, IfOk, OnOk, MatchOption};
-ghost use Rattle.cmb_design.specs.Exact.{nets_of};
-ghost use Rattle.cmb_design.specs.Nets.{pins_at};
+ghost use Rattle.cmb_design_model.specs.Exact.{nets_of};
+ghost use Rattle.cmb_design_model.specs.Nets.{pins_at};
 ghost use Rattle.cmb_engine.specs.Crossings.{IsCrossing};
 ghost use Rattle.cmb_engine.specs.Inner.Ends.{IsPaced, AreEnding, pace_of};
 ghost use Rattle.cmb_engine.specs.Windows.{arrival_from};
 
 use crate::exports::is_marked;
-use cmb_design::Design;
+use cmb_design_model::Design;
 use cmb_netlist::Driver;
 use std::alloc::{AllocError, Global};
 use std::marker::Model;
@@ -196,7 +196,7 @@ impl Model for Windows {
 
 impl Windows {
     ghost use Rattle.std.specs.Prelude.{◌≡◌, ℕ, ◌+◌, ◌<◌, ◌≤◌, IfOk, IfSome};
-    ghost use Rattle.cmb_design.specs.Timing.{delay};
+    ghost use Rattle.cmb_design_model.specs.Timing.{delay};
     ghost use Rattle.cmb_engine.specs.Crossings.{IsCrossing, AreWithinLookahead};
     ghost use Rattle.cmb_engine.specs.Windows.{HaveTicks, end_of};
 

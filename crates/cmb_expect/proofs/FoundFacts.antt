@@ -5,10 +5,10 @@ use Rattle.std.proofs.lemmas.Bool.{cases_eq, cases_lt}
 use Rattle.std.proofs.lemmas.List.{get_or_default, get_or-map, get_or-set_other, get_or-set_same, length-map, same_lists}
 use Rattle.std.proofs.lemmas.List.Elements.{All-contains}
 use Rattle.cmb_wave.specs.declared.level.Level.{Level}
-use Rattle.cmb_design.specs.Design.{Design}
-use Rattle.cmb_design.specs.Value.{value}
+use Rattle.cmb_design_model.specs.Design.{Design}
+use Rattle.cmb_design_model.specs.Value.{value}
 use Rattle.cmb_expect.specs.Expectations.{level_found}
-use Rattle.cmb_design.specs.declared.expected.Expected.{Expected}
+use Rattle.cmb_design_model.specs.declared.expected.Expected.{Expected}
 use Rattle.cmb_expect.specs.declared.probe.Probe.{Probe}
 use Rattle.cmb_expect.specs.Inner.Probes.{AreFound, AreLater, AreLawful, AreProbes, AreRising, probe_of}
 

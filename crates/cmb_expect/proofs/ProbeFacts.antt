@@ -8,7 +8,7 @@ use Rattle.std.proofs.lemmas.List.Elements.{Contains-get_or}
 use Rattle.std.proofs.lemmas.List.Sorted.{All-permutation, Contains-permutation}
 use Rattle.std.proofs.Math.Seq.{get_or-append_seam}
 use Rattle.cmb_wave.specs.declared.level.Level.TheVariants.{X}
-use Rattle.cmb_design.specs.declared.expected.Expected.{Expected}
+use Rattle.cmb_design_model.specs.declared.expected.Expected.{Expected}
 use Rattle.cmb_expect.specs.declared.probe.Probe.{Probe}
 use Rattle.cmb_expect.specs.Inner.Probes.{AreLawful, AreProbes, AreRising, IsLawful, IsProbe, probe_of}
 

@@ -11,6 +11,7 @@ use Rattle.cmb_words.specs.declared.word.Word.{Word}
 use Rattle.cmb_wave.specs.declared.level.Level.{Level}
 use Rattle.cmb_words.specs.declared.changed.Changed.{Changed}
 use Rattle.cmb_words.specs.Changes.{IsStill, RisesWithin, Tells, TellsNet, is_among}
+use Rattle.cmb_words.proofs.TellsFacts.{tells-level}
 use Rattle.cmb_activity.proofs.TallyFacts.{still_at}
 use Rattle.cmb_expect.specs.declared.trace.Trace.{Trace}
 use Rattle.cmb_expect.specs.Inner.Traces.{AreTraces, IsTrace, level_told}
@@ -151,7 +152,7 @@ ends old new changed upto taken level from some order short all tells = record {
         trace-new (level net) (get_or new net d) from upto told.at order short
         (λ tick late below.
         let words : TellsNet level from upto told.one = All-contains (TellsNet level from upto) changed told.one tells.words told.there in
-        ap (λ (w : Word). level_at_place w (tick + 64 - upto)) told.word ∙ words tick late below
+        ap (λ (w : Word). level_at_place w (tick + 64 - upto)) told.word ∙ tells-level level from upto told.one words tick late below
         ∙ ap (λ (n : ℕ). level n tick) told.net_of)
 
 -- the nets that changed are nets

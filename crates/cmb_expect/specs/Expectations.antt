@@ -2,9 +2,9 @@
 use Rattle.std.specs.Prelude.{Bool, not}
 use Rattle.cmb_wave.specs.declared.level.Level.{Level}
 use Rattle.cmb_wave.specs.Waveform.{same_level}
-use Rattle.cmb_design.specs.Design.{Design}
-use Rattle.cmb_design.specs.Value.{value}
-use Rattle.cmb_design.specs.declared.expected.Expected.{Expected}
+use Rattle.cmb_design_model.specs.Design.{Design}
+use Rattle.cmb_design_model.specs.Value.{value}
+use Rattle.cmb_design_model.specs.declared.expected.Expected.{Expected}
 
 -- the level that the net of a row has at its tick
 abbrev pub level_found : Design → Expected → Level

@@ -3,11 +3,11 @@ use Rattle.std.specs.Prelude.{ℕ, List, [], ◌∷◌, ◌++◌, codes, decimal
 use Rattle.std.specs.List.{flat_map}
 use Rattle.cmb_wave.specs.declared.level.Level.{Level}
 use Rattle.cmb_netlist.specs.Netlist.{name_of}
-use Rattle.cmb_design.specs.Design.{Design}
-use Rattle.cmb_vcd.specs.Vcd.{level_byte}
+use Rattle.cmb_design_model.specs.Design.{Design}
+use Rattle.cmb_run_text.specs.Vcd.{level_byte}
 use Rattle.cmb_activity.specs.Texts.{field}
 use Rattle.cmb_expect.specs.Expectations.{differs, level_found}
-use Rattle.cmb_design.specs.declared.expected.Expected.{Expected}
+use Rattle.cmb_design_model.specs.declared.expected.Expected.{Expected}
 
 abbrev pub level_field : Level → List ℕ
 level_field level = codes "," ++ level_byte level ∷ []

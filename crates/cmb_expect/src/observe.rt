@@ -2,17 +2,17 @@
 
 ghost use Rattle.std.specs.Prelude.{◌≡◌, ◌+◌, ◌^◌, ◌<◌, ◌≤◌, ℕ, length, map, All, IfOk, OnOk};
 ghost use Rattle.cmb_wave.specs.declared.level.Level.{Level};
-ghost use Rattle.cmb_design.specs.Exact.{nets_of};
-ghost use Rattle.cmb_design.specs.Value.{value};
+ghost use Rattle.cmb_design_model.specs.Exact.{nets_of};
+ghost use Rattle.cmb_design_model.specs.Value.{value};
 ghost use Rattle.cmb_words.specs.Changes.{Tells};
-ghost use Rattle.cmb_design.specs.Expected.{IsWithin};
+ghost use Rattle.cmb_design_model.specs.Expected.{IsWithin};
 ghost use Rattle.cmb_expect.specs.Expectations.{level_found};
 ghost use Rattle.cmb_expect.specs.Inner.Probes.{AreFound, AreLater, AreLawful};
 ghost use Rattle.cmb_expect.specs.Inner.Traces.{AreTraces};
 
 use crate::probe::{Probe, probes_of};
 use crate::trace::Trace;
-use cmb_design::{Design, Expected};
+use cmb_design_model::{Design, Expected};
 use cmb_engine::{Engine, start_level};
 use cmb_wave::Level;
 use cmb_words::{Changed, Word};

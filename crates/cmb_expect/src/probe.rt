@@ -3,7 +3,7 @@
 ghost use Rattle.std.specs.Prelude.{◌<◌, ◌^◌, IfOk, length};
 ghost use Rattle.cmb_expect.specs.Inner.Probes.{AreProbes};
 
-use cmb_design::Expected;
+use cmb_design_model::Expected;
 use std::alloc::{AllocError, Global};
 
 /// A row's tick and net, and its place in the table.

@@ -3,15 +3,15 @@
 ghost use Rattle.std.specs.Prelude.{◌≡◌, ◌^◌, ◌<◌, ◌++◌, length, map, not, All, IfOk, OnOk, count_by, decimal};
 ghost use Rattle.cmb_wave.specs.Waveform.{same_level};
 ghost use Rattle.cmb_wave.specs.declared.level.Level.{Level};
-ghost use Rattle.cmb_design.specs.Exact.{nets_of};
-ghost use Rattle.cmb_design.specs.Expected.{IsWithin};
-ghost use Rattle.cmb_design.specs.declared.expected.Expected.{Expected};
+ghost use Rattle.cmb_design_model.specs.Exact.{nets_of};
+ghost use Rattle.cmb_design_model.specs.Expected.{IsWithin};
+ghost use Rattle.cmb_design_model.specs.declared.expected.Expected.{Expected};
 ghost use Rattle.cmb_expect.specs.Expectations.{differs, level_found};
 ghost use Rattle.cmb_expect.specs.Texts.{difference_table, level_field, line, line_of};
 
 use cmb_activity::push_field;
-use cmb_design::{Design, Expected};
-use cmb_vcd::lines::byte_of;
+use cmb_design_model::{Design, Expected};
+use cmb_run_text::lines::byte_of;
 use cmb_wave::Level;
 use itoa::Buffer;
 use std::alloc::{AllocError, Global};

@@ -1,4 +1,4 @@
-//! The levels of a net as the engine told them last.
+//! The levels of a net by the engine's last word of it.
 
 ghost use Rattle.std.specs.Prelude.{◌≡◌, ◌+◌, ◌<◌, ◌≤◌};
 ghost use Rattle.cmb_expect.specs.Inner.Traces.{level_told};

@@ -19,8 +19,8 @@ pub enum Place {
     Listed,
     /// The number of a net.
     Net,
-    /// The number of an input: 1 the netlist, 2 the delays, 3 the stimuli, 4 the clocks, 5 the list of nets, 7 what is
-    /// expected.
+    /// The number of an input: 1 the netlist, 2 the delays, 3 the stimuli, 4 the clocks, 5 the list of nets, 6 the
+    /// first levels, 7 what is expected.
     Input,
     /// How many bytes were written.
     Bytes,

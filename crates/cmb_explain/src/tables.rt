@@ -12,15 +12,15 @@ static HEADER: Explanation = Explanation {
     example: "\
 kind;NAND;3",
     advice: "\
-Begin delays with by,name,delay, clocks with net,first,period, and stimuli and what is expected with
-tick,net,value, in small letters. Between fields stands a comma: a spreadsheet that writes ; or tabs has to be told.
-See also that each table went to its own option.",
+Begin delays with by,name,delay, clocks with net,first,period, first levels with net,value, and
+stimuli and what is expected with tick,net,value, in small letters. Between fields stands a comma:
+a spreadsheet that writes ; or tabs has to be told. See also that each table went to its own option.",
 };
 
 static FIELDS: Explanation = Explanation {
     number: 24,
     place: Place::Record,
-    meaning: "not three fields",
+    meaning: "not as many fields as the header",
     example: "\
 by,name,delay
 kind,NAND",
@@ -85,7 +85,7 @@ tick,net,value
 5,a,1",
     advice: "\
 Keep one row of each kind, net or pin in the delays, of each tick and net in the stimuli and in what
-is expected, and of each net in the clocks.",
+is expected, and of each net in the clocks and in the first levels.",
 };
 
 static NOT_INPUT: Explanation = Explanation {
@@ -167,7 +167,7 @@ net,first,period
 y,4,10
 with y = NOT(a) in the netlist",
     advice: "\
-Only a net that a DFF drives samples: name the flip-flop's own net, not its data.",
+Only a net that a DFF drives samples, or has a first level: name the flip-flop's own net, not its data.",
 };
 
 static BEYOND_HORIZON: Explanation = Explanation {

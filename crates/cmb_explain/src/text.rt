@@ -17,10 +17,11 @@ A fault is told by one line on standard error, `cmbsim: fault N at P`, with stat
 ";
 
 const LIST_END: &str = "
-The inputs are 1 the netlist, 2 the delays, 3 the stimuli, 4 the clocks, 5 the list of nets and 7
-what is expected. The record of a table is counted from 1, its header being the first; lines that
-are empty don't count. Delays are read first, then stimuli, then clocks, and their rows are then
-checked in that order; then what is expected. The line of fault 38 is that of the list.
+The inputs are 1 the netlist, 2 the delays, 3 the stimuli, 4 the clocks, 5 the list of nets, 6 the
+first levels and 7 what is expected. The record of a table is counted from 1, its header being the
+first; lines that are empty don't count. Delays are read first, then stimuli, clocks and first levels,
+and their rows are then checked in that order; then what is expected. The line of fault 38 is that of
+the list.
 
 `cmbsim explain N` has an example of fault N, and says what to do. An empty netlist is no fault:
 its waveforms have no nets, and some viewers refuse to open them.
@@ -51,7 +52,8 @@ fn place_words(place: Place) -> &'static str {
         Place::Listed => "the line of the list of nets",
         Place::Net => "the number of a net that wasn't complete, the first of the netlist being 0",
         Place::Input => {
-            "the input: 1 the netlist, 2 delays, 3 stimuli, 4 clocks, 5 the list of nets, 7 what is expected"
+            "the input: 1 the netlist, 2 delays, 3 stimuli, 4 clocks, 5 the list of nets, 6 first levels, \
+             7 what is expected"
         }
         Place::Bytes => "how many bytes were written",
         Place::Nowhere => "always 0",

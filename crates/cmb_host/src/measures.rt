@@ -2,9 +2,9 @@
 
 ghost use Rattle.std.specs.Prelude.{◌≡◌, IfSome, true};
 
-use cmb_inout::Done;
-use cmb_line::Line;
-use cmb_tell::{Stats, Tally, peak_of, processor_of, stats_text};
+use cmb_cli_line::Line;
+use cmb_faults::Done;
+use cmb_report::{Stats, Tally, peak_of, processor_of, stats_text};
 use std::fs::File;
 use std::io::Read;
 use std::time::{Duration, Instant};

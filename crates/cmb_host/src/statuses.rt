@@ -5,24 +5,36 @@ ghost use Rattle.std.specs.Prelude.{◌≡◌, ◌≤◌, IfErr, IfOk};
 ghost use Rattle.std.specs.Process.{exit_status};
 ghost use Rattle.cmb_host.specs.Statuses.{done_status};
 
-use crate::tables::Told;
-use cmb_command::line_message;
-use cmb_inout::{Comparison, Done, Fault, fault_line};
-use cmb_line::Line;
-use cmb_tell::done_words;
-use cmb_vcd::{ToWriter, write_whole};
+use crate::tables::Refusal;
+use cmb_cli::line_message;
+use cmb_cli_line::Line;
+use cmb_design_model::DesignFault;
+use cmb_faults::{Comparison, Done, Fault, fault_line};
+use cmb_io::{ToWriter, write_whole};
+use cmb_report::{Piped, done_words};
 use std::io;
-use std::io::Write;
+use std::io::{IsTerminal, Write};
 use std::process::ExitCode;
 
-// Prints a text to standard output.
-fn print(rt: &HostRuntime, text: &str) -> Result<(), Fault> {
-    match write_whole(&mut ToWriter::new(rt.stdout()), text.as_bytes()) {
+// Prints a text to standard output. What isn't taken is a fault, which isn't told where the reader of a pipe closed it
+// and standard error is a terminal.
+fn print(rt: &HostRuntime, text: &str) -> Result<(), Refusal> {
+    let mut out = ToWriter::new(Piped::new(rt.stdout()));
+    match write_whole(&mut out, text.as_bytes()) {
         Ok(()) => Ok(()),
-        Err(written) => Err(Fault::Write {
-            written: written as u64,
+        Err(written) => Err(Refusal {
+            fault: Fault::Write {
+                written: written as u64,
+            },
+            words: None,
+            quiet: out.writer.is_closed && on_terminal(rt),
         }),
     }
+}
+
+/// Whether standard error is a terminal.
+pub fn on_terminal(rt: &HostRuntime) -> bool {
+    rt.stderr().is_terminal()
 }
 
 /// Prints the fault on standard error, if memory allows. The status is 1.
@@ -33,6 +45,22 @@ pub fn tell(rt: &HostRuntime, fault: &Fault) -> ExitCode
         let _ = rt.stderr().write_all(text.as_slice());
     }
     ExitCode::from(1)
+}
+
+// Prints the fault on standard error, and what there is to say of it where words are wanted, unless it isn't told.
+fn tell_words(rt: &HostRuntime, told: &Refusal, explain: bool) -> ExitCode
+    ensures { exit_status result ≡ 1 }
+{
+    if told.quiet {
+        return ExitCode::from(1);
+    }
+    let status = tell(rt, &told.fault);
+    if let Some(words) = &told.words {
+        if explain {
+            let _ = rt.stderr().write_all(words.as_bytes());
+        }
+    }
+    status
 }
 
 // Prints on standard error how many rows differ, if memory allows.
@@ -58,26 +86,19 @@ fn status_done(rt: &HostRuntime, done: &Done) -> ExitCode
 
 /// What is told of a line that was done, or why it wasn't. The status is 0 where it was, or 3 where something came
 /// otherwise than was expected, and 1 where it wasn't.
-pub fn status_of(rt: &HostRuntime, line: &Line, done: Result<Done, Told>) -> ExitCode
+pub fn status_of(rt: &HostRuntime, line: &Line, done: Result<Done, Refusal>) -> ExitCode
     ensures done { IfOk done (λ done. exit_status result ≡ done_status done) }
     ensures fault { IfErr done (λ _. exit_status result ≡ 1) }
 {
     match done {
         Ok(done) => {
             if line.explain {
-                let _ = rt.stderr().write_all(done_words(&done).as_bytes());
+                let words = done_words(&done, rt.stdin().is_terminal());
+                let _ = rt.stderr().write_all(words.as_bytes());
             }
             status_done(rt, &done)
         }
-        Err(told) => {
-            let status = tell(rt, &told.fault);
-            if let Some(words) = &told.words {
-                if line.explain {
-                    let _ = rt.stderr().write_all(words.as_bytes());
-                }
-            }
-            status
-        }
+        Err(told) => tell_words(rt, &told, line.explain),
     }
 }
 
@@ -86,12 +107,19 @@ pub fn status_of(rt: &HostRuntime, line: &Line, done: Result<Done, Told>) -> Exi
 pub fn help(rt: &HostRuntime, words: &[String]) -> ExitCode
     ensures { exit_status result ≤ 1 }
 {
-    let Ok(text) = line_message(rt.alloc(), words) else {
+    let Ok(text) = line_message(rt.alloc(), words, false) else {
         return tell(rt, &Fault::Memory);
     };
     match print(rt, text.as_str()) {
         Ok(()) => ExitCode::from(0),
-        Err(fault) => tell(rt, &fault),
+        Err(told) => tell_words(rt, &told, false),
+    }
+}
+
+// Prints on standard error what there is to say of words, if memory allows.
+fn print_message(rt: &HostRuntime, words: &[String]) {
+    if let Ok(text) = line_message(rt.alloc(), words, on_terminal(rt)) {
+        let _ = rt.stderr().write_all(text.as_bytes());
     }
 }
 
@@ -99,10 +127,18 @@ pub fn help(rt: &HostRuntime, words: &[String]) -> ExitCode
 pub fn refuse(rt: &HostRuntime, words: &[String]) -> ExitCode
     ensures { exit_status result ≡ 2 }
 {
-    if let Ok(text) = line_message(rt.alloc(), words) {
-        let _ = rt.stderr().write_all(text.as_bytes());
-    }
+    print_message(rt, words);
     ExitCode::from(2)
+}
+
+/// Prints on standard error the fault of a clock that has another form, and in words where these are wanted. The status
+/// is 1.
+pub fn refuse_clock(rt: &HostRuntime, words: &[String]) -> ExitCode
+    ensures { exit_status result ≡ 1 }
+{
+    let status = tell(rt, &Fault::Design(DesignFault::Clock));
+    print_message(rt, words);
+    status
 }
 
 /// The words can't be read. The status is 1 where memory ran out, and 2 where one of them isn't UTF-8.

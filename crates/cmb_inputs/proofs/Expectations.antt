@@ -1,10 +1,10 @@
 -- The checks of a table of what is expected, part by part.
 use Rattle.std.proofs.Common.{◌≡◌, ◌⊎◌, inl, inr, ℕ, List, ◌++◌, None, Some, subst, sym, ◌∙◌}
-use Rattle.cmb_design.specs.Checks.{first_fault}
-use Rattle.cmb_design.specs.Design.{Design}
-use Rattle.cmb_design.specs.declared.fault.DesignFault.{DesignFault}
-use Rattle.cmb_design.specs.declared.fault.DesignFault.TheVariants.{Memory}
-use Rattle.cmb_inout.specs.Numbers.{design_as_fault}
+use Rattle.cmb_design_model.specs.Checks.{first_fault}
+use Rattle.cmb_design_model.specs.Design.{Design}
+use Rattle.cmb_design_model.specs.declared.fault.DesignFault.{DesignFault}
+use Rattle.cmb_design_model.specs.declared.fault.DesignFault.TheVariants.{Memory}
+use Rattle.cmb_faults.specs.Numbers.{design_as_fault}
 use Rattle.cmb_inputs.specs.Expected.{AreUnexpected, expected_checks}
 use Rattle.cmb_inputs.proofs.Spelled.{Stops}
 

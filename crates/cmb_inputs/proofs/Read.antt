@@ -1,11 +1,11 @@
 -- What comes of reading inputs.
 use Rattle.std.proofs.Common.{ℕ, inl, inr, List, [], ◌∷◌, Result, Ok, Err}
-use Rattle.cmb_inout.specs.declared.fault.Fault.{Fault}
-use Rattle.cmb_inout.specs.declared.fault.Fault.TheVariants as fault
+use Rattle.cmb_faults.specs.declared.fault.Fault.{Fault}
+use Rattle.cmb_faults.specs.declared.fault.Fault.TheVariants as fault
 use Rattle.cmb_inputs.specs.Inputs.{AreTexts, HasNotFailed, Input, IsReading, LackTexts, NoneFailedBut, TellsFailed, Texts, listed}
-use Rattle.cmb_line.specs.declared.choice.Choice.{Choice}
-use Rattle.cmb_line.specs.declared.choice.Choice.TheVariants.{All, Only}
-use Rattle.cmb_line.specs.declared.choice.Pick.TheVariants.{Listed, Outputs}
+use Rattle.cmb_cli_line.specs.declared.choice.Choice.{Choice}
+use Rattle.cmb_cli_line.specs.declared.choice.Choice.TheVariants.{All, Only}
+use Rattle.cmb_cli_line.specs.declared.choice.Pick.TheVariants.{Listed, Outputs}
 
 -- a list of which no read failed, whether it is read or not
 pub NoneFailedBut-listed : (Told : ℕ → Type 0) (choice : Choice) (list : Input) → HasNotFailed list → NoneFailedBut Told (listed choice list)

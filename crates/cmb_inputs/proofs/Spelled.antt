@@ -2,20 +2,21 @@
 use Rattle.std.proofs.Common.{◌≡◌, ◌⊎◌, inl, inr, List, ◌++◌, None, Some, refl, sym, subst, ◌∙◌}
 use Rattle.cmb_bench.specs.Meaning.{Reads}
 use Rattle.cmb_netlist.specs.Netlist.{Netlist}
-use Rattle.cmb_design.proofs.CheckFacts.{first_fault-none, first_fault-some}
-use Rattle.cmb_design.specs.Checks.{Check, first_fault}
-use Rattle.cmb_design.specs.Design.{design_of}
-use Rattle.cmb_design.specs.declared.fault.DesignFault.{DesignFault}
-use Rattle.cmb_design.specs.declared.fault.DesignFault.TheVariants.{Memory}
-use Rattle.cmb_design.specs.declared.rows.ClockRow.{ClockRow}
-use Rattle.cmb_design.specs.declared.rows.DelayRow.{DelayRow}
-use Rattle.cmb_design.specs.declared.rows.StimulusRow.{StimulusRow}
-use Rattle.cmb_design.specs.declared.settings.Settings.{Settings}
-use Rattle.cmb_inout.specs.Numbers.{design_as_fault}
+use Rattle.cmb_design_model.proofs.CheckFacts.{first_fault-none, first_fault-some}
+use Rattle.cmb_design_model.specs.Checks.{Check, first_fault}
+use Rattle.cmb_design_model.specs.Design.{design_of}
+use Rattle.cmb_design_model.specs.declared.fault.DesignFault.{DesignFault}
+use Rattle.cmb_design_model.specs.declared.fault.DesignFault.TheVariants.{Memory}
+use Rattle.cmb_design_model.specs.declared.rows.ClockRow.{ClockRow}
+use Rattle.cmb_design_model.specs.declared.rows.InitialRow.{InitialRow}
+use Rattle.cmb_design_model.specs.declared.rows.DelayRow.{DelayRow}
+use Rattle.cmb_design_model.specs.declared.rows.StimulusRow.{StimulusRow}
+use Rattle.cmb_design_model.specs.declared.settings.Settings.{Settings}
+use Rattle.cmb_faults.specs.Numbers.{design_as_fault}
 use Rattle.cmb_inputs.specs.Inputs.{Texts}
 use Rattle.cmb_inputs.specs.Spelling.{HaveTextFault, design_in, text_checks}
-use Rattle.cmb_tables.specs.Readers.{table_rows, delay_row_of, stimulus_row_of, clock_row_of}
-use Rattle.cmb_tables.specs.Records.{table_records}
+use Rattle.cmb_design_tables.specs.Readers.{table_rows, delay_row_of, stimulus_row_of, clock_row_of, initial_row_of}
+use Rattle.cmb_design_tables.specs.Records.{table_records}
 
 -- memory ran out, or this is the fault of the first check that stands
 abbrev pub Stops : List Check → DesignFault → Type 0
@@ -44,7 +45,8 @@ HaveTextFault-of texts settings netlist e read (inl m) =
 HaveTextFault-of texts settings netlist e read (inr h) = HaveTextFault-found texts settings netlist read e h
 
 -- the design of rows that are those of the tables
-pub design_in-rows : (texts : Texts) (settings : Settings) (netlist : Netlist) (delays : List DelayRow) (stimuli : List StimulusRow) (clocks : List ClockRow)
+pub design_in-rows : (texts : Texts) (settings : Settings) (netlist : Netlist) (delays : List DelayRow) (stimuli : List StimulusRow) (clocks : List ClockRow) (initial : List InitialRow)
     → delays ≡ table_rows delay_row_of (table_records texts.delays) → stimuli ≡ table_rows stimulus_row_of (table_records texts.stimuli)
-    → clocks ≡ table_rows clock_row_of (table_records texts.clocks) → design_of netlist settings delays stimuli clocks ≡ design_in texts settings netlist
-design_in-rows texts settings netlist delays stimuli clocks p q r = rw (p, q, r) refl
+    → clocks ≡ table_rows clock_row_of (table_records texts.clocks) → initial ≡ table_rows initial_row_of (table_records texts.initial)
+    → design_of netlist settings delays stimuli clocks initial ≡ design_in texts settings netlist
+design_in-rows texts settings netlist delays stimuli clocks initial p q r s = rw (p, q, r, s) refl

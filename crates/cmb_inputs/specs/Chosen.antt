@@ -2,13 +2,13 @@
 use Rattle.std.specs.Prelude.{◌≡◌, ℕ, List, ⊤}
 use Rattle.cmb_bench.specs.Listed.{HasUnknown, Lists}
 use Rattle.cmb_netlist.specs.Netlist.{Netlist}
-use Rattle.cmb_design.specs.Design.{Design}
-use Rattle.cmb_design.specs.Exact.{nets_of}
-use Rattle.cmb_inout.specs.declared.fault.Fault.{Fault}
-use Rattle.cmb_inout.specs.declared.fault.Fault.TheVariants as fault
-use Rattle.cmb_line.specs.declared.choice.Pick.{Pick}
-use Rattle.cmb_line.specs.declared.choice.Pick.TheVariants.{Listed, Outputs}
-use Rattle.cmb_restrict.specs.Chosen.{each_once}
+use Rattle.cmb_design_model.specs.Design.{Design}
+use Rattle.cmb_design_model.specs.Exact.{nets_of}
+use Rattle.cmb_faults.specs.declared.fault.Fault.{Fault}
+use Rattle.cmb_faults.specs.declared.fault.Fault.TheVariants as fault
+use Rattle.cmb_cli_line.specs.declared.choice.Pick.{Pick}
+use Rattle.cmb_cli_line.specs.declared.choice.Pick.TheVariants.{Listed, Outputs}
+use Rattle.cmb_cone.specs.Chosen.{each_once}
 
 -- the nets that are chosen of a design, each once and by rising number: those that a list names, or the outputs
 abbrev pub AreChosen : Pick → Design → List ℕ → List ℕ → Type 0

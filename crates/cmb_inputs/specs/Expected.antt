@@ -1,15 +1,15 @@
 -- What a table expects of a design's run, or why it can't.
 use Rattle.std.specs.Prelude.{◌≡◌, ℕ, List, ◌++◌, map, None, Some, ⊤}
-use Rattle.cmb_design.specs.Checks.{Check, first_fault, rows_checks}
-use Rattle.cmb_design.specs.Design.{Design}
-use Rattle.cmb_design.specs.Expected.{expected_of}
-use Rattle.cmb_design.specs.Rows.{expected_row_checks}
-use Rattle.cmb_design.specs.declared.expected.Expected.{Expected}
-use Rattle.cmb_design.specs.declared.rows.StimulusRow.{StimulusRow}
-use Rattle.cmb_inout.specs.declared.fault.Fault.{Fault}
-use Rattle.cmb_inout.specs.declared.fault.Fault.TheVariants as fault
-use Rattle.cmb_tables.specs.Readers.{table_checks, table_rows, stimulus_header, stimulus_record_checks, stimulus_row_of}
-use Rattle.cmb_tables.specs.Records.{table_records}
+use Rattle.cmb_design_model.specs.Checks.{Check, first_fault, rows_checks}
+use Rattle.cmb_design_model.specs.Design.{Design}
+use Rattle.cmb_design_model.specs.Expected.{expected_of}
+use Rattle.cmb_design_model.specs.Rows.{expected_row_checks}
+use Rattle.cmb_design_model.specs.declared.expected.Expected.{Expected}
+use Rattle.cmb_design_model.specs.declared.rows.StimulusRow.{StimulusRow}
+use Rattle.cmb_faults.specs.declared.fault.Fault.{Fault}
+use Rattle.cmb_faults.specs.declared.fault.Fault.TheVariants as fault
+use Rattle.cmb_design_tables.specs.Readers.{table_checks, table_rows, stimulus_header, stimulus_record_checks, stimulus_row_of}
+use Rattle.cmb_design_tables.specs.Records.{table_records}
 
 -- its rows, which have the form of stimuli
 abbrev pub rows_in : List ℕ → List StimulusRow

@@ -1,13 +1,13 @@
 -- The inputs of a line, their texts, and what comes of reading them whole.
 use Rattle.std.specs.Prelude.{◌≡◌, ℕ, ◌+◌, ◌-◌, ◌^◌, ◌<◌, ◌≤◌, ◌⊎◌, List, [], ◌∷◌, length, Option, Result, Ok, Err, IfOk, IfErr, ⊤}
-use Rattle.cmb_inout.specs.Sources.{IsTooLong, IsWhole, input_limit}
-use Rattle.cmb_inout.specs.declared.fault.Fault.{Fault}
-use Rattle.cmb_inout.specs.declared.fault.Fault.TheVariants as fault
-use Rattle.cmb_inout.specs.declared.source.Source as source
+use Rattle.cmb_io.specs.Sources.{IsTooLong, IsWhole, input_limit}
+use Rattle.cmb_faults.specs.declared.fault.Fault.{Fault}
+use Rattle.cmb_faults.specs.declared.fault.Fault.TheVariants as fault
+use Rattle.cmb_io.specs.declared.source.Source as source
 use Rattle.cmb_inputs.specs.declared.texts.InputTexts.{InputTexts}
-use Rattle.cmb_line.specs.declared.choice.Choice.{Choice}
-use Rattle.cmb_line.specs.declared.choice.Choice.TheVariants.{All, Only}
-use Rattle.cmb_line.specs.declared.choice.Pick.TheVariants.{Listed, Outputs}
+use Rattle.cmb_cli_line.specs.declared.choice.Choice.{Choice}
+use Rattle.cmb_cli_line.specs.declared.choice.Choice.TheVariants.{All, Only}
+use Rattle.cmb_cli_line.specs.declared.choice.Pick.TheVariants.{Listed, Outputs}
 
 -- ---- the sources
 
@@ -30,12 +30,13 @@ abbrev pub with_table : Choice
 with_table = Only Listed
 
 -- of each source one more failed read can be counted
-abbrev pub HaveRoom : ℕ → ℕ → ℕ → ℕ → Type 0
-HaveRoom bench delays stimuli clocks = (bench < 2 ^ 64 - 1) × (delays < 2 ^ 64 - 1) × (stimuli < 2 ^ 64 - 1) × (clocks < 2 ^ 64 - 1)
+abbrev pub HaveRoom : ℕ → ℕ → ℕ → ℕ → ℕ → Type 0
+HaveRoom bench delays stimuli clocks initial =
+    (bench < 2 ^ 64 - 1) × (delays < 2 ^ 64 - 1) × (stimuli < 2 ^ 64 - 1) × (clocks < 2 ^ 64 - 1) × (initial < 2 ^ 64 - 1)
 
--- what is read, in order: the netlist, the tables of delays, stimuli and clocks, and then the rest
-abbrev pub in_order : {A : Type 0} → A → A → A → A → List A → List A
-in_order bench delays stimuli clocks rest = bench ∷ delays ∷ stimuli ∷ clocks ∷ rest
+-- what is read, in order: the netlist, the tables of delays, stimuli, clocks and first levels, and then the rest
+abbrev pub in_order : {A : Type 0} → A → A → A → A → A → List A → List A
+in_order bench delays stimuli clocks initial rest = bench ∷ delays ∷ stimuli ∷ clocks ∷ initial ∷ rest
 
 -- the rest is the list of nets, where one names the nets that are chosen
 abbrev pub listed : {A : Type 0} → Choice → A → List A
@@ -65,6 +66,7 @@ pub record Texts : Type 0 where
   pub delays : List ℕ
   pub stimuli : List ℕ
   pub clocks : List ℕ
+  pub initial : List ℕ
   pub names : List ℕ
 
 -- each of these texts is that of an input
@@ -76,12 +78,12 @@ AreWhole (i ∷ inputs) (text ∷ texts) = IsWhole i.bytes text × AreWhole inpu
 
 -- the texts are those of the inputs
 abbrev pub AreTexts : Choice → List Input → Texts → Type 0
-AreTexts choice inputs texts = AreWhole inputs (in_order texts.bench texts.delays texts.stimuli texts.clocks (listed choice texts.names))
+AreTexts choice inputs texts = AreWhole inputs (in_order texts.bench texts.delays texts.stimuli texts.clocks texts.initial (listed choice texts.names))
 
 -- what the inputs had
 abbrev pub texts_in : InputTexts → Texts
 texts_in texts =
-    record { bench = texts.bench.items; delays = texts.delays.items; stimuli = texts.stimuli.items; clocks = texts.clocks.items; names = texts.names.items }
+    record { bench = texts.bench.items; delays = texts.delays.items; stimuli = texts.stimuli.items; clocks = texts.clocks.items; initial = texts.initial.items; names = texts.names.items }
 
 -- no text is longer than an input may be
 pub record CanBeInputs (texts : Texts) : Type 0 where
@@ -89,6 +91,7 @@ pub record CanBeInputs (texts : Texts) : Type 0 where
   pub delays : length texts.delays ≤ input_limit
   pub stimuli : length texts.stimuli ≤ input_limit
   pub clocks : length texts.clocks ≤ input_limit
+  pub initial : length texts.initial ≤ input_limit
   pub names : length texts.names ≤ input_limit
 
 -- ---- reading

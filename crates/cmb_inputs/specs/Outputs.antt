@@ -1,9 +1,9 @@
 -- A sink as a call found it and left it, and what it took of a text.
 use Rattle.std.specs.Prelude.{◌≡◌, ℕ, ◌+◌, ◌<◌, List, length, take, Option}
 use Rattle.std.specs.Io.KnownBytes.{Appends, Keeps}
-use Rattle.cmb_inout.specs.declared.fault.Fault.{Fault}
-use Rattle.cmb_inout.specs.declared.fault.Fault.TheVariants as fault
-use Rattle.cmb_vcd.specs.declared.sink.Sink as sink
+use Rattle.cmb_faults.specs.declared.fault.Fault.{Fault}
+use Rattle.cmb_faults.specs.declared.fault.Fault.TheVariants as fault
+use Rattle.cmb_io.specs.declared.sink.Sink as sink
 
 -- the sink: what it had taken before the call and after it, where it tells that, and how many of its writes had failed
 pub record Output : Type 0 where

@@ -1,16 +1,16 @@
 //! The nets that a line chooses of a design.
 
 ghost use Rattle.std.specs.Prelude.{◌≤◌, length, IfOk, IfErr};
-ghost use Rattle.cmb_design.specs.Exact.{nets_of};
+ghost use Rattle.cmb_design_model.specs.Exact.{nets_of};
 ghost use Rattle.cmb_dump.specs.Excerpts.{AreAmong};
-ghost use Rattle.cmb_inout.specs.Sources.{input_limit};
+ghost use Rattle.cmb_io.specs.Sources.{input_limit};
 ghost use Rattle.cmb_inputs.specs.Chosen.{AreChosen, IsUnchosen};
 
 use cmb_bench::read_list;
-use cmb_design::Design;
-use cmb_inout::Fault;
-use cmb_line::Pick;
-use cmb_restrict::rising;
+use cmb_cli_line::Pick;
+use cmb_cone::rising;
+use cmb_design_model::Design;
+use cmb_faults::Fault;
 use std::alloc::Global;
 
 /// The numbers of the nets that are chosen of a design, each once and by rising number: those that the list names, or

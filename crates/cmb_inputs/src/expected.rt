@@ -1,14 +1,14 @@
 //! What a table expects of a design's run.
 
 ghost use Rattle.std.specs.Prelude.{◌≤◌, length, All, IfOk, IfErr};
-ghost use Rattle.cmb_design.specs.Expected.{IsWithin};
-ghost use Rattle.cmb_inout.specs.Sources.{input_limit};
+ghost use Rattle.cmb_design_model.specs.Expected.{IsWithin};
+ghost use Rattle.cmb_io.specs.Sources.{input_limit};
 ghost use Rattle.cmb_inputs.specs.Expected.{AreExpected, AreUnexpected};
 
-use cmb_design::{Design, Expected, expected_rows};
-use cmb_inout::Fault;
+use cmb_design_model::{Design, Expected, expected_rows};
+use cmb_design_tables::read_stimuli;
+use cmb_faults::Fault;
 use cmb_netlist::MAX_TEXT;
-use cmb_tables::read_stimuli;
 use std::alloc::Global;
 
 /// What a table expects of a design's run, row by row: the first fault of its records, as `read_stimuli` finds it (23,

@@ -8,7 +8,7 @@ pub mod expected;
 pub mod texts;
 pub mod writing;
 
-pub use check::{check_design, write_counts};
+pub use check::{Checked, check_design};
 pub use chosen::chosen_nets;
 pub use expected::expected_in;
 pub use texts::{InputTexts, read_input, read_names, read_texts, spelled_design};

@@ -1,16 +1,17 @@
 //! The texts of a line's inputs, read whole, and the design that they spell.
 
 ghost use Rattle.std.specs.Prelude.{◌≡◌, ◌-◌, ◌^◌, ◌<◌, ◌≤◌, Err, length, IfOk, IfErr};
-ghost use Rattle.cmb_inout.specs.Sources.{IsWhole, input_limit};
+ghost use Rattle.cmb_io.specs.Sources.{IsWhole, input_limit};
 ghost use Rattle.cmb_inputs.specs.Inputs.{AreRead, AreWhole, CanBeInputs, HaveRoom, IsUnread, LackTexts, NoneFailedBut};
 ghost use Rattle.cmb_inputs.specs.Inputs.{TellsFailed, in_order, listed, read_from, texts_in};
 ghost use Rattle.cmb_inputs.specs.Spelling.{HaveTextFault, SpellAny};
 
 use cmb_bench::read_bench;
-use cmb_design::{Design, Settings};
-use cmb_inout::{Fault, ReadFault, Source, read_whole};
-use cmb_line::{Choice, Pick};
-use cmb_tables::{read_clocks, read_delays, read_stimuli};
+use cmb_cli_line::{Choice, Pick};
+use cmb_design_model::{Design, Settings};
+use cmb_design_tables::{read_clocks, read_delays, read_initial, read_stimuli};
+use cmb_faults::Fault;
+use cmb_io::{ReadFault, Source, read_whole};
 use std::alloc::Global;
 
 /// What the inputs have.
@@ -20,6 +21,7 @@ pub struct InputTexts {
     pub delays: Vec<u8>,
     pub stimuli: Vec<u8>,
     pub clocks: Vec<u8>,
+    pub initial: Vec<u8>,
     /// What names nets: the list, or the table of what is expected of them; empty where none is read.
     pub names: Vec<u8>,
 }
@@ -74,9 +76,10 @@ pub fn read_names<L: Source>(
     }
 }
 
-/// Reads the inputs whole, in order, the list of nets as the last, with this number, where one names the nets that are
-/// chosen: 60 where one has more than 16,777,216 bytes, 61 where a read of it failed, 70 where memory was refused.
-pub fn read_texts<B: Source, D: Source, S: Source, C: Source, L: Source>(
+/// Reads the inputs whole, in order, first levels as input 6, and the list of nets as the last, with this number, where
+/// one names the nets that are chosen: 60 where one has more than 16,777,216 bytes, 61 where a read of it failed, 70
+/// where memory was refused.
+pub fn read_texts<B: Source, D: Source, S: Source, C: Source, I: Source, L: Source>(
     alloc: Global,
     choice: Choice,
     number: u32,
@@ -84,14 +87,15 @@ pub fn read_texts<B: Source, D: Source, S: Source, C: Source, L: Source>(
     delays: &mut D,
     stimuli: &mut S,
     clocks: &mut C,
+    initial: &mut I,
     list: &mut L,
 ) -> Result<InputTexts, Fault>
     requires sources { HaveRoom (B.failures bench.old) (D.failures delays.old)
-        (S.failures stimuli.old) (C.failures clocks.old) }
+        (S.failures stimuli.old) (C.failures clocks.old) (I.failures initial.old) }
     requires list { L.failures list.old < 2 ^ 64 - 1 }
     ensures read { AreRead choice (in_order (read_from B.Source 1 bench.old bench.new)
         (read_from D.Source 2 delays.old delays.new) (read_from S.Source 3 stimuli.old stimuli.new)
-        (read_from C.Source 4 clocks.old clocks.new)
+        (read_from C.Source 4 clocks.old clocks.new) (read_from I.Source 6 initial.old initial.new)
         (listed choice (read_from L.Source number list.old list.new))) result }
     ensures unread { (choice ≡ Choice.Only Pick.Listed → ⊥) → list.new ≡ list.old }
 {
@@ -101,6 +105,7 @@ pub fn read_texts<B: Source, D: Source, S: Source, C: Source, L: Source>(
         delays: read_input(alloc, delays, 2)?,
         stimuli: read_input(alloc, stimuli, 3)?,
         clocks: read_input(alloc, clocks, 4)?,
+        initial: read_input(alloc, initial, 6)?,
         names: read_names(alloc, choice, number, list)?,
     })
 }
@@ -121,6 +126,7 @@ pub fn spelled_design(
     let delays = read_delays(alloc, texts.delays.as_slice())?;
     let stimuli = read_stimuli(alloc, texts.stimuli.as_slice())?;
     let clocks = read_clocks(alloc, texts.clocks.as_slice())?;
-    let design = Design::new(alloc, netlist, delays, stimuli, clocks, settings)?;
+    let initial = read_initial(alloc, texts.initial.as_slice())?;
+    let design = Design::new(alloc, netlist, delays, stimuli, clocks, initial, settings)?;
     Ok(design)
 }

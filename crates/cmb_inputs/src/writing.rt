@@ -3,8 +3,8 @@
 ghost use Rattle.std.specs.Prelude.{◌-◌, ◌^◌, ◌<◌, IfErr, OnOk};
 ghost use Rattle.cmb_inputs.specs.Outputs.{HasTaken, IsCutShort, written_to};
 
-use cmb_inout::Fault;
-use cmb_vcd::{Sink, write_whole};
+use cmb_faults::Fault;
+use cmb_io::{Sink, write_whole};
 
 /// Writes a text that is there whole: 62 at the number of bytes that were written where a write fails.
 pub fn write_text<O: Sink>(out: &mut O, text: &[u8]) -> Result<(), Fault>

@@ -10,7 +10,7 @@ use Rattle.atomic_table.specs.Seated.{TableId}
 use Rattle.atomic_table.specs.Table.{State, Joins}
 use Rattle.atomic_table.proofs.Lists.{at_map}
 use Rattle.cmb_wave.specs.declared.level.Promise.{Promise}
-use Rattle.cmb_design.specs.Exact.{nets_of}
+use Rattle.cmb_design_model.specs.Exact.{nets_of}
 use Rattle.cmb_links.specs.Promises.{promise, promise_of_word, newest}
 use Rattle.cmb_links.specs.Seats.{SeatData, driver, AreAllSeats}
 use Rattle.cmb_links.specs.Inner.BoardSteps.{joined}

@@ -6,13 +6,13 @@ use mathlib.Core.Option.{some, some-injective, some-ne-none}
 use lib.ListN.{get_elem?}
 use Rattle.crossbeam_queue.specs.Fifo.{Pushes, Pops, Forks, Merges, Learns}
 use Rattle.cmb_wave.specs.Wave.{Piece}
-use Rattle.cmb_design.specs.Exact.{IsExactIn}
+use Rattle.cmb_design_model.specs.Exact.{IsExactIn}
 use Rattle.cmb_links.specs.Links.{channel_clock}
 use Rattle.cmb_links.specs.Inner.Ends.{fresh, putting, taking, closing, spent, open_ends, joined_ends, IsCarried, HaveNoGap, IsBetween, IsLinked, Sends, Receives, Empties, Leaves}
 use Rattle.cmb_links.specs.declared.end.Cargo.{Cargo}
 use Rattle.cmb_links.specs.declared.end.End.{End}
-use Rattle.cmb_links.specs.declared.end.Role.{Role}
-use Rattle.cmb_links.specs.declared.end.Role.TheVariants.{Fresh, Puts, Takes, Closes, Spent}
+use Rattle.cmb_links.specs.declared.end.EndRole.{EndRole}
+use Rattle.cmb_links.specs.declared.end.EndRole.TheVariants.{Fresh, Puts, Takes, Closes, Spent}
 
 pub All-behind : {X : Type 0} (P : X → Type 0) (xs ys : List X) → All P (xs ++ ys) → All P ys
 All-behind P xs ys a k d in' = subst P (get_or-append-add xs ys k d) (a (length xs + k) d (omega (arith, length-append xs ys)))
@@ -28,7 +28,7 @@ no_gap-behind before [] more piece none = rw append-nil none.0
 no_gap-behind before (first ∷ pieces) more piece none = rw append_assoc at (no_gap-behind (before ++ first ∷ []) pieces more piece none.1)
 
 -- roles that differ
-abbrev rank : Role → ℕ
+abbrev rank : EndRole → ℕ
 rank Fresh = 0
 rank Puts = 1
 rank Takes = 2

@@ -6,7 +6,7 @@ use Rattle.atomic_table.specs.Seated.{TableId}
 use Rattle.atomic_table.proofs.Lists.{at_map}
 use Rattle.cmb_wave.specs.Calls.{word_of}
 use Rattle.cmb_wave.specs.declared.level.Promise.{Promise}
-use Rattle.cmb_design.specs.Exact.{nets_of, IsRightIn}
+use Rattle.cmb_design_model.specs.Exact.{nets_of, IsRightIn}
 use Rattle.cmb_links.specs.Promises.{promise_of_word, newest}
 use Rattle.cmb_links.specs.Seats.{SeatData, driver, after_look, after_check, after_count}
 use Rattle.cmb_links.specs.Inner.BoardSteps.{only}

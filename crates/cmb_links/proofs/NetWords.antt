@@ -5,8 +5,8 @@ use mathlib.Core.Option.{some}
 use lib.ListN.{get_elem?}
 use Rattle.atomic_table.proofs.Lists.{at_set}
 use Rattle.cmb_wave.specs.Calls.{word_of}
-use Rattle.cmb_design.specs.Design.{Design}
-use Rattle.cmb_design.specs.Exact.{IsRightIn}
+use Rattle.cmb_design_model.specs.Design.{Design}
+use Rattle.cmb_design_model.specs.Exact.{IsRightIn}
 use Rattle.cmb_links.specs.Promises.{newest}
 use Rattle.cmb_links.specs.Boards.{IsKnown, IsNetKept}
 use Rattle.cmb_wave.specs.declared.level.Promise.{Promise}

@@ -12,9 +12,9 @@ use Rattle.atomic_table.proofs.Lists.{at_set}
 use Rattle.cmb_wave.specs.Waveform.{count_below}
 use Rattle.cmb_wave.specs.declared.level.Promise.{Promise}
 use Rattle.cmb_wave.proofs.Waveforms.{changes_between-same}
-use Rattle.cmb_design.specs.Design.{Design}
-use Rattle.cmb_design.specs.Exact.{nets_of}
-use Rattle.cmb_design.specs.Value.{value, count}
+use Rattle.cmb_design_model.specs.Design.{Design}
+use Rattle.cmb_design_model.specs.Exact.{nets_of}
+use Rattle.cmb_design_model.specs.Value.{value, count}
 use Rattle.cmb_links.specs.Seats.{SeatData, driver, new_view, new_seat, new_seats, IsSeatOf}
 use Rattle.cmb_links.specs.Inner.BoardSteps.{cut_left, cut_right, only, joined}
 use Rattle.cmb_links.specs.Boards.{MayPublish, IsSeated, IsKnown, IsBoard, published_at}

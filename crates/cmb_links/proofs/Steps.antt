@@ -10,8 +10,8 @@ use Rattle.atomic_table.specs.Table.{State, Me, keeps, stepped}
 use Rattle.atomic_table.proofs.Lists.{at_set, at_map, set_here}
 use Rattle.cmb_wave.specs.Calls.{word_of}
 use Rattle.cmb_wave.specs.declared.level.Promise.{Promise}
-use Rattle.cmb_design.specs.Design.{Design}
-use Rattle.cmb_design.specs.Exact.{nets_of, IsRightIn}
+use Rattle.cmb_design_model.specs.Design.{Design}
+use Rattle.cmb_design_model.specs.Exact.{nets_of, IsRightIn}
 use Rattle.cmb_links.specs.Promises.{promise_of_word, newest, NeverFalls}
 use Rattle.cmb_links.specs.Seats.{driver, after_publish, after_look, after_raise, after_check, after_finish, after_count}
 use Rattle.cmb_links.specs.Boards.{MayPublish, IsSeated, IsKnown, IsNetKept, IsStopKept, IsEndKept, IsBoard, Moment, published_at}

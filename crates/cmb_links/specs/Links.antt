@@ -2,7 +2,7 @@
 use Rattle.std.specs.Prelude.{◌≡◌, ℕ, ◌==◌, List, [], ◌∷◌, ◌++◌, if◌then◌else◌, max}
 use Rattle.atomic_table.specs.Seated.{TableId}
 use Rattle.cmb_wave.specs.Wave.{Piece}
-use Rattle.cmb_design.specs.Design.{Design}
+use Rattle.cmb_design_model.specs.Design.{Design}
 
 pub record LinkData : Type 0 where
   pub link : TableId

@@ -3,17 +3,17 @@ use Rattle.std.specs.Prelude.{ℕ, ◌+◌, ◌<◌, Bool, true, false, List, []
 use Rattle.std.specs.List.{range_with_len}
 use Rattle.atomic_table.specs.Seated.{TableId}
 use Rattle.cmb_wave.specs.declared.level.Promise.{Promise}
-use Rattle.cmb_design.specs.Design.{Design}
-use Rattle.cmb_core.specs.Clustering.{Clustering, cluster_of}
+use Rattle.cmb_design_model.specs.Design.{Design}
+use Rattle.cmb_core_cluster.specs.Clustering.{Clustering, cluster_of}
 use Rattle.cmb_links.specs.Workers.{worker_of}
 use Rattle.cmb_links.specs.declared.view.BoardTerms.{BoardTerms}
-use Rattle.cmb_links.specs.declared.view.Told.{Told}
+use Rattle.cmb_links.specs.declared.view.Snapshots.{Snapshots}
 use Rattle.cmb_links.specs.declared.view.View.{View}
 
 abbrev pub terms : Design → Clustering → ℕ → BoardTerms
 terms design clustering workers = record { design = design; clustering = clustering; workers = workers }
 
-abbrev pub terms_of : Told → BoardTerms
+abbrev pub terms_of : Snapshots → BoardTerms
 terms_of told = terms told.design.value told.clustering.value told.workers
 
 -- the place of a net's driving seat: the worker that has the net's cluster

@@ -4,11 +4,11 @@
 ghost use Rattle.std.specs.Prelude.{◌≡◌, ◌<◌, [], map, vec_len};
 ghost use Rattle.std.specs.List.{All, range_with_len};
 
-use crate::view::{Told, View};
+use crate::view::{Snapshots, View};
 use crate::workers::Workers;
 use atomic_table::{Join, Play, Split, Table, TableRule};
-use cmb_core::Clustering;
-use cmb_design::Design;
+use cmb_core_cluster::Clustering;
+use cmb_design_model::Design;
 use cmb_wave::Promise;
 use std::alloc::{AllocError, Global};
 use std::collections::LinkedList;
@@ -22,7 +22,7 @@ type Views = LinkedList<View>;
 // What holds of the words and the views between any two steps.
 struct Law;
 
-impl TableRule<(), Views, Told> for Law {
+impl TableRule<(), Views, Snapshots> for Law {
     ghost use Rattle.std.specs.Prelude.{true, [], ◌∷◌};
     ghost use Rattle.cmb_links.specs.Seats.{terms_of, new_view};
     ghost use Rattle.cmb_links.specs.Boards.{IsBoard};
@@ -105,7 +105,7 @@ impl Join<Views> for Gather {
     ghost spent = { [] };
 }
 
-type Words = Table<(), Views, Told, Law, Global>;
+type Words = Table<(), Views, Snapshots, Law, Global>;
 
 /// The words that all threads share. Contracts see which board it is.
 #[derive(Drop)]
@@ -139,7 +139,7 @@ pub struct Seat {
 
 impl Model for Seat {
     ghost use Rattle.std.specs.Prelude.{◌≡◌, ◌+◌, [], ◌∷◌};
-    ghost use Rattle.cmb_design.specs.Exact.{nets_of};
+    ghost use Rattle.cmb_design_model.specs.Exact.{nets_of};
     ghost use Rattle.cmb_links.specs.Seats.{SeatData};
     ghost use Rattle.cmb_links.specs.Inner.BoardSteps.{only};
 
@@ -164,7 +164,7 @@ impl Board {
     ghost use Rattle.std.specs.Prelude.{◌≡◌, ◌+◌, ◌<◌, ◌≤◌, true, false, map, IfOk, slice_index, vec_len};
     ghost use Rattle.std.specs.List.{All, Contains};
     ghost use Rattle.cmb_wave.specs.Calls.{word_of};
-    ghost use Rattle.cmb_design.specs.Exact.{nets_of, IsRightIn};
+    ghost use Rattle.cmb_design_model.specs.Exact.{nets_of, IsRightIn};
     ghost use Rattle.cmb_links.specs.Promises.{newest};
     ghost use Rattle.cmb_links.specs.Seats.{driver, after_publish, after_look, after_raise, after_check, after_finish};
     ghost use Rattle.cmb_links.specs.Seats.{after_count, with_view, terms, new_seats, IsSeatOf, AreAllSeats};
@@ -189,7 +189,7 @@ impl Board {
         let count = workers.count();
         let words = Vec::from_elem(alloc, 0u64, nets + 2)?;
         let mut seats = Vec::with_capacity(alloc, count as usize + 1)?;
-        let told = Told {
+        let told = Snapshots {
             design: Snapshot::of(design),
             clustering: Snapshot::of(clustering),
             workers: count,

@@ -1,12 +1,12 @@
 //! What an end of a link knows, and what holds of a link. No value of `End` is made.
 
-use cmb_design::Design;
+use cmb_design_model::Design;
 use cmb_wave::Piece;
 use crossbeam_queue::protocol::{Join, Lesson, Outcome, Protocol, Split};
 use std::collections::LinkedList;
 use std::marker::{Brand, PhantomData};
 
-pub enum Role {
+pub enum EndRole {
     Fresh,
     Puts,
     Takes,
@@ -22,7 +22,7 @@ pub struct Cargo {
 
 /// What a link carries, how many pieces it holds at most, and what was put and taken at this end, in order.
 pub struct End {
-    pub role: Role,
+    pub role: EndRole,
     pub cargo: Cargo,
     pub capacity: usize,
     pub sent: LinkedList<Piece>,

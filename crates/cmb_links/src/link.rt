@@ -1,8 +1,8 @@
-//! A link hands pieces of some nets of one design from one thread to another, whole, in order and without a gap.
+//! A link passes pieces of some nets of one design from one thread to another, whole, in order and without a gap.
 
 use crate::end::{Closing, End, Ends, InOrder, Left, Naming, Received, Sent};
 use crate::fault::LinkFault;
-use cmb_design::Design;
+use cmb_design_model::Design;
 use cmb_wave::Piece;
 use crossbeam_queue::{Pass, RuledArrayQueue};
 use std::alloc::{AllocError, Global};
@@ -50,7 +50,7 @@ pub struct PutPass {
 
 impl Model for PutPass {
     ghost use Rattle.std.specs.Prelude.{◌≡◌, [], All};
-    ghost use Rattle.cmb_design.specs.Exact.{IsExactIn};
+    ghost use Rattle.cmb_design_model.specs.Exact.{IsExactIn};
     ghost use Rattle.cmb_links.specs.Links.{PutData};
     ghost use Rattle.cmb_links.specs.Inner.Ends.{putting};
 
@@ -80,7 +80,7 @@ pub struct TakePass {
 
 impl Model for TakePass {
     ghost use Rattle.std.specs.Prelude.{◌≡◌, [], All};
-    ghost use Rattle.cmb_design.specs.Exact.{IsExactIn};
+    ghost use Rattle.cmb_design_model.specs.Exact.{IsExactIn};
     ghost use Rattle.cmb_links.specs.Links.{TakeData};
     ghost use Rattle.cmb_links.specs.Inner.Ends.{taking};
 
@@ -102,7 +102,7 @@ impl Model for TakePass {
 impl Link {
     ghost use Rattle.std.specs.Prelude.{◌≡◌, ◌<◌, ◌≤◌, ◌↔◌, ◌⊎◌, ◌++◌, All, length, vec_len, IfOk, OnOk, IfErr, OnErr};
     ghost use Rattle.std.specs.Prelude.{IfSome, IfNone, Err};
-    ghost use Rattle.cmb_design.specs.Exact.{IsExactIn};
+    ghost use Rattle.cmb_design_model.specs.Exact.{IsExactIn};
     ghost use Rattle.std.specs.List.{Contains};
     ghost use Rattle.cmb_links.specs.Links.{IsNewLink, after_put, after_take, channel_clock};
 

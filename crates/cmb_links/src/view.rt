@@ -1,7 +1,7 @@
-//! What a seat of a board knows. No value of these types is made but `Told`.
+//! What a seat of a board knows. No value of these types is made but `Snapshots`.
 
-use cmb_core::Clustering;
-use cmb_design::Design;
+use cmb_core_cluster::Clustering;
+use cmb_design_model::Design;
 use cmb_wave::Promise;
 use std::collections::LinkedList;
 use std::snapshot::Snapshot;
@@ -13,9 +13,9 @@ pub struct BoardTerms {
     pub workers: u32,
 }
 
-/// The same, as the table of words is told it.
+/// The same, as the table of words gets it.
 #[derive(Drop)]
-pub struct Told {
+pub struct Snapshots {
     pub design: Snapshot<Design>,
     pub clustering: Snapshot<Clustering>,
     pub workers: u32,

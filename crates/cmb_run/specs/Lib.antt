@@ -1,6 +1,19 @@
 -- what the public contracts rest on
-pub mod Passed
-pub mod RunFaults
-pub mod RunTerms
--- what the functions inside the crate promise each other
-pub mod Inner
+pub use Rattle.cmb_io.specs.Ends
+pub use Rattle.cmb_io.specs.Sources
+pub use Rattle.cmb_run_text.specs.Beginnings
+pub use Rattle.cmb_run_text.specs.Chosen
+pub use Rattle.cmb_run_text.specs.Collector
+pub use Rattle.cmb_run_text.specs.Examples
+pub use Rattle.cmb_run_text.specs.Faults
+pub use Rattle.cmb_run_text.specs.ReadyCodes
+pub use Rattle.cmb_run_text.specs.Vcd
+pub use Rattle.cmb_run_text.specs.Writer
+pub use Rattle.cmb_run_text.specs.Between
+pub use Rattle.cmb_run_scopes.specs.Scopes
+pub use Rattle.cmb_run_scopes.specs.Reading
+pub use Rattle.cmb_run_exact.specs.Passed
+pub use Rattle.cmb_run_exact.specs.RunFaults
+pub use Rattle.cmb_run_exact.specs.RunTerms
+pub use Rattle.cmb_run_rounds.specs.RoundEvents
+pub use Rattle.cmb_run_free.specs.FreeRuns

@@ -4,8 +4,8 @@ use Rattle.std.specs.Prelude.{All, Contains}
 use Rattle.std.proofs.lemmas.Bool.{cases_eq, false≢true}
 use Rattle.std.proofs.lemmas.List.Elements.{All-contains, All-nil}
 use Rattle.std.proofs.lemmas.List.Folds.{Any-from_list_any, list_any-from_Any}
-use Rattle.cmb_design.specs.Exact.{nets_of}
-use Rattle.cmb_design.specs.Value.{value}
+use Rattle.cmb_design_model.specs.Exact.{nets_of}
+use Rattle.cmb_design_model.specs.Value.{value}
 use Rattle.cmb_words.specs.Changes.{IsStill, IsWindow, Tells, TellsNet, is_among}
 use Rattle.cmb_words.specs.declared.changed.Changed.{Changed}
 use Rattle.cmb_shares.specs.Inner.Flows.{AreMade, IsMade}

@@ -7,7 +7,7 @@ use Rattle.std.proofs.lemmas.List.{get_or_default, length-set}
 use Rattle.std.proofs.lemmas.List.Elements.{All-cons, All-nil, All-push}
 use Rattle.std.proofs.lemmas.List.Folds.{list_any-append, list_any_at, list_any_none}
 use Rattle.cmb_engine.specs.Windows.{HaveTicks}
-use Rattle.cmb_lookahead.specs.Network.{IsNetwork}
+use Rattle.cmb_shares_protocol.specs.Network.{IsNetwork}
 use Rattle.cmb_shares.specs.declared.message.Envelope.{Envelope}
 use Rattle.cmb_shares.specs.Inner.Channels.{greeting}
 use Rattle.cmb_shares.specs.Inner.Flows.{AreSources}

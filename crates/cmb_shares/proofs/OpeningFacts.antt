@@ -6,16 +6,16 @@ use Rattle.std.proofs.lemmas.List.{append_assoc, get_or_default, get_or-map, len
 use Rattle.std.proofs.lemmas.List.Elements.{All-contains}
 use Rattle.std.proofs.lemmas.Option.{get_or_from_slice_get, same_Some, slice_get-map, slice_get_within}
 use Rattle.cmb_netlist.specs.Netlist.{driver_of, pins_of}
-use Rattle.cmb_design.specs.Design.{Design}
-use Rattle.cmb_design.specs.Exact.{nets_of}
-use Rattle.cmb_design.specs.Nets.{is_flop}
-use Rattle.cmb_design.specs.Timing.{delay}
+use Rattle.cmb_design_model.specs.Design.{Design}
+use Rattle.cmb_design_model.specs.Exact.{nets_of}
+use Rattle.cmb_design_model.specs.Nets.{is_flop}
+use Rattle.cmb_design_model.specs.Timing.{delay}
 use Rattle.cmb_engine.specs.Crossings.{AreWithinLookahead, IsCrossing}
 use Rattle.cmb_engine.specs.Shares.{IsDriven, IsGiven}
 use Rattle.cmb_engine.specs.Windows.{HaveTicks, Windows}
-use Rattle.cmb_partition.specs.Partitions.{Crosses, Drives, IsPartition, Knows}
-use Rattle.cmb_partition.specs.declared.shares.Partition.{Partition}
-use Rattle.cmb_partition.specs.declared.shares.Share.{Share}
+use Rattle.cmb_graph_partition.specs.Partitions.{Crosses, Drives, IsPartition, Knows}
+use Rattle.cmb_graph_partition.specs.declared.shares.Partition.{Partition}
+use Rattle.cmb_graph_partition.specs.declared.shares.Share.{Share}
 use Rattle.cmb_shares.specs.Inner.Opened.{run_of}
 use Rattle.cmb_shares.specs.Inner.Runs.{IsRun, Owns}
 use Rattle.cmb_shares.proofs.HeardFacts.{set_within}

@@ -4,10 +4,10 @@ use mathlib.Core.Path.{fun_ext}
 use Rattle.std.proofs.lemmas.Bool.{both_ways, cases_Bool}
 use Rattle.std.specs.List.{list_any}
 use Rattle.cmb_engine.specs.Windows.{end_of}
-use Rattle.cmb_lookahead.specs.Network.{Network, ahead}
-use Rattle.cmb_lookahead.specs.Turns.{IsAt, GoesBy, turn, turned}
-use Rattle.cmb_lookahead.proofs.Grid.{ahead-below, ahead-later}
-use Rattle.cmb_lookahead.proofs.TurnFacts.{turn-leads}
+use Rattle.cmb_shares_protocol.specs.Network.{Network, ahead}
+use Rattle.cmb_shares_protocol.specs.Turns.{IsAt, GoesBy, turn, turned}
+use Rattle.cmb_shares_protocol.proofs.Grid.{ahead-below, ahead-later}
+use Rattle.cmb_shares_protocol.proofs.TurnFacts.{turn-leads}
 use Rattle.cmb_shares.specs.declared.message.Envelope.{Envelope}
 use Rattle.cmb_shares.specs.Inner.Flows.{AreSources}
 use Rattle.cmb_shares.specs.Inner.Processes.{Member, Turns, leads_by, process_of, text_of, upto_by}

@@ -7,18 +7,18 @@ use Rattle.cmb_wave.specs.declared.level.Level.{Level}
 use Rattle.cmb_netlist.specs.declared.netlist.Driver.{Driver}
 use Rattle.cmb_netlist.specs.declared.netlist.Driver.TheVariants.{Input, Gate, Flop}
 use Rattle.cmb_netlist.specs.Netlist.{driver_of, pins_of}
-use Rattle.cmb_design.specs.Design.{Design}
-use Rattle.cmb_design.specs.Nets.{is_flop}
-use Rattle.cmb_design.specs.Value.{value}
+use Rattle.cmb_design_model.specs.Design.{Design}
+use Rattle.cmb_design_model.specs.Nets.{is_flop}
+use Rattle.cmb_design_model.specs.Value.{value}
 use Rattle.cmb_engine.specs.Crossings.{IsCrossing, IsWithinLookahead}
 use Rattle.cmb_engine.specs.Rows.{LooksAt}
 use Rattle.cmb_engine.specs.Shares.{IsDriven, IsGiven}
 use Rattle.cmb_engine.specs.Windows.{end_of}
 use Rattle.cmb_engine.proofs.RowFacts.{looks-earlier, row-same, value-meets_row}
-use Rattle.cmb_lookahead.specs.Machine.{Processes}
-use Rattle.cmb_lookahead.specs.Network.{IsNetwork, Network, ahead}
-use Rattle.cmb_lookahead.proofs.Grid.{ahead-below, ahead-past, lookahead-share}
-use Rattle.cmb_lookahead.proofs.Sound.{IsSound}
+use Rattle.cmb_shares_protocol.specs.Machine.{Processes}
+use Rattle.cmb_shares_protocol.specs.Network.{IsNetwork, Network, ahead}
+use Rattle.cmb_shares_protocol.proofs.Grid.{ahead-below, ahead-past, lookahead-share}
+use Rattle.cmb_shares_protocol.proofs.Sound.{IsSound}
 use Rattle.cmb_shares.specs.Traces.{AreMade, MeetsRow, Serves, Sharing}
 
 -- in its lookahead a flip-flop looks at earlier ticks than those of the window

@@ -2,13 +2,13 @@
 use Rattle.std.specs.Prelude.{◌≡◌, ℕ, ◌<◌, Bool, true, List}
 use Rattle.cmb_wave.specs.declared.level.Level.{Level}
 use Rattle.cmb_netlist.specs.Netlist.{driver_of}
-use Rattle.cmb_design.specs.Design.{Design}
+use Rattle.cmb_design_model.specs.Design.{Design}
 use Rattle.cmb_engine.specs.Crossings.{AreWithinLookahead, IsCrossing}
 use Rattle.cmb_engine.specs.Rows.{row}
 use Rattle.cmb_engine.specs.Shares.{IsDriven, IsGiven}
 use Rattle.cmb_engine.specs.Windows.{Windows, end_of}
-use Rattle.cmb_lookahead.specs.Machine.{Processes}
-use Rattle.cmb_lookahead.specs.Network.{Network, ahead}
+use Rattle.cmb_shares_protocol.specs.Machine.{Processes}
+use Rattle.cmb_shares_protocol.specs.Network.{Network, ahead}
 
 -- a design, by share which nets it drives, by net the share that owns it, which nets cross, and where windows end
 pub record Sharing : Type 0 where

@@ -5,7 +5,7 @@ ghost use Rattle.cmb_shares.specs.Inner.Channels.{Follows, greeting};
 
 use crate::message::{Envelope, InOrder, Message};
 use crate::terms::Terms;
-use cmb_idle::{handed, taken};
+use cmb_waiting::{handed, taken};
 use rtrb::{Consumer, Producer, RingBuffer};
 use std::alloc::{AllocError, Global};
 use std::marker::Model;

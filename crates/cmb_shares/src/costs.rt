@@ -1,9 +1,9 @@
 //! What the nets of a design cost, by the first windows of its run.
 
 ghost use Rattle.std.specs.Prelude.{◌≡◌, length, IfOk, OnOk};
-ghost use Rattle.cmb_design.specs.Exact.{nets_of};
+ghost use Rattle.cmb_design_model.specs.Exact.{nets_of};
 
-use cmb_design::Design;
+use cmb_design_model::Design;
 use cmb_engine::Engine;
 use cmb_netlist::Driver;
 use cmb_words::Changed;

@@ -1,12 +1,12 @@
 //! Which shares feed a share.
 
 ghost use Rattle.std.specs.Prelude.{◌≡◌, ◌<◌, ℕ, true, false, length, All, Contains, IfOk, slice_index, slice_index_or};
-ghost use Rattle.cmb_design.specs.Exact.{nets_of};
+ghost use Rattle.cmb_design_model.specs.Exact.{nets_of};
 ghost use Rattle.cmb_engine.specs.Shares.{IsDriven, IsGiven};
 ghost use Rattle.cmb_netlist.specs.Netlist.{driver_of, pins_of};
 
-use cmb_design::Design;
-use cmb_loops::{Steps, targets_from};
+use cmb_design_model::Design;
+use cmb_graph::{Steps, targets_from};
 use cmb_netlist::Netlist;
 use std::alloc::{AllocError, Global};
 

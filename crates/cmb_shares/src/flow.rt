@@ -10,8 +10,8 @@ use crate::channel::Inlet;
 use crate::merge::merge;
 use crate::terms::Terms;
 use cmb_dump::Dump;
+use cmb_dump_stream::{TextBuffer, TextMaker, keep_window};
 use cmb_engine::Windows;
-use cmb_stream::{Kept, TextMaker, keep_window};
 use cmb_words::Changed;
 use rtrb::Producer;
 use std::alloc::AllocError;
@@ -19,14 +19,14 @@ use std::marker::Model;
 use std::mem::swap;
 use std::sync::Wait;
 
-/// The channel by which a share tells the text, and where room goes back to it.
+/// The channel by which a share sends changes for the text, and by which their buffers go back to it.
 #[derive(Drop)]
-pub struct Source<T: Terms> {
+pub struct Inflow<T: Terms> {
     pub inlet: Inlet<T>,
     pub back: Producer<Vec<Changed>>,
 }
 
-impl<T: Terms> Model for Source<T> {
+impl<T: Terms> Model for Inflow<T> {
     ghost use Rattle.cmb_shares.specs.declared.message.Envelope.{Envelope};
 
     // That of the last message that came.
@@ -40,15 +40,15 @@ impl<T: Terms> Model for Source<T> {
 pub(crate) struct Flow<'a, T: Terms, R> {
     pub rt: &'a R,
     pub windows: Windows,
-    pub sources: Vec<Source<T>>,
+    pub sources: Vec<Inflow<T>>,
     pub dump: Dump<'a>,
-    /// Room for what all shares told of a window.
+    /// A buffer for what all shares sent of a window.
     pub all: Vec<Changed>,
     pub room: Vec<Changed>,
 }
 
 impl<'a, T: Terms, R> Model for Flow<'a, T, R> {
-    ghost use Rattle.cmb_stream.specs.Parts.{Made};
+    ghost use Rattle.cmb_dump_stream.specs.Parts.{Made};
     ghost use Rattle.cmb_shares.specs.Inner.Flows.{IsFlow};
 
     ghost Value = { Made };
@@ -58,7 +58,7 @@ impl<'a, T: Terms, R> Model for Flow<'a, T, R> {
     ghost invariant = { λ f. IsFlow T.run f.windows f.sources.items f.dump };
 }
 
-impl<T: Terms> Source<T> {
+impl<T: Terms> Inflow<T> {
     // Adds what the share tells of a window to what earlier ones told.
     fn add<R: Wait>(
         &mut self,
@@ -85,7 +85,7 @@ impl<T: Terms> Source<T> {
 // Puts together what all shares tell of a window, in place of what `all` had: a turn of the text's process.
 fn gather<T: Terms, R: Wait>(
     rt: &R,
-    sources: &mut [Source<T>],
+    sources: &mut [Inflow<T>],
     from: u32,
     upto: u32,
     all: &mut Vec<Changed>,
@@ -109,7 +109,7 @@ impl<'a, T: Terms, R: Wait> TextMaker for Flow<'a, T, R> {
     ghost made = { λ f. f };
 
     // Goes on by a window.
-    fn step(self, kept: &mut Kept<'_>) -> Result<Self, AllocError> {
+    fn step(self, kept: &mut TextBuffer<'_>) -> Result<Self, AllocError> {
         let Flow {
             rt,
             windows,

@@ -1,22 +1,22 @@
 //! Local causality: what shares look at, they know. So what they make and tell is exact.
 
 ghost use Rattle.std.specs.Prelude.{◌≡◌, ℕ, ◌<◌, ◌≤◌, true, List, Bool};
-ghost use Rattle.cmb_design.specs.Design.{Design};
-ghost use Rattle.cmb_design.specs.Value.{value};
+ghost use Rattle.cmb_design_model.specs.Design.{Design};
+ghost use Rattle.cmb_design_model.specs.Value.{value};
 ghost use Rattle.cmb_engine.specs.Crossings.{AreWithinLookahead, IsCrossing};
 ghost use Rattle.cmb_engine.specs.Rows.{LooksAt};
 ghost use Rattle.cmb_engine.specs.Shares.{IsDriven};
 ghost use Rattle.cmb_engine.specs.Windows.{Windows, end_of};
-ghost use Rattle.cmb_lookahead.specs.Machine.{Advance, CanHappen, Processes};
-ghost use Rattle.cmb_lookahead.specs.Network.{IsNetwork, Network, ahead};
-ghost use Rattle.cmb_lookahead.specs.Runs.{IsReachable};
+ghost use Rattle.cmb_shares_protocol.specs.Machine.{Advance, CanHappen, Processes};
+ghost use Rattle.cmb_shares_protocol.specs.Network.{IsNetwork, Network, ahead};
+ghost use Rattle.cmb_shares_protocol.specs.Runs.{IsReachable};
 ghost use Rattle.cmb_netlist.specs.Netlist.{driver_of};
 ghost use Rattle.cmb_shares.specs.Traces.{AreMade, Serves, Sharing};
 ghost use Rattle.cmb_wave.specs.declared.level.Level.{Level};
 
-/// Where a crossing flip-flop's changes in a window are told ahead, its rows look at ticks before the window alone. And
+/// Where a crossing flip-flop's changes in a window are sent ahead, its rows look at ticks before the window alone. And
 /// where a share may make a window, the rows of all nets look there at ticks below those up to which it took what other
-/// shares told it.
+/// shares sent to it.
 pub fn windows_look_back()
     ensures told { (design : Design) (crossing : List Bool) (windows : Windows) (net clock tick other past : ℕ)
         → AreWithinLookahead design crossing windows → IsCrossing design crossing net

@@ -1,4 +1,4 @@
-//! What a share tells of a window.
+//! What a share sends of a window.
 
 ghost use Rattle.std.specs.Prelude.{◌≡◌, map};
 ghost use Rattle.std.proofs.Props.{props};
@@ -11,7 +11,7 @@ use rtrb::Protocol;
 use std::alloc::Global;
 use std::marker::PhantomData;
 
-/// From which share a message is, to which, and of which ticks it tells: from `from` on below `upto`.
+/// From which share a message is, to which, and of which ticks: from `from` on below `upto`.
 #[derive(Clone, Copy)]
 pub struct Envelope {
     pub sender: u32,
@@ -20,8 +20,8 @@ pub struct Envelope {
     pub upto: u32,
 }
 
-/// What a share tells another one, or the text, of a window of the run that `T` names. One without changes is a null
-/// message.
+/// What a share sends to another one, or to the text, of a window of the run that `T` names. One without changes is a
+/// null message.
 #[derive(Drop)]
 pub struct Message<T: Terms> {
     pub envelope: Envelope,
@@ -43,7 +43,7 @@ impl<T: Terms> Message<T> {
         }
     }
 
-    /// The first message of a channel. It tells of no tick.
+    /// The first message of a channel. It is of no tick.
     pub(crate) fn greeting(alloc: Global, sender: u32, reader: u32) -> Message<T>
         ensures { result.envelope ≡ greeting sender reader }
     {

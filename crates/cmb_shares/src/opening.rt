@@ -2,13 +2,13 @@
 
 ghost use Rattle.std.specs.Prelude.{◌≡◌, ℕ, [], ◌+◌, ◌<◌, ◌≤◌, length, map, slice_index_or, All, IfOk, IfSome, Ok};
 ghost use Rattle.cmb_engine.specs.Shares.{ShareEngine};
-ghost use Rattle.cmb_partition.specs.Partitions.{IsPartition};
+ghost use Rattle.cmb_graph_partition.specs.Partitions.{IsPartition};
 ghost use Rattle.cmb_shares.specs.Inner.Opened.{IsEngineOf};
 
-use cmb_design::Design;
+use cmb_design_model::Design;
 use cmb_engine::engine::LONGEST_WINDOW;
 use cmb_engine::{ShareEngine, Windows};
-use cmb_partition::Partition;
+use cmb_graph_partition::Partition;
 use std::alloc::{AllocError, Global};
 use std::marker::Model;
 use std::thread;
@@ -24,7 +24,7 @@ pub struct Shares<'a> {
 }
 
 impl<'a> Model for Shares<'a> {
-    ghost use Rattle.cmb_design.specs.Design.{Design};
+    ghost use Rattle.cmb_design_model.specs.Design.{Design};
     ghost use Rattle.cmb_shares.specs.Inner.Opened.{AreOpened, run_of};
 
     ghost Value = { Design };

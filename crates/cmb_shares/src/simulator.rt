@@ -1,7 +1,7 @@
-//! A share's engine, and what it tells.
+//! A share's engine, and what it sends.
 
 ghost use Rattle.std.specs.Prelude.{◌≡◌, ℕ, ◌<◌, length, filter, IfOk, OnOk};
-ghost use Rattle.cmb_design.specs.Value.{value};
+ghost use Rattle.cmb_design_model.specs.Value.{value};
 ghost use Rattle.cmb_engine.specs.Shares.{IsGiven, TellsThose};
 ghost use Rattle.cmb_shares.specs.Inner.Messages.{AreTold};
 ghost use Rattle.cmb_shares.specs.Inner.Runs.{IsTurn, Run, driven_by};
@@ -79,7 +79,7 @@ impl<'a> Simulator<'a> {
         self.windows.end(self.engine.clock())
     }
 
-    /// Tells ahead which of the share's crossing flip-flops change in the next window, in place of what `told` had.
+    /// Says ahead which of the share's crossing flip-flops change in the next window, in place of what `told` had.
     pub(crate) fn tell_ahead<T: Terms>(
         &self,
         upto: u32,

@@ -1,7 +1,7 @@
 //! A logical process: a share's engine, and the channels from and to it.
 
 ghost use Rattle.std.specs.Prelude.{◌≡◌, ◌<◌, ◌++◌, ◌∷◌, [], true, false, length, IfSome, OnOk};
-ghost use Rattle.cmb_design.specs.Value.{value};
+ghost use Rattle.cmb_design_model.specs.Value.{value};
 ghost use Rattle.cmb_engine.specs.Shares.{IsGiven, TellsThose};
 ghost use Rattle.cmb_shares.specs.Inner.Channels.{greeting};
 ghost use Rattle.cmb_shares.specs.Inner.Processes.{Turns, member_of};
@@ -40,8 +40,8 @@ impl<'a, T: Terms> Model for Feed<'a, T> {
     ghost invariant = { λ feed. (feed.outlet.reader ≡ feed.reader) × LeadsTo T.run feed.outlet feed.driven.now };
 }
 
-/// A share's engine, the channels by which others tell it of their nets and it tells them of its own, and the channel
-/// to the text, from which room comes back.
+/// A share's engine, the channels by which it receives changes of others' nets and sends those of its own, and the
+/// channel to the text, from which room comes back.
 #[derive(Drop)]
 pub struct Station<'a, T: Terms> {
     pub alloc: Global,
@@ -149,8 +149,8 @@ fn tell_all<'a, T: Terms, R: Wait>(
     true
 }
 
-// Takes what others tell of a window, in place of what `given` had. Says whether it did so. All were told before: shares
-// that take before they tell wait for one another.
+// Takes what others tell of a window, in place of what `given` had. Says whether it did so. All were told before:
+// shares that take before they tell wait for one another.
 fn hear_all<'a, T: Terms, R: Wait>(
     rt: &R,
     simulator: &Simulator<'_>,
@@ -238,7 +238,7 @@ impl<'a, T: Terms> Station<'a, T> {
         }
     }
 
-    /// Adds a channel by which another share tells it of its nets. Errors: memory was refused.
+    /// Adds a channel by which it receives changes of another share's nets. Errors: memory was refused.
     pub(crate) fn add_inlet(&mut self, inlet: Inlet<T>) -> Result<(), AllocError>
         requires reader { inlet.reader ≡ self.old.number }
         requires begins { inlet.upto ≡ self.old.clock }
@@ -253,7 +253,7 @@ impl<'a, T: Terms> Station<'a, T> {
         Ok(())
     }
 
-    /// Adds a channel by which it tells another share. Errors: memory was refused.
+    /// Adds a channel by which it sends to another share. Errors: memory was refused.
     pub(crate) fn add_feed(&mut self, feed: Feed<'a, T>) -> Result<(), AllocError>
         requires sender { feed.sender ≡ self.old.number }
         requires begins { feed.upto ≡ self.old.clock }

@@ -11,13 +11,13 @@ ghost use Rattle.cmb_shares.specs.Inner.Stations.{Standing};
 
 use crate::channel::channel;
 use crate::feeders::feeders_of;
-use crate::flow::Source;
+use crate::flow::Inflow;
 use crate::simulator::Simulator;
 use crate::station::{Feed, Station};
 use crate::terms::Terms;
-use cmb_design::Design;
+use cmb_design_model::Design;
 use cmb_engine::{ShareEngine, Windows};
-use cmb_partition::Partition;
+use cmb_graph_partition::Partition;
 use rtrb::RingBuffer;
 use std::alloc::{AllocError, Global};
 
@@ -36,7 +36,7 @@ fn station_of<'a, T: Terms>(
     shares: u32,
     owners: &'a [u32],
     windows: &Windows,
-) -> Result<(Station<'a, T>, Source<T>), AllocError>
+) -> Result<(Station<'a, T>, Inflow<T>), AllocError>
     requires lawful { IsRun T.run }
     requires engine { IsEngineOf T.run.design T.run.crossing (driven_by T.run number) engine }
     requires short { T.run.windows.width ≤ engine.width }
@@ -70,7 +70,7 @@ fn station_of<'a, T: Terms>(
         drop((simulator, text, inlet));
         return Err(AllocError);
     };
-    let source = Source { inlet, back: giver };
+    let source = Inflow { inlet, back: giver };
     Ok((Station::new(alloc, simulator, text, back), source))
 }
 
@@ -81,7 +81,7 @@ pub(crate) fn stations_of<'a, T: Terms>(
     engines: Vec<ShareEngine<'a>>,
     owners: &'a [u32],
     windows: &Windows,
-) -> Result<(Vec<Station<'a, T>>, Vec<Source<T>>), AllocError>
+) -> Result<(Vec<Station<'a, T>>, Vec<Inflow<T>>), AllocError>
     requires opened { AreOpened T.run engines.items }
     requires owners { owners.now ≡ T.run.owners }
     requires windows { windows.now ≡ T.run.windows }

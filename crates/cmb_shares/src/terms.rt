@@ -12,7 +12,7 @@ pub trait Terms {
 
 impl Terms for Brand {
     ghost use Rattle.std.specs.Prelude.{[]};
-    ghost use Rattle.cmb_vcd.specs.Examples.{nothing};
+    ghost use Rattle.cmb_run_text.specs.Examples.{nothing};
 
     ghost run = { record {
       design = nothing;

@@ -3,19 +3,19 @@
 ghost use Rattle.std.specs.Prelude.{◌≡◌, ◌-◌, ◌^◌, ◌<◌, All, length, IfOk};
 ghost use Rattle.cmb_shares.specs.Inner.Opened.{AreOpened, run_of};
 ghost use Rattle.cmb_shares.specs.Inner.Stations.{Covers};
-ghost use Rattle.cmb_stream.specs.Parts.{IsAtEndOf};
-ghost use Rattle.cmb_stream.specs.Streams.{IsWrittenTo};
+ghost use Rattle.cmb_dump_stream.specs.Parts.{IsAtEndOf};
+ghost use Rattle.cmb_dump_stream.specs.Streams.{IsWrittenTo};
 
 use crate::flow::Flow;
 use crate::opening::Shares;
 use crate::station::Station;
 use crate::stations::{connect_all, stations_of};
 use crate::terms::Terms;
-use cmb_design::Design;
+use cmb_design_model::Design;
+use cmb_dump_stream::{TextBuffer, first_text, write_rest};
 use cmb_engine::{ShareEngine, Windows};
-use cmb_partition::Partition;
-use cmb_stream::{Kept, StreamFault, first_text, write_rest};
-use cmb_vcd::Sink;
+use cmb_graph_partition::Partition;
+use cmb_io::{Sink, WriteFault};
 use std::alloc::{AllocError, Global};
 use std::marker::Brand;
 use std::sync::Wait;
@@ -50,7 +50,7 @@ fn begin<'s, 'a: 's, E, T: Terms + Send + Sync + 's, R: Threads + Wait + Sync>(
     partition: &'a Partition,
     engines: Vec<ShareEngine<'a>>,
     windows: Windows,
-) -> Result<(Flow<'a, T, R>, Kept<'a>), AllocError>
+) -> Result<(Flow<'a, T, R>, TextBuffer<'a>), AllocError>
     requires opened { AreOpened T.run engines.items }
     requires run { run_of design.now partition.now windows ≡ T.run }
     ensures here { IfOk result (λ begun. IsAtEndOf begun.1 begun.0) }
@@ -92,7 +92,7 @@ fn write_run<'s, 'a: 's, E, T: Terms + Send + Sync + 's, R: Threads + Wait + Syn
     engines: Vec<ShareEngine<'a>>,
     windows: Windows,
     sink: &mut S,
-) -> Result<u64, StreamFault>
+) -> Result<u64, WriteFault>
     requires room { S.failures sink.old < 2 ^ 64 - 1 }
     requires opened { AreOpened T.run engines.items }
     requires named { run_of design.now partition.now windows ≡ T.run }
@@ -100,7 +100,7 @@ fn write_run<'s, 'a: 's, E, T: Terms + Send + Sync + 's, R: Threads + Wait + Syn
 {
     let Ok((flow, kept)) = begin::<_, T, R>(rt, alloc, scope, design, partition, engines, windows)
     else {
-        return Err(StreamFault::Memory);
+        return Err(WriteFault::Memory);
     };
     write_rest(flow, kept, sink)
 }
@@ -114,7 +114,7 @@ fn write_named<'a, T: Terms + Send + Sync, R: Threads + Wait + Sync, S: Sink>(
     engines: Vec<ShareEngine<'a>>,
     windows: Windows,
     sink: &mut S,
-) -> Result<u64, StreamFault>
+) -> Result<u64, WriteFault>
     requires room { S.failures sink.old < 2 ^ 64 - 1 }
     requires opened { AreOpened T.run engines.items }
     requires named { run_of design.now partition.now windows ≡ T.run }
@@ -123,7 +123,7 @@ fn write_named<'a, T: Terms + Send + Sync, R: Threads + Wait + Sync, S: Sink>(
     let (back, answer) = thread::scope(
         thread::scope_env(),
         rt,
-        move |scope| -> (&mut S, Result<u64, StreamFault>)
+        move |scope| -> (&mut S, Result<u64, WriteFault>)
             requires room { S.failures sink.now < 2 ^ 64 - 1 }
             requires opened { AreOpened T.run engines.items }
             requires named { run_of design.now partition.now windows ≡ T.run }
@@ -150,7 +150,7 @@ pub fn write_shares<'a, R: Threads + Wait + Sync, S: Sink>(
     alloc: Global,
     shares: Shares<'a>,
     sink: &mut S,
-) -> Result<u64, StreamFault>
+) -> Result<u64, WriteFault>
     requires { S.failures sink.old < 2 ^ 64 - 1 }
     ensures { IsWrittenTo S.Sink shares.entry sink.old sink.new result }
 {

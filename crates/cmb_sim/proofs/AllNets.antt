@@ -3,23 +3,23 @@ use Rattle.std.proofs.Common.{◌≡◌, ℕ, ◌<◌, Bool, true, List, [], ◌
 use Rattle.std.specs.Prelude.{All, Contains}
 use Rattle.std.specs.List.{filter, range_with_len}
 use Rattle.std.proofs.lemmas.List.Elements.{All-contains, All-head, All-tail, filter_passes}
-use Rattle.cmb_design.specs.Design.{Design}
-use Rattle.cmb_design.specs.Exact.{nets_of}
-use Rattle.cmb_restrict.proofs.FoundFacts.{range_below}
-use Rattle.cmb_restrict.specs.Chosen.{each_once}
-use Rattle.cmb_restrict.specs.Restriction.{is_among}
-use Rattle.cmb_vcd.proofs.ChosenFacts.{vcd_of-all}
-use Rattle.cmb_vcd.specs.Chosen.{vcd_of}
-use Rattle.cmb_vcd.specs.Vcd.{vcd}
-use Rattle.cmb_line.specs.declared.choice.Choice.TheVariants.{All as All_nets, Only}
-use Rattle.cmb_line.specs.declared.choice.Pick.{Pick}
-use Rattle.cmb_line.specs.declared.choice.Pick.TheVariants.{Listed, Outputs}
-use Rattle.cmb_line.specs.declared.line.Request.{Request}
+use Rattle.cmb_design_model.specs.Design.{Design}
+use Rattle.cmb_design_model.specs.Exact.{nets_of}
+use Rattle.cmb_cone.proofs.FoundFacts.{range_below}
+use Rattle.cmb_cone.specs.Chosen.{each_once}
+use Rattle.cmb_cone.specs.Restriction.{is_among}
+use Rattle.cmb_run_text.proofs.ChosenFacts.{vcd_of-all}
+use Rattle.cmb_run_text.specs.Chosen.{vcd_of}
+use Rattle.cmb_run_text.specs.Vcd.{vcd}
+use Rattle.cmb_cli_line.specs.declared.choice.Choice.TheVariants.{All as All_nets, Only}
+use Rattle.cmb_cli_line.specs.declared.choice.Pick.{Pick}
+use Rattle.cmb_cli_line.specs.declared.choice.Pick.TheVariants.{Listed, Outputs}
+use Rattle.cmb_cli_line.specs.declared.line.Request.{Request}
 use Rattle.cmb_sim.specs.Simulation.{IsRun}
 use Rattle.cmb_inputs.specs.Chosen.{AreChosen}
 use Rattle.cmb_inputs.specs.Inputs.{Texts}
 use Rattle.cmb_inputs.specs.Outputs.{Output}
-use Rattle.cmb_inout.specs.declared.answer.Report.{Report}
+use Rattle.cmb_faults.specs.declared.answer.Report.{Report}
 
 filter_all : (p : ℕ → Bool) (xs : List ℕ) → All (λ x. p x ≡ true) xs → filter p xs ≡ xs
 filter_all p [] all = refl

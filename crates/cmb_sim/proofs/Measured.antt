@@ -1,14 +1,14 @@
 -- What comes of a design of which a table of activities is asked for.
 use Rattle.std.proofs.Common.{◌≡◌, ℕ, List, Result, Ok, Err, inr, length, refl}
-use Rattle.cmb_design.specs.Design.{Design}
-use Rattle.cmb_design.specs.Exact.{nets_of}
-use Rattle.cmb_inout.specs.declared.answer.Report.{Report}
-use Rattle.cmb_inout.specs.declared.fault.Fault.{Fault}
-use Rattle.cmb_inout.specs.declared.fault.Fault.TheVariants as fault
+use Rattle.cmb_design_model.specs.Design.{Design}
+use Rattle.cmb_design_model.specs.Exact.{nets_of}
+use Rattle.cmb_faults.specs.declared.answer.Report.{Report}
+use Rattle.cmb_faults.specs.declared.fault.Fault.{Fault}
+use Rattle.cmb_faults.specs.declared.fault.Fault.TheVariants as fault
 use Rattle.cmb_inputs.specs.Inputs.{Texts}
 use Rattle.cmb_inputs.specs.Outputs.{HasTaken, IsCutShort, Output}
 use Rattle.cmb_inputs.specs.Spelling.{SpellAny}
-use Rattle.cmb_line.specs.declared.line.Request.{Request}
+use Rattle.cmb_cli_line.specs.declared.line.Request.{Request}
 use Rattle.cmb_sim.proofs.Outcomes.{IsMade-more}
 use Rattle.cmb_sim.specs.Activities.{IsTableOf, IsTabled}
 use Rattle.cmb_sim.specs.Inner.Designs.{IsTabledOf, MakesOf}

@@ -1,13 +1,13 @@
 -- What comes of texts, by what was planned for them and what was written.
 use Rattle.std.proofs.Common.{◌≡◌, ◌⊎◌, ℕ, inl, inr, List, Option, Result, Ok, Err, refl, sym, subst}
 use Rattle.std.proofs.KnownBytes.{Keeps-refl}
-use Rattle.cmb_design.specs.Design.{Design}
-use Rattle.cmb_design.specs.Exact.{nets_of}
-use Rattle.cmb_vcd.specs.Chosen.{vcd_of}
-use Rattle.cmb_vcd.specs.Vcd.{vcd}
-use Rattle.cmb_line.specs.declared.choice.Choice.TheVariants.{All, Only}
-use Rattle.cmb_line.specs.declared.choice.Pick.{Pick}
-use Rattle.cmb_line.specs.declared.line.Request.{Request}
+use Rattle.cmb_design_model.specs.Design.{Design}
+use Rattle.cmb_design_model.specs.Exact.{nets_of}
+use Rattle.cmb_run_text.specs.Chosen.{vcd_of}
+use Rattle.cmb_run_text.specs.Vcd.{vcd}
+use Rattle.cmb_cli_line.specs.declared.choice.Choice.TheVariants.{All, Only}
+use Rattle.cmb_cli_line.specs.declared.choice.Pick.{Pick}
+use Rattle.cmb_cli_line.specs.declared.line.Request.{Request}
 use Rattle.cmb_inputs.specs.Chosen.{AreChosen}
 use Rattle.cmb_inputs.specs.Inputs.{Texts}
 use Rattle.cmb_inputs.specs.Outputs.{IsUntouched, Output, output}
@@ -16,9 +16,9 @@ use Rattle.cmb_sim.specs.Inner.Designs.{IsRunOf, MakesOf}
 use Rattle.cmb_sim.specs.Inner.Plans.{IsPlan, IsPut, PlanMayBreak, way_text}
 use Rattle.cmb_sim.specs.Simulation.{Breaks, IsBroken, IsMade, IsRefused, IsRun, IsTextOf, IsUnrun, report_of}
 use Rattle.cmb_sim.specs.declared.plan.Plan.{Plan}
-use Rattle.cmb_inout.specs.declared.answer.Report.{Report}
-use Rattle.cmb_inout.specs.declared.fault.Fault.{Fault}
-use Rattle.cmb_inout.specs.declared.fault.Fault.TheVariants as fault
+use Rattle.cmb_faults.specs.declared.answer.Report.{Report}
+use Rattle.cmb_faults.specs.declared.fault.Fault.{Fault}
+use Rattle.cmb_faults.specs.declared.fault.Fault.TheVariants as fault
 
 -- before anything is written
 pub untouched : (old : Option (List ℕ)) (n : ℕ) → IsUntouched (output old old n n)

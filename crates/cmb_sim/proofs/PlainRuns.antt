@@ -2,14 +2,14 @@
 use Rattle.std.proofs.Common.{◌≡◌, ℕ, ◌<◌, List, refl, subst, sym, ◌∙◌, None}
 use Rattle.std.proofs.lemmas.Bool.{lt-ltb}
 use Rattle.cmb_wave.specs.Wave.{Wave}
-use Rattle.cmb_design.specs.Design.{Design}
-use Rattle.cmb_design.specs.Checks.{first_fault}
-use Rattle.cmb_design.specs.Plain.{cells_of, whole_waves}
-use Rattle.cmb_line.specs.declared.mode.Mode.TheVariants.{Plain}
+use Rattle.cmb_design_model.specs.Design.{Design}
+use Rattle.cmb_design_model.specs.Checks.{first_fault}
+use Rattle.cmb_design_model.specs.Plain.{cells_of, whole_waves}
+use Rattle.cmb_cli_line.specs.declared.mode.Mode.TheVariants.{Plain}
 use Rattle.cmb_sim.specs.Simulation.{mode_checks}
 use Rattle.cmb_sim.proofs.ModeFacts.{plain_too_large}
-use Rattle.cmb_vcd.proofs.ExactFacts.{whole_waves_complete, whole_waves_exact}
-use Rattle.cmb_vcd.specs.Collector.{AreCollected, Collector, IsComplete, IsExactFor}
+use Rattle.cmb_run_text.proofs.ExactFacts.{whole_waves_complete, whole_waves_exact}
+use Rattle.cmb_run_text.specs.Collector.{AreCollected, Collector, IsComplete, IsExactFor}
 
 pub AreCollected-whole : (design : Design) (waves : List Wave) (horizon : ℕ) → waves ≡ whole_waves design → horizon ≡ design.horizon → AreCollected horizon waves
 AreCollected-whole design waves horizon p q = rw (p, q) (whole_waves_exact design).collected

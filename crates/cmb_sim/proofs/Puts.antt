@@ -1,17 +1,17 @@
 -- What comes of writing a text.
 use Rattle.std.proofs.Common.{◌≡◌, ◌⊎◌, ℕ, inl, inr, List, [], ◌++◌, Option, Some, Result, Ok, Err, length, refl, arith}
-use Rattle.cmb_design.specs.Design.{Design}
-use Rattle.cmb_free.specs.FreeRuns.{IsCutAt}
-use Rattle.cmb_run.specs.declared.run_fault.RunFault.{RunFault}
-use Rattle.cmb_run.specs.declared.run_fault.RunFault.TheVariants as run
-use Rattle.cmb_stream.specs.Streams.{IsBrokenOff}
-use Rattle.cmb_stream.specs.declared.fault.StreamFault.{StreamFault}
-use Rattle.cmb_stream.specs.declared.fault.StreamFault.TheVariants as stream
-use Rattle.cmb_vcd.specs.Vcd.{vcd}
+use Rattle.cmb_design_model.specs.Design.{Design}
+use Rattle.cmb_run_free.specs.FreeRuns.{IsCutAt}
+use Rattle.cmb_run_exact.specs.declared.run_fault.RunFault.{RunFault}
+use Rattle.cmb_run_exact.specs.declared.run_fault.RunFault.TheVariants as run
+use Rattle.cmb_dump_stream.specs.Streams.{IsBrokenOff}
+use Rattle.cmb_io.specs.declared.write_fault.WriteFault.{WriteFault}
+use Rattle.cmb_io.specs.declared.write_fault.WriteFault.TheVariants as stream
+use Rattle.cmb_run_text.specs.Vcd.{vcd}
 use Rattle.cmb_inputs.specs.Outputs.{HasTaken, IsCutShort, IsUntouched, Output, output}
-use Rattle.cmb_inout.specs.Numbers.{run_as_fault, stream_as_fault}
-use Rattle.cmb_inout.specs.declared.fault.Fault.{Fault}
-use Rattle.cmb_inout.specs.declared.fault.Fault.TheVariants as fault
+use Rattle.cmb_faults.specs.Numbers.{run_as_fault, write_as_fault}
+use Rattle.cmb_faults.specs.declared.fault.Fault.{Fault}
+use Rattle.cmb_faults.specs.declared.fault.Fault.TheVariants as fault
 use Rattle.cmb_sim.proofs.Outcomes.{IsBroken-more, untouched}
 use Rattle.cmb_sim.specs.Inner.Plans.{IsPut, MayBreak, Streams}
 use Rattle.cmb_sim.specs.Simulation.{IsBroken}
@@ -45,8 +45,8 @@ pub IsPut-held : (text : List ℕ) (Breaks : Fault → Type 0) (old new : List �
 IsPut-held text Breaks old new before after n none put = let grown : new ≡ old ++ text = put.taken.0 in rw none at grown
 
 -- a text that was written while it was made
-pub IsPut-stream : (design : Design) (way : Way) (old new : Option (List ℕ)) (before after : ℕ) (f : StreamFault) → Streams way
-    → IsBrokenOff design old new before after f → IsPut (vcd design) (MayBreak way design) (output old new before after) (Err (stream_as_fault f))
+pub IsPut-stream : (design : Design) (way : Way) (old new : Option (List ℕ)) (before after : ℕ) (f : WriteFault) → Streams way
+    → IsBrokenOff design old new before after f → IsPut (vcd design) (MayBreak way design) (output old new before after) (Err (write_as_fault f))
 IsPut-stream design way old new before after (stream.Write n) streams h = record { told = tt; taken = tt; fault = inr (h.short, h.begun, h.failed) }
 IsPut-stream design way old new before after stream.Memory streams h = record { told = tt; taken = tt; fault = inr (streams, h) }
 

@@ -4,10 +4,10 @@ use Rattle.std.specs.Prelude.{◌%◌, ◌||◌, nat_lt, Result}
 use Rattle.std.specs.List.{range_with_len}
 use Rattle.std.proofs.lemmas.Bool.{or_parts}
 use Rattle.std.proofs.lemmas.List.FromFn.{length-map-range_with_len}
-use Rattle.cmb_core.specs.Assigns.{spread_clustering}
-use Rattle.cmb_core.specs.Clustering.{Clustering}
-use Rattle.cmb_core.specs.declared.clustering.ClusteringFault.{ClusteringFault}
-use Rattle.cmb_core.specs.declared.clustering.ClusteringFault.TheVariants.{Clusters}
+use Rattle.cmb_core_cluster.specs.Assigns.{spread_clustering}
+use Rattle.cmb_core_cluster.specs.Clustering.{Clustering}
+use Rattle.cmb_core_cluster.specs.declared.clustering.ClusteringFault.{ClusteringFault}
+use Rattle.cmb_core_cluster.specs.declared.clustering.ClusteringFault.TheVariants.{Clusters}
 
 pub spread-stands : (nets many : ℕ) (k : Clustering) → spread_clustering nets many ≡ Ok k → (length k.assign ≡ nets) × (1 ≤ many) × (many ≤ 64)
 spread-stands nets many k e = by (nat_lt many 1 || nat_lt 64 many) refl

@@ -2,17 +2,17 @@
 use Rattle.std.specs.Prelude.{◌≡◌, List, ℕ, Result}
 use Rattle.std.specs.List.{range_with_len}
 use Rattle.cmb_activity.specs.Texts.{activity_table}
-use Rattle.cmb_design.specs.Design.{Design}
-use Rattle.cmb_design.specs.Exact.{nets_of}
-use Rattle.cmb_line.specs.declared.choice.Choice.{Choice}
-use Rattle.cmb_line.specs.declared.choice.Choice.TheVariants.{All, Only}
-use Rattle.cmb_line.specs.declared.line.Request.{Request}
+use Rattle.cmb_design_model.specs.Design.{Design}
+use Rattle.cmb_design_model.specs.Exact.{nets_of}
+use Rattle.cmb_cli_line.specs.declared.choice.Choice.{Choice}
+use Rattle.cmb_cli_line.specs.declared.choice.Choice.TheVariants.{All, Only}
+use Rattle.cmb_cli_line.specs.declared.line.Request.{Request}
 use Rattle.cmb_inputs.specs.Chosen.{AreChosen}
 use Rattle.cmb_inputs.specs.Inputs.{Input, IsReading, Texts}
 use Rattle.cmb_inputs.specs.Outputs.{IsUntouched, Output}
 use Rattle.cmb_sim.specs.Simulation.{IsMade, MakesText, Refuses}
-use Rattle.cmb_inout.specs.declared.answer.Report.{Report}
-use Rattle.cmb_inout.specs.declared.fault.Fault.{Fault}
+use Rattle.cmb_faults.specs.declared.answer.Report.{Report}
+use Rattle.cmb_faults.specs.declared.fault.Fault.{Fault}
 
 -- the table that is asked for of a design: that of all its nets, or of chosen ones
 abbrev pub IsTableOf : Choice → Design → List ℕ → List ℕ → Type 0

@@ -1,18 +1,18 @@
 -- What comes of a simulation that is compared with what a table expects of it.
 use Rattle.std.specs.Prelude.{◌≡◌, ◌⊎◌, List, ℕ, length, None, Result, count_by}
-use Rattle.cmb_design.specs.Checks.{first_fault}
-use Rattle.cmb_design.specs.Design.{Design}
-use Rattle.cmb_design.specs.declared.expected.Expected.{Expected}
+use Rattle.cmb_design_model.specs.Checks.{first_fault}
+use Rattle.cmb_design_model.specs.Design.{Design}
+use Rattle.cmb_design_model.specs.declared.expected.Expected.{Expected}
 use Rattle.cmb_expect.specs.Expectations.{differs}
 use Rattle.cmb_expect.specs.Texts.{difference_table}
-use Rattle.cmb_line.specs.declared.line.Request.{Request}
+use Rattle.cmb_cli_line.specs.declared.line.Request.{Request}
 use Rattle.cmb_inputs.specs.Expected.{AreExpected, AreUnexpected, expected_checks}
 use Rattle.cmb_inputs.specs.Inputs.{Input, IsReading, Texts, with_table}
 use Rattle.cmb_inputs.specs.Outputs.{IsUntouched, Output}
 use Rattle.cmb_inputs.specs.Spelling.{HaveTextFault, SpellAny}
 use Rattle.cmb_sim.specs.Simulation.{CanRun, IsMade, IsUnrun, report_of}
-use Rattle.cmb_inout.specs.declared.answer.Comparison.{Comparison}
-use Rattle.cmb_inout.specs.declared.fault.Fault.{Fault}
+use Rattle.cmb_faults.specs.declared.answer.Comparison.{Comparison}
+use Rattle.cmb_faults.specs.declared.fault.Fault.{Fault}
 
 -- what is told of rows of which a text tells those that differ
 abbrev pub comparison_of : Design → List Expected → List ℕ → Comparison

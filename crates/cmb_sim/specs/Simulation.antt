@@ -1,27 +1,27 @@
 -- What a whole simulation answers, and what it writes.
 use Rattle.std.specs.Prelude.{◌≡◌, ℕ, ◌<◌, ◌≤◌, ◌⊎◌, List, [], ◌∷◌, length, nat_lt, Option, None, Some, Result, IfOk, IfErr, ⊤}
 use Rattle.cmb_netlist.specs.Netlist.{Netlist}
-use Rattle.cmb_design.specs.Checks.{Check, check, first_fault}
-use Rattle.cmb_design.specs.Design.{Design}
-use Rattle.cmb_design.specs.Exact.{nets_of}
-use Rattle.cmb_design.specs.Plain.{cells_of}
-use Rattle.cmb_design.specs.declared.fault.DesignFault.TheVariants.{TableTooLarge}
-use Rattle.cmb_vcd.specs.Chosen.{vcd_of}
-use Rattle.cmb_vcd.specs.Vcd.{vcd}
-use Rattle.cmb_line.specs.Modes.{HasLawfulHands, IsLawfulCount, clusters_of}
-use Rattle.cmb_design.specs.declared.settings.Settings.{Settings}
-use Rattle.cmb_line.specs.declared.choice.Choice.{Choice}
-use Rattle.cmb_line.specs.declared.choice.Choice.TheVariants.{All, Only}
-use Rattle.cmb_line.specs.declared.line.Request.{Request}
-use Rattle.cmb_line.specs.declared.mode.Mode.{Mode}
-use Rattle.cmb_line.specs.declared.mode.Mode.TheVariants.{Plain, Rounds, Free}
+use Rattle.cmb_design_model.specs.Checks.{Check, check, first_fault}
+use Rattle.cmb_design_model.specs.Design.{Design}
+use Rattle.cmb_design_model.specs.Exact.{nets_of}
+use Rattle.cmb_design_model.specs.Plain.{cells_of}
+use Rattle.cmb_design_model.specs.declared.fault.DesignFault.TheVariants.{TableTooLarge}
+use Rattle.cmb_run_text.specs.Chosen.{vcd_of}
+use Rattle.cmb_run_text.specs.Vcd.{vcd}
+use Rattle.cmb_cli_line.specs.Modes.{HasLawfulHands, IsLawfulCount, clusters_of}
+use Rattle.cmb_design_model.specs.declared.settings.Settings.{Settings}
+use Rattle.cmb_cli_line.specs.declared.choice.Choice.{Choice}
+use Rattle.cmb_cli_line.specs.declared.choice.Choice.TheVariants.{All, Only}
+use Rattle.cmb_cli_line.specs.declared.line.Request.{Request}
+use Rattle.cmb_cli_line.specs.declared.mode.Mode.{Mode}
+use Rattle.cmb_cli_line.specs.declared.mode.Mode.TheVariants.{Plain, Rounds, Free}
 use Rattle.cmb_inputs.specs.Chosen.{AreChosen, IsUnchosen}
 use Rattle.cmb_inputs.specs.Inputs.{Input, IsReading, Texts}
 use Rattle.cmb_inputs.specs.Outputs.{HasBegun, HasTaken, IsCutAfter, IsUntouched, Output}
 use Rattle.cmb_inputs.specs.Spelling.{HaveTextFault, SpellAny}
-use Rattle.cmb_inout.specs.declared.answer.Report.{Report}
-use Rattle.cmb_inout.specs.declared.fault.Fault.{Fault}
-use Rattle.cmb_inout.specs.declared.fault.Fault.TheVariants as fault
+use Rattle.cmb_faults.specs.declared.answer.Report.{Report}
+use Rattle.cmb_faults.specs.declared.fault.Fault.{Fault}
+use Rattle.cmb_faults.specs.declared.fault.Fault.TheVariants as fault
 
 -- ---- what a mode can run
 

@@ -1,25 +1,26 @@
 -- What comes of a line: the outcome of its run, the table of activities, that of what came otherwise than was expected, or the counts of what
 -- its inputs spell.
 use Rattle.std.specs.Prelude.{◌≡◌, ℕ, List, Result, Ok, Err}
-use Rattle.cmb_count.specs.Texts.{counts_rows}
+use Rattle.cmb_count.specs.Counting.{AreCounts}
+use Rattle.cmb_count.specs.Texts.{IsCountsText}
 use Rattle.cmb_count.specs.declared.counts.Counts.{Counts}
-use Rattle.cmb_design.specs.declared.settings.Settings.{Settings}
-use Rattle.cmb_line.specs.declared.choice.Choice.{Choice}
-use Rattle.cmb_line.specs.declared.choice.Choice.TheVariants.{All}
-use Rattle.cmb_line.specs.declared.line.Line.{Line}
-use Rattle.cmb_line.specs.declared.line.Request.{Request}
-use Rattle.cmb_line.specs.declared.line.Task.{Task}
-use Rattle.cmb_line.specs.declared.line.Task.TheVariants.{Run, Activity, Expect, Check}
-use Rattle.cmb_inputs.specs.Checking.{IsCountOf}
+use Rattle.cmb_design_model.specs.Design.{Design}
+use Rattle.cmb_design_model.specs.declared.settings.Settings.{Settings}
+use Rattle.cmb_cli_line.specs.declared.choice.Choice.{Choice}
+use Rattle.cmb_cli_line.specs.declared.choice.Choice.TheVariants.{All}
+use Rattle.cmb_cli_line.specs.declared.line.Line.{Line}
+use Rattle.cmb_cli_line.specs.declared.line.Request.{Request}
+use Rattle.cmb_cli_line.specs.declared.line.Task.{Task}
+use Rattle.cmb_cli_line.specs.declared.line.Task.TheVariants.{Run, Activity, Expect, Check}
 use Rattle.cmb_inputs.specs.Inputs.{Input, IsReading, Texts, with_table}
 use Rattle.cmb_inputs.specs.Outputs.{IsUntouched, Output}
-use Rattle.cmb_inputs.specs.Spelling.{HaveTextFault}
+use Rattle.cmb_inputs.specs.Spelling.{HaveTextFault, SpellAny}
 use Rattle.cmb_sim.specs.Activities.{IsMeasured}
 use Rattle.cmb_sim.specs.Expecting.{IsComparison}
 use Rattle.cmb_sim.specs.Simulation.{IsMade, IsOutcome}
-use Rattle.cmb_inout.specs.declared.answer.Done.{Done}
-use Rattle.cmb_inout.specs.declared.answer.Done.TheVariants.{Ran, Measured, Compared, Checked}
-use Rattle.cmb_inout.specs.declared.fault.Fault.{Fault}
+use Rattle.cmb_faults.specs.declared.answer.Done.{Done}
+use Rattle.cmb_faults.specs.declared.answer.Done.TheVariants.{Ran, Measured, Compared, Checked}
+use Rattle.cmb_faults.specs.declared.fault.Fault.{Fault}
 
 abbrev pub request_of : Line → Request
 request_of line = record { settings = line.settings; mode = line.mode; threads = line.threads; choice = line.choice }
@@ -60,19 +61,20 @@ IsExpecting line inputs o (Ok (Compared told)) = IsComparison (request_of line) 
 IsExpecting line inputs o (Ok _) = ⊥
 IsExpecting line inputs o (Err f) = IsComparison (request_of line) inputs o (Err f)
 
--- of the texts come these counts, and the text that tells them
-abbrev pub TellCounts : Settings → Texts → List ℕ → Counts → Type 0
-TellCounts settings texts text counts = IsCountOf settings texts counts × (text ≡ counts_rows counts)
+-- of the texts come these counts, and the text that tells them, with the first so many names of what they count
+abbrev pub TellCounts : Settings → ℕ → Texts → List ℕ → Counts → Type 0
+TellCounts settings named texts text counts =
+    (design : Design) × SpellAny texts settings design × AreCounts design counts × IsCountsText design named counts text
 
 -- the counts are written, whole or a beginning; or the texts spell no design, and nothing is written
-abbrev pub IsCheck : Settings → List Input → Output → Result Counts Fault → Type 0
-IsCheck settings inputs o answer =
-    IsReading All (λ texts told. IsMade (TellCounts settings texts) (HaveTextFault texts settings) (λ _ _. ⊥) o told) (IsUntouched o) inputs answer
+abbrev pub IsCheck : Settings → ℕ → List Input → Output → Result Counts Fault → Type 0
+IsCheck settings named inputs o answer =
+    IsReading All (λ texts told. IsMade (TellCounts settings named texts) (HaveTextFault texts settings) (λ _ _. ⊥) o told) (IsUntouched o) inputs answer
 
 abbrev pub IsCheckOf : Line → List Input → Output → Result Done Fault → Type 0
-IsCheckOf line inputs o (Ok (Checked counts)) = IsCheck line.settings inputs o (Ok counts)
+IsCheckOf line inputs o (Ok (Checked counts)) = IsCheck line.settings line.named inputs o (Ok counts)
 IsCheckOf line inputs o (Ok _) = ⊥
-IsCheckOf line inputs o (Err f) = IsCheck line.settings inputs o (Err f)
+IsCheckOf line inputs o (Err f) = IsCheck line.settings line.named inputs o (Err f)
 
 -- what comes of the task
 abbrev pub IsDoneBy : Task → Line → List Input → Output → Result Done Fault → Type 0

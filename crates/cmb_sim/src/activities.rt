@@ -3,8 +3,8 @@
 ghost use Rattle.std.specs.Prelude.{◌≡◌, ◌-◌, ◌^◌, ◌<◌, ◌≤◌, length, All, IfErr, IfOk, OnOk};
 ghost use Rattle.std.specs.List.{range_with_len};
 ghost use Rattle.cmb_activity.specs.Texts.{activity_table};
-ghost use Rattle.cmb_design.specs.Exact.{nets_of};
-ghost use Rattle.cmb_inout.specs.Sources.{input_limit};
+ghost use Rattle.cmb_design_model.specs.Exact.{nets_of};
+ghost use Rattle.cmb_io.specs.Sources.{input_limit};
 ghost use Rattle.cmb_inputs.specs.Inputs.{CanBeInputs, HaveRoom, in_order, listed, read_from, texts_in};
 ghost use Rattle.cmb_inputs.specs.Outputs.{written_to};
 ghost use Rattle.cmb_sim.specs.Activities.{IsMeasured, IsTableOf, IsTabled};
@@ -13,12 +13,12 @@ ghost use Rattle.cmb_sim.specs.Simulation.{CanRun, IsRefused};
 
 use crate::modes::check_mode;
 use cmb_activity::activity_text;
-use cmb_choice::chosen_activity_text;
-use cmb_design::Design;
-use cmb_inout::{Fault, Report, Source};
+use cmb_chosen::chosen_activity_text;
+use cmb_cli_line::{Choice, Pick, Request};
+use cmb_design_model::Design;
+use cmb_faults::{Fault, Report};
 use cmb_inputs::{InputTexts, chosen_nets, read_texts, spelled_design, write_text};
-use cmb_line::{Choice, Pick, Request};
-use cmb_vcd::Sink;
+use cmb_io::{Sink, Source};
 use std::alloc::{AllocError, Global};
 
 // All nets, where there are so many.
@@ -112,27 +112,31 @@ fn measure_texts<O: Sink>(
 ///
 /// The table is made whole before any of it is written, in each mode. So 70 then comes before it, and 53 never; 62
 /// where a write failed.
-pub fn measure<B: Source, D: Source, S: Source, C: Source, L: Source, O: Sink>(
+pub fn measure<B: Source, D: Source, S: Source, C: Source, I: Source, L: Source, O: Sink>(
     alloc: Global,
     bench: &mut B,
     delays: &mut D,
     stimuli: &mut S,
     clocks: &mut C,
+    initial: &mut I,
     list: &mut L,
     request: Request,
     out: &mut O,
 ) -> Result<Report, Fault>
     requires sources { HaveRoom (B.failures bench.old) (D.failures delays.old)
-        (S.failures stimuli.old) (C.failures clocks.old) }
+        (S.failures stimuli.old) (C.failures clocks.old) (I.failures initial.old) }
     requires list { L.failures list.old < 2 ^ 64 - 1 }
     requires out { O.failures out.old < 2 ^ 64 - 1 }
     ensures measured { IsMeasured request (in_order (read_from B.Source 1 bench.old bench.new)
         (read_from D.Source 2 delays.old delays.new) (read_from S.Source 3 stimuli.old stimuli.new)
-        (read_from C.Source 4 clocks.old clocks.new) (listed request.choice (read_from L.Source 5 list.old list.new)))
+        (read_from C.Source 4 clocks.old clocks.new) (read_from I.Source 6 initial.old initial.new)
+        (listed request.choice (read_from L.Source 5 list.old list.new)))
         (written_to O.Sink out.old out.new) result }
     ensures unread { (request.choice ≡ Choice.Only Pick.Listed → ⊥) → list.new ≡ list.old }
 {
     let choice = request.choice;
-    let texts = read_texts(alloc, choice, 5, bench, delays, stimuli, clocks, list)?;
+    let texts = read_texts(
+        alloc, choice, 5, bench, delays, stimuli, clocks, initial, list,
+    )?;
     measure_texts(alloc, &texts, request, out)
 }

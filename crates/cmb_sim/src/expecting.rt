@@ -3,7 +3,7 @@
 ghost use Rattle.std.specs.Prelude.{◌≡◌, ◌∷◌, [], ◌-◌, ◌^◌, ◌<◌, ◌≤◌, length, count_by, IfErr, IfOk, OnOk};
 ghost use Rattle.cmb_expect.specs.Expectations.{differs};
 ghost use Rattle.cmb_expect.specs.Texts.{difference_table};
-ghost use Rattle.cmb_inout.specs.Sources.{input_limit};
+ghost use Rattle.cmb_io.specs.Sources.{input_limit};
 ghost use Rattle.cmb_inputs.specs.Expected.{AreExpected};
 ghost use Rattle.cmb_inputs.specs.Inputs.{CanBeInputs, HaveRoom, in_order, read_from, texts_in};
 ghost use Rattle.cmb_inputs.specs.Outputs.{written_to};
@@ -13,13 +13,13 @@ ghost use Rattle.cmb_sim.specs.Inner.Designs.{IsComparisonOf};
 ghost use Rattle.cmb_sim.specs.Simulation.{CanRun};
 
 use crate::modes::check_mode;
-use cmb_choice::expected_differences;
-use cmb_design::Design;
+use cmb_chosen::expected_differences;
+use cmb_cli_line::{Choice, Pick, Request};
+use cmb_design_model::Design;
 use cmb_expect::Differences;
-use cmb_inout::{Comparison, Fault, Report, Source};
+use cmb_faults::{Comparison, Fault, Report};
 use cmb_inputs::{InputTexts, expected_in, read_texts, spelled_design, write_text};
-use cmb_line::{Choice, Pick, Request};
-use cmb_vcd::Sink;
+use cmb_io::{Sink, Source};
 use std::alloc::Global;
 
 // The rows of a table that differ from a design's run, and how many rows it has. The faults are those of the table,
@@ -92,26 +92,30 @@ fn compare_texts<O: Sink>(
 /// The faults of the table come behind those of the design and before those of the mode: those of its records (23, 24,
 /// 25, 31), then of its rows, in order, each by 26, 29 and 39. What is written is made whole before, in each mode. So
 /// 70 then comes before it, and 53 never; 62 where a write failed.
-pub fn compare<B: Source, D: Source, S: Source, C: Source, E: Source, O: Sink>(
+pub fn compare<B: Source, D: Source, S: Source, C: Source, I: Source, E: Source, O: Sink>(
     alloc: Global,
     bench: &mut B,
     delays: &mut D,
     stimuli: &mut S,
     clocks: &mut C,
+    initial: &mut I,
     expected: &mut E,
     request: Request,
     out: &mut O,
 ) -> Result<Comparison, Fault>
     requires sources { HaveRoom (B.failures bench.old) (D.failures delays.old)
-        (S.failures stimuli.old) (C.failures clocks.old) }
+        (S.failures stimuli.old) (C.failures clocks.old) (I.failures initial.old) }
     requires expected { E.failures expected.old < 2 ^ 64 - 1 }
     requires out { O.failures out.old < 2 ^ 64 - 1 }
     ensures { IsComparison request (in_order (read_from B.Source 1 bench.old bench.new)
         (read_from D.Source 2 delays.old delays.new) (read_from S.Source 3 stimuli.old stimuli.new)
-        (read_from C.Source 4 clocks.old clocks.new) (read_from E.Source 7 expected.old expected.new ∷ []))
+        (read_from C.Source 4 clocks.old clocks.new) (read_from I.Source 6 initial.old initial.new)
+        (read_from E.Source 7 expected.old expected.new ∷ []))
         (written_to O.Sink out.old out.new) result }
 {
     let choice = Choice::Only(Pick::Listed);
-    let texts = read_texts(alloc, choice, 7, bench, delays, stimuli, clocks, expected)?;
+    let texts = read_texts(
+        alloc, choice, 7, bench, delays, stimuli, clocks, initial, expected,
+    )?;
     compare_texts(alloc, &texts, request, out)
 }

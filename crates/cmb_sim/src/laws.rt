@@ -1,13 +1,13 @@
 //! A law: a simulation of which each net is chosen is one of all nets.
 
 ghost use Rattle.std.specs.Prelude.{◌≡◌, ℕ, ◌<◌, List, Contains, Ok};
-ghost use Rattle.cmb_design.specs.Design.{Design};
-ghost use Rattle.cmb_design.specs.Exact.{nets_of};
-ghost use Rattle.cmb_line.specs.declared.choice.Choice.TheVariants.{All, Only};
-ghost use Rattle.cmb_line.specs.declared.choice.Pick.{Pick};
-ghost use Rattle.cmb_line.specs.declared.line.Request.{Request};
+ghost use Rattle.cmb_design_model.specs.Design.{Design};
+ghost use Rattle.cmb_design_model.specs.Exact.{nets_of};
+ghost use Rattle.cmb_cli_line.specs.declared.choice.Choice.TheVariants.{All, Only};
+ghost use Rattle.cmb_cli_line.specs.declared.choice.Pick.{Pick};
+ghost use Rattle.cmb_cli_line.specs.declared.line.Request.{Request};
 ghost use Rattle.cmb_sim.specs.Simulation.{IsRun};
-ghost use Rattle.cmb_inout.specs.declared.answer.Report.{Report};
+ghost use Rattle.cmb_faults.specs.declared.answer.Report.{Report};
 ghost use Rattle.cmb_inputs.specs.Chosen.{AreChosen};
 ghost use Rattle.cmb_inputs.specs.Inputs.{Texts};
 ghost use Rattle.cmb_inputs.specs.Outputs.{Output};

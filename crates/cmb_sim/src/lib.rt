@@ -4,6 +4,7 @@
 
 pub mod activities;
 pub mod carrying;
+pub mod checking;
 pub mod expecting;
 pub mod laws;
 mod modes;
@@ -14,16 +15,18 @@ mod tuning;
 
 pub use activities::measure;
 pub use carrying::carry_out;
+pub use checking::check;
 pub use cmb_bench::{BenchFault, FaultKind};
-pub use cmb_count::{Counts, Longest, counts_text};
-pub use cmb_design::{DesignFault, Settings};
-pub use cmb_inout::{
-    Comparison, Done, Fault, FromBytes, FromReader, ReadFault, Report, Source, fault_line,
-    read_whole,
+pub use cmb_cli::{LineFault, line_message, read_line};
+pub use cmb_cli_line::{Choice, Line, Mode, Pick, Request, Task};
+pub use cmb_count::{Counts, Longest};
+pub use cmb_design_model::{DesignFault, Settings};
+pub use cmb_faults::{Comparison, Done, Fault, Report, fault_line};
+pub use cmb_inputs::{Checked, InputTexts, check_design, read_texts};
+pub use cmb_io::{
+    Failed, FromBytes, FromReader, Limited, ReadFault, Room, Sink, Source, ToWriter, read_whole,
+    write_whole,
 };
-pub use cmb_inputs::{InputTexts, check_design, read_texts};
-pub use cmb_line::{Choice, Line, Mode, Pick, Request, Task};
-pub use cmb_vcd::{Failed, Limited, Room, Sink, ToWriter, write_whole};
 pub use cmb_wave::Level;
 pub use expecting::compare;
 pub use simulation::{simulate, simulate_chosen};

@@ -1,16 +1,16 @@
 //! Whether a design can be run as it is asked for.
 
 ghost use Rattle.std.specs.Prelude.{◌≡◌, true, false, nat_lt, None, Some, IfErr, OnOk};
-ghost use Rattle.cmb_design.specs.Checks.{first_fault};
-ghost use Rattle.cmb_design.specs.Plain.{cells_of};
-ghost use Rattle.cmb_design.specs.declared.fault.DesignFault.TheVariants.{TableTooLarge};
-ghost use Rattle.cmb_line.specs.Modes.{HasLawfulHands, IsLawfulCount, clusters_of, workers_of};
+ghost use Rattle.cmb_design_model.specs.Checks.{first_fault};
+ghost use Rattle.cmb_design_model.specs.Plain.{cells_of};
+ghost use Rattle.cmb_design_model.specs.declared.fault.DesignFault.TheVariants.{TableTooLarge};
+ghost use Rattle.cmb_cli_line.specs.Modes.{HasLawfulHands, IsLawfulCount, clusters_of, workers_of};
 ghost use Rattle.cmb_sim.specs.Simulation.{CanRun, IsUnrun, mode_checks};
 
-use cmb_design::plain::MOST_CELLS;
-use cmb_design::{Design, DesignFault};
-use cmb_inout::Fault;
-use cmb_line::{Mode, Request};
+use cmb_cli_line::{Mode, Request};
+use cmb_design_model::plain::MOST_CELLS;
+use cmb_design_model::{Design, DesignFault};
+use cmb_faults::Fault;
 
 // How many clusters a mode asks for.
 fn clusters_in(mode: Mode) -> u32

@@ -1,23 +1,23 @@
 //! How the text that is asked for is made.
 
 ghost use Rattle.std.specs.Prelude.{◌≡◌, ℕ, ◌≤◌, List, None, true, false, length, IfOk, IfErr};
-ghost use Rattle.cmb_design.specs.Checks.{first_fault};
-ghost use Rattle.cmb_design.specs.Exact.{nets_of};
+ghost use Rattle.cmb_design_model.specs.Checks.{first_fault};
+ghost use Rattle.cmb_design_model.specs.Exact.{nets_of};
 ghost use Rattle.cmb_dump.specs.Excerpts.{AreAmong};
-ghost use Rattle.cmb_inout.specs.Sources.{input_limit};
-ghost use Rattle.cmb_line.specs.declared.choice.Choice.TheVariants.{All};
+ghost use Rattle.cmb_io.specs.Sources.{input_limit};
+ghost use Rattle.cmb_cli_line.specs.declared.choice.Choice.TheVariants.{All};
 ghost use Rattle.cmb_sim.specs.Inner.Plans.{IsByTable, IsPlan, IsWayTo, Streams};
 ghost use Rattle.cmb_sim.specs.Simulation.{CanBeStopped, CanRun, IsRefused, IsStreamed, mode_checks};
-ghost use Rattle.cmb_vcd.specs.Chosen.{vcd_of};
-ghost use Rattle.cmb_vcd.specs.Vcd.{vcd};
+ghost use Rattle.cmb_run_text.specs.Chosen.{vcd_of};
+ghost use Rattle.cmb_run_text.specs.Vcd.{vcd};
 
 use crate::modes::{check_mode, threads_in};
 use crate::tuning::{partition_that_pays, workers_pay};
-use cmb_design::Design;
-use cmb_inout::Fault;
+use cmb_cli_line::{Choice, Mode, Request};
+use cmb_design_model::Design;
+use cmb_faults::Fault;
+use cmb_graph_partition::Partition;
 use cmb_inputs::chosen_nets;
-use cmb_line::{Choice, Mode, Request};
-use cmb_partition::Partition;
 use std::alloc::{AllocError, Global};
 use std::thread::Threads;
 

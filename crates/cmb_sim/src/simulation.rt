@@ -1,7 +1,7 @@
 //! A whole simulation.
 
 ghost use Rattle.std.specs.Prelude.{◌≡◌, ◌-◌, ◌^◌, ◌<◌, ◌≤◌, [], length, None};
-ghost use Rattle.cmb_inout.specs.Sources.{input_limit};
+ghost use Rattle.cmb_io.specs.Sources.{input_limit};
 ghost use Rattle.cmb_inputs.specs.Inputs.{CanBeInputs, HaveRoom, in_order, listed, read_from, texts_in};
 ghost use Rattle.cmb_inputs.specs.Outputs.{written_to};
 ghost use Rattle.cmb_sim.specs.Inner.Designs.{IsRunOf};
@@ -9,18 +9,19 @@ ghost use Rattle.cmb_sim.specs.Simulation.{IsOutcome, IsRun, of_all};
 
 use crate::plan::plan_of;
 use crate::running::write_plan;
-use cmb_design::{Design, Settings};
-use cmb_inout::{Fault, FromBytes, Report, Source};
+use cmb_cli_line::{Choice, Mode, Pick, Request};
+use cmb_design_model::{Design, Settings};
+use cmb_faults::{Fault, Report};
 use cmb_inputs::{InputTexts, read_texts, spelled_design};
-use cmb_line::{Choice, Mode, Pick, Request};
-use cmb_vcd::Sink;
+use cmb_io::{FromBytes, Sink, Source};
 use std::alloc::Global;
 use std::sync::Wait;
 use std::thread::Threads;
 
-/// Reads a netlist, the tables of delays, stimuli and clocks, and writes the waveforms of all nets below the horizon.
+/// Reads a netlist, the tables of delays, stimuli, clocks and first levels, and writes the waveforms of all nets below
+/// the horizon.
 ///
-/// The four inputs are read whole, in order, before anything else: 60 where one has more than
+/// The five inputs, numbered 1 to 4 and 6, are read whole, in order, before anything else: 60 where one has more than
 /// 16,777,216 bytes, 61 where a read of it failed. Then come the faults of the netlist (1 to 8), of the
 /// tables and the design (20 to 37) and of the mode (33, 40, 54). The text is written once the run is complete, in mode
 /// free while it runs: 62 where a write failed. `Memory` (70) comes where memory or a worker's thread was refused, in
@@ -31,6 +32,7 @@ pub fn simulate<
     D: Source,
     S: Source,
     C: Source,
+    I: Source,
     O: Sink,
 >(
     rt: &R,
@@ -38,16 +40,18 @@ pub fn simulate<
     delays: &mut D,
     stimuli: &mut S,
     clocks: &mut C,
+    initial: &mut I,
     settings: Settings,
     mode: Mode,
     out: &mut O,
 ) -> Result<Report, Fault>
     requires sources { HaveRoom (B.failures bench.old) (D.failures delays.old)
-        (S.failures stimuli.old) (C.failures clocks.old) }
+        (S.failures stimuli.old) (C.failures clocks.old) (I.failures initial.old) }
     requires out { O.failures out.old < 2 ^ 64 - 1 }
     ensures { IsOutcome (of_all settings mode) (in_order (read_from B.Source 1 bench.old bench.new)
         (read_from D.Source 2 delays.old delays.new) (read_from S.Source 3 stimuli.old stimuli.new)
-        (read_from C.Source 4 clocks.old clocks.new) []) (written_to O.Sink out.old out.new) result }
+        (read_from C.Source 4 clocks.old clocks.new) (read_from I.Source 6 initial.old initial.new) [])
+        (written_to O.Sink out.old out.new) result }
 {
     let list = &mut FromBytes::new(&[]);
     let request = Request {
@@ -56,7 +60,9 @@ pub fn simulate<
         threads: None,
         choice: Choice::All,
     };
-    simulate_chosen(rt, bench, delays, stimuli, clocks, list, request, out)
+    simulate_chosen(
+        rt, bench, delays, stimuli, clocks, initial, list, request, out,
+    )
 }
 
 // Simulates a design, and writes the waveforms that are asked for, by the text of the list that names nets.
@@ -104,7 +110,7 @@ fn simulate_texts<R: AllocGlobal + Threads + Wait + Sync, O: Sink>(
 /// the code of its place among them. Only nets on which a chosen one depends are simulated; but mode plain fills its
 /// table for all nets.
 ///
-/// Where a list names the nets, it is input 5, and read whole after the four others; else no byte of it is read. A list
+/// Where a list names the nets, it is input 5, and read whole after the five others; else no byte of it is read. A list
 /// has the names of nets, one a line; blanks count as between the words of a netlist, and `#` begins a comment. A net
 /// that is named twice counts once. 38 comes where what stands on a line of the list is no net's name, after the faults
 /// of the netlist, the tables and the design and before those of the mode. Where not all nets are chosen, the text is
@@ -115,6 +121,7 @@ pub fn simulate_chosen<
     D: Source,
     S: Source,
     C: Source,
+    I: Source,
     L: Source,
     O: Sink,
 >(
@@ -123,22 +130,26 @@ pub fn simulate_chosen<
     delays: &mut D,
     stimuli: &mut S,
     clocks: &mut C,
+    initial: &mut I,
     list: &mut L,
     request: Request,
     out: &mut O,
 ) -> Result<Report, Fault>
     requires sources { HaveRoom (B.failures bench.old) (D.failures delays.old)
-        (S.failures stimuli.old) (C.failures clocks.old) }
+        (S.failures stimuli.old) (C.failures clocks.old) (I.failures initial.old) }
     requires list { L.failures list.old < 2 ^ 64 - 1 }
     requires out { O.failures out.old < 2 ^ 64 - 1 }
     ensures outcome { IsOutcome request (in_order (read_from B.Source 1 bench.old bench.new)
         (read_from D.Source 2 delays.old delays.new) (read_from S.Source 3 stimuli.old stimuli.new)
-        (read_from C.Source 4 clocks.old clocks.new) (listed request.choice (read_from L.Source 5 list.old list.new)))
+        (read_from C.Source 4 clocks.old clocks.new) (read_from I.Source 6 initial.old initial.new)
+        (listed request.choice (read_from L.Source 5 list.old list.new)))
         (written_to O.Sink out.old out.new) result }
     ensures unread { (request.choice ≡ Choice.Only Pick.Listed → ⊥) → list.new ≡ list.old }
 {
     let alloc = rt.alloc();
     let choice = request.choice;
-    let texts = read_texts(alloc, choice, 5, bench, delays, stimuli, clocks, list)?;
+    let texts = read_texts(
+        alloc, choice, 5, bench, delays, stimuli, clocks, initial, list,
+    )?;
     simulate_texts(rt, alloc, &texts, request, out)
 }

@@ -1,12 +1,12 @@
 //! The thresholds by which a run is planned: each is an estimate, and none changes a text.
 
 ghost use Rattle.std.specs.Prelude.{◌≡◌, ◌≤◌, true, length, All, IfOk, IfSome};
-ghost use Rattle.cmb_design.specs.Exact.{nets_of};
-ghost use Rattle.cmb_partition.specs.Partitions.{IsPartition};
+ghost use Rattle.cmb_design_model.specs.Exact.{nets_of};
+ghost use Rattle.cmb_graph_partition.specs.Partitions.{IsPartition};
 
-use cmb_design::Design;
+use cmb_design_model::Design;
+use cmb_graph_partition::{Partition, Structure, load, partition, structure_of, total};
 use cmb_netlist::Driver;
-use cmb_partition::{Partition, Structure, load, partition, structure_of, total};
 use cmb_shares::costs_of;
 use std::alloc::{AllocError, Global};
 use std::thread;

@@ -2,7 +2,7 @@
 use Rattle.std.proofs.Common.{◌≡◌, ◌∙◌, ℕ, suc, ◌-◌, ◌<◌, ◌≤◌, List, Vec, Global, [], ◌∷◌, ◌++◌, ◌⊎◌, inl, inr, length, get_or, take, append_assoc, ap, sym, arith}
 use Rattle.std.proofs.lemmas.Bool.{cases_eq}
 use Rattle.std.proofs.lemmas.List.{get_or-take, get_or_append_left, get_or_push, length-take-le, length_push}
-use Rattle.cmb_design.specs.Design.{Design}
+use Rattle.cmb_design_model.specs.Design.{Design}
 use Rattle.cmb_words.specs.declared.changed.Changed.{Changed}
 use Rattle.cmb_team.specs.Inner.Batches.{AreOf, Batch, AreIn, clock_at}
 

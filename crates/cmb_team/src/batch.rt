@@ -3,7 +3,7 @@
 ghost use Rattle.std.specs.Prelude.{◌≡◌, ℕ, suc, ◌+◌, ◌-◌, ◌<◌, ◌≤◌, [], length, IfOk, OnOk};
 ghost use Rattle.cmb_team.specs.Inner.Batches.{AreIn, clock_at, last_clock};
 
-use cmb_design::Design;
+use cmb_design_model::Design;
 use cmb_engine::Engine;
 use cmb_words::Changed;
 use std::alloc::{AllocError, Global};

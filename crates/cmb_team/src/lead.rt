@@ -1,12 +1,12 @@
 //! The calling thread's part of a run: it takes the texts of batches, one behind the other.
 
 ghost use Rattle.std.specs.Prelude.{◌≡◌, ◌<◌, IfOk, OnOk};
-ghost use Rattle.cmb_stream.specs.Parts.{IsAtEndOf};
+ghost use Rattle.cmb_dump_stream.specs.Parts.{IsAtEndOf};
 
-use crate::parcel::{Outlet, Told};
+use crate::job::{MadeText, Outlet};
 use crate::terms::Terms;
 use crate::texts::Texts;
-use cmb_stream::{Kept, TextMaker};
+use cmb_dump_stream::{TextBuffer, TextMaker};
 use std::alloc::AllocError;
 use std::marker::Model;
 use std::sync::Wait;
@@ -22,7 +22,7 @@ pub(crate) struct Lead<'a, T: Terms, R> {
 }
 
 impl<'a, T: Terms, R> Model for Lead<'a, T, R> {
-    ghost use Rattle.cmb_stream.specs.Parts.{Made};
+    ghost use Rattle.cmb_dump_stream.specs.Parts.{Made};
 
     ghost Value = { Made };
 
@@ -49,14 +49,14 @@ impl<'a, T: Terms, R: Wait> Lead<'a, T, R> {
     }
 
     // Takes the text of the next batch, which comes behind what is kept, and gives its room back.
-    fn go_on(&mut self, kept: &mut Kept<'_>) -> Result<(), AllocError>
+    fn go_on(&mut self, kept: &mut TextBuffer<'_>) -> Result<(), AllocError>
         requires { IsAtEndOf kept.old self.old }
         ensures design { self.new.design ≡ self.old.design }
         ensures here { OnOk result (IsAtEndOf kept.new self.new) }
         ensures given { OnOk result (kept.new.given ≡ kept.old.given) }
         ensures later { OnOk result (kept.old.clock < kept.new.clock) }
     {
-        let Told { parcel, .. } = self.texts.next(self.rt)?;
+        let MadeText { parcel, .. } = self.texts.next(self.rt)?;
         let batch = &parcel.batch;
         if batch.clock(0) != kept.clock() {
             drop(parcel);
@@ -76,7 +76,7 @@ impl<'a, T: Terms, R: Wait> TextMaker for Lead<'a, T, R> {
     ghost made = { λ lead. lead };
 
     // Goes on by a batch.
-    fn step(mut self, kept: &mut Kept<'_>) -> Result<Self, AllocError> {
+    fn step(mut self, kept: &mut TextBuffer<'_>) -> Result<Self, AllocError> {
         self.go_on(kept).and(Ok(self))
     }
 }

@@ -3,12 +3,12 @@
 #![tactic(auto)]
 
 mod batch;
-mod desk;
+mod formatter;
+mod job;
 mod lead;
 mod maker;
 mod opening;
-mod parcel;
-mod teller;
+mod ports;
 mod terms;
 pub mod text;
 mod texts;

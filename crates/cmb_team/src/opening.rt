@@ -1,46 +1,46 @@
-//! How a run begins: a maker, tellers, and rings between them.
+//! How a run begins: a maker, formatters, and rings between them.
 
 ghost use Rattle.std.specs.Prelude.{◌≡◌};
 
-use crate::desk::Desk;
+use crate::formatter::Formatter;
+use crate::job::{Inlet, Outlet, TextInlet};
 use crate::lead::Lead;
 use crate::maker::Maker;
-use crate::parcel::{Inlet, Outlet, TextInlet};
-use crate::teller::Teller;
+use crate::ports::FormatterPorts;
 use crate::terms::Terms;
 use crate::texts::{Others, Texts};
 use crate::ways::Ways;
-use cmb_design::Design;
+use cmb_design_model::Design;
 use cmb_dump::Dump;
 use cmb_engine::Engine;
 use rtrb::RingBuffer;
 use std::alloc::{AllocError, Global};
 use std::sync::Wait;
 
-// How many batches a ring holds: a teller that is late for a while isn't waited for. An estimate.
+// How many batches a ring holds: a formatter that is late for a while isn't waited for. An estimate.
 const ROOM: usize = 2;
 
 // How many batches may be on their way beside those that are told: some that are made, and some that are read. An
 // estimate.
 const MORE: usize = 4;
 
-/// What a run begins with: a maker and desks of tellers, for a thread each, and the calling thread's part.
+/// What a run begins with: a maker and the ports of each formatter, for a thread each, and the calling thread's part.
 #[derive(Drop)]
-pub(crate) struct Run<'a, T: Terms, R> {
+pub(crate) struct Opened<'a, T: Terms, R> {
     pub maker: Maker<'a, T>,
-    pub desks: Vec<Desk<'a, T>>,
+    pub desks: Vec<FormatterPorts<'a, T>>,
     pub lead: Lead<'a, T, R>,
 }
 
-/// Desks of tellers, and the ends of rings.
+/// The ports of formatters, and the ends of rings.
 #[derive(Drop)]
 pub(crate) struct Rings<'a, T: Terms> {
-    desks: Vec<Desk<'a, T>>,
-    /// To each teller.
+    desks: Vec<FormatterPorts<'a, T>>,
+    /// To each formatter.
     outlets: Vec<Outlet<'a, T>>,
-    /// To the calling thread, where it is the one teller.
+    /// To the calling thread, where it is the one formatter.
     own: Option<Inlet<'a, T>>,
-    /// From each desk.
+    /// From each formatter.
     texts: Vec<TextInlet<'a, T>>,
     /// On which batches go back to the maker, and come there.
     back: Outlet<'a, T>,
@@ -49,7 +49,7 @@ pub(crate) struct Rings<'a, T: Terms> {
     most: usize,
 }
 
-// One more ring to a teller.
+// One more ring to a formatter.
 fn ring_to<'a, T: Terms>(
     alloc: Global,
     outlets: &mut Vec<Outlet<'a, T>>,
@@ -60,18 +60,19 @@ fn ring_to<'a, T: Terms>(
 }
 
 impl<'a, T: Terms> Rings<'a, T> {
-    // One more desk between two rings.
+    // One more formatter between two rings.
     fn add_desk(&mut self, alloc: Global, design: &'a Design) -> Result<(), AllocError>
         requires { design.now ≡ T.design }
     {
         let inlet = ring_to(alloc, &mut self.outlets)?;
         let (outlet, text) = RingBuffer::new(alloc, ROOM)?;
         self.texts.push(text)?;
-        self.desks.push(Desk::new(alloc, design, inlet, outlet))?;
+        self.desks
+            .push(FormatterPorts::new(alloc, design, inlet, outlet))?;
         Ok(())
     }
 
-    // So many desks, each between two rings; where there are none, a ring to the calling thread.
+    // So many formatters, each between two rings; where there are none, a ring to the calling thread.
     fn add_desks(
         &mut self,
         alloc: Global,
@@ -90,8 +91,8 @@ impl<'a, T: Terms> Rings<'a, T> {
     }
 }
 
-/// So many desks and the rings between them and the maker and the calling thread, which is the one teller where there
-/// are no desks. Errors: memory was refused.
+/// The ports of so many formatters, and the rings between them, the maker and the calling thread. Where there are none,
+/// the calling thread is the one formatter. Errors: memory was refused.
 pub(crate) fn open_rings<'a, T: Terms>(
     alloc: Global,
     design: &'a Design,
@@ -121,7 +122,7 @@ pub(crate) fn open_run<'a, T: Terms, R: Wait>(
     engine: Engine<'a>,
     dump: Dump<'a>,
     rings: Rings<'a, T>,
-) -> Run<'a, T, R>
+) -> Opened<'a, T, R>
     requires named { design.now ≡ T.design }
     requires engine { engine.design ≡ T.design }
     requires dump { dump.design ≡ T.design }
@@ -140,7 +141,7 @@ pub(crate) fn open_run<'a, T: Terms, R: Wait>(
     let texts = match own {
         Some(inlet) => {
             drop(texts);
-            Texts::Own(Teller::new(dump, inlet))
+            Texts::Own(Formatter::new(dump, inlet))
         }
         None => {
             drop(dump);
@@ -149,7 +150,7 @@ pub(crate) fn open_run<'a, T: Terms, R: Wait>(
     };
     let clock = engine.clock();
     let ways = Ways::new(alloc, design, most, spent, outlets);
-    Run {
+    Opened {
         maker: Maker::new(engine, design.horizon(), ways),
         desks,
         lead: Lead::new(rt, clock, texts, back),

@@ -1,22 +1,22 @@
 //! The whole text of a design, by one thread as far as that pays and then by a team.
 
 ghost use Rattle.std.specs.Prelude.{◌≡◌, ◌-◌, ◌^◌, ◌<◌, ◌≤◌, IfOk};
-ghost use Rattle.cmb_stream.specs.Parts.{IsAtEndOf, IsStream};
-ghost use Rattle.cmb_stream.specs.Streams.{IsWrittenTo};
+ghost use Rattle.cmb_dump_stream.specs.Parts.{IsAtEndOf, IsStream};
+ghost use Rattle.cmb_dump_stream.specs.Streams.{IsWrittenTo};
 
-use crate::opening::{Run, open_rings, open_run};
+use crate::opening::{Opened, open_rings, open_run};
 use crate::terms::Terms;
 use crate::threads::start;
-use cmb_design::Design;
-use cmb_stream::{Kept, Stream, StreamFault, TextMaker, write_rest, write_stream};
-use cmb_vcd::Sink;
+use cmb_design_model::Design;
+use cmb_dump_stream::{Stream, TextBuffer, TextMaker, write_rest, write_stream};
+use cmb_io::{Sink, WriteFault};
 use std::alloc::{AllocError, Global};
 use std::marker::Brand;
 use std::sync::Wait;
 use std::thread;
 use std::thread::Threads;
 
-// The most tellers: more are never behind the engine. An estimate.
+// The most formatters: more are never behind the engine. An estimate.
 const MOST: u32 = 6;
 
 // So many bytes of the text are made in one thread before it is asked whether more of them pay.
@@ -29,14 +29,14 @@ const LEAST: u64 = 4_194_304;
 const DENSE: u64 = 64;
 
 // Whether more than one thread pays for the rest of a text, where so many bytes were told of the ticks behind tick 0.
-fn pays(told: usize, kept: &Kept<'_>, design: &Design) -> bool {
+fn pays(told: usize, kept: &TextBuffer<'_>, design: &Design) -> bool {
     let dense = told as u64 / u64::from(kept.clock());
     let left = design.horizon().saturating_sub(kept.clock());
     dense >= DENSE && dense.saturating_mul(u64::from(left)) >= LEAST
 }
 
 // The first part of a text, in one thread, who goes on with it, and whether more than one thread pays for that.
-fn begin(alloc: Global, design: &Design) -> Result<(Stream<'_>, Kept<'_>, bool), AllocError>
+fn begin(alloc: Global, design: &Design) -> Result<(Stream<'_>, TextBuffer<'_>, bool), AllocError>
     ensures here { IfOk result (λ begun. IsAtEndOf begun.1 begun.0) }
     ensures design { IfOk result (λ begun. begun.1.design ≡ design.entry.now) }
     ensures given { IfOk result (λ begun. begun.1.given ≡ 0) }
@@ -54,7 +54,7 @@ fn begin(alloc: Global, design: &Design) -> Result<(Stream<'_>, Kept<'_>, bool),
     Ok((stream, kept, pays))
 }
 
-// How many tellers there are beside the calling thread, where one thread has the engine.
+// How many formatters there are beside the calling thread, where one thread has the engine.
 fn tellers_of(threads: u32) -> usize {
     threads.saturating_sub(2).min(MOST) as usize
 }
@@ -65,10 +65,10 @@ fn write_named<'a, T: Terms + Send + Sync, R: Threads + Wait + Sync, S: Sink>(
     alloc: Global,
     design: &'a Design,
     stream: Stream<'a>,
-    kept: Kept<'a>,
+    kept: TextBuffer<'a>,
     threads: u32,
     sink: &mut S,
-) -> Result<u64, StreamFault>
+) -> Result<u64, WriteFault>
     requires room { S.failures sink.old < 2 ^ 64 - 1 }
     requires named { design.now ≡ T.design }
     requires here { IsAtEndOf kept stream }
@@ -78,14 +78,14 @@ fn write_named<'a, T: Terms + Send + Sync, R: Threads + Wait + Sync, S: Sink>(
 {
     let Ok(rings) = open_rings::<T>(alloc, design, tellers_of(threads)) else {
         drop((stream, kept));
-        return Err(StreamFault::Memory);
+        return Err(WriteFault::Memory);
     };
     let (engine, dump) = stream.into_parts();
-    let Run { maker, desks, lead } = open_run(rt, alloc, design, engine, dump, rings);
+    let Opened { maker, desks, lead } = open_run(rt, alloc, design, engine, dump, rings);
     let (back, answer) = thread::scope(
         thread::scope_env(),
         rt,
-        move |scope| -> (&mut S, Result<u64, StreamFault>)
+        move |scope| -> (&mut S, Result<u64, WriteFault>)
             requires room { S.failures sink.now < 2 ^ 64 - 1 }
             requires here { IsAtEndOf kept lead }
             requires all { kept.given ≡ 0 }
@@ -112,7 +112,7 @@ pub fn write_team<R: Threads + Wait + Sync, S: Sink>(
     design: &Design,
     threads: u32,
     sink: &mut S,
-) -> Result<u64, StreamFault>
+) -> Result<u64, WriteFault>
     requires { S.failures sink.old < 2 ^ 64 - 1 }
     ensures { IsWrittenTo S.Sink design.now sink.old sink.new result }
 {

@@ -1,14 +1,14 @@
 //! Where the calling thread has the texts of batches from.
 
-use crate::parcel::{TextInlet, Told};
-use crate::teller::Teller;
+use crate::formatter::Formatter;
+use crate::job::{MadeText, TextInlet};
 use crate::terms::Terms;
 use crate::ways::next_turn;
-use cmb_idle::taken;
+use cmb_waiting::taken;
 use std::alloc::AllocError;
 use std::sync::Wait;
 
-/// Other tellers, one of each of whose texts comes in turn.
+/// Other formatters, one of each of whose texts comes in turn.
 #[derive(Drop)]
 pub(crate) struct Others<'a, T: Terms> {
     inlets: Vec<TextInlet<'a, T>>,
@@ -19,7 +19,7 @@ pub(crate) struct Others<'a, T: Terms> {
 #[derive(Drop)]
 pub(crate) enum Texts<'a, T: Terms> {
     /// The calling thread itself.
-    Own(Teller<'a, T>),
+    Own(Formatter<'a, T>),
     /// Others in threads of their own.
     Others(Others<'a, T>),
 }
@@ -32,8 +32,8 @@ impl<'a, T: Terms> Others<'a, T> {
 }
 
 impl<'a, T: Terms> Texts<'a, T> {
-    /// The next batch with its text. Errors: nobody hands it on, or memory was refused.
-    pub(crate) fn next<R: Wait>(&mut self, rt: &R) -> Result<Told<'a, T>, AllocError> {
+    /// The next batch with its text. Errors: nobody passes it on, or memory was refused.
+    pub(crate) fn next<R: Wait>(&mut self, rt: &R) -> Result<MadeText<'a, T>, AllocError> {
         match self {
             Texts::Own(teller) => teller.next(rt),
             Texts::Others(others) => {

@@ -1,18 +1,18 @@
-//! The threads of a run: one for the maker, and one for each desk.
+//! The threads of a run: one for the maker, and one for each formatter.
 
-use crate::desk::Desk;
 use crate::maker::Maker;
+use crate::ports::FormatterPorts;
 use crate::terms::Terms;
 use std::sync::Wait;
 use std::thread::{Scope, Threads};
 
-/// Runs a maker and a teller at each desk in a thread of its own, for whose end the scope waits. Where one is refused
-/// nobody makes what it was to make, so the run ends.
+/// Runs a maker and each formatter in a thread of its own, for whose end the scope waits. Where one is refused nobody
+/// makes what it was to make, so the run ends.
 pub(crate) fn start<'s, 'a: 's, E, T: Terms + Send + Sync + 's, R: Threads + Wait + Sync>(
     rt: &'s R,
     scope: &Scope<'s, E>,
     maker: Maker<'a, T>,
-    desks: Vec<Desk<'a, T>>,
+    desks: Vec<FormatterPorts<'a, T>>,
 ) {
     drop(scope.spawn(move || maker.run(rt)));
     for desk in desks {

@@ -3,15 +3,15 @@
 ghost use Rattle.std.specs.Prelude.{◌≡◌};
 
 use crate::batch::Batch;
-use crate::parcel::{Inlet, Outlet, Parcel};
+use crate::job::{Inlet, Job, Outlet};
 use crate::terms::Terms;
-use cmb_design::Design;
-use cmb_idle::{handed, taken};
+use cmb_design_model::Design;
+use cmb_waiting::{handed, taken};
 use std::alloc::Global;
 use std::sync::Wait;
 
 /// Where batches are taken from to be made: first there are so many new ones, then those come back whose text was
-/// taken. Each goes to the next teller.
+/// taken. Each goes to the next formatter.
 #[derive(Drop)]
 pub struct Ways<'a, T: Terms> {
     alloc: Global,
@@ -32,7 +32,7 @@ pub(crate) fn next_turn(turn: &mut usize, count: usize) -> usize {
 }
 
 impl<'a, T: Terms> Ways<'a, T> {
-    /// So many new batches, those that come back, and a ring to each teller.
+    /// So many new batches, those that come back, and a ring to each formatter.
     pub(crate) fn new(
         alloc: Global,
         design: &'a Design,
@@ -53,17 +53,17 @@ impl<'a, T: Terms> Ways<'a, T> {
     }
 
     /// A batch to be made anew. There is none once nobody gives any back.
-    pub(crate) fn take<R: Wait>(&mut self, rt: &R) -> Option<Parcel<'a, T>> {
+    pub(crate) fn take<R: Wait>(&mut self, rt: &R) -> Option<Job<'a, T>> {
         if self.fresh > 0 {
             self.fresh -= 1;
             let batch = Batch::new(self.alloc, self.design);
-            return Some(Parcel::new(batch, Vec::new(self.alloc)));
+            return Some(Job::new(batch, Vec::new(self.alloc)));
         }
         taken(rt, &mut self.back)
     }
 
-    /// Hands a batch to the next teller. Says whether anybody is there to take it.
-    pub(crate) fn hand<R: Wait>(&mut self, rt: &R, parcel: Parcel<'a, T>) -> bool {
+    /// Hands a batch to the next formatter. Says whether anybody is there to take it.
+    pub(crate) fn hand<R: Wait>(&mut self, rt: &R, parcel: Job<'a, T>) -> bool {
         let turn = next_turn(&mut self.turn, self.outlets.len());
         match self.outlets.get_mut(turn) {
             Some(outlet) => handed(rt, outlet, parcel),

@@ -29,7 +29,7 @@ pub fn counts_add()
         → count_below level to ≡ count_below level from + length (changes_between level from to) }
 {}
 
-/// The changes of a span are the one trace of it that tells the level at each of its ticks.
+/// The changes of a span are the one trace of it that has the level at each of its ticks.
 pub fn changes_are_one_list()
     ensures trace { (level : ℕ → Level) (from to : ℕ) → from ≤ to
         → IsTrace (level_before level from) from (changes_between level from to) to }
@@ -41,7 +41,7 @@ pub fn changes_are_one_list()
 
 /// An exact wave takes each exact piece that goes on from it, never with a clash, and is exact after
 /// it; so it is after a right promise, and after it forgot. What is cut of it is exact, what it
-/// promises is right, and it tells the waveform's levels.
+/// promises is right, and it has the waveform's levels.
 pub fn exact_waves_stay_exact()
     ensures takes { (level : ℕ → Level) (horizon : ℕ) (wave : Wave) (piece : Piece) → IsExactWave level horizon wave
         → IsExactPiece level horizon piece → piece.from ≤ wave.clock → wave.clock < piece.to
@@ -62,7 +62,7 @@ pub fn exact_waves_stay_exact()
 {}
 
 /// A wave that forgot takes and refuses the pieces that it would have, and then is what it would have
-/// been, less what it forgot; so for promises. From its base on it tells the same levels and is cut
+/// been, less what it forgot; so for promises. From its base on it has the same levels and is cut
 /// into the same pieces.
 pub fn forgetting_changes_no_answer()
     ensures takes { (wave : Wave) (piece : Piece) (upto : ℕ) → IsTrace wave.kept wave.base wave.changes wave.clock

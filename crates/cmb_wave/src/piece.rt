@@ -49,7 +49,7 @@ impl PieceFault {
 /// The changes of a net at the ticks from `from` to below `to`, and the word that it has no others there.
 ///
 /// The span isn't empty, the ticks rise strictly in it, and each change is to another level than
-/// the one before it. The level before the first change isn't told.
+/// the one before it. The level before the first change isn't part of it.
 #[derive(Debug, Drop)]
 pub struct Piece {
     net: u32,

@@ -4,7 +4,7 @@ use Rattle.cmb_wave.specs.declared.level.Level.{Level}
 use Rattle.cmb_wave.specs.declared.level.Level.TheVariants.{Zero, One, X}
 use Rattle.cmb_netlist.specs.declared.netlist.Kind.{Kind}
 use Rattle.cmb_netlist.specs.declared.netlist.Kind.TheVariants.{And, Nand, Or, Nor, Xor, Xnor, Not, Buff}
-use Rattle.cmb_design.specs.Gate.{gate, conjunction, disjunction, parity, inverse_of}
+use Rattle.cmb_design_model.specs.Gate.{gate, conjunction, disjunction, parity, inverse_of}
 use Rattle.cmb_words.specs.Joint.{joint}
 use Rattle.cmb_words.specs.Inner.Masked.{inverse_if, inverts_operands, ignores_second, is_parity, inverts_result}
 use Rattle.std.specs.Int.{bit_at}

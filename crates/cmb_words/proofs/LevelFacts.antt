@@ -8,7 +8,7 @@ use Rattle.std.specs.Int.{bit_at}
 use Rattle.std.proofs.lemmas.Nat.Bits.{bit_at_and, bit_at_or, bit_at_xor, bit_at_ones, bit_at-zero, shr_and_one, bit_at-lt}
 use Rattle.cmb_wave.specs.declared.level.Level.TheVariants.{Zero, One, X}
 use Rattle.cmb_wave.specs.Waveform.{same_level}
-use Rattle.cmb_design.specs.Gate.{conjunction, disjunction, parity, inverse_of}
+use Rattle.cmb_design_model.specs.Gate.{conjunction, disjunction, parity, inverse_of}
 use Rattle.cmb_words.specs.Inner.Masked.{inverse_if}
 use Rattle.cmb_words.specs.Bits.{level_of_bits, level_in, is_set_at}
 use Rattle.cmb_words.proofs.BitFacts.{shl_high, shl_low, masked_below, masked_from, none_from, all_from, keeps, takes}

@@ -6,3 +6,4 @@ pub mod PeriodFacts
 pub mod Rising
 pub mod SpanFacts
 pub mod StillFacts
+pub mod TellsFacts

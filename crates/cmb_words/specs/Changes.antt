@@ -1,9 +1,10 @@
 -- What the words of the nets that changed in a window tell of a waveform, given as the level of each net at each tick.
 use Rattle.std.specs.Prelude.{◌≡◌, ℕ, suc, ◌+◌, ◌-◌, ◌<◌, ◌≤◌, Bool, false, ◌==◌, List, [], ◌∷◌}
 use Rattle.std.specs.List.{All, list_any}
-use Rattle.cmb_wave.specs.Waveform.{changes_between}
+use Rattle.cmb_wave.specs.Waveform.{changes_between, level_before}
 use Rattle.cmb_wave.specs.declared.level.Level.{Level}
 use Rattle.cmb_words.specs.declared.changed.Changed.{Changed}
+use Rattle.cmb_words.specs.declared.word.Word.{Word}
 use Rattle.cmb_words.specs.Word.{level_at_place}
 
 -- the numbers of the nets rise, from one on, and are below another
@@ -19,9 +20,14 @@ pub record IsWindow (count horizon from upto : ℕ) (changed : List Changed) : T
   pub within : upto ≤ horizon
   pub nets : RisesWithin 0 count changed
 
--- a net's word tells its levels at the ticks of [from, upto) and at the tick before them
-abbrev pub TellsNet : (ℕ → ℕ → Level) → ℕ → ℕ → Changed → Type 0
-TellsNet level from upto changed = (tick : ℕ) → from ≤ suc tick → tick < upto → level_at_place changed.word (tick + 64 - upto) ≡ level changed.net tick
+-- the levels of a word whose last tick is the one before `upto`
+abbrev pub levels_up_to : ℕ → Word → ℕ → Level
+levels_up_to upto word tick = level_at_place word (tick + 64 - upto)
+
+-- a net's word tells its changes at the ticks of [from, upto), and its level before them
+pub record TellsNet (level : ℕ → ℕ → Level) (from upto : ℕ) (changed : Changed) : Type 0 where
+  pub before : level_before (levels_up_to upto changed.word) from ≡ level_before (level changed.net) from
+  pub changes : changes_between (levels_up_to upto changed.word) from upto ≡ changes_between (level changed.net) from upto
 
 -- no change at the ticks of [from, upto)
 abbrev pub IsStill : (ℕ → Level) → ℕ → ℕ → Type 0

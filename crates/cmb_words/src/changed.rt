@@ -1,4 +1,4 @@
-//! What a window tells of a net.
+//! A net that changed in a window.
 
 use crate::word::Word;
 

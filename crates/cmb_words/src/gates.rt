@@ -2,7 +2,7 @@
 
 ghost use Rattle.std.specs.Prelude.{◌≡◌, ℕ, ◌<◌, List, [], ◌∷◌, ◌++◌, if◌then◌else◌};
 ghost use Rattle.cmb_wave.specs.declared.level.Level.{Level};
-ghost use Rattle.cmb_design.specs.Gate.{gate, conjunction, disjunction, parity, inverse_of};
+ghost use Rattle.cmb_design_model.specs.Gate.{gate, conjunction, disjunction, parity, inverse_of};
 ghost use Rattle.cmb_wave.specs.declared.level.Level.TheVariants.{One};
 ghost use Rattle.cmb_words.specs.Bits.{is_set_at, level_in};
 ghost use Rattle.cmb_words.specs.Joint.{joint};

@@ -2,12 +2,13 @@
 //! standard output.
 #![tactic(auto)]
 
-use cmb_command::{LineFault, read_line};
+use cmb_cli::{LineFault, read_line};
 use cmb_host::{
-    Times, Told, help, kept, no_words, open_tables, refuse, stats_of, status_of, tell, told_of,
+    Refusal, Times, help, kept, no_words, notes_of, on_terminal, open_tables, refuse, refuse_clock,
+    stats_of, status_of, tell, told_of,
 };
-use cmb_sim::{DesignFault, Done, Fault, FromReader, Line, Task, ToWriter, carry_out};
-use cmb_tell::{Given, Timed, Watch, Watched};
+use cmb_report::{Given, Piped, Timed, Watch, Watched};
+use cmb_sim::{Done, Fault, FromReader, Line, Task, ToWriter, carry_out};
 use std::env;
 use std::io::Write;
 use std::process::ExitCode;
@@ -21,15 +22,19 @@ fn told_at_end(
     given: &Given<'_>,
     done: Result<Done, Fault>,
     times: &Times,
-) -> Result<Done, Told> {
+    is_closed: bool,
+) -> Result<Done, Refusal> {
     match done {
         Ok(done) => {
-            if let Some(text) = stats_of(rt, given.line, &done, times) {
-                let _ = rt.stderr().write_all(text.as_bytes());
+            let stats = stats_of(rt, given.line, &done, times);
+            for text in [stats, notes_of(rt, given, &done)] {
+                if let Some(text) = text {
+                    let _ = rt.stderr().write_all(text.as_bytes());
+                }
             }
             Ok(done)
         }
-        Err(fault) => Err(told_of(rt, given, fault)),
+        Err(fault) => Err(told_of(rt, given, fault, is_closed)),
     }
 }
 
@@ -39,13 +44,14 @@ fn do_line<R: AllocGlobal + Threads + Wait + Sync>(
     rt: &HostRuntime,
     threads: &R,
     line: &Line,
-) -> Result<Done, Told> {
+) -> Result<Done, Refusal> {
     let tables = open_tables(rt, line)?;
     let mut bench = kept(rt, line, FromReader::new(rt.stdin()));
     let mut delays = kept(rt, line, tables.delays);
     let mut stimuli = kept(rt, line, tables.stimuli);
-    let mut clocks = Timed {
-        source: kept(rt, line, tables.clocks),
+    let mut clocks = kept(rt, line, tables.clocks);
+    let mut initial = Timed {
+        source: kept(rt, line, tables.initial),
         clock: rt,
         read: None,
     };
@@ -55,7 +61,7 @@ fn do_line<R: AllocGlobal + Threads + Wait + Sync>(
     };
     let mut list = kept(rt, line, last);
     let mut out = Watched {
-        sink: ToWriter::new(rt.stdout()),
+        sink: ToWriter::new(Piped::new(rt.stdout())),
         watch: Watch::new(rt.alloc(), rt, rt.stderr(), line),
     };
     let began = Instant::now(rt).ok();
@@ -66,6 +72,7 @@ fn do_line<R: AllocGlobal + Threads + Wait + Sync>(
         &mut delays,
         &mut stimuli,
         &mut clocks,
+        &mut initial,
         &mut list,
         &mut out,
     );
@@ -76,16 +83,22 @@ fn do_line<R: AllocGlobal + Threads + Wait + Sync>(
         bench: bench.given(),
         delays: delays.given(),
         stimuli: stimuli.given(),
-        clocks: clocks.source.given(),
+        clocks: clocks.given(),
+        initial: initial.source.given(),
         list: list.given(),
+        is_whole: bench.keeps
+            && delays.keeps
+            && stimuli.keeps
+            && clocks.keeps
+            && initial.source.keeps,
     };
     let times = Times {
         began,
-        read: clocks.read,
+        read: initial.read,
         tally: out.watch.tally,
         writing: out.watch.writing,
     };
-    told_at_end(rt, &given, done, &times)
+    told_at_end(rt, &given, done, &times, out.sink.writer.is_closed)
 }
 
 fn main(rt: HostRuntime) -> ExitCode {
@@ -97,11 +110,11 @@ fn main(rt: HostRuntime) -> ExitCode {
     let Ok(words) = args.collect::<Vec<String>>(rt.alloc()) else {
         return tell(&rt, &Fault::Memory);
     };
-    match read_line(rt.alloc(), words.as_slice()) {
+    match read_line(rt.alloc(), words.as_slice(), on_terminal(&rt)) {
         Ok(line) => status_of(&rt, &line, do_line(&rt, &rt, &line)),
         Err(LineFault::Help) => help(&rt, words.as_slice()),
         Err(LineFault::Wrong) => refuse(&rt, words.as_slice()),
-        Err(LineFault::Clock) => tell(&rt, &Fault::Design(DesignFault::Clock)),
+        Err(LineFault::Clock) => refuse_clock(&rt, words.as_slice()),
         Err(LineFault::Memory) => tell(&rt, &Fault::Memory),
     }
 }

@@ -1,14 +1,14 @@
 //! A circuit that threads work on, and the plain program's waves of it, with which everything is compared.
 
 ghost use Rattle.std.specs.Prelude.{◌≡◌, ◌≤◌, IfOk, length};
-ghost use Rattle.cmb_design.specs.Exact.{nets_of};
+ghost use Rattle.cmb_design_model.specs.Exact.{nets_of};
 
 use crate::trouble::Trouble;
 use cmb_bench::read_bench;
-use cmb_core::Clustering;
-use cmb_design::{Design, Settings, plain_waves};
+use cmb_core_cluster::Clustering;
+use cmb_design_model::{Design, Settings, plain_waves};
+use cmb_design_tables::{read_clocks, read_delays, read_initial, read_stimuli};
 use cmb_netlist::MAX_TEXT;
-use cmb_tables::{read_clocks, read_delays, read_stimuli};
 use cmb_wave::{Change, Level, Piece, Promise, Wave};
 use std::alloc::Global;
 
@@ -38,8 +38,10 @@ fn design_of(alloc: Global, netlist: &[u8], horizon: u32) -> Option<Design>
     let delays = read_delays(alloc, b"").ok()?;
     let stimuli = read_stimuli(alloc, b"").ok()?;
     let clocks = read_clocks(alloc, b"").ok()?;
+    let initial = read_initial(alloc, b"").ok()?;
     let netlist = read_bench(alloc, netlist).ok()?;
-    Design::new(alloc, netlist, delays, stimuli, clocks, settings(horizon)).ok()
+    let settings = settings(horizon);
+    Design::new(alloc, netlist, delays, stimuli, clocks, initial, settings).ok()
 }
 
 /// The same, or the trouble that it is none.

@@ -1,7 +1,7 @@
 //! The two ends of a link.
 
 ghost use Rattle.std.specs.Prelude.{◌≡◌, ◌≤◌, [], ◌∷◌, IfSome, IfErr};
-ghost use Rattle.cmb_design.specs.Exact.{IsExactIn};
+ghost use Rattle.cmb_design_model.specs.Exact.{IsExactIn};
 ghost use Rattle.cmb_links.specs.Links.{channel_clock};
 
 use cmb_links::{Full, Link, PutPass, TakePass};

@@ -1,7 +1,7 @@
 //! A cluster whose waves are exact: what it gives is exact and right, whatever comes in whatever order.
 
-use cmb_core::{Cluster, Clustering, DeliverFault, Stranger};
-use cmb_design::Design;
+use cmb_core_cluster::{Cluster, Clustering, DeliverFault, Stranger};
+use cmb_design_model::Design;
 use cmb_wave::{Heard, Piece, Promise};
 use std::alloc::{AllocError, Global};
 use std::marker::Model;
@@ -17,8 +17,8 @@ pub struct ExactCluster {
 }
 
 impl Model for ExactCluster {
-    ghost use Rattle.cmb_design.specs.Design.{Design};
-    ghost use Rattle.cmb_core.specs.Exactness.{IsExactCluster};
+    ghost use Rattle.cmb_design_model.specs.Design.{Design};
+    ghost use Rattle.cmb_core_cluster.specs.Exactness.{IsExactCluster};
 
     ghost Value = { Design };
 
@@ -29,7 +29,7 @@ impl Model for ExactCluster {
 
 impl ExactCluster {
     ghost use Rattle.std.specs.Prelude.{◌≡◌, ◌<◌, length, IfOk, IfSome};
-    ghost use Rattle.cmb_design.specs.Exact.{nets_of, IsExactIn, IsRightIn};
+    ghost use Rattle.cmb_design_model.specs.Exact.{nets_of, IsExactIn, IsRightIn};
 
     /// The cluster with this number, of which nothing is known yet.
     pub fn open(

@@ -10,7 +10,7 @@ use crate::circuit::Circuit;
 use crate::exact::ExactCluster;
 use crate::trouble::Trouble;
 use boards::{board_threads, board_words, closed_board};
-use cmb_core::Clustering;
+use cmb_core_cluster::Clustering;
 use links::{capacities, closed_link, full_link, link_threads};
 use std::alloc::Global;
 use std::sync::Wait;

@@ -1,7 +1,7 @@
 //! A seat at a board that checks whatever it finds.
 
 ghost use Rattle.std.specs.Prelude.{◌≡◌, true, IfOk};
-ghost use Rattle.cmb_design.specs.Exact.{IsRightIn};
+ghost use Rattle.cmb_design_model.specs.Exact.{IsRightIn};
 ghost use Rattle.cmb_links.specs.Seats.{driver, terms};
 ghost use Rattle.links_stress.specs.Seats.{at_first};
 

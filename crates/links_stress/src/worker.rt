@@ -9,7 +9,7 @@ use crate::ends::{In, Out};
 use crate::exact::ExactCluster;
 use crate::trouble::Trouble;
 use crate::watch::{Notes, Watch};
-use cmb_core::DeliverFault;
+use cmb_core_cluster::DeliverFault;
 use cmb_links::{PutPass, Seat, TakePass};
 use std::alloc::Global;
 use std::sync::Wait;

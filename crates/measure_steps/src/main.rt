@@ -16,12 +16,12 @@
 #![tactic(auto)]
 
 ghost use Rattle.std.specs.Prelude.{◌≡◌, ◌<◌, length};
-ghost use Rattle.cmb_design.specs.Exact.{nets_of};
+ghost use Rattle.cmb_design_model.specs.Exact.{nets_of};
 
 use cmb_bench::read_bench;
-use cmb_core::{Cluster, Clustering};
-use cmb_design::{Design, Settings};
-use cmb_tables::{read_clocks, read_delays, read_stimuli};
+use cmb_core_cluster::{Cluster, Clustering};
+use cmb_design_model::{Design, Settings};
+use cmb_design_tables::{read_clocks, read_delays, read_initial, read_stimuli};
 use cmb_wave::{Change, Level, Piece};
 use std::alloc::{AllocError, Global};
 use std::env;
@@ -101,13 +101,14 @@ fn design_of(alloc: Global, circuit: Circuit, horizon: u32) -> Option<Design> {
     let delays = read_delays(alloc, b"").ok()?;
     let stimuli = read_stimuli(alloc, circuit.stimuli.as_bytes()).ok()?;
     let clocks = read_clocks(alloc, b"").ok()?;
+    let initial = read_initial(alloc, b"").ok()?;
     let netlist = read_bench(alloc, circuit.netlist.as_bytes()).ok()?;
     let settings = Settings {
         horizon,
         clock: None,
         init: Level::X,
     };
-    Design::new(alloc, netlist, delays, stimuli, clocks, settings).ok()
+    Design::new(alloc, netlist, delays, stimuli, clocks, initial, settings).ok()
 }
 
 fn clustering_of(alloc: Global, circuit: Circuit, design: &Design) -> Option<Clustering> {

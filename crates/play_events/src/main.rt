@@ -7,12 +7,12 @@
 #![tactic(auto)]
 
 use cmb_bench::read_bench;
-use cmb_core::Clustering;
-use cmb_design::{Design, Settings};
-use cmb_protocol::{Event, PlayFault, Reply};
-use cmb_tables::{read_clocks, read_delays, read_stimuli};
+use cmb_core_cluster::Clustering;
+use cmb_core_protocol::{Event, PlayFault, Reply};
+use cmb_core_world::World;
+use cmb_design_model::{Design, Settings};
+use cmb_design_tables::{read_clocks, read_delays, read_initial, read_stimuli};
 use cmb_wave::{Heard, Level, Piece};
-use cmb_world::World;
 use std::alloc::{AllocError, Global};
 use std::io::{Read, Write};
 use std::process::ExitCode;
@@ -163,6 +163,7 @@ fn design_of(alloc: Global, case: Case<'_>) -> Option<Design> {
     let delays = read_delays(alloc, case.delays.as_bytes()).ok()?;
     let stimuli = read_stimuli(alloc, case.stimuli.as_bytes()).ok()?;
     let clocks = read_clocks(alloc, b"").ok()?;
+    let initial = read_initial(alloc, b"").ok()?;
     let netlist = read_bench(alloc, case.bench.as_bytes()).ok()?;
     Design::new(
         alloc,
@@ -170,6 +171,7 @@ fn design_of(alloc: Global, case: Case<'_>) -> Option<Design> {
         delays,
         stimuli,
         clocks,
+        initial,
         case.numbers.settings,
     )
     .ok()

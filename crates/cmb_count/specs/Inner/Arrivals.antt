@@ -2,10 +2,10 @@
 use Rattle.std.specs.Prelude.{◌≡◌, ℕ, ◌+◌, ◌*◌, ◌<◌, ◌≤◌, Bool, true, false, List, length, slice_index, slice_index_or, All, Contains, if◌then◌else◌}
 use Rattle.std.specs.List.Sorted.{IsNonDecreasingBy}
 use Rattle.cmb_netlist.specs.Netlist.{Netlist}
-use Rattle.cmb_design.specs.Design.{Design}
-use Rattle.cmb_design.specs.Timing.{delay}
-use Rattle.cmb_loops.specs.Loops.{AreLoops, AreStrongComponents}
-use Rattle.cmb_loops.specs.declared.steps.Steps.TheVariants as steps
+use Rattle.cmb_design_model.specs.Design.{Design}
+use Rattle.cmb_design_model.specs.Timing.{delay}
+use Rattle.cmb_graph.specs.Loops.{AreLoops, AreStrongComponents}
+use Rattle.cmb_graph.specs.declared.steps.Steps.TheVariants as steps
 use Rattle.cmb_count.specs.Paths.{Arrives, is_origin, launch, operands}
 use Rattle.cmb_count.specs.declared.arrivals.Arrival.{Arrival}
 use Rattle.cmb_count.specs.declared.arrivals.Arrival.TheVariants.{Never, At, Unbounded}

@@ -1,7 +1,7 @@
 -- The longest path, by the latest arrivals where paths end.
 use Rattle.std.specs.Prelude.{◌≡◌, ℕ, ◌<◌, ◌≤◌, Bool, true, length, All, Contains}
-use Rattle.cmb_design.specs.Design.{Design}
-use Rattle.cmb_design.specs.Timing.{clock_of}
+use Rattle.cmb_design_model.specs.Design.{Design}
+use Rattle.cmb_design_model.specs.Timing.{clock_of}
 use Rattle.cmb_count.specs.Clocks.{same_clock}
 use Rattle.cmb_count.specs.Inner.Arrivals.{AreArrivals, Covers, time_of}
 use Rattle.cmb_count.specs.Paths.{Settles}
@@ -47,8 +47,12 @@ pub record IsLongestSoFar (design : Design) (paths : Between) (arrivals : Arriva
 abbrev pub IsOutput : Between → Design → ℕ → Type 0
 IsOutput between.All design net = Contains design.netlist.outputs net
 IsOutput (between.Clocked clock) design net = ⊥
+IsOutput (between.InputsTo clock) design net = ⊥
+IsOutput (between.OthersTo clock) design net = ⊥
 
 -- a flip-flop at whose data paths may end
 abbrev pub is_sampled : Between → Design → ℕ → Bool
 is_sampled between.All design flop = true
 is_sampled (between.Clocked clock) design flop = same_clock clock (clock_of design flop)
+is_sampled (between.InputsTo clock) design flop = same_clock clock (clock_of design flop)
+is_sampled (between.OthersTo clock) design flop = same_clock clock (clock_of design flop)

@@ -1,7 +1,7 @@
 -- What a window adds to a text.
 use Rattle.std.specs.Prelude.{◌≡◌, ℕ, List, ◌++◌, length}
 use Rattle.cmb_wave.specs.declared.level.Level.{Level}
-use Rattle.cmb_vcd.specs.Vcd.{part_text}
+use Rattle.cmb_run_text.specs.Vcd.{part_text}
 use Rattle.cmb_words.specs.Changes.{Tells}
 use Rattle.cmb_words.specs.declared.changed.Changed.{Changed}
 

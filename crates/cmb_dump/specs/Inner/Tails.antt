@@ -1,6 +1,6 @@
 -- The ends of lines, which are made once.
 use Rattle.std.specs.Prelude.{◌≡◌, ℕ, ◌<◌, List, length, take, slice_index_or}
-use Rattle.cmb_vcd.specs.Vcd.{code, line}
+use Rattle.cmb_run_text.specs.Vcd.{code, line}
 use Rattle.cmb_dump.specs.declared.tail.Tail.{Tail}
 
 abbrev pub tail_bytes : Tail → List ℕ

@@ -3,8 +3,8 @@ use Rattle.std.specs.Prelude.{◌≡◌, ℕ, ◌+◌, ◌-◌, ◌<◌, ◌≤�
 use Rattle.std.specs.List.{AllByRecursion, list_any}
 use Rattle.cmb_wave.specs.declared.level.Level.{Level}
 use Rattle.cmb_netlist.specs.declared.netlist.Kind.{Kind}
-use Rattle.cmb_design.specs.declared.rows.Clock.{Clock}
-use Rattle.cmb_design.specs.Gate.{gate}
+use Rattle.cmb_design_model.specs.declared.rows.Clock.{Clock}
+use Rattle.cmb_design_model.specs.Gate.{gate}
 use Rattle.cmb_engine.specs.Rows.{arrives_by}
 use Rattle.cmb_engine.specs.Inner.Orders.{Order, IsOrder, rank_in}
 use Rattle.cmb_engine.specs.declared.cell.Pin.{Pin}

@@ -2,9 +2,9 @@
 use Rattle.std.specs.Prelude.{◌≡◌, ℕ, ◌-◌, ◌<◌, ◌≤◌, ◌⊎◌, Bool, true, false, List, All, Contains, length, map, if◌then◌else◌}
 use Rattle.std.specs.List.{AllByRecursion}
 use Rattle.cmb_wave.specs.declared.level.Level.{Level}
-use Rattle.cmb_design.specs.declared.rows.Clock.{Clock}
-use Rattle.cmb_design.specs.Gate.{gate}
-use Rattle.cmb_design.specs.Value.{delayed}
+use Rattle.cmb_design_model.specs.declared.rows.Clock.{Clock}
+use Rattle.cmb_design_model.specs.Gate.{gate}
+use Rattle.cmb_design_model.specs.Value.{delayed}
 use Rattle.cmb_engine.specs.Inner.Cells.{Cell, Told, Gate, Flop, is_flop, is_gate, is_made, cell_at, pins_of, AreFanout, IsLawful, IsSteady}
 use Rattle.cmb_engine.specs.Inner.Orders.{Order, IsOrder}
 use Rattle.cmb_engine.specs.Rows.{arrives_by}

@@ -1,7 +1,7 @@
 -- Where windows end that end at arrivals.
 use Rattle.std.specs.Prelude.{ℕ, ◌+◌, ◌<◌, ◌≤◌, Bool, List, Contains}
-use Rattle.cmb_design.specs.Design.{Design}
-use Rattle.cmb_design.specs.Timing.{clock_of, delay}
+use Rattle.cmb_design_model.specs.Design.{Design}
+use Rattle.cmb_design_model.specs.Timing.{clock_of, delay}
 use Rattle.cmb_engine.specs.Crossings.{IsCrossing}
 use Rattle.cmb_engine.specs.declared.windows.Pace.{Pace}
 

@@ -1,7 +1,7 @@
 -- Lines: which net each of them follows, and what is told of them when nets changed.
 use Rattle.std.specs.Prelude.{◌≡◌, ◌≢◌, ℕ, ◌+◌, ◌-◌, ◌<◌, ◌≤◌, ◌⊎◌, ◌↔◌, List, [], Some, Contains, length, slice_get, slice_index_or}
-use Rattle.cmb_calendar.specs.Calendars.{Calendar}
-use Rattle.cmb_calendar.specs.declared.tell.Tell.{Tell}
+use Rattle.cmb_wheel.specs.Calendars.{Calendar}
+use Rattle.cmb_wheel.specs.declared.event.LevelEvent.{LevelEvent}
 use Rattle.cmb_words.specs.declared.changed.Changed.{Changed}
 use Rattle.cmb_words.specs.declared.word.Word.{Word}
 use Rattle.cmb_words.specs.Word.{level_at_place}
@@ -17,11 +17,11 @@ pub record AreFollowers (lines : List Pin) (nets : ℕ) (followers : List (List 
   pub exact : (net number : ℕ) → Contains (slice_index_or followers net []) number ↔ Follows lines number net
 
 -- what a word has in a place is told of a slot, so many ticks later
-abbrev pub tell_of : Word → ℕ → ℕ → ℕ → ℕ → Tell
+abbrev pub tell_of : Word → ℕ → ℕ → ℕ → ℕ → LevelEvent
 tell_of word slot delay to place = record { tick = to + place - 64 + delay; slot = slot; level = level_at_place word place }
 
 -- a tell is of a change of a word, in a place from one on
-pub record IsOfChange (word : Word) (slot delay to first : ℕ) (tell : Tell) : Type 0 where
+pub record IsOfChange (word : Word) (slot delay to first : ℕ) (tell : LevelEvent) : Type 0 where
   pub place : ℕ
   pub from : first ≤ place
   pub within : place < 64
@@ -29,7 +29,7 @@ pub record IsOfChange (word : Word) (slot delay to first : ℕ) (tell : Tell) : 
   pub is : tell ≡ tell_of word slot delay to place
 
 -- a tell is of one of some lines, and of a change of a word
-pub record IsOfFollower (word : Word) (numbers : List ℕ) (lines : List Pin) (nets to first : ℕ) (tell : Tell) : Type 0 where
+pub record IsOfFollower (word : Word) (numbers : List ℕ) (lines : List Pin) (nets to first : ℕ) (tell : LevelEvent) : Type 0 where
   pub number : ℕ
   pub line : Pin
   pub among : Contains numbers number
@@ -37,7 +37,7 @@ pub record IsOfFollower (word : Word) (numbers : List ℕ) (lines : List Pin) (n
   pub change : IsOfChange word (nets + number) line.delay to first tell
 
 -- a tell is of a line, and of a change of the net that the line follows
-pub record IsOfLine (changed : List Changed) (lines : List Pin) (nets to first : ℕ) (tell : Tell) : Type 0 where
+pub record IsOfLine (changed : List Changed) (lines : List Pin) (nets to first : ℕ) (tell : LevelEvent) : Type 0 where
   pub one : Changed
   pub number : ℕ
   pub line : Pin
@@ -47,8 +47,8 @@ pub record IsOfLine (changed : List Changed) (lines : List Pin) (nets to first :
   pub change : IsOfChange one.word (nets + number) line.delay to first tell
 
 -- what a calendar has once some things are told: those too, where they are below the horizon
-abbrev pub NotesEach : (Tell → Type 0) → Calendar → Calendar → Type 0
-NotesEach IsNew old new = (tell : Tell) → Contains new.tells tell ↔ (Contains old.tells tell ⊎ (IsNew tell × (tell.tick < old.horizon)))
+abbrev pub NotesEach : (LevelEvent → Type 0) → Calendar → Calendar → Type 0
+NotesEach IsNew old new = (tell : LevelEvent) → Contains new.tells tell ↔ (Contains old.tells tell ⊎ (IsNew tell × (tell.tick < old.horizon)))
 
 -- a line's delay is so long that what it shows of a window is told of the ticks from the calendar's clock on
 abbrev pub IsAhead : Calendar → ℕ → ℕ → Pin → Type 0

@@ -4,9 +4,9 @@ use Rattle.std.specs.List.{AllZip}
 use Rattle.cmb_netlist.specs.declared.netlist.Driver.{Driver}
 use Rattle.cmb_netlist.specs.declared.netlist.Driver.TheVariants as driver
 use Rattle.cmb_netlist.specs.Netlist.{driver_of}
-use Rattle.cmb_design.specs.Design.{Design}
-use Rattle.cmb_design.specs.Exact.{nets_of}
-use Rattle.cmb_design.specs.Timing.{clock_of, delay}
+use Rattle.cmb_design_model.specs.Design.{Design}
+use Rattle.cmb_design_model.specs.Exact.{nets_of}
+use Rattle.cmb_design_model.specs.Timing.{clock_of, delay}
 use Rattle.cmb_engine.specs.Inner.Cells.{Cell, Told, Gate, Flop, cell_at, IsPace}
 use Rattle.cmb_engine.specs.Inner.Roles.{role_of}
 use Rattle.cmb_engine.specs.declared.cell.Pin.{Pin}

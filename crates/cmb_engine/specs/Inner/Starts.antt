@@ -4,16 +4,16 @@ use Rattle.cmb_wave.specs.declared.level.Level.{Level}
 use Rattle.cmb_wave.specs.declared.level.Level.TheVariants.{X}
 use Rattle.cmb_netlist.specs.Netlist.{driver_of}
 use Rattle.cmb_netlist.specs.declared.netlist.Driver.TheVariants.{Input}
-use Rattle.cmb_calendar.specs.declared.tell.Tell.{Tell}
-use Rattle.cmb_design.specs.Design.{Design}
-use Rattle.cmb_design.specs.Exact.{nets_of}
-use Rattle.cmb_design.specs.Timing.{stimulus}
+use Rattle.cmb_wheel.specs.declared.event.LevelEvent.{LevelEvent}
+use Rattle.cmb_design_model.specs.Design.{Design}
+use Rattle.cmb_design_model.specs.Exact.{nets_of}
+use Rattle.cmb_design_model.specs.Timing.{stimulus}
 use Rattle.cmb_engine.specs.Inner.Roles.{drives}
 use Rattle.cmb_engine.specs.declared.cell.Pin.{Pin}
 use Rattle.cmb_engine.specs.declared.role.Role.{Role}
 
 -- a tell is of a change of a net's stimulus, after tick 0 and below the design's horizon
-pub record IsOfStimulus (design : Design) (net : ℕ) (tell : Tell) : Type 0 where
+pub record IsOfStimulus (design : Design) (net : ℕ) (tell : LevelEvent) : Type 0 where
   pub slot : tell.slot ≡ net
   pub later : 1 ≤ tell.tick
   pub within : tell.tick < design.horizon
@@ -21,14 +21,14 @@ pub record IsOfStimulus (design : Design) (net : ℕ) (tell : Tell) : Type 0 whe
   pub level : tell.level ≡ stimulus design net tell.tick
 
 -- a tell is of a change of a driven input
-pub record IsOfInput (design : Design) (roles : List Role) (tell : Tell) : Type 0 where
+pub record IsOfInput (design : Design) (roles : List Role) (tell : LevelEvent) : Type 0 where
   pub net : tell.slot < nets_of design
   pub input : driver_of design.netlist tell.slot ≡ Input
   pub driven : drives roles tell.slot ≡ true
   pub change : IsOfStimulus design tell.slot tell
 
 -- a tell is of the first change of a line: to the level that its net has at tick 0, where that isn't x
-pub record IsOfStart (words : ℕ → ℕ → Level) (lines : List Pin) (nets : ℕ) (tell : Tell) : Type 0 where
+pub record IsOfStart (words : ℕ → ℕ → Level) (lines : List Pin) (nets : ℕ) (tell : LevelEvent) : Type 0 where
   pub number : ℕ
   pub line : Pin
   pub has_number : slice_get lines number ≡ Some line

@@ -1,7 +1,7 @@
 -- What an engine keeps, and what it is at a clock.
 use Rattle.std.specs.Prelude.{◌≡◌, ℕ, ◌*◌, ◌^◌, ◌<◌, ◌≤◌, length}
-use Rattle.cmb_design.specs.Design.{Design}
-use Rattle.cmb_design.specs.Exact.{nets_of}
+use Rattle.cmb_design_model.specs.Design.{Design}
+use Rattle.cmb_design_model.specs.Exact.{nets_of}
 use Rattle.cmb_engine.specs.Inner.Ahead.{TellsAhead}
 use Rattle.cmb_engine.specs.Inner.Bits.{has}
 use Rattle.cmb_engine.specs.Inner.Circuits.{AreQuiet, IsWiring, Shows}

@@ -6,9 +6,9 @@ use Rattle.cmb_wave.specs.declared.level.Level.{Level}
 use Rattle.cmb_wave.specs.declared.level.Level.TheVariants.{X}
 use Rattle.cmb_netlist.specs.Netlist.{driver_of}
 use Rattle.cmb_netlist.specs.declared.netlist.Driver.TheVariants.{Input}
-use Rattle.cmb_design.specs.Design.{Design}
-use Rattle.cmb_design.specs.Exact.{nets_of}
-use Rattle.cmb_design.specs.Value.{delayed}
+use Rattle.cmb_design_model.specs.Design.{Design}
+use Rattle.cmb_design_model.specs.Exact.{nets_of}
+use Rattle.cmb_design_model.specs.Value.{delayed}
 use Rattle.cmb_engine.specs.Inner.Cells.{Cell, cell_at, is_made, pins_of, IsLawful}
 use Rattle.cmb_engine.specs.Inner.Circuits.{MeetsCells}
 use Rattle.cmb_engine.specs.Inner.Plans.{cell_as, CellStandsFor}

@@ -1,7 +1,7 @@
 -- What the words of a window tell of waveforms.
 use Rattle.std.specs.Prelude.{ℕ, ◌+◌, ◌<◌, ◌≤◌}
 use Rattle.cmb_wave.specs.declared.level.Level.{Level}
-use Rattle.cmb_design.specs.Value.{delayed}
+use Rattle.cmb_design_model.specs.Value.{delayed}
 
 -- the level of a waveform in a place of the window that ends before a tick: at tick to + place - 64, and x before tick 0
 abbrev pub in_place : (ℕ → Level) → ℕ → ℕ → Level

@@ -1,7 +1,7 @@
 -- The rows in the order of their ticks, and the levels that were found for them.
 use Rattle.std.specs.Prelude.{◌≡◌, ◌+◌, ◌<◌, ◌≤◌, ℕ, List, length, slice_index_or, All, Contains}
 use Rattle.cmb_wave.specs.declared.level.Level.{Level}
-use Rattle.cmb_design.specs.declared.expected.Expected.{Expected}
+use Rattle.cmb_design_model.specs.declared.expected.Expected.{Expected}
 use Rattle.cmb_expect.specs.declared.probe.Probe.{Probe}
 
 abbrev pub probe_of : Expected → ℕ → Probe

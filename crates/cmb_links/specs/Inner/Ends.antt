@@ -3,12 +3,12 @@ use Rattle.std.specs.Prelude.{◌≡◌, ℕ, ◌<◌, ◌≤◌, List, [], ◌�
 use Rattle.std.specs.List.{Contains}
 use Rattle.cmb_wave.specs.Wave.{Piece}
 use Rattle.cmb_wave.specs.declared.level.Level.TheVariants.{X}
-use Rattle.cmb_design.specs.Design.{Design}
-use Rattle.cmb_design.specs.Exact.{IsExactIn}
+use Rattle.cmb_design_model.specs.Design.{Design}
+use Rattle.cmb_design_model.specs.Exact.{IsExactIn}
 use Rattle.cmb_links.specs.Links.{channel_clock}
 use Rattle.cmb_links.specs.declared.end.Cargo.{Cargo}
 use Rattle.cmb_links.specs.declared.end.End.{End}
-use Rattle.cmb_links.specs.declared.end.Role.TheVariants.{Fresh, Puts, Takes, Closes, Spent}
+use Rattle.cmb_links.specs.declared.end.EndRole.TheVariants.{Fresh, Puts, Takes, Closes, Spent}
 
 -- a design without nets
 abbrev pub no_design : Design
@@ -20,6 +20,7 @@ no_design = record {
   delays = [];
   stimuli = [];
   clocks = [];
+  initial = [];
 }
 
 abbrev pub no_cargo : Cargo

@@ -1,11 +1,11 @@
 -- What a run begins with.
 use Rattle.std.specs.Prelude.{◌≡◌, ◌↔◌, ℕ, ◌+◌, ◌<◌, ◌≤◌, ◌^◌, true, false, Bool, List, Contains, length, map, slice_index, slice_index_or}
-use Rattle.cmb_design.specs.Design.{Design}
+use Rattle.cmb_design_model.specs.Design.{Design}
 use Rattle.cmb_engine.specs.Crossings.{IsCrossing}
 use Rattle.cmb_engine.specs.Shares.{IsDriven, IsGiven, ShareEngine}
 use Rattle.cmb_engine.specs.Windows.{Windows}
-use Rattle.cmb_partition.specs.declared.shares.Partition.{Partition}
-use Rattle.cmb_partition.specs.declared.shares.Share.{Share}
+use Rattle.cmb_graph_partition.specs.declared.shares.Partition.{Partition}
+use Rattle.cmb_graph_partition.specs.declared.shares.Share.{Share}
 use Rattle.cmb_shares.specs.Inner.Runs.{IsRun, Run, driven_by}
 use Rattle.cmb_shares.specs.Inner.Stations.{Covers, Standing}
 

@@ -2,10 +2,10 @@
 use Rattle.std.specs.Prelude.{◌≡◌, ℕ, zero, suc, ◌<◌, ◌≤◌, ◌==◌, Bool, true, false, All, List, [], ◌∷◌, length, slice_index_or, if◌then◌else◌}
 use Rattle.std.specs.List.{list_any}
 use Rattle.cmb_engine.specs.Windows.{end_of}
-use Rattle.cmb_lookahead.specs.Machine.{Process}
-use Rattle.cmb_lookahead.specs.Network.{IsNetwork, Network}
-use Rattle.cmb_lookahead.specs.Runs.{start}
-use Rattle.cmb_lookahead.specs.Turns.{GoesBy, turn}
+use Rattle.cmb_shares_protocol.specs.Machine.{Process}
+use Rattle.cmb_shares_protocol.specs.Network.{IsNetwork, Network}
+use Rattle.cmb_shares_protocol.specs.Runs.{start}
+use Rattle.cmb_shares_protocol.specs.Turns.{GoesBy, turn}
 use Rattle.cmb_shares.specs.declared.message.Envelope.{Envelope}
 use Rattle.cmb_shares.specs.Inner.Channels.{greeting}
 use Rattle.cmb_shares.specs.Inner.Flows.{AreSources}

@@ -1,8 +1,8 @@
 -- What a run is of: a design whose nets are partitioned among logical processes.
 use Rattle.std.specs.Prelude.{◌≡◌, ℕ, ◌+◌, ◌<◌, ◌≤◌, Bool, List, [], All, length, slice_index, slice_index_or}
-use Rattle.cmb_design.specs.Design.{Design}
-use Rattle.cmb_design.specs.Exact.{nets_of}
-use Rattle.cmb_design.specs.Timing.{delay}
+use Rattle.cmb_design_model.specs.Design.{Design}
+use Rattle.cmb_design_model.specs.Exact.{nets_of}
+use Rattle.cmb_design_model.specs.Timing.{delay}
 use Rattle.cmb_engine.specs.Crossings.{AreWithinLookahead, IsCrossing}
 use Rattle.cmb_engine.specs.Shares.{IsDriven, IsGiven}
 use Rattle.cmb_engine.specs.Windows.{HaveTicks, Windows, end_of}

@@ -1,6 +1,6 @@
 -- A logical process: a share's engine, and the channels from and to it.
 use Rattle.std.specs.Prelude.{◌≡◌, ℕ, ◌<◌, Bool, false, List, All, Contains, length, map, slice_index}
-use Rattle.cmb_design.specs.Value.{value}
+use Rattle.cmb_design_model.specs.Value.{value}
 use Rattle.cmb_engine.specs.Shares.{IsGiven}
 use Rattle.cmb_words.specs.Changes.{IsStill, TellsNet, is_among}
 use Rattle.cmb_words.specs.declared.changed.Changed.{Changed}

@@ -1,7 +1,7 @@
 -- What was found of a table that expects something of a design's run.
 use Rattle.std.specs.Prelude.{◌≡◌, ℕ, List, length, count_by}
-use Rattle.cmb_design.specs.Design.{Design}
-use Rattle.cmb_design.specs.declared.expected.Expected.{Expected}
+use Rattle.cmb_design_model.specs.Design.{Design}
+use Rattle.cmb_design_model.specs.declared.expected.Expected.{Expected}
 use Rattle.cmb_expect.specs.Expectations.{differs}
 use Rattle.cmb_expect.specs.Texts.{difference_table}
 use Rattle.cmb_inputs.specs.Expected.{AreExpected}

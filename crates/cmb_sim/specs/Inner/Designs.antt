@@ -1,14 +1,14 @@
 -- What comes of a design that texts spell, by the text of what names nets of it.
 use Rattle.std.specs.Prelude.{◌≡◌, ℕ, List, Result}
-use Rattle.cmb_design.specs.Design.{Design}
-use Rattle.cmb_design.specs.declared.expected.Expected.{Expected}
+use Rattle.cmb_design_model.specs.Design.{Design}
+use Rattle.cmb_design_model.specs.declared.expected.Expected.{Expected}
 use Rattle.cmb_expect.specs.Texts.{difference_table}
-use Rattle.cmb_line.specs.declared.line.Request.{Request}
+use Rattle.cmb_cli_line.specs.declared.line.Request.{Request}
 use Rattle.cmb_inputs.specs.Expected.{AreExpected}
 use Rattle.cmb_inputs.specs.Outputs.{Output}
-use Rattle.cmb_inout.specs.declared.answer.Comparison.{Comparison}
-use Rattle.cmb_inout.specs.declared.answer.Report.{Report}
-use Rattle.cmb_inout.specs.declared.fault.Fault.{Fault}
+use Rattle.cmb_faults.specs.declared.answer.Comparison.{Comparison}
+use Rattle.cmb_faults.specs.declared.answer.Report.{Report}
+use Rattle.cmb_faults.specs.declared.fault.Fault.{Fault}
 use Rattle.cmb_sim.specs.Activities.{IsTableOf}
 use Rattle.cmb_sim.specs.Expecting.{IsUncompared, comparison_of}
 use Rattle.cmb_sim.specs.Simulation.{Breaks, CanRun, IsMade, IsRefused, IsTextOf, report_of}

@@ -1,22 +1,22 @@
 -- What is planned for what is asked for, and what comes of writing a text.
 use Rattle.std.specs.Prelude.{◌≡◌, ℕ, ◌<◌, ◌⊎◌, List, length, true, false, None, Result, IfErr, IfOk, OnOk, ⊤}
-use Rattle.cmb_design.specs.Checks.{first_fault}
-use Rattle.cmb_design.specs.Design.{Design}
-use Rattle.cmb_design.specs.Exact.{nets_of}
+use Rattle.cmb_design_model.specs.Checks.{first_fault}
+use Rattle.cmb_design_model.specs.Design.{Design}
+use Rattle.cmb_design_model.specs.Exact.{nets_of}
 use Rattle.cmb_dump.specs.Excerpts.{AreAmong}
-use Rattle.cmb_vcd.specs.Chosen.{vcd_of}
-use Rattle.cmb_vcd.specs.Vcd.{vcd}
-use Rattle.cmb_line.specs.Modes.{IsLawfulCount}
-use Rattle.cmb_partition.specs.Partitions.{IsPartition}
-use Rattle.cmb_line.specs.declared.line.Request.{Request}
-use Rattle.cmb_line.specs.declared.mode.Mode.TheVariants.{Plain}
+use Rattle.cmb_run_text.specs.Chosen.{vcd_of}
+use Rattle.cmb_run_text.specs.Vcd.{vcd}
+use Rattle.cmb_cli_line.specs.Modes.{IsLawfulCount}
+use Rattle.cmb_graph_partition.specs.Partitions.{IsPartition}
+use Rattle.cmb_cli_line.specs.declared.line.Request.{Request}
+use Rattle.cmb_cli_line.specs.declared.mode.Mode.TheVariants.{Plain}
 use Rattle.cmb_inputs.specs.Outputs.{HasTaken, IsUntouched, Output}
 use Rattle.cmb_sim.specs.Simulation.{CanBeStopped, CanRun, IsBroken, IsStreamed, IsTextOf, mode_checks}
 use Rattle.cmb_sim.specs.declared.plan.Plan.{Plan}
 use Rattle.cmb_sim.specs.declared.plan.Way.{Way}
 use Rattle.cmb_sim.specs.declared.plan.Way.TheVariants.{Table, Picked, Chosen, Engine, Shares, Rounds, Free}
-use Rattle.cmb_inout.specs.declared.fault.Fault.{Fault}
-use Rattle.cmb_inout.specs.declared.fault.Fault.TheVariants as fault
+use Rattle.cmb_faults.specs.declared.fault.Fault.{Fault}
+use Rattle.cmb_faults.specs.declared.fault.Fault.TheVariants as fault
 
 -- the text that a way makes of a design
 abbrev pub way_text : Way → Design → List ℕ

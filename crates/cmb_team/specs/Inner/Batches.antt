@@ -1,10 +1,10 @@
 -- Windows of a run that follow one another.
 use Rattle.std.specs.Prelude.{◌≡◌, ℕ, suc, ◌<◌, ◌≤◌, ◌-◌, ◌++◌, List, length, slice_index_or, Vec}
 use Rattle.std.specs.Global.{Global}
-use Rattle.cmb_design.specs.Design.{Design}
-use Rattle.cmb_design.specs.Exact.{nets_of}
-use Rattle.cmb_design.specs.Value.{value}
-use Rattle.cmb_stream.specs.Parts.{made_text}
+use Rattle.cmb_design_model.specs.Design.{Design}
+use Rattle.cmb_design_model.specs.Exact.{nets_of}
+use Rattle.cmb_design_model.specs.Value.{value}
+use Rattle.cmb_dump_stream.specs.Parts.{made_text}
 use Rattle.cmb_words.specs.Changes.{IsWindow, Tells}
 use Rattle.cmb_words.specs.declared.changed.Changed.{Changed}
 

@@ -3,7 +3,7 @@ use Rattle.std.specs.Prelude.{Bool, true, false, if◌then◌else◌}
 use Rattle.cmb_wave.specs.declared.level.Level.{Level}
 use Rattle.cmb_netlist.specs.declared.netlist.Kind.{Kind}
 use Rattle.cmb_netlist.specs.declared.netlist.Kind.TheVariants.{Nand, Or, Nor, Xor, Xnor, Not, Buff}
-use Rattle.cmb_design.specs.Gate.{inverse_of}
+use Rattle.cmb_design_model.specs.Gate.{inverse_of}
 
 -- the level, inverted or not
 abbrev pub inverse_if : Bool → Level → Level

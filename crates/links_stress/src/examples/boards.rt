@@ -1,7 +1,7 @@
 //! What two seats of a board find of one another's words, in one thread and in two.
 
 ghost use Rattle.std.specs.Prelude.{◌≡◌, true, false, IfOk};
-ghost use Rattle.cmb_design.specs.Exact.{IsRightIn};
+ghost use Rattle.cmb_design_model.specs.Exact.{IsRightIn};
 ghost use Rattle.cmb_links.specs.Seats.{driver, new_seat};
 ghost use Rattle.links_stress.specs.Hands.{board_terms};
 

@@ -2,7 +2,7 @@
 //! And which capacities of links and numbers of workers are refused.
 
 ghost use Rattle.std.specs.Prelude.{◌≡◌, true, [], ◌∷◌, IfOk, OnOk};
-ghost use Rattle.cmb_design.specs.Exact.{IsExactIn};
+ghost use Rattle.cmb_design_model.specs.Exact.{IsExactIn};
 ghost use Rattle.cmb_links.specs.Links.{after_put, after_take};
 ghost use Rattle.links_stress.specs.Pieces.{Follow};
 
@@ -12,7 +12,7 @@ use crate::ends::{In, Out};
 use crate::exact::ExactCluster;
 use crate::trouble::Trouble;
 use crate::worker::TURNS;
-use cmb_design::Design;
+use cmb_design_model::Design;
 use cmb_links::{Full, Link, LinkFault, PutPass, TakePass, Workers, WorkersFault};
 use cmb_wave::{Piece, Wave};
 use std::alloc::Global;

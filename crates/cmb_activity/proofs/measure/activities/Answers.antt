@@ -1,7 +1,7 @@
 use Rattle.std.proofs.Common.{◌≡◌, List, subst, sym, ◌∙◌, ℕ, arith}
 use Rattle.std.proofs.lemmas.Result.{IfOk-weaker}
-use Rattle.cmb_design.specs.Exact.{nets_of}
-use Rattle.cmb_design.specs.Value.{value}
+use Rattle.cmb_design_model.specs.Exact.{nets_of}
+use Rattle.cmb_design_model.specs.Value.{value}
 use Rattle.cmb_activity.specs.Activities.{AreActivitiesOf}
 use Rattle.cmb_activity.specs.Inner.Tallies.{AreTallies}
 use Rattle.cmb_activity.specs.declared.tally.Tally.{Tally}

@@ -1,7 +1,7 @@
 use Rattle.std.proofs.Common.{◌≡◌, List, [], ◌∷◌, ◌++◌, length, subst, ap, sym, suc, ◌+◌, ℕ, arith}
 use Rattle.cmb_netlist.specs.Netlist.{Netlist}
-use Rattle.cmb_design.specs.Exact.{nets_of}
-use Rattle.cmb_design.specs.Value.{value}
+use Rattle.cmb_design_model.specs.Exact.{nets_of}
+use Rattle.cmb_design_model.specs.Value.{value}
 use Rattle.cmb_activity.specs.declared.tally.Tally.{Tally}
 use Rattle.cmb_activity.specs.Inner.Tallies.{AreTallies}
 use Rattle.cmb_activity.proofs.WindowFacts.{no_tallies, one_more}

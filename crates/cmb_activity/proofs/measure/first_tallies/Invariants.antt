@@ -1,4 +1,4 @@
-use Rattle.cmb_design.specs.Value.{value}
+use Rattle.cmb_design_model.specs.Value.{value}
 use Rattle.cmb_activity.specs.Inner.Tallies.{AreTallies}
 use Rattle.cmb_activity.proofs.measure.first_tallies.Given as goal
 

@@ -1,6 +1,6 @@
 use Rattle.std.proofs.Common.{◌≡◌, ◌-◌, ap, ◌∙◌, arith}
 use Rattle.cmb_netlist.specs.Netlist.{Netlist, name_of}
-use Rattle.cmb_design.specs.Value.{count}
+use Rattle.cmb_design_model.specs.Value.{count}
 use Rattle.cmb_activity.proofs.text.push_net.Goals as goal
 
 pub returns : goal.returns

@@ -1,10 +1,10 @@
 use Rattle.std.proofs.Common.{◌≡◌, ◌⊎◌, inl, inr, ◌∙◌, ◌+◌, ◌*◌, ℕ, ◌<◌, ◌≤◌, ap, sym, subst, arith, length, get_or, List, below_more}
 use Rattle.std.proofs.lemmas.List.{get_or_default}
 use Rattle.cmb_netlist.specs.Netlist.{Netlist}
-use Rattle.cmb_design.specs.Design.{Design}
-use Rattle.cmb_design.specs.Timing.{delay}
-use Rattle.cmb_loops.specs.Loops.{targets}
-use Rattle.cmb_loops.specs.declared.steps.Steps.TheVariants as steps
+use Rattle.cmb_design_model.specs.Design.{Design}
+use Rattle.cmb_design_model.specs.Timing.{delay}
+use Rattle.cmb_graph.specs.Loops.{targets}
+use Rattle.cmb_graph.specs.declared.steps.Steps.TheVariants as steps
 use Rattle.cmb_count.specs.Inner.Arrivals.{Covers, IsReached, IsWithin, later_by, time_of}
 use Rattle.cmb_count.specs.Paths.{Arrives, launch, operands}
 use Rattle.cmb_count.specs.declared.arrivals.Arrival.{Arrival}

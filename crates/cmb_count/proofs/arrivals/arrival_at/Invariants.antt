@@ -1,5 +1,5 @@
 use Rattle.std.proofs.Common.{◌≡◌, ◌+◌, ◌*◌, ℕ, ◌<◌, true, length, slice_index}
-use Rattle.cmb_design.specs.Timing.{delay}
+use Rattle.cmb_design_model.specs.Timing.{delay}
 use Rattle.cmb_count.specs.Inner.Arrivals.{Covers, IsReached, IsWithin, time_of}
 use Rattle.cmb_count.specs.Paths.{Arrives, is_origin, launch, operands}
 use Rattle.cmb_count.proofs.arrivals.arrival_at.Given as goal

@@ -1,7 +1,7 @@
 use Rattle.std.proofs.Common.{◌≡◌}
 use Rattle.std.specs.BTreeSet.{btree_set_len}
-use Rattle.cmb_design.specs.Settings.{any_below}
-use Rattle.cmb_design.specs.declared.rows.Clock.{Clock}
+use Rattle.cmb_design_model.specs.Settings.{any_below}
+use Rattle.cmb_design_model.specs.declared.rows.Clock.{Clock}
 use Rattle.cmb_count.specs.Below.{count_below}
 use Rattle.cmb_count.specs.Clocks.{is_clocked_by, is_first_clocked}
 use Rattle.cmb_count.specs.Inner.ClockSets.{has_clock}

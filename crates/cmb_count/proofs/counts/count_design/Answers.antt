@@ -1,6 +1,6 @@
 use Rattle.std.proofs.Common.{length, ap, subst, ◌∙◌}
 use Rattle.cmb_netlist.specs.Netlist.{Netlist}
-use Rattle.cmb_loops.specs.declared.steps.Steps.TheVariants as steps
+use Rattle.cmb_graph.specs.declared.steps.Steps.TheVariants as steps
 use Rattle.cmb_count.specs.declared.drivers.DriverKind.TheVariants.{Inputs, Flops}
 use Rattle.cmb_count.specs.Counting.{AreGateCounts}
 use Rattle.cmb_count.specs.DriverKinds.{kind_count}
@@ -27,4 +27,5 @@ returns c =
       delay_rows = c.delay_rows.ensures;
       stimulus_rows = c.stimulus_rows.ensures;
       clock_rows = c.clock_rows.ensures;
+      initial_rows = c.initial_rows.ensures;
     }

@@ -1,7 +1,7 @@
 use Rattle.std.proofs.Common.{◌≡◌, ◌∙◌, ◌+◌, ap, arith, rules, length, max}
 use Rattle.cmb_netlist.specs.Netlist.{driver_of, pins_of}
-use Rattle.cmb_design.specs.Nets.{pins_at}
-use Rattle.cmb_design.specs.Timing.{delay}
+use Rattle.cmb_design_model.specs.Nets.{pins_at}
+use Rattle.cmb_design_model.specs.Timing.{delay}
 use Rattle.cmb_count.proofs.LargestFacts.{IsDelayOfPin-max, bounds-next}
 use Rattle.cmb_count.proofs.largest.largest_of.Goals as goal
 

@@ -1,5 +1,5 @@
 use Rattle.std.proofs.Common.{◌≤◌, ℕ}
-use Rattle.cmb_design.specs.Timing.{delay}
+use Rattle.cmb_design_model.specs.Timing.{delay}
 use Rattle.cmb_count.specs.Largest.{IsDelayOfPin}
 use Rattle.cmb_count.proofs.largest.largest_of.Given as goal
 

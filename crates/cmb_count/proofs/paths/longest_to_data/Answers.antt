@@ -1,7 +1,7 @@
 use Rattle.std.proofs.Common.{◌≡◌, ◌∙◌, ◌+◌, ◌<◌, ℕ, ap, sym, subst, arith, length}
 use Rattle.cmb_netlist.specs.Netlist.{Netlist, driver_of}
 use Rattle.cmb_netlist.specs.declared.netlist.Driver.TheVariants.{Flop}
-use Rattle.cmb_design.proofs.PlainFacts.{driver-wired}
+use Rattle.cmb_design_model.proofs.PlainFacts.{driver-wired}
 use Rattle.cmb_count.specs.Inner.LongestPaths.{IsLongestSoFar, longest_at, time_at}
 use Rattle.cmb_count.specs.Paths.{IsEnd}
 use Rattle.cmb_count.proofs.LongestFacts.{IsEndBelow, end_all, end_more, end_of_flop, end_skipped, longest_more, longest_same}

@@ -1,7 +1,7 @@
 use Rattle.std.proofs.Common.{ap, arith, length}
 use Rattle.std.proofs.lemmas.List.{length-map}
 use Rattle.cmb_netlist.specs.Netlist.{Netlist, name_of}
-use Rattle.cmb_vcd.specs.Chosen.{names_of}
+use Rattle.cmb_run_text.specs.Chosen.{names_of}
 use Rattle.cmb_dump.specs.Excerpts.{levels_at}
 use Rattle.cmb_dump.proofs.WindowFacts.{first_written}
 use Rattle.cmb_dump.proofs.excerpt.first_text.Goals as goal

@@ -1,5 +1,5 @@
 use Rattle.std.proofs.Common.{◌∙◌, Vec, Global, ap, arith, length}
-use Rattle.cmb_vcd.proofs.LineFacts.{rest_none}
+use Rattle.cmb_run_text.proofs.LineFacts.{rest_none}
 use Rattle.cmb_words.specs.declared.changed.Changed.{Changed}
 use Rattle.cmb_words.proofs.Rising.{rises_at}
 use Rattle.cmb_dump.specs.Inner.Picks.{picked_of}

@@ -1,5 +1,5 @@
-use Rattle.cmb_design.specs.Timing.{clock_of, delay}
-use Rattle.cmb_design.proofs.AskFacts.{clock_of-positive}
+use Rattle.cmb_design_model.specs.Timing.{clock_of, delay}
+use Rattle.cmb_design_model.proofs.AskFacts.{clock_of-positive}
 use Rattle.cmb_engine.proofs.ArrivalFacts.{arrives-sample, sample-arrives}
 use Rattle.cmb_engine.proofs.laws.samples_arrive.Goals as goal
 

@@ -2,7 +2,7 @@ use Rattle.std.proofs.Common.{◌≡◌, ℕ, ◌+◌, ◌-◌, ◌<◌, ◌≤�
 use Rattle.std.proofs.lemmas.List.{map-id}
 use Rattle.std.proofs.lemmas.List.Elements.{All-rest, All-same}
 use Rattle.std.proofs.lemmas.Iterator.Consumers.{YieldsList-from_first, YieldsList-end}
-use Rattle.cmb_calendar.specs.declared.tell.Tell.{Tell}
+use Rattle.cmb_wheel.specs.declared.event.LevelEvent.{LevelEvent}
 use Rattle.cmb_words.specs.Bits.{places_set}
 use Rattle.cmb_engine.specs.Inner.Lines.{NotesEach, IsOfChange, tell_of}
 use Rattle.cmb_engine.proofs.LineFacts.{IsOfPlaces, change-of-place, place-of-change, place-parts, place-before, place-last, place-none, places-within, next-of}
@@ -43,7 +43,7 @@ loop-place-init c = record {
 
 pub loop-place-preserved : goal.loop-place-preserved
 loop-place-preserved c =
-    let one : Tell = record { tick = c.args.to + c.in-Some.place - 64 + c.args.delay; slot = c.args.slot; level = c.level.result } in
+    let one : LevelEvent = record { tick = c.args.to + c.in-Some.place - 64 + c.args.delay; slot = c.args.slot; level = c.level.result } in
     let is : one ≡ tell_of c.args.word c.args.slot c.args.delay c.args.to c.in-Some.place =
     ap (λ level. record { tick = c.args.to + c.in-Some.place - 64 + c.args.delay; slot = c.args.slot; level = level }) c.level.ensures in
     record {

@@ -1,6 +1,6 @@
 use Rattle.std.proofs.Common.{◌<◌, ◌≤◌}
 use Rattle.std.specs.Prelude.{All}
-use Rattle.cmb_calendar.specs.Calendars.{SameTicks}
+use Rattle.cmb_wheel.specs.Calendars.{SameTicks}
 use Rattle.cmb_engine.proofs.LineFacts.{IsOfPlaces}
 use Rattle.cmb_engine.specs.Inner.Lines.{NotesEach}
 use Rattle.cmb_engine.proofs.lines.note_changes.Given as goal

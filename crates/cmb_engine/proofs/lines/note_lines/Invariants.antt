@@ -1,5 +1,5 @@
 use Rattle.std.proofs.Common.{length, take}
-use Rattle.cmb_calendar.specs.Calendars.{SameTicks}
+use Rattle.cmb_wheel.specs.Calendars.{SameTicks}
 use Rattle.cmb_engine.specs.Inner.Lines.{IsOfLine, NotesEach}
 use Rattle.cmb_engine.proofs.lines.note_lines.Given as goal
 

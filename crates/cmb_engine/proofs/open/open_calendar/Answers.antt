@@ -1,6 +1,6 @@
 use Rattle.std.proofs.Common.{◌≡◌, ℕ, ◌+◌, List, length, ap, subst, ◌∙◌}
 use Rattle.cmb_wave.specs.declared.level.Level.{Level}
-use Rattle.cmb_design.specs.Exact.{nets_of}
+use Rattle.cmb_design_model.specs.Exact.{nets_of}
 use Rattle.cmb_engine.specs.Inner.Circuits.{Shows}
 use Rattle.cmb_engine.specs.Inner.Lines.{NotesEach}
 use Rattle.cmb_engine.specs.Inner.Starts.{IsOfInput, IsOfStart}

@@ -1,6 +1,6 @@
 use Rattle.std.proofs.Common.{◌≡◌, ◌+◌, List, length, sym, ap, subst, ◌∙◌, arith}
 use Rattle.std.proofs.lemmas.Bool.{false≢true}
-use Rattle.cmb_design.specs.Exact.{nets_of}
+use Rattle.cmb_design_model.specs.Exact.{nets_of}
 use Rattle.cmb_words.specs.declared.word.Word.{Word}
 use Rattle.cmb_engine.specs.Inner.Circuits.{Shows}
 use Rattle.cmb_engine.specs.Inner.Traces.{trace_of}

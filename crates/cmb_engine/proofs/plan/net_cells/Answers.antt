@@ -1,5 +1,5 @@
 use Rattle.std.proofs.Common.{◌≡◌, ◌∙◌, ℕ, List, ap, arith, length, subst, sym}
-use Rattle.cmb_design.specs.Exact.{nets_of}
+use Rattle.cmb_design_model.specs.Exact.{nets_of}
 use Rattle.cmb_engine.specs.Inner.Cells.{Cell}
 use Rattle.cmb_engine.specs.Inner.Plans.{AreCells}
 use Rattle.cmb_engine.proofs.PlanFacts.{cells-more, cells-none}

@@ -1,7 +1,7 @@
 use Rattle.std.proofs.Common.{◌≡◌, ℕ, ◌≤◌, List, ◌++◌, length, sym, subst, ap, ◌∙◌, arith}
 use Rattle.std.specs.Prelude.{All, replicate}
 use Rattle.cmb_netlist.specs.Netlist.{Netlist}
-use Rattle.cmb_design.specs.Exact.{nets_of}
+use Rattle.cmb_design_model.specs.Exact.{nets_of}
 use Rattle.cmb_engine.specs.Inner.Cells.{Cell, Told}
 use Rattle.cmb_engine.specs.Inner.Plans.{AreLines}
 use Rattle.cmb_engine.specs.Inner.Traces.{IsPlan}

@@ -1,7 +1,7 @@
 use Rattle.std.proofs.Common.{◌≡◌, ◌+◌, ℕ, Bool, List, length, sym, subst, ap, ◌∙◌, arith}
 use Rattle.std.proofs.lemmas.List.{with_items_is}
 use Rattle.cmb_netlist.specs.Netlist.{IsNetlist, Netlist, driver_of, pins_of}
-use Rattle.cmb_design.specs.Design.{Design}
+use Rattle.cmb_design_model.specs.Design.{Design}
 use Rattle.cmb_engine.specs.Inner.Roles.{Gives}
 use Rattle.cmb_engine.specs.declared.role.Role.{Role}
 use Rattle.cmb_engine.proofs.RoleFacts.{AreSoFar, gives-length, roles-all, roles-more, roles-passed}

@@ -1,6 +1,6 @@
 use Rattle.std.proofs.Common.{sym, ap, subst, ◌∙◌}
 use Rattle.cmb_netlist.specs.Netlist.{IsNetlist, Netlist, driver_of}
-use Rattle.cmb_design.proofs.ValueFacts.{value-at_input}
+use Rattle.cmb_design_model.proofs.ValueFacts.{value-at_input}
 use Rattle.cmb_engine.proofs.ZeroFacts.{gate-starts, flop-starts}
 use Rattle.cmb_engine.proofs.start.start_level.Goals as goal
 

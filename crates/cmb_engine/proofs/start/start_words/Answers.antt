@@ -1,8 +1,8 @@
 use Rattle.std.proofs.Common.{◌≡◌, ◌+◌, ◌<◌, ℕ, length, replicate, refl, sym, subst, ap, ◌∙◌, arith}
 use Rattle.std.proofs.lemmas.List.{length-replicate, length-set}
 use Rattle.cmb_netlist.specs.Netlist.{Netlist}
-use Rattle.cmb_design.specs.Design.{Design}
-use Rattle.cmb_design.specs.Exact.{nets_of}
+use Rattle.cmb_design_model.specs.Design.{Design}
+use Rattle.cmb_design_model.specs.Exact.{nets_of}
 use Rattle.cmb_engine.proofs.ZeroFacts.{AreStarted, started-more, started-none, started-shows}
 use Rattle.cmb_engine.proofs.start.start_words.Goals as goal
 

@@ -1,5 +1,5 @@
 use Rattle.std.proofs.Common.{◌≡◌, ◌+◌, length}
-use Rattle.cmb_design.specs.Exact.{nets_of}
+use Rattle.cmb_design_model.specs.Exact.{nets_of}
 use Rattle.cmb_engine.proofs.ZeroFacts.{AreStarted}
 use Rattle.cmb_engine.proofs.start.start_words.Given as goal
 

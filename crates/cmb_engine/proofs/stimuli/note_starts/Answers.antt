@@ -6,8 +6,8 @@ use denote.Enum.Bare.{sameb}
 use Rattle.cmb_wave.specs.contracts.level.Level.{the_type}
 use Rattle.cmb_wave.specs.declared.level.Level.{Level}
 use Rattle.cmb_wave.specs.declared.level.Level.TheVariants.{Zero, One, X}
-use Rattle.cmb_calendar.specs.Calendars.{Calendar, Notes, SameTicks}
-use Rattle.cmb_calendar.specs.declared.tell.Tell.{Tell}
+use Rattle.cmb_wheel.specs.Calendars.{Calendar, Notes, SameTicks}
+use Rattle.cmb_wheel.specs.declared.event.LevelEvent.{LevelEvent}
 use Rattle.cmb_engine.specs.Inner.Lines.{NotesEach}
 use Rattle.cmb_engine.specs.Inner.Starts.{IsOfStart}
 use Rattle.cmb_engine.specs.Inner.Words.{levels_of}
@@ -23,13 +23,13 @@ x-where One e = cc
 x-where X e = refl
 
 -- a tell is of the start of a line below one
-abbrev IsBelow : (ℕ → ℕ → Level) → List Pin → ℕ → ℕ → Tell → Type 0
+abbrev IsBelow : (ℕ → ℕ → Level) → List Pin → ℕ → ℕ → LevelEvent → Type 0
 IsBelow words lines nets number tell = (start : IsOfStart words lines nets tell) × (start.number < number)
 
-abbrev start_to : Pin → ℕ → ℕ → Level → Tell
+abbrev start_to : Pin → ℕ → ℕ → Level → LevelEvent
 start_to line nets number level = record { tick = line.delay; slot = nets + number; level = level }
 
-abbrev start_of : (ℕ → ℕ → Level) → Pin → ℕ → ℕ → Tell
+abbrev start_of : (ℕ → ℕ → Level) → Pin → ℕ → ℕ → LevelEvent
 start_of words line nets number = start_to line nets number (words line.net 63)
 
 -- one more line
@@ -39,7 +39,7 @@ module _ (words : ℕ → ℕ → Level) (lines : List Pin) (nets number : ℕ) 
   here = slice_get-get_or lines number d inside
 
   -- the line of a start that isn't one below
-  line-is : (tell : Tell) (h : IsBelow words lines nets (number + 1) tell) → number ≤ h.0.number → (h.0.number ≡ number) × (h.0.line ≡ get_or lines number d)
+  line-is : (tell : LevelEvent) (h : IsBelow words lines nets (number + 1) tell) → number ≤ h.0.number → (h.0.number ≡ number) × (h.0.line ≡ get_or lines number d)
   line-is tell h l =
       let e : h.0.number ≡ number = omega (arith, l, h.1) in
       (e, sym (get_or_from_slice_get lines number h.0.line d (ap (slice_get lines) (sym e) ∙ h.0.has_number)))
@@ -51,14 +51,14 @@ module _ (words : ℕ → ℕ → Level) (lines : List Pin) (nets number : ℕ) 
       (λ tell h. parts tell h (cases_lt h.0.number number)) (λ tell h. (h.0, omega (arith, h.1))) last so_far
       (notes-one between new (start_of words (get_or lines number d) nets number) noted)
     where
-      parts : (tell : Tell) (h : IsBelow words lines nets (number + 1) tell) → (h.0.number < number) ⊎ (number ≤ h.0.number)
+      parts : (tell : LevelEvent) (h : IsBelow words lines nets (number + 1) tell) → (h.0.number < number) ⊎ (number ≤ h.0.number)
           → IsBelow words lines nets number tell ⊎ (tell ≡ start_of words (get_or lines number d) nets number)
       parts tell h (inl l) = inl (h.0, l)
       parts tell h (inr l) =
           let e = line-is tell h l in
           inr (h.0.is ∙ ap (λ (n : ℕ). start_of words h.0.line nets n) e.0 ∙ ap (λ (line : Pin). start_of words line nets number) e.1)
 
-      last : (tell : Tell) → tell ≡ start_of words (get_or lines number d) nets number → IsBelow words lines nets (number + 1) tell
+      last : (tell : LevelEvent) → tell ≡ start_of words (get_or lines number d) nets number → IsBelow words lines nets (number + 1) tell
       last tell is = (record { number = number; line = get_or lines number d; has_number = here; known = known; is = is }, omega arith)
 
   starts-passed : words (get_or lines number d).net 63 ≡ X → NotesEach (IsBelow words lines nets (number + 1)) old between
@@ -66,7 +66,7 @@ module _ (words : ℕ → ℕ → Level) (lines : List Pin) (nets number : ℕ) 
       notes-as (IsBelow words lines nets number) (IsBelow words lines nets (number + 1)) old between
       (λ tell h. (h.0, omega (arith, h.1))) (λ tell h. kept tell h (cases_lt h.0.number number)) so_far
     where
-      kept : (tell : Tell) (h : IsBelow words lines nets (number + 1) tell) → (h.0.number < number) ⊎ (number ≤ h.0.number) → IsBelow words lines nets number tell
+      kept : (tell : LevelEvent) (h : IsBelow words lines nets (number + 1) tell) → (h.0.number < number) ⊎ (number ≤ h.0.number) → IsBelow words lines nets number tell
       kept tell h (inl l) = (h.0, l)
       kept tell h (inr l) =
           let e = line-is tell h l in

@@ -1,9 +1,9 @@
 use Rattle.std.proofs.Common.{◌+◌, ◌<◌, List, subst, sym, ap, ◌∙◌, arith, length}
 use Rattle.std.proofs.lemmas.Bool.{false≢true}
 use Rattle.cmb_netlist.specs.Netlist.{Netlist}
-use Rattle.cmb_calendar.specs.Calendars.{Calendar, SameTicks}
-use Rattle.cmb_design.specs.Design.{Design}
-use Rattle.cmb_design.specs.Exact.{nets_of}
+use Rattle.cmb_wheel.specs.Calendars.{Calendar, SameTicks}
+use Rattle.cmb_design_model.specs.Design.{Design}
+use Rattle.cmb_design_model.specs.Exact.{nets_of}
 use Rattle.cmb_engine.specs.Inner.Lines.{NotesEach}
 use Rattle.cmb_engine.specs.Inner.Starts.{IsOfInput}
 use Rattle.cmb_engine.specs.declared.role.Role.{Role}

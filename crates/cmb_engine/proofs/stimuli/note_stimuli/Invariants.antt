@@ -1,5 +1,5 @@
 use Rattle.std.proofs.Common.{◌<◌}
-use Rattle.cmb_calendar.specs.Calendars.{SameTicks}
+use Rattle.cmb_wheel.specs.Calendars.{SameTicks}
 use Rattle.cmb_engine.specs.Inner.Lines.{NotesEach}
 use Rattle.cmb_engine.specs.Inner.Starts.{IsOfInput}
 use Rattle.cmb_engine.proofs.stimuli.note_stimuli.Given as goal

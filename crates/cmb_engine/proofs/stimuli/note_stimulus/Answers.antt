@@ -2,7 +2,7 @@ use Rattle.std.proofs.Common.{◌≡◌, ◌+◌, take, subst, sym, ◌∙◌, a
 use Rattle.std.proofs.lemmas.List.{take_all}
 use Rattle.cmb_wave.specs.declared.level.Change.{Change}
 use Rattle.cmb_wave.specs.declared.level.Level.TheVariants.{Zero}
-use Rattle.cmb_calendar.specs.Calendars.{Calendar, SameTicks}
+use Rattle.cmb_wheel.specs.Calendars.{Calendar, SameTicks}
 use Rattle.cmb_engine.specs.Inner.Lines.{NotesEach}
 use Rattle.cmb_engine.proofs.NoteFacts.{ticks-on}
 use Rattle.cmb_engine.proofs.StimulusFacts.{IsOfChanges, changes-noted, changes-passed, changes-are_stimulus}

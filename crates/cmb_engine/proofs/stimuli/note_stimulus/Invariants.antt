@@ -1,5 +1,5 @@
 use Rattle.std.proofs.Common.{take}
-use Rattle.cmb_calendar.specs.Calendars.{SameTicks}
+use Rattle.cmb_wheel.specs.Calendars.{SameTicks}
 use Rattle.cmb_engine.specs.Inner.Lines.{NotesEach}
 use Rattle.cmb_engine.proofs.StimulusFacts.{IsOfChanges}
 use Rattle.cmb_engine.proofs.stimuli.note_stimulus.Given as goal

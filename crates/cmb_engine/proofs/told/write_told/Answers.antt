@@ -5,7 +5,7 @@ use Rattle.std.proofs.lemmas.List.Elements.{Contains-get_or}
 use Rattle.std.specs.Prelude.{Contains}
 use Rattle.cmb_wave.specs.declared.level.Level.{Level}
 use Rattle.cmb_wave.specs.declared.level.Level.TheVariants.{Zero}
-use Rattle.cmb_calendar.specs.declared.tell.Tell.{Tell}
+use Rattle.cmb_wheel.specs.declared.event.LevelEvent.{LevelEvent}
 use Rattle.cmb_words.specs.declared.word.Word.{Word}
 use Rattle.cmb_engine.specs.Inner.Bits.{has}
 use Rattle.cmb_engine.specs.Inner.Cells.{AreMarked}
@@ -16,11 +16,11 @@ use Rattle.cmb_engine.proofs.WordFacts.{levels_of-read}
 use Rattle.cmb_engine.proofs.WriteFacts.{writes-on}
 use Rattle.cmb_engine.proofs.told.write_told.Goals as goal
 
-abbrev none : Tell
+abbrev none : LevelEvent
 none = record { tick = 0; slot = 0; level = Zero }
 
 -- what is required of each tell that is listed
-listed : (P : Tell → Type 0) (tells : List Tell) (i : ℕ) → ((tell : Tell) → Contains tells tell → P tell) → i < length tells → P (get_or tells i none)
+listed : (P : LevelEvent → Type 0) (tells : List LevelEvent) (i : ℕ) → ((tell : LevelEvent) → Contains tells tell → P tell) → i < length tells → P (get_or tells i none)
 listed P tells i all below = all (get_or tells i none) (Contains-get_or tells i none below)
 
 pub bounds-words-slot : goal.bounds-words-slot
@@ -64,7 +64,7 @@ put_word-requires c =
 
 pub loop-tell-preserved : goal.loop-tell-preserved
 loop-tell-preserved c =
-    let tell : Tell = get_or c.args.tells.now c.loop-tell.tell-index none in
+    let tell : LevelEvent = get_or c.args.tells.now c.loop-tell.tell-index none in
     let lists : List (List ℕ) = c.args.readers.now in
     let facts = listed _ _ _ c.requires.slots c.loop-tell-test.true in
     let inside : tell.slot < length c.loop-tell.words = omega (arith, facts.0, c.loop-tell.invariant.writes.len) in
@@ -85,7 +85,7 @@ loop-tell-preserved c =
                 let e : c.loop-tell.tell-index ≡ k = omega (arith, l, now) in
                 let here : tell ≡ get_or c.args.tells.now k d =
                 get_or_default c.args.tells.now c.loop-tell.tell-index none d c.loop-tell-test.true ∙ ap (λ (n : ℕ). get_or c.args.tells.now n d) e in
-                subst (λ (t : Tell). AreMarked (has c.put_word.new.marks) (get_or lists t.slot [])) here
+                subst (λ (t : LevelEvent). AreMarked (has c.put_word.new.marks) (get_or lists t.slot [])) here
                 (subst (λ (readers : List ℕ). AreMarked (has c.put_word.new.marks) readers) c.of.ensures c.put_word.ensures.news)
           ];
     }
@@ -93,9 +93,9 @@ loop-tell-preserved c =
 pub returns-clause-words : goal.returns-clause-words
 returns-clause-words c = λ slot place inside small.
     c.loop-tell.invariant.words slot place small
-    ∙ ap (λ (tells : List Tell). told_level tells slot (levels_of c.args.words.now slot place) (c.args.to + place - 64)) (take_all c.loop-tell.tell-index c.args.tells.now c.loop-tell-test.false)
+    ∙ ap (λ (tells : List LevelEvent). told_level tells slot (levels_of c.args.words.now slot place) (c.args.to + place - 64)) (take_all c.loop-tell.tell-index c.args.tells.now c.loop-tell-test.false)
 
 pub returns-clause-news : goal.returns-clause-news
 returns-clause-news c = λ tell among.
-    subst (λ (t : Tell). AreMarked (has c.loop-tell.marks) (get_or c.args.readers.now t.slot [])) among.2
+    subst (λ (t : LevelEvent). AreMarked (has c.loop-tell.marks) (get_or c.args.readers.now t.slot [])) among.2
     (c.loop-tell.invariant.news among.0 tell (omega (arith, among.1, c.loop-tell-test.false)))

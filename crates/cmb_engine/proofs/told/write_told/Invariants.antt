@@ -1,5 +1,5 @@
 use Rattle.std.proofs.Common.{◌≡◌, ◌+◌, ◌-◌, ◌<◌, ℕ, [], get_or, take}
-use Rattle.cmb_calendar.specs.declared.tell.Tell.{Tell}
+use Rattle.cmb_wheel.specs.declared.event.LevelEvent.{LevelEvent}
 use Rattle.cmb_engine.specs.Inner.Bits.{has}
 use Rattle.cmb_engine.specs.Inner.Cells.{AreMarked}
 use Rattle.cmb_engine.specs.Inner.Tells.{told_level}
@@ -11,5 +11,5 @@ invariant-loop-tell l = record {
   writes : Writes l.initial.words l.words l.initial.live l.live l.initial.marks l.marks;
   words : (slot place : ℕ) → place < 64
       → levels_of l.words slot place ≡ told_level (take l.tell-index l.tells) slot (levels_of l.initial.words slot place) (l.to + place - 64);
-  news : (k : ℕ) (d : Tell) → k < l.tell-index → AreMarked (has l.marks) (get_or l.readers (get_or l.tells k d).slot []);
+  news : (k : ℕ) (d : LevelEvent) → k < l.tell-index → AreMarked (has l.marks) (get_or l.readers (get_or l.tells k d).slot []);
 }

@@ -1,6 +1,6 @@
 use Rattle.std.proofs.Common.{◌≡◌, ℕ, ◌+◌, ◌-◌, ◌%◌, ◌&&◌, nat_le, if◌then◌else◌, sym, ap, ap₂, subst, ◌∙◌}
 use Rattle.std.specs.Prelude.{◌==◌}
-use Rattle.cmb_design.specs.declared.rows.Clock.{Clock}
+use Rattle.cmb_design_model.specs.declared.rows.Clock.{Clock}
 use Rattle.cmb_words.specs.Word.{level_at_place}
 use Rattle.cmb_engine.specs.Inner.Cells.{seen}
 use Rattle.cmb_engine.specs.Rows.{arrives_by}

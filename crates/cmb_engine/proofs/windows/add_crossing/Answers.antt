@@ -1,7 +1,7 @@
 use Rattle.std.proofs.Common.{◌≡◌, ℕ, ◌+◌, ◌<◌, ◌++◌, ◌∷◌, [], List, sym, ap, subst, ◌∙◌, arith, Vec, Global}
 use Rattle.std.specs.Prelude.{All, Contains}
 use Rattle.std.proofs.lemmas.List.Elements.{All-push, Contains-append_left, Contains-push}
-use Rattle.cmb_design.specs.Timing.{delay}
+use Rattle.cmb_design_model.specs.Timing.{delay}
 use Rattle.cmb_engine.specs.Crossings.{IsCrossing}
 use Rattle.cmb_engine.specs.Inner.Ends.{pace_of, IsPaced}
 use Rattle.cmb_engine.specs.declared.windows.Pace.{Pace}

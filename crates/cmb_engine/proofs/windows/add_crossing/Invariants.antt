@@ -1,6 +1,6 @@
 use Rattle.std.proofs.Common.{ℕ, ◌<◌}
 use Rattle.std.specs.Prelude.{All, Contains}
-use Rattle.cmb_design.specs.Timing.{delay}
+use Rattle.cmb_design_model.specs.Timing.{delay}
 use Rattle.cmb_engine.specs.Crossings.{IsCrossing}
 use Rattle.cmb_engine.specs.Inner.Ends.{pace_of, IsPaced}
 use Rattle.cmb_engine.proofs.windows.add_crossing.Given as goal

@@ -1,6 +1,6 @@
 use Rattle.std.proofs.Common.{◌≡◌, ◌≤◌, ◌-◌, length}
-use Rattle.cmb_design.specs.Exact.{nets_of}
-use Rattle.cmb_design.specs.Value.{value}
+use Rattle.cmb_design_model.specs.Exact.{nets_of}
+use Rattle.cmb_design_model.specs.Value.{value}
 use Rattle.cmb_expect.specs.Inner.Probes.{AreFound, AreLater}
 use Rattle.cmb_expect.specs.Inner.Traces.{AreTraces}
 use Rattle.cmb_expect.proofs.observe.find_all.Given as goal

@@ -1,4 +1,4 @@
-use Rattle.cmb_design.specs.Value.{value}
+use Rattle.cmb_design_model.specs.Value.{value}
 use Rattle.cmb_expect.specs.Inner.Traces.{AreTraces}
 use Rattle.cmb_expect.proofs.observe.first_traces.Given as goal
 

@@ -1,9 +1,9 @@
 use Rattle.std.proofs.Common.{◌≡◌, ◌∙◌, List, None, ap, map, subst}
 use Rattle.std.proofs.lemmas.Result.{err_from_is_err_and}
-use Rattle.cmb_design.specs.Checks.{first_fault, rows_checks}
-use Rattle.cmb_design.specs.Expected.{expected_of}
-use Rattle.cmb_design.specs.Rows.{expected_row_checks}
-use Rattle.cmb_design.specs.declared.rows.StimulusRow.{StimulusRow}
+use Rattle.cmb_design_model.specs.Checks.{first_fault, rows_checks}
+use Rattle.cmb_design_model.specs.Expected.{expected_of}
+use Rattle.cmb_design_model.specs.Rows.{expected_row_checks}
+use Rattle.cmb_design_model.specs.declared.rows.StimulusRow.{StimulusRow}
 use Rattle.cmb_inputs.proofs.Expectations.{AreUnexpected-of}
 use Rattle.cmb_inputs.proofs.Spelled.{Stops, Stops-behind, Stops-front, none_behind}
 use Rattle.cmb_inputs.proofs.expected.expected_in.Goals as goal

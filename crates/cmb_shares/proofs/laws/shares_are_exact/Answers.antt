@@ -1,4 +1,4 @@
-use Rattle.cmb_lookahead.proofs.Sound.{reachable-sound}
+use Rattle.cmb_shares_protocol.proofs.Sound.{reachable-sound}
 use Rattle.cmb_shares.proofs.TraceFacts.{made-exact, told-exact}
 use Rattle.cmb_shares.proofs.laws.shares_are_exact.Goals as goal
 

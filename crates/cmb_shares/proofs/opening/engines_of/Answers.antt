@@ -3,7 +3,7 @@ use Rattle.std.proofs.lemmas.List.{length-map}
 use Rattle.std.proofs.lemmas.Result.{IfOk-weaker}
 use Rattle.std.specs.declared.alloc.AllocError.{AllocError}
 use Rattle.cmb_engine.specs.Shares.{ShareEngine}
-use Rattle.cmb_partition.specs.declared.shares.Share.{Share}
+use Rattle.cmb_graph_partition.specs.declared.shares.Share.{Share}
 use Rattle.cmb_shares.specs.Inner.Opened.{IsEngineOf}
 use Rattle.cmb_shares.proofs.OpeningFacts.{each-ok}
 use Rattle.cmb_shares.proofs.opening.engines_of.Goals as goal

@@ -1,10 +1,10 @@
 use Rattle.std.proofs.Common.{◌≡◌, ◌∙◌, ◌↔◌, ℕ, ◌<◌, ◌≤◌, Bool, List, [], length, map, get_or, refl, subst, sym}
 use Rattle.std.specs.Prelude.{Contains}
 use Rattle.std.proofs.lemmas.Option.{slice_get_read}
-use Rattle.cmb_design.specs.Design.{Design}
+use Rattle.cmb_design_model.specs.Design.{Design}
 use Rattle.cmb_engine.specs.Crossings.{IsCrossing}
 use Rattle.cmb_engine.specs.Shares.{IsDriven}
-use Rattle.cmb_partition.specs.declared.shares.Share.{Share}
+use Rattle.cmb_graph_partition.specs.declared.shares.Share.{Share}
 use Rattle.cmb_shares.proofs.OpeningFacts.{marks-at}
 use Rattle.cmb_shares.proofs.opening.open_engine.Goals as goal
 

@@ -1,7 +1,7 @@
 use Rattle.std.proofs.Common.{ℕ, ◌<◌, List, [], ◌∷◌, ◌++◌, ap, arith, subst, sym, ◌∙◌}
 use Rattle.std.specs.Prelude.{All}
 use Rattle.std.specs.List.{range_with_len}
-use Rattle.cmb_restrict.proofs.FoundFacts.{range_below, range_more}
+use Rattle.cmb_cone.proofs.FoundFacts.{range_below, range_more}
 use Rattle.cmb_sim.proofs.activities.all_nets.Goals as goal
 
 pub loop-net-preserved : goal.loop-net-preserved

@@ -1,5 +1,5 @@
 use Rattle.std.proofs.lemmas.Result.{err_from_is_err_and}
-use Rattle.cmb_inout.specs.declared.fault.Fault.TheVariants.{Memory}
+use Rattle.cmb_faults.specs.declared.fault.Fault.TheVariants.{Memory}
 use Rattle.cmb_sim.proofs.Outcomes.{IsRefused-chosen, IsRefused-unrun}
 use Rattle.cmb_sim.proofs.activities.asked_table.Goals as goal
 

@@ -1,5 +1,5 @@
 use Rattle.std.proofs.lemmas.Result.{err_from_is_err_and}
-use Rattle.cmb_inout.specs.declared.answer.Comparison.{Comparison}
+use Rattle.cmb_faults.specs.declared.answer.Comparison.{Comparison}
 use Rattle.cmb_inputs.proofs.Read.{IsReading-read, IsReading-unread}
 use Rattle.cmb_inputs.specs.Inputs.{texts_in}
 use Rattle.cmb_inputs.specs.declared.texts.InputTexts.{InputTexts}

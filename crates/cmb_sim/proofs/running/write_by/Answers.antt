@@ -1,5 +1,5 @@
-use Rattle.cmb_vcd.specs.Chosen.{vcd_of}
-use Rattle.cmb_vcd.specs.Vcd.{vcd}
+use Rattle.cmb_run_text.specs.Chosen.{vcd_of}
+use Rattle.cmb_run_text.specs.Vcd.{vcd}
 use Rattle.cmb_sim.proofs.Puts.{IsPut-more}
 use Rattle.cmb_sim.proofs.running.write_by.Goals as goal
 

@@ -1,5 +1,5 @@
 use Rattle.std.proofs.Common.{◌≡◌, ◌-◌}
-use Rattle.cmb_stream.specs.Parts.{IsAtEndOf}
+use Rattle.cmb_dump_stream.specs.Parts.{IsAtEndOf}
 use Rattle.cmb_team.proofs.text.begin.Given as goal
 
 abbrev pub invariant-loop-kept : goal.invariant-loop-kept

@@ -1,7 +1,7 @@
 use Rattle.std.proofs.Common.{◌≡◌, length, true, sym, ap, subst, ◌∙◌}
 use Rattle.std.specs.Prelude.{replicate}
 use Rattle.cmb_netlist.specs.Netlist.{IsNetlist, Netlist}
-use Rattle.cmb_design.specs.Design.{Design}
+use Rattle.cmb_design_model.specs.Design.{Design}
 use Rattle.cmb_engine.proofs.ShareFacts.{drives-all}
 use Rattle.cmb_engine.proofs.engine.Engine.open.Goals as goal
 

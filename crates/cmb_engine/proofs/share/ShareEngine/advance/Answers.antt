@@ -1,7 +1,7 @@
 use Rattle.std.proofs.Common.{◌+◌, ◌<◌, ◌≤◌, ap, subst, sym}
-use Rattle.cmb_design.specs.Exact.{nets_of}
+use Rattle.cmb_design_model.specs.Exact.{nets_of}
 use Rattle.cmb_words.specs.Changes.{IsWindow}
-use Rattle.cmb_design.specs.Value.{value}
+use Rattle.cmb_design_model.specs.Value.{value}
 use Rattle.cmb_engine.specs.Shares.{IsDriven, IsGiven, EachChanges, ShareEngine, TellsThose}
 use Rattle.cmb_engine.proofs.RoleFacts.{share-tells}
 use Rattle.cmb_engine.proofs.share.ShareEngine.advance.Goals as goal

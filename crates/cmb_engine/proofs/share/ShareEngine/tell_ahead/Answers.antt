@@ -1,8 +1,8 @@
 use Rattle.std.proofs.Common.{◌≡◌, ℕ, ◌+◌, ◌-◌, ◌<◌, ◌≤◌, List, [], length, sym, subst, arith}
 use Rattle.std.specs.Prelude.{All, Contains}
 use Rattle.std.proofs.lemmas.Result.{on_ok_weaker}
-use Rattle.cmb_design.specs.Timing.{delay}
-use Rattle.cmb_design.specs.Value.{value}
+use Rattle.cmb_design_model.specs.Timing.{delay}
+use Rattle.cmb_design_model.specs.Value.{value}
 use Rattle.cmb_words.specs.declared.word.Word.{Word}
 use Rattle.cmb_engine.specs.Crossings.{IsWithinLookahead}
 use Rattle.cmb_engine.specs.Inner.Circuits.{Shows}

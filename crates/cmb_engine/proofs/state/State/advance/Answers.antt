@@ -2,8 +2,8 @@ use Rattle.std.proofs.Common.{◌≡◌, ◌<◌, ℕ, ◌-◌, List, length, sy
 use Rattle.std.specs.Prelude.{All, Contains, false}
 use Rattle.std.proofs.lemmas.List.{with_items_is}
 use Rattle.std.proofs.lemmas.Result.{on_ok_weaker}
-use Rattle.cmb_calendar.specs.declared.tell.Tell.{Tell}
-use Rattle.cmb_design.specs.Exact.{nets_of}
+use Rattle.cmb_wheel.specs.declared.event.LevelEvent.{LevelEvent}
+use Rattle.cmb_design_model.specs.Exact.{nets_of}
 use Rattle.cmb_words.specs.declared.changed.Changed.{Changed}
 use Rattle.cmb_words.specs.declared.word.Word.{Word}
 use Rattle.cmb_words.specs.Changes.{RisesWithin, is_among}
@@ -23,7 +23,7 @@ pub go_on-requires-clause-told : goal.go_on-requires-clause-told
 go_on-requires-clause-told c = λ tell h.
     let told = told-slots c.args.design.now c.args.circuit.now c.args.self.now c.requires.circuit c.requires.state c.take.new.self c.take.new.taken.items
     c.args.upto c.requires.later c.requires.short c.requires.within c.in_ok-take.ensures.takes c.in_ok-take.ensures.order tell
-    (subst (λ (xs : List Tell). Contains xs tell) c.deref.ensures.value h) in
+    (subst (λ (xs : List LevelEvent). Contains xs tell) c.deref.ensures.value h) in
     (omega (arith, told.0, c.requires.state.slots, ap length c.deref_mut.ensures.value), told.1, told.2, told.3)
 
 pub go_on-requires-clause-gives : goal.go_on-requires-clause-gives

@@ -1,5 +1,5 @@
 use Rattle.std.proofs.Common.{◌≡◌, ◌<◌, rules, arith, sym, subst}
-use Rattle.cmb_design.specs.Exact.{nets_of}
+use Rattle.cmb_design_model.specs.Exact.{nets_of}
 use Rattle.cmb_links.specs.Seats.{after_look}
 use Rattle.cmb_links.specs.Inner.BoardSteps.{only}
 use Rattle.cmb_links.proofs.Allowed.{look_allowed}

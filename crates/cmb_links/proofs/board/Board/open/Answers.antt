@@ -1,7 +1,7 @@
 use Rattle.std.proofs.Common.{◌≡◌, ◌+◌, ◌<◌, ◌≤◌, ◌++◌, [], ◌∷◌, true, false, map, replicate, rules, arith, ap, sym, ◌∙◌}
 use Rattle.std.proofs.lemmas.List.FromFn.{map-range_with_len_more}
 use Rattle.std.specs.List.{range_with_len}
-use Rattle.cmb_design.specs.Exact.{nets_of}
+use Rattle.cmb_design_model.specs.Exact.{nets_of}
 use Rattle.cmb_links.specs.Seats.{new_view, new_seat, new_seats, terms}
 use Rattle.cmb_links.specs.Inner.BoardSteps.{cut_left, cut_right, only}
 use Rattle.cmb_links.specs.declared.view.BoardTerms.{BoardTerms}

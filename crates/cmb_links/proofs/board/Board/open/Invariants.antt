@@ -1,6 +1,6 @@
 use Rattle.std.proofs.Common.{◌≡◌, ◌+◌, true, false, [], ◌∷◌, map, vec_len, vec_capacity}
 use Rattle.std.specs.List.{range_with_len}
-use Rattle.cmb_design.specs.Exact.{nets_of}
+use Rattle.cmb_design_model.specs.Exact.{nets_of}
 use Rattle.cmb_links.specs.Seats.{new_view, new_seat, terms, terms_of}
 use Rattle.cmb_links.proofs.board.Board.open.Given as goal
 

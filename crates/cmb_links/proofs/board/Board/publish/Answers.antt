@@ -1,5 +1,5 @@
 use Rattle.std.proofs.Common.{◌≡◌, ◌≤◌, rules, arith}
-use Rattle.cmb_design.specs.Exact.{IsRightIn}
+use Rattle.cmb_design_model.specs.Exact.{IsRightIn}
 use Rattle.cmb_links.specs.Promises.{newest}
 use Rattle.cmb_links.specs.Seats.{driver}
 use Rattle.cmb_links.specs.Inner.BoardSteps.{only}

@@ -1,6 +1,6 @@
 use Rattle.std.proofs.Common.{◌≡◌, ◌+◌, ◌-◌, ◌≤◌, ◌++◌, All, length, vec_len, vec_capacity}
 use Rattle.crossbeam_queue.specs.Passes.{view, IsPassOf}
-use Rattle.cmb_design.specs.Exact.{IsExactIn}
+use Rattle.cmb_design_model.specs.Exact.{IsExactIn}
 use Rattle.cmb_links.specs.Inner.Ends.{closing}
 use Rattle.cmb_links.proofs.link.Link.close.Given as goal
 

@@ -1,11 +1,11 @@
 use Rattle.std.proofs.Common.{◌≡◌, ◌∙◌, ℕ, ◌^◌, ◌<◌, ◌≤◌, Bool, List, length, map, get_or, subst, sym, arith}
 use Rattle.std.specs.Prelude.{IfSome, Option}
 use Rattle.std.proofs.lemmas.List.{length-map}
-use Rattle.cmb_design.specs.Timing.{delay}
+use Rattle.cmb_design_model.specs.Timing.{delay}
 use Rattle.cmb_engine.specs.Crossings.{AreWithinLookahead, IsCrossing}
 use Rattle.cmb_engine.specs.Shares.{ShareEngine}
 use Rattle.cmb_engine.specs.Windows.{HaveTicks, Windows}
-use Rattle.cmb_partition.specs.declared.shares.Share.{Share}
+use Rattle.cmb_graph_partition.specs.declared.shares.Share.{Share}
 use Rattle.cmb_shares.specs.Inner.Opened.{IsEngineOf, run_of}
 use Rattle.cmb_shares.specs.Inner.Runs.{driven_by}
 use Rattle.cmb_shares.proofs.OpeningFacts.{is-run}

@@ -1,7 +1,7 @@
 use Rattle.std.proofs.Common.{subst}
 use Rattle.std.specs.Prelude.{Contains}
-use Rattle.cmb_design.specs.Design.{Design}
-use Rattle.cmb_design.specs.Value.{value}
+use Rattle.cmb_design_model.specs.Design.{Design}
+use Rattle.cmb_design_model.specs.Value.{value}
 use Rattle.cmb_engine.specs.Shares.{TellsThose}
 use Rattle.cmb_shares.proofs.ToldFacts.{on_ok_two, told-fed}
 use Rattle.cmb_shares.proofs.simulator.Simulator.tell_ahead.Goals as goal

@@ -1,5 +1,5 @@
 use Rattle.std.proofs.Common.{◌≡◌, ◌∙◌, ◌≤◌, ap, arith, length, refl, sym}
-use Rattle.cmb_design.specs.Design.{Design}
+use Rattle.cmb_design_model.specs.Design.{Design}
 use Rattle.cmb_engine.specs.Engines.{Engine}
 use Rattle.cmb_team.specs.Inner.Batches.{Batch, last_clock}
 use Rattle.cmb_team.proofs.OkFacts.{ok-and-on, ok-and-same}

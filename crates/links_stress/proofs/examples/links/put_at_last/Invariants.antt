@@ -1,5 +1,5 @@
 use Rattle.std.proofs.Common.{◌≡◌}
-use Rattle.cmb_design.specs.Exact.{IsExactIn}
+use Rattle.cmb_design_model.specs.Exact.{IsExactIn}
 use Rattle.links_stress.proofs.examples.links.put_at_last.Given as goal
 
 abbrev pub invariant-loop : goal.invariant-loop

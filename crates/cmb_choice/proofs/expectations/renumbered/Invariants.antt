@@ -1,5 +1,0 @@
-use Rattle.cmb_choice.specs.Inner.Levels.{AreRenumbered}
-use Rattle.cmb_choice.proofs.expectations.renumbered.Given as goal
-
-abbrev pub invariant-loop-i : goal.invariant-loop-i
-invariant-loop-i l = AreRenumbered l.rows l.nets l.i l.placed.items

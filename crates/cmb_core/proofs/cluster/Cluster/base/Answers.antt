@@ -1,9 +1,0 @@
-use Rattle.std.proofs.Common.{◌≡◌, Some, sym, ◌∙◌, ap}
-use Rattle.cmb_core.specs.Clusters.{input_slot, told_at}
-use Rattle.cmb_core.proofs.Inputs.{input_wave}
-use Rattle.cmb_core.proofs.cluster.Cluster.base.Goals as goal
-
-pub returns-in-Some : goal.returns-in-Some
-returns-in-Some c =
-    let place : input_slot c.args.self.now c.args.net ≡ Some c.in-Some.slot = sym c.input_place.ensures.place ∙ c.in-Some.is in
-    ap (λ t. Some t) (c.base.ensures ∙ ap (λ w. w.base) (c.wave.ensures.wave ∙ input_wave c.args.self.now c.args.net c.in-Some.slot place)) ∙ sym (ap (told_at (λ w. w.base) c.args.self.now c.args.net) place)

@@ -1,5 +1,0 @@
-use Rattle.cmb_core.proofs.OnwardFacts.{sweep_goes_on}
-use Rattle.cmb_core.proofs.laws.sweeps_go_on.Goals as goal
-
-pub returns : goal.returns
-returns c = λ design clustering cluster s netlist of. sweep_goes_on design netlist clustering cluster s of

@@ -1,9 +1,0 @@
-use Rattle.std.proofs.Common.{◌∙◌}
-use Rattle.cmb_design.specs.Timing.{stimulus}
-use Rattle.cmb_core.proofs.OpeningFacts.{input_starts}
-use Rattle.cmb_core.proofs.open.input_node.Goals as goal
-
-pub returns-clause-starts : goal.returns-clause-starts
-returns-clause-starts c = λ places.
-    rw (c.new-2.ensures, c.new.ensures.items)
-    (input_starts c.args.design.now.horizon places (stimulus c.args.design.now c.args.net) c.in_ok-stimulus.stimulus.items (c.in_ok-stimulus.ensures.items ∙ c.stim_changes.ensures))

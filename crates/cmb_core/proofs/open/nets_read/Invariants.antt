@@ -1,5 +1,0 @@
-use Rattle.cmb_core.specs.Inner.Opening.{AreRead}
-use Rattle.cmb_core.proofs.open.nets_read.Given as goal
-
-abbrev pub invariant-loop-net : goal.invariant-loop-net
-invariant-loop-net l = AreRead l.design l.clustering l.cluster l.net l.read.items

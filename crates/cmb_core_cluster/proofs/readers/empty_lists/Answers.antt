@@ -1,0 +1,9 @@
+use Rattle.std.proofs.Common.{◌++◌, ◌∷◌, [], map, ◌∙◌, ap}
+use Rattle.std.specs.Prelude.{replicate}
+use Rattle.std.proofs.lemmas.List.{replicate_more, map-append}
+use Rattle.cmb_core_cluster.proofs.readers.empty_lists.Goals as goal
+
+pub loop-preserved : goal.loop-preserved
+loop-preserved c =
+    ap (map (λ list. list.items)) c.in_ok-push.ensures.items ∙ map-append (λ list. list.items) c.loop.lists.items _
+    ∙ ap (λ xs. xs ++ c.new.result.items ∷ []) c.loop.invariant ∙ ap (λ xs. replicate c.loop.counter [] ++ xs ∷ []) c.new.ensures.items ∙ replicate_more c.loop.counter []

@@ -1,5 +1,0 @@
-use Rattle.cmb_design.proofs.SampleFacts.{delay-positive}
-use Rattle.cmb_design.proofs.laws.delays_are_positive.Goals as goal
-
-pub returns : goal.returns
-returns c = delay-positive

@@ -1,8 +1,0 @@
-use Rattle.cmb_wave.specs.Waveform.{changes_between}
-use Rattle.cmb_design.specs.Timing.{level_by}
-use Rattle.cmb_design.specs.Inner.Told.{told_at}
-use Rattle.cmb_design.proofs.SettleFacts.{Settling}
-use Rattle.cmb_design.proofs.stimuli.settle_all.Given as goal
-
-abbrev pub invariant-loop-i : goal.invariant-loop-i
-invariant-loop-i l = Settling (λ levels. changes_between (level_by (told_at levels)) 0 4294967296) l.initial.table.items l.table.items l.i

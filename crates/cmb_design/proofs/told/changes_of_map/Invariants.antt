@@ -1,7 +1,0 @@
-use Rattle.std.proofs.Common.{◌≡◌, ◌++◌}
-use Rattle.cmb_wave.specs.declared.level.Level.TheVariants as level
-use Rattle.cmb_design.proofs.LevelFacts.{keep}
-use Rattle.cmb_design.proofs.told.changes_of_map.Given as goal
-
-abbrev pub invariant-loop-tick : goal.invariant-loop-tick
-invariant-loop-tick l = l.list.items ++ keep 4294967296 l.before l.tick-iterator ≡ keep 4294967296 level.X l.rows.entries

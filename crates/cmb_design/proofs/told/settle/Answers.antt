@@ -1,7 +1,0 @@
-use Rattle.std.proofs.Common.{subst}
-use Rattle.cmb_design.specs.Inner.Told.{IsTold}
-use Rattle.cmb_design.proofs.ToldFacts.{settled}
-use Rattle.cmb_design.proofs.told.settle.Goals as goal
-
-pub returns-in-Changes : goal.returns-in-Changes
-returns-in-Changes c = rw c.in-Changes.is (settled c.in-Changes.field-0.items (subst IsTold c.in-Changes.is c.requires))

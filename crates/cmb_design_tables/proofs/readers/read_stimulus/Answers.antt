@@ -1,0 +1,8 @@
+use Rattle.std.proofs.Common.{rules}
+use Rattle.cmb_design_model.specs.Checks.{first_fault}
+use Rattle.cmb_design_tables.specs.Readers.{stimulus_record_checks, stimulus_row_of}
+use Rattle.cmb_design_tables.proofs.readers.read_stimulus.Goals as goal
+
+pub returns : goal.returns
+unfolding first_fault stimulus_record_checks stimulus_row_of
+returns c = search rules

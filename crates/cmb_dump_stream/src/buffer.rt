@@ -1,0 +1,127 @@
+//! What was made of a design's text and not handed on.
+
+ghost use Rattle.std.specs.Prelude.{◌≡◌, ℕ, ◌+◌, ◌-◌, ◌^◌, ◌<◌, ◌≤◌, ◌++◌, List, Option, false, true, length, take};
+ghost use Rattle.std.specs.Prelude.{IfErr, IfOk, OnOk};
+ghost use Rattle.std.specs.Io.KnownBytes.{Appends};
+ghost use Rattle.cmb_dump_stream.specs.Parts.{made_text};
+ghost use Rattle.cmb_dump_stream.specs.Streams.{IsBrokenOff};
+ghost use Rattle.cmb_run_text.specs.Vcd.{vcd};
+
+use cmb_design_model::Design;
+use cmb_dump::Dump;
+use cmb_io::{Sink, WriteFault, write_whole};
+use std::alloc::{AllocError, Global};
+use std::marker::Model;
+
+/// The text of a design, as far as it was made. Of that a front was handed on, and the rest is kept.
+#[derive(Drop)]
+pub struct TextBuffer<'a> {
+    design: &'a Design,
+    clock: u32,
+    text: Vec<u8>,
+    given: u64,
+}
+
+impl<'a> Model for TextBuffer<'a> {
+    ghost use Rattle.cmb_dump_stream.specs.Parts.{IsKept, TextBuffer};
+
+    ghost Value = { TextBuffer };
+
+    ghost view = { λ k. record { design = k.design.now; clock = k.clock; given = k.given } };
+
+    ghost invariant = { λ k. IsKept k.design.now k.clock k.given k.text.items };
+}
+
+impl<'a> TextBuffer<'a> {
+    /// The text up to tick 1, which the design's dump begins with.
+    pub fn open(
+        alloc: Global,
+        design: &'a Design,
+        dump: &Dump<'_>,
+    ) -> Result<TextBuffer<'a>, AllocError>
+        requires { dump.now.text ≡ made_text design.now 1 }
+        ensures design { IfOk result (λ kept. kept.design ≡ design.entry.now) }
+        ensures clock { IfOk result (λ kept. kept.clock ≡ 1) }
+        ensures given { IfOk result (λ kept. kept.given ≡ 0) }
+    {
+        // The proof learns here that the design is lawful.
+        let _horizon = design.horizon();
+        Ok(TextBuffer {
+            design,
+            clock: 1,
+            text: dump.text().to_vec(alloc)?,
+            given: 0,
+        })
+    }
+
+    /// Whether the whole text was made.
+    pub fn is_done(&self) -> bool
+        ensures done { result ≡ true → self.now.clock ≡ self.now.design.horizon }
+        ensures open { result ≡ false → self.now.clock < self.now.design.horizon }
+    {
+        self.clock >= self.design.horizon()
+    }
+
+    /// The tick below which the text was made.
+    pub fn clock(&self) -> u32
+        ensures value { result ≡ self.now.clock }
+        ensures begun { 1 ≤ result }
+    {
+        self.clock
+    }
+
+    /// Adds the text of the ticks from the clock on below `upto`. Where memory runs out nothing changes.
+    pub fn grow(&mut self, text: &[u8], upto: u32) -> Result<(), AllocError>
+        requires order { self.old.clock ≤ upto }
+        requires within { upto ≤ self.old.design.horizon }
+        requires text { made_text self.old.design upto ≡ made_text self.old.design self.old.clock ++ text.now }
+        ensures clock { OnOk result (self.new.clock ≡ upto) }
+        ensures design { self.new.design ≡ self.old.design }
+        ensures given { self.new.given ≡ self.old.given }
+    {
+        self.text.extend_from_slice(text)?;
+        self.clock = upto;
+        Ok(())
+    }
+
+    /// How many bytes are kept: those that were made and not handed on.
+    pub fn len(&self) -> usize
+        ensures { self.now.given + result ≡ length (made_text self.now.design self.now.clock) }
+    {
+        self.text.len()
+    }
+
+    /// How many bytes were handed on.
+    pub fn given(&self) -> u64
+        ensures { result ≡ self.now.given }
+    {
+        self.given
+    }
+
+    /// Hands on what is kept. After an Err it isn't to be used again.
+    pub fn give<S: Sink>(&mut self, sink: &mut S) -> Result<(), WriteFault>
+        requires room { S.failures sink.old < 2 ^ 64 - 1 }
+        ensures text { (start : Option (List ℕ))
+            → Appends start (S.taken sink.old) (take self.old.given (vcd self.old.design))
+            → OnOk result (Appends start (S.taken sink.new) (take self.new.given (vcd self.old.design))) }
+        ensures given { OnOk result (self.new.given ≡ length (made_text self.old.design self.old.clock)) }
+        ensures design { self.new.design ≡ self.old.design }
+        ensures clock { self.new.clock ≡ self.old.clock }
+        ensures no_failure { OnOk result (S.failures sink.new ≡ S.failures sink.old) }
+        ensures fault { (start : Option (List ℕ))
+            → Appends start (S.taken sink.old) (take self.old.given (vcd self.old.design))
+            → IfErr result (IsBrokenOff self.old.design start (S.taken sink.new) (S.failures sink.old)
+            (S.failures sink.new)) }
+    {
+        match write_whole(sink, &self.text) {
+            Ok(()) => {
+                self.given += self.text.len() as u64;
+                self.text.clear();
+                Ok(())
+            }
+            Err(count) => Err(WriteFault::Write {
+                written: self.given + count as u64,
+            }),
+        }
+    }
+}

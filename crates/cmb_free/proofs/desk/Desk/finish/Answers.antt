@@ -1,7 +1,0 @@
-use Rattle.std.proofs.Common.{ap}
-use Rattle.cmb_links.specs.Seats.{SeatData}
-use Rattle.cmb_free.proofs.TurnFacts.{SeatGoes-finish}
-use Rattle.cmb_free.proofs.desk.Desk.finish.Goals as goal
-
-pub returns-then-not-self : goal.returns-then-not-self
-returns-then-not-self g c = SeatGoes-finish g.T.Terms.design g.T.Terms.clustering c.args.self.now.seat.view c.finish.new.seat.view (ap (λ (s : SeatData). s.view) c.finish.ensures.entry)

@@ -1,7 +1,0 @@
-use Rattle.std.proofs.Common.{ap}
-use Rattle.cmb_links.specs.Seats.{SeatData}
-use Rattle.cmb_free.proofs.TurnFacts.{SeatGoes-check}
-use Rattle.cmb_free.proofs.desk.Desk.raised.Goals as goal
-
-pub returns : goal.returns
-returns g c = SeatGoes-check g.T.Terms.design g.T.Terms.clustering c.args.self.now.seat.view c.raised.new.seat.view c.raised.result (ap (λ (s : SeatData). s.view) c.raised.ensures.entry)

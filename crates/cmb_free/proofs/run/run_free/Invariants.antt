@@ -1,4 +1,0 @@
-use Rattle.cmb_free.proofs.run.run_free.Given as goal
-
-abbrev pub ghosts-run_named : goal.ghosts-run_named
-ghosts-run_named g a = record { design = a.design.now; clustering = a.clustering.now }

@@ -1,0 +1,45 @@
+-- The shapes of what a partition is made of: lengths, and bounds of numbers.
+use Rattle.std.specs.Prelude.{◌≡◌, ℕ, ◌<◌, ◌≤◌, ◌^◌, List, length, slice_index, All}
+use Rattle.cmb_netlist.specs.Netlist.{IsNetlist, Netlist}
+use Rattle.cmb_graph_partition.specs.declared.classes.Classes.{Classes}
+use Rattle.cmb_graph_partition.specs.declared.families.Families.{Families}
+use Rattle.cmb_graph_partition.specs.declared.lists.Entry.{Entry}
+use Rattle.cmb_graph_partition.specs.declared.shares.Share.{Share}
+use Rattle.cmb_graph_partition.specs.declared.shares.Partition.{Partition}
+use Rattle.cmb_graph_partition.specs.declared.wiring.Wiring.{Wiring}
+
+-- each net has an owner among the shares, and each share a mark for each net
+pub record IsShaped (netlist : Netlist) (partition : Partition) : Type 0 where
+  pub sound : IsNetlist netlist
+  pub nets : length partition.owners.items ≡ length netlist.names
+  pub crossed : length partition.crossing.items ≡ length netlist.names
+  pub few : length partition.shares.items < 2 ^ 32
+  pub below : All (λ owner. owner < length partition.shares.items) partition.owners.items
+  pub marks : All (λ (share : Share). length share.driven.items ≡ length netlist.names) partition.shares.items
+
+-- places and items are numbers of so many nets
+abbrev pub AreWithin : ℕ → List Entry → Type 0
+AreWithin nets entries = All (λ (entry : Entry). (entry.place < nets) × (entry.item < nets)) entries
+
+-- the wiring is of so many nets
+pub record IsWiring (nets : ℕ) (wiring : Wiring) : Type 0 where
+  pub few : nets ≤ 65535
+  pub numbers : length wiring.numbers.items ≡ nets
+  pub readers : All (λ net. net < nets) wiring.readers.items.items
+  pub members : All (λ net. net < nets) wiring.members.items.items
+
+-- sinks are nets
+abbrev pub AreFamilies : Families → Type 0
+AreFamilies families = All (λ net. net < length families.classes.items) families.sinks.items.items
+
+-- classes and sinks of so many nets
+pub record AreClasses (nets : ℕ) (classes : Classes) : Type 0 where
+  pub long : length classes.of_nets.items ≡ nets
+  pub below : All (λ class. class < length classes.weights.items) classes.of_nets.items
+  pub few : length classes.weights.items < 2 ^ 32
+  pub needed : All (λ net. net < nets) classes.needed.items.items
+  pub sinks : All (λ net. net < nets) classes.sinks.items
+
+-- each net's next one on the way to the root of its tree is none that comes after it
+abbrev pub IsForest : List ℕ → Type 0
+IsForest parents = (net : ℕ) → slice_index parents net ≤ net

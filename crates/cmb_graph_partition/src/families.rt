@@ -1,0 +1,240 @@
+//! Classes of nets that are read by the same.
+
+ghost use Rattle.std.specs.Prelude.{◌≡◌, ◌<◌, length, All, IfOk, OnOk};
+ghost use Rattle.cmb_graph_partition.specs.Inner.Shapes.{AreFamilies, IsWiring};
+
+use crate::lists::Lists;
+use crate::wiring::Wiring;
+use cmb_netlist::{Driver, Netlist};
+use std::alloc::{AllocError, Global};
+
+/// No net has this number.
+pub(crate) const NO_NET: u32 = u32::MAX;
+
+/// The nets of a netlist in classes. Each flip-flop is one, and each net that nothing reads: these are the sinks. A
+/// gate is of its readers' class where all are of one; else it begins a class, whose parents are those of its readers.
+/// What a component of gates has together is of one class. All inputs are of the first class, that has no parents.
+#[derive(Drop)]
+pub(crate) struct Families {
+    /// For each net its class.
+    pub classes: Vec<u32>,
+    /// For each class the net that is its sink, if it has one.
+    pub sinks: Lists,
+    /// For each class its parents. Their numbers are lower.
+    pub parents: Lists,
+    /// For each class the flip-flop whose import it is, if it is one; else `NO_NET`.
+    pub imports: Vec<u32>,
+}
+
+// Begins a class, and answers its number.
+fn begin(
+    families: &mut Families,
+    sink: &[u32],
+    parents: &[u32],
+    import: u32,
+) -> Result<u32, AllocError>
+    requires families { AreFamilies families.old }
+    requires sink { All (λ net. net < length families.old.classes.items) sink.now }
+    ensures families { OnOk result (AreFamilies families.new) }
+    ensures classes { families.new.classes ≡ families.old.classes }
+{
+    let Ok(class) = u32::try_from(families.imports.len()) else {
+        return Err(AllocError);
+    };
+    families.sinks.push(sink)?;
+    families.parents.push(parents)?;
+    families.imports.push(import)?;
+    Ok(class)
+}
+
+// Each flip-flop is a class.
+fn add_flops(families: &mut Families, netlist: &Netlist) -> Result<(), AllocError>
+    requires families { AreFamilies families.old }
+    requires long { length families.old.classes.items ≡ length netlist.now.names }
+    ensures families { OnOk result (AreFamilies families.new) }
+    ensures long { OnOk result (length families.new.classes.items ≡ length netlist.now.names) }
+{
+    for net in 0..netlist.len() {
+        if matches!(netlist.driver(net), Driver::Flop(_)) {
+            let class = begin(families, &[net as u32], &[], NO_NET)?;
+            families.classes[net] = class;
+        }
+    }
+    Ok(())
+}
+
+// Adds the classes of those that read a net from outside its component.
+fn note_readers(
+    found: &mut Vec<u32>,
+    classes: &[u32],
+    wiring: &Wiring,
+    net: usize,
+) -> Result<(), AllocError>
+    requires wiring { IsWiring (length classes.now) wiring.now }
+    requires net { net < length classes.now }
+{
+    let number = wiring.numbers[net];
+    for reader in wiring.readers.of(net) {
+        if wiring.numbers[*reader as usize] != number {
+            found.push(classes[*reader as usize])?;
+        }
+    }
+    Ok(())
+}
+
+// The classes of those that read nets of a component from outside, each once.
+fn parents_of(
+    alloc: Global,
+    classes: &[u32],
+    wiring: &Wiring,
+    nets: &[u32],
+) -> Result<Vec<u32>, AllocError>
+    requires wiring { IsWiring (length classes.now) wiring.now }
+    requires nets { All (λ net. net < length classes.now) nets.now }
+{
+    let mut found = Vec::new(alloc);
+    for net in nets {
+        note_readers(&mut found, classes, wiring, *net as usize)?;
+    }
+    found.sort_unstable();
+    found.dedup();
+    Ok(found)
+}
+
+// The class of a component of gates with these parents.
+fn class_of(families: &mut Families, first: u32, parents: &[u32]) -> Result<u32, AllocError>
+    requires families { AreFamilies families.old }
+    requires first { first < length families.old.classes.items }
+    ensures families { OnOk result (AreFamilies families.new) }
+    ensures classes { families.new.classes ≡ families.old.classes }
+{
+    match parents {
+        [] => begin(families, &[first], &[], NO_NET),
+        [parent] => Ok(*parent),
+        several => begin(families, &[], several, NO_NET),
+    }
+}
+
+// Gives nets a class.
+fn put_all(classes: &mut [u32], nets: &[u32], class: u32)
+    requires { All (λ net. net < length classes.old) nets.now }
+{
+    for net in nets {
+        classes[*net as usize] = class;
+    }
+}
+
+// Whether a net is driven by a gate.
+fn is_gate(netlist: &Netlist, net: u32) -> bool
+    requires { net < length netlist.now.names }
+{
+    matches!(netlist.driver(net as usize), Driver::Gate(_, _))
+}
+
+// Finds the class of a component, if it is of gates.
+fn add_component(
+    alloc: Global,
+    families: &mut Families,
+    netlist: &Netlist,
+    wiring: &Wiring,
+    nets: &[u32],
+) -> Result<(), AllocError>
+    requires families { AreFamilies families.old }
+    requires long { length families.old.classes.items ≡ length netlist.now.names }
+    requires wiring { IsWiring (length netlist.now.names) wiring.now }
+    requires nets { All (λ net. net < length netlist.now.names) nets.now }
+    ensures families { OnOk result (AreFamilies families.new) }
+    ensures long { OnOk result (length families.new.classes.items ≡ length netlist.now.names) }
+{
+    if let Some(first) = nets.first()
+        && is_gate(netlist, *first)
+    {
+        let parents = parents_of(alloc, &families.classes, wiring, nets)?;
+        let class = class_of(families, *first, &parents)?;
+        put_all(&mut families.classes, nets, class);
+    }
+    Ok(())
+}
+
+// Finds the classes of gates. Readers come before what they read, which has lower numbers.
+fn add_gates(
+    alloc: Global,
+    families: &mut Families,
+    netlist: &Netlist,
+    wiring: &Wiring,
+) -> Result<(), AllocError>
+    requires families { AreFamilies families.old }
+    requires long { length families.old.classes.items ≡ length netlist.now.names }
+    requires wiring { IsWiring (length netlist.now.names) wiring.now }
+    ensures families { OnOk result (AreFamilies families.new) }
+    ensures long { OnOk result (length families.new.classes.items ≡ length netlist.now.names) }
+{
+    for number in (0..netlist.len()).rev() {
+        add_component(alloc, families, netlist, wiring, wiring.members.of(number))?;
+    }
+    Ok(())
+}
+
+// What the import of a flip-flop is for: itself, and all that read it.
+fn importers_of(
+    alloc: Global,
+    classes: &[u32],
+    wiring: &Wiring,
+    net: usize,
+) -> Result<Vec<u32>, AllocError>
+    requires wiring { IsWiring (length classes.now) wiring.now }
+    requires net { net < length classes.now }
+{
+    let mut found = Vec::new(alloc);
+    found.push(classes[net])?;
+    note_readers(&mut found, classes, wiring, net)?;
+    found.sort_unstable();
+    found.dedup();
+    Ok(found)
+}
+
+// A share that reads a flip-flop of another is given it, at about half of what it costs to make it. So each flip-flop
+// has one more class, of which no net is: it is needed where the flip-flop is made and where it is read.
+fn add_imports(
+    alloc: Global,
+    families: &mut Families,
+    netlist: &Netlist,
+    wiring: &Wiring,
+) -> Result<(), AllocError>
+    requires families { AreFamilies families.old }
+    requires long { length families.old.classes.items ≡ length netlist.now.names }
+    requires wiring { IsWiring (length netlist.now.names) wiring.now }
+    ensures families { OnOk result (AreFamilies families.new) }
+    ensures long { OnOk result (length families.new.classes.items ≡ length netlist.now.names) }
+{
+    for net in 0..netlist.len() {
+        if matches!(netlist.driver(net), Driver::Flop(_)) {
+            let importers = importers_of(alloc, &families.classes, wiring, net)?;
+            let _ = begin(families, &[], &importers, net as u32)?;
+        }
+    }
+    Ok(())
+}
+
+/// The classes of a netlist and, last, those of imports of flip-flops.
+pub(crate) fn families_of(
+    alloc: Global,
+    netlist: &Netlist,
+    wiring: &Wiring,
+) -> Result<Families, AllocError>
+    requires wiring { IsWiring (length netlist.now.names) wiring.now }
+    ensures families { IfOk result AreFamilies }
+    ensures long { IfOk result (λ families. length families.classes.items ≡ length netlist.now.names) }
+{
+    let mut families = Families {
+        classes: vec![in alloc; 0u32; netlist.len()]?,
+        sinks: Lists::new(alloc),
+        parents: Lists::new(alloc),
+        imports: Vec::new(alloc),
+    };
+    let _ = begin(&mut families, &[], &[], NO_NET)?;
+    add_flops(&mut families, netlist)?;
+    add_gates(alloc, &mut families, netlist, wiring)?;
+    add_imports(alloc, &mut families, netlist, wiring)?;
+    Ok(families)
+}

@@ -1,0 +1,3 @@
+-- what the public contracts rest on
+pub mod Ends
+pub mod Sources

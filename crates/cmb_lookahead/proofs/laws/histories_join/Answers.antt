@@ -1,5 +1,0 @@
-use Rattle.cmb_lookahead.proofs.JoinFacts.{histories-join}
-use Rattle.cmb_lookahead.proofs.laws.histories_join.Goals as goal
-
-pub returns : goal.returns
-returns c = λ network histories ends is. histories-join network is histories ends

@@ -1,5 +1,0 @@
-use Rattle.cmb_lookahead.proofs.Lengths.{run-length}
-use Rattle.cmb_lookahead.proofs.laws.runs_end.Goals as goal
-
-pub returns : goal.returns
-returns c = λ network processes events is leads. run-length network is processes events leads

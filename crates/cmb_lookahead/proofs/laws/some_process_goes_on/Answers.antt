@@ -1,6 +1,0 @@
-use Rattle.cmb_lookahead.proofs.Progress.{goes-on}
-use Rattle.cmb_lookahead.proofs.Sound.{reachable-sound}
-use Rattle.cmb_lookahead.proofs.laws.some_process_goes_on.Goals as goal
-
-pub returns : goal.returns
-returns c = λ network processes is reachable. goes-on network is processes (reachable-sound network is processes reachable)

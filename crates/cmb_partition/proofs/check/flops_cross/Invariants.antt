@@ -1,6 +1,0 @@
-use Rattle.std.proofs.Common.{ℕ, ◌<◌}
-use Rattle.cmb_partition.specs.Partitions.{Crosses, IsFlop}
-use Rattle.cmb_partition.proofs.check.flops_cross.Given as goal
-
-abbrev pub invariant-loop-net : goal.invariant-loop-net
-invariant-loop-net l = (net : ℕ) → net < l.net → Crosses l.partition net → IsFlop l.netlist net

@@ -1,8 +1,0 @@
-use Rattle.std.proofs.Common.{◌≡◌, ◌<◌, length, All}
-use Rattle.cmb_partition.proofs.classes.all_needed.Given as goal
-
-abbrev pub invariant-loop-class : goal.invariant-loop-class
-invariant-loop-class l = record {
-  needed : All (λ net. net < length l.families.classes.items) l.needed.items.items;
-  marks : length l.marks.rounds.items ≡ length l.families.classes.items;
-}

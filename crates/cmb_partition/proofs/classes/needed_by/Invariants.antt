@@ -1,8 +1,0 @@
-use Rattle.std.proofs.Common.{◌≡◌, ◌<◌, length, All}
-use Rattle.cmb_partition.proofs.classes.needed_by.Given as goal
-
-abbrev pub invariant-loop-parent : goal.invariant-loop-parent
-invariant-loop-parent l = record {
-  found : All (λ net. net < length l.marks.rounds.items) l.found.items;
-  marks : length l.marks.rounds.items ≡ length l.fn.marks.rounds.items;
-}

@@ -1,5 +1,0 @@
-use Rattle.cmb_partition.specs.Inner.Shapes.{IsForest}
-use Rattle.cmb_partition.proofs.forest.flatten.Given as goal
-
-abbrev pub invariant-loop-net : goal.invariant-loop-net
-invariant-loop-net l = IsForest l.parents

@@ -1,9 +1,0 @@
-use Rattle.std.proofs.Common.{◌≡◌, length}
-use Rattle.cmb_partition.specs.Inner.Shapes.{IsForest}
-use Rattle.cmb_partition.proofs.forest.trees_of_one.Given as goal
-
-abbrev pub invariant-loop-net : goal.invariant-loop-net
-invariant-loop-net l = record {
-  long : length l.parents.items ≡ l.net;
-  forest : IsForest l.parents.items;
-}

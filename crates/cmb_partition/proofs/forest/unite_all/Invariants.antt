@@ -1,9 +1,0 @@
-use Rattle.std.proofs.Common.{◌<◌, length}
-use Rattle.cmb_partition.specs.Inner.Shapes.{IsForest}
-use Rattle.cmb_partition.proofs.forest.unite_all.Given as goal
-
-abbrev pub invariant-loop-net : goal.invariant-loop-net
-invariant-loop-net l = record {
-  forest : IsForest l.parents;
-  below : l.root < length l.parents;
-}

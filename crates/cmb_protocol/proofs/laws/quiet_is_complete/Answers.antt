@@ -1,5 +1,0 @@
-use Rattle.cmb_protocol.proofs.Progress.{quiet-complete}
-use Rattle.cmb_protocol.proofs.laws.quiet_is_complete.Goals as goal
-
-pub returns : goal.returns
-returns c = λ design clustering clocks netlist assigned. quiet-complete design netlist clustering assigned clocks

@@ -1,5 +1,0 @@
-use Rattle.cmb_protocol.proofs.Commute.{steps-commute}
-use Rattle.cmb_protocol.proofs.laws.steps_commute.Goals as goal
-
-pub returns : goal.returns
-returns c = steps-commute

@@ -1,6 +1,0 @@
-use Rattle.std.proofs.Common.{◌+◌, arith}
-use Rattle.cmb_restrict.proofs.ValueFacts.{value-restricted}
-use Rattle.cmb_restrict.proofs.laws.restrictions_keep_values.Goals as goal
-
-pub returns : goal.returns
-returns c design part nets is lawful i tick within = value-restricted design part nets is lawful (tick + 1) tick (omega arith) i within

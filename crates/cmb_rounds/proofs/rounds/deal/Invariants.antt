@@ -1,5 +1,0 @@
-use Rattle.cmb_rounds.proofs.RoundFacts.{AreDealt}
-use Rattle.cmb_rounds.proofs.rounds.deal.Given as goal
-
-abbrev pub invariant-loop-worker : goal.invariant-loop-worker
-invariant-loop-worker g l = AreDealt g.T.Terms.design g.T.Terms.clustering l.worker l.hands.items

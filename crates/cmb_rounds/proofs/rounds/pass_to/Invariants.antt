@@ -1,5 +1,0 @@
-use Rattle.cmb_rounds.proofs.RoundFacts.{IsServedTo}
-use Rattle.cmb_rounds.proofs.rounds.pass_to.Given as goal
-
-abbrev pub invariant-loop-place : goal.invariant-loop-place
-invariant-loop-place g l = IsServedTo g.T.Terms.design g.T.Terms.clustering l.fn.reader l.place l.initial.hands l.hands

@@ -1,0 +1,22 @@
+//! What a run is of.
+
+use std::marker::Brand;
+
+/// Names the design of a run and its clustering. `Brand` stands for any two that a call picks.
+pub trait Terms {
+    ghost use Rattle.cmb_core_cluster.specs.Clustering.{Clustering};
+    ghost use Rattle.cmb_design_model.specs.Design.{Design};
+
+    ghost design: { Design };
+
+    ghost clustering: { Clustering };
+}
+
+impl Terms for Brand {
+    ghost use Rattle.cmb_run_text.specs.Examples.{nothing};
+    ghost use Rattle.cmb_run_exact.specs.Inner.Runs.{no_clustering};
+
+    ghost design = { nothing };
+
+    ghost clustering = { no_clustering };
+}

@@ -1,0 +1,16 @@
+pub mod Codes
+pub mod BeginFacts
+pub mod CollectorFacts
+pub mod ValueChangeFacts
+pub mod ExactFacts
+pub mod ForgetFacts
+pub mod LineFacts
+pub mod OrderFacts
+pub mod PartFacts
+pub mod SpanFacts
+pub mod TextSizes
+pub mod Texts
+pub mod TickFacts
+pub mod TraceFacts
+pub mod ChosenFacts
+pub mod TakenFacts

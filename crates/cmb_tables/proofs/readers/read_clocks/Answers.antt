@@ -1,5 +1,0 @@
-use Rattle.cmb_tables.proofs.ReadFacts.{clock_good}
-use Rattle.cmb_tables.proofs.readers.read_clocks.Goals as goal
-
-pub read_table-requires-clause-lawful : goal.read_table-requires-clause-lawful
-read_table-requires-clause-lawful c = clock_good

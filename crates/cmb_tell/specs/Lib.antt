@@ -1,4 +1,0 @@
-pub mod Lines
-pub mod Stats
-pub mod Tallies
-pub mod Words

@@ -1,0 +1,30 @@
+-- A calendar: what is told of the ticks from a clock on.
+use Rattle.std.specs.Prelude.{◌≡◌, ℕ, ◌<◌, ◌≤◌, ◌⊎◌, ◌↔◌, List, [], ◌∷◌, Contains}
+use Rattle.cmb_wheel.specs.declared.event.LevelEvent.{LevelEvent}
+
+-- the tells of the ticks from a clock on and below a horizon
+pub record Calendar : Type 0 where
+  pub horizon : ℕ
+  pub clock : ℕ
+  pub tells : List LevelEvent
+
+-- the ticks of which it tells are as they were
+pub record SameTicks (old new : Calendar) : Type 0 where
+  pub horizon : new.horizon ≡ old.horizon
+  pub clock : new.clock ≡ old.clock
+
+-- what a calendar has once something is told: that too, where it is below the horizon
+abbrev pub Notes : Calendar → Calendar → LevelEvent → Type 0
+Notes old new tell = (other : LevelEvent) → Contains new.tells other ↔ (Contains old.tells other ⊎ ((other ≡ tell) × (tell.tick < old.horizon)))
+
+-- the tells below a tick were taken out, and the clock is that tick
+pub record Takes (upto : ℕ) (old new : Calendar) (taken : List LevelEvent) : Type 0 where
+  pub early : (tell : LevelEvent) → Contains taken tell ↔ (Contains old.tells tell × (tell.tick < upto))
+  pub late : (tell : LevelEvent) → Contains new.tells tell ↔ (Contains old.tells tell × (upto ≤ tell.tick))
+  pub clock : new.clock ≡ upto
+  pub horizon : new.horizon ≡ old.horizon
+
+-- by rising ticks
+abbrev pub AreInOrder : List LevelEvent → Type 0
+AreInOrder [] = Unit {0}
+AreInOrder (tell ∷ tells) = ((later : LevelEvent) → Contains tells later → tell.tick ≤ later.tick) × AreInOrder tells

@@ -1,0 +1,30 @@
+//! The text that a dump gave last.
+
+use crate::checks::holds;
+use crate::parts::two_parts;
+use cmb_design_model::Design;
+use cmb_dump::Dump;
+use std::alloc::Global;
+use std::process::Abort;
+use std::test::Fail;
+
+/// Whether the last line of a run up to tick 8 takes the place of what a list had, and the dump is left with nothing.
+fn is_swapped(alloc: Global, design: &Design) -> Result<bool, Fail> {
+    let mut dump = Dump::at(alloc, design, 1)?;
+    dump.pass(design.horizon())?;
+    let mut room = Vec::from_slice(alloc, b"a part before")?;
+    dump.swap_text(&mut room);
+    Ok(room.as_slice() == b"#8\n".as_slice() && dump.text().is_empty())
+}
+
+/// The same of the design of two parts.
+fn swaps(rt: &impl Abort, alloc: Global) -> Result<bool, Fail> {
+    let design = two_parts(rt, alloc)?;
+    is_swapped(alloc, &design)
+}
+
+#[test]
+fn text_is_swapped(rt: HostRuntime) -> Result<(), Fail> {
+    holds(&rt, swaps(&rt, rt.alloc())?);
+    Ok(())
+}

@@ -1,0 +1,67 @@
+//! The nets behind some counts.
+
+use crate::checks::same;
+use cmb_count::{Finding, count_design, counts_text, findings_of, found_nets};
+use cmb_design_model::Design;
+use std::alloc::Global;
+use std::test::Fail;
+use worked_designs::{Inputs, bare, design_of, or_fail, sampled};
+
+// The nets are a, b, c, y, z, s and t. y and z are a loop, b has a level, and t samples at tick 100 first.
+fn odd_nets(alloc: Global) -> Result<Design, Fail> {
+    let inputs = Inputs {
+        stimuli: b"tick,net,value\n0,b,1\n",
+        clocks: b"net,first,period\nt,100,5\n",
+        ..bare(
+            b"INPUT(a)\nINPUT(b)\nINPUT(c)\nOUTPUT(y)\ny = NAND(a, z)\nz = BUFF(y)\ns = DFF(y)\nt = DFF(s)\n",
+        )
+    };
+    design_of(alloc, inputs, sampled(100))
+}
+
+#[test]
+fn found(rt: HostRuntime) -> Result<(), Fail> {
+    let alloc = rt.alloc();
+    let design = odd_nets(alloc)?;
+    for (finding, most, wanted) in [
+        (Finding::Silent, 20, [0, 2].as_slice()),
+        (Finding::Silent, 1, [0].as_slice()),
+        (Finding::Still, 20, [6].as_slice()),
+        (Finding::InGateLoops, 2, [3, 4].as_slice()),
+        (Finding::Unused, 2, [1, 2].as_slice()),
+        (Finding::Unused, 3, [1, 2, 6].as_slice()),
+        (Finding::Unused, 0, [].as_slice()),
+    ] {
+        let nets = or_fail(found_nets(alloc, &design, finding, most))?;
+        same(&rt, (finding, nets.as_slice()), (finding, wanted));
+    }
+    Ok(())
+}
+
+#[test]
+fn all_found(rt: HostRuntime) -> Result<(), Fail> {
+    let alloc = rt.alloc();
+    let found = or_fail(findings_of(alloc, &odd_nets(alloc)?, 2))?;
+    same(&rt, found.silent.as_slice(), [0, 2].as_slice());
+    same(&rt, found.still.as_slice(), [6].as_slice());
+    same(&rt, found.in_gate_loops.as_slice(), [3, 4].as_slice());
+    same(&rt, found.unused.as_slice(), [1, 2].as_slice());
+    same(&rt, found.clocks.len(), 2);
+    Ok(())
+}
+
+#[test]
+fn found_in_the_text(rt: HostRuntime) -> Result<(), Fail> {
+    let alloc = rt.alloc();
+    let design = odd_nets(alloc)?;
+    let counts = or_fail(count_design(alloc, &design))?;
+    let text = or_fail(counts_text(alloc, &design, &counts, 1))?;
+    let begun =
+        b"       7  nets\n       3  inputs\n       2  inputs that are x at all ticks\n       -  a\n";
+    same(
+        &rt,
+        text.as_slice().get(..begun.len()),
+        Some(begun.as_slice()),
+    );
+    Ok(())
+}

@@ -1,0 +1,217 @@
+//! The text of a design whose nets are partitioned among logical processes, which read each other's flip-flops.
+
+ghost use Rattle.std.specs.Prelude.{IfOk, IfSome};
+ghost use Rattle.cmb_graph_partition.specs.Partitions.{IsPartition};
+
+use crate::checks::holds;
+use cmb_design_model::{Design, Settings};
+use cmb_dump_stream::write_stream;
+use cmb_graph_partition::{Partition, partition, structure_of};
+use cmb_io::{Limited, Room, WriteFault};
+use cmb_shares::{Shares, costs_of, write_shares};
+use cmb_wave::Level;
+use std::alloc::{AllocError, Global};
+use std::sync::Wait;
+use std::test::Fail;
+use std::thread::Threads;
+use worked_designs::{Inputs, design_of, text_of};
+
+/// The nets `a`, `m` and `b`, by their numbers: two flip-flops that sample one another, `a` by an inverter (a Johnson
+/// counter of two bits), at ticks 10, 30, 50, 70 and 90.
+fn counter(alloc: Global, delays: &[u8], horizon: u32) -> Result<Design, Fail> {
+    let inputs = Inputs {
+        netlist: b"OUTPUT(b)\na = DFF(m)\nm = NOT(b)\nb = DFF(a)\n",
+        delays,
+        stimuli: b"",
+        clocks: b"",
+        initial: b"",
+    };
+    let settings = Settings {
+        horizon,
+        clock: Some((10, 20)),
+        init: Level::Zero,
+    };
+    design_of(alloc, inputs, settings)
+}
+
+/// Of the counter up to tick 100. A flip-flop shows a level a tick after it sampled it, and the inverter a tick after
+/// its operand.
+const LINES: &str = "#0 0! x\" 0# #1 1\" #11 1! #31 1# #32 0\" #51 0! #71 0# #72 1\" #91 1! #100";
+
+/// The same up to tick 1, so without any window.
+const NO_WINDOW: &str = "#0 0! x\" 0# #1";
+
+/// Whether a sink with this much room takes just these bytes from the shares' threads, and they answer so.
+fn takes<R: Threads + Wait + Sync>(
+    rt: &R,
+    alloc: Global,
+    shares: Shares<'_>,
+    room: usize,
+    bytes: &[u8],
+    answer: Result<u64, WriteFault>,
+) -> bool {
+    let mut sink = Limited::new(alloc, room);
+    let found = write_shares(rt, alloc, shares, &mut sink);
+    found == answer && sink.bytes.as_slice() == bytes
+}
+
+/// The same of shares that are opened for it.
+fn opens_and_takes<R: Threads + Wait + Sync>(
+    rt: &R,
+    alloc: Global,
+    design: &Design,
+    partition: &Partition,
+    room: usize,
+    bytes: &[u8],
+    answer: Result<u64, WriteFault>,
+) -> Result<bool, Fail>
+    requires { IsPartition design.now.netlist partition.now }
+{
+    match Shares::open(rt, alloc, design, partition)? {
+        Some(shares) => Ok(takes(rt, alloc, shares, room, bytes, answer)),
+        None => Ok(false),
+    }
+}
+
+/// Whether the shares of a partition write this text, and a sink that fails after 17 bytes took the first 17 of it.
+fn is_text<R: Threads + Wait + Sync>(
+    rt: &R,
+    alloc: Global,
+    design: &Design,
+    partition: &Partition,
+    text: &[u8],
+) -> Result<bool, Fail>
+    requires { IsPartition design.now.netlist partition.now }
+{
+    let written = text.len() as u64;
+    let begun = &text[..text.len().min(17)];
+    let broken_off = Err(WriteFault::Write { written: 17 });
+    Ok(
+        opens_and_takes(rt, alloc, design, partition, 100_000, text, Ok(written))?
+            && opens_and_takes(rt, alloc, design, partition, 17, begun, broken_off)?,
+    )
+}
+
+/// What the nets of a design cost, which has these four: the input `i`, the flip-flop `s`, which reads itself and so
+/// never changes, and the flip-flop `t`, which the inverter `n` turns at each sample.
+fn costs_of_four(alloc: Global) -> Result<Vec<u32>, Fail> {
+    let inputs = Inputs {
+        netlist: b"INPUT(i)\ns = DFF(s)\nt = DFF(n)\nn = NOT(t)\n",
+        delays: b"",
+        stimuli: b"",
+        clocks: b"",
+        initial: b"",
+    };
+    let settings = Settings {
+        horizon: 100,
+        clock: Some((10, 20)),
+        init: Level::Zero,
+    };
+    let design = design_of(alloc, inputs, settings)?;
+    Ok(costs_of(alloc, &design, 100)?)
+}
+
+// Each share has its own inputs, so these cost nothing. Each other net costs something, and the more the more often it
+// changes: `n` does so one time more than `t`, from x to 1 at tick 1.
+#[test]
+fn costs(rt: HostRuntime) -> Result<(), Fail> {
+    let costs = costs_of_four(rt.alloc())?;
+    holds(
+        &rt,
+        match costs.as_slice() {
+            [0, 1, turned, inverted] => 1 < *turned && *turned < *inverted,
+            _ => false,
+        },
+    );
+    Ok(())
+}
+
+/// The partition of a design's nets into two shares.
+fn halves(alloc: Global, design: &Design) -> Result<Option<Partition>, AllocError>
+    ensures { IfOk result (λ found. IfSome found (IsPartition design.now.netlist)) }
+{
+    let costs = costs_of(alloc, design, design.horizon())?;
+    match structure_of(alloc, design.netlist())? {
+        Some(structure) => partition(alloc, design.netlist(), structure, &costs, 2),
+        None => Ok(None),
+    }
+}
+
+/// Whether two shares of the counter make the text of these lines.
+fn are_lines<R: Threads + Wait + Sync>(
+    rt: &R,
+    alloc: Global,
+    horizon: u32,
+    lines: &str,
+) -> Result<bool, Fail> {
+    let text = text_of(alloc, "a m b", lines)?;
+    let design = counter(alloc, b"", horizon)?;
+    match halves(alloc, &design)? {
+        Some(partition) => is_text(rt, alloc, &design, &partition, text.as_bytes()),
+        None => Ok(false),
+    }
+}
+
+#[test]
+fn two_shares(rt: HostRuntime) -> Result<(), Fail> {
+    holds(&rt, are_lines(&rt, rt.alloc(), 100, LINES)?);
+    Ok(())
+}
+
+#[test]
+fn no_window(rt: HostRuntime) -> Result<(), Fail> {
+    holds(&rt, are_lines(&rt, rt.alloc(), 1, NO_WINDOW)?);
+    Ok(())
+}
+
+/// The text that one engine makes of a design.
+fn streamed(alloc: Global, design: &Design) -> Result<Vec<u8>, Fail> {
+    let mut room = Room::new(alloc, 0)?;
+    write_stream(alloc, design, &mut room)?;
+    Ok(room.bytes)
+}
+
+/// Whether two shares of a long run of the counter make the same text as one engine does.
+fn is_as_of_one<R: Threads + Wait + Sync>(rt: &R, alloc: Global) -> Result<bool, Fail> {
+    let design = counter(alloc, b"", 5_000)?;
+    let text = streamed(alloc, &design)?;
+    match halves(alloc, &design)? {
+        Some(partition) => is_text(rt, alloc, &design, &partition, &text),
+        None => Ok(false),
+    }
+}
+
+#[test]
+fn many_windows(rt: HostRuntime) -> Result<(), Fail> {
+    holds(&rt, is_as_of_one(&rt, rt.alloc())?);
+    Ok(())
+}
+
+/// Whether shares of a design can be opened, where its nets can be partitioned.
+fn can_open<R: Threads + Wait + Sync>(
+    rt: &R,
+    alloc: Global,
+    design: &Design,
+) -> Result<bool, Fail> {
+    match halves(alloc, design)? {
+        Some(partition) => Ok(Shares::open(rt, alloc, design, &partition)?.is_some()),
+        None => Ok(false),
+    }
+}
+
+/// Whether shares of the counter can be opened where its flip-flops have these delays.
+fn can_wait<R: Threads + Wait + Sync>(rt: &R, alloc: Global, delays: &[u8]) -> Result<bool, Fail> {
+    let design = counter(alloc, delays, 100)?;
+    can_open(rt, alloc, &design)
+}
+
+// What a flip-flop samples shows after more ticks than a window has.
+#[test]
+fn long_delay(rt: HostRuntime) -> Result<(), Fail> {
+    holds(&rt, can_wait(&rt, rt.alloc(), b"by,name,delay\nnet,a,1\n")?);
+    holds(
+        &rt,
+        !can_wait(&rt, rt.alloc(), b"by,name,delay\nnet,a,200\n")?,
+    );
+    Ok(())
+}

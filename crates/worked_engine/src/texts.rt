@@ -1,0 +1,77 @@
+//! The text of chosen nets.
+
+ghost use Rattle.std.specs.Prelude.{◌≡◌};
+ghost use Rattle.cmb_design_model.specs.Exact.{nets_of};
+
+use crate::checks::holds;
+use crate::parts::{part_alone, two_parts};
+use cmb_chosen::{chosen_text, part_of};
+use cmb_design_model::Design;
+use std::alloc::Global;
+use std::process::Abort;
+use std::test::Fail;
+use worked_designs::text_of;
+
+/// Whether the text of `b` and `q` is as it should be. The inverter `z` of `b` is 1 from tick 2 on and 0 from tick 6
+/// on, and `q` shows what was sampled at tick 3 a tick later.
+fn shows_two(alloc: Global, design: &Design) -> Result<bool, Fail>
+    requires { nets_of design.now ≡ 5 }
+{
+    let text = chosen_text(alloc, design, &[1, 4])?;
+    let wanted = text_of(alloc, "b q", "#0 0! x\" #4 1! 1\" #8")?;
+    Ok(text.as_slice() == wanted.as_bytes())
+}
+
+/// Whether the text of all nets of a design of three is that of `b`, `z` and `q`.
+fn shows_three(alloc: Global, part: &Design) -> Result<bool, Fail> {
+    if part.netlist().len() == 3 {
+        let text = chosen_text(alloc, part, &[0, 1, 2])?;
+        let wanted = text_of(alloc, "b z q", "#0 0! x\" x# #2 1\" #4 1! 1# #6 0\" #8")?;
+        return Ok(text.as_slice() == wanted.as_bytes());
+    }
+    Ok(false)
+}
+
+/// Whether the part on which `b` and `q` depend has three nets, of which these are the first and the last.
+fn has_part(alloc: Global, design: &Design) -> Result<bool, Fail>
+    requires { nets_of design.now ≡ 5 }
+{
+    let part = part_of(alloc, design, &[1, 4])?;
+    Ok(part.design.netlist().len() == 3 && part.nets.as_slice() == [0, 2].as_slice())
+}
+
+/// Whether the text of two nets is as it should be.
+fn two_are_shown(rt: &impl Abort, alloc: Global) -> Result<bool, Fail> {
+    let design = two_parts(rt, alloc)?;
+    shows_two(alloc, &design)
+}
+
+/// Whether the part on which two nets depend is as it should be.
+fn two_have_a_part(rt: &impl Abort, alloc: Global) -> Result<bool, Fail> {
+    let design = two_parts(rt, alloc)?;
+    has_part(alloc, &design)
+}
+
+/// Whether the part on which `q` depends has the text of its three nets.
+fn part_is_shown(rt: &impl Abort, alloc: Global) -> Result<bool, Fail> {
+    let part = part_alone(rt, alloc)?;
+    shows_three(alloc, &part)
+}
+
+#[test]
+fn two_nets(rt: HostRuntime) -> Result<(), Fail> {
+    holds(&rt, two_are_shown(&rt, rt.alloc())?);
+    Ok(())
+}
+
+#[test]
+fn part_of_two_nets(rt: HostRuntime) -> Result<(), Fail> {
+    holds(&rt, two_have_a_part(&rt, rt.alloc())?);
+    Ok(())
+}
+
+#[test]
+fn all_nets_of_a_part(rt: HostRuntime) -> Result<(), Fail> {
+    holds(&rt, part_is_shown(&rt, rt.alloc())?);
+    Ok(())
+}
