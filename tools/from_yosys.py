@@ -29,6 +29,7 @@ import sys
 
 from lost_bits import lost_bits
 from names import HEADER as NAMES, LEVELS
+from paths import Paths
 from yosys_json import Cell, Refused, bits_by_name, cells_of, first_levels, in_order, module_of, named_bits, ports_of, wires_of
 
 OPTIONS = {"rising": "--clock", "falling": "--falling"}
@@ -111,6 +112,10 @@ class Design:
         used = self.used()
         return [(self.names.of(bit), bit) for bit in LEVELS if bit in used]
 
+    def option(self, clock):
+        """The option that names a clock."""
+        return f"{OPTIONS[clock[1]]} {self.names.of(clock[0])}"
+
     def data_inputs(self):
         """The names of the inputs but the clocks."""
         clocks = {bit for bit, _ in self.clocks}
@@ -163,15 +168,6 @@ def check_given(design, given):
 
 
 # ---- the netlist
-
-def longest_path(ordered):
-    """How many gates a change may have to pass, one after the other."""
-    depth = {}
-    for cell in ordered:
-        if cell.clock is None:
-            depth[cell.output] = 1 + max(depth.get(bit, 0) for bit in cell.operands)
-    return max(depth.values(), default=0)
-
 
 def statement(cell, names):
     also = " ".join(names.others.get(cell.output, []))
@@ -271,22 +267,22 @@ def tables_of(design, module, source, before):
 def files_of(design, given):
     """The files by name, what there is to say of them, and the shortest period."""
     ordered, has_loop = in_order(design.cells)
-    path, nets = longest_path(ordered), len(ordered) + len(design.data_inputs()) + len(design.constants())
+    paths, nets = Paths(design, ordered), len(ordered) + len(design.data_inputs()) + len(design.constants())
+    shortest = paths.shortest(design.clocks)
     files = {"netlist.bench": netlist_of(design, ordered), "stimuli.csv": levels_of([(name, "0") for name in design.data_inputs()]),
-             "options": options_of(design, given, (path // 10 + 1) * 10)}
+             "options": options_of(design, given, -(-shortest // 10) * 10)}
     if len(design.clocks) > 1:
         files["clocks.csv"] = clocks_of(design, given)
     if not init_of(design)[1]:
         files["initial.csv"] = initial_of(design)
     flops = sum(design.clocks.values())
     lines = [f"{nets} nets: {nets - len(ordered)} inputs, {flops} flip-flops, {len(ordered) - flops} gates"]
-    lines += ["there are loops of gates, so no path is the longest" if has_loop else
-              f"the longest path is of {path} gates, so the shortest period is of {path + 1} ticks, if each gate takes one"]
+    lines += ["there are loops of gates, so no path is the longest"] if has_loop else paths.lines(design.clocks, design.option)
     lines += [f"{name} is the constant {level}" for name, level in design.constants()]
     lines += [] if init_of(design)[1] else ["flip-flops begin with different levels, which initial.csv has"]
     lines += [f"cmbsim takes {MOST_NETS} nets, so this is too large"] if nets > MOST_NETS else []
-    lines += [f"{OPTIONS[edge]} {name}: a period of {period} ticks is shorter" for (name, edge), (_, period) in given.items() if period <= path]
-    return files, lines, path + 1
+    lines += [f"{OPTIONS[edge]} {name}: a period of {period} ticks is shorter" for (name, edge), (_, period) in given.items() if period < shortest]
+    return files, lines, shortest
 
 
 def read_text(folder, name):

@@ -310,7 +310,8 @@ x[2] = BUFF(_x_)
 """
 SAID = """\
 18 nets: 7 inputs, 2 flip-flops, 9 gates
-the longest path is of 3 gates, so the shortest period is of 4 ticks, if each gate takes one
+3 ticks in the longest path, if each gate takes one, so the shortest period is of 4 ticks
+3 ticks in the longest path from inputs to --clock clk
 _0_ is the constant 0
 _1_ is the constant 1
 _x_ is the constant x
@@ -371,6 +372,13 @@ def test_clocks():
     refused("an edge of no flip-flop", two, ["--clock b: no flip-flop samples at this edge"], ["--clock", "b=1:2"])
     ran, files = converted(two, ["--clock", "a=3:10", "--falling", "b=5:7"])
     see("two clocks with ticks", (ran[0], files["clocks.csv"], files["options"]), (0, "net,first,period\n_5_,3,10\nq,5,7\n", "--horizon 200\n"))
+    # By hand: p (5) samples d by a; its inverse (7) and d are AND (8), which q samples by b; p's inverse goes back to p's second stage (9).
+    paths = design(ports, [flop(2, 4, 5), gate("NOT", 7, 5), gate("AND", 8, 7, 4), flop(3, 8, 6, "$_DFF_N_"), gate("NOT", 10, 7), flop(2, 10, 9)])
+    said = converted(paths, ["--clock", "a=3:10", "--falling", "b=5:7"])[0][1].splitlines()
+    see("paths by clock", [line for line in said if "longest path" in line], [
+        "3 ticks in the longest path, if each gate takes one, so the shortest period is of 3 ticks",
+        "3 ticks in the longest path from --clock a to itself", "0 ticks in the longest path from inputs to --clock a",
+        "1 ticks in the longest path from inputs to --falling b", "3 ticks in the longest path from other clocks to --falling b"])
     gated = design(ports, [gate("AND", 7, 2, 3), flop(7, 4, 6)])
     refused("a gated clock", gated, ["_7_ is a clock and no input: make an enable of a gated or divided clock"])
     read = design(ports, [flop(2, 4, 5), gate("AND", 6, 2, 5)])
