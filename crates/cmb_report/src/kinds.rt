@@ -17,8 +17,8 @@ fn in_capitals(alloc: Global, word: &[u8]) -> Result<Vec<u8>, AllocError> {
     Ok(capitals)
 }
 
-// The kind that is nearest to a word, by as many insertions, deletions and replacements of letters (Levenshtein) as the
-// word has letters, by half; the first of several.
+// The kind at the least edit distance (Levenshtein) from a word, at most half of the word's length; the first of
+// several.
 fn nearest(alloc: Global, word: &[u8]) -> Result<Option<&'static str>, AllocError> {
     let capitals = in_capitals(alloc, word)?;
     let mut found = None;

@@ -12,7 +12,7 @@ use std::alloc::{AllocError, Global};
 use std::io::Write;
 use std::time::{Clock, Duration, Instant};
 
-// How many thousandths of a second the line of progress stands before it is written anew.
+// Milliseconds between updates of the line of progress.
 const PAUSE: u64 = 250;
 
 // What takes the line of progress away: back to the line's begin, and clear it.

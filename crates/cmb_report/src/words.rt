@@ -230,8 +230,7 @@ fn net_count(done: &Done) -> usize
     }
 }
 
-/// What there is to say of what was done, where the netlist came from a terminal or didn't; empty where there is
-/// nothing.
+/// A warning if the netlist has no nets, by whether it was typed at a terminal; else nothing.
 pub fn done_words(done: &Done, is_typed: bool) -> &'static str
     ensures { result.now ≡ (if nets_of done.now == 0 then no_nets is_typed else []) }
 {

@@ -1,4 +1,4 @@
-//! What a run is of.
+//! The name of a run: a type parameter, so that values of two runs can't mix.
 
 use std::marker::Brand;
 

@@ -60,7 +60,7 @@ fn mark_read(
     }
 }
 
-/// Of so many shares those that own a net that the share is given which drives these nets.
+/// The shares, of so many, that own a net which this one, which drives these nets, reads and doesn't drive.
 pub(crate) fn feeders_of(
     alloc: Global,
     design: &Design,

@@ -14,9 +14,9 @@ ghost use Rattle.cmb_netlist.specs.Netlist.{driver_of};
 ghost use Rattle.cmb_shares.specs.Traces.{AreMade, Serves, Sharing};
 ghost use Rattle.cmb_wave.specs.declared.level.Level.{Level};
 
-/// Where a crossing flip-flop's changes in a window are sent ahead, its rows look at ticks before the window alone. And
-/// where a share may make a window, the rows of all nets look there at ticks below those up to which it took what other
-/// shares sent to it.
+/// Where a crossing flip-flop's changes in a window are sent ahead, its levels there depend on earlier ticks alone. And
+/// where a share may make a window, the levels of all nets there depend on ticks below those up to which it took what
+/// other shares sent to it.
 pub fn windows_look_back()
     ensures told { (design : Design) (crossing : List Bool) (windows : Windows) (net clock tick other past : ℕ)
         → AreWithinLookahead design crossing windows → IsCrossing design crossing net

@@ -12,7 +12,7 @@ use cmb_engine::{ShareEngine, Windows};
 use cmb_words::Changed;
 use std::alloc::AllocError;
 
-/// The engine of a share of so many, its number, and the owner of each net.
+/// A share's engine and number, the number of shares, and each net's owner.
 #[derive(Drop)]
 pub struct Simulator<'a> {
     pub number: u32,
@@ -32,7 +32,7 @@ fn owns(owners: &[u32], number: u32, one: Changed) -> bool
     }
 }
 
-// Whether the share of a number owns a net, and one that drives these nets doesn't drive it.
+// Whether the share of a number owns a net that the reader, which drives these nets, doesn't drive.
 fn feeds(owners: &[u32], number: u32, driven: &[bool], one: Changed) -> bool
     ensures { result ≡ is_fed owners.now number driven.now one }
 {

@@ -1,9 +1,9 @@
-//! What a run is of.
+//! The name of a run: a type parameter, so that values of two runs can't mix.
 
 use std::marker::Brand;
 
 /// Names the design of a run, how its nets are partitioned, and where windows end. `Brand` stands for any that a call
-/// picks. So what goes from thread to thread says what it is of by its type.
+/// picks.
 pub trait Terms {
     ghost use Rattle.cmb_shares.specs.Inner.Runs.{Run};
 

@@ -20,7 +20,7 @@ use std::sync::Wait;
 // How many batches a ring holds: a formatter that is late for a while isn't waited for. An estimate.
 const ROOM: usize = 2;
 
-// How many batches may be on their way beside those that are told: some that are made, and some that are read. An
+// How many batches may be on their way beside those being formatted: some that are made, and some that are read. An
 // estimate.
 const MORE: usize = 4;
 

@@ -1,9 +1,8 @@
-//! What a run is of.
+//! The name of a run: a type parameter, so that values of two runs can't mix.
 
 use std::marker::Brand;
 
-/// Names the design of a run. `Brand` stands for any that a call picks. So what goes from thread to thread says what it
-/// is of by its type.
+/// Names the design of a run. `Brand` stands for any that a call picks.
 pub trait Terms {
     ghost use Rattle.cmb_design_model.specs.Design.{Design};
 

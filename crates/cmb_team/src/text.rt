@@ -25,7 +25,7 @@ const FIRST: usize = 524_288;
 // What is left has so many bytes at least, where threads pay for it: an estimate.
 const LEAST: u64 = 4_194_304;
 
-// So many bytes a tick, where windows are large enough to be told apart: an estimate.
+// Below so many bytes a tick, making text is too little work to share: an estimate.
 const DENSE: u64 = 64;
 
 // Whether more than one thread pays for the rest of a text, where so many bytes were told of the ticks behind tick 0.
