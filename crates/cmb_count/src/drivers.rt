@@ -53,7 +53,8 @@ pub fn count_drivers(netlist: &Netlist, wanted: &DriverKind) -> usize
     count
 }
 
-pub(crate) fn is_silent_input(design: &Design, net: usize) -> bool
+/// Whether a net is an input that is x at each tick below the horizon.
+pub fn is_silent_input(design: &Design, net: usize) -> bool
     requires { net < length design.now.netlist.names }
     ensures { result ≡ is_silent design.now net }
 {

@@ -19,7 +19,7 @@ pub use clock_paths::{ClockPaths, paths_by_clock, paths_of};
 pub use clocks::count_clocks;
 pub use cmb_graph::Steps;
 pub use counts::{Counts, GateCounts, count_design};
-pub use drivers::{DriverKind, count_drivers, count_silent, count_still};
+pub use drivers::{DriverKind, count_drivers, count_silent, count_still, is_silent_input};
 pub use findings::{Finding, Findings, findings_of, found_nets};
 pub use largest::largest_delay;
 pub use loops::count_loops;

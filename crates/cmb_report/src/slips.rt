@@ -1,12 +1,11 @@
 //! What looks like a slip in a design that was simulated.
 
 ghost use Rattle.std.specs.Prelude.{◌≡◌, ◌<◌, IfOk, IfSome, length};
-ghost use Rattle.cmb_count.specs.DriverKinds.{is_silent, silent_count};
+ghost use Rattle.cmb_count.specs.DriverKinds.{silent_count};
 ghost use Rattle.cmb_report.specs.Slips.{IsFirstSilent, IsLate};
 
-use cmb_count::{Between, Longest, count_silent, longest_path};
+use cmb_count::{Between, Longest, count_silent, is_silent_input, longest_path};
 use cmb_design_model::{Clock, Design};
-use cmb_netlist::Driver;
 use std::alloc::{AllocError, Global};
 
 /// Inputs that are x at each tick below the horizon.
@@ -23,13 +22,6 @@ pub struct Late {
     /// The data at which it ends.
     pub net: usize,
     pub ticks: u64,
-}
-
-fn is_silent_input(design: &Design, net: usize) -> bool
-    requires { net < length design.now.netlist.names }
-    ensures { result ≡ is_silent design.now net }
-{
-    matches!(design.netlist().driver(net), Driver::Input) && design.stim_changes(net).is_empty()
 }
 
 fn first_silent(design: &Design) -> Option<usize>
