@@ -1,6 +1,6 @@
 //! What looks like a slip in a design that was simulated.
 
-ghost use Rattle.std.specs.Prelude.{◌≡◌, ◌<◌, IfOk, IfSome, length};
+ghost use Rattle.std.specs.Prelude.{◌≡◌, IfOk, IfSome};
 ghost use Rattle.cmb_count.specs.DriverKinds.{silent_count};
 ghost use Rattle.cmb_report.specs.Slips.{IsFirstSilent, IsLate};
 
