@@ -15,7 +15,7 @@ _cmbsim() {
         *:--horizon | *:--clock | *:--threads | *:--workers | *:--clusters) ;;
         *)
             case ${COMP_WORDS[1]} in
-                run) words="--horizon --clock --init --delays --stimuli --clocks --initial --explain --no-explain --mode --threads --workers --clusters --only --only-outputs --progress --stats -h --help" ;;
+                run) words="--horizon --clock --init --delays --stimuli --clocks --initial --explain --no-explain --mode --threads --workers --clusters --only --only-outputs --scopes --progress --stats -h --help" ;;
                 activity) words="--horizon --clock --init --delays --stimuli --clocks --initial --explain --no-explain --mode --threads --workers --clusters --only --only-outputs -h --help" ;;
                 expect) words="--horizon --clock --init --delays --stimuli --clocks --initial --explain --no-explain --mode --threads --workers --clusters --expected -h --help" ;;
                 check) words="--horizon --clock --init --delays --stimuli --clocks --initial --explain --no-explain --all -h --help" ;;

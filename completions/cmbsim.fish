@@ -32,6 +32,7 @@ complete -c cmbsim -n '__cmbsim_does run' -l workers -x -d 'Or, in a short run: 
 complete -c cmbsim -n '__cmbsim_does run' -l clusters -x -d 'Clusters of nets that workers share out, 1 to 64'
 complete -c cmbsim -n '__cmbsim_does run' -l only -rF -d 'Writes only the nets whose names are in this file, one a line'
 complete -c cmbsim -n '__cmbsim_does run' -l only-outputs -d 'Writes only the nets that OUTPUT statements name'
+complete -c cmbsim -n '__cmbsim_does run' -l scopes -d 'Parts names at dots into modules, and declares led[3] as bit 3 of the bus led'
 complete -c cmbsim -n '__cmbsim_does run' -l progress -d 'Shows meanwhile how far the text is; selects mode free unless --mode is given'
 complete -c cmbsim -n '__cmbsim_does run' -l stats -d 'Tells at the end, on standard error, what the run took'
 complete -c cmbsim -n '__cmbsim_does run' -s h -l help -d 'Print help (see more with '\''--help'\'')'

@@ -71,6 +71,36 @@ inverter_counts='       2  nets
        0  rows of first levels
 '
 
+# The nets led[0], led[1] and cpu.alu.q, of which the first is 0 from tick 0 on and 1 from tick 5 on.
+scoped='$version cmbsim 1 $end
+$timescale 1 ns $end
+$scope module top $end
+$var wire 1 ! led [0] $end
+$var wire 1 " led [1] $end
+$scope module cpu $end
+$scope module alu $end
+$var wire 1 # q $end
+$upscope $end
+$upscope $end
+$upscope $end
+$enddefinitions $end
+#0
+$dumpvars
+0!
+x"
+x#
+$end
+#1
+1"
+0#
+#5
+1!
+#6
+0"
+1#
+#9
+'
+
 counted() { # counted NAME TEXT TASK WORDS..: the text is on standard output, of the netlist of the example
     local name=$1
     answered "$name.$3" "${@:2}"
@@ -111,6 +141,7 @@ refused no_words 2
 refused fault_that_is_none 2 explain 9
 refused check_with_stats 2 check --horizon 10 --stats
 refused check_with_progress 2 check --horizon 10 --progress
+refused check_with_scopes 2 check --horizon 10 --scopes
 refused stats_with_a_value 2 run --horizon 10 --stats yes
 refused check_with_a_mode 2 check --horizon 10 --mode plain
 refused check_of_a_missing_file 1 check --horizon 10 --stimuli missing.csv
@@ -118,11 +149,19 @@ refused check_of_a_netlist_as_a_table 1 check --horizon 10 --delays inverter.net
 counted inverter "$inverter_counts" check --horizon 10
 refused run_that_names_all 2 run --horizon 10 --all
 counted inverter $'net,changes,low,high,unknown\na,0,0,0,10\ny,0,0,0,10\n' activity --horizon 10
+for mode in rounds free plain; do
+    answered "scopes.$mode" "$scoped" run --horizon 9 --stimuli scopes.csv --scopes --mode $mode
+    printf 'INPUT(led[0])\nled[1] = NOT(led[0])\ncpu.alu.q = BUFF(led[0])\n' >"$cases/scopes.$mode"
+done
+printf 'tick,net,value\n0,led[0],0\n5,led[0],1\n' >"$faulty/scopes.csv"
+data+=(--data "scopes.csv=$faulty/scopes.csv")
 refused activity_with_stats 2 activity --horizon 10 --stats
 refused activity_with_progress 2 activity --horizon 10 --progress
+refused activity_with_scopes 2 activity --horizon 10 --scopes
 refused activity_of_a_missing_list 1 activity --horizon 10 --only missing
 refused expect_without_a_table 2 expect --horizon 10
 refused expect_with_stats 2 expect --horizon 10 --expected missing --stats
+refused expect_with_scopes 2 expect --horizon 10 --expected missing --scopes
 refused expect_of_chosen_nets 2 expect --horizon 10 --expected missing --only-outputs
 refused expect_of_a_missing_table 1 expect --horizon 10 --expected missing
 refused run_with_a_table_of_what_is_expected 2 run --horizon 10 --expected missing

@@ -1,9 +1,10 @@
 #!/usr/bin/env bash
 # viewers.sh [PROGRAM]: has what reads VCD on this machine read the waveforms of each example, and of a netlist whose names have
-# to be escaped, as PROGRAM writes them with scopes and without, out/cmbsim if not given. vcd2fst and fst2vcd, which come with GTKWave and read by its
-# own reader, have to give back the same levels, by tools/compare_vcd.py; vcd2lxt2, which has another reader, and sigrok-cli
-# have to read it; and GTKWave itself, in a window of xvfb-run's, has to show every net of it. A warning of any is a failure.
-# What isn't installed is named and left out, so that this is no part of the gate. The last line is 'N passed, M failed'.
+# to be escaped, with scopes and without, as PROGRAM writes them, out/cmbsim if not given. vcd2fst and fst2vcd, which come with
+# GTKWave and read by its own reader, have to give back the same levels, by tools/compare_vcd.py; vcd2lxt2, which has another
+# reader, and sigrok-cli have to read it; and GTKWave itself, in a window of xvfb-run's, has to show every net of it. A warning
+# of any is a failure. What isn't installed is named and left out, so that this is no part of the gate. The last line is 'N
+# passed, M failed'.
 set -uo pipefail
 cd "$(dirname "$0")/.."
 program=${1:-out/cmbsim}
@@ -79,9 +80,8 @@ done
 # names that Verilog couldn't write plainly, among them a number, a bit of a bus and one with a backslash
 printf '%s\n' 'INPUT(10)' 'INPUT(a.b[3])' '$x = NOT(10)' '\y\z = AND(a.b[3], 10)' 'n-1 = NOT($x)' 'wire = NOT(n-1)' >"$room/names.bench"
 printf 'tick,net,value\n0,10,1\n3,10,0\n2,a.b[3],1\n5,10,x\n' >"$room/names.csv"
-for scopes in "" --scopes; do
-    "$program" run --horizon 20 --stimuli "$room/names.csv" $scopes <"$room/names.bench" >"$room/names${scopes#-}.vcd"
-done
+"$program" run --horizon 20 --stimuli "$room/names.csv" <"$room/names.bench" >"$room/names.vcd"
+"$program" run --horizon 20 --scopes --stimuli "$room/names.csv" <"$room/names.bench" >"$room/scopes.vcd"
 for dump in "$room"/*.vcd; do
     for reader in "${readers[@]}"; do
         "$reader" "$(basename "$dump" .vcd)"

@@ -17,7 +17,7 @@ import resource
 import subprocess
 import sys
 
-from tools import HERE, JOBS, PROGRAM, ROOT, Answer, Case, Files, Tally, clocks, compared, each, example, levels, listed, measured, measured_list, modes, outputs, picked, run, toggle
+from tools import HERE, JOBS, PROGRAM, ROOT, Answer, Case, Files, Tally, clocks, compared, each, example, levels, listed, measured, measured_list, modes, outputs, parted, picked, run, toggle
 
 SECONDS = 20
 EVENTS = os.path.abspath(os.environ.get("PLAY_EVENTS", os.path.join(ROOT, "crates", "play_events", "out", "play_events")))
@@ -153,7 +153,7 @@ def is_right_line(answer, whole, more):
 
 
 def check_program(tally, files, shim):
-    for case in picked([toggle(), clocks(), levels(), example("inverter"), example("s27"), example("c17"), listed(), outputs(), measured(), measured_list(), compared()]):
+    for case in picked([toggle(), clocks(), levels(), example("inverter"), example("s27"), example("c17"), listed(), outputs(), parted(), measured(), measured_list(), compared()]):
         threads = (3,) if case.is_whole_first() else ()
         for mode, more_words in modes(rounds=((1, 1), (1, 2), (2, 2)), free=((1, 2), (2, 2), (3, 3)), threads=threads).items():
             words = [PROGRAM] + files.words(case) + more_words
@@ -162,7 +162,7 @@ def check_program(tally, files, shim):
             if not tally.check(whole == case.whole(), lambda: f"{name}: {whole}"):
                 continue
             early = mode.startswith("free") and not case.is_whole_first()
-            patience = 30 if early else 3
+            patience = 30 if mode.startswith("free") else 3
             sweep(tally, name, words, case.netlist, whole, shim, lambda a, more: is_right(a, whole, more, early), patience)
 
 

@@ -9,7 +9,7 @@ import errno
 import os
 import subprocess
 
-from tools import HERE, PROGRAM, Answer, Files, Tally, clocks, compared, each, example, levels, listed, measured, measured_list, modes, outputs, picked, run, toggle
+from tools import HERE, PROGRAM, Answer, Files, Tally, clocks, compared, each, example, levels, listed, measured, measured_list, modes, outputs, parted, picked, run, toggle
 
 SECONDS = 60
 # In the order in which they are read.
@@ -54,7 +54,7 @@ def main():
     tally, files = Tally(), Files()
     shim = files.path("streams.so")
     subprocess.run(["gcc", "-O2", "-shared", "-fPIC", "-o", shim, os.path.join(HERE, "streams.c")], check=True)
-    for case in picked([toggle(), clocks(), levels(), example("inverter"), listed(), outputs(), measured(), measured_list(), compared()]):
+    for case in picked([toggle(), clocks(), levels(), example("inverter"), listed(), outputs(), parted(), measured(), measured_list(), compared()]):
         before = tally.passed
         threads = (3,) if case.is_whole_first() else ()
         for mode, more in modes(rounds=((1, 1), (2, 2)), free=((1, 1), (2, 2), (3, 3)), threads=threads).items():

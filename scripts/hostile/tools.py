@@ -47,8 +47,8 @@ class Case:
         return Answer(self.status, self.expected, self.err)
 
     def is_whole_first(self):
-        """Whether the text is made whole before any of it is written, in each mode: that of some nets alone, and a table."""
-        return self.task != "run" or "only" in self.tables or "--only-outputs" in self.words
+        """Whether the text is made whole before any of it is written, in each mode: that of some nets alone, one with scopes, and a table."""
+        return self.task != "run" or "only" in self.tables or "--only-outputs" in self.words or "--scopes" in self.words
 
 
 class Answer:
@@ -196,6 +196,20 @@ def outputs():
     """Of `clocks` the one output, which doesn't ask for the last net."""
     case = clocks()
     return Case("outputs", b"OUTPUT(p)\n" + case.netlist, case.words + ["--only-outputs"], case.tables, text("p", "#0 0! #7 1! #12"))
+
+
+def parted():
+    """Of `clocks` with other names, the nets in modules and as bits of buses."""
+    case = clocks()
+    tables = {
+        "delays": b"by,name,delay\nkind,DFF,1\npin,q[0]:1,1\nnet,cpu.p,1\n",
+        "stimuli": b"tick,net,value\n0,a,0\n3,a,1\n",
+        "clocks": b"net,first,period\nq[0],4,3\n",
+    }
+    plain = b'$var wire 1 " p $end\n$var wire 1 # q $end\n'
+    scoped = b'$var wire 1 # q [0] $end\n$scope module cpu $end\n$var wire 1 " p $end\n$upscope $end\n'
+    netlist = b"INPUT(a)\ncpu.p = DFF(a)\nq[0] = DFF(cpu.p)\n"
+    return Case("parted", netlist, case.words + ["--scopes"], tables, case.expected.replace(plain, scoped))
 
 
 def measured():

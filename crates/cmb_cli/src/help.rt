@@ -134,6 +134,12 @@ Writes only the nets that OUTPUT statements name
 
 Else it does what --only does, with which it can't be combined.";
 
+pub const SCOPES: &str = "\
+Parts names at dots into modules, and declares led[3] as bit 3 of the bus led
+
+A viewer shows the nets as a tree then. A name with an empty part isn't parted. The text
+is held in memory whole before any of it is written, in each mode.";
+
 pub const MODE: &str = "\
 How the text is made, and when it is written [default: rounds]
 

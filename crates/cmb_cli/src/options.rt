@@ -2,7 +2,7 @@
 
 use crate::help::{
     ALL, CLOCK, CLOCKS, DELAYS, EXPECTED, EXPLAIN_FAULT, HORIZON, INIT, INITIAL, MODE, NO_EXPLAIN,
-    ONLY, ONLY_OUTPUTS, PARTS, PROGRESS, STATS, STIMULI, THREADS, WORKERS,
+    ONLY, ONLY_OUTPUTS, PARTS, PROGRESS, SCOPES, STATS, STIMULI, THREADS, WORKERS,
 };
 use clap::builder::ValueParser;
 use clap::{Arg, ArgAction, Command};
@@ -133,6 +133,14 @@ pub(crate) const CHOOSING: &[Choosable] = &[
         excludes: &[],
     },
 ];
+
+/// Of `run`: how the nets are declared.
+pub(crate) const PARTING: &[Choosable] = &[Choosable {
+    name: "scopes",
+    takes: Takes::Nothing,
+    help: SCOPES,
+    excludes: &[],
+}];
 
 /// Of `expect`: what is compared.
 pub(crate) const EXPECTING: &[Choosable] = &[Choosable {

@@ -1,7 +1,7 @@
 //! The words of the program's command line, and what is said of words that ask for nothing.
 
-ghost use Rattle.std.specs.Prelude.{◌≡◌, ◌≤◌, ◌↔◌, IfOk, IfSome, IsSome, codes, option_map, string_bytes, true};
-ghost use Rattle.clap.specs.Matches.{first_value, found_of};
+ghost use Rattle.std.specs.Prelude.{◌≡◌, ◌≤◌, ◌↔◌, IfOk, IfSome, IsSome, Some, codes, false, option_map, string_bytes, true};
+ghost use Rattle.clap.specs.Matches.{first_value, found_of, one_text};
 ghost use Rattle.cmb_cli.specs.Inner.Clocks.{IsClockIn};
 ghost use Rattle.cmb_cli_line.specs.declared.choice.Choice.TheVariants.{Only};
 ghost use Rattle.cmb_cli_line.specs.declared.choice.Pick.TheVariants.{Listed};
@@ -14,7 +14,7 @@ use crate::help::{
     TABLE, USUAL, VERSION,
 };
 use crate::options::{
-    CHECKING, CHOOSING, EXPECTING, RUNNING, SETTINGS, TELLING, first_line, with_options,
+    CHECKING, CHOOSING, EXPECTING, PARTING, RUNNING, SETTINGS, TELLING, first_line, with_options,
 };
 use crate::telling::{is_explained, is_quiet};
 use clap::error::ErrorKind;
@@ -66,6 +66,7 @@ fn run_command<'a>(alloc: Global) -> Result<Command<'a>, AllocError> {
     let command = with_options(alloc, command, SETTINGS)?;
     let command = with_options(alloc, command, RUNNING)?;
     let command = with_options(alloc, command, CHOOSING)?;
+    let command = with_options(alloc, command, PARTING)?;
     with_options(alloc, command, TELLING)
 }
 
@@ -316,6 +317,10 @@ fn line_of(
     ensures mode { IfOk result (λ line. IsLawful line.mode line.threads) }
     ensures clock { IfOk result (λ line. IsClockIn (found_of matches.now) line.settings.clock) }
     ensures choice { IfOk result (λ line. (line.choice ≡ Only Listed) ↔ IsSome line.only) }
+    ensures scopes { IfOk result (λ line. (one_text (found_of matches.now) (codes "scopes") ≡ Some (codes "true"))
+        → (line.scopes ≡ true)) }
+    ensures plain { IfOk result (λ line. (one_text (found_of matches.now) (codes "scopes") ≡ Some (codes "false"))
+        → (line.scopes ≡ false)) }
     ensures quiet { IfOk result (λ line. (line.quiet ≡ true) → (on_terminal ≡ true) × (line.explain ≡ true)) }
     ensures delays { IfOk result (λ line. option_map string_bytes line.delays
         ≡ first_value (found_of matches.now) (codes "delays")) }
@@ -345,6 +350,7 @@ fn line_of(
         mode,
         threads,
         choice: choice_of(matches, files.only.is_some()),
+        scopes: matches.get_flag("scopes"),
         named: named_of(matches),
         delays: files.delays,
         stimuli: files.stimuli,

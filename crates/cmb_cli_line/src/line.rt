@@ -26,6 +26,8 @@ pub struct Request {
     pub threads: Option<u32>,
     /// Which nets are written.
     pub choice: Choice,
+    /// Names are parted at `.` into modules, and `led[3]` is bit 3 of bus `led`.
+    pub scopes: bool,
 }
 
 /// What a line asks for.
@@ -46,6 +48,8 @@ pub struct Line {
     pub threads: Option<u32>,
     /// Which nets are written: those of a list exactly where `only` names its file.
     pub choice: Choice,
+    /// Names are parted at `.` into modules, and `led[3]` is bit 3 of bus `led`.
+    pub scopes: bool,
     /// How many a check names of each thing that it counts, at most.
     pub named: usize,
     /// The file of the delay table. The table is empty where no file is given.

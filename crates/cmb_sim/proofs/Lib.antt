@@ -1,6 +1,7 @@
 pub mod AllNets
 pub mod Checks
 pub mod Comparisons
+pub mod Forms
 pub mod Measured
 pub mod ModeFacts
 pub mod Outcomes

@@ -1,5 +1,5 @@
 -- What comes of writing a text.
-use Rattle.std.proofs.Common.{◌≡◌, ◌⊎◌, ℕ, inl, inr, List, [], ◌++◌, Option, Some, Result, Ok, Err, length, refl, arith}
+use Rattle.std.proofs.Common.{◌≡◌, ◌⊎◌, ℕ, Bool, true, false, inl, inr, List, [], ◌++◌, Option, Some, Result, Ok, Err, length, refl, subst, arith}
 use Rattle.cmb_design_model.specs.Design.{Design}
 use Rattle.cmb_run_free.specs.FreeRuns.{IsCutAt}
 use Rattle.cmb_run_exact.specs.declared.run_fault.RunFault.{RunFault}
@@ -13,8 +13,9 @@ use Rattle.cmb_faults.specs.Numbers.{run_as_fault, write_as_fault}
 use Rattle.cmb_faults.specs.declared.fault.Fault.{Fault}
 use Rattle.cmb_faults.specs.declared.fault.Fault.TheVariants as fault
 use Rattle.cmb_sim.proofs.Outcomes.{IsBroken-more, untouched}
-use Rattle.cmb_sim.specs.Inner.Plans.{IsPut, MayBreak, Streams}
+use Rattle.cmb_sim.specs.Inner.Plans.{FormMayBreak, IsPut, MayBreak, Streams, form_text}
 use Rattle.cmb_sim.specs.Simulation.{IsBroken}
+use Rattle.cmb_sim.specs.declared.plan.Plan.{Plan}
 use Rattle.cmb_sim.specs.declared.plan.Way.{Way}
 use Rattle.cmb_sim.specs.declared.plan.Way.TheVariants.{Free}
 
@@ -39,6 +40,14 @@ IsPut-more text B C o (Err f) more h = record { told = tt; taken = tt; fault = b
     by : (((f ≡ fault.Memory) × IsUntouched o) ⊎ IsBroken B text o f) → ((f ≡ fault.Memory) × IsUntouched o) ⊎ IsBroken C text o f
     by (inl none) = inl none
     by (inr begun) = inr (IsBroken-more B C text o f more begun)
+
+-- a text with scopes was put
+pub IsPut-scoped : (scopes : Bool) (plan : Plan) (design : Design) (text : List ℕ) (o : Output) (answer : Result ℕ Fault) → scopes ≡ true
+    → text ≡ form_text true plan.way design → IsPut text (λ _. ⊥) o answer → IsPut (form_text scopes plan.way design) (FormMayBreak scopes plan design) o answer
+IsPut-scoped true plan design text o answer asked is h =
+    let Put : List ℕ → Type 0 = λ t. IsPut t (λ _. ⊥) o answer in
+    IsPut-more (form_text true plan.way design) (λ _. ⊥) (FormMayBreak true plan design) o answer (λ f none. absurd none) (subst Put is h)
+IsPut-scoped false plan design text o answer asked is h = absurd (cc)
 
 -- a text that was put into an empty sink in memory is what that holds
 pub IsPut-held : (text : List ℕ) (Breaks : Fault → Type 0) (old new : List ℕ) (before after n : ℕ) → old ≡ [] → IsPut text Breaks (output (Some old) (Some new) before after) (Ok n) → new ≡ text

@@ -16,3 +16,4 @@ pub use Rattle.cmb_inputs.specs.Outputs
 pub use Rattle.cmb_inputs.specs.Spelling
 pub use Rattle.cmb_io.specs.Ends
 pub use Rattle.cmb_io.specs.Sources
+pub use Rattle.cmb_run_scopes.specs.Scopes

@@ -1,12 +1,13 @@
 -- What a whole simulation answers, and what it writes.
-use Rattle.std.specs.Prelude.{◌≡◌, ℕ, ◌<◌, ◌≤◌, ◌⊎◌, List, [], ◌∷◌, length, nat_lt, Option, None, Some, Result, IfOk, IfErr, ⊤}
+use Rattle.std.specs.Prelude.{◌≡◌, ℕ, ◌<◌, ◌≤◌, ◌⊎◌, Bool, false, List, [], ◌∷◌, length, nat_lt, Option, None, Some, Result, IfOk, IfErr, ⊤}
 use Rattle.cmb_netlist.specs.Netlist.{Netlist}
 use Rattle.cmb_design_model.specs.Checks.{Check, check, first_fault}
 use Rattle.cmb_design_model.specs.Design.{Design}
 use Rattle.cmb_design_model.specs.Exact.{nets_of}
 use Rattle.cmb_design_model.specs.Plain.{cells_of}
 use Rattle.cmb_design_model.specs.declared.fault.DesignFault.TheVariants.{TableTooLarge}
-use Rattle.cmb_run_text.specs.Chosen.{vcd_of}
+use Rattle.cmb_run_scopes.specs.Scopes.{in_form}
+use Rattle.cmb_run_text.specs.Chosen.{names_of, vcd_of}
 use Rattle.cmb_run_text.specs.Vcd.{vcd}
 use Rattle.cmb_cli_line.specs.Modes.{HasLawfulHands, IsLawfulCount, clusters_of}
 use Rattle.cmb_design_model.specs.declared.settings.Settings.{Settings}
@@ -46,26 +47,27 @@ IsUnrun request design fault.Workers =
 IsUnrun request design fault.Memory = ⊤
 IsUnrun request design _ = ⊥
 
--- the text is written while the run goes on
-abbrev pub IsStreamed : Mode → Choice → Type 0
-IsStreamed (Free workers clusters) All = ⊤
-IsStreamed _ _ = ⊥
+-- the text is written while the run goes on: that of all nets, without scopes
+abbrev pub IsStreamed : Mode → Choice → Bool → Type 0
+IsStreamed (Free workers clusters) All false = ⊤
+IsStreamed _ _ _ = ⊥
 
--- the run can be stopped: several workers run freely
-abbrev pub CanBeStopped : Mode → Option ℕ → Choice → Type 0
-CanBeStopped (Free workers clusters) None All = (2 ≤ workers) × (2 ≤ clusters)
-CanBeStopped _ _ _ = ⊥
+-- the run can be stopped: several workers run freely, and write the text meanwhile
+abbrev pub CanBeStopped : Mode → Option ℕ → Choice → Bool → Type 0
+CanBeStopped (Free workers clusters) None All false = (2 ≤ workers) × (2 ≤ clusters)
+CanBeStopped _ _ _ _ = ⊥
 
 -- ---- what is to come of texts
 
--- the text that is asked for of a design: that of all its nets, or of chosen ones
-abbrev pub IsTextOf : Choice → Design → List ℕ → List ℕ → Type 0
-IsTextOf All design names text = text ≡ vcd design
-IsTextOf (Only pick) design names text = (nets : List ℕ) × AreChosen pick design names nets × (text ≡ vcd_of design nets)
+-- the text that is asked for of a design: that of all its nets, or of chosen ones, with scopes or without
+abbrev pub IsTextOf : Choice → Bool → Design → List ℕ → List ℕ → Type 0
+IsTextOf All scopes design names text = text ≡ in_form scopes design.netlist.names (vcd design)
+IsTextOf (Only pick) scopes design names text =
+    (nets : List ℕ) × AreChosen pick design names nets × (text ≡ in_form scopes (names_of design.netlist nets) (vcd_of design nets))
 
--- all nets are asked for, and nothing is said of threads
+-- all nets are asked for, without scopes, and nothing is said of threads
 abbrev pub of_all : Settings → Mode → Request
-of_all settings mode = record { settings = settings; mode = mode; threads = None; choice = All }
+of_all settings mode = record { settings = settings; mode = mode; threads = None; choice = All; scopes = false }
 
 abbrev pub report_of : Design → List ℕ → Report
 report_of design text = record { nets = nets_of design; horizon = design.horizon; written = length text }
@@ -78,7 +80,7 @@ MakesText IsText request texts text report =
 
 -- of the texts comes the text that is asked for
 abbrev pub Makes : Request → Texts → List ℕ → Report → Type 0
-Makes request texts text report = MakesText (IsTextOf request.choice) request texts text report
+Makes request texts text report = MakesText (IsTextOf request.choice request.scopes) request texts text report
 
 -- why no nets are chosen
 abbrev pub IsUnasked : Choice → Netlist → List ℕ → Fault → Type 0
@@ -88,7 +90,8 @@ IsUnasked (Only pick) netlist names f = IsUnchosen pick netlist names f
 -- why a design isn't run: no nets of it are chosen, or the mode can't run it
 abbrev pub IsRefused : Request → List ℕ → Design → Fault → Type 0
 IsRefused request names design f =
-    IsUnasked request.choice design.netlist names f ⊎ ((text : List ℕ) × IsTextOf request.choice design names text × IsUnrun request design f)
+    IsUnasked request.choice design.netlist names f
+    ⊎ ((text : List ℕ) × IsTextOf request.choice request.scopes design names text × IsUnrun request design f)
 
 -- why nothing comes of the texts: they spell no design, or it isn't run
 abbrev pub Refuses : Request → Texts → Fault → Type 0
@@ -97,8 +100,9 @@ Refuses request texts f =
 
 -- why a run may break off while its text is written: it is stopped, and a net is known only below a tick; or memory runs out
 abbrev pub Breaks : Request → Report → Fault → Type 0
-Breaks request report (fault.Incomplete net upto) = CanBeStopped request.mode request.threads request.choice × (net < report.nets) × (upto < report.horizon)
-Breaks request report fault.Memory = IsStreamed request.mode request.choice
+Breaks request report (fault.Incomplete net upto) =
+    CanBeStopped request.mode request.threads request.choice request.scopes × (net < report.nets) × (upto < report.horizon)
+Breaks request report fault.Memory = IsStreamed request.mode request.choice request.scopes
 Breaks request report _ = ⊥
 
 -- ---- what comes of them

@@ -1,6 +1,6 @@
 -- What comes of a line: the outcome of its run, the table of activities, that of what came otherwise than was expected, or the counts of what
 -- its inputs spell.
-use Rattle.std.specs.Prelude.{◌≡◌, ℕ, List, Result, Ok, Err}
+use Rattle.std.specs.Prelude.{ℕ, List, Result, Ok, Err}
 use Rattle.cmb_count.specs.Counting.{AreCounts}
 use Rattle.cmb_count.specs.Texts.{IsCountsText}
 use Rattle.cmb_count.specs.declared.counts.Counts.{Counts}
@@ -23,7 +23,7 @@ use Rattle.cmb_faults.specs.declared.answer.Done.TheVariants.{Ran, Measured, Com
 use Rattle.cmb_faults.specs.declared.fault.Fault.{Fault}
 
 abbrev pub request_of : Line → Request
-request_of line = record { settings = line.settings; mode = line.mode; threads = line.threads; choice = line.choice }
+request_of line = record { settings = line.settings; mode = line.mode; threads = line.threads; choice = line.choice; scopes = line.scopes }
 
 -- of the nets that a line chooses a check asks nothing; what is expected is a table of nets
 abbrev pub choice_for : Task → Choice → Choice
@@ -83,6 +83,6 @@ IsDoneBy Activity line inputs o answer = IsMeasuring line inputs o answer
 IsDoneBy Expect line inputs o answer = IsExpecting line inputs o answer
 IsDoneBy Check line inputs o answer = IsCheckOf line inputs o answer
 
--- what comes of a line, with its task, its settings, its mode and its choice of nets
+-- what comes of a line, with its task, its settings, its mode, its choice of nets and its form
 abbrev pub IsDone : Line → List Input → Output → Result Done Fault → Type 0
 IsDone line inputs o answer = IsDoneBy line.task line inputs o answer

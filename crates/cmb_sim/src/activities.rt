@@ -21,8 +21,8 @@ use cmb_inputs::{InputTexts, chosen_nets, read_texts, spelled_design, write_text
 use cmb_io::{Sink, Source};
 use std::alloc::{AllocError, Global};
 
-// All nets, where there are so many.
-fn all_nets(alloc: Global, count: u32) -> Result<Vec<u32>, AllocError>
+/// All nets, where there are so many.
+pub(crate) fn all_nets(alloc: Global, count: u32) -> Result<Vec<u32>, AllocError>
     ensures nets { IfOk result (λ nets. nets.items ≡ range_with_len 0 count) }
     ensures below { IfOk result (λ nets. All (λ net. net < count) nets.items) }
 {

@@ -57,6 +57,7 @@ pub fn carry_out<
         mode: line.mode,
         threads: line.threads,
         choice: line.choice,
+        scopes: line.scopes,
     };
     match line.task {
         Task::Run => {

@@ -6,6 +6,7 @@ pub mod activities;
 pub mod carrying;
 pub mod checking;
 pub mod expecting;
+mod form;
 pub mod laws;
 mod modes;
 mod plan;

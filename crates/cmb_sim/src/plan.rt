@@ -8,7 +8,7 @@ ghost use Rattle.cmb_io.specs.Sources.{input_limit};
 ghost use Rattle.cmb_cli_line.specs.declared.choice.Choice.TheVariants.{All};
 ghost use Rattle.cmb_sim.specs.Inner.Plans.{IsByTable, IsPlan, IsWayTo, Streams};
 ghost use Rattle.cmb_sim.specs.Simulation.{CanBeStopped, CanRun, IsRefused, IsStreamed, mode_checks};
-ghost use Rattle.cmb_run_text.specs.Chosen.{vcd_of};
+ghost use Rattle.cmb_run_text.specs.Chosen.{names_of, vcd_of};
 ghost use Rattle.cmb_run_text.specs.Vcd.{vcd};
 
 use crate::modes::{check_mode, threads_in};
@@ -56,7 +56,7 @@ fn engine_way<R: Threads + Sync>(
     design: &Design,
     threads: u32,
 ) -> Result<Way, AllocError>
-    ensures { IfOk result (IsWayTo design.now (vcd design.now) ⊥) }
+    ensures { IfOk result (IsWayTo design.now design.now.netlist.names (vcd design.now) ⊥) }
 {
     match partition_that_pays(rt, alloc, design, threads)? {
         Some(partition) => Ok(Way::Shares { partition, threads }),
@@ -72,8 +72,8 @@ fn way_of<R: Threads + Sync>(
     design: &Design,
 ) -> Result<Way, AllocError>
     requires { CanRun request design.now }
-    ensures way { IfOk result (IsWayTo design.now (vcd design.now)
-        (CanBeStopped request.mode request.threads All)) }
+    ensures way { IfOk result (IsWayTo design.now design.now.netlist.names (vcd design.now)
+        (CanBeStopped request.mode request.threads All false)) }
     ensures table { request.mode ≡ Mode.Plain → IfOk result (λ way. IsByTable way) }
 {
     match (request.mode, request.threads) {
@@ -94,7 +94,7 @@ fn way_of<R: Threads + Sync>(
 fn way_to_chosen(mode: Mode, nets: Vec<u32>, design: &Design) -> Way
     requires nets { AreAmong (nets_of design.now) nets.items }
     requires fits { first_fault (mode_checks mode design.now) ≡ None }
-    ensures way { IsWayTo design.now (vcd_of design.now nets.items) ⊥ result }
+    ensures way { IsWayTo design.now (names_of design.now.netlist nets.items) (vcd_of design.now nets.items) ⊥ result }
     ensures table { mode ≡ Mode.Plain → IsByTable result }
     ensures whole { Streams result → ⊥ }
 {
@@ -106,8 +106,8 @@ fn way_to_chosen(mode: Mode, nets: Vec<u32>, design: &Design) -> Way
 
 // Whether what a way makes of the text while the run goes on is held: in mode free it isn't.
 fn is_held(mode: Mode, way: &Way) -> bool
-    ensures held { result ≡ true → IsStreamed mode All → ⊥ }
-    ensures streamed { result ≡ false → Streams way.now → IsStreamed mode All }
+    ensures held { result ≡ true → IsStreamed mode All false → ⊥ }
+    ensures streamed { result ≡ false → Streams way.now → IsStreamed mode All false }
 {
     match (mode, way) {
         (Mode::Free { .. }, _) => false,

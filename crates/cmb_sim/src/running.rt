@@ -159,8 +159,8 @@ fn write_by_shares<R: AllocGlobal + Threads + Wait + Sync, O: Sink>(
     }
 }
 
-// Writes the text of a design in a way that can make it, and gives its length.
-fn write_by<R: AllocGlobal + Threads + Wait + Sync, O: Sink>(
+/// Writes the text of a design in a way that can make it, and gives its length.
+pub(crate) fn write_by<R: AllocGlobal + Threads + Wait + Sync, O: Sink>(
     rt: &R,
     way: &Way,
     design: &Design,

@@ -7,8 +7,8 @@ ghost use Rattle.cmb_inputs.specs.Outputs.{written_to};
 ghost use Rattle.cmb_sim.specs.Inner.Designs.{IsRunOf};
 ghost use Rattle.cmb_sim.specs.Simulation.{IsOutcome, IsRun, of_all};
 
+use crate::form::write_form;
 use crate::plan::plan_of;
-use crate::running::write_plan;
 use cmb_cli_line::{Choice, Mode, Pick, Request};
 use cmb_design_model::{Design, Settings};
 use cmb_faults::{Fault, Report};
@@ -59,6 +59,7 @@ pub fn simulate<
         mode,
         threads: None,
         choice: Choice::All,
+        scopes: false,
     };
     simulate_chosen(
         rt, bench, delays, stimuli, clocks, initial, list, request, out,
@@ -79,7 +80,7 @@ fn simulate_design<R: AllocGlobal + Threads + Wait + Sync, O: Sink>(
     ensures { IsRunOf request design.now names.now (written_to O.Sink out.old out.new) result }
 {
     let plan = plan_of(rt, alloc, request, design, names)?;
-    let written = write_plan(rt, &plan, design, out)?;
+    let written = write_form(rt, &plan, design, request.scopes, out)?;
     Ok(Report {
         nets: design.netlist().len() as u32,
         horizon: design.horizon(),
@@ -113,8 +114,11 @@ fn simulate_texts<R: AllocGlobal + Threads + Wait + Sync, O: Sink>(
 /// Where a list names the nets, it is input 5, and read whole after the five others; else no byte of it is read. A list
 /// has the names of nets, one a line; blanks count as between the words of a netlist, and `#` begins a comment. A net
 /// that is named twice counts once. 38 comes where what stands on a line of the list is no net's name, after the faults
-/// of the netlist, the tables and the design and before those of the mode. Where not all nets are chosen, the text is
-/// made whole before any of it is written, in each mode. So 70 then comes before the text, and 53 never.
+/// of the netlist, the tables and the design and before those of the mode.
+///
+/// With scopes names are parted at `.` into modules, and `led[3]` is declared as bit 3 of bus `led`. The text is that
+/// without scopes but for its header. Where not all nets are chosen, and with scopes, the text is made whole before any
+/// of it is written, in each mode. So 70 then comes before the text, and 53 never.
 pub fn simulate_chosen<
     R: AllocGlobal + Threads + Wait + Sync,
     B: Source,

@@ -119,6 +119,7 @@ pub fn asked(settings: Settings, how: How) -> Request {
         mode: how.0,
         threads: how.1,
         choice: Choice::All,
+        scopes: false,
     }
 }
 

@@ -22,6 +22,8 @@ mod faults;
 #[cfg(test)]
 mod meanings;
 #[cfg(test)]
+mod scopes;
+#[cfg(test)]
 mod stages;
 #[cfg(test)]
 mod tables;

@@ -25,7 +25,7 @@ MakesComparisonOf request design table text told =
 
 -- its waveforms
 abbrev pub IsRunOf : Request → Design → List ℕ → Output → Result Report Fault → Type 0
-IsRunOf request design names o answer = IsMade (MakesOf (IsTextOf request.choice) request design names) (IsRefused request names design) (Breaks request) o answer
+IsRunOf request design names o answer = IsMade (MakesOf (IsTextOf request.choice request.scopes) request design names) (IsRefused request names design) (Breaks request) o answer
 
 -- the table of how active its nets are
 abbrev pub IsTabledOf : Request → Design → List ℕ → Output → Result Report Fault → Type 0

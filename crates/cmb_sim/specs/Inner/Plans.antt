@@ -1,11 +1,13 @@
 -- What is planned for what is asked for, and what comes of writing a text.
-use Rattle.std.specs.Prelude.{◌≡◌, ℕ, ◌<◌, ◌⊎◌, List, length, true, false, None, Result, IfErr, IfOk, OnOk, ⊤}
+use Rattle.std.specs.Prelude.{◌≡◌, ℕ, ◌<◌, ◌⊎◌, Bool, List, length, true, false, None, Result, IfErr, IfOk, OnOk, ⊤}
 use Rattle.cmb_design_model.specs.Checks.{first_fault}
 use Rattle.cmb_design_model.specs.Design.{Design}
 use Rattle.cmb_design_model.specs.Exact.{nets_of}
 use Rattle.cmb_dump.specs.Excerpts.{AreAmong}
-use Rattle.cmb_run_text.specs.Chosen.{vcd_of}
-use Rattle.cmb_run_text.specs.Vcd.{vcd}
+use Rattle.cmb_run_scopes.specs.Scopes.{in_form, scoped_header}
+use Rattle.cmb_run_scopes.specs.declared.header.Headers.{Headers}
+use Rattle.cmb_run_text.specs.Chosen.{names_of, vcd_of}
+use Rattle.cmb_run_text.specs.Vcd.{header, vcd}
 use Rattle.cmb_cli_line.specs.Modes.{IsLawfulCount}
 use Rattle.cmb_graph_partition.specs.Partitions.{IsPartition}
 use Rattle.cmb_cli_line.specs.declared.line.Request.{Request}
@@ -23,6 +25,21 @@ abbrev pub way_text : Way → Design → List ℕ
 way_text (Picked nets) design = vcd_of design nets.items
 way_text (Chosen nets) design = vcd_of design nets.items
 way_text _ design = vcd design
+
+-- the names of the nets that this text has
+abbrev pub way_names : Way → Design → List (List ℕ)
+way_names (Picked nets) design = names_of design.netlist nets.items
+way_names (Chosen nets) design = names_of design.netlist nets.items
+way_names _ design = design.netlist.names
+
+-- the same text with scopes, where these are asked for
+abbrev pub form_text : Bool → Way → Design → List ℕ
+form_text scopes way design = in_form scopes (way_names way design) (way_text way design)
+
+-- the lines with scopes for nets with these names, and how long those are in whose place they stand
+pub record AreHeaders (names : List (List ℕ)) (headers : Headers) : Type 0 where
+  pub lines : headers.scoped.items ≡ scoped_header names
+  pub plain : headers.plain ≡ length (header names)
 
 -- what a way needs
 abbrev pub CanMake : Way → Design → Type 0
@@ -65,22 +82,27 @@ MayBreak way design _ = ⊥
 abbrev pub PlanMayBreak : Plan → Design → Fault → Type 0
 PlanMayBreak plan design f = (plan.held ≡ false) × MayBreak plan.way design f
 
--- a way to a text of a design, of which the run can be stopped only where that may be
-pub record IsWayTo (design : Design) (text : List ℕ) (MayStop : Type 0) (way : Way) : Type 0 where
+-- nor does a text with scopes
+abbrev pub FormMayBreak : Bool → Plan → Design → Fault → Type 0
+FormMayBreak scopes plan design f = (scopes ≡ false) × PlanMayBreak plan design f
+
+-- a way to a text of a design with these names, of which the run can be stopped only where that may be
+pub record IsWayTo (design : Design) (names : List (List ℕ)) (text : List ℕ) (MayStop : Type 0) (way : Way) : Type 0 where
   pub makes : CanMake way design
   pub same : way_text way design ≡ text
+  pub named : way_names way design ≡ names
   pub stops : CanStop way → MayStop
 
--- What is planned is what is asked for: the text, in mode plain by the table, and whether it is held. The run can be stopped only where what is
--- asked for can.
+-- What is planned is what is asked for: the text, in mode plain by the table, and, without scopes, whether it is held. The run can be stopped
+-- only where what is asked for can.
 pub record IsPlan (request : Request) (design : Design) (names : List ℕ) (plan : Plan) : Type 0 where
   pub runs : CanRun request design
   pub makes : CanMake plan.way design
-  pub text : IsTextOf request.choice design names (way_text plan.way design)
+  pub text : IsTextOf request.choice request.scopes design names (form_text request.scopes plan.way design)
   pub table : request.mode ≡ Plain → IsByTable plan.way
-  pub streams : plan.held ≡ false → Streams plan.way → IsStreamed request.mode request.choice
-  pub holds : plan.held ≡ true → IsStreamed request.mode request.choice → ⊥
-  pub stops : CanStop plan.way → CanBeStopped request.mode request.threads request.choice
+  pub streams : plan.held ≡ false → Streams plan.way → IsStreamed request.mode request.choice false
+  pub holds : plan.held ≡ true → IsStreamed request.mode request.choice false → ⊥
+  pub stops : CanStop plan.way → CanBeStopped request.mode request.threads request.choice false
 
 -- what comes of writing a text: it was written, and its length is told; or memory ran out before; or it was begun
 pub record IsPut (text : List ℕ) (Breaks : Fault → Type 0) (o : Output) (answer : Result ℕ Fault) : Type 0 where
