@@ -7,28 +7,49 @@ use crate::checks::{holds, same};
 use crate::waves::rise;
 use cmb_bench::{Driver, Kind, Netlist, read_bench};
 use cmb_design::{
-    Design, DesignFault, Settings, gate, plain_waves, read_clocks, read_delays, read_initial,
-    read_stimuli,
+    ClockRows, DelayRows, Design, DesignFault, InitialRows, Settings, StimulusRows, gate,
+    plain_waves, read_clocks, read_delays, read_initial, read_stimuli,
 };
-use cmb_wave::Level;
+use cmb_wave::{Level, Wave};
 use std::alloc::Global;
 use std::test::Fail;
+
+// Tables without rows, but for the clock of q.
+#[derive(Drop)]
+struct Tables {
+    delays: DelayRows,
+    stimuli: StimulusRows,
+    clocks: ClockRows,
+    initial: InitialRows,
+}
+
+fn read_tables(alloc: Global) -> Result<Tables, DesignFault> {
+    Ok(Tables {
+        delays: read_delays(alloc, b"")?,
+        stimuli: read_stimuli(alloc, b"")?,
+        clocks: read_clocks(alloc, b"net,first,period\nq,2,4\n")?,
+        initial: read_initial(alloc, b"")?,
+    })
+}
 
 // The design of a netlist up to tick 12, without delays of its own, whose flip-flops hold 0 at first.
 fn design_of(
     alloc: Global,
     netlist: Netlist,
+    tables: Tables,
     clock: Option<(u32, u32)>,
 ) -> Result<Design, DesignFault> {
-    let delays = read_delays(alloc, b"")?;
-    let stimuli = read_stimuli(alloc, b"")?;
-    let clocks = read_clocks(alloc, b"net,first,period\nq,2,4\n")?;
-    let initial = read_initial(alloc, b"")?;
     let settings = Settings {
         horizon: 12,
         clock,
         init: Level::Zero,
     };
+    let Tables {
+        delays,
+        stimuli,
+        clocks,
+        initial,
+    } = tables;
     Design::new(alloc, netlist, delays, stimuli, clocks, initial, settings)
 }
 
@@ -36,45 +57,82 @@ fn design_of(
 pub fn toggle(alloc: Global) -> Result<Design, Fail>
     ensures { IfOk result (λ design. nets_of design ≡ 2) }
 {
+    let tables = read_tables(alloc)?;
     let netlist = read_bench(alloc, b"q = DFF(d)\nd = NOT(q)\n")?;
-    let design = design_of(alloc, netlist, None)?;
+    let design = design_of(alloc, netlist, tables, None)?;
     if design.netlist().len() != 2 {
         return Err(Fail::new("not two nets"));
     }
     Ok(design)
 }
 
+fn is_toggle(design: &Design) -> bool
+    requires { nets_of design.now ≡ 2 }
+{
+    let netlist = design.netlist();
+    netlist.number(b"d") == Some(1) && matches!(netlist.driver(0), Driver::Flop(_))
+}
+
 #[test]
-fn netlists_and_designs(rt: HostRuntime) -> Result<(), Fail> {
+fn netlists(rt: HostRuntime) -> Result<(), Fail> {
     let design = toggle(rt.alloc())?;
-    same(&rt, design.netlist().number(b"d"), Some(1));
-    holds(&rt, matches!(design.netlist().driver(0), Driver::Flop(_)));
+    holds(&rt, is_toggle(&design));
+    Ok(())
+}
+
+#[test]
+fn gates(rt: HostRuntime) {
     same(
         &rt,
         gate(Kind::Nor, &[Level::Zero, Level::Zero]),
         Level::One,
     );
-    let wrong = read_bench(rt.alloc(), b"q = DFF(d)\nd = NOT(e)\n").err();
-    same(
-        &rt,
-        wrong.map(|fault| (fault.number(), fault.line)),
-        Some((6, 2)),
-    );
-    let beyond = design_of(
-        rt.alloc(),
-        read_bench(rt.alloc(), b"q = DFF(q)\n")?,
-        Some((0, 0)),
-    );
-    same(&rt, beyond.err().map(|fault| fault.number()), Some(21));
+}
+
+// The number and the line of the fault in a netlist.
+fn fault_of(alloc: Global, netlist: &[u8]) -> Option<(u32, u32)> {
+    let fault = read_bench(alloc, netlist).err()?;
+    Some((fault.number(), fault.line))
+}
+
+#[test]
+fn wrong_netlists(rt: HostRuntime) {
+    let found = fault_of(rt.alloc(), b"q = DFF(d)\nd = NOT(e)\n");
+    same(&rt, found, Some((6, 2)));
+}
+
+// The number of the fault of a design whose clock has no period.
+fn refused(alloc: Global) -> Result<Option<u32>, Fail> {
+    let tables = read_tables(alloc)?;
+    let netlist = read_bench(alloc, b"q = DFF(q)\n")?;
+    let design = design_of(alloc, netlist, tables, Some((0, 0)));
+    Ok(design.err().map(|fault| fault.number()))
+}
+
+#[test]
+fn wrong_designs(rt: HostRuntime) -> Result<(), Fail> {
+    same(&rt, refused(rt.alloc())?, Some(21));
     Ok(())
+}
+
+// The waves of the toggle, by a plain table.
+fn waves(alloc: Global) -> Result<Vec<Wave>, Fail> {
+    let design = toggle(alloc)?;
+    let waves = plain_waves(alloc, &design)?;
+    Ok(waves)
 }
 
 // By hand: d is the inverse of q a tick ago, so it rises at tick 1; q shows that at tick 3.
 #[test]
 fn values(rt: HostRuntime) -> Result<(), Fail> {
-    let waves = plain_waves(rt.alloc(), &toggle(rt.alloc())?)?;
-    same(&rt, waves.len(), 2);
-    holds(&rt, waves[0].changes().contains(&rise(3)));
-    holds(&rt, waves[1].changes().contains(&rise(1)));
+    let waves = waves(rt.alloc())?;
+    holds(&rt, are_right(&waves));
     Ok(())
+}
+
+fn are_right(waves: &[Wave]) -> bool {
+    match waves {
+        [q, d] => q.changes().contains(&rise(3)) && d.changes().contains(&rise(1)),
+        _ => false,
+    }
 }

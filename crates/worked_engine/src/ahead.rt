@@ -5,8 +5,9 @@
 //! ends where `b` shows the sample of tick 20. In this window `a` shows what it sampled at tick 0, and `b` doesn't
 //! change.
 
-ghost use Rattle.std.specs.Prelude.{◌≡◌, IfOk};
+ghost use Rattle.std.specs.Prelude.{◌≡◌, ℕ, ◌∷◌, [], true, false, Contains, IfOk};
 ghost use Rattle.cmb_design_model.specs.Exact.{nets_of};
+ghost use Rattle.cmb_engine.specs.Crossings.{IsCrossing};
 
 use crate::checks::holds;
 use cmb_design_model::{Design, Settings};
@@ -47,25 +48,63 @@ fn counter(rt: &impl Abort, alloc: Global) -> Result<Design, Fail>
     Ok(design)
 }
 
-/// Where the first window ends, where shares have common ones, and which crossing flip-flops are told ahead of it, in
-/// place of what `told` had.
+/// The engine of all nets, which gives the changes of the flip-flops ahead.
+fn engine_of(alloc: Global, design: &Design) -> Result<ShareEngine<'_>, AllocError>
+    requires nets { nets_of design.now ≡ 3 }
+    ensures design { IfOk result (λ engine. engine.design ≡ design.entry.now) }
+    ensures clock { IfOk result (λ engine. engine.clock ≡ 1) }
+    ensures exports { IfOk result (λ engine. (net : ℕ) → Contains engine.exports net
+        → IsCrossing engine.design (true ∷ false ∷ true ∷ []) net) }
+{
+    let engine = ShareEngine::open(alloc, design, &[true, true, true])?;
+    engine.exporting(alloc, &CROSSING)
+}
+
+/// Where the first window ends, where shares have common ones, and which crossing flip-flops an engine tells ahead of
+/// it, in place of what `told` had.
 fn tell_first(
     alloc: Global,
     design: &Design,
+    engine: &ShareEngine<'_>,
     told: &mut Vec<Changed>,
 ) -> Result<Option<u32>, AllocError>
-    requires nets { nets_of design.now ≡ 3 }
+    requires design { engine.now.design ≡ design.now }
+    requires clock { engine.now.clock ≡ 1 }
+    requires exports { (net : ℕ) → Contains engine.now.exports net → IsCrossing engine.now.design (true ∷ false ∷ true ∷ []) net }
     requires horizon { design.now.horizon ≡ 100 }
 {
-    let engine = ShareEngine::open(alloc, design, &[true, true, true])?;
-    let engine = engine.exporting(alloc, &CROSSING)?;
     let width = engine.width();
     let Some(windows) = Windows::between(alloc, design, &CROSSING, width)? else {
         return Ok(None);
     };
     let upto = windows.end(1);
+    drop(windows);
     engine.tell_ahead(upto, told)?;
     Ok(Some(upto))
+}
+
+/// Whether the counter's first window is as it should be.
+fn is_told_first(alloc: Global, design: &Design) -> Result<bool, AllocError>
+    requires nets { nets_of design.now ≡ 3 }
+    requires horizon { design.now.horizon ≡ 100 }
+{
+    let engine = engine_of(alloc, design)?;
+    is_first_of(alloc, design, &engine)
+}
+
+fn is_first_of(
+    alloc: Global,
+    design: &Design,
+    engine: &ShareEngine<'_>,
+) -> Result<bool, AllocError>
+    requires design { engine.now.design ≡ design.now }
+    requires clock { engine.now.clock ≡ 1 }
+    requires exports { (net : ℕ) → Contains engine.now.exports net → IsCrossing engine.now.design (true ∷ false ∷ true ∷ []) net }
+    requires horizon { design.now.horizon ≡ 100 }
+{
+    let mut told = Vec::new(alloc);
+    let upto = tell_first(alloc, design, engine, &mut told)?;
+    Ok(upto == Some(21) && is_first(&told))
 }
 
 /// Whether it is `a` alone, which is 0 up to tick 4 and x from tick 5 on: so `m` was at tick 0.
@@ -85,8 +124,6 @@ fn is_first(told: &[Changed]) -> bool {
 #[test]
 fn first_window(rt: HostRuntime) -> Result<(), Fail> {
     let design = counter(&rt, rt.alloc())?;
-    let mut told = Vec::new(rt.alloc());
-    let upto = tell_first(rt.alloc(), &design, &mut told)?;
-    holds(&rt, upto == Some(21) && is_first(&told));
+    holds(&rt, is_told_first(rt.alloc(), &design)?);
     Ok(())
 }

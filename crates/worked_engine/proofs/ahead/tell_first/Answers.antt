@@ -13,14 +13,12 @@ tell_ahead-requires-clause-ahead c =
     let windows : Windows = c.in-Some.windows in
     let of : (P : Windows → Type 0) → IfSome c.in_ok-windows.field-0 P → P windows = λ P h. subst (λ (o : Option Windows). IfSome o P) c.in-Some.is h in
     let horizon : windows.horizon ≡ design.horizon = of (λ w. w.horizon ≡ design.horizon) c.in_ok-windows.ensures.horizon in
-    let first = c.in_ok-engine.ensures in
-    let then' = c.in_ok-engine-2.ensures in
     λ net there.
-    subst (λ (d : Design). IsWithinLookahead d c.in_ok-engine-2.engine.clock c.end-upto.result net) (sym (then'.design ∙ first.design))
-    (subst (λ n. IsWithinLookahead design n c.end-upto.result net) (sym (then'.clock ∙ first.clock))
+    subst (λ (d : Design). IsWithinLookahead d c.args.engine.now.clock c.end-upto.result net) (sym c.requires.design)
+    (subst (λ n. IsWithinLookahead design n c.end-upto.result net) (sym c.requires.clock)
     (subst (λ n. IsWithinLookahead design 1 n net) (sym c.end-upto.ensures.value)
     (of (AreWithinLookahead design crossing) c.in_ok-windows.ensures.ahead net 1
-    (subst (λ (d : Design). IsCrossing d crossing net) first.design ((then'.exports net).0 there).1)
+    (subst (λ (d : Design). IsCrossing d crossing net) c.requires.design (c.requires.exports net there))
     (omega (arith, horizon, c.requires.horizon)))))
 
 pub tell_ahead-requires-clause-soon : goal.tell_ahead-requires-clause-soon
@@ -29,10 +27,8 @@ tell_ahead-requires-clause-soon c =
     let crossing : List Bool = true ∷ false ∷ true ∷ [] in
     let windows : Windows = c.in-Some.windows in
     let of : (P : Windows → Type 0) → IfSome c.in_ok-windows.field-0 P → P windows = λ P h. subst (λ (o : Option Windows). IfSome o P) c.in-Some.is h in
-    let first = c.in_ok-engine.ensures in
-    let then' = c.in_ok-engine-2.ensures in
     λ net there.
-    subst (λ (d : Design). delay d net 1 < c.in_ok-engine-2.engine.width) (sym (then'.design ∙ first.design))
+    subst (λ (d : Design). delay d net 1 < c.args.engine.now.width) (sym c.requires.design)
     (subst (λ n. delay design net 1 < n) c.width-width.ensures.value
     (of (λ w. (one : ℕ) → IsCrossing design crossing one → delay design one 1 < c.width-width.result) c.in_ok-windows.ensures.soon net
-    (subst (λ (d : Design). IsCrossing d crossing net) first.design ((then'.exports net).0 there).1)))
+    (subst (λ (d : Design). IsCrossing d crossing net) c.requires.design (c.requires.exports net there))))
