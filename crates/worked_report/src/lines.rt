@@ -79,6 +79,7 @@ fn wrong_words_of_runs(rt: HostRuntime) -> Result<(), Fail> {
         "run --horizon 10 netlist.bench",
         "run --horizon 10 --explain yes",
         "run --horizon 10 --stats yes",
+        "run --horizon 10 --scopes yes",
         "run --horizon 10 --progress --progress",
     ] {
         refused(&rt, rt.alloc(), line, LineFault::Wrong)?;
@@ -97,6 +98,9 @@ fn wrong_tasks(rt: HostRuntime) -> Result<(), Fail> {
         "check --horizon 10 --mode plain",
         "check --horizon 10 --stats",
         "check --horizon 10 --progress",
+        "check --horizon 10 --scopes",
+        "activity --horizon 10 --scopes",
+        "expect --horizon 10 --expected want.csv --scopes",
         "expect --horizon 10",
         "expect --expected want.csv",
         "expect --horizon 10 --expected want.csv --only nets",
@@ -339,6 +343,18 @@ fn choices_of_lines(rt: HostRuntime) -> Result<(), Fail> {
     chooses(&rt, alloc, "run --horizon 10 --only-outputs", outputs, None)
 }
 
+#[test]
+fn scopes_of_lines(rt: HostRuntime) -> Result<(), Fail> {
+    let line = line_of(rt.alloc(), "run --horizon 10 --only-outputs --scopes")?;
+    holds(
+        &rt,
+        line.scopes && line.choice == Choice::Only(Pick::Outputs),
+    );
+    let line = line_of(rt.alloc(), "run --horizon 10 --mode free --stats")?;
+    holds(&rt, !line.scopes);
+    Ok(())
+}
+
 fn message_of(alloc: Global, line: &str) -> Result<String, AllocError> {
     let words = words(alloc, line)?;
     line_message(alloc, words.as_slice(), false)
@@ -448,6 +464,7 @@ fn options_stand_in(rt: &impl Abort, alloc: Global, line: &str) -> Result<(), Fa
         "--clusters <K>",
         "--only <FILE>",
         "--only-outputs",
+        "--scopes",
     ] {
         contains(rt, message.as_str(), option);
     }

@@ -126,6 +126,25 @@ fn expectation_that_is_not_met(rt: HostRuntime) -> Result<(), Fail> {
     Ok(())
 }
 
+// The declarations by hand: a net of a module, and a bit of a bus.
+#[test]
+fn text_with_scopes(rt: HostRuntime) -> Result<(), Fail> {
+    let line = "run --horizon 2 --scopes --stimuli in.csv --stats";
+    let inputs = Inputs {
+        bench: b"INPUT(led[0])\ncpu.q = BUFF(led[0])\n",
+        stimuli: b"tick,net,value\n0,led[0],1\n",
+        ..FLOP
+    };
+    let outcome = carried(&rt, &rt, line, inputs)?;
+    same(&rt, fault_of(&outcome.answer), (0, 0));
+    let text = b"$version cmbsim 1 $end\n$timescale 1 ns $end\n$scope module top $end\n\
+        $var wire 1 ! led [0] $end\n$scope module cpu $end\n$var wire 1 \" q $end\n$upscope $end\n\
+        $upscope $end\n$enddefinitions $end\n#0\n$dumpvars\n1!\nx\"\n$end\n#1\n1\"\n#2\n";
+    same(&rt, outcome.text.as_slice() == text.as_slice(), true);
+    same(&rt, (outcome.tally.tick, outcome.tally.changes), (2, 3));
+    Ok(())
+}
+
 // A table that went to another's option, with the header that it has and that it should have.
 #[test]
 fn swapped_tables(rt: HostRuntime) -> Result<(), Fail> {
