@@ -77,16 +77,13 @@ fn read_delayed(alloc: Global, number: u32, by: &[u8], name: &[u8]) -> Result<De
 }
 
 #[tactic(auto, unfolding(cmb_design_model::specs::Checks::first_fault, crate::specs::Readers::delay_record_checks))]
-fn read_delay(
-    alloc: Global,
-    number: u32,
-    by: &[u8],
-    name: &[u8],
-    delay: &[u8],
-) -> Result<DelayRow, DesignFault>
-    ensures { FollowsChecks (delay_record_checks number (by.now ∷ name.now ∷ delay.now ∷ []))
-        (delay_row_of (by.now ∷ name.now ∷ delay.now ∷ [])) result }
+fn read_delay(alloc: Global, number: u32, row: &ByteRecord) -> Result<DelayRow, DesignFault>
+    ensures { FollowsChecks (delay_record_checks number (fields_in (fields_of row.now)))
+        (delay_row_of (fields_in (fields_of row.now))) result }
 {
+    let Some((by, name, delay)) = three_fields(row) else {
+        return Err(DesignFault::Fields(number));
+    };
     let Some(delay) = parse_number(delay) else {
         return Err(DesignFault::Number(number));
     };
@@ -111,12 +108,8 @@ impl TableRow for DelayRow {
         are_fields(row, b"by", b"name", b"delay")
     }
 
-    #[tactic(auto, unfolding(cmb_design_model::specs::Checks::first_fault, crate::specs::Readers::delay_record_checks))]
     fn read_row(alloc: Global, number: u32, row: &ByteRecord) -> Result<Self, DesignFault> {
-        match three_fields(row) {
-            Some((by, name, delay)) => read_delay(alloc, number, by, name, delay),
-            None => Err(DesignFault::Fields(number)),
-        }
+        read_delay(alloc, number, row)
     }
 }
 
@@ -147,16 +140,13 @@ fn level_named(word: &[u8]) -> Option<Level>
 }
 
 #[tactic(auto, unfolding(cmb_design_model::specs::Checks::first_fault, crate::specs::Readers::stimulus_record_checks))]
-fn read_stimulus(
-    alloc: Global,
-    number: u32,
-    tick: &[u8],
-    net: &[u8],
-    value: &[u8],
-) -> Result<StimulusRow, DesignFault>
-    ensures { FollowsChecks (stimulus_record_checks number (tick.now ∷ net.now ∷ value.now ∷ []))
-        (stimulus_row_of (tick.now ∷ net.now ∷ value.now ∷ [])) result }
+fn read_stimulus(alloc: Global, number: u32, row: &ByteRecord) -> Result<StimulusRow, DesignFault>
+    ensures { FollowsChecks (stimulus_record_checks number (fields_in (fields_of row.now)))
+        (stimulus_row_of (fields_in (fields_of row.now))) result }
 {
+    let Some((tick, net, value)) = three_fields(row) else {
+        return Err(DesignFault::Fields(number));
+    };
     let Some(tick) = parse_number(tick) else {
         return Err(DesignFault::Number(number));
     };
@@ -178,12 +168,8 @@ impl TableRow for StimulusRow {
         are_fields(row, b"tick", b"net", b"value")
     }
 
-    #[tactic(auto, unfolding(cmb_design_model::specs::Checks::first_fault, crate::specs::Readers::stimulus_record_checks))]
     fn read_row(alloc: Global, number: u32, row: &ByteRecord) -> Result<Self, DesignFault> {
-        match three_fields(row) {
-            Some((tick, net, value)) => read_stimulus(alloc, number, tick, net, value),
-            None => Err(DesignFault::Fields(number)),
-        }
+        read_stimulus(alloc, number, row)
     }
 }
 
@@ -198,16 +184,13 @@ pub fn read_stimuli(alloc: Global, text: &[u8]) -> Result<StimulusRows, DesignFa
 }
 
 #[tactic(auto, unfolding(cmb_design_model::specs::Checks::first_fault, crate::specs::Readers::clock_record_checks))]
-fn read_clock(
-    alloc: Global,
-    number: u32,
-    net: &[u8],
-    first: &[u8],
-    period: &[u8],
-) -> Result<ClockRow, DesignFault>
-    ensures { FollowsChecks (clock_record_checks number (net.now ∷ first.now ∷ period.now ∷ []))
-        (clock_row_of (net.now ∷ first.now ∷ period.now ∷ [])) result }
+fn read_clock(alloc: Global, number: u32, row: &ByteRecord) -> Result<ClockRow, DesignFault>
+    ensures { FollowsChecks (clock_record_checks number (fields_in (fields_of row.now)))
+        (clock_row_of (fields_in (fields_of row.now))) result }
 {
+    let Some((net, first, period)) = three_fields(row) else {
+        return Err(DesignFault::Fields(number));
+    };
     let Some(first) = parse_number(first) else {
         return Err(DesignFault::Number(number));
     };
@@ -236,12 +219,8 @@ impl TableRow for ClockRow {
         are_fields(row, b"net", b"first", b"period")
     }
 
-    #[tactic(auto, unfolding(cmb_design_model::specs::Checks::first_fault, crate::specs::Readers::clock_record_checks))]
     fn read_row(alloc: Global, number: u32, row: &ByteRecord) -> Result<Self, DesignFault> {
-        match three_fields(row) {
-            Some((net, first, period)) => read_clock(alloc, number, net, first, period),
-            None => Err(DesignFault::Fields(number)),
-        }
+        read_clock(alloc, number, row)
     }
 }
 
@@ -265,15 +244,13 @@ fn are_two_fields(row: &ByteRecord, first: &[u8], second: &[u8]) -> bool
 }
 
 #[tactic(auto, unfolding(cmb_design_model::specs::Checks::first_fault, crate::specs::Readers::initial_record_checks))]
-fn read_first_level(
-    alloc: Global,
-    number: u32,
-    net: &[u8],
-    value: &[u8],
-) -> Result<InitialRow, DesignFault>
-    ensures { FollowsChecks (initial_record_checks number (net.now ∷ value.now ∷ []))
-        (initial_row_of (net.now ∷ value.now ∷ [])) result }
+fn read_first_level(alloc: Global, number: u32, row: &ByteRecord) -> Result<InitialRow, DesignFault>
+    ensures { FollowsChecks (initial_record_checks number (fields_in (fields_of row.now)))
+        (initial_row_of (fields_in (fields_of row.now))) result }
 {
+    let Some((net, value)) = two_fields(row) else {
+        return Err(DesignFault::Fields(number));
+    };
     let Some(level) = level_named(value) else {
         return Err(DesignFault::Level(number));
     };
@@ -292,12 +269,8 @@ impl TableRow for InitialRow {
         are_two_fields(row, b"net", b"value")
     }
 
-    #[tactic(auto, unfolding(cmb_design_model::specs::Checks::first_fault, crate::specs::Readers::initial_record_checks))]
     fn read_row(alloc: Global, number: u32, row: &ByteRecord) -> Result<Self, DesignFault> {
-        match two_fields(row) {
-            Some((net, value)) => read_first_level(alloc, number, net, value),
-            None => Err(DesignFault::Fields(number)),
-        }
+        read_first_level(alloc, number, row)
     }
 }
 
