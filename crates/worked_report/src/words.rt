@@ -154,7 +154,8 @@ fn swapped_tables(rt: HostRuntime) -> Result<(), Fail> {
         ..FLOP
     };
     let words =
-        "cmbsim: in.csv, line 1: not the table's header: tick,net,value, as stimuli have it; it has to be by,name,delay\n";
+        "cmbsim: in.csv, line 1: not the table's header: tick,net,value, as stimuli have it; it has to be \
+        by,name,delay\n";
     is_told(&rt, &rt, line, swapped, (23, 1, words))
 }
 
@@ -167,21 +168,23 @@ fn kinds(rt: HostRuntime) -> Result<(), Fail> {
         ..FLOP
     };
     let words =
-        "cmbsim: the netlist, line 2: not a kind: y = nadn(a); nadn is nearest to NAND, and the kinds are AND, NAND, OR, NOR, XOR, XNOR, NOT, BUFF (or BUF) and DFF\n";
+        "cmbsim: the netlist, line 2: not a kind: y = nadn(a); nadn is nearest to NAND, and the kinds are \
+        AND, NAND, OR, NOR, XOR, XNOR, NOT, BUFF (or BUF) and DFF\n";
     is_told(&rt, &rt, line, misspelled, (3, 2, words))?;
     let constant = Inputs {
         bench: b"k = vdd\n",
         ..FLOP
     };
-    let words =
-        "cmbsim: the netlist, line 1: not a kind: k = vdd; the kinds are AND, NAND, OR, NOR, XOR, XNOR, NOT, BUFF (or BUF) and DFF\n";
+    let words = "cmbsim: the netlist, line 1: not a kind: k = vdd; the kinds are \
+        AND, NAND, OR, NOR, XOR, XNOR, NOT, BUFF (or BUF) and DFF\n";
     is_told(&rt, &rt, line, constant, (3, 1, words))?;
     let delays = Inputs {
         delays: b"by,name,delay\nkind,NANT,3\n",
         ..FLOP
     };
     let words =
-        "cmbsim: wait.csv, line 2: no such kind: kind,NANT,3; NANT is nearest to NAND, and the kinds are AND, NAND, OR, NOR, XOR, XNOR, NOT, BUFF (or BUF) and DFF\n";
+        "cmbsim: wait.csv, line 2: no such kind: kind,NANT,3; NANT is nearest to NAND, and the kinds are \
+        AND, NAND, OR, NOR, XOR, XNOR, NOT, BUFF (or BUF) and DFF\n";
     is_told(&rt, &rt, line, delays, (27, 2, words))?;
     let delays = Inputs {
         delays: b"by,name,delay\ngate,y,3\n",
