@@ -1,7 +1,19 @@
--- What is said of what was done.
-use Rattle.std.specs.Prelude.{ℕ, List, Bool, codes, if◌then◌else◌}
+-- How inputs are called, and what is said of what was done.
+use Rattle.std.specs.Prelude.{ℕ, ◌==◌, List, Bool, codes, if◌then◌else◌, option_map, string_bytes, unwrap_or}
+use Rattle.cmb_cli_line.specs.declared.line.Line.{Line}
 use Rattle.cmb_faults.specs.declared.answer.Done.{Done}
 use Rattle.cmb_faults.specs.declared.answer.Done.TheVariants.{Ran, Measured, Compared, Checked}
+
+-- an input by its number: a table or a list by its path
+abbrev pub name_of : Line → ℕ → List ℕ
+name_of line input =
+    if input == 2 then unwrap_or (option_map string_bytes line.delays) (codes "a table")
+    else if input == 3 then unwrap_or (option_map string_bytes line.stimuli) (codes "a table")
+    else if input == 4 then unwrap_or (option_map string_bytes line.clocks) (codes "a table")
+    else if input == 5 then unwrap_or (option_map string_bytes line.only) (codes "the list")
+    else if input == 6 then unwrap_or (option_map string_bytes line.initial) (codes "a table")
+    else if input == 7 then unwrap_or (option_map string_bytes line.expected) (codes "a table")
+    else codes "the netlist"
 
 abbrev pub nets_of : Done → ℕ
 nets_of (Ran report) = report.nets

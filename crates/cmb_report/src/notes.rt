@@ -1,6 +1,6 @@
 //! Notes on a line that was done: what looks like a slip.
 
-ghost use Rattle.std.specs.Prelude.{◌≤◌, IfSome, length};
+ghost use Rattle.std.specs.Prelude.{◌≡◌, ◌≤◌, [], false, length, string_bytes, IfOk, IfSome};
 
 use crate::shown::push_shown;
 use crate::slips::{Late, Silent, late_path, silent_inputs};
@@ -96,7 +96,9 @@ fn push_slips(
 
 /// Notes on a run, each on a line of its own: which inputs are x at all ticks, and whether the common clock is too
 /// short for what leads from its flip-flops to its flip-flops. Without the whole texts there are none.
-pub fn run_notes(alloc: Global, given: &Given<'_>) -> Result<String, AllocError> {
+pub fn run_notes(alloc: Global, given: &Given<'_>) -> Result<String, AllocError>
+    ensures { IfOk result (λ text. given.now.is_whole ≡ false → string_bytes text ≡ []) }
+{
     let mut text = String::new(alloc);
     if !given.is_whole {
         return Ok(text);

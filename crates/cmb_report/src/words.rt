@@ -1,15 +1,17 @@
 //! A fault in words.
 
-ghost use Rattle.std.specs.Prelude.{◌≡◌, ◌==◌, [], if◌then◌else◌};
-ghost use Rattle.cmb_report.specs.Words.{nets_of, no_nets};
+ghost use Rattle.std.specs.Prelude.{◌≡◌, ◌==◌, ◌&&◌, [], if◌then◌else◌, option_map, string_bytes, unwrap_or};
+ghost use Rattle.cmb_report.specs.Words.{name_of, nets_of, no_nets};
 
 use crate::clocks::unclocked;
 use crate::kinds::push_kinds;
 use crate::netlist::{line_at, undriven, unknown_kind};
 use crate::record::{push_wrong, record_at};
+use crate::recorded::Recorded;
 use crate::right::push_right;
 use crate::shown::push_shown;
 use crate::table::{Table, table_of, text_of};
+use crate::timed::Timed;
 use cmb_bench::read_bench;
 use cmb_cli_line::Line;
 use cmb_design_model::{DesignFault, Settings};
@@ -34,21 +36,68 @@ pub struct Given<'a> {
     pub is_whole: bool,
 }
 
+impl<'a> Given<'a> {
+    /// What the sources of a line's inputs kept. The last is that of the list, or of what is expected.
+    pub fn new<B, S, K>(
+        line: &'a Line,
+        bench: &'a Recorded<B>,
+        delays: &'a Recorded<S>,
+        stimuli: &'a Recorded<S>,
+        clocks: &'a Recorded<S>,
+        initial: &'a Timed<Recorded<S>, K>,
+        list: &'a Recorded<S>,
+    ) -> Given<'a>
+        ensures settings { result.settings ≡ line.now.settings }
+        ensures bench { result.bench.now ≡ (if bench.now.keeps then bench.now.bytes.items else []) }
+        ensures delays { result.delays.now ≡ (if delays.now.keeps then delays.now.bytes.items else []) }
+        ensures stimuli { result.stimuli.now ≡ (if stimuli.now.keeps then stimuli.now.bytes.items else []) }
+        ensures clocks { result.clocks.now ≡ (if clocks.now.keeps then clocks.now.bytes.items else []) }
+        ensures initial { result.initial.now
+            ≡ (if initial.now.source.keeps then initial.now.source.bytes.items else []) }
+        ensures list { result.list.now ≡ (if list.now.keeps then list.now.bytes.items else []) }
+        ensures whole { result.is_whole ≡ (bench.now.keeps && (delays.now.keeps && (stimuli.now.keeps
+            && (clocks.now.keeps && initial.now.source.keeps)))) }
+    {
+        Given {
+            line,
+            settings: line.settings,
+            bench: bench.given(),
+            delays: delays.given(),
+            stimuli: stimuli.given(),
+            clocks: clocks.given(),
+            initial: initial.source.given(),
+            list: list.given(),
+            is_whole: bench.keeps
+                && delays.keeps
+                && stimuli.keeps
+                && clocks.keeps
+                && initial.source.keeps,
+        }
+    }
+}
+
+// The path that a line names, or else other words.
+fn path_or<'a>(path: &'a Option<String>, other: &'a str) -> &'a str
+    ensures { result.now ≡ unwrap_or (option_map string_bytes path.now) other.now }
+{
+    match path {
+        Some(path) => path.as_str(),
+        None => other,
+    }
+}
+
 /// How an input is called: a table or a list by its path.
-pub fn input_name(line: &Line, input: u64) -> &str {
-    let file = match input {
-        2 => &line.delays,
-        3 => &line.stimuli,
-        4 => &line.clocks,
-        5 => &line.only,
-        6 => &line.initial,
-        7 => &line.expected,
-        _ => return "the netlist",
-    };
-    match file {
-        Some(name) => name.as_str(),
-        None if input == 5 => "the list",
-        None => "a table",
+pub fn input_name(line: &Line, input: u64) -> &str
+    ensures { result.now ≡ name_of line.now input }
+{
+    match input {
+        2 => path_or(&line.delays, "a table"),
+        3 => path_or(&line.stimuli, "a table"),
+        4 => path_or(&line.clocks, "a table"),
+        5 => path_or(&line.only, "the list"),
+        6 => path_or(&line.initial, "a table"),
+        7 => path_or(&line.expected, "a table"),
+        _ => "the netlist",
     }
 }
 
