@@ -2,6 +2,8 @@
 //! standard output.
 #![tactic(auto)]
 
+ghost use Rattle.std.specs.Prelude.{◌≡◌};
+
 use cmb_cli::{LineFault, read_line};
 use cmb_host::{
     Refusal, Times, help, kept, no_words, notes_of, on_terminal, open_tables, refuse, refuse_clock,
@@ -35,6 +37,21 @@ fn told_at_end(
             Ok(done)
         }
         Err(fault) => Err(told_of(rt, given, fault, is_closed)),
+    }
+}
+
+// What was timed of a run, of which the output was watched.
+fn times_of<K, E>(began: Option<Instant>, read: Option<Instant>, watch: &Watch<K, E>) -> Times
+    ensures began { result.began ≡ began }
+    ensures read { result.read ≡ read }
+    ensures tally { result.tally ≡ watch.now.tally }
+    ensures writing { result.writing ≡ watch.now.writing }
+{
+    Times {
+        began,
+        read,
+        tally: watch.tally,
+        writing: watch.writing,
     }
 }
 
@@ -77,27 +94,8 @@ fn do_line<R: AllocGlobal + Threads + Wait + Sync>(
         &mut out,
     );
     out.watch.wipe();
-    let given = Given {
-        line,
-        settings: line.settings,
-        bench: bench.given(),
-        delays: delays.given(),
-        stimuli: stimuli.given(),
-        clocks: clocks.given(),
-        initial: initial.source.given(),
-        list: list.given(),
-        is_whole: bench.keeps
-            && delays.keeps
-            && stimuli.keeps
-            && clocks.keeps
-            && initial.source.keeps,
-    };
-    let times = Times {
-        began,
-        read: initial.read,
-        tally: out.watch.tally,
-        writing: out.watch.writing,
-    };
+    let given = Given::new(line, &bench, &delays, &stimuli, &clocks, &initial, &list);
+    let times = times_of(began, initial.read, &out.watch);
     told_at_end(rt, &given, done, &times, out.sink.writer.is_closed)
 }
 

@@ -99,17 +99,9 @@ pub fn carried<R: AllocGlobal + Threads + Wait + Sync>(
         &mut out,
     );
     out.watch.wipe();
-    let given = Given {
-        line: &line,
-        settings: line.settings,
-        bench: bench.given(),
-        delays: delays.given(),
-        stimuli: stimuli.given(),
-        clocks: clocks.given(),
-        initial: initial.source.given(),
-        list: expected.given(),
-        is_whole: line.explain,
-    };
+    let given = Given::new(
+        &line, &bench, &delays, &stimuli, &clocks, &initial, &expected,
+    );
     let words = words_of(alloc, &given, &answer)?;
     Ok(Outcome {
         answer,
