@@ -73,4 +73,3 @@ fn links(rt: HostRuntime) -> Result<(), Fail> {
     holds(&rt, is_empty_link(&rt, &design)?);
     Ok(())
 }
-

@@ -92,11 +92,7 @@ fn is_told_first(alloc: Global, design: &Design) -> Result<bool, AllocError>
     is_first_of(alloc, design, &engine)
 }
 
-fn is_first_of(
-    alloc: Global,
-    design: &Design,
-    engine: &ShareEngine<'_>,
-) -> Result<bool, AllocError>
+fn is_first_of(alloc: Global, design: &Design, engine: &ShareEngine<'_>) -> Result<bool, AllocError>
     requires design { engine.now.design ≡ design.now }
     requires clock { engine.now.clock ≡ 1 }
     requires exports { (net : ℕ) → Contains engine.now.exports net → IsCrossing engine.now.design (true ∷ false ∷ true ∷ []) net }
