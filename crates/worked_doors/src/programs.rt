@@ -1,5 +1,7 @@
 //! `cmb_sim`: command lines, whole simulations, and the lines of faults.
 
+ghost use Rattle.std.specs.Prelude.{◌-◌, ◌^◌, ◌<◌};
+
 use crate::checks::{holds, same};
 use cmb_sim::{
     Fault, FromBytes, Level, LineFault, Mode, Room, Settings, Task, fault_line, read_line, simulate,
@@ -38,7 +40,9 @@ fn simulated<R: AllocGlobal + Threads + Wait + Sync>(
     netlist: &[u8],
     horizon: u32,
     out: &mut Room,
-) -> Result<u64, Fault> {
+) -> Result<u64, Fault>
+    requires { out.old.failures < 2 ^ 64 - 1 }
+{
     let settings = Settings {
         horizon,
         clock: None,

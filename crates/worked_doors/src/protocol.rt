@@ -47,6 +47,7 @@ fn cluster_of(alloc: Global, cluster: u32) -> Result<Cluster, Fail>
 fn steps(rt: &impl Abort, q: &mut Cluster) -> Result<Piece, Fail> {
     holds(rt, q.step_all()?);
     same(rt, q.out_clock(0), Some(3));
+    holds(rt, q.out_clock(0).is_some());
     let promise = q.promise(0);
     same(rt, (promise.count, promise.upto), (1, 3));
     Ok(q.post(0, 0)?.ok_or("no message")?)

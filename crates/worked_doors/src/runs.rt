@@ -13,6 +13,7 @@ use cmb_run::{
     Collector, OpenGate, Room, VcdWriter, run_free, run_free_text, run_rounds, vcd_text,
 };
 use std::alloc::{AllocError, Global};
+use std::process::Abort;
 use std::sync::Wait;
 use std::test::Fail;
 use std::thread::Threads;
@@ -101,21 +102,35 @@ fn runs(rt: HostRuntime) -> Result<(), Fail> {
 }
 
 // The text of a collector that knows nothing, as far as that is known.
-fn first_text(alloc: Global, design: &Design) -> Result<Vec<u8>, AllocError> {
-    let collector = Collector::open(alloc, design)?;
-    let mut writer = VcdWriter::open(alloc, design)?;
-    writer.extend(&collector)
+fn extended(
+    rt: &impl Abort,
+    design: &Design,
+    writer: &mut VcdWriter<'_>,
+    collector: &Collector,
+) -> Result<Vec<u8>, AllocError>
+    requires { writer.old.design ≡ design.now }
+{
+    holds(rt, collector.waves().len() == design.netlist().len());
+    holds(rt, collector.horizon() == design.horizon());
+    holds(rt, writer.done().unwrap_or(0) <= collector.least());
+    writer.extend(collector)
 }
 
-fn first_of_toggle(alloc: Global) -> Result<Vec<u8>, Fail> {
+fn first_text(rt: &impl Abort, alloc: Global, design: &Design) -> Result<Vec<u8>, AllocError> {
+    let collector = Collector::open(alloc, design)?;
+    let mut writer = VcdWriter::open(alloc, design)?;
+    extended(rt, design, &mut writer, &collector)
+}
+
+fn first_of_toggle(rt: &impl Abort, alloc: Global) -> Result<Vec<u8>, Fail> {
     let design = toggle(alloc)?;
-    Ok(first_text(alloc, &design)?)
+    Ok(first_text(rt, alloc, &design)?)
 }
 
 // It has the declarations alone.
 #[test]
 fn first_part(rt: HostRuntime) -> Result<(), Fail> {
-    let text = first_of_toggle(rt.alloc())?;
+    let text = first_of_toggle(&rt, rt.alloc())?;
     holds(&rt, text.as_slice() == DECLARATIONS);
     Ok(())
 }

@@ -3,6 +3,7 @@
 use crate::checks::{holds, same};
 use cmb_wave::{Change, Heard, Level, Piece, PieceFault, Promise, Wave};
 use std::alloc::Global;
+use std::process::Abort;
 use std::test::Fail;
 
 /// A change to 1 at a tick.
@@ -20,6 +21,13 @@ fn rising(alloc: Global, from: u32, to: u32, tick: u32) -> Result<Result<Piece, 
     Ok(Piece::new(3, from, to, changes))
 }
 
+// The level at a tick that is known and kept.
+fn level_at(rt: &impl Abort, wave: &Wave, tick: u32) -> Level {
+    holds(rt, wave.base() <= tick);
+    holds(rt, tick < wave.clock());
+    wave.level_at(tick)
+}
+
 #[test]
 fn pieces_and_promises(rt: HostRuntime) -> Result<(), Fail> {
     let alloc = rt.alloc();
@@ -31,8 +39,8 @@ fn pieces_and_promises(rt: HostRuntime) -> Result<(), Fail> {
     let piece = rising(alloc, 0, 5, 2)??;
     let mut wave = Wave::new(alloc, piece.net());
     same(&rt, wave.take(&piece)?, 5);
-    same(&rt, wave.level_at(1), Level::X);
-    same(&rt, wave.level_at(2), Level::One);
+    same(&rt, level_at(&rt, &wave, 1), Level::X);
+    same(&rt, level_at(&rt, &wave, 2), Level::One);
     let promise = Promise {
         net: 3,
         count: 1,
