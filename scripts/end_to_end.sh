@@ -431,7 +431,7 @@ in_words() {
 
 told_in_words() {
     in_words 'the netlist, line 2: not driven: b, in y = NOT(b)' 'INPUT(a)\ny = NOT(b)\n'
-    in_words 'the netlist, line 1: a byte that no netlist has: \xef\xbb\xbfINPUT(a)' '\357\273\277INPUT(a)\n'
+    in_words 'the netlist, line 1: a byte that no netlist has: \u{feff}INPUT(a)' '\357\273\277INPUT(a)\n'
     in_words 'a flip-flop has no clock row, and there is no common clock: q' "$clocked"
     in_words 'missing.csv: No such file or directory (os error 2)' "$clocked" --clock 2:4 --delays missing.csv
     printf 'tick,net,value\n\n0,a,0\r\n\r\n5,A,1\n' >"$faulty/stimuli.csv"
