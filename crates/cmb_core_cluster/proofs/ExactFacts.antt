@@ -20,9 +20,9 @@ use Rattle.cmb_design_model.specs.Design.{Design}
 use Rattle.cmb_design_model.specs.Exact.{nets_of, IsExactIn, IsExactWaveIn, IsRightIn}
 use Rattle.cmb_design_model.specs.Timing.{delay, clock_of, initial_level, last_sample}
 use Rattle.cmb_design_model.specs.Value.{value}
-use Rattle.cmb_core_cluster.specs.declared.process.Pin.{Pin}
-use Rattle.cmb_core_cluster.specs.declared.process.Rule.{Rule}
-use Rattle.cmb_core_cluster.specs.declared.process.Rule.TheVariants.{Flop}
+use Rattle.cmb_core_cluster.specs.declared.process.Operand.{Operand}
+use Rattle.cmb_core_cluster.specs.declared.process.ProcessRule.{ProcessRule}
+use Rattle.cmb_core_cluster.specs.declared.process.ProcessRule.TheVariants.{Flop}
 use Rattle.cmb_core_cluster.specs.declared.delivery.DeliverFault.{DeliverFault}
 use Rattle.cmb_core_cluster.specs.declared.delivery.DeliverFault.TheVariants.{Stranger, Gap, Old, Clash, Memory}
 use Rattle.cmb_core_cluster.specs.Clustering.{Clustering, cluster_of}
@@ -72,7 +72,7 @@ need_same design net clock = go (cases_lt clock ((clock_of design net).first + d
         rw (a, b) (omega arith)
 
 module _ (design : Design) (waves : List Wave) (net clock : ℕ) where
-  gate_kept : (pin : ℕ) (sources : List ℕ) (os : List Pin) → AreOperands design net pin sources os → AreReady waves clock os → AreKept design (told_from waves) net clock pin sources
+  gate_kept : (pin : ℕ) (sources : List ℕ) (os : List Operand) → AreOperands design net pin sources os → AreReady waves clock os → AreKept design (told_from waves) net clock pin sources
   gate_kept pin [] [] a r = tt
   gate_kept pin (source ∷ sources) (o ∷ os) a r =
       let same : (wave_at waves o.net).base ≡ (wave_at waves source).base = ap (λ n. (wave_at waves n).base) a.0 in
@@ -82,7 +82,7 @@ module _ (design : Design) (waves : List Wave) (net clock : ℕ) where
   gate_kept pin [] (o ∷ os) a r = absurd a
   gate_kept pin (source ∷ sources) [] a r = absurd a
 
-  flop_kept : (source : ℕ) (os : List Pin) (cs : List Change) → AreOperands design net 1 (source ∷ []) os → IsReadyFor waves clock (Flop (clock_of design net).first (clock_of design net).period (initial_level design net)) os cs → told_from waves source ≤ flop_need design net clock
+  flop_kept : (source : ℕ) (os : List Operand) (cs : List Change) → AreOperands design net 1 (source ∷ []) os → IsReadyFor waves clock (Flop (clock_of design net).first (clock_of design net).period (initial_level design net)) os cs → told_from waves source ≤ flop_need design net clock
   flop_kept source [] cs a r = absurd a
   flop_kept source (o ∷ []) cs a r =
       let same : (wave_at waves o.net).base ≡ (wave_at waves source).base = ap (λ n. (wave_at waves n).base) a.0 in
@@ -100,10 +100,10 @@ module _ (design : Design) (waves : List Wave) (net clock : ℕ) where
   kept_by : (driver : Driver) (p : Process) → IsDrivenBy design net driver p → IsReadyFor waves clock p.rule p.operands p.stimulus → IsKept design (told_from waves) net clock driver
   kept_by InputNet p d r = tt
   kept_by (GateNet kind sources) p d r =
-      let R : Rule → Type 0 = λ rule. IsReadyFor waves clock rule p.operands p.stimulus in
+      let R : ProcessRule → Type 0 = λ rule. IsReadyFor waves clock rule p.operands p.stimulus in
       gate_kept 1 sources p.operands d.1 (subst R d.0 r).1
   kept_by (FlopNet source) p d r =
-      let R : Rule → Type 0 = λ rule. IsReadyFor waves clock rule p.operands p.stimulus in
+      let R : ProcessRule → Type 0 = λ rule. IsReadyFor waves clock rule p.operands p.stimulus in
       flop_kept source p.operands p.stimulus d.1 (subst R d.0 r)
 
 pub kept_here : (design : Design) (s : Cluster) (net slot : ℕ) → Drives design s net slot → IsSound s → IsKept design (told_from s.waves) net (wave_at s.waves net).clock (driver_of design.netlist net)

@@ -5,8 +5,8 @@ use Rattle.cmb_wave.specs.declared.level.Promise.{Promise}
 use Rattle.cmb_wave.specs.Wave.{Wave, Piece, new_wave, wave_up_to}
 use Rattle.cmb_wave.specs.declared.wave.WaveFault.TheVariants.{Gap as WaveGap, Old as WaveOld, Clash as WaveClash, Memory as WaveMemory}
 use Rattle.cmb_wave.specs.Calls.{taken, heard_wave, hears, RefusesAs}
-use Rattle.cmb_core_cluster.specs.declared.process.Rule.{Rule}
-use Rattle.cmb_core_cluster.specs.declared.process.Rule.TheVariants.{Given, Input, Gate, Flop}
+use Rattle.cmb_core_cluster.specs.declared.process.ProcessRule.{ProcessRule}
+use Rattle.cmb_core_cluster.specs.declared.process.ProcessRule.TheVariants.{Given, Input, Gate, Flop}
 use Rattle.cmb_core_cluster.specs.Step.{wave_at, with_wave}
 use Rattle.cmb_core_cluster.specs.Rows.{slot_of, is_given}
 use Rattle.cmb_core_cluster.specs.Clusters.{Cluster, process_at, slot_wave, given_only, driven_only, input_slot, output_slot, as_delivery, delivered_at, delivered, heard_at, RefusesDelivery}
@@ -108,7 +108,7 @@ other_still s net slot e none = go (process_at s slot).rule refl
     kept : cond (is_given (process_at s slot).rule) None (Some slot) ≡ None
     kept = ap (driven_only s) (sym e) ∙ none
 
-    go : (rule : Rule) → (process_at s slot).rule ≡ rule → reach_at s slot ≡ 0
+    go : (rule : ProcessRule) → (process_at s slot).rule ≡ rule → reach_at s slot ≡ 0
     go Given is = rw is refl
     go Input is = let no : Some slot ≡ None = rw is at kept in cc
     go (Gate kind) is = let no : Some slot ≡ None = rw is at kept in cc

@@ -10,7 +10,7 @@ use Rattle.cmb_wave.specs.Waveform.{last_level, level_at, level_before}
 use Rattle.cmb_wave.specs.Wave.{Wave, new_wave}
 use Rattle.cmb_design_model.specs.Design.{Design}
 use Rattle.cmb_design_model.specs.Exact.{nets_of}
-use Rattle.cmb_core_cluster.specs.declared.process.Rule.TheVariants.{Given}
+use Rattle.cmb_core_cluster.specs.declared.process.ProcessRule.TheVariants.{Given}
 use Rattle.cmb_core_cluster.specs.Clustering.{Clustering, cluster_of, has_input}
 use Rattle.cmb_core_cluster.specs.Clusters.{Cluster, IsSameButWaves, slot_wave, process_at, step_waves}
 use Rattle.cmb_core_cluster.specs.Inner.Spans.{new_waves_at, reach_at}

@@ -5,7 +5,7 @@ use Rattle.std.proofs.lemmas.Bool.{and_parts, cases_eq, eqb-true, eq-eqb}
 use Rattle.cmb_wave.specs.Wave.{Wave, new_wave}
 use Rattle.cmb_design_model.specs.Design.{Design}
 use Rattle.cmb_design_model.specs.Exact.{nets_of}
-use Rattle.cmb_core_cluster.specs.declared.process.Rule.TheVariants.{Given}
+use Rattle.cmb_core_cluster.specs.declared.process.ProcessRule.TheVariants.{Given}
 use Rattle.cmb_core_cluster.specs.Clustering.{Clustering, cluster_of, has_input}
 use Rattle.cmb_core_cluster.specs.Clusters.{Cluster, IsSound, is_complete, process_at, slot_wave}
 use Rattle.cmb_core_cluster.specs.Directory.{driven_among}

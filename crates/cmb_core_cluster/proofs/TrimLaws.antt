@@ -19,7 +19,7 @@ use Rattle.cmb_netlist.specs.Netlist.{driver_of}
 use Rattle.cmb_design_model.specs.Design.{Design}
 use Rattle.cmb_design_model.specs.Exact.{IsExactWaveIn}
 use Rattle.cmb_design_model.specs.Value.{value}
-use Rattle.cmb_core_cluster.specs.declared.process.Rule.TheVariants.{Given}
+use Rattle.cmb_core_cluster.specs.declared.process.ProcessRule.TheVariants.{Given}
 use Rattle.cmb_core_cluster.specs.Clustering.{Clustering}
 use Rattle.cmb_core_cluster.specs.Clusters.{Cluster, IsSound, process_at, slot_wave, given_only, input_slot, as_delivery, delivered_at, delivered, heard_at, step_answer, step_waves}
 use Rattle.cmb_core_cluster.specs.Opened.{IsClusterOf, IsOwnNet}

@@ -4,7 +4,7 @@ use Rattle.std.specs.List.{range_with_len}
 use Rattle.cmb_netlist.specs.Netlist.{driver_of}
 use Rattle.cmb_design_model.specs.Design.{Design}
 use Rattle.cmb_design_model.specs.Exact.{nets_of}
-use Rattle.cmb_core_cluster.specs.declared.process.Rule.TheVariants.{Given}
+use Rattle.cmb_core_cluster.specs.declared.process.ProcessRule.TheVariants.{Given}
 use Rattle.cmb_core_cluster.specs.Clustering.{Clustering, cluster_of, has_input}
 use Rattle.cmb_core_cluster.specs.Rows.{Process}
 use Rattle.cmb_core_cluster.specs.Clusters.{Cluster, IsDrivenBy, wave_nets}

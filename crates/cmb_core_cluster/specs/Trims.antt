@@ -4,15 +4,15 @@ use Rattle.std.specs.List.{AllByRecursion, range_with_len}
 use Rattle.cmb_wave.specs.Waveform.{IsTrace}
 use Rattle.cmb_wave.specs.Wave.{Wave, new_wave, wave_from}
 use Rattle.cmb_core_cluster.specs.declared.delivery.DeliverFault.{DeliverFault}
-use Rattle.cmb_core_cluster.specs.declared.process.Rule.{Rule}
-use Rattle.cmb_core_cluster.specs.declared.process.Rule.TheVariants.{Given, Input, Gate, Flop}
+use Rattle.cmb_core_cluster.specs.declared.process.ProcessRule.{ProcessRule}
+use Rattle.cmb_core_cluster.specs.declared.process.ProcessRule.TheVariants.{Given, Input, Gate, Flop}
 use Rattle.cmb_core_cluster.specs.declared.directory.Reader.{Reader}
 use Rattle.cmb_core_cluster.specs.Clusters.{Cluster, slot_wave}
 use Rattle.cmb_core_cluster.specs.Rows.{Process, sample_need}
 use Rattle.cmb_core_cluster.specs.Directory.{given_at, readers_from}
 
 -- from this tick on a process needs what is on a pin with a delay, as its output stands at `clock`
-abbrev pub need : Rule → ℕ → ℕ → ℕ
+abbrev pub need : ProcessRule → ℕ → ℕ → ℕ
 need (Gate kind) delay clock = clock - delay
 need (Flop first period init) delay clock = sample_need first period delay clock
 need Given delay clock = 0

@@ -4,7 +4,7 @@ ghost use Rattle.std.specs.Prelude.{◌≡◌};
 
 use crate::advance::{flop_changes, gate_changes, input_changes, reach_of_flop, reach_of_gate};
 use crate::pins::operand_wave;
-use crate::process::{Pin, Rule};
+use crate::process::{Operand, ProcessRule};
 use crate::span::Span;
 use cmb_wave::{Change, Wave};
 use std::alloc::AllocError;
@@ -13,8 +13,8 @@ use std::marker::Model;
 /// How a net is driven, what it reads, and the changes of an input.
 #[derive(Drop)]
 pub(crate) struct Node {
-    rule: Rule,
-    operands: Vec<Pin>,
+    rule: ProcessRule,
+    operands: Vec<Operand>,
     stimulus: Vec<Change>,
 }
 
@@ -32,7 +32,7 @@ impl Node {
     ghost use Rattle.cmb_core_cluster.specs.Inner.Processes.{process_level, process_reach};
     ghost use Rattle.cmb_core_cluster.specs.Inner.Spans.{changes_over};
 
-    pub(crate) fn new(rule: Rule, operands: Vec<Pin>, stimulus: Vec<Change>) -> Node
+    pub(crate) fn new(rule: ProcessRule, operands: Vec<Operand>, stimulus: Vec<Change>) -> Node
         ensures { result ≡ record { rule = rule; operands = operands.items; stimulus = stimulus.items } }
     {
         Node {
@@ -43,14 +43,14 @@ impl Node {
     }
 
     /// How the process makes its level.
-    pub(crate) fn rule(&self) -> Rule
+    pub(crate) fn rule(&self) -> ProcessRule
         ensures { result ≡ self.now.rule }
     {
         self.rule
     }
 
     /// What the process reads.
-    pub(crate) fn operands(&self) -> &[Pin]
+    pub(crate) fn operands(&self) -> &[Operand]
         ensures { result.now ≡ self.now.operands }
     {
         self.operands.as_slice()
@@ -61,7 +61,7 @@ impl Node {
         ensures { result ≡ is_given self.now.rule }
     {
         match self.rule {
-            Rule::Given => true,
+            ProcessRule::Given => true,
             _ => false,
         }
     }
@@ -72,10 +72,10 @@ impl Node {
         ensures { result ≡ process_reach horizon waves.now self.now.rule self.now.operands }
     {
         match self.rule {
-            Rule::Given => 0,
-            Rule::Input => horizon,
-            Rule::Gate(_) => reach_of_gate(horizon, &self.operands, waves),
-            Rule::Flop { first, period, .. } => {
+            ProcessRule::Given => 0,
+            ProcessRule::Input => horizon,
+            ProcessRule::Gate(_) => reach_of_gate(horizon, &self.operands, waves),
+            ProcessRule::Flop { first, period, .. } => {
                 let source = self.operands[0];
                 let known = operand_wave(waves, source).clock();
                 reach_of_flop(horizon, first, period, source.delay, known)
@@ -95,10 +95,10 @@ impl Node {
             ++ changes_over (process_level waves.now self.now.rule self.now.operands self.now.stimulus) span) }
     {
         match self.rule {
-            Rule::Given => input_changes(room, &[], span),
-            Rule::Input => input_changes(room, &self.stimulus, span),
-            Rule::Gate(kind) => gate_changes(room, kind, &self.operands, waves, span),
-            Rule::Flop {
+            ProcessRule::Given => input_changes(room, &[], span),
+            ProcessRule::Input => input_changes(room, &self.stimulus, span),
+            ProcessRule::Gate(kind) => gate_changes(room, kind, &self.operands, waves, span),
+            ProcessRule::Flop {
                 first,
                 period,
                 init,

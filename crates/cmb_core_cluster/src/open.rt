@@ -15,7 +15,7 @@ ghost use Rattle.cmb_core_cluster.specs.Directory.{place_in, driven_among, given
 
 use crate::clustering::Clustering;
 use crate::node::Node;
-use crate::process::{Pin, Rule};
+use crate::process::{Operand, ProcessRule};
 use cmb_design_model::Design;
 use cmb_netlist::MAX_NETS;
 use cmb_netlist::netlist::{Driver, Kind};
@@ -137,7 +137,7 @@ fn operands_on(
     net: u32,
     sources: &[u32],
     places: &[Option<u16>],
-) -> Result<Vec<Pin>, AllocError>
+) -> Result<Vec<Operand>, AllocError>
     requires net { net < nets_of design.now }
     requires pins { sources.now ≡ pins_of (driver_of design.now.netlist net) }
     requires placed { ArePlaced places.now sources.now }
@@ -149,7 +149,7 @@ fn operands_on(
 {
     let mut operands = Vec::with_capacity(alloc, sources.len())?;
     for (i, source) in sources.iter().enumerate() {
-        operands.push(Pin {
+        operands.push(Operand {
             net: *source as u16,
             slot: places[*source as usize].unwrap(),
             delay: design.delay(net as usize, i + 1),
@@ -166,7 +166,7 @@ fn input_node(alloc: Global, design: &Design, net: u32) -> Result<Node, AllocErr
     ensures starts { IfOk result (λ node. (places : List (Option ℕ)) → StartsOn places node) }
 {
     let stimulus = Vec::from_slice(alloc, design.stim_changes(net as usize))?;
-    Ok(Node::new(Rule::Input, Vec::new(alloc), stimulus))
+    Ok(Node::new(ProcessRule::Input, Vec::new(alloc), stimulus))
 }
 
 // The process of a gate.
@@ -188,7 +188,7 @@ fn gate_node(
     ensures starts { IfOk result (λ node. StartsOn places.now node) }
 {
     let operands = operands_on(alloc, design, net, sources, places)?;
-    Ok(Node::new(Rule::Gate(kind), operands, Vec::new(alloc)))
+    Ok(Node::new(ProcessRule::Gate(kind), operands, Vec::new(alloc)))
 }
 
 // The process of a flip-flop.
@@ -209,7 +209,7 @@ fn flop_node(
 {
     let clock = design.clock(net as usize);
     let operands = operands_on(alloc, design, net, &[source], places)?;
-    let rule = Rule::Flop {
+    let rule = ProcessRule::Flop {
         first: clock.first,
         period: clock.period,
         init: design.init(net as usize),
@@ -262,7 +262,7 @@ fn node_of(
     if clustering.of(net) == cluster {
         driven_node(alloc, design, net, places)
     } else {
-        Ok(Node::new(Rule::Given, Vec::new(alloc), Vec::new(alloc)))
+        Ok(Node::new(ProcessRule::Given, Vec::new(alloc), Vec::new(alloc)))
     }
 }
 

@@ -12,7 +12,7 @@ ghost use Rattle.cmb_core_cluster.specs.Trims.{least_need, need, trimmed, trimme
 use crate::cluster::Cluster;
 use crate::directory::Reader;
 use crate::node::Node;
-use crate::process::Rule;
+use crate::process::ProcessRule;
 use cmb_wave::Wave;
 
 // From this tick on a flip-flop needs its data, as its output stands at a clock.
@@ -31,14 +31,14 @@ fn need_of_flop(first: u32, period: u32, delay: u32, clock: u32) -> u32
 }
 
 // From this tick on a process needs what is on a pin, as its output stands at a clock.
-fn need_of(rule: Rule, delay: u32, clock: u32) -> u32
+fn need_of(rule: ProcessRule, delay: u32, clock: u32) -> u32
     ensures { result ≡ need rule delay clock }
 {
     match rule {
-        Rule::Gate(_) => clock.saturating_sub(delay),
-        Rule::Flop { first, period, .. } => need_of_flop(first, period, delay, clock),
-        Rule::Given => 0,
-        Rule::Input => 0,
+        ProcessRule::Gate(_) => clock.saturating_sub(delay),
+        ProcessRule::Flop { first, period, .. } => need_of_flop(first, period, delay, clock),
+        ProcessRule::Given => 0,
+        ProcessRule::Input => 0,
     }
 }
 

@@ -59,7 +59,7 @@ pub fn first_text<'a>(
 }
 
 /// The text of a window, by the nets that changed in it: where there are none, that costs nothing.
-pub fn tell_window(dump: &mut Dump<'_>, changed: &[Changed], upto: u32) -> Result<(), AllocError>
+pub fn format_window(dump: &mut Dump<'_>, changed: &[Changed], upto: u32) -> Result<(), AllocError>
     requires window { IsWindow (nets_of dump.old.design) dump.old.design.horizon dump.old.clock upto changed.now }
     requires tells { Tells (value dump.old.design) (nets_of dump.old.design) dump.old.clock upto changed.now }
     ensures text { OnOk result (made_text dump.old.design upto
@@ -91,6 +91,6 @@ pub fn keep_window(
     ensures given { OnOk result (kept.new.given ≡ kept.old.given) }
     ensures clock { OnOk result (kept.new.clock ≡ upto) }
 {
-    tell_window(dump, changed, upto)?;
+    format_window(dump, changed, upto)?;
     kept.grow(dump.text(), upto)
 }

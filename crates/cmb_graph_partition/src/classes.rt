@@ -5,7 +5,7 @@ ghost use Rattle.cmb_graph_partition.specs.Inner.Shapes.{AreFamilies};
 
 use crate::families::Families;
 use crate::lists::Lists;
-use crate::marks::Marks;
+use crate::seen_set::SeenSet;
 use std::alloc::{AllocError, Global};
 
 /// The classes of a netlist's nets, and those of imports, with what they weigh.
@@ -22,14 +22,14 @@ pub(crate) struct Classes {
 }
 
 // Adds those of a list that aren't there yet.
-fn add(found: &mut Vec<u32>, marks: &mut Marks, list: &[u32]) -> Result<(), AllocError>
-    requires list { All (λ net. net < length marks.old.rounds.items) list.now }
-    requires found { All (λ net. net < length marks.old.rounds.items) found.old.items }
-    ensures found { OnOk result (All (λ net. net < length marks.old.rounds.items) found.new.items) }
-    ensures marks { length marks.new.rounds.items ≡ length marks.old.rounds.items }
+fn add(found: &mut Vec<u32>, seen: &mut SeenSet, list: &[u32]) -> Result<(), AllocError>
+    requires list { All (λ net. net < length seen.old.rounds.items) list.now }
+    requires found { All (λ net. net < length seen.old.rounds.items) found.old.items }
+    ensures found { OnOk result (All (λ net. net < length seen.old.rounds.items) found.new.items) }
+    ensures seen { length seen.new.rounds.items ≡ length seen.old.rounds.items }
 {
     for net in list {
-        if marks.is_new(*net as usize) {
+        if seen.is_new(*net as usize) {
             found.push(*net)?;
         }
     }
@@ -40,20 +40,20 @@ fn add(found: &mut Vec<u32>, marks: &mut Marks, list: &[u32]) -> Result<(), Allo
 fn needed_by(
     alloc: Global,
     needed: &Lists,
-    marks: &mut Marks,
+    seen: &mut SeenSet,
     own: &[u32],
     parents: &[u32],
 ) -> Result<Vec<u32>, AllocError>
-    requires needed { All (λ net. net < length marks.old.rounds.items) needed.now.items.items }
-    requires own { All (λ net. net < length marks.old.rounds.items) own.now }
-    ensures found { IfOk result (λ found. All (λ net. net < length marks.old.rounds.items) found.items) }
-    ensures marks { length marks.new.rounds.items ≡ length marks.old.rounds.items }
+    requires needed { All (λ net. net < length seen.old.rounds.items) needed.now.items.items }
+    requires own { All (λ net. net < length seen.old.rounds.items) own.now }
+    ensures found { IfOk result (λ found. All (λ net. net < length seen.old.rounds.items) found.items) }
+    ensures seen { length seen.new.rounds.items ≡ length seen.old.rounds.items }
 {
     let mut found = Vec::new(alloc);
-    marks.clear();
-    add(&mut found, marks, own)?;
+    seen.clear();
+    add(&mut found, seen, own)?;
     for parent in parents {
-        add(&mut found, marks, needed.of(*parent as usize))?;
+        add(&mut found, seen, needed.of(*parent as usize))?;
     }
     Ok(found)
 }
@@ -78,7 +78,7 @@ pub(crate) fn all_needed(
         All (λ net. net < length families.now.classes.items) needed.items.items)) }
 {
     let mut needed = Lists::new(alloc);
-    let mut marks = Marks::new(alloc, families.classes.len())?;
+    let mut seen = SeenSet::new(alloc, families.classes.len())?;
     let mut steps = 0_usize;
     for class in 0..families.imports.len() {
         let parents = families.parents.of(class);
@@ -87,7 +87,7 @@ pub(crate) fn all_needed(
             return Ok(None);
         }
         let own = families.sinks.of(class);
-        let found = needed_by(alloc, &needed, &mut marks, own, parents)?;
+        let found = needed_by(alloc, &needed, &mut seen, own, parents)?;
         needed.push(&found)?;
     }
     Ok(Some(needed))

@@ -5,7 +5,7 @@ ghost use Rattle.cmb_graph_partition.specs.Inner.Shapes.{AreClasses, IsForest};
 
 use crate::classes::Classes;
 use crate::forest::{flatten, trees_of_one, unite_all, weight_within};
-use crate::marks::Marks;
+use crate::seen_set::SeenSet;
 use std::alloc::{AllocError, Global};
 
 /// A number with what stands behind it weighs.
@@ -68,10 +68,10 @@ pub(crate) fn clusters_within(
     let nets = classes.of_nets.len();
     let mut roots = trees_of_one(alloc, nets)?;
     let mut weights = weights_of(alloc, classes)?;
-    let mut marks = Marks::new(alloc, nets)?;
+    let mut seen = SeenSet::new(alloc, nets)?;
     for class in shared {
         let sinks = classes.needed.of(class.number as usize);
-        let sum = weight_within(&mut roots, &weights, &mut marks, sinks, class.weight, most);
+        let sum = weight_within(&mut roots, &weights, &mut seen, sinks, class.weight, most);
         if let Some(weight) = sum {
             unite_all(&mut roots, &mut weights, sinks, weight);
         }

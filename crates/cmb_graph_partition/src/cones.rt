@@ -5,29 +5,29 @@ ghost use Rattle.cmb_graph_partition.specs.Inner.Shapes.{AreClasses};
 
 use crate::classes::Classes;
 use crate::lists::{Entry, Lists};
-use crate::marks::Marks;
+use crate::seen_set::SeenSet;
 use std::alloc::{AllocError, Global};
 
 // Notes the clusters that need a class, each once.
 fn note(
     entries: &mut Vec<Entry>,
-    marks: &mut Marks,
+    seen: &mut SeenSet,
     roots: &[u32],
     sinks: &[u32],
     class: u32,
 ) -> Result<(), AllocError>
-    requires roots { All (λ root. root < length marks.old.rounds.items) roots.now }
+    requires roots { All (λ root. root < length seen.old.rounds.items) roots.now }
     requires sinks { All (λ sink. sink < length roots.now) sinks.now }
-    ensures marks { length marks.new.rounds.items ≡ length marks.old.rounds.items }
-    ensures places { All (λ entry. entry.place < length marks.old.rounds.items) entries.old.items
-        → All (λ entry. entry.place < length marks.old.rounds.items) entries.new.items }
+    ensures seen { length seen.new.rounds.items ≡ length seen.old.rounds.items }
+    ensures places { All (λ entry. entry.place < length seen.old.rounds.items) entries.old.items
+        → All (λ entry. entry.place < length seen.old.rounds.items) entries.new.items }
     ensures items { (bound : ℕ) → class < bound → All (λ entry. entry.item < bound) entries.old.items
         → All (λ entry. entry.item < bound) entries.new.items }
 {
-    marks.clear();
+    seen.clear();
     for sink in sinks {
         let root = roots[*sink as usize];
-        if marks.is_new(root as usize) {
+        if seen.is_new(root as usize) {
             entries.push(Entry {
                 place: root,
                 item: class,
@@ -44,10 +44,10 @@ pub(crate) fn cones_of(alloc: Global, classes: &Classes, roots: &[u32]) -> Resul
     ensures { IfOk result (λ cones. All (λ class. class < length classes.now.weights.items) cones.items.items) }
 {
     let mut entries = Vec::new(alloc);
-    let mut marks = Marks::new(alloc, roots.len())?;
+    let mut seen = SeenSet::new(alloc, roots.len())?;
     for class in 0..classes.weights.len() {
         let sinks = classes.needed.of(class);
-        note(&mut entries, &mut marks, roots, sinks, class as u32)?;
+        note(&mut entries, &mut seen, roots, sinks, class as u32)?;
     }
     Lists::grouped(alloc, &entries, roots.len())
 }

@@ -10,7 +10,7 @@ use crate::clusters::{clusters_within, shared_classes};
 use crate::cones::cones_of;
 use crate::driven::partition_by;
 use crate::forest::trees_of_one;
-use crate::moves::{Places, Task};
+use crate::moves::{Assignment, Placement};
 use crate::parts::{PartNumber, Parts};
 use crate::shares::{Partition, Share};
 use crate::structure::Structure;
@@ -50,24 +50,24 @@ fn roots_of(alloc: Global, roots: &[u32], sinks: &[u32]) -> Result<Vec<u32>, All
 fn spread(
     alloc: Global,
     roots: &[u32],
-    places: &[PartNumber],
+    assignment: &[PartNumber],
 ) -> Result<Vec<PartNumber>, AllocError>
-    requires { All (λ root. root < length places.now) roots.now }
+    requires { All (λ root. root < length assignment.now) roots.now }
     ensures { IfOk result (λ spread. length spread.items ≡ length roots.now) }
 {
     let mut spread = Vec::with_capacity(alloc, roots.len())?;
     for root in roots {
-        spread.push(places[*root as usize])?;
+        spread.push(assignment[*root as usize])?;
     }
     Ok(spread)
 }
 
 // No cluster is in any part yet.
-fn nowhere(alloc: Global, classes: usize, nets: usize) -> Result<Places, AllocError>
-    ensures parts { IfOk result (λ places. length places.parts.counts.items ≡ classes) }
-    ensures of { IfOk result (λ places. length places.of.items ≡ nets) }
+fn nowhere(alloc: Global, classes: usize, nets: usize) -> Result<Assignment, AllocError>
+    ensures parts { IfOk result (λ assignment. length assignment.parts.counts.items ≡ classes) }
+    ensures of { IfOk result (λ assignment. length assignment.of.items ≡ nets) }
 {
-    Ok(Places {
+    Ok(Assignment {
         parts: Parts::empty(alloc, classes)?,
         of: vec![in alloc; PartNumber::of(0); nets]?,
     })
@@ -79,34 +79,34 @@ fn rough(alloc: Global, classes: &Classes, count: u32) -> Result<Vec<PartNumber>
     requires few { count ≤ 16 }
     requires nets { length classes.now.of_nets.items ≤ 65535 }
     requires classes { AreClasses (length classes.now.of_nets.items) classes.now }
-    ensures { IfOk result (λ places. length places.items ≡ length classes.now.of_nets.items) }
+    ensures { IfOk result (λ assignment. length assignment.items ≡ length classes.now.of_nets.items) }
 {
     let shared = shared_classes(alloc, classes)?;
     let even = total_of(&classes.weights) / count;
     let roots = clusters_within(alloc, classes, &shared, even / CLUSTER)?;
     let cones = cones_of(alloc, classes, &roots)?;
-    let task = Task {
+    let placement = Placement {
         weights: &classes.weights,
         cones: &cones,
         count,
     };
     let clusters = roots_of(alloc, &roots, &classes.sinks)?;
-    let mut places = nowhere(alloc, classes.weights.len(), roots.len())?;
-    task.insert_all(alloc, &mut places, &clusters)?;
-    task.refine(&mut places, &clusters);
-    spread(alloc, &roots, &places.of)
+    let mut assignment = nowhere(alloc, classes.weights.len(), roots.len())?;
+    placement.insert_all(alloc, &mut assignment, &clusters)?;
+    placement.refine(&mut assignment, &clusters);
+    spread(alloc, &roots, &assignment.of)
 }
 
 // Puts sinks where they were found.
-fn put_all(task: &Task, places: &mut Places, sinks: &[u32], found: &[PartNumber])
+fn put_all(placement: &Placement, assignment: &mut Assignment, sinks: &[u32], found: &[PartNumber])
     requires sinks { All (λ sink. sink < length found.now) sinks.now }
-    requires of { length places.old.of.items ≡ length found.now }
-    requires long { length places.old.parts.counts.items ≡ length task.now.weights.now }
-    ensures long { length places.new.parts.counts.items ≡ length task.now.weights.now }
-    ensures of { length places.new.of.items ≡ length found.now }
+    requires of { length assignment.old.of.items ≡ length found.now }
+    requires long { length assignment.old.parts.counts.items ≡ length placement.now.weights.now }
+    ensures long { length assignment.new.parts.counts.items ≡ length placement.now.weights.now }
+    ensures of { length assignment.new.of.items ≡ length found.now }
 {
     for sink in sinks {
-        task.put(places, *sink as usize, found[*sink as usize]);
+        placement.put(assignment, *sink as usize, found[*sink as usize]);
     }
 }
 
@@ -121,19 +121,19 @@ fn refined(
     requires nets { length classes.now.of_nets.items ≤ 65535 }
     requires classes { AreClasses (length classes.now.of_nets.items) classes.now }
     requires found { length found.now ≡ length classes.now.of_nets.items }
-    ensures { IfOk result (λ places. length places.items ≡ length classes.now.of_nets.items) }
+    ensures { IfOk result (λ assignment. length assignment.items ≡ length classes.now.of_nets.items) }
 {
     let roots = trees_of_one(alloc, found.len())?;
     let cones = cones_of(alloc, classes, &roots)?;
-    let task = Task {
+    let placement = Placement {
         weights: &classes.weights,
         cones: &cones,
         count,
     };
-    let mut places = nowhere(alloc, classes.weights.len(), roots.len())?;
-    put_all(&task, &mut places, &classes.sinks, found);
-    task.refine(&mut places, &classes.sinks);
-    Ok(places.of)
+    let mut assignment = nowhere(alloc, classes.weights.len(), roots.len())?;
+    put_all(&placement, &mut assignment, &classes.sinks, found);
+    placement.refine(&mut assignment, &classes.sinks);
+    Ok(assignment.of)
 }
 
 // The partition into so many parts, before it is checked.
@@ -151,8 +151,8 @@ fn cut(
     ensures count { IfOk result (λ partition. length partition.shares.items ≡ count) }
 {
     let found = rough(alloc, classes, count)?;
-    let places = refined(alloc, classes, count, &found)?;
-    partition_by(alloc, netlist, classes, &places, count)
+    let assignment = refined(alloc, classes, count, &found)?;
+    partition_by(alloc, netlist, classes, &assignment, count)
 }
 
 // Whether a share has nothing to drive.

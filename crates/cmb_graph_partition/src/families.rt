@@ -1,10 +1,10 @@
 //! Classes of nets that are read by the same.
 
 ghost use Rattle.std.specs.Prelude.{◌≡◌, ◌<◌, length, All, IfOk, OnOk};
-ghost use Rattle.cmb_graph_partition.specs.Inner.Shapes.{AreFamilies, IsWiring};
+ghost use Rattle.cmb_graph_partition.specs.Inner.Shapes.{AreFamilies, IsReaderGraph};
 
 use crate::lists::Lists;
-use crate::wiring::Wiring;
+use crate::reader_graph::ReaderGraph;
 use cmb_netlist::{Driver, Netlist};
 use std::alloc::{AllocError, Global};
 
@@ -67,15 +67,15 @@ fn add_flops(families: &mut Families, netlist: &Netlist) -> Result<(), AllocErro
 fn note_readers(
     found: &mut Vec<u32>,
     classes: &[u32],
-    wiring: &Wiring,
+    reader_graph: &ReaderGraph,
     net: usize,
 ) -> Result<(), AllocError>
-    requires wiring { IsWiring (length classes.now) wiring.now }
+    requires reader_graph { IsReaderGraph (length classes.now) reader_graph.now }
     requires net { net < length classes.now }
 {
-    let number = wiring.numbers[net];
-    for reader in wiring.readers.of(net) {
-        if wiring.numbers[*reader as usize] != number {
+    let number = reader_graph.numbers[net];
+    for reader in reader_graph.readers.of(net) {
+        if reader_graph.numbers[*reader as usize] != number {
             found.push(classes[*reader as usize])?;
         }
     }
@@ -86,15 +86,15 @@ fn note_readers(
 fn parents_of(
     alloc: Global,
     classes: &[u32],
-    wiring: &Wiring,
+    reader_graph: &ReaderGraph,
     nets: &[u32],
 ) -> Result<Vec<u32>, AllocError>
-    requires wiring { IsWiring (length classes.now) wiring.now }
+    requires reader_graph { IsReaderGraph (length classes.now) reader_graph.now }
     requires nets { All (λ net. net < length classes.now) nets.now }
 {
     let mut found = Vec::new(alloc);
     for net in nets {
-        note_readers(&mut found, classes, wiring, *net as usize)?;
+        note_readers(&mut found, classes, reader_graph, *net as usize)?;
     }
     found.sort_unstable();
     found.dedup();
@@ -136,12 +136,12 @@ fn add_component(
     alloc: Global,
     families: &mut Families,
     netlist: &Netlist,
-    wiring: &Wiring,
+    reader_graph: &ReaderGraph,
     nets: &[u32],
 ) -> Result<(), AllocError>
     requires families { AreFamilies families.old }
     requires long { length families.old.classes.items ≡ length netlist.now.names }
-    requires wiring { IsWiring (length netlist.now.names) wiring.now }
+    requires reader_graph { IsReaderGraph (length netlist.now.names) reader_graph.now }
     requires nets { All (λ net. net < length netlist.now.names) nets.now }
     ensures families { OnOk result (AreFamilies families.new) }
     ensures long { OnOk result (length families.new.classes.items ≡ length netlist.now.names) }
@@ -149,7 +149,7 @@ fn add_component(
     if let Some(first) = nets.first()
         && is_gate(netlist, *first)
     {
-        let parents = parents_of(alloc, &families.classes, wiring, nets)?;
+        let parents = parents_of(alloc, &families.classes, reader_graph, nets)?;
         let class = class_of(families, *first, &parents)?;
         put_all(&mut families.classes, nets, class);
     }
@@ -161,16 +161,22 @@ fn add_gates(
     alloc: Global,
     families: &mut Families,
     netlist: &Netlist,
-    wiring: &Wiring,
+    reader_graph: &ReaderGraph,
 ) -> Result<(), AllocError>
     requires families { AreFamilies families.old }
     requires long { length families.old.classes.items ≡ length netlist.now.names }
-    requires wiring { IsWiring (length netlist.now.names) wiring.now }
+    requires reader_graph { IsReaderGraph (length netlist.now.names) reader_graph.now }
     ensures families { OnOk result (AreFamilies families.new) }
     ensures long { OnOk result (length families.new.classes.items ≡ length netlist.now.names) }
 {
     for number in (0..netlist.len()).rev() {
-        add_component(alloc, families, netlist, wiring, wiring.members.of(number))?;
+        add_component(
+            alloc,
+            families,
+            netlist,
+            reader_graph,
+            reader_graph.members.of(number),
+        )?;
     }
     Ok(())
 }
@@ -179,15 +185,15 @@ fn add_gates(
 fn importers_of(
     alloc: Global,
     classes: &[u32],
-    wiring: &Wiring,
+    reader_graph: &ReaderGraph,
     net: usize,
 ) -> Result<Vec<u32>, AllocError>
-    requires wiring { IsWiring (length classes.now) wiring.now }
+    requires reader_graph { IsReaderGraph (length classes.now) reader_graph.now }
     requires net { net < length classes.now }
 {
     let mut found = Vec::new(alloc);
     found.push(classes[net])?;
-    note_readers(&mut found, classes, wiring, net)?;
+    note_readers(&mut found, classes, reader_graph, net)?;
     found.sort_unstable();
     found.dedup();
     Ok(found)
@@ -199,17 +205,17 @@ fn add_imports(
     alloc: Global,
     families: &mut Families,
     netlist: &Netlist,
-    wiring: &Wiring,
+    reader_graph: &ReaderGraph,
 ) -> Result<(), AllocError>
     requires families { AreFamilies families.old }
     requires long { length families.old.classes.items ≡ length netlist.now.names }
-    requires wiring { IsWiring (length netlist.now.names) wiring.now }
+    requires reader_graph { IsReaderGraph (length netlist.now.names) reader_graph.now }
     ensures families { OnOk result (AreFamilies families.new) }
     ensures long { OnOk result (length families.new.classes.items ≡ length netlist.now.names) }
 {
     for net in 0..netlist.len() {
         if matches!(netlist.driver(net), Driver::Flop(_)) {
-            let importers = importers_of(alloc, &families.classes, wiring, net)?;
+            let importers = importers_of(alloc, &families.classes, reader_graph, net)?;
             let _ = begin(families, &[], &importers, net as u32)?;
         }
     }
@@ -220,9 +226,9 @@ fn add_imports(
 pub(crate) fn families_of(
     alloc: Global,
     netlist: &Netlist,
-    wiring: &Wiring,
+    reader_graph: &ReaderGraph,
 ) -> Result<Families, AllocError>
-    requires wiring { IsWiring (length netlist.now.names) wiring.now }
+    requires reader_graph { IsReaderGraph (length netlist.now.names) reader_graph.now }
     ensures families { IfOk result AreFamilies }
     ensures long { IfOk result (λ families. length families.classes.items ≡ length netlist.now.names) }
 {
@@ -234,7 +240,7 @@ pub(crate) fn families_of(
     };
     let _ = begin(&mut families, &[], &[], NO_NET)?;
     add_flops(&mut families, netlist)?;
-    add_gates(alloc, &mut families, netlist, wiring)?;
-    add_imports(alloc, &mut families, netlist, wiring)?;
+    add_gates(alloc, &mut families, netlist, reader_graph)?;
+    add_imports(alloc, &mut families, netlist, reader_graph)?;
     Ok(families)
 }

@@ -3,7 +3,7 @@
 ghost use Rattle.std.specs.Prelude.{◌≡◌, ◌<◌, ◌≤◌, length, All, IfOk};
 ghost use Rattle.cmb_graph_partition.specs.Inner.Shapes.{IsForest};
 
-use crate::marks::Marks;
+use crate::seen_set::SeenSet;
 use std::alloc::{AllocError, Global};
 
 /// Each of so many nets is a tree.
@@ -71,23 +71,23 @@ pub(crate) fn unite_all(parents: &mut [u32], weights: &mut [u32], nets: &[u32], 
 pub(crate) fn weight_within(
     parents: &mut [u32],
     weights: &[u32],
-    marks: &mut Marks,
+    seen: &mut SeenSet,
     nets: &[u32],
     besides: u32,
     most: u32,
 ) -> Option<u32>
     requires forest { IsForest parents.old }
     requires long { length weights.now ≡ length parents.old }
-    requires marks { length marks.old.rounds.items ≡ length parents.old }
+    requires seen { length seen.old.rounds.items ≡ length parents.old }
     requires nets { All (λ net. net < length parents.old) nets.now }
     ensures forest { IsForest parents.new }
-    ensures marks { length marks.new.rounds.items ≡ length marks.old.rounds.items }
+    ensures seen { length seen.new.rounds.items ≡ length seen.old.rounds.items }
 {
     let mut sum = besides;
-    marks.clear();
+    seen.clear();
     for net in nets {
         let root = root(parents, *net) as usize;
-        if marks.is_new(root) {
+        if seen.is_new(root) {
             sum = sum.saturating_add(weights[root]);
         }
         if sum > most {

@@ -11,12 +11,12 @@ mod families;
 mod forest;
 mod lists;
 pub mod loads;
-mod marks;
 mod moves;
 mod parts;
+mod reader_graph;
+mod seen_set;
 pub mod shares;
 pub mod structure;
-mod wiring;
 
 pub use cut::{MOST_SHARES, partition};
 pub use loads::{load, total};

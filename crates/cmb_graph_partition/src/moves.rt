@@ -12,7 +12,7 @@ const PASSES: u32 = 2;
 
 /// Clusters for so many parts. A cluster is named by a net, its root.
 #[derive(Clone, Copy)]
-pub(crate) struct Task<'a> {
+pub(crate) struct Placement<'a> {
     /// For each class what it weighs.
     pub weights: &'a [u32],
     /// For each cluster the classes that it needs.
@@ -24,13 +24,13 @@ pub(crate) struct Task<'a> {
 
 /// Where clusters are.
 #[derive(Drop)]
-pub(crate) struct Places {
+pub(crate) struct Assignment {
     pub parts: Parts,
     /// For each cluster its part.
     pub of: Vec<PartNumber>,
 }
 
-impl<'a> Task<'a> {
+impl<'a> Placement<'a> {
     // The part with which a cluster costs the least, but for one part, if that is less than so much.
     fn cheapest(
         &self,
@@ -58,59 +58,61 @@ impl<'a> Task<'a> {
     }
 
     /// Puts a cluster into a part.
-    pub(crate) fn put(&self, places: &mut Places, cluster: usize, part: PartNumber)
-        requires cluster { cluster < length places.old.of.items }
-        requires long { length places.old.parts.counts.items ≡ length self.now.weights.now }
-        ensures long { length places.new.parts.counts.items ≡ length self.now.weights.now }
-        ensures of { length places.new.of.items ≡ length places.old.of.items }
+    pub(crate) fn put(&self, assignment: &mut Assignment, cluster: usize, part: PartNumber)
+        requires cluster { cluster < length assignment.old.of.items }
+        requires long { length assignment.old.parts.counts.items ≡ length self.now.weights.now }
+        ensures long { length assignment.new.parts.counts.items ≡ length self.now.weights.now }
+        ensures of { length assignment.new.of.items ≡ length assignment.old.of.items }
     {
-        places.parts.put(self.weights, self.cones.of(cluster), part);
-        places.of[cluster] = part;
+        assignment
+            .parts
+            .put(self.weights, self.cones.of(cluster), part);
+        assignment.of[cluster] = part;
     }
 
     // Puts a cluster where it costs the least.
-    fn insert(&self, places: &mut Places, cluster: usize)
-        requires cluster { cluster < length places.old.of.items }
-        requires long { length places.old.parts.counts.items ≡ length self.now.weights.now }
-        ensures long { length places.new.parts.counts.items ≡ length self.now.weights.now }
-        ensures of { length places.new.of.items ≡ length places.old.of.items }
+    fn insert(&self, assignment: &mut Assignment, cluster: usize)
+        requires cluster { cluster < length assignment.old.of.items }
+        requires long { length assignment.old.parts.counts.items ≡ length self.now.weights.now }
+        ensures long { length assignment.new.parts.counts.items ≡ length self.now.weights.now }
+        ensures of { length assignment.new.of.items ≡ length assignment.old.of.items }
     {
-        if let Some(part) = self.cheapest(&places.parts, cluster, None, f64::MAX) {
-            self.put(places, cluster, part);
+        if let Some(part) = self.cheapest(&assignment.parts, cluster, None, f64::MAX) {
+            self.put(assignment, cluster, part);
         }
     }
 
     // Moves a cluster to the part with which it costs the least, and answers whether there is a better one than its
     // own.
-    fn shift(&self, places: &mut Places, cluster: usize) -> bool
-        requires cluster { cluster < length places.old.of.items }
-        requires long { length places.old.parts.counts.items ≡ length self.now.weights.now }
-        ensures long { length places.new.parts.counts.items ≡ length self.now.weights.now }
-        ensures of { length places.new.of.items ≡ length places.old.of.items }
+    fn shift(&self, assignment: &mut Assignment, cluster: usize) -> bool
+        requires cluster { cluster < length assignment.old.of.items }
+        requires long { length assignment.old.parts.counts.items ≡ length self.now.weights.now }
+        ensures long { length assignment.new.parts.counts.items ≡ length self.now.weights.now }
+        ensures of { length assignment.new.of.items ≡ length assignment.old.of.items }
     {
-        let own = places.of[cluster];
+        let own = assignment.of[cluster];
         let cone = self.cones.of(cluster);
-        let fall = places.parts.fall(self.weights, cone, own);
-        match self.cheapest(&places.parts, cluster, Some(own.number), fall) {
+        let fall = assignment.parts.fall(self.weights, cone, own);
+        match self.cheapest(&assignment.parts, cluster, Some(own.number), fall) {
             None => false,
             Some(part) => {
-                places.parts.take(self.weights, cone, own);
-                self.put(places, cluster, part);
+                assignment.parts.take(self.weights, cone, own);
+                self.put(assignment, cluster, part);
                 true
             }
         }
     }
 
     // Moves each cluster that it pays to move, and answers how many.
-    fn pass(&self, places: &mut Places, clusters: &[u32]) -> usize
-        requires clusters { All (λ cluster. cluster < length places.old.of.items) clusters.now }
-        requires long { length places.old.parts.counts.items ≡ length self.now.weights.now }
-        ensures long { length places.new.parts.counts.items ≡ length self.now.weights.now }
-        ensures of { length places.new.of.items ≡ length places.old.of.items }
+    fn pass(&self, assignment: &mut Assignment, clusters: &[u32]) -> usize
+        requires clusters { All (λ cluster. cluster < length assignment.old.of.items) clusters.now }
+        requires long { length assignment.old.parts.counts.items ≡ length self.now.weights.now }
+        ensures long { length assignment.new.parts.counts.items ≡ length self.now.weights.now }
+        ensures of { length assignment.new.of.items ≡ length assignment.old.of.items }
     {
         let mut moves = 0_usize;
         for cluster in clusters {
-            if self.shift(places, *cluster as usize) {
+            if self.shift(assignment, *cluster as usize) {
                 moves = moves.saturating_add(1);
             }
         }
@@ -118,14 +120,14 @@ impl<'a> Task<'a> {
     }
 
     /// Moves single clusters, each where that pays at once, as long as it pays to move more than a few of them.
-    pub(crate) fn refine(&self, places: &mut Places, clusters: &[u32])
-        requires clusters { All (λ cluster. cluster < length places.old.of.items) clusters.now }
-        requires long { length places.old.parts.counts.items ≡ length self.now.weights.now }
-        ensures long { length places.new.parts.counts.items ≡ length self.now.weights.now }
-        ensures of { length places.new.of.items ≡ length places.old.of.items }
+    pub(crate) fn refine(&self, assignment: &mut Assignment, clusters: &[u32])
+        requires clusters { All (λ cluster. cluster < length assignment.old.of.items) clusters.now }
+        requires long { length assignment.old.parts.counts.items ≡ length self.now.weights.now }
+        ensures long { length assignment.new.parts.counts.items ≡ length self.now.weights.now }
+        ensures of { length assignment.new.of.items ≡ length assignment.old.of.items }
     {
         for _ in 0..PASSES {
-            if self.pass(places, clusters) <= clusters.len() / 256 {
+            if self.pass(assignment, clusters) <= clusters.len() / 256 {
                 return;
             }
         }
@@ -160,17 +162,17 @@ impl<'a> Task<'a> {
     pub(crate) fn insert_all(
         &self,
         alloc: Global,
-        places: &mut Places,
+        assignment: &mut Assignment,
         clusters: &[u32],
     ) -> Result<(), AllocError>
-        requires clusters { All (λ cluster. cluster < length places.old.of.items) clusters.now }
-        requires long { length places.old.parts.counts.items ≡ length self.now.weights.now }
-        ensures long { length places.new.parts.counts.items ≡ length self.now.weights.now }
-        ensures of { length places.new.of.items ≡ length places.old.of.items }
+        requires clusters { All (λ cluster. cluster < length assignment.old.of.items) clusters.now }
+        requires long { length assignment.old.parts.counts.items ≡ length self.now.weights.now }
+        ensures long { length assignment.new.parts.counts.items ≡ length self.now.weights.now }
+        ensures of { length assignment.new.of.items ≡ length assignment.old.of.items }
     {
         let order = self.in_order(alloc, clusters)?;
         for weighed in &order {
-            self.insert(places, weighed.number as usize);
+            self.insert(assignment, weighed.number as usize);
         }
         Ok(())
     }

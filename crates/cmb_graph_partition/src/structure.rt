@@ -6,7 +6,7 @@ ghost use Rattle.cmb_graph_partition.specs.Inner.Shapes.{AreClasses, AreFamilies
 use crate::classes::{Classes, all_needed};
 use crate::families::{Families, families_of};
 use crate::lists::Lists;
-use crate::wiring::wiring_of;
+use crate::reader_graph::reader_graph_of;
 use cmb_netlist::Netlist;
 use std::alloc::{AllocError, Global};
 use std::marker::Model;
@@ -77,8 +77,8 @@ fn checked(families: Families, needed: Lists) -> Option<Structure>
 pub fn structure_of(alloc: Global, netlist: &Netlist) -> Result<Option<Structure>, AllocError>
     ensures nets { IfOk result (λ found. IfSome found (λ structure. structure ≡ length netlist.now.names)) }
 {
-    let wiring = wiring_of(alloc, netlist)?;
-    let families = families_of(alloc, netlist, &wiring)?;
+    let reader_graph = reader_graph_of(alloc, netlist)?;
+    let families = families_of(alloc, netlist, &reader_graph)?;
     match all_needed(alloc, &families, netlist.len() * STEPS + FEW_STEPS)? {
         Some(needed) => Ok(checked(families, needed)),
         None => Ok(None),

@@ -6,5 +6,5 @@ pub mod statuses;
 pub mod tables;
 
 pub use measures::{Times, stats_of};
-pub use statuses::{help, no_words, on_terminal, refuse, refuse_clock, status_of, tell};
-pub use tables::{Refusal, Tables, kept, notes_of, open_tables, told_of};
+pub use statuses::{help, no_words, on_terminal, print_fault, refuse, refuse_clock, status_of};
+pub use tables::{OpenFiles, Refusal, kept, notes_of, open_tables, told_of};

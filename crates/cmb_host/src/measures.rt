@@ -4,7 +4,7 @@ ghost use Rattle.std.specs.Prelude.{◌≡◌, IfSome, true};
 
 use cmb_cli_line::Line;
 use cmb_faults::Done;
-use cmb_report::{Stats, Tally, peak_of, processor_of, stats_text};
+use cmb_report::{Stats, TextProgress, peak_of, processor_of, stats_text};
 use std::fs::File;
 use std::io::Read;
 use std::time::{Duration, Instant};
@@ -33,7 +33,7 @@ pub struct Times {
     /// When its inputs were read.
     pub read: Option<Instant>,
     /// What was written of its text.
-    pub tally: Tally,
+    pub so_far: TextProgress,
     /// How long the writes took.
     pub writing: Duration,
 }
@@ -52,7 +52,7 @@ pub fn stats_of(rt: &HostRuntime, line: &Line, done: &Done, times: &Times) -> Op
     let stats = Stats {
         nets: report.nets,
         ticks: report.horizon,
-        tally: times.tally,
+        so_far: times.so_far,
         reading: read.duration_since(began),
         writing: times.writing,
         whole: now.duration_since(began),

@@ -38,7 +38,7 @@ pub fn on_terminal(rt: &HostRuntime) -> bool {
 }
 
 /// Prints the fault on standard error, if memory allows. The status is 1.
-pub fn tell(rt: &HostRuntime, fault: &Fault) -> ExitCode
+pub fn print_fault(rt: &HostRuntime, fault: &Fault) -> ExitCode
     ensures { exit_status result ≡ 1 }
 {
     if let Ok(text) = fault_line(rt.alloc(), fault) {
@@ -48,13 +48,13 @@ pub fn tell(rt: &HostRuntime, fault: &Fault) -> ExitCode
 }
 
 // Prints the fault on standard error, and what there is to say of it where words are wanted, unless it isn't told.
-fn tell_words(rt: &HostRuntime, told: &Refusal, explain: bool) -> ExitCode
+fn print_words(rt: &HostRuntime, told: &Refusal, explain: bool) -> ExitCode
     ensures { exit_status result ≡ 1 }
 {
     if told.quiet {
         return ExitCode::from(1);
     }
-    let status = tell(rt, &told.fault);
+    let status = print_fault(rt, &told.fault);
     if let Some(words) = &told.words {
         if explain {
             let _ = rt.stderr().write_all(words.as_bytes());
@@ -64,7 +64,7 @@ fn tell_words(rt: &HostRuntime, told: &Refusal, explain: bool) -> ExitCode
 }
 
 // Prints on standard error how many rows differ, if memory allows.
-fn tell_differing(rt: &HostRuntime, told: &Comparison) {
+fn print_differing(rt: &HostRuntime, told: &Comparison) {
     let (differ, rows) = (told.differ, told.rows);
     if let Ok(text) = format!(in rt.alloc(); "{differ} of {rows} rows differ\n") {
         let _ = rt.stderr().write_all(text.as_bytes());
@@ -77,7 +77,7 @@ fn status_done(rt: &HostRuntime, done: &Done) -> ExitCode
 {
     match done {
         Done::Compared(told) if told.differ > 0 => {
-            tell_differing(rt, told);
+            print_differing(rt, told);
             ExitCode::from(3)
         }
         _ => ExitCode::from(0),
@@ -98,7 +98,7 @@ pub fn status_of(rt: &HostRuntime, line: &Line, done: Result<Done, Refusal>) -> 
             }
             status_done(rt, &done)
         }
-        Err(told) => tell_words(rt, &told, line.explain),
+        Err(told) => print_words(rt, &told, line.explain),
     }
 }
 
@@ -108,11 +108,11 @@ pub fn help(rt: &HostRuntime, words: &[String]) -> ExitCode
     ensures { exit_status result ≤ 1 }
 {
     let Ok(text) = line_message(rt.alloc(), words, false) else {
-        return tell(rt, &Fault::Memory);
+        return print_fault(rt, &Fault::Memory);
     };
     match print(rt, text.as_str()) {
         Ok(()) => ExitCode::from(0),
-        Err(told) => tell_words(rt, &told, false),
+        Err(told) => print_words(rt, &told, false),
     }
 }
 
@@ -136,7 +136,7 @@ pub fn refuse(rt: &HostRuntime, words: &[String]) -> ExitCode
 pub fn refuse_clock(rt: &HostRuntime, words: &[String]) -> ExitCode
     ensures { exit_status result ≡ 1 }
 {
-    let status = tell(rt, &Fault::Design(DesignFault::Clock));
+    let status = print_fault(rt, &Fault::Design(DesignFault::Clock));
     print_message(rt, words);
     status
 }
@@ -147,7 +147,7 @@ pub fn no_words(rt: &HostRuntime, error: &io::Error) -> ExitCode
     ensures two { exit_status result ≤ 2 }
 {
     match error.kind() {
-        io::ErrorKind::OutOfMemory => tell(rt, &Fault::Memory),
+        io::ErrorKind::OutOfMemory => print_fault(rt, &Fault::Memory),
         _ => {
             let _ = rt.stderr().write_all(b"error: an argument isn't UTF-8\n");
             ExitCode::from(2)

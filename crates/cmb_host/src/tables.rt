@@ -58,7 +58,7 @@ fn has_input(rt: &HostRuntime) -> bool {
 
 /// The tables, the list of nets and what is expected, opened. One that isn't named has no bytes.
 #[derive(Drop)]
-pub struct Tables {
+pub struct OpenFiles {
     pub delays: Option<FromReader<File>>,
     pub stimuli: Option<FromReader<File>>,
     pub clocks: Option<FromReader<File>>,
@@ -69,7 +69,7 @@ pub struct Tables {
 
 /// Opens the files that a line names, in the order of their inputs, and no others. Fault 61, with the input's number,
 /// where one can't be opened, or where standard input, which has the netlist, is closed.
-pub fn open_tables(rt: &HostRuntime, line: &Line) -> Result<Tables, Refusal>
+pub fn open_tables(rt: &HostRuntime, line: &Line) -> Result<OpenFiles, Refusal>
     ensures delays { IfOk result (λ tables. (IsSome tables.delays ↔ IsSome line.now.delays)
         × (⟦<Option<FromReader<File>> as Source>⟧.failures tables.delays ≡ 0)) }
     ensures stimuli { IfOk result (λ tables. (IsSome tables.stimuli ↔ IsSome line.now.stimuli)
@@ -98,7 +98,7 @@ pub fn open_tables(rt: &HostRuntime, line: &Line) -> Result<Tables, Refusal>
             quiet: false,
         });
     }
-    Ok(Tables {
+    Ok(OpenFiles {
         delays,
         stimuli,
         clocks,

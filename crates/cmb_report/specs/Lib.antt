@@ -1,5 +1,5 @@
 pub mod Lines
 pub mod Slips
 pub mod Stats
-pub mod Tallies
+pub mod Progress
 pub mod Words

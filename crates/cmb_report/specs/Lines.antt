@@ -2,7 +2,7 @@
 use Rattle.std.specs.Prelude.{◌≡◌, ℕ, List, [], ◌∷◌, ◌++◌, ◌+◌, ◌-◌, ◌*◌, ◌||◌, Bool, false, nat_eq, if◌then◌else◌}
 use Rattle.std.specs.List.{AllByRecursion}
 use Rattle.std.specs.Char.{is_ascii_digit}
-use Rattle.cmb_report.specs.Tallies.{limited}
+use Rattle.cmb_report.specs.Progress.{limited}
 
 -- a line has no line feed, and its bytes in a text have one behind them
 abbrev pub IsLine : List ℕ → Type 0

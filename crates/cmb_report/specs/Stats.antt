@@ -26,7 +26,7 @@ simulating stats = as_nanos stats.whole - min (as_nanos stats.reading + as_nanos
 abbrev pub number_rows : Stats → List ℕ
 number_rows stats =
     row stats.nets (codes "nets") ++ (row stats.ticks (codes "ticks")
-    ++ (row stats.tally.changes (codes "changes, with the levels at tick 0") ++ row stats.tally.bytes (codes "bytes written")))
+    ++ (row stats.so_far.changes (codes "changes, with the levels at tick 0") ++ row stats.so_far.bytes (codes "bytes written")))
 
 abbrev pub time_rows : Stats → List ℕ
 time_rows stats =

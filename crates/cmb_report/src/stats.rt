@@ -5,7 +5,7 @@ ghost use Rattle.std.specs.Duration.{as_nanos};
 ghost use Rattle.cmb_report.specs.Stats.{number_rows, peak_row, processor_row, row, seconds_row};
 ghost use Rattle.cmb_report.specs.Stats.{stats_rows, time_rows};
 
-use crate::tally::Tally;
+use crate::text_progress::TextProgress;
 use std::alloc::{AllocError, Global};
 use std::time::Duration;
 
@@ -16,7 +16,7 @@ pub struct Stats {
     /// How many ticks were simulated.
     pub ticks: u32,
     /// What was written.
-    pub tally: Tally,
+    pub so_far: TextProgress,
     /// Until the inputs were read.
     pub reading: Duration,
     /// Within the writes of the text.
@@ -53,10 +53,10 @@ fn push_numbers(text: &mut String, stats: &Stats) -> Result<(), AllocError>
     push_row(text, stats.ticks as u64, "ticks")?;
     push_row(
         text,
-        stats.tally.changes,
+        stats.so_far.changes,
         "changes, with the levels at tick 0",
     )?;
-    push_row(text, stats.tally.bytes, "bytes written")
+    push_row(text, stats.so_far.bytes, "bytes written")
 }
 
 // How long it took.

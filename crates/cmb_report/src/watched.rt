@@ -3,9 +3,9 @@
 ghost use Rattle.std.specs.Prelude.{◌≡◌, ◌+◌, ◌-◌, ◌^◌, ◌<◌, ◌≤◌, ◌||◌, length, take, IfOk, None, OnErr};
 ghost use Rattle.std.specs.Io.KnownBytes.{WriteAppends};
 ghost use Rattle.cmb_io.specs.Ends.{write_failures};
-ghost use Rattle.cmb_report.specs.Tallies.{lengthened, no_text, tallied, went_by};
+ghost use Rattle.cmb_report.specs.Progress.{lengthened, no_text, advanced, went_by};
 
-use crate::tally::Tally;
+use crate::text_progress::TextProgress;
 use cmb_cli_line::Line;
 use cmb_io::{Failed, Sink};
 use std::alloc::{AllocError, Global};
@@ -31,7 +31,7 @@ pub struct Watch<K, E> {
     pub shows: bool,
     pub horizon: u32,
     /// What went by.
-    pub tally: Tally,
+    pub so_far: TextProgress,
     /// How long the writes took.
     pub writing: Duration,
     /// When the line of progress was written last.
@@ -44,7 +44,7 @@ impl<K: Clock, E: Write> Watch<K, E> {
         ensures counts { result.counts ≡ line.now.stats }
         ensures shows { result.shows ≡ line.now.progress }
         ensures horizon { result.horizon ≡ line.now.settings.horizon }
-        ensures tally { result.tally ≡ no_text }
+        ensures so_far { result.so_far ≡ no_text }
         ensures screen { result.screen ≡ screen }
         ensures shown { result.shown ≡ None }
     {
@@ -55,7 +55,7 @@ impl<K: Clock, E: Write> Watch<K, E> {
             counts: line.stats,
             shows: line.progress,
             horizon: line.settings.horizon,
-            tally: Tally::new(),
+            so_far: TextProgress::new(),
             writing: Duration::ZERO,
             shown: None,
         }
@@ -79,14 +79,14 @@ impl<K: Clock, E: Write> Watch<K, E> {
     }
 
     fn progress(&self) -> Result<String, AllocError> {
-        let tick = self.tally.tick;
+        let tick = self.so_far.tick;
         let horizon = self.horizon;
-        let changes = self.tally.changes;
+        let changes = self.so_far.changes;
         format!(in self.alloc; "\r\x1b[Kcmbsim: tick {tick} of {horizon}, {changes} changes")
     }
 
     fn show(&mut self, now: Instant)
-        ensures { self.new.tally ≡ self.old.tally }
+        ensures { self.new.so_far ≡ self.old.so_far }
     {
         if let Ok(line) = self.progress() {
             let _ = self.screen.write(line.as_bytes());
@@ -96,9 +96,9 @@ impl<K: Clock, E: Write> Watch<K, E> {
 
     // A write took these bytes, and began then.
     fn note(&mut self, text: &[u8], began: Option<Instant>)
-        ensures { self.new.tally ≡ lengthened (tallied self.old.tally text.now) (length text.now) }
+        ensures { self.new.so_far ≡ lengthened (advanced self.old.so_far text.now) (length text.now) }
     {
-        self.tally.add(text);
+        self.so_far.add(text);
         let Some(now) = self.now() else {
             return;
         };
@@ -113,7 +113,7 @@ impl<K: Clock, E: Write> Watch<K, E> {
     /// Takes the line of progress away, if there is one.
     pub fn wipe(&mut self)
         ensures shown { self.new.shown ≡ None }
-        ensures tally { self.new.tally ≡ self.old.tally }
+        ensures so_far { self.new.so_far ≡ self.old.so_far }
     {
         if self.shown.is_some() {
             let _ = self.screen.write(WIPE);
@@ -140,9 +140,9 @@ impl<O: Sink, K: Clock, E: Write> Sink for Watched<O, K, E> {
         ensures bound { IfOk result (λ n. n ≤ length text.now) }
         ensures bytes { WriteAppends (O.taken self.old.sink) (O.taken self.new.sink) result text.now }
         ensures failures { O.failures self.new.sink ≡ O.failures self.old.sink + write_failures result text.now }
-        ensures tally { IfOk result (λ count. self.new.watch.tally
-            ≡ went_by (self.old.watch.counts || self.old.watch.shows) self.old.watch.tally (take count text.now)) }
-        ensures kept { OnErr result (self.new.watch.tally ≡ self.old.watch.tally) }
+        ensures so_far { IfOk result (λ count. self.new.watch.so_far
+            ≡ went_by (self.old.watch.counts || self.old.watch.shows) self.old.watch.so_far (take count text.now)) }
+        ensures kept { OnErr result (self.new.watch.so_far ≡ self.old.watch.so_far) }
     {
         if !self.watch.is_on() {
             return self.sink.write(text);

@@ -14,6 +14,6 @@ pub use Rattle.cmb_run_scopes.specs.Scopes
 pub use Rattle.cmb_run_scopes.specs.Reading
 pub use Rattle.cmb_run_exact.specs.Passed
 pub use Rattle.cmb_run_exact.specs.RunFaults
-pub use Rattle.cmb_run_exact.specs.RunTerms
+pub use Rattle.cmb_run_exact.specs.OfRun
 pub use Rattle.cmb_run_rounds.specs.RoundEvents
 pub use Rattle.cmb_run_free.specs.FreeRuns

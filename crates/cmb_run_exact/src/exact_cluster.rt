@@ -14,9 +14,9 @@ ghost use Rattle.cmb_core_cluster.specs.Sweep.{some_rises, stepped_waves};
 ghost use Rattle.cmb_core_cluster.specs.Step.{wave_at, with_wave};
 ghost use Rattle.cmb_core_cluster.specs.declared.delivery.DeliverFault.{DeliverFault as Refusal};
 ghost use Rattle.cmb_run_exact.specs.Passed.{IsHeard, IsPassed};
-ghost use Rattle.cmb_run_exact.specs.RunTerms.{AreTerms};
+ghost use Rattle.cmb_run_exact.specs.OfRun.{IsOfRun};
 
-use crate::terms::Terms;
+use crate::cluster_run::ClusterRun;
 use cmb_core_cluster::{Cluster, Clustering, DeliverFault};
 use cmb_design_model::Design;
 use cmb_wave::{Heard, Piece, Promise, Wave};
@@ -25,12 +25,12 @@ use std::marker::{Model, PhantomData};
 
 /// A piece that is exact in the run's design.
 #[derive(Drop)]
-pub struct Posted<T: Terms> {
+pub struct Posted<T: ClusterRun> {
     piece: Piece,
     of: PhantomData<T>,
 }
 
-impl<T: Terms> Model for Posted<T> {
+impl<T: ClusterRun> Model for Posted<T> {
     ghost use Rattle.cmb_wave.specs.Wave.{Piece};
     ghost use Rattle.cmb_design_model.specs.Exact.{IsExactIn};
 
@@ -41,7 +41,7 @@ impl<T: Terms> Model for Posted<T> {
     ghost invariant = { λ p. IsExactIn T.design p.piece };
 }
 
-impl<T: Terms> Posted<T> {
+impl<T: ClusterRun> Posted<T> {
     /// A piece that was posted.
     pub fn new(piece: Piece) -> Posted<T>
         requires { IsExactIn T.design piece }
@@ -72,7 +72,7 @@ impl<T: Terms> Posted<T> {
 
 /// A cluster of the run, each wave of which is its net's up to its clock.
 #[derive(Drop)]
-pub struct ExactCluster<T: Terms> {
+pub struct ExactCluster<T: ClusterRun> {
     number: u32,
     cluster: Cluster,
     horizon: u32,
@@ -82,7 +82,7 @@ pub struct ExactCluster<T: Terms> {
     ghost end: { horizon ≡ T.design.horizon },
 }
 
-impl<T: Terms> Model for ExactCluster<T> {
+impl<T: ClusterRun> Model for ExactCluster<T> {
     ghost use Rattle.cmb_core_cluster.specs.Clusters.{Cluster};
     ghost use Rattle.cmb_core_cluster.specs.Exactness.{IsExactCluster};
 
@@ -93,7 +93,7 @@ impl<T: Terms> Model for ExactCluster<T> {
     ghost invariant = { λ p. IsExactCluster T.design T.clustering p.number p.cluster };
 }
 
-impl<T: Terms> ExactCluster<T> {
+impl<T: ClusterRun> ExactCluster<T> {
     /// The cluster with this number, of which nothing is known yet.
     pub fn open(
         alloc: Global,
@@ -101,7 +101,7 @@ impl<T: Terms> ExactCluster<T> {
         clustering: &Clustering,
         number: u32,
     ) -> Result<ExactCluster<T>, AllocError>
-        requires terms { AreTerms T.design T.clustering design.now clustering.now }
+        requires run { IsOfRun T.design T.clustering design.now clustering.now }
         requires number { number < clustering.now.clusters }
         ensures new { IfOk result (λ cluster.
             cluster.waves ≡ map new_wave (held_nets design.now clustering.now number)) }

@@ -1,5 +1,5 @@
 pub mod ChannelFacts
 pub mod RunFacts
-pub mod TellerFacts
+pub mod TextWriterFacts
 pub mod TextRuns
 pub mod TurnFacts

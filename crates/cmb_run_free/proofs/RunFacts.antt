@@ -8,7 +8,7 @@ use Rattle.cmb_run_text.specs.declared.fault.CollectFault.{CollectFault}
 use Rattle.cmb_run_text.specs.Collector.{Collector, IsExactFrom, collected}
 use Rattle.cmb_run_text.proofs.ExactFacts.{collected_from}
 use Rattle.cmb_run_free.specs.FreeRuns.{IsStoppedAt}
-use Rattle.cmb_run_free.specs.Inner.Tellers.{IsDecided, IsUnfinished}
+use Rattle.cmb_run_free.specs.Inner.TextWriters.{IsDecided, IsUnfinished}
 use Rattle.cmb_run_exact.specs.declared.run_fault.RunFault.{RunFault}
 use Rattle.cmb_run_exact.specs.declared.run_fault.RunFault.TheVariants.{Incomplete, Write, Memory}
 

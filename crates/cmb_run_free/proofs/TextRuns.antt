@@ -7,10 +7,10 @@ use Rattle.cmb_run_text.specs.Beginnings.{HasBegun}
 use Rattle.cmb_run_text.specs.Collector.{Collector, IsComplete, IsExactFrom}
 use Rattle.cmb_run_text.specs.Vcd.{vcd}
 use Rattle.cmb_run_free.specs.FreeRuns.{IsCutAt, IsStoppedAt}
-use Rattle.cmb_run_free.specs.Inner.Tellers.{Backlog, IsGiven, IsTold, IsUnfinished}
+use Rattle.cmb_run_free.specs.Inner.TextWriters.{Backlog, IsGiven, IsTold, IsUnfinished}
 use Rattle.cmb_run_exact.specs.declared.run_fault.RunFault.{RunFault}
 use Rattle.cmb_run_exact.specs.declared.run_fault.RunFault.TheVariants.{Incomplete, Write, Memory}
-use Rattle.cmb_run_free.proofs.TellerFacts.{HasBegun-told, told-whole as told-all}
+use Rattle.cmb_run_free.proofs.TextWriterFacts.{HasBegun-told, told-whole as told-all}
 
 HasBegun-given : (design : Design) (old new : Option (List ℕ)) (before after : ℕ) (backlog : Backlog) (given : ℕ) → IsGiven design old new before after backlog given → HasBegun design old new
 HasBegun-given design old new before after backlog given h = HasBegun-told design (Some h.done) old new h.within h.text

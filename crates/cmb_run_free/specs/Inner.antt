@@ -1,4 +1,4 @@
 -- What the functions inside the crate promise each other. No public contract cites it.
 pub mod Channels
-pub mod Tellers
+pub mod TextWriters
 pub mod Turns

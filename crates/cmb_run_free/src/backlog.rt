@@ -7,23 +7,23 @@ ghost use Rattle.cmb_run_text.specs.Writer.{IsNotBefore};
 ghost use Rattle.cmb_run_text.specs.declared.fault.CollectFault.{CollectFault as Refusal};
 
 use cmb_design_model::Design;
-use cmb_run_exact::{Posted, Terms};
+use cmb_run_exact::{ClusterRun, Posted};
 use cmb_run_text::{CollectFault, Collector};
 use std::alloc::{AllocError, Global};
 use std::marker::{Model, PhantomData};
 
 /// The waves of the run's nets, less what of them is written.
 #[derive(Drop)]
-pub struct Backlog<T: Terms> {
+pub struct Backlog<T: ClusterRun> {
     collector: Collector,
     written: Option<u32>,
     of: PhantomData<T>,
 }
 
-impl<T: Terms> Model for Backlog<T> {
+impl<T: ClusterRun> Model for Backlog<T> {
     ghost use Rattle.std.specs.Prelude.{unwrap_or};
     ghost use Rattle.cmb_run_text.specs.Collector.{IsExactFrom};
-    ghost use Rattle.cmb_run_free.specs.Inner.Tellers.{Backlog};
+    ghost use Rattle.cmb_run_free.specs.Inner.TextWriters.{Backlog};
 
     ghost Value = { Backlog };
 
@@ -32,7 +32,7 @@ impl<T: Terms> Model for Backlog<T> {
     ghost invariant = { λ b. IsExactFrom T.design (unwrap_or b.written 0) b.collector };
 }
 
-impl<T: Terms> Backlog<T> {
+impl<T: ClusterRun> Backlog<T> {
     /// Nothing is known, and nothing is written.
     pub(crate) fn open(alloc: Global, design: &Design) -> Result<Backlog<T>, AllocError>
         requires { design.now ≡ T.design }

@@ -5,7 +5,7 @@ ghost use Rattle.std.specs.Prelude.{◌≡◌};
 use crate::backlog::Backlog;
 use crate::crew::Lookout;
 use crate::ends::TakeEnd;
-use cmb_run_exact::{RunFault, Terms};
+use cmb_run_exact::{ClusterRun, RunFault};
 use std::alloc::AllocError;
 use std::sync::Wait;
 
@@ -13,7 +13,7 @@ use std::sync::Wait;
 const MOST: u32 = 64;
 
 // Takes what waits in a link, up to so many pieces, and says whether there was one.
-fn take_some<T: Terms, R: Wait>(
+fn take_some<T: ClusterRun, R: Wait>(
     rt: &R,
     end: &mut TakeEnd<T>,
     backlog: &mut Backlog<T>,
@@ -45,7 +45,7 @@ pub(crate) enum Found {
 }
 
 /// Takes what waits in the links, up to so many pieces each.
-pub(crate) fn take_round<T: Terms, R: Wait>(
+pub(crate) fn take_round<T: ClusterRun, R: Wait>(
     rt: &R,
     lookout: &mut Lookout<T>,
     started: usize,
@@ -66,7 +66,7 @@ pub(crate) fn take_round<T: Terms, R: Wait>(
 }
 
 /// What the calling thread has of a run that it collects. `S` is where the text goes.
-pub(crate) trait Collect<T: Terms, S> {
+pub(crate) trait Collect<T: ClusterRun, S> {
     ghost use Rattle.std.specs.Prelude.{ℕ, Result};
     ghost use Rattle.cmb_run_exact.specs.declared.run_fault.RunFault.{RunFault as Fault};
 
@@ -93,7 +93,7 @@ pub(crate) trait Collect<T: Terms, S> {
 #[derive(Drop)]
 pub(crate) struct Nowhere;
 
-impl<T: Terms> Collect<T, Nowhere> for Backlog<T> {
+impl<T: ClusterRun> Collect<T, Nowhere> for Backlog<T> {
     ghost use Rattle.std.specs.Prelude.{⊤, IfErr};
     ghost use Rattle.cmb_run_exact.specs.declared.run_fault.RunFault.TheVariants.{Memory};
 

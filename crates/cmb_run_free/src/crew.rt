@@ -3,7 +3,7 @@
 ghost use Rattle.std.specs.Prelude.{◌≡◌, ◌+◌, ◌<◌, All, drop, length, vec_len, IfOk, OnOk};
 ghost use Rattle.std.specs.Arc.{arc_value};
 ghost use Rattle.cmb_links.specs.Seats.{IsSeatOf, new_seats, terms};
-ghost use Rattle.cmb_run_exact.specs.RunTerms.{AreTerms};
+ghost use Rattle.cmb_run_exact.specs.OfRun.{IsOfRun};
 
 use crate::collect::Found;
 use crate::ends::TakeEnd;
@@ -12,14 +12,14 @@ use crate::worker_seat::WorkerSeat;
 use cmb_core_cluster::Clustering;
 use cmb_design_model::Design;
 use cmb_links::{Board, Seat, Workers};
-use cmb_run_exact::{ExactCluster, Terms};
+use cmb_run_exact::{ClusterRun, ExactCluster};
 use cmb_waiting::Idle;
 use std::alloc::{AllocError, Global};
 use std::sync::{Arc, Wait};
 
 /// The last seat, the taking end of each worker's link to the collector, and how long nothing came.
 #[derive(Drop)]
-pub struct Lookout<T: Terms> {
+pub struct Lookout<T: ClusterRun> {
     board: Arc<Board>,
     seat: Seat,
     pub ends: Vec<TakeEnd<T>>,
@@ -27,7 +27,7 @@ pub struct Lookout<T: Terms> {
     ghost same: { seat.board ≡ arc_value board },
 }
 
-impl<T: Terms> Lookout<T> {
+impl<T: ClusterRun> Lookout<T> {
     /// Raises the stop word.
     pub(crate) fn raise(&mut self) {
         self.board.raise(&mut self.seat);
@@ -49,13 +49,13 @@ impl<T: Terms> Lookout<T> {
 
 /// The workers of a free run, and what the collecting thread has of it.
 #[derive(Drop)]
-pub struct Crew<T: Terms> {
+pub struct Crew<T: ClusterRun> {
     pub workers: Vec<Worker<T>>,
     pub lookout: Lookout<T>,
 }
 
 // Links a worker to another one, which reads nets of it.
-fn link_two<T: Terms>(
+fn link_two<T: ClusterRun>(
     alloc: Global,
     design: &Design,
     clustering: &Clustering,
@@ -76,7 +76,7 @@ fn link_two<T: Terms>(
 }
 
 // Links each worker that drives a net of another one to that.
-fn link_all<T: Terms>(
+fn link_all<T: ClusterRun>(
     alloc: Global,
     design: &Design,
     clustering: &Clustering,
@@ -102,7 +102,7 @@ fn mark(marks: &mut [bool], nets: &[u32]) {
 }
 
 // Tells each worker which nets it is given, and which of its own others read.
-fn note_nets<T: Terms>(
+fn note_nets<T: ClusterRun>(
     alloc: Global,
     clustering: &Clustering,
     workers: &mut [Worker<T>],
@@ -120,7 +120,7 @@ fn note_nets<T: Terms>(
 }
 
 // Adds a worker for each cluster, who takes the next seat of the board.
-fn add_workers<T: Terms>(
+fn add_workers<T: ClusterRun>(
     alloc: Global,
     design: &Design,
     clustering: &Clustering,
@@ -129,7 +129,7 @@ fn add_workers<T: Terms>(
     seats: &mut Vec<Seat>,
     crew: &mut Vec<Worker<T>>,
 ) -> Result<(), AllocError>
-    requires terms { AreTerms T.design T.clustering design.now clustering.now }
+    requires run { IsOfRun T.design T.clustering design.now clustering.now }
     requires each { clustering.now.clusters ≡ workers }
     requires seats { seats.old.items ≡ new_seats (arc_value board.now) (terms design.now clustering.now workers) }
     requires count { vec_len seats.old ≡ workers + 1 }
@@ -140,14 +140,14 @@ fn add_workers<T: Terms>(
         let shared = Arc::try_clone(board)?;
         let cluster = ExactCluster::open(alloc, design, clustering, number)?;
         let seat = seats.remove(0);
-        let desk = WorkerSeat::new(shared, seat, design, workers, number);
-        crew.push(Worker::new(alloc, desk, cluster))?;
+        let worker_seat = WorkerSeat::new(shared, seat, design, workers, number);
+        crew.push(Worker::new(alloc, worker_seat, cluster))?;
     }
     Ok(())
 }
 
 // Links each worker to the collector, and gives the collector's ends of these links.
-fn link_collector<T: Terms>(
+fn link_collector<T: ClusterRun>(
     alloc: Global,
     design: &Design,
     workers: &mut [Worker<T>],
@@ -163,7 +163,7 @@ fn link_collector<T: Terms>(
 
 // Links workers to one another and to the collector, and tells each which nets it is given and which of its own others
 // read. Gives the collector's ends.
-fn connect<T: Terms>(
+fn connect<T: ClusterRun>(
     alloc: Global,
     design: &Design,
     clustering: &Clustering,
@@ -194,7 +194,7 @@ fn open_board(
     Ok((Arc::new(alloc, board)?, seats))
 }
 
-impl<T: Terms> Crew<T> {
+impl<T: ClusterRun> Crew<T> {
     /// One cluster of T's clustering for each worker, newly opened, with its seat and its ends of links.
     pub(crate) fn open(
         alloc: Global,
@@ -202,7 +202,7 @@ impl<T: Terms> Crew<T> {
         clustering: &Clustering,
         workers: Workers,
     ) -> Result<Crew<T>, AllocError>
-        requires terms { AreTerms T.design T.clustering design.now clustering.now }
+        requires run { IsOfRun T.design T.clustering design.now clustering.now }
         requires each { clustering.now.clusters ≡ workers }
     {
         let (board, mut seats) = open_board(alloc, design, clustering, workers)?;

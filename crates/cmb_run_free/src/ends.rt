@@ -6,7 +6,7 @@ ghost use Rattle.cmb_links.specs.Links.{after_put, after_take, channel_clock};
 
 use cmb_design_model::Design;
 use cmb_links::{Full, Link, PutPass, TakePass};
-use cmb_run_exact::{Posted, Terms};
+use cmb_run_exact::{ClusterRun, Posted};
 use std::alloc::{AllocError, Global};
 use std::marker::{Model, PhantomData};
 use std::sync::{Arc, Wait};
@@ -16,13 +16,13 @@ const CAPACITY: usize = 64;
 
 /// The end that puts. Contracts see its pass.
 #[derive(Drop)]
-pub struct PutEnd<T: Terms> {
+pub struct PutEnd<T: ClusterRun> {
     link: Arc<Link>,
     pass: PutPass,
     of: PhantomData<T>,
 }
 
-impl<T: Terms> Model for PutEnd<T> {
+impl<T: ClusterRun> Model for PutEnd<T> {
     ghost use Rattle.std.specs.Prelude.{◌≡◌};
     ghost use Rattle.std.specs.Arc.{arc_value};
     ghost use Rattle.cmb_links.specs.Links.{PutData};
@@ -36,13 +36,13 @@ impl<T: Terms> Model for PutEnd<T> {
 
 /// The end that takes. Contracts see its pass.
 #[derive(Drop)]
-pub struct TakeEnd<T: Terms> {
+pub struct TakeEnd<T: ClusterRun> {
     link: Arc<Link>,
     pass: TakePass,
     of: PhantomData<T>,
 }
 
-impl<T: Terms> Model for TakeEnd<T> {
+impl<T: ClusterRun> Model for TakeEnd<T> {
     ghost use Rattle.std.specs.Prelude.{◌≡◌};
     ghost use Rattle.std.specs.Arc.{arc_value};
     ghost use Rattle.cmb_links.specs.Links.{TakeData};
@@ -55,7 +55,7 @@ impl<T: Terms> Model for TakeEnd<T> {
 }
 
 /// The two ends of a new link for these nets.
-pub(crate) fn open_link<T: Terms>(
+pub(crate) fn open_link<T: ClusterRun>(
     alloc: Global,
     design: &Design,
     nets: &[u32],
@@ -82,7 +82,7 @@ pub(crate) fn open_link<T: Terms>(
     Ok((put, take))
 }
 
-impl<T: Terms> PutEnd<T> {
+impl<T: ClusterRun> PutEnd<T> {
     ghost use Rattle.cmb_run_free.specs.Inner.Channels.{MayFollow};
 
     /// Puts a piece, or gives it back where the link was full.
@@ -99,7 +99,7 @@ impl<T: Terms> PutEnd<T> {
     }
 }
 
-impl<T: Terms> TakeEnd<T> {
+impl<T: ClusterRun> TakeEnd<T> {
     /// Takes the next piece, none where the link was empty.
     pub(crate) fn take<R: Wait>(&mut self, rt: &R) -> Option<Posted<T>>
         ensures some { IfSome result (λ piece. self.new ≡ after_take self.old piece) }

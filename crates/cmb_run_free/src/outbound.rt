@@ -9,14 +9,14 @@ ghost use Rattle.cmb_run_free.specs.Inner.Turns.{OutGoes, outbound};
 use crate::ends::{PutEnd, TakeEnd, open_link};
 use crate::passing::{Passing, leave_out_done, unsent};
 use cmb_design_model::Design;
-use cmb_run_exact::{ExactCluster, Posted, Terms};
+use cmb_run_exact::{ClusterRun, ExactCluster, Posted};
 use std::alloc::{AllocError, Global};
 use std::marker::Model;
 use std::sync::Wait;
 
 /// A link, and the nets that go there. Contracts see what was put, and what waits.
 #[derive(Drop)]
-pub struct Out<T: Terms> {
+pub struct Out<T: ClusterRun> {
     end: PutEnd<T>,
     outlets: Vec<Passing>,
     /// A piece that found the link full.
@@ -29,7 +29,7 @@ pub struct Out<T: Terms> {
     is_left: bool,
 }
 
-impl<T: Terms> Model for Out<T> {
+impl<T: ClusterRun> Model for Out<T> {
     ghost use Rattle.cmb_run_free.specs.Inner.Channels.{Outbound, IsOutbound};
 
     ghost Value = { Outbound };
@@ -41,7 +41,7 @@ impl<T: Terms> Model for Out<T> {
 }
 
 // Puts a piece, or keeps it where the link is full. Says whether it was put.
-fn put_or_keep<T: Terms, R: Wait>(
+fn put_or_keep<T: ClusterRun, R: Wait>(
     rt: &R,
     end: &mut PutEnd<T>,
     waiting: &mut Option<Posted<T>>,
@@ -65,7 +65,7 @@ fn put_or_keep<T: Terms, R: Wait>(
 }
 
 // Puts what is new of a net, or keeps it. Says whether none waits.
-fn put_net<T: Terms, R: Wait>(
+fn put_net<T: ClusterRun, R: Wait>(
     rt: &R,
     end: &mut PutEnd<T>,
     waiting: &mut Option<Posted<T>>,
@@ -88,7 +88,7 @@ fn put_net<T: Terms, R: Wait>(
     }
 }
 
-impl<T: Terms> Out<T> {
+impl<T: ClusterRun> Out<T> {
     ghost use Rattle.cmb_run_free.specs.Inner.Channels.{IsNewOut};
 
     /// A new link by which these nets go, and the end that takes.

@@ -3,7 +3,7 @@
 ghost use Rattle.std.specs.Prelude.{◌≡◌, map, All, IfOk, IfSome, OnErr};
 ghost use Rattle.std.specs.List.{Contains};
 
-use cmb_run_exact::{ExactCluster, Posted, Terms};
+use cmb_run_exact::{ClusterRun, ExactCluster, Posted};
 use std::alloc::{AllocError, Global};
 
 /// A net that goes from worker to worker, and a tick: one who sends it has sent it up to there, and one who is given it
@@ -36,7 +36,7 @@ impl Passing {
 
     /// What is new of the net. A piece without changes isn't put where the board says as much to the reader;
     /// the next piece then begins at the same tick. Up to the horizon no piece follows, so the net is done.
-    pub(crate) fn cut<T: Terms>(
+    pub(crate) fn cut<T: ClusterRun>(
         &mut self,
         cluster: &ExactCluster<T>,
         takes_empty: bool,

@@ -4,8 +4,8 @@ ghost use Rattle.std.specs.Prelude.{◌≡◌, length, Ok, Err, IfOk, IfErr, IfS
 ghost use Rattle.cmb_design_model.specs.Exact.{nets_of};
 ghost use Rattle.cmb_run_text.specs.Collector.{IsComplete, IsExactFor};
 ghost use Rattle.cmb_run_free.specs.FreeRuns.{IsLeastBehind, IsStopped, IsStoppedAt};
-ghost use Rattle.cmb_run_exact.specs.RunTerms.{AreTerms};
-ghost use Rattle.cmb_run_free.specs.Inner.Tellers.{decision, IsDecided, IsUnfinished};
+ghost use Rattle.cmb_run_exact.specs.OfRun.{IsOfRun};
+ghost use Rattle.cmb_run_free.specs.Inner.TextWriters.{decision, IsDecided, IsUnfinished};
 
 use crate::backlog::Backlog;
 use crate::collect::{Collect, Nowhere};
@@ -15,7 +15,7 @@ use crate::turnstile::Turnstile;
 use cmb_core_cluster::Clustering;
 use cmb_design_model::Design;
 use cmb_links::Workers;
-use cmb_run_exact::{RunFault, Terms};
+use cmb_run_exact::{ClusterRun, RunFault};
 use cmb_run_text::Collector;
 use std::alloc::Global;
 use std::marker::Brand;
@@ -88,7 +88,7 @@ pub(crate) fn settled(
 fn collect_in<
     's,
     E,
-    T: Terms + Send + Sync + 's,
+    T: ClusterRun + Send + Sync + 's,
     C: Collect<T, S>,
     S,
     G: Turnstile + Sync,
@@ -127,7 +127,7 @@ fn take_back<T>(back: &mut T)
 /// Runs a crew and collects meanwhile. Gives what was collected, says what that came to, and whether memory or a thread
 /// was refused.
 pub(crate) fn run_crew<
-    T: Terms + Send + Sync,
+    T: ClusterRun + Send + Sync,
     C: Collect<T, S> + Drop,
     S,
     G: Turnstile + Sync,
@@ -160,7 +160,7 @@ pub(crate) fn run_crew<
 }
 
 // The run of the design and the clustering that T names.
-fn run_named<T: Terms + Send + Sync, G: Turnstile + Sync, R: Threads + Wait + Sync>(
+fn run_named<T: ClusterRun + Send + Sync, G: Turnstile + Sync, R: Threads + Wait + Sync>(
     rt: &R,
     alloc: Global,
     design: &Design,
@@ -168,7 +168,7 @@ fn run_named<T: Terms + Send + Sync, G: Turnstile + Sync, R: Threads + Wait + Sy
     workers: Workers,
     gate: &G,
 ) -> Result<Collector, RunFault>
-    requires terms { AreTerms T.design T.clustering design.now clustering.now }
+    requires run { IsOfRun T.design T.clustering design.now clustering.now }
     requires each { clustering.now.clusters ≡ workers }
     ensures exact { IfOk result (λ collector. IsExactFor design.now collector) }
     ensures complete { IfOk result (λ collector. IsComplete collector) }

@@ -2,7 +2,7 @@
 
 ghost use Rattle.std.specs.Prelude.{◌≡◌, ◌-◌, ◌^◌, ◌<◌, length};
 ghost use Rattle.cmb_design_model.specs.Exact.{nets_of};
-ghost use Rattle.cmb_run_exact.specs.RunTerms.{AreTerms};
+ghost use Rattle.cmb_run_exact.specs.OfRun.{IsOfRun};
 ghost use Rattle.cmb_run_free.specs.FreeRuns.{IsTextRun};
 
 use crate::collect::{Collect, Found};
@@ -14,7 +14,7 @@ use cmb_core_cluster::Clustering;
 use cmb_design_model::Design;
 use cmb_io::Sink;
 use cmb_links::Workers;
-use cmb_run_exact::{RunFault, Terms};
+use cmb_run_exact::{ClusterRun, RunFault};
 use std::alloc::Global;
 use std::marker::Brand;
 use std::sync::Wait;
@@ -23,11 +23,11 @@ use std::thread::Threads;
 // While pieces come in every round, the text is written once in so many rounds.
 const ROUNDS: u32 = 64;
 
-impl<'a, T: Terms, S: Sink> Collect<T, S> for TextWriter<'a, T> {
+impl<'a, T: ClusterRun, S: Sink> Collect<T, S> for TextWriter<'a, T> {
     ghost use Rattle.std.specs.Prelude.{◌≡◌, ◌-◌, ◌^◌, ◌<◌, None};
-    ghost use Rattle.cmb_run_free.specs.Inner.Tellers.{IsTold};
+    ghost use Rattle.cmb_run_free.specs.Inner.TextWriters.{IsTold};
 
-    ghost is_ready = { λ teller sink. (S.failures sink < 2 ^ 64 - 1) × (teller.written ≡ None) };
+    ghost is_ready = { λ text_writer sink. (S.failures sink < 2 ^ 64 - 1) × (text_writer.written ≡ None) };
 
     ghost is_told = { λ old new before after given.
         IsTold T.design (S.taken before) (S.taken after) (S.failures before) (S.failures after) new given };
@@ -52,17 +52,17 @@ impl<'a, T: Terms, S: Sink> Collect<T, S> for TextWriter<'a, T> {
                 Found::End => break,
             };
             if is_due {
-                self.tell(sink)?;
+                self.write_to(sink)?;
                 fresh = 0;
             }
             lookout.rest_after(rt, found);
         }
-        self.tell(sink)
+        self.write_to(sink)
     }
 }
 
 // The run of the design and the clustering that T names.
-fn run_named<T: Terms + Send + Sync, G: Turnstile + Sync, S: Sink, R: Threads + Wait + Sync>(
+fn run_named<T: ClusterRun + Send + Sync, G: Turnstile + Sync, S: Sink, R: Threads + Wait + Sync>(
     rt: &R,
     alloc: Global,
     design: &Design,
@@ -72,17 +72,17 @@ fn run_named<T: Terms + Send + Sync, G: Turnstile + Sync, S: Sink, R: Threads + 
     sink: &mut S,
 ) -> Result<u64, RunFault>
     requires room { S.failures sink.old < 2 ^ 64 - 1 }
-    requires terms { AreTerms T.design T.clustering design.now clustering.now }
+    requires run { IsOfRun T.design T.clustering design.now clustering.now }
     requires each { clustering.now.clusters ≡ workers }
     ensures { IsTextRun S.Sink design.now sink.old sink.new result }
 {
-    let teller = TextWriter::<T>::open(alloc, design)?;
+    let text_writer = TextWriter::<T>::open(alloc, design)?;
     let Ok(crew) = Crew::<T>::open(alloc, design, clustering, workers) else {
-        drop(teller);
+        drop(text_writer);
         return Err(RunFault::Memory);
     };
-    let (teller, given, refused) = run_crew(rt, alloc, crew, teller, gate, sink);
-    let (given, collector) = settled(given, refused, teller.into_collector())?;
+    let (text_writer, given, refused) = run_crew(rt, alloc, crew, text_writer, gate, sink);
+    let (given, collector) = settled(given, refused, text_writer.into_collector())?;
     drop(collector);
     Ok(given)
 }

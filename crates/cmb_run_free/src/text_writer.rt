@@ -4,14 +4,14 @@ ghost use Rattle.std.specs.Prelude.{◌≡◌, ◌-◌, ◌^◌, ◌<◌, List, 
 ghost use Rattle.std.specs.Io.KnownBytes.{Appends};
 ghost use Rattle.cmb_run_text.specs.Collector.{IsExactFrom, least};
 ghost use Rattle.cmb_run_free.specs.FreeRuns.{IsCutAt};
-ghost use Rattle.cmb_run_free.specs.Inner.Tellers.{IsToldTo, told};
+ghost use Rattle.cmb_run_free.specs.Inner.TextWriters.{IsToldTo, told};
 
 use crate::backlog::Backlog;
 use crate::collect::{Found, take_round};
 use crate::crew::Lookout;
 use cmb_design_model::Design;
 use cmb_io::{Sink, write_whole};
-use cmb_run_exact::{RunFault, Terms};
+use cmb_run_exact::{ClusterRun, RunFault};
 use cmb_run_text::{Collector, VcdWriter};
 use std::alloc::{AllocError, Global};
 use std::marker::Model;
@@ -19,27 +19,27 @@ use std::sync::Wait;
 
 /// What is collected of the run, and who writes its text, part after part. Contracts see what isn't written yet.
 #[derive(Drop)]
-pub struct TextWriter<'a, T: Terms> {
+pub struct TextWriter<'a, T: ClusterRun> {
     backlog: Backlog<T>,
     writer: VcdWriter<'a>,
     given: u64,
 }
 
-impl<'a, T: Terms> Model for TextWriter<'a, T> {
-    ghost use Rattle.cmb_run_free.specs.Inner.Tellers.{Backlog, IsTeller};
+impl<'a, T: ClusterRun> Model for TextWriter<'a, T> {
+    ghost use Rattle.cmb_run_free.specs.Inner.TextWriters.{Backlog, IsTextWriter};
 
     ghost Value = { Backlog };
 
     ghost view = { λ t. t.backlog };
 
-    ghost invariant = { λ t. IsTeller T.design t.backlog t.writer t.given };
+    ghost invariant = { λ t. IsTextWriter T.design t.backlog t.writer t.given };
 }
 
-impl<'a, T: Terms> TextWriter<'a, T> {
+impl<'a, T: ClusterRun> TextWriter<'a, T> {
     /// Nothing is known, and nothing is written.
     pub fn open(alloc: Global, design: &'a Design) -> Result<TextWriter<'a, T>, AllocError>
         requires { design.now ≡ T.design }
-        ensures { IfOk result (λ teller. teller.written ≡ None) }
+        ensures { IfOk result (λ text_writer. text_writer.written ≡ None) }
     {
         // The proof learns here that the design is lawful.
         let _horizon = design.horizon();
@@ -69,7 +69,7 @@ impl<'a, T: Terms> TextWriter<'a, T> {
 
     /// Writes what is new of the text, now that so much is collected, and forgets what is written. Gives how many bytes
     /// of the text the sink took so far. After an Err the writer isn't to be used again.
-    pub fn tell<S: Sink>(&mut self, sink: &mut S) -> Result<u64, RunFault>
+    pub fn write_to<S: Sink>(&mut self, sink: &mut S) -> Result<u64, RunFault>
         requires { S.failures sink.old < 2 ^ 64 - 1 }
         ensures ok { (start : Option (List ℕ)) → Appends start (S.taken sink.old) (told T.design self.old.written)
             → OnOk result (Appends start (S.taken sink.new) (told T.design self.new.written)) }

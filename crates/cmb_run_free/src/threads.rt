@@ -5,7 +5,7 @@ ghost use Rattle.std.specs.Prelude.{◌≡◌, vec_len};
 use crate::crew::Lookout;
 use crate::turnstile::Turnstile;
 use crate::worker::Worker;
-use cmb_run_exact::Terms;
+use cmb_run_exact::ClusterRun;
 use std::alloc::Global;
 use std::sync::Wait;
 use std::thread::{JoinHandle, Scope, Threads};
@@ -44,7 +44,7 @@ impl Started {
 }
 
 // Runs a worker in a thread of its own, None where that was refused.
-fn spawned<'s, E, T: Terms + Send + Sync + 's, G: Turnstile + Sync, R: Threads + Wait + Sync>(
+fn spawned<'s, E, T: ClusterRun + Send + Sync + 's, G: Turnstile + Sync, R: Threads + Wait + Sync>(
     rt: &'s R,
     scope: &Scope<'s, E>,
     worker: Worker<T>,
@@ -57,7 +57,7 @@ fn spawned<'s, E, T: Terms + Send + Sync + 's, G: Turnstile + Sync, R: Threads +
 pub(crate) fn start<
     's,
     E,
-    T: Terms + Send + Sync + 's,
+    T: ClusterRun + Send + Sync + 's,
     G: Turnstile + Sync,
     R: Threads + Wait + Sync,
 >(

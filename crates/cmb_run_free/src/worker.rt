@@ -14,7 +14,7 @@ use crate::turnstile::Turnstile;
 use crate::worker_seat::{Own, WorkerSeat};
 use cmb_core_cluster::Clustering;
 use cmb_design_model::Design;
-use cmb_run_exact::{ExactCluster, Terms};
+use cmb_run_exact::{ClusterRun, ExactCluster};
 use cmb_waiting::Idle;
 use cmb_wave::Heard;
 use std::alloc::{AllocError, Global};
@@ -25,7 +25,7 @@ use std::sync::Wait;
 const AT_ONCE: u32 = 64;
 
 // Takes what a link holds, up to so many pieces, and gives it to the cluster. Says whether there was a piece.
-fn take_some<T: Terms, R: Wait>(
+fn take_some<T: ClusterRun, R: Wait>(
     rt: &R,
     end: &mut TakeEnd<T>,
     cluster: &mut ExactCluster<T>,
@@ -49,7 +49,7 @@ fn take_some<T: Terms, R: Wait>(
 }
 
 // The same of each link.
-fn take_each<T: Terms, R: Wait>(
+fn take_each<T: ClusterRun, R: Wait>(
     rt: &R,
     ends: &mut [TakeEnd<T>],
     cluster: &mut ExactCluster<T>,
@@ -69,19 +69,19 @@ fn take_each<T: Terms, R: Wait>(
 }
 
 // Looks at each net that is read here and not known to its end, and hears what is new of it. Says whether a clock rose.
-fn look_each<T: Terms>(
-    desk: &mut WorkerSeat<T>,
+fn look_each<T: ClusterRun>(
+    worker_seat: &mut WorkerSeat<T>,
     inlets: &mut [Passing],
     cluster: &mut ExactCluster<T>,
 ) -> bool
     ensures later { IsLater cluster.old cluster.new }
     ensures goes { (ins : List TakeData) (outs : List Outbound)
-        → Goes T.design T.clustering (working cluster.old ins outs desk.old.seat.view)
-        (working cluster.new ins outs desk.new.seat.view) }
+        → Goes T.design T.clustering (working cluster.old ins outs worker_seat.old.seat.view)
+        (working cluster.new ins outs worker_seat.new.seat.view) }
 {
     let mut rose = false;
     for inlet in inlets.iter_mut() {
-        let Some(promise) = desk.look(inlet.net) else {
+        let Some(promise) = worker_seat.look(inlet.net) else {
             continue;
         };
         if promise.upto <= inlet.upto {
@@ -97,7 +97,7 @@ fn look_each<T: Terms>(
 }
 
 // Puts what is new into each link. Says whether something is left.
-fn put_each<T: Terms, R: Wait>(
+fn put_each<T: ClusterRun, R: Wait>(
     rt: &R,
     outs: &mut [Out<T>],
     cluster: &ExactCluster<T>,
@@ -114,14 +114,18 @@ fn put_each<T: Terms, R: Wait>(
 }
 
 // Tells the board how far each of these nets is known.
-fn publish_each<T: Terms>(desk: &mut WorkerSeat<T>, own: &mut [Own<T>], cluster: &ExactCluster<T>)
+fn publish_each<T: ClusterRun>(
+    worker_seat: &mut WorkerSeat<T>,
+    own: &mut [Own<T>],
+    cluster: &ExactCluster<T>,
+)
     ensures { (ins : List TakeData) (outs : List Outbound)
-        → Goes T.design T.clustering (working cluster.now ins outs desk.old.seat.view)
-        (working cluster.now ins outs desk.new.seat.view) }
+        → Goes T.design T.clustering (working cluster.now ins outs worker_seat.old.seat.view)
+        (working cluster.now ins outs worker_seat.new.seat.view) }
 {
     for own in own.iter_mut() {
         if let Some(promise) = cluster.promise(own.net) {
-            desk.publish(own, promise);
+            worker_seat.publish(own, promise);
         }
     }
 }
@@ -129,8 +133,8 @@ fn publish_each<T: Terms>(desk: &mut WorkerSeat<T>, own: &mut [Own<T>], cluster:
 /// A worker before and between its turns. Contracts see its cluster, what went through each of its links, and what its
 /// seat knows of the board.
 #[derive(Drop)]
-pub struct Worker<T: Terms> {
-    desk: WorkerSeat<T>,
+pub struct Worker<T: ClusterRun> {
+    worker_seat: WorkerSeat<T>,
     cluster: ExactCluster<T>,
     /// The nets that other workers drive and this one reads.
     inlets: Vec<Passing>,
@@ -145,26 +149,30 @@ pub struct Worker<T: Terms> {
     is_complete: bool,
 }
 
-impl<T: Terms> Model for Worker<T> {
+impl<T: ClusterRun> Model for Worker<T> {
     ghost use Rattle.std.specs.Prelude.{All};
     ghost use Rattle.cmb_run_free.specs.Inner.Channels.{IsFedBy};
     ghost use Rattle.cmb_run_free.specs.Inner.Turns.{Working, working};
 
     ghost Value = { Working };
 
-    ghost view = { λ w. working w.cluster w.ins.items w.outs.items w.desk.seat.view };
+    ghost view = { λ w. working w.cluster w.ins.items w.outs.items w.worker_seat.seat.view };
 
     // No piece that the worker took is lost.
     ghost invariant = { λ w. All (IsFedBy w.cluster) w.ins.items };
 }
 
-impl<T: Terms> Worker<T> {
+impl<T: ClusterRun> Worker<T> {
     /// A worker with its cluster, which isn't linked to the collector and to others yet.
-    pub(crate) fn new(alloc: Global, desk: WorkerSeat<T>, cluster: ExactCluster<T>) -> Worker<T>
-        ensures { result ≡ working cluster [] [] desk.seat.view }
+    pub(crate) fn new(
+        alloc: Global,
+        worker_seat: WorkerSeat<T>,
+        cluster: ExactCluster<T>,
+    ) -> Worker<T>
+        ensures { result ≡ working cluster [] [] worker_seat.seat.view }
     {
         Worker {
-            desk,
+            worker_seat,
             cluster,
             inlets: Vec::new(alloc),
             ins: Vec::new(alloc),
@@ -256,7 +264,7 @@ impl<T: Terms> Worker<T> {
         self.inlets = unsent(alloc, self.cluster.inputs())?;
         for net in self.cluster.driven() {
             if is_read.get(*net as usize) == Some(&true) {
-                if let Some(own) = Own::new(clustering, *net, self.desk.number) {
+                if let Some(own) = Own::new(clustering, *net, self.worker_seat.number) {
                     self.own.push(own)?;
                 }
             }
@@ -267,7 +275,7 @@ impl<T: Terms> Worker<T> {
     /// Works until all workers have finished or the stop word is raised. Says whether memory was refused to it.
     pub(crate) fn run<G: Turnstile, R: Wait>(mut self, rt: &R, gate: &G) -> bool {
         let is_refused = self.turns(rt, gate).is_err();
-        self.desk.leave(is_refused);
+        self.worker_seat.leave(is_refused);
         drop(self);
         is_refused
     }
@@ -291,11 +299,11 @@ impl<T: Terms> Worker<T> {
     fn goes_on<G: Turnstile>(&mut self, gate: &G, turn: u32) -> bool
         ensures { Goes T.design T.clustering self.old self.new }
     {
-        if !gate.pass(self.desk.number, turn) {
-            self.desk.raise();
+        if !gate.pass(self.worker_seat.number, turn) {
+            self.worker_seat.raise();
             return false;
         }
-        !self.desk.raised()
+        !self.worker_seat.raised()
     }
 
     // What a worker does in a turn. Says whether all workers have finished.
@@ -318,7 +326,7 @@ impl<T: Terms> Worker<T> {
         ensures { Goes T.design T.clustering self.old self.new }
     {
         if self.is_complete && !is_left {
-            self.desk.finish();
+            self.worker_seat.finish();
         }
     }
 
@@ -326,7 +334,7 @@ impl<T: Terms> Worker<T> {
     fn all_finished(&mut self) -> bool
         ensures { Goes T.design T.clustering self.old self.new }
     {
-        self.desk.all_finished()
+        self.worker_seat.all_finished()
     }
 
     // Rests where nothing was done.
@@ -375,7 +383,7 @@ impl<T: Terms> Worker<T> {
     fn look_all(&mut self)
         ensures { Goes T.design T.clustering self.old self.new }
     {
-        self.is_new |= look_each(&mut self.desk, &mut self.inlets, &mut self.cluster);
+        self.is_new |= look_each(&mut self.worker_seat, &mut self.inlets, &mut self.cluster);
         leave_out_done(&mut self.inlets, self.cluster.horizon());
     }
 
@@ -394,7 +402,7 @@ impl<T: Terms> Worker<T> {
         if !stepped {
             return;
         }
-        publish_each(&mut self.desk, &mut self.own, &self.cluster);
+        publish_each(&mut self.worker_seat, &mut self.own, &self.cluster);
         let horizon = self.cluster.horizon();
         self.own.retain(|own| own.told < horizon);
     }

@@ -16,14 +16,14 @@ ghost use Rattle.cmb_run_free.specs.Inner.Turns.{Goes, SeatGoes, working};
 use cmb_core_cluster::Clustering;
 use cmb_design_model::Design;
 use cmb_links::{Board, Seat, Workers};
-use cmb_run_exact::Terms;
+use cmb_run_exact::ClusterRun;
 use cmb_wave::Promise;
 use std::marker::PhantomData;
 use std::sync::Arc;
 
 /// A net of a worker's cluster, and the tick up to which it was published on the board.
 #[derive(Drop)]
-pub struct Own<T: Terms> {
+pub struct Own<T: ClusterRun> {
     pub net: u32,
     worker: u32,
     pub told: u32,
@@ -31,7 +31,7 @@ pub struct Own<T: Terms> {
     ghost own: { cluster_of T.clustering net ≡ worker },
 }
 
-impl<T: Terms> Own<T> {
+impl<T: ClusterRun> Own<T> {
     /// A net of which nothing was published, None where it is another worker's.
     pub(crate) fn new(clustering: &Clustering, net: u32, worker: u32) -> Option<Own<T>>
         requires { clustering.now ≡ T.clustering }
@@ -51,7 +51,7 @@ impl<T: Terms> Own<T> {
 
 /// A worker's seat, with the board.
 #[derive(Drop)]
-pub struct WorkerSeat<T: Terms> {
+pub struct WorkerSeat<T: ClusterRun> {
     board: Arc<Board>,
     seat: Seat,
     /// The worker's number.
@@ -68,7 +68,7 @@ pub struct WorkerSeat<T: Terms> {
     ghost done: { seat.view.endings.finished ≡ is_finished },
 }
 
-impl<T: Terms> WorkerSeat<T> {
+impl<T: ClusterRun> WorkerSeat<T> {
     /// That of the worker with this number, whose seat is new.
     pub(crate) fn new(
         board: Arc<Board>,

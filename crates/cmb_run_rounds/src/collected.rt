@@ -6,7 +6,7 @@ ghost use Rattle.cmb_design_model.specs.Exact.{IsExactWaveIn};
 ghost use Rattle.cmb_run_text.specs.Collector.{IsExactFor, wave_of};
 
 use cmb_design_model::Design;
-use cmb_run_exact::Terms;
+use cmb_run_exact::ClusterRun;
 use cmb_run_text::Collector;
 use cmb_wave::Wave;
 use std::alloc::{AllocError, Global};
@@ -14,12 +14,12 @@ use std::marker::{Model, PhantomData};
 
 /// What is collected of the run.
 #[derive(Drop)]
-pub struct Collected<T: Terms> {
+pub struct Collected<T: ClusterRun> {
     collector: Collector,
     of: PhantomData<T>,
 }
 
-impl<T: Terms> Model for Collected<T> {
+impl<T: ClusterRun> Model for Collected<T> {
     ghost use Rattle.cmb_run_text.specs.Collector.{Collector, IsExactFor};
 
     ghost Value = { Collector };
@@ -29,7 +29,7 @@ impl<T: Terms> Model for Collected<T> {
     ghost invariant = { λ c. IsExactFor T.design c.collector };
 }
 
-impl<T: Terms> Collected<T> {
+impl<T: ClusterRun> Collected<T> {
     /// Nothing is known.
     pub(crate) fn open(alloc: Global, design: &Design) -> Result<Collected<T>, AllocError>
         requires { design.now ≡ T.design }

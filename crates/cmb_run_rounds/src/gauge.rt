@@ -1,6 +1,6 @@
 //! About how much a worker has to do in a round.
 
-use cmb_run_exact::{ExactCluster, Terms};
+use cmb_run_exact::{ClusterRun, ExactCluster};
 use std::alloc::{AllocError, Global};
 
 // So many nets of a cluster, or twice as many, stand for all of them.
@@ -18,7 +18,7 @@ pub struct Gauge {
 
 impl Gauge {
     /// The nets of a newly opened cluster that stand for all of them.
-    pub(crate) fn open<T: Terms>(
+    pub(crate) fn open<T: ClusterRun>(
         alloc: Global,
         cluster: &ExactCluster<T>,
     ) -> Result<Gauge, AllocError> {
@@ -37,7 +37,7 @@ impl Gauge {
 
     /// About how many looks at a net the next round takes, if it is like the one before it: one for each
     /// net that isn't known to its end, and one for each change that came since the gauge was last read.
-    pub(crate) fn read<T: Terms>(&mut self, cluster: &ExactCluster<T>) -> usize {
+    pub(crate) fn read<T: ClusterRun>(&mut self, cluster: &ExactCluster<T>) -> usize {
         let mut looks = 0_usize;
         let mut changes = 0_usize;
         for net in &self.nets {

@@ -8,27 +8,27 @@ ghost use Rattle.cmb_core_cluster.specs.Opened.{IsClusterOf, IsOwnNet, held_nets
 ghost use Rattle.cmb_core_cluster.specs.Step.{wave_at};
 ghost use Rattle.cmb_run_text.specs.Collector.{wave_of};
 ghost use Rattle.cmb_run_exact.specs.Passed.{IsPassed};
-ghost use Rattle.cmb_run_exact.specs.RunTerms.{AreTerms};
+ghost use Rattle.cmb_run_exact.specs.OfRun.{IsOfRun};
 ghost use Rattle.cmb_run_rounds.specs.Inner.Rounds.{HasWorked, IsSwept};
 
 use crate::collected::Collected;
 use crate::gauge::Gauge;
 use cmb_core_cluster::Clustering;
 use cmb_design_model::Design;
-use cmb_run_exact::{ExactCluster, Posted, Terms};
+use cmb_run_exact::{ClusterRun, ExactCluster, Posted};
 use std::alloc::{AllocError, Global};
 use std::marker::Model;
 
 /// A worker's cluster, and how the worker stands.
 #[derive(Drop)]
-pub struct Hand<T: Terms> {
+pub struct Hand<T: ClusterRun> {
     cluster: ExactCluster<T>,
     gauge: Gauge,
     load: usize,
     refused: bool,
 }
 
-impl<T: Terms> Model for Hand<T> {
+impl<T: ClusterRun> Model for Hand<T> {
     ghost use Rattle.cmb_run_rounds.specs.Inner.Rounds.{Hand};
 
     ghost Value = { Hand };
@@ -36,7 +36,7 @@ impl<T: Terms> Model for Hand<T> {
     ghost view = { λ h. record { cluster = h.cluster; refused = h.refused } };
 }
 
-impl<T: Terms> Hand<T> {
+impl<T: ClusterRun> Hand<T> {
     /// The cluster with the worker's number, newly opened.
     pub fn open(
         alloc: Global,
@@ -44,7 +44,7 @@ impl<T: Terms> Hand<T> {
         clustering: &Clustering,
         worker: u32,
     ) -> Result<Hand<T>, AllocError>
-        requires terms { AreTerms T.design T.clustering design.now clustering.now }
+        requires run { IsOfRun T.design T.clustering design.now clustering.now }
         requires worker { worker < clustering.now.clusters }
         ensures of { IfOk result (λ hand. IsClusterOf T.design T.clustering worker hand.cluster) }
         ensures new { IfOk result (λ hand. hand.cluster.waves

@@ -14,7 +14,7 @@ ghost use Rattle.cmb_run_rounds.specs.RoundEvents.{AreRounds, exchange_events, r
 ghost use Rattle.cmb_run_rounds.specs.Inner.Rounds.{AreAt, AreComplete, AreHandsOf, AreKnownTo};
 ghost use Rattle.cmb_run_rounds.specs.Inner.Rounds.{HasWorked, IsExchanged, IsPassedOn};
 ghost use Rattle.cmb_run_rounds.specs.Inner.Rounds.{IsServed, hand_at, known_at_home};
-ghost use Rattle.cmb_run_exact.specs.RunTerms.{AreTerms};
+ghost use Rattle.cmb_run_exact.specs.OfRun.{IsOfRun};
 ghost use Rattle.cmb_run_exact.specs.declared.run_fault.RunFault.TheVariants.{Memory};
 
 use crate::collected::Collected;
@@ -22,7 +22,7 @@ use crate::hand::Hand;
 use cmb_core_cluster::Clustering;
 use cmb_design_model::Design;
 use cmb_links::Workers;
-use cmb_run_exact::{RunFault, Terms};
+use cmb_run_exact::{ClusterRun, RunFault};
 use cmb_run_text::Collector;
 use std::alloc::{AllocError, Global};
 use std::marker::Brand;
@@ -42,12 +42,12 @@ pub struct Run {
 const THREAD: usize = 1_000;
 
 // A cluster for each worker.
-fn deal<T: Terms>(
+fn deal<T: ClusterRun>(
     alloc: Global,
     design: &Design,
     clustering: &Clustering,
 ) -> Result<Vec<Hand<T>>, AllocError>
-    requires { AreTerms T.design T.clustering design.now clustering.now }
+    requires { IsOfRun T.design T.clustering design.now clustering.now }
     ensures of { IfOk result (λ hands. AreHandsOf T.design T.clustering hands.items) }
     ensures new { IfOk result (λ hands. AreAt T.design T.clustering (start T.design T.clustering) hands.items) }
 {
@@ -63,7 +63,7 @@ fn deal<T: Terms>(
 
 // Whether a round in threads is done sooner: what the workers but the busiest have to do is then done beside it,
 // and that outweighs their threads.
-fn is_worth_threads<T: Terms>(hands: &[Hand<T>]) -> bool {
+fn is_worth_threads<T: ClusterRun>(hands: &[Hand<T>]) -> bool {
     let mut beside = 0_usize;
     let mut most = 0;
     for hand in hands {
@@ -75,7 +75,7 @@ fn is_worth_threads<T: Terms>(hands: &[Hand<T>]) -> bool {
 }
 
 // In how many threads a round is done soonest: one for each worker, or the calling one alone.
-fn threads_for<T: Terms>(hands: &[Hand<T>]) -> usize
+fn threads_for<T: ClusterRun>(hands: &[Hand<T>]) -> usize
     ensures { 0 < result }
 {
     if is_worth_threads(hands) {
@@ -86,7 +86,7 @@ fn threads_for<T: Terms>(hands: &[Hand<T>]) -> usize
 }
 
 // The workers' parts of a round, in at most so many threads.
-fn work_all<T: Terms + Send + Sync, R: Threads + Sync>(
+fn work_all<T: ClusterRun + Send + Sync, R: Threads + Sync>(
     rt: &R,
     hands: &mut [Hand<T>],
     threads: usize,
@@ -100,14 +100,14 @@ fn work_all<T: Terms + Send + Sync, R: Threads + Sync>(
 }
 
 // Whether one of them met want of memory.
-fn some_refused<T: Terms>(hands: &[Hand<T>]) -> bool
+fn some_refused<T: ClusterRun>(hands: &[Hand<T>]) -> bool
     ensures { result ≡ list_any (λ hand. hand.refused) hands.now }
 {
     hands.iter().any(|hand| hand.refused())
 }
 
 // The round's steps.
-fn step<T: Terms + Send + Sync, R: Threads + Sync>(
+fn step<T: ClusterRun + Send + Sync, R: Threads + Sync>(
     rt: &R,
     hands: &mut [Hand<T>],
 ) -> Result<(), AllocError>
@@ -129,7 +129,7 @@ fn step<T: Terms + Send + Sync, R: Threads + Sync>(
 }
 
 // Gives a worker what is new of a net that it reads, by the worker that drives the net.
-fn pass_net<T: Terms>(
+fn pass_net<T: ClusterRun>(
     hands: &mut [Hand<T>],
     home: usize,
     reader: usize,
@@ -152,7 +152,7 @@ fn pass_net<T: Terms>(
 }
 
 // Gives a worker what is new of all nets that it reads.
-fn pass_to<T: Terms>(
+fn pass_to<T: ClusterRun>(
     clustering: &Clustering,
     hands: &mut [Hand<T>],
     reader: usize,
@@ -171,7 +171,7 @@ fn pass_to<T: Terms>(
 }
 
 // Gives each worker what is new of the nets that it reads.
-fn pass_on<T: Terms>(clustering: &Clustering, hands: &mut [Hand<T>]) -> Result<(), AllocError>
+fn pass_on<T: ClusterRun>(clustering: &Clustering, hands: &mut [Hand<T>]) -> Result<(), AllocError>
     requires clustering { clustering.now ≡ T.clustering }
     requires hands { AreHandsOf T.design T.clustering hands.old }
     ensures kept { OnOk result (AreHandsOf T.design T.clustering hands.new) }
@@ -189,7 +189,7 @@ fn pass_on<T: Terms>(clustering: &Clustering, hands: &mut [Hand<T>]) -> Result<(
 }
 
 // A round: the steps, and then the exchange. It brings every clock on by a tick at least.
-fn round<T: Terms + Send + Sync, R: Threads + Sync>(
+fn round<T: ClusterRun + Send + Sync, R: Threads + Sync>(
     rt: &R,
     clustering: &Clustering,
     hands: &mut [Hand<T>],
@@ -208,7 +208,7 @@ fn round<T: Terms + Send + Sync, R: Threads + Sync>(
 }
 
 // Whether each net is known up to the horizon where it is driven.
-fn all_complete<T: Terms>(hands: &[Hand<T>]) -> bool
+fn all_complete<T: ClusterRun>(hands: &[Hand<T>]) -> bool
     requires { AreHandsOf T.design T.clustering hands.now }
     ensures { IsTrue result ↔ AreComplete T.design T.clustering hands.now }
 {
@@ -221,7 +221,7 @@ fn all_complete<T: Terms>(hands: &[Hand<T>]) -> bool
 }
 
 // Rounds by new workers until all is known, and how many. There are no more of them than ticks.
-fn all_rounds<T: Terms + Send + Sync, R: Threads + Sync>(
+fn all_rounds<T: ClusterRun + Send + Sync, R: Threads + Sync>(
     rt: &R,
     design: &Design,
     clustering: &Clustering,
@@ -245,7 +245,7 @@ fn all_rounds<T: Terms + Send + Sync, R: Threads + Sync>(
 }
 
 // Gives the waves of all clusters to what is collected.
-fn hand_over_all<T: Terms>(mut hands: Vec<Hand<T>>, collected: &mut Collected<T>)
+fn hand_over_all<T: ClusterRun>(mut hands: Vec<Hand<T>>, collected: &mut Collected<T>)
     requires hands { AreHandsOf T.design T.clustering hands.items }
     requires known { AreComplete T.design T.clustering hands.items }
     ensures { (net : ℕ) → net < nets_of T.design → T.design.horizon ≤ (wave_of collected.new.waves net).clock }
@@ -256,13 +256,13 @@ fn hand_over_all<T: Terms>(mut hands: Vec<Hand<T>>, collected: &mut Collected<T>
 }
 
 // The run of the design by one worker for each cluster of the clustering that T names.
-fn run_named<T: Terms + Send + Sync, R: Threads + Sync>(
+fn run_named<T: ClusterRun + Send + Sync, R: Threads + Sync>(
     rt: &R,
     alloc: Global,
     design: &Design,
     clustering: &Clustering,
 ) -> Result<Run, AllocError>
-    requires { AreTerms T.design T.clustering design.now clustering.now }
+    requires { IsOfRun T.design T.clustering design.now clustering.now }
     ensures exact { IfOk result (λ run. IsExactFor design.now run.collector) }
     ensures complete { IfOk result (λ run. IsComplete run.collector) }
     ensures rounds { IfOk result (λ run. AreRounds design.now clustering.now run.rounds) }

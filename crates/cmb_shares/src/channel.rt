@@ -4,7 +4,7 @@ ghost use Rattle.std.specs.Prelude.{◌≡◌, ◌<◌, IfOk, IfSome, IsFalse, I
 ghost use Rattle.cmb_shares.specs.Inner.Channels.{Follows, greeting};
 
 use crate::message::{Envelope, InOrder, Message};
-use crate::terms::Terms;
+use crate::share_run::ShareRun;
 use cmb_waiting::{handed, taken};
 use rtrb::{Consumer, Producer, RingBuffer};
 use std::alloc::{AllocError, Global};
@@ -13,11 +13,11 @@ use std::sync::Wait;
 
 /// The end of a channel at which messages come.
 #[derive(Drop)]
-pub struct Inlet<T: Terms> {
+pub struct Inlet<T: ShareRun> {
     ring: Consumer<Message<T>, Global, InOrder<T>>,
 }
 
-impl<T: Terms> Model for Inlet<T> {
+impl<T: ShareRun> Model for Inlet<T> {
     ghost use Rattle.std.specs.Prelude.{◌≤◌, length, map};
     ghost use Rattle.rtrb.specs.Ring.{received};
     ghost use Rattle.cmb_shares.specs.declared.message.Envelope.{Envelope};
@@ -33,11 +33,11 @@ impl<T: Terms> Model for Inlet<T> {
 
 /// The end of a channel at which messages go.
 #[derive(Drop)]
-pub struct Outlet<T: Terms> {
+pub struct Outlet<T: ShareRun> {
     ring: Producer<Message<T>, Global, InOrder<T>>,
 }
 
-impl<T: Terms> Model for Outlet<T> {
+impl<T: ShareRun> Model for Outlet<T> {
     ghost use Rattle.std.specs.Prelude.{◌≤◌, length, map};
     ghost use Rattle.rtrb.specs.Ring.{sent};
     ghost use Rattle.cmb_shares.specs.declared.message.Envelope.{Envelope};
@@ -52,7 +52,7 @@ impl<T: Terms> Model for Outlet<T> {
 }
 
 /// A channel from a share to another one or to the text. It holds so many messages. Errors: memory was refused.
-pub(crate) fn channel<T: Terms>(
+pub(crate) fn channel<T: ShareRun>(
     alloc: Global,
     sender: u32,
     reader: u32,
@@ -69,7 +69,7 @@ pub(crate) fn channel<T: Terms>(
     Ok((Outlet { ring: outlet }, Inlet { ring: inlet }))
 }
 
-impl<T: Terms> Inlet<T> {
+impl<T: ShareRun> Inlet<T> {
     /// Waits for the next message. There is none where the sender ended before.
     pub(crate) fn receive<R: Wait>(&mut self, rt: &R) -> Option<Message<T>>
         ensures follows { IfSome result (λ message. Follows T.run.windows self.old message.envelope) }
@@ -79,7 +79,7 @@ impl<T: Terms> Inlet<T> {
     }
 }
 
-impl<T: Terms> Outlet<T> {
+impl<T: ShareRun> Outlet<T> {
     /// Sends a message, once there is room. Says whether it did so: else nobody is there any more to take it.
     pub(crate) fn send<R: Wait>(&mut self, rt: &R, message: Message<T>) -> bool
         requires { Follows T.run.windows self.old message.envelope }

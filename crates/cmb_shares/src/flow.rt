@@ -8,7 +8,7 @@ ghost use Rattle.cmb_shares.specs.Inner.Runs.{IsRun, IsTurn};
 
 use crate::channel::Inlet;
 use crate::merge::merge;
-use crate::terms::Terms;
+use crate::share_run::ShareRun;
 use cmb_dump::Dump;
 use cmb_dump_stream::{TextBuffer, TextMaker, keep_window};
 use cmb_engine::Windows;
@@ -21,12 +21,12 @@ use std::sync::Wait;
 
 /// The channel by which a share sends changes for the text, and by which their buffers go back to it.
 #[derive(Drop)]
-pub struct Inflow<T: Terms> {
+pub struct Inflow<T: ShareRun> {
     pub inlet: Inlet<T>,
     pub back: Producer<Vec<Changed>>,
 }
 
-impl<T: Terms> Model for Inflow<T> {
+impl<T: ShareRun> Model for Inflow<T> {
     ghost use Rattle.cmb_shares.specs.declared.message.Envelope.{Envelope};
 
     // That of the last message that came.
@@ -37,7 +37,7 @@ impl<T: Terms> Model for Inflow<T> {
 
 /// Makes the text of what the shares tell.
 #[derive(Drop)]
-pub(crate) struct Flow<'a, T: Terms, R> {
+pub(crate) struct Flow<'a, T: ShareRun, R> {
     pub rt: &'a R,
     pub windows: Windows,
     pub sources: Vec<Inflow<T>>,
@@ -47,7 +47,7 @@ pub(crate) struct Flow<'a, T: Terms, R> {
     pub room: Vec<Changed>,
 }
 
-impl<'a, T: Terms, R> Model for Flow<'a, T, R> {
+impl<'a, T: ShareRun, R> Model for Flow<'a, T, R> {
     ghost use Rattle.cmb_dump_stream.specs.Parts.{Made};
     ghost use Rattle.cmb_shares.specs.Inner.Flows.{IsFlow};
 
@@ -58,7 +58,7 @@ impl<'a, T: Terms, R> Model for Flow<'a, T, R> {
     ghost invariant = { λ f. IsFlow T.run f.windows f.sources.items f.dump };
 }
 
-impl<T: Terms> Inflow<T> {
+impl<T: ShareRun> Inflow<T> {
     // Adds what the share tells of a window to what earlier ones told.
     fn add<R: Wait>(
         &mut self,
@@ -83,7 +83,7 @@ impl<T: Terms> Inflow<T> {
 }
 
 // Puts together what all shares tell of a window, in place of what `all` had: a turn of the text's process.
-fn gather<T: Terms, R: Wait>(
+fn gather<T: ShareRun, R: Wait>(
     rt: &R,
     sources: &mut [Inflow<T>],
     from: u32,
@@ -105,7 +105,7 @@ fn gather<T: Terms, R: Wait>(
     Ok(())
 }
 
-impl<'a, T: Terms, R: Wait> TextMaker for Flow<'a, T, R> {
+impl<'a, T: ShareRun, R: Wait> TextMaker for Flow<'a, T, R> {
     ghost made = { λ f. f };
 
     // Goes on by a window.

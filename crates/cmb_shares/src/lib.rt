@@ -10,10 +10,10 @@ pub mod laws;
 mod merge;
 mod message;
 pub mod opening;
+mod share_run;
 mod simulator;
 mod station;
 mod stations;
-mod terms;
 pub mod text;
 
 pub use costs::costs_of;

@@ -5,7 +5,7 @@ ghost use Rattle.std.proofs.Props.{props};
 ghost use Rattle.cmb_shares.specs.Inner.Channels.{MayGo, greeting};
 ghost use Rattle.cmb_shares.specs.Inner.Messages.{IsMessage, rises_prop};
 
-use crate::terms::Terms;
+use crate::share_run::ShareRun;
 use cmb_words::Changed;
 use rtrb::Protocol;
 use std::alloc::Global;
@@ -23,14 +23,14 @@ pub struct Envelope {
 /// What a share sends to another one, or to the text, of a window of the run that `T` names. One without changes is a
 /// null message.
 #[derive(Drop)]
-pub struct Message<T: Terms> {
+pub struct Message<T: ShareRun> {
     pub envelope: Envelope,
     pub changes: Vec<Changed>,
-    terms: PhantomData<T>,
+    run: PhantomData<T>,
     ghost tells: { IsMessage T.run envelope changes.items } by { Prim.hlevel (props, rises_prop) },
 }
 
-impl<T: Terms> Message<T> {
+impl<T: ShareRun> Message<T> {
     /// A message of such changes.
     pub(crate) fn new(envelope: Envelope, changes: Vec<Changed>) -> Message<T>
         requires { IsMessage T.run envelope changes.items }
@@ -39,7 +39,7 @@ impl<T: Terms> Message<T> {
         Message {
             envelope,
             changes,
-            terms: PhantomData,
+            run: PhantomData,
         }
     }
 
@@ -58,11 +58,11 @@ impl<T: Terms> Message<T> {
 }
 
 /// The messages of a channel: each begins where the last one ended.
-pub struct InOrder<T: Terms> {
-    terms: PhantomData<T>,
+pub struct InOrder<T: ShareRun> {
+    run: PhantomData<T>,
 }
 
-impl<T: Terms> Protocol<Message<T>> for InOrder<T> {
+impl<T: ShareRun> Protocol<Message<T>> for InOrder<T> {
     ghost allows = { λ before message.
         MayGo T.run.windows (map (λ m. m.envelope) before) message.envelope };
 }

@@ -7,7 +7,7 @@ ghost use Rattle.cmb_shares.specs.Inner.Messages.{AreTold};
 ghost use Rattle.cmb_shares.specs.Inner.Runs.{IsTurn, Run, driven_by};
 ghost use Rattle.cmb_shares.specs.Inner.Simulators.{IsSimulator, IsToldAhead, is_fed, is_owned};
 
-use crate::terms::Terms;
+use crate::share_run::ShareRun;
 use cmb_engine::{ShareEngine, Windows};
 use cmb_words::Changed;
 use std::alloc::AllocError;
@@ -71,7 +71,7 @@ impl<'a> Simulator<'a> {
     }
 
     /// Where the next window ends.
-    pub(crate) fn next_end<T: Terms>(&self) -> u32
+    pub(crate) fn next_end<T: ShareRun>(&self) -> u32
         requires simulates { IsSimulator T.run self.now }
         requires open { self.now.engine.clock < T.run.windows.horizon }
         ensures { IsTurn T.run self.now.engine.clock result }
@@ -80,7 +80,7 @@ impl<'a> Simulator<'a> {
     }
 
     /// Says ahead which of the share's crossing flip-flops change in the next window, in place of what `told` had.
-    pub(crate) fn tell_ahead<T: Terms>(
+    pub(crate) fn tell_ahead<T: ShareRun>(
         &self,
         upto: u32,
         told: &mut Vec<Changed>,
@@ -94,7 +94,7 @@ impl<'a> Simulator<'a> {
 
     /// Goes on by the next window. `given` has what the share is given of it, and `changes` gets what it owns of what
     /// changed there, in place of what it had. Errors: memory was refused.
-    pub(crate) fn advance<T: Terms>(
+    pub(crate) fn advance<T: ShareRun>(
         self,
         upto: u32,
         given: &[Changed],

@@ -11,8 +11,8 @@ ghost use Rattle.cmb_shares.specs.Inner.Stations.{AreFed, AreHeard, AreHeardOf, 
 
 use crate::channel::{Inlet, Outlet};
 use crate::message::{Envelope, Message};
+use crate::share_run::ShareRun;
 use crate::simulator::{Simulator, feed_of};
-use crate::terms::Terms;
 use cmb_words::Changed;
 use rtrb::Consumer;
 use std::alloc::{AllocError, Global};
@@ -21,13 +21,13 @@ use std::sync::Wait;
 
 /// A channel to a share that drives these nets.
 #[derive(Drop)]
-pub struct Feed<'a, T: Terms> {
+pub struct Feed<'a, T: ShareRun> {
     pub outlet: Outlet<T>,
     pub reader: u32,
     pub driven: &'a [bool],
 }
 
-impl<'a, T: Terms> Model for Feed<'a, T> {
+impl<'a, T: ShareRun> Model for Feed<'a, T> {
     ghost use Rattle.std.specs.Prelude.{◌≡◌};
     ghost use Rattle.cmb_shares.specs.declared.message.Envelope.{Envelope};
     ghost use Rattle.cmb_shares.specs.Inner.Stations.{LeadsTo};
@@ -43,7 +43,7 @@ impl<'a, T: Terms> Model for Feed<'a, T> {
 /// A share's engine, the channels by which it receives changes of others' nets and sends those of its own, and the
 /// channel to the text, from which room comes back.
 #[derive(Drop)]
-pub struct Station<'a, T: Terms> {
+pub struct Station<'a, T: ShareRun> {
     pub alloc: Global,
     pub simulator: Simulator<'a>,
     pub inlets: Vec<Inlet<T>>,
@@ -52,7 +52,7 @@ pub struct Station<'a, T: Terms> {
     pub back: Consumer<Vec<Changed>>,
 }
 
-impl<'a, T: Terms> Model for Station<'a, T> {
+impl<'a, T: ShareRun> Model for Station<'a, T> {
     ghost use Rattle.cmb_shares.specs.Inner.Stations.{IsStation, Standing, senders_of};
 
     ghost Value = { Standing };
@@ -70,7 +70,7 @@ impl<'a, T: Terms> Model for Station<'a, T> {
         station.feeds.items station.text };
 }
 
-impl<'a, T: Terms> Feed<'a, T> {
+impl<'a, T: ShareRun> Feed<'a, T> {
     /// The channel to the share of a number, which drives these nets.
     pub(crate) fn new(outlet: Outlet<T>, reader: u32, driven: &'a [bool]) -> Feed<'a, T>
         requires reader { outlet.reader ≡ reader }
@@ -86,7 +86,7 @@ impl<'a, T: Terms> Feed<'a, T> {
     }
 
     // Tells the share of what was told ahead of a window. Says whether it did so.
-    fn tell<R: Wait>(
+    fn send_to<R: Wait>(
         &mut self,
         rt: &R,
         alloc: Global,
@@ -126,7 +126,7 @@ fn room_of(alloc: Global, back: &mut Consumer<Vec<Changed>>) -> Vec<Changed> {
 }
 
 // Tells all shares of what was told ahead of a window. Says whether it did so.
-fn tell_all<'a, T: Terms, R: Wait>(
+fn send_all<'a, T: ShareRun, R: Wait>(
     rt: &R,
     alloc: Global,
     simulator: &Simulator<'_>,
@@ -142,7 +142,7 @@ fn tell_all<'a, T: Terms, R: Wait>(
     ensures readers { result ≡ true → readers_of feeds.new ≡ readers_of feeds.old }
 {
     for place in 0..feeds.len() {
-        if !feeds[place].tell(rt, alloc, simulator, upto, told) {
+        if !feeds[place].send_to(rt, alloc, simulator, upto, told) {
             return false;
         }
     }
@@ -151,7 +151,7 @@ fn tell_all<'a, T: Terms, R: Wait>(
 
 // Takes what others tell of a window, in place of what `given` had. Says whether it did so. All were told before:
 // shares that take before they tell wait for one another.
-fn hear_all<'a, T: Terms, R: Wait>(
+fn receive_all<'a, T: ShareRun, R: Wait>(
     rt: &R,
     simulator: &Simulator<'_>,
     upto: u32,
@@ -180,7 +180,7 @@ fn hear_all<'a, T: Terms, R: Wait>(
 }
 
 // Tells other shares of a window, and takes what they tell of it. Says whether that was done.
-fn talk<'a, T: Terms, R: Wait>(
+fn talk<'a, T: ShareRun, R: Wait>(
     rt: &R,
     alloc: Global,
     simulator: &Simulator<'_>,
@@ -205,13 +205,13 @@ fn talk<'a, T: Terms, R: Wait>(
     let Ok(()) = simulator.tell_ahead::<T>(upto, told) else {
         return false;
     };
-    if !tell_all(rt, alloc, simulator, upto, told, feeds) {
+    if !send_all(rt, alloc, simulator, upto, told, feeds) {
         return false;
     }
-    hear_all(rt, simulator, upto, feeds, inlets, given)
+    receive_all(rt, simulator, upto, feeds, inlets, given)
 }
 
-impl<'a, T: Terms> Station<'a, T> {
+impl<'a, T: ShareRun> Station<'a, T> {
     /// The station of a share that made nothing yet. It hears of no share.
     pub(crate) fn new(
         alloc: Global,

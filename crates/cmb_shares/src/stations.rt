@@ -12,9 +12,9 @@ ghost use Rattle.cmb_shares.specs.Inner.Stations.{Standing};
 use crate::channel::channel;
 use crate::feeders::feeders_of;
 use crate::flow::Inflow;
+use crate::share_run::ShareRun;
 use crate::simulator::Simulator;
 use crate::station::{Feed, Station};
-use crate::terms::Terms;
 use cmb_design_model::Design;
 use cmb_engine::{ShareEngine, Windows};
 use cmb_graph_partition::Partition;
@@ -29,7 +29,7 @@ const ROOM: usize = 2;
 const AHEAD: usize = 16;
 
 // The station of the share of a number, of so many, and the channel by which it tells the text.
-fn station_of<'a, T: Terms>(
+fn station_of<'a, T: ShareRun>(
     alloc: Global,
     engine: ShareEngine<'a>,
     number: u32,
@@ -76,7 +76,7 @@ fn station_of<'a, T: Terms>(
 
 /// The stations of all shares, which hear of no share yet, and the channels by which they tell the text. Errors: memory
 /// was refused.
-pub(crate) fn stations_of<'a, T: Terms>(
+pub(crate) fn stations_of<'a, T: ShareRun>(
     alloc: Global,
     engines: Vec<ShareEngine<'a>>,
     owners: &'a [u32],
@@ -112,7 +112,7 @@ pub(crate) fn stations_of<'a, T: Terms>(
 }
 
 // Lays a channel from a share to another one, which drives these nets.
-fn connect<'a, T: Terms>(
+fn connect<'a, T: ShareRun>(
     alloc: Global,
     stations: &mut [Station<'a, T>],
     sender: usize,
@@ -140,7 +140,7 @@ fn connect<'a, T: Terms>(
 }
 
 // The same, where the first share feeds the second.
-fn connect_feeder<'a, T: Terms>(
+fn connect_feeder<'a, T: ShareRun>(
     alloc: Global,
     stations: &mut [Station<'a, T>],
     feeds: bool,
@@ -172,7 +172,7 @@ fn connect_feeder<'a, T: Terms>(
 }
 
 // Lays a channel to a share, which drives these nets, from each share that is marked as one that feeds it.
-fn connect_reader<'a, T: Terms>(
+fn connect_reader<'a, T: ShareRun>(
     alloc: Global,
     stations: &mut [Station<'a, T>],
     feeders: &[bool],
@@ -202,7 +202,7 @@ fn connect_reader<'a, T: Terms>(
 }
 
 /// Lays a channel from each share to each that it feeds, which makes a network of them. Errors: memory was refused.
-pub(crate) fn connect_all<'a, T: Terms>(
+pub(crate) fn connect_all<'a, T: ShareRun>(
     alloc: Global,
     design: &Design,
     partition: &'a Partition,

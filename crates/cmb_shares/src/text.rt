@@ -8,9 +8,9 @@ ghost use Rattle.cmb_dump_stream.specs.Streams.{IsWrittenTo};
 
 use crate::flow::Flow;
 use crate::opening::Shares;
+use crate::share_run::ShareRun;
 use crate::station::Station;
 use crate::stations::{connect_all, stations_of};
-use crate::terms::Terms;
 use cmb_design_model::Design;
 use cmb_dump_stream::{TextBuffer, first_text, write_rest};
 use cmb_engine::{ShareEngine, Windows};
@@ -24,7 +24,7 @@ use std::thread::{Scope, Threads};
 
 // Runs each share in a thread of its own, for whose end the scope waits. Where a thread is refused its channels are
 // dropped, so the run ends, as it does where memory is refused.
-fn start<'s, 'a: 's, E, T: Terms + Send + Sync + 's, R: Threads + Wait + Sync>(
+fn start<'s, 'a: 's, E, T: ShareRun + Send + Sync + 's, R: Threads + Wait + Sync>(
     rt: &'s R,
     scope: &Scope<'s, E>,
     stations: Vec<Station<'a, T>>,
@@ -42,7 +42,7 @@ fn start<'s, 'a: 's, E, T: Terms + Send + Sync + 's, R: Threads + Wait + Sync>(
 
 // Starts the shares in threads of a scope, and makes the text up to tick 1 while they are at work. The calling thread
 // then goes on with it.
-fn begin<'s, 'a: 's, E, T: Terms + Send + Sync + 's, R: Threads + Wait + Sync>(
+fn begin<'s, 'a: 's, E, T: ShareRun + Send + Sync + 's, R: Threads + Wait + Sync>(
     rt: &'a R,
     alloc: Global,
     scope: &Scope<'s, E>,
@@ -83,7 +83,7 @@ fn begin<'s, 'a: 's, E, T: Terms + Send + Sync + 's, R: Threads + Wait + Sync>(
 }
 
 // Writes the text of a run, by the calling thread, while its shares are at work in threads of a scope.
-fn write_run<'s, 'a: 's, E, T: Terms + Send + Sync + 's, R: Threads + Wait + Sync, S: Sink>(
+fn write_run<'s, 'a: 's, E, T: ShareRun + Send + Sync + 's, R: Threads + Wait + Sync, S: Sink>(
     rt: &'a R,
     alloc: Global,
     scope: &Scope<'s, E>,
@@ -106,7 +106,7 @@ fn write_run<'s, 'a: 's, E, T: Terms + Send + Sync + 's, R: Threads + Wait + Syn
 }
 
 // Writes the text of the run that T names, by the calling thread, in a scope for the threads of the shares.
-fn write_named<'a, T: Terms + Send + Sync, R: Threads + Wait + Sync, S: Sink>(
+fn write_named<'a, T: ShareRun + Send + Sync, R: Threads + Wait + Sync, S: Sink>(
     rt: &'a R,
     alloc: Global,
     design: &'a Design,

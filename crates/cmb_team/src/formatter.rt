@@ -6,16 +6,16 @@ ghost use Rattle.cmb_team.specs.Inner.Batches.{IsTold, clock_at, last_clock};
 
 use crate::batch::Batch;
 use crate::job::{Inlet, MadeText};
-use crate::terms::Terms;
+use crate::team_run::TeamRun;
 use cmb_dump::Dump;
-use cmb_dump_stream::tell_window;
+use cmb_dump_stream::format_window;
 use cmb_waiting::taken;
 use std::alloc::AllocError;
 use std::sync::Wait;
 
 /// Makes the text of the batches that come by a ring.
 #[derive(Drop)]
-pub(crate) struct Formatter<'a, T: Terms> {
+pub(crate) struct Formatter<'a, T: TeamRun> {
     dump: Dump<'a>,
     inlet: Inlet<'a, T>,
     ghost design: { dump.design ≡ T.design },
@@ -36,7 +36,11 @@ fn add(text: &mut Vec<u8>, dump: &mut Dump<'_>) -> Result<(), AllocError>
 }
 
 // Makes the text of a batch, in place of what `text` had. Errors: memory was refused, or the batch has no windows.
-fn tell(dump: &mut Dump<'_>, batch: &Batch<'_>, text: &mut Vec<u8>) -> Result<(), AllocError>
+fn format_batch(
+    dump: &mut Dump<'_>,
+    batch: &Batch<'_>,
+    text: &mut Vec<u8>,
+) -> Result<(), AllocError>
     requires { dump.old.design ≡ batch.now.design }
     ensures design { dump.new.design ≡ dump.old.design }
     ensures told { OnOk result (IsTold batch.now text.new.items) }
@@ -47,13 +51,13 @@ fn tell(dump: &mut Dump<'_>, batch: &Batch<'_>, text: &mut Vec<u8>) -> Result<()
     text.clear();
     dump.skip(batch.clock(0));
     for place in 0..batch.len() {
-        tell_window(dump, batch.changes(place), batch.clock(place + 1))?;
+        format_window(dump, batch.changes(place), batch.clock(place + 1))?;
         add(text, dump)?;
     }
     Ok(())
 }
 
-impl<'a, T: Terms> Formatter<'a, T> {
+impl<'a, T: TeamRun> Formatter<'a, T> {
     /// A formatter by a dump of a design, of the batches that come by a ring.
     pub(crate) fn new(dump: Dump<'a>, inlet: Inlet<'a, T>) -> Formatter<'a, T>
         requires { dump.design ≡ T.design }
@@ -64,14 +68,14 @@ impl<'a, T: Terms> Formatter<'a, T> {
     /// The next batch with its text. Errors: nobody passes batches on any more, memory was refused, or the batch has no
     /// windows.
     pub(crate) fn next<R: Wait>(&mut self, rt: &R) -> Result<MadeText<'a, T>, AllocError> {
-        let Some(mut parcel) = taken(rt, &mut self.inlet) else {
+        let Some(mut job) = taken(rt, &mut self.inlet) else {
             return Err(AllocError);
         };
-        let untold = &mut parcel;
-        match tell(&mut self.dump, &untold.batch, &mut untold.text) {
-            Ok(()) => Ok(MadeText { parcel }),
+        let untold = &mut job;
+        match format_batch(&mut self.dump, &untold.batch, &mut untold.text) {
+            Ok(()) => Ok(MadeText { job }),
             Err(error) => {
-                drop(parcel);
+                drop(job);
                 Err(error)
             }
         }

@@ -4,20 +4,20 @@ ghost use Rattle.std.specs.Prelude.{◌≡◌};
 ghost use Rattle.cmb_team.specs.Inner.Batches.{IsTold};
 
 use crate::batch::Batch;
-use crate::terms::Terms;
+use crate::team_run::TeamRun;
 use rtrb::{Consumer, Producer};
 use std::marker::PhantomData;
 
 /// A batch of the run that `T` names, and room for its text.
 #[derive(Drop)]
-pub struct Job<'a, T: Terms> {
+pub struct Job<'a, T: TeamRun> {
     pub batch: Batch<'a>,
     pub text: Vec<u8>,
-    terms: PhantomData<T>,
+    run: PhantomData<T>,
     ghost design: { batch.design ≡ T.design },
 }
 
-impl<'a, T: Terms> Job<'a, T> {
+impl<'a, T: TeamRun> Job<'a, T> {
     /// A batch, and room for its text.
     pub(crate) fn new(batch: Batch<'a>, text: Vec<u8>) -> Job<'a, T>
         requires { batch.design ≡ T.design }
@@ -26,16 +26,16 @@ impl<'a, T: Terms> Job<'a, T> {
         Job {
             batch,
             text,
-            terms: PhantomData,
+            run: PhantomData,
         }
     }
 }
 
 /// A batch whose text was made.
 #[derive(Drop)]
-pub struct MadeText<'a, T: Terms> {
-    pub parcel: Job<'a, T>,
-    ghost told: { IsTold parcel.batch parcel.text.items },
+pub struct MadeText<'a, T: TeamRun> {
+    pub job: Job<'a, T>,
+    ghost told: { IsTold job.batch job.text.items },
 }
 
 /// The end of a ring at which batches come.

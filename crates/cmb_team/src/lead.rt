@@ -4,7 +4,7 @@ ghost use Rattle.std.specs.Prelude.{◌≡◌, ◌<◌, IfOk, OnOk};
 ghost use Rattle.cmb_dump_stream.specs.Parts.{IsAtEndOf};
 
 use crate::job::{MadeText, Outlet};
-use crate::terms::Terms;
+use crate::team_run::TeamRun;
 use crate::texts::Texts;
 use cmb_dump_stream::{TextBuffer, TextMaker};
 use std::alloc::AllocError;
@@ -13,7 +13,7 @@ use std::sync::Wait;
 
 /// Takes the texts of batches, and gives the batches' room back.
 #[derive(Drop)]
-pub(crate) struct Lead<'a, T: Terms, R> {
+pub(crate) struct Lead<'a, T: TeamRun, R> {
     rt: &'a R,
     texts: Texts<'a, T>,
     back: Outlet<'a, T>,
@@ -21,7 +21,7 @@ pub(crate) struct Lead<'a, T: Terms, R> {
     clock: u32,
 }
 
-impl<'a, T: Terms, R> Model for Lead<'a, T, R> {
+impl<'a, T: TeamRun, R> Model for Lead<'a, T, R> {
     ghost use Rattle.cmb_dump_stream.specs.Parts.{Made};
 
     ghost Value = { Made };
@@ -29,7 +29,7 @@ impl<'a, T: Terms, R> Model for Lead<'a, T, R> {
     ghost view = { λ lead. record { design = T.design; clock = lead.clock } };
 }
 
-impl<'a, T: Terms, R: Wait> Lead<'a, T, R> {
+impl<'a, T: TeamRun, R: Wait> Lead<'a, T, R> {
     /// Goes on from a tick, by where texts come from and the ring on which batches go back.
     pub(crate) fn new(
         rt: &'a R,
@@ -56,23 +56,23 @@ impl<'a, T: Terms, R: Wait> Lead<'a, T, R> {
         ensures given { OnOk result (kept.new.given ≡ kept.old.given) }
         ensures later { OnOk result (kept.old.clock < kept.new.clock) }
     {
-        let MadeText { parcel, .. } = self.texts.next(self.rt)?;
-        let batch = &parcel.batch;
+        let MadeText { job, .. } = self.texts.next(self.rt)?;
+        let batch = &job.batch;
         if batch.clock(0) != kept.clock() {
-            drop(parcel);
+            drop(job);
             return Err(AllocError);
         }
         let upto = batch.clock(batch.len());
-        let grown = kept.grow(&parcel.text, upto);
+        let grown = kept.grow(&job.text, upto);
         // Where nobody takes it any more it is dropped.
-        drop(self.back.push(parcel));
+        drop(self.back.push(job));
         grown?;
         self.clock = upto;
         Ok(())
     }
 }
 
-impl<'a, T: Terms, R: Wait> TextMaker for Lead<'a, T, R> {
+impl<'a, T: TeamRun, R: Wait> TextMaker for Lead<'a, T, R> {
     ghost made = { λ lead. lead };
 
     // Goes on by a batch.

@@ -9,7 +9,7 @@ mod lead;
 mod maker;
 mod opening;
 mod ports;
-mod terms;
+mod team_run;
 pub mod text;
 mod texts;
 mod threads;

@@ -2,14 +2,14 @@
 
 ghost use Rattle.std.specs.Prelude.{◌≡◌, IfSome};
 
-use crate::terms::Terms;
+use crate::team_run::TeamRun;
 use crate::ways::Ways;
 use cmb_engine::Engine;
 use std::sync::Wait;
 
 /// The engine, and where batches come from and go.
 #[derive(Drop)]
-pub struct Maker<'a, T: Terms> {
+pub struct Maker<'a, T: TeamRun> {
     engine: Engine<'a>,
     horizon: u32,
     ways: Ways<'a, T>,
@@ -18,7 +18,7 @@ pub struct Maker<'a, T: Terms> {
 
 // The next batch, made and handed on. There is no engine any more where the horizon was reached, nobody gives batches
 // back or takes them, or memory was refused.
-fn step<'a, T: Terms, R: Wait>(
+fn step<'a, T: TeamRun, R: Wait>(
     rt: &R,
     ways: &mut Ways<'a, T>,
     engine: Engine<'a>,
@@ -27,15 +27,15 @@ fn step<'a, T: Terms, R: Wait>(
     requires { engine.design ≡ T.design }
     ensures { IfSome result (λ it. it.design ≡ T.design) }
 {
-    let Some(mut parcel) = ways.take(rt) else {
+    let Some(mut job) = ways.take(rt) else {
         drop(engine);
         return None;
     };
-    let Ok(engine) = parcel.batch.fill(engine) else {
-        drop(parcel);
+    let Ok(engine) = job.batch.fill(engine) else {
+        drop(job);
         return None;
     };
-    if ways.hand(rt, parcel) && engine.clock() < horizon {
+    if ways.hand(rt, job) && engine.clock() < horizon {
         Some(engine)
     } else {
         drop(engine);
@@ -43,7 +43,7 @@ fn step<'a, T: Terms, R: Wait>(
     }
 }
 
-impl<'a, T: Terms> Maker<'a, T> {
+impl<'a, T: TeamRun> Maker<'a, T> {
     /// An engine, and where batches come from and go.
     pub(crate) fn new(engine: Engine<'a>, horizon: u32, ways: Ways<'a, T>) -> Maker<'a, T>
         requires { engine.design ≡ T.design }

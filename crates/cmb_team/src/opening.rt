@@ -7,7 +7,7 @@ use crate::job::{Inlet, Outlet, TextInlet};
 use crate::lead::Lead;
 use crate::maker::Maker;
 use crate::ports::FormatterPorts;
-use crate::terms::Terms;
+use crate::team_run::TeamRun;
 use crate::texts::{Others, Texts};
 use crate::ways::Ways;
 use cmb_design_model::Design;
@@ -26,16 +26,16 @@ const MORE: usize = 4;
 
 /// What a run begins with: a maker and the ports of each formatter, for a thread each, and the calling thread's part.
 #[derive(Drop)]
-pub(crate) struct Opened<'a, T: Terms, R> {
+pub(crate) struct Opened<'a, T: TeamRun, R> {
     pub maker: Maker<'a, T>,
-    pub desks: Vec<FormatterPorts<'a, T>>,
+    pub formatters: Vec<FormatterPorts<'a, T>>,
     pub lead: Lead<'a, T, R>,
 }
 
 /// The ports of formatters, and the ends of rings.
 #[derive(Drop)]
-pub(crate) struct Rings<'a, T: Terms> {
-    desks: Vec<FormatterPorts<'a, T>>,
+pub(crate) struct Rings<'a, T: TeamRun> {
+    formatters: Vec<FormatterPorts<'a, T>>,
     /// To each formatter.
     outlets: Vec<Outlet<'a, T>>,
     /// To the calling thread, where it is the one formatter.
@@ -50,7 +50,7 @@ pub(crate) struct Rings<'a, T: Terms> {
 }
 
 // One more ring to a formatter.
-fn ring_to<'a, T: Terms>(
+fn ring_to<'a, T: TeamRun>(
     alloc: Global,
     outlets: &mut Vec<Outlet<'a, T>>,
 ) -> Result<Inlet<'a, T>, AllocError> {
@@ -59,21 +59,21 @@ fn ring_to<'a, T: Terms>(
     Ok(inlet)
 }
 
-impl<'a, T: Terms> Rings<'a, T> {
+impl<'a, T: TeamRun> Rings<'a, T> {
     // One more formatter between two rings.
-    fn add_desk(&mut self, alloc: Global, design: &'a Design) -> Result<(), AllocError>
+    fn add_formatter(&mut self, alloc: Global, design: &'a Design) -> Result<(), AllocError>
         requires { design.now ≡ T.design }
     {
         let inlet = ring_to(alloc, &mut self.outlets)?;
         let (outlet, text) = RingBuffer::new(alloc, ROOM)?;
         self.texts.push(text)?;
-        self.desks
+        self.formatters
             .push(FormatterPorts::new(alloc, design, inlet, outlet))?;
         Ok(())
     }
 
     // So many formatters, each between two rings; where there are none, a ring to the calling thread.
-    fn add_desks(
+    fn add_formatters(
         &mut self,
         alloc: Global,
         design: &'a Design,
@@ -85,7 +85,7 @@ impl<'a, T: Terms> Rings<'a, T> {
             self.own = Some(ring_to(alloc, &mut self.outlets)?);
         }
         for _desk in 0..count {
-            self.add_desk(alloc, design)?;
+            self.add_formatter(alloc, design)?;
         }
         Ok(())
     }
@@ -93,7 +93,7 @@ impl<'a, T: Terms> Rings<'a, T> {
 
 /// The ports of so many formatters, and the rings between them, the maker and the calling thread. Where there are none,
 /// the calling thread is the one formatter. Errors: memory was refused.
-pub(crate) fn open_rings<'a, T: Terms>(
+pub(crate) fn open_rings<'a, T: TeamRun>(
     alloc: Global,
     design: &'a Design,
     count: usize,
@@ -103,7 +103,7 @@ pub(crate) fn open_rings<'a, T: Terms>(
     let most = count.max(1).saturating_add(MORE);
     let (back, spent) = RingBuffer::new(alloc, most)?;
     let mut rings = Rings {
-        desks: Vec::new(alloc),
+        formatters: Vec::new(alloc),
         outlets: Vec::new(alloc),
         own: None,
         texts: Vec::new(alloc),
@@ -111,11 +111,11 @@ pub(crate) fn open_rings<'a, T: Terms>(
         spent,
         most,
     };
-    rings.add_desks(alloc, design, count).and(Ok(rings))
+    rings.add_formatters(alloc, design, count).and(Ok(rings))
 }
 
 /// What the run of the design begins with that `T` names, from where an engine and a dump are on.
-pub(crate) fn open_run<'a, T: Terms, R: Wait>(
+pub(crate) fn open_run<'a, T: TeamRun, R: Wait>(
     rt: &'a R,
     alloc: Global,
     design: &'a Design,
@@ -130,7 +130,7 @@ pub(crate) fn open_run<'a, T: Terms, R: Wait>(
     ensures clock { result.lead.clock ≡ engine.entry.clock }
 {
     let Rings {
-        desks,
+        formatters,
         outlets,
         own,
         texts,
@@ -152,7 +152,7 @@ pub(crate) fn open_run<'a, T: Terms, R: Wait>(
     let ways = Ways::new(alloc, design, most, spent, outlets);
     Opened {
         maker: Maker::new(engine, design.horizon(), ways),
-        desks,
+        formatters,
         lead: Lead::new(rt, clock, texts, back),
     }
 }

@@ -4,7 +4,7 @@ ghost use Rattle.std.specs.Prelude.{◌≡◌};
 
 use crate::formatter::Formatter;
 use crate::job::{Inlet, TextOutlet};
-use crate::terms::Terms;
+use crate::team_run::TeamRun;
 use cmb_design_model::Design;
 use cmb_dump::Dump;
 use cmb_waiting::handed;
@@ -13,7 +13,7 @@ use std::sync::Wait;
 
 /// A design, the ring on which a formatter's batches come and the one on which their texts go on.
 #[derive(Drop)]
-pub struct FormatterPorts<'a, T: Terms> {
+pub struct FormatterPorts<'a, T: TeamRun> {
     alloc: Global,
     design: &'a Design,
     inlet: Inlet<'a, T>,
@@ -21,7 +21,7 @@ pub struct FormatterPorts<'a, T: Terms> {
     ghost named: { design.now ≡ T.design },
 }
 
-impl<'a, T: Terms> FormatterPorts<'a, T> {
+impl<'a, T: TeamRun> FormatterPorts<'a, T> {
     /// A formatter's place between two rings.
     pub(crate) fn new(
         alloc: Global,
@@ -51,9 +51,9 @@ impl<'a, T: Terms> FormatterPorts<'a, T> {
             drop((inlet, outlet));
             return;
         };
-        let mut teller = Formatter::new(dump, inlet);
+        let mut formatter = Formatter::new(dump, inlet);
         for _ in rt.forever() {
-            let is_taken = match teller.next(rt) {
+            let is_taken = match formatter.next(rt) {
                 Ok(told) => handed(rt, &mut outlet, told),
                 Err(_) => false,
             };
@@ -61,6 +61,6 @@ impl<'a, T: Terms> FormatterPorts<'a, T> {
                 break;
             }
         }
-        drop((teller, outlet));
+        drop((formatter, outlet));
     }
 }

@@ -5,7 +5,7 @@ ghost use Rattle.cmb_dump_stream.specs.Parts.{IsAtEndOf, IsStream};
 ghost use Rattle.cmb_dump_stream.specs.Streams.{IsWrittenTo};
 
 use crate::opening::{Opened, open_rings, open_run};
-use crate::terms::Terms;
+use crate::team_run::TeamRun;
 use crate::threads::start;
 use cmb_design_model::Design;
 use cmb_dump_stream::{Stream, TextBuffer, TextMaker, write_rest, write_stream};
@@ -60,7 +60,7 @@ fn tellers_of(threads: u32) -> usize {
 }
 
 // Writes the rest of the text of the design that T names, by a team.
-fn write_named<'a, T: Terms + Send + Sync, R: Threads + Wait + Sync, S: Sink>(
+fn write_named<'a, T: TeamRun + Send + Sync, R: Threads + Wait + Sync, S: Sink>(
     rt: &'a R,
     alloc: Global,
     design: &'a Design,
@@ -81,7 +81,11 @@ fn write_named<'a, T: Terms + Send + Sync, R: Threads + Wait + Sync, S: Sink>(
         return Err(WriteFault::Memory);
     };
     let (engine, dump) = stream.into_parts();
-    let Opened { maker, desks, lead } = open_run(rt, alloc, design, engine, dump, rings);
+    let Opened {
+        maker,
+        formatters,
+        lead,
+    } = open_run(rt, alloc, design, engine, dump, rings);
     let (back, answer) = thread::scope(
         thread::scope_env(),
         rt,
@@ -92,7 +96,7 @@ fn write_named<'a, T: Terms + Send + Sync, R: Threads + Wait + Sync, S: Sink>(
             ensures name { result.0.ghost_name ≡ sink.entry.ghost_name }
             ensures told { IsWrittenTo S.Sink kept.entry.design sink.entry.now result.0.now result.1 }
         {
-            start(rt, scope, maker, desks);
+            start(rt, scope, maker, formatters);
             let answer = write_rest(lead, kept, sink);
             (sink, answer)
         },

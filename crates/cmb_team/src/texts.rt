@@ -2,7 +2,7 @@
 
 use crate::formatter::Formatter;
 use crate::job::{MadeText, TextInlet};
-use crate::terms::Terms;
+use crate::team_run::TeamRun;
 use crate::ways::next_turn;
 use cmb_waiting::taken;
 use std::alloc::AllocError;
@@ -10,32 +10,32 @@ use std::sync::Wait;
 
 /// Other formatters, one of each of whose texts comes in turn.
 #[derive(Drop)]
-pub(crate) struct Others<'a, T: Terms> {
+pub(crate) struct Others<'a, T: TeamRun> {
     inlets: Vec<TextInlet<'a, T>>,
     turn: usize,
 }
 
 /// Who makes the texts that the calling thread takes.
 #[derive(Drop)]
-pub(crate) enum Texts<'a, T: Terms> {
+pub(crate) enum Texts<'a, T: TeamRun> {
     /// The calling thread itself.
     Own(Formatter<'a, T>),
     /// Others in threads of their own.
     Others(Others<'a, T>),
 }
 
-impl<'a, T: Terms> Others<'a, T> {
+impl<'a, T: TeamRun> Others<'a, T> {
     /// The first text is that of the first ring.
     pub(crate) fn new(inlets: Vec<TextInlet<'a, T>>) -> Others<'a, T> {
         Others { inlets, turn: 0 }
     }
 }
 
-impl<'a, T: Terms> Texts<'a, T> {
+impl<'a, T: TeamRun> Texts<'a, T> {
     /// The next batch with its text. Errors: nobody passes it on, or memory was refused.
     pub(crate) fn next<R: Wait>(&mut self, rt: &R) -> Result<MadeText<'a, T>, AllocError> {
         match self {
-            Texts::Own(teller) => teller.next(rt),
+            Texts::Own(formatter) => formatter.next(rt),
             Texts::Others(others) => {
                 let turn = next_turn(&mut others.turn, others.inlets.len());
                 match others.inlets.get_mut(turn) {

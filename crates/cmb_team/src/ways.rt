@@ -4,7 +4,7 @@ ghost use Rattle.std.specs.Prelude.{◌≡◌};
 
 use crate::batch::Batch;
 use crate::job::{Inlet, Job, Outlet};
-use crate::terms::Terms;
+use crate::team_run::TeamRun;
 use cmb_design_model::Design;
 use cmb_waiting::{handed, taken};
 use std::alloc::Global;
@@ -13,7 +13,7 @@ use std::sync::Wait;
 /// Where batches are taken from to be made: first there are so many new ones, then those come back whose text was
 /// taken. Each goes to the next formatter.
 #[derive(Drop)]
-pub struct Ways<'a, T: Terms> {
+pub struct Ways<'a, T: TeamRun> {
     alloc: Global,
     design: &'a Design,
     fresh: usize,
@@ -31,7 +31,7 @@ pub(crate) fn next_turn(turn: &mut usize, count: usize) -> usize {
     now
 }
 
-impl<'a, T: Terms> Ways<'a, T> {
+impl<'a, T: TeamRun> Ways<'a, T> {
     /// So many new batches, those that come back, and a ring to each formatter.
     pub(crate) fn new(
         alloc: Global,
@@ -63,12 +63,12 @@ impl<'a, T: Terms> Ways<'a, T> {
     }
 
     /// Hands a batch to the next formatter. Says whether anybody is there to take it.
-    pub(crate) fn hand<R: Wait>(&mut self, rt: &R, parcel: Job<'a, T>) -> bool {
+    pub(crate) fn hand<R: Wait>(&mut self, rt: &R, job: Job<'a, T>) -> bool {
         let turn = next_turn(&mut self.turn, self.outlets.len());
         match self.outlets.get_mut(turn) {
-            Some(outlet) => handed(rt, outlet, parcel),
+            Some(outlet) => handed(rt, outlet, job),
             None => {
-                drop(parcel);
+                drop(job);
                 false
             }
         }

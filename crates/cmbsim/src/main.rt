@@ -6,8 +6,8 @@ ghost use Rattle.std.specs.Prelude.{◌≡◌};
 
 use cmb_cli::{LineFault, read_line};
 use cmb_host::{
-    Refusal, Times, help, kept, no_words, notes_of, on_terminal, open_tables, refuse, refuse_clock,
-    stats_of, status_of, tell, told_of,
+    Refusal, Times, help, kept, no_words, notes_of, on_terminal, open_tables, print_fault, refuse,
+    refuse_clock, stats_of, status_of, told_of,
 };
 use cmb_report::{Given, Piped, Timed, Watch, Watched};
 use cmb_sim::{Done, Fault, FromReader, Line, Task, ToWriter, carry_out};
@@ -44,13 +44,13 @@ fn told_at_end(
 fn times_of<K, E>(began: Option<Instant>, read: Option<Instant>, watch: &Watch<K, E>) -> Times
     ensures began { result.began ≡ began }
     ensures read { result.read ≡ read }
-    ensures tally { result.tally ≡ watch.now.tally }
+    ensures so_far { result.so_far ≡ watch.now.so_far }
     ensures writing { result.writing ≡ watch.now.writing }
 {
     Times {
         began,
         read,
-        tally: watch.tally,
+        so_far: watch.so_far,
         writing: watch.writing,
     }
 }
@@ -106,13 +106,13 @@ fn main(rt: HostRuntime) -> ExitCode {
     };
     let _program = args.next();
     let Ok(words) = args.collect::<Vec<String>>(rt.alloc()) else {
-        return tell(&rt, &Fault::Memory);
+        return print_fault(&rt, &Fault::Memory);
     };
     match read_line(rt.alloc(), words.as_slice(), on_terminal(&rt)) {
         Ok(line) => status_of(&rt, &line, do_line(&rt, &rt, &line)),
         Err(LineFault::Help) => help(&rt, words.as_slice()),
         Err(LineFault::Wrong) => refuse(&rt, words.as_slice()),
         Err(LineFault::Clock) => refuse_clock(&rt, words.as_slice()),
-        Err(LineFault::Memory) => tell(&rt, &Fault::Memory),
+        Err(LineFault::Memory) => print_fault(&rt, &Fault::Memory),
     }
 }

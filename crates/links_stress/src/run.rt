@@ -10,7 +10,7 @@ use crate::closing::{Rest, Room, close_all};
 use crate::ends::{In, Out};
 use crate::trouble::Trouble;
 use crate::watch::{Notes, Watch};
-use crate::worker::{Desk, Left, Nets, TURNS};
+use crate::worker::{Left, Nets, TURNS, WorkerPorts};
 use cmb_links::{Board, Link, PutPass, Seat, TakePass, Workers};
 use std::alloc::Global;
 use std::sync::Wait;
@@ -197,13 +197,13 @@ fn work<R: Wait>(
     let (nets, out, into) = ways_of(room, place);
     let Hand { seat, put, take } = hand;
     let told = nets.told;
-    let desk = Desk::new(
+    let ports = WorkerPorts::new(
         Watch::new(alloc, &room.board, circuit, seat, workers, place),
         nets,
         Out::new(out, put, told),
         In::new(into, take),
     );
-    desk.work(rt, alloc)
+    ports.work(rt, alloc)
 }
 
 // Runs the second worker in a thread of its own, and the seat that looks on in this one.

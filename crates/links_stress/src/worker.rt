@@ -45,7 +45,7 @@ pub struct Left {
 
 /// What a worker's thread is handed: its seat, and its ends of the two links.
 #[derive(Drop)]
-pub struct Desk<'a> {
+pub struct WorkerPorts<'a> {
     watch: Watch<'a>,
     nets: Nets,
     out: Out<'a>,
@@ -54,15 +54,15 @@ pub struct Desk<'a> {
     ghost takes: { into.pass.design ≡ watch.circuit.now.design },
 }
 
-impl<'a> Desk<'a> {
-    pub fn new(watch: Watch<'a>, nets: Nets, out: Out<'a>, into: In<'a>) -> Desk<'a>
+impl<'a> WorkerPorts<'a> {
+    pub fn new(watch: Watch<'a>, nets: Nets, out: Out<'a>, into: In<'a>) -> WorkerPorts<'a>
         requires puts { out.pass.design ≡ watch.circuit.now.design }
         requires takes { into.pass.design ≡ watch.circuit.now.design }
         ensures seat { result.watch.seat ≡ watch.entry.seat }
         ensures put { result.out.pass ≡ out.entry.pass }
         ensures take { result.into.pass ≡ into.entry.pass }
     {
-        Desk {
+        WorkerPorts {
             watch,
             nets,
             out,
@@ -77,7 +77,7 @@ impl<'a> Desk<'a> {
         ensures put { IfOk result (λ left. left.put.link ≡ self.entry.out.pass.link) }
         ensures take { IfOk result (λ left. left.take.link ≡ self.entry.into.pass.link) }
     {
-        let Desk {
+        let WorkerPorts {
             mut watch,
             nets,
             out,
@@ -130,7 +130,7 @@ fn note_tick(ticks: &mut Vec<u32>, tick: u32) -> Result<(), Trouble> {
     }
 }
 
-/// A worker at its desk.
+/// A worker at its ports.
 #[derive(Drop)]
 struct Worker<'a> {
     watch: Watch<'a>,

@@ -70,7 +70,8 @@ fn tell_first(
 ) -> Result<Option<u32>, AllocError>
     requires design { engine.now.design ≡ design.now }
     requires clock { engine.now.clock ≡ 1 }
-    requires exports { (net : ℕ) → Contains engine.now.exports net → IsCrossing engine.now.design (true ∷ false ∷ true ∷ []) net }
+    requires exports { (net : ℕ) → Contains engine.now.exports net
+        → IsCrossing engine.now.design (true ∷ false ∷ true ∷ []) net }
     requires horizon { design.now.horizon ≡ 100 }
 {
     let width = engine.width();
@@ -95,7 +96,8 @@ fn is_told_first(alloc: Global, design: &Design) -> Result<bool, AllocError>
 fn is_first_of(alloc: Global, design: &Design, engine: &ShareEngine<'_>) -> Result<bool, AllocError>
     requires design { engine.now.design ≡ design.now }
     requires clock { engine.now.clock ≡ 1 }
-    requires exports { (net : ℕ) → Contains engine.now.exports net → IsCrossing engine.now.design (true ∷ false ∷ true ∷ []) net }
+    requires exports { (net : ℕ) → Contains engine.now.exports net
+        → IsCrossing engine.now.design (true ∷ false ∷ true ∷ []) net }
     requires horizon { design.now.horizon ≡ 100 }
 {
     let mut told = Vec::new(alloc);

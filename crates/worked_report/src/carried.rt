@@ -2,7 +2,7 @@
 
 use cmb_cli::read_line;
 use cmb_report::{
-    Given, Recorded, Tally, Timed, Watch, Watched, done_words, fault_words, run_notes,
+    Given, Recorded, TextProgress, Timed, Watch, Watched, done_words, fault_words, run_notes,
 };
 use cmb_sim::{Done, Fault, FromBytes, Line, Room, carry_out};
 use std::alloc::{AllocError, Global};
@@ -32,7 +32,7 @@ pub struct Outcome {
     pub text: Vec<u8>,
     /// What was shown meanwhile.
     pub screen: Vec<u8>,
-    pub tally: Tally,
+    pub so_far: TextProgress,
     /// The time of the last read was noted.
     pub was_timed: bool,
 }
@@ -108,7 +108,7 @@ pub fn carried<R: AllocGlobal + Threads + Wait + Sync>(
         words,
         text: out.sink.bytes,
         screen: out.watch.screen,
-        tally: out.watch.tally,
+        so_far: out.watch.so_far,
         was_timed: initial.read.is_some(),
     })
 }

@@ -2,7 +2,7 @@
 
 use crate::carried::{Inputs, carried};
 use crate::checks::{holds, same};
-use cmb_report::{Stats, Tally, peak_of, processor_of, stats_text};
+use cmb_report::{Stats, TextProgress, peak_of, processor_of, stats_text};
 use std::test::Fail;
 use std::time::Duration;
 
@@ -21,7 +21,7 @@ fn watched_text(rt: HostRuntime) -> Result<(), Fail> {
     let plain = carried(&rt, &rt, "run --horizon 10", INVERTER)?;
     holds(&rt, plain.answer.is_ok());
     holds(&rt, plain.screen.is_empty());
-    same(&rt, plain.tally, Tally::new());
+    same(&rt, plain.so_far, TextProgress::new());
     for mode in ["plain", "rounds", "free"] {
         let line = format!(in rt.alloc(); "run --horizon 10 --stats --progress --mode {mode}")?;
         let told = carried(&rt, &rt, line.as_str(), INVERTER)?;
@@ -33,12 +33,12 @@ fn watched_text(rt: HostRuntime) -> Result<(), Fail> {
         );
         same(
             &rt,
-            (mode, told.tally.bytes),
+            (mode, told.so_far.bytes),
             (mode, plain.text.len() as u64),
         );
         same(
             &rt,
-            (mode, (told.tally.changes, told.tally.tick)),
+            (mode, (told.so_far.changes, told.so_far.tick)),
             (mode, (5, 10)),
         );
         holds(&rt, told.was_timed);
@@ -84,14 +84,18 @@ fn counts_and_empty_netlists(rt: HostRuntime) -> Result<(), Fail> {
 
 #[test]
 fn text_of_numbers(rt: HostRuntime) -> Result<(), Fail> {
-    let mut tally = Tally::new();
-    tally.add(b"#0\n$dumpvars\n0!\nx\"\n$end\n#1");
-    tally.add(b"2\n1!\n#4000\n");
-    same(&rt, (tally.bytes, tally.changes, tally.tick), (37, 3, 4000));
+    let mut so_far = TextProgress::new();
+    so_far.add(b"#0\n$dumpvars\n0!\nx\"\n$end\n#1");
+    so_far.add(b"2\n1!\n#4000\n");
+    same(
+        &rt,
+        (so_far.bytes, so_far.changes, so_far.tick),
+        (37, 3, 4000),
+    );
     let stats = Stats {
         nets: 2,
         ticks: 4000,
-        tally,
+        so_far,
         reading: Duration::from_millis(7),
         writing: Duration::from_millis(1020),
         whole: Duration::from_millis(4030),

@@ -141,7 +141,7 @@ fn text_with_scopes(rt: HostRuntime) -> Result<(), Fail> {
         $var wire 1 ! led [0] $end\n$scope module cpu $end\n$var wire 1 \" q $end\n$upscope $end\n\
         $upscope $end\n$enddefinitions $end\n#0\n$dumpvars\n1!\nx\"\n$end\n#1\n1\"\n#2\n";
     same(&rt, outcome.text.as_slice() == text.as_slice(), true);
-    same(&rt, (outcome.tally.tick, outcome.tally.changes), (2, 3));
+    same(&rt, (outcome.so_far.tick, outcome.so_far.changes), (2, 3));
     Ok(())
 }
 

@@ -6,7 +6,7 @@ use Rattle.cmb_graph_partition.specs.declared.families.Families.{Families}
 use Rattle.cmb_graph_partition.specs.declared.lists.Entry.{Entry}
 use Rattle.cmb_graph_partition.specs.declared.shares.Share.{Share}
 use Rattle.cmb_graph_partition.specs.declared.shares.Partition.{Partition}
-use Rattle.cmb_graph_partition.specs.declared.wiring.Wiring.{Wiring}
+use Rattle.cmb_graph_partition.specs.declared.reader_graph.ReaderGraph.{ReaderGraph}
 
 -- each net has an owner among the shares, and each share a mark for each net
 pub record IsShaped (netlist : Netlist) (partition : Partition) : Type 0 where
@@ -21,12 +21,12 @@ pub record IsShaped (netlist : Netlist) (partition : Partition) : Type 0 where
 abbrev pub AreWithin : ℕ → List Entry → Type 0
 AreWithin nets entries = All (λ (entry : Entry). (entry.place < nets) × (entry.item < nets)) entries
 
--- the wiring is of so many nets
-pub record IsWiring (nets : ℕ) (wiring : Wiring) : Type 0 where
+-- the graph is of so many nets
+pub record IsReaderGraph (nets : ℕ) (reader_graph : ReaderGraph) : Type 0 where
   pub few : nets ≤ 65535
-  pub numbers : length wiring.numbers.items ≡ nets
-  pub readers : All (λ net. net < nets) wiring.readers.items.items
-  pub members : All (λ net. net < nets) wiring.members.items.items
+  pub numbers : length reader_graph.numbers.items ≡ nets
+  pub readers : All (λ net. net < nets) reader_graph.readers.items.items
+  pub members : All (λ net. net < nets) reader_graph.members.items.items
 
 -- sinks are nets
 abbrev pub AreFamilies : Families → Type 0

@@ -1,6 +1,6 @@
 use Rattle.std.proofs.Common.{◌≡◌, ◌+◌, ◌<◌, ℕ, [], true, false, cond, take, get_or, length, ◌++◌, ◌∷◌, arith, sym, ◌∙◌, ap}
 use Rattle.std.proofs.lemmas.List.{take_all, take_more, length-take-le, get_or_read, append-nil}
-use Rattle.cmb_core_cluster.specs.declared.process.Rule.TheVariants.{Given}
+use Rattle.cmb_core_cluster.specs.declared.process.ProcessRule.TheVariants.{Given}
 use Rattle.cmb_core_cluster.specs.Rows.{Process, is_given}
 use Rattle.cmb_core_cluster.specs.Directory.{driven_among, given_among}
 use Rattle.cmb_core_cluster.proofs.OpeningFacts.{driven_more, given_more}

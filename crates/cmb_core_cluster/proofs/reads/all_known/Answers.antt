@@ -1,7 +1,7 @@
 use Rattle.std.proofs.Common.{◌≡◌, ◌<◌, Bool, [], length, get_or, arith, sym, ◌∙◌, not, ◌&&◌, eqb}
 use Rattle.std.proofs.lemmas.List.{get_or_read}
 use Rattle.cmb_wave.specs.Wave.{new_wave}
-use Rattle.cmb_core_cluster.specs.declared.process.Rule.TheVariants.{Given}
+use Rattle.cmb_core_cluster.specs.declared.process.ProcessRule.TheVariants.{Given}
 use Rattle.cmb_core_cluster.specs.Rows.{Process, is_given}
 use Rattle.cmb_core_cluster.proofs.ReadFacts.{known_more, known_less}
 use Rattle.cmb_core_cluster.proofs.reads.all_known.Goals as goal

@@ -3,6 +3,6 @@ use Rattle.cmb_graph_partition.proofs.classes.needed_by.Given as goal
 
 abbrev pub invariant-loop-parent : goal.invariant-loop-parent
 invariant-loop-parent l = record {
-  found : All (λ net. net < length l.marks.rounds.items) l.found.items;
-  marks : length l.marks.rounds.items ≡ length l.fn.marks.rounds.items;
+  found : All (λ net. net < length l.seen.rounds.items) l.found.items;
+  seen : length l.seen.rounds.items ≡ length l.fn.seen.rounds.items;
 }

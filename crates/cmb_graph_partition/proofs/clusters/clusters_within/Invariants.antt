@@ -7,5 +7,5 @@ invariant-loop-class l = record {
   forest : IsForest l.roots.items;
   long : length l.roots.items ≡ length l.classes.of_nets.items;
   weights : length l.weights.items ≡ length l.classes.of_nets.items;
-  marks : length l.marks.rounds.items ≡ length l.classes.of_nets.items;
+  seen : length l.seen.rounds.items ≡ length l.classes.of_nets.items;
 }

@@ -4,7 +4,7 @@ use Rattle.cmb_graph_partition.proofs.cones.cones_of.Given as goal
 
 abbrev pub invariant-loop-class : goal.invariant-loop-class
 invariant-loop-class l = record {
-  marks : length l.marks.rounds.items ≡ length l.roots;
+  seen : length l.seen.rounds.items ≡ length l.roots;
   places : All (λ (entry : Entry). entry.place < length l.roots) l.entries.items;
   items : All (λ (entry : Entry). entry.item < length l.classes.weights.items) l.entries.items;
 }

@@ -5,5 +5,5 @@ use Rattle.cmb_graph_partition.proofs.forest.weight_within.Given as goal
 abbrev pub invariant-loop-net : goal.invariant-loop-net
 invariant-loop-net l = record {
   forest : IsForest l.parents;
-  marks : length l.marks.rounds.items ≡ length l.parents;
+  seen : length l.seen.rounds.items ≡ length l.parents;
 }

@@ -1,5 +1,5 @@
 use Rattle.std.proofs.Common.{refl, ◌∙◌, ap, arith}
-use Rattle.cmb_report.specs.Tallies.{limited}
+use Rattle.cmb_report.specs.Progress.{limited}
 use Rattle.cmb_report.proofs.LineFacts.{run_lines}
 use Rattle.cmb_report.proofs.laws.tallies_go_by_lines.Goals as goal
 

@@ -4,13 +4,13 @@ use Rattle.cmb_links.specs.Seats.{new_seat, new_seats, terms}
 use Rattle.cmb_links.proofs.Seats.{next_seat}
 use Rattle.cmb_run_free.proofs.crew.add_workers.Goals as goal
 
-pub new-desk-requires-clause-seat : goal.new-desk-requires-clause-seat
-new-desk-requires-clause-seat g c =
+pub new-worker_seat-requires-clause-seat : goal.new-worker_seat-requires-clause-seat
+new-worker_seat-requires-clause-seat g c =
     let t = terms c.args.design.now c.args.clustering.now c.args.workers in
     let within : c.loop-number.number < c.args.workers = omega (arith, c.loop-number-test.true, c.count-number-end.ensures.count) in
     let is : c.remove-seat.result ≡ new_seat (arc_value c.args.board.now) t false c.loop-number.number =
     c.remove-seat.ensures.value ∙ next_seat (arc_value c.args.board.now) t c.loop-number.number c.remove-seat.result c.loop-number.seats.items c.loop-number.invariant within in
-    rw c.in_ok-shared.ensures (rw (sym c.requires.terms.design_is) (rw (sym c.requires.terms.clustering_is) is))
+    rw c.in_ok-shared.ensures (rw (sym c.requires.run.design_is) (rw (sym c.requires.run.clustering_is) is))
 
 pub remove-seat-requires : goal.remove-seat-requires
 remove-seat-requires g c =

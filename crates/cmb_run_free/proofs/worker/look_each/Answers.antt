@@ -9,7 +9,7 @@ loop-inlet-preserved-in_default g c =
     record {
       later = c.loop-inlet.invariant.later;
       goes = λ ins outs.
-          Goes-again g.T.Terms.design g.T.Terms.clustering (working c.args.cluster.now ins outs c.args.desk.now.seat.view) (working c.loop-inlet.cluster ins outs c.loop-inlet.desk.seat.view)
+          Goes-again g.T.ClusterRun.design g.T.ClusterRun.clustering (working c.args.cluster.now ins outs c.args.worker_seat.now.seat.view) (working c.loop-inlet.cluster ins outs c.loop-inlet.worker_seat.seat.view)
           (working c.loop-inlet.cluster ins outs c.look.new.self.seat.view) (c.loop-inlet.invariant.goes ins outs) (c.look.ensures.goes c.loop-inlet.cluster ins outs);
     }
 
@@ -18,7 +18,7 @@ loop-inlet-preserved-then-promise-inlet g c =
     record {
       later = c.loop-inlet.invariant.later;
       goes = λ ins outs.
-          Goes-again g.T.Terms.design g.T.Terms.clustering (working c.args.cluster.now ins outs c.args.desk.now.seat.view) (working c.loop-inlet.cluster ins outs c.loop-inlet.desk.seat.view)
+          Goes-again g.T.ClusterRun.design g.T.ClusterRun.clustering (working c.args.cluster.now ins outs c.args.worker_seat.now.seat.view) (working c.loop-inlet.cluster ins outs c.loop-inlet.worker_seat.seat.view)
           (working c.loop-inlet.cluster ins outs c.look.new.self.seat.view) (c.loop-inlet.invariant.goes ins outs) (c.look.ensures.goes c.loop-inlet.cluster ins outs);
     }
 
@@ -31,8 +31,8 @@ loop-inlet-preserved g c =
     record {
       later = IsLater-again c.args.cluster.now before now c.loop-inlet.invariant.later later;
       goes = λ ins outs.
-          Goes-again g.T.Terms.design g.T.Terms.clustering (working c.args.cluster.now ins outs c.args.desk.now.seat.view) (working before ins outs seat) (working now ins outs seat)
-          (Goes-again g.T.Terms.design g.T.Terms.clustering (working c.args.cluster.now ins outs c.args.desk.now.seat.view) (working before ins outs c.loop-inlet.desk.seat.view) (working before ins outs seat)
+          Goes-again g.T.ClusterRun.design g.T.ClusterRun.clustering (working c.args.cluster.now ins outs c.args.worker_seat.now.seat.view) (working before ins outs seat) (working now ins outs seat)
+          (Goes-again g.T.ClusterRun.design g.T.ClusterRun.clustering (working c.args.cluster.now ins outs c.args.worker_seat.now.seat.view) (working before ins outs c.loop-inlet.worker_seat.seat.view) (working before ins outs seat)
           (c.loop-inlet.invariant.goes ins outs) (c.look.ensures.goes before ins outs))
-          (hear_goes g.T.Terms.design g.T.Terms.clustering before now c.in-Some.promise seat c.in-Some.ensures.found c.hear-heard.ensures.waves ins outs);
+          (hear_goes g.T.ClusterRun.design g.T.ClusterRun.clustering before now c.in-Some.promise seat c.in-Some.ensures.found c.hear-heard.ensures.waves ins outs);
     }

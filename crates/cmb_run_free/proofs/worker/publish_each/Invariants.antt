@@ -5,4 +5,4 @@ use Rattle.cmb_run_free.specs.Inner.Turns.{Goes, working}
 use Rattle.cmb_run_free.proofs.worker.publish_each.Given as goal
 
 abbrev pub invariant-loop-own : goal.invariant-loop-own
-invariant-loop-own g l = (ins : List TakeData) (outs : List Outbound) → Goes g.T.Terms.design g.T.Terms.clustering (working l.cluster ins outs l.fn.desk.seat.view) (working l.cluster ins outs l.desk.seat.view)
+invariant-loop-own g l = (ins : List TakeData) (outs : List Outbound) → Goes g.T.ClusterRun.design g.T.ClusterRun.clustering (working l.cluster ins outs l.fn.worker_seat.seat.view) (working l.cluster ins outs l.worker_seat.seat.view)

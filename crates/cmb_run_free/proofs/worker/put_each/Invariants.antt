@@ -5,4 +5,4 @@ use Rattle.cmb_run_free.specs.Inner.Turns.{Goes, working}
 use Rattle.cmb_run_free.proofs.worker.put_each.Given as goal
 
 abbrev pub invariant-loop-out : goal.invariant-loop-out
-invariant-loop-out g l = (ins : List TakeData) (seat : View) → Goes g.T.Terms.design g.T.Terms.clustering (working l.cluster ins l.fn.outs seat) (working l.cluster ins l.outs seat)
+invariant-loop-out g l = (ins : List TakeData) (seat : View) → Goes g.T.ClusterRun.design g.T.ClusterRun.clustering (working l.cluster ins l.fn.outs seat) (working l.cluster ins l.outs seat)

@@ -8,5 +8,5 @@ abbrev pub invariant-loop-end : goal.invariant-loop-end
 invariant-loop-end g l = record {
   fed : All (IsFedBy l.cluster) l.ends;
   later : IsLater l.fn.cluster l.cluster;
-  goes : (outs : List Outbound) (seat : View) → Goes g.T.Terms.design g.T.Terms.clustering (working l.fn.cluster l.fn.ends outs seat) (working l.cluster l.ends outs seat);
+  goes : (outs : List Outbound) (seat : View) → Goes g.T.ClusterRun.design g.T.ClusterRun.clustering (working l.fn.cluster l.fn.ends outs seat) (working l.cluster l.ends outs seat);
 }

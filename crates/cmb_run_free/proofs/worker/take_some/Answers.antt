@@ -15,6 +15,6 @@ loop-preserved g c =
     record {
       fed = subst (IsFedBy now) (sym c.in-Some.ensures.some) (IsFedBy-given before now c.loop.end piece c.loop.invariant.fed later (omega (arith, is.met)));
       later = IsLater-again c.args.cluster.now before now c.loop.invariant.later later;
-      goes = InGoes-again g.T.Terms.design g.T.Terms.clustering c.args.cluster.now before now c.args.end.now c.loop.end c.take.new.self c.loop.invariant.goes
-          (deliver_goes g.T.Terms.design g.T.Terms.clustering before now c.loop.end c.take.new.self piece is c.in-Some.ensures.some);
+      goes = InGoes-again g.T.ClusterRun.design g.T.ClusterRun.clustering c.args.cluster.now before now c.args.end.now c.loop.end c.take.new.self c.loop.invariant.goes
+          (deliver_goes g.T.ClusterRun.design g.T.ClusterRun.clustering before now c.loop.end c.take.new.self piece is c.in-Some.ensures.some);
     }

@@ -6,5 +6,5 @@ abbrev pub invariant-loop : goal.invariant-loop
 invariant-loop g l = record {
   fed : IsFedBy l.cluster l.end;
   later : IsLater l.fn.cluster l.cluster;
-  goes : InGoes g.T.Terms.design g.T.Terms.clustering l.fn.cluster l.fn.end l.cluster l.end;
+  goes : InGoes g.T.ClusterRun.design g.T.ClusterRun.clustering l.fn.cluster l.fn.end l.cluster l.end;
 }

@@ -8,8 +8,8 @@ use Rattle.cmb_run_rounds.proofs.rounds.all_rounds.Given as goal
 -- that machine was complete
 abbrev pub invariant-loop-tick : goal.invariant-loop-tick
 invariant-loop-tick g l = record {
-  kept : AreHandsOf g.T.Terms.design g.T.Terms.clustering l.hands;
-  known : AreKnownTo g.T.Terms.design g.T.Terms.clustering l.tick l.hands;
-  least : (fewer : ℕ) → 0 < fewer → fewer ≤ l.tick → IsComplete g.T.Terms.design (clocks_of_rounds g.T.Terms.design g.T.Terms.clustering fewer) → ⊥;
-  at : AreAt g.T.Terms.design g.T.Terms.clustering (clocks_of_rounds g.T.Terms.design g.T.Terms.clustering l.tick) l.hands;
+  kept : AreHandsOf g.T.ClusterRun.design g.T.ClusterRun.clustering l.hands;
+  known : AreKnownTo g.T.ClusterRun.design g.T.ClusterRun.clustering l.tick l.hands;
+  least : (fewer : ℕ) → 0 < fewer → fewer ≤ l.tick → IsComplete g.T.ClusterRun.design (clocks_of_rounds g.T.ClusterRun.design g.T.ClusterRun.clustering fewer) → ⊥;
+  at : AreAt g.T.ClusterRun.design g.T.ClusterRun.clustering (clocks_of_rounds g.T.ClusterRun.design g.T.ClusterRun.clustering l.tick) l.hands;
 }

@@ -10,20 +10,20 @@ use Rattle.cmb_run_rounds.proofs.rounds.deal.Goals as goal
 
 pub loop-worker-preserved : goal.loop-worker-preserved
 loop-worker-preserved g c =
-    let new : c.in_ok-open.field-0.cluster.waves ≡ map new_wave (held_nets g.T.Terms.design g.T.Terms.clustering c.loop-worker.worker) =
+    let new : c.in_ok-open.field-0.cluster.waves ≡ map new_wave (held_nets g.T.ClusterRun.design g.T.ClusterRun.clustering c.loop-worker.worker) =
     c.in_ok-open.ensures.new ∙ ap (λ (d : Design). map new_wave (held_nets d c.args.clustering.now c.loop-worker.worker)) c.requires.design_is
-    ∙ ap (λ (k : Clustering). map new_wave (held_nets g.T.Terms.design k c.loop-worker.worker)) c.requires.clustering_is
+    ∙ ap (λ (k : Clustering). map new_wave (held_nets g.T.ClusterRun.design k c.loop-worker.worker)) c.requires.clustering_is
     in
-    rw c.in_ok-push.ensures.items (dealt_more g.T.Terms.design g.T.Terms.clustering c.loop-worker.worker c.loop-worker.hands.items c.in_ok-open.field-0 c.loop-worker.invariant c.in_ok-open.ensures.of new)
+    rw c.in_ok-push.ensures.items (dealt_more g.T.ClusterRun.design g.T.ClusterRun.clustering c.loop-worker.worker c.loop-worker.hands.items c.in_ok-open.field-0 c.loop-worker.invariant c.in_ok-open.ensures.of new)
 
 pub returns : goal.returns
 returns g c =
-    let netlist : IsNetlist g.T.Terms.design.netlist = subst IsNetlist (c.netlist.ensures ∙ ap (λ (d : Design). d.netlist) c.requires.design_is) c.len-nets.ensures.sound in
-    let lawful : IsClustering (nets_of g.T.Terms.design) g.T.Terms.clustering =
-    subst (λ (k : Clustering). IsClustering (nets_of g.T.Terms.design) k) c.requires.clustering_is (subst (λ (n : ℕ). IsClustering n c.args.clustering.now) (c.requires.nets ∙ ap nets_of c.requires.design_is) c.clusters-count.ensures.lawful)
+    let netlist : IsNetlist g.T.ClusterRun.design.netlist = subst IsNetlist (c.netlist.ensures ∙ ap (λ (d : Design). d.netlist) c.requires.design_is) c.len-nets.ensures.sound in
+    let lawful : IsClustering (nets_of g.T.ClusterRun.design) g.T.ClusterRun.clustering =
+    subst (λ (k : Clustering). IsClustering (nets_of g.T.ClusterRun.design) k) c.requires.clustering_is (subst (λ (n : ℕ). IsClustering n c.args.clustering.now) (c.requires.nets ∙ ap nets_of c.requires.design_is) c.clusters-count.ensures.lawful)
     in
-    let clusters : c.args.clustering.now.clusters ≡ g.T.Terms.clustering.clusters = ap (λ (k : Clustering). k.clusters) c.requires.clustering_is in
-    let dealt = dealt_hands g.T.Terms.design g.T.Terms.clustering c.loop-worker.worker c.loop-worker.hands.items netlist lawful c.loop-worker.invariant
+    let clusters : c.args.clustering.now.clusters ≡ g.T.ClusterRun.clustering.clusters = ap (λ (k : Clustering). k.clusters) c.requires.clustering_is in
+    let dealt = dealt_hands g.T.ClusterRun.design g.T.ClusterRun.clustering c.loop-worker.worker c.loop-worker.hands.items netlist lawful c.loop-worker.invariant
     (omega (arith, c.loop-worker-test.false, c.loop-worker.auto.worker-end, c.clusters-count.ensures.count, clusters))
     in
     record { of = dealt.0; new = dealt.1 }

@@ -11,7 +11,7 @@ use Rattle.cmb_run_rounds.proofs.rounds.pass_net.Goals.{After-drop-new-inside}
 
 pub returns-in_default-clause-passed : goal.returns-in_default-clause-passed
 returns-in_default-clause-passed g c =
-    absurd (c.in_default.not-Some _ (c.in_clock.ensures ∙ told_any g.T.Terms.design g.T.Terms.clustering c.args.hands.now c.requires.hands c.args.reader c.args.net c.requires.reader c.requires.reads c.index-hands-reader.result))
+    absurd (c.in_default.not-Some _ (c.in_clock.ensures ∙ told_any g.T.ClusterRun.design g.T.ClusterRun.clustering c.args.hands.now c.requires.hands c.args.reader c.args.net c.requires.reader c.requires.reads c.index-hands-reader.result))
 
 -- a cluster that knows a net up to where a piece of it begins may be given the piece
 may_take : (s : Cluster) (waves : List Wave) (net known : ℕ) (piece : Piece) → told_at (λ wave. wave.clock) s net (input_slot s net) ≡ Some known → piece ≡ cut_of (wave_at waves net) known
@@ -27,28 +27,28 @@ may_take s waves net known piece told is =
 pub deliver-requires-clause-read : goal.deliver-requires-clause-read
 deliver-requires-clause-read g c =
     let known : Some c.in-Some.known ≡ Some (known_to c.args.hands.now c.args.reader c.args.net) =
-    sym c.in-Some.is ∙ c.in_clock.ensures ∙ told_any g.T.Terms.design g.T.Terms.clustering c.args.hands.now c.requires.hands c.args.reader c.args.net c.requires.reader c.requires.reads c.index-hands-reader.result
+    sym c.in-Some.is ∙ c.in_clock.ensures ∙ told_any g.T.ClusterRun.design g.T.ClusterRun.clustering c.args.hands.now c.requires.hands c.args.reader c.args.net c.requires.reader c.requires.reads c.index-hands-reader.result
     in
     (may_take (get_or c.args.hands.now c.args.reader c.index-hands-reader-in-Some-2.result).cluster (get_or c.args.hands.now c.args.home c.index-hands-home.result).cluster.waves c.args.net c.in-Some.known c.in-Some-2.new
-    (told_any g.T.Terms.design g.T.Terms.clustering c.args.hands.now c.requires.hands c.args.reader c.args.net c.requires.reader c.requires.reads c.index-hands-reader-in-Some-2.result ∙ sym known)
+    (told_any g.T.ClusterRun.design g.T.ClusterRun.clustering c.args.hands.now c.requires.hands c.args.reader c.args.net c.requires.reader c.requires.reads c.index-hands-reader-in-Some-2.result ∙ sym known)
     (rw c.in-Some-2.is at c.in_ok-new.ensures.cut)).0
 
 pub deliver-requires-clause-joined : goal.deliver-requires-clause-joined
 deliver-requires-clause-joined g c =
     let known : Some c.in-Some.known ≡ Some (known_to c.args.hands.now c.args.reader c.args.net) =
-    sym c.in-Some.is ∙ c.in_clock.ensures ∙ told_any g.T.Terms.design g.T.Terms.clustering c.args.hands.now c.requires.hands c.args.reader c.args.net c.requires.reader c.requires.reads c.index-hands-reader.result
+    sym c.in-Some.is ∙ c.in_clock.ensures ∙ told_any g.T.ClusterRun.design g.T.ClusterRun.clustering c.args.hands.now c.requires.hands c.args.reader c.args.net c.requires.reader c.requires.reads c.index-hands-reader.result
     in
     (may_take (get_or c.args.hands.now c.args.reader c.index-hands-reader-in-Some-2.result).cluster (get_or c.args.hands.now c.args.home c.index-hands-home.result).cluster.waves c.args.net c.in-Some.known c.in-Some-2.new
-    (told_any g.T.Terms.design g.T.Terms.clustering c.args.hands.now c.requires.hands c.args.reader c.args.net c.requires.reader c.requires.reads c.index-hands-reader-in-Some-2.result ∙ sym known)
+    (told_any g.T.ClusterRun.design g.T.ClusterRun.clustering c.args.hands.now c.requires.hands c.args.reader c.args.net c.requires.reader c.requires.reads c.index-hands-reader-in-Some-2.result ∙ sym known)
     (rw c.in-Some-2.is at c.in_ok-new.ensures.cut)).1
 
 -- the worker took what is new
-both : (g : _) (c : After-drop-new-inside g) → OnOk c.deliver.result (AreHandsOf g.T.Terms.design g.T.Terms.clustering (set c.args.hands.now c.args.reader c.deliver.new.self) × IsPassedOn g.T.Terms.clustering c.args.reader c.args.net c.args.hands.now (set c.args.hands.now c.args.reader c.deliver.new.self))
+both : (g : _) (c : After-drop-new-inside g) → OnOk c.deliver.result (AreHandsOf g.T.ClusterRun.design g.T.ClusterRun.clustering (set c.args.hands.now c.args.reader c.deliver.new.self) × IsPassedOn g.T.ClusterRun.clustering c.args.reader c.args.net c.args.hands.now (set c.args.hands.now c.args.reader c.deliver.new.self))
 both g c =
     let known : Some c.in-Some.known ≡ Some (known_to c.args.hands.now c.args.reader c.args.net) =
-    sym c.in-Some.is ∙ c.in_clock.ensures ∙ told_any g.T.Terms.design g.T.Terms.clustering c.args.hands.now c.requires.hands c.args.reader c.args.net c.requires.reader c.requires.reads c.index-hands-reader.result
+    sym c.in-Some.is ∙ c.in_clock.ensures ∙ told_any g.T.ClusterRun.design g.T.ClusterRun.clustering c.args.hands.now c.requires.hands c.args.reader c.args.net c.requires.reader c.requires.reads c.index-hands-reader.result
     in
-    read_taken g.T.Terms.design g.T.Terms.clustering c.args.hands.now c.requires.hands c.args.reader c.args.net c.requires.reader c.requires.reads
+    read_taken g.T.ClusterRun.design g.T.ClusterRun.clustering c.args.hands.now c.requires.hands c.args.reader c.args.net c.requires.reader c.requires.reads
     c.args.home c.requires.home c.index-hands-reader-in-Some-2.result c.index-hands-home.result c.in-Some.known known c.in_ok-new.field-0
     c.in_ok-new.ensures.new c.in_ok-new.ensures.cut c.in-Some-2.new c.in-Some-2.is c.deliver.new.self c.deliver.ensures.same c.deliver.result c.deliver.ensures.passed
 
@@ -61,7 +61,7 @@ returns-in-Some-2-clause-passed g c = on_ok_weaker c.deliver.result (λ b. b.1) 
 pub returns-in-None-clause-passed : goal.returns-in-None-clause-passed
 returns-in-None-clause-passed g c =
     let known : Some c.in-Some.known ≡ Some (known_to c.args.hands.now c.args.reader c.args.net) =
-    sym c.in-Some.is ∙ c.in_clock.ensures ∙ told_any g.T.Terms.design g.T.Terms.clustering c.args.hands.now c.requires.hands c.args.reader c.args.net c.requires.reader c.requires.reads c.index-hands-reader.result
+    sym c.in-Some.is ∙ c.in_clock.ensures ∙ told_any g.T.ClusterRun.design g.T.ClusterRun.clustering c.args.hands.now c.requires.hands c.args.reader c.args.net c.requires.reader c.requires.reads c.index-hands-reader.result
     in
-    read_nothing g.T.Terms.design g.T.Terms.clustering c.args.hands.now c.requires.hands c.args.reader c.args.net c.requires.reader c.requires.reads
+    read_nothing g.T.ClusterRun.design g.T.ClusterRun.clustering c.args.hands.now c.requires.hands c.args.reader c.args.net c.requires.reader c.requires.reads
     c.args.home c.requires.home c.index-hands-reader.result c.index-hands-home.result c.in-Some.known known c.in_ok-new.field-0 c.in_ok-new.ensures.new c.in-None.is

@@ -11,8 +11,8 @@ taken_back count new old long = take-append-le count new (drop (length new) old)
 
 pub returns-clause-complete : goal.returns-clause-complete
 returns-clause-complete g c =
-    let P : Collector → Type 0 = λ k. (net : ℕ) → net < nets_of g.T.Terms.design → g.T.Terms.design.horizon ≤ (wave_of k.waves net).clock in
-    complete_at g.T.Terms.design c.into_collector.result c.into_collector.ensures.exact (subst P (sym c.into_collector.ensures.collector) c.hand_over_all.ensures)
+    let P : Collector → Type 0 = λ k. (net : ℕ) → net < nets_of g.T.ClusterRun.design → g.T.ClusterRun.design.horizon ≤ (wave_of k.waves net).clock in
+    complete_at g.T.ClusterRun.design c.into_collector.result c.into_collector.ensures.exact (subst P (sym c.into_collector.ensures.collector) c.hand_over_all.ensures)
 
 pub returns-clause-exact : goal.returns-clause-exact
 returns-clause-exact g c = rw c.requires.design_is c.into_collector.ensures.exact

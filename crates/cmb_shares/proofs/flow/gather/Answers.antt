@@ -13,13 +13,13 @@ pub loop-place-init : goal.loop-place-init
 loop-place-init g c = record {
   len = refl;
   at = written-none _ _ c.args.sources.now c.requires.sources;
-  made = subst (λ (l : List Changed). AreMade g.T.Terms.run 0 c.args.from c.args.upto l) (sym c.clear.ensures.items) (made-none g.T.Terms.run c.args.from c.args.upto);
+  made = subst (λ (l : List Changed). AreMade g.T.ShareRun.run 0 c.args.from c.args.upto l) (sym c.clear.ensures.items) (made-none g.T.ShareRun.run c.args.from c.args.upto);
 }
 
 pub loop-place-preserved : goal.loop-place-preserved
 loop-place-preserved g c =
     let was = c.loop-place.invariant in
-    let run = g.T.Terms.run in
+    let run = g.T.ShareRun.run in
     let sources = c.loop-place.sources in
     let place = c.loop-place.place in
     let next : Envelope = c.add.new.self in
@@ -44,5 +44,5 @@ pub returns-clause-turns : goal.returns-clause-turns
 returns-clause-turns g c =
     let was = c.loop-place.invariant in
     let sources = c.loop-place.sources in
-    text-turns g.T.Terms.run c.args.sources.now sources c.args.from c.args.upto c.requires.turn.early was.len c.requires.sources
+    text-turns g.T.ShareRun.run c.args.sources.now sources c.args.from c.args.upto c.requires.turn.early was.len c.requires.sources
     (written-all _ _ sources c.loop-place.place (omega (arith, c.loop-place-test.false, was.len)) was.at) c.requires.turn.end

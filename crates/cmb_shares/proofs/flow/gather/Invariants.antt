@@ -6,6 +6,6 @@ use Rattle.cmb_shares.proofs.flow.gather.Given as goal
 abbrev pub invariant-loop-place : goal.invariant-loop-place
 invariant-loop-place g l = record {
   len : length l.sources ≡ length l.fn.sources;
-  at : AreWritten (λ k e. (e.sender ≡ k) × (e.reader ≡ length g.T.Terms.run.driven) × (e.upto ≡ l.upto)) (λ k e. (e.sender ≡ k) × (e.reader ≡ length g.T.Terms.run.driven) × (e.upto ≡ l.from)) l.place l.sources;
-  made : AreMade g.T.Terms.run l.place l.from l.upto l.all.items;
+  at : AreWritten (λ k e. (e.sender ≡ k) × (e.reader ≡ length g.T.ShareRun.run.driven) × (e.upto ≡ l.upto)) (λ k e. (e.sender ≡ k) × (e.reader ≡ length g.T.ShareRun.run.driven) × (e.upto ≡ l.from)) l.place l.sources;
+  made : AreMade g.T.ShareRun.run l.place l.from l.upto l.all.items;
 }

@@ -17,7 +17,7 @@ returns-clause-joined g c =
     let fed = c.in_ok-add_feed.ensures in
     let told = c.in_ok-outlet.ensures in
     on_ok_weaker c.add_inlet.result
-    (λ inlets. join-more (length g.T.Terms.run.driven) old sender reader one other d e c.requires.sender c.requires.reader
+    (λ inlets. join-more (length g.T.ShareRun.run.driven) old sender reader one other d e c.requires.sender c.requires.reader
     (fed.feeds ∙ ap (λ (m : Envelope). (get_or old sender d).feeds ++ m ∷ []) (c.new.ensures ∙ told.outlet)) fed.inlets fed.text
     c.add_inlet.ensures.feeds (inlets ∙ ap (λ (m : Envelope). (get_or (set old sender one) reader e).inlets ++ m ∷ []) told.inlet) c.add_inlet.ensures.text)
     c.add_inlet.ensures.inlets

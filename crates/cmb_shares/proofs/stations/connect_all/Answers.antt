@@ -16,7 +16,7 @@ use Rattle.cmb_shares.proofs.stations.connect_all.Goals as goal
 
 pub feeders_of-requires-clause-driven : goal.feeders_of-requires-clause-driven
 feeders_of-requires-clause-driven g c =
-    let run = g.T.Terms.run in
+    let run = g.T.ShareRun.run in
     let shares = c.args.partition.now.shares.items in
     let s : Share = c.index.result.now in
     let reader = c.loop-reader.reader in
@@ -30,7 +30,7 @@ feeders_of-requires-clause-driven g c =
 
 pub loop-reader-preserved : goal.loop-reader-preserved
 loop-reader-preserved g c =
-    let run = g.T.Terms.run in
+    let run = g.T.ShareRun.run in
     let was = c.loop-reader.invariant in
     let went = c.in_ok-connect_reader.ensures in
     let reader = c.loop-reader.reader in
@@ -71,5 +71,5 @@ pub returns-clause-members : goal.returns-clause-members
 returns-clause-members g c =
     let was = c.loop-reader.invariant in
     let lawful = c.requires.lawful in
-    are-members g.T.Terms.run c.loop-reader.stations lawful.each (omega (arith, c.horizon-horizon.ensures.value, c.horizon-horizon.ensures, lawful.horizon, ap (λ (x : Design). x.horizon) c.requires.design)) (was.len ∙ c.requires.count) was.joined
+    are-members g.T.ShareRun.run c.loop-reader.stations lawful.each (omega (arith, c.horizon-horizon.ensures.value, c.horizon-horizon.ensures, lawful.horizon, ap (λ (x : Design). x.horizon) c.requires.design)) (was.len ∙ c.requires.count) was.joined
     was.stations

@@ -7,6 +7,6 @@ abbrev pub invariant-loop-reader : goal.invariant-loop-reader
 invariant-loop-reader g l = record {
   len : length l.stations ≡ length l.fn.stations;
   stations : AreStations l.stations;
-  joined : AreJoined (length g.T.Terms.run.driven) l.stations;
-  covered : AreCovered g.T.Terms.run l.reader l.stations;
+  joined : AreJoined (length g.T.ShareRun.run.driven) l.stations;
+  covered : AreCovered g.T.ShareRun.run l.reader l.stations;
 }

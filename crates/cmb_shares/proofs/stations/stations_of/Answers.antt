@@ -14,7 +14,7 @@ use Rattle.cmb_shares.proofs.stations.stations_of.Goals as goal
 
 pub station_of-requires-clause-engine : goal.station_of-requires-clause-engine
 station_of-requires-clause-engine g c =
-    let run = g.T.Terms.run in
+    let run = g.T.ShareRun.run in
     let was = c.loop-number.invariant in
     let engine : ShareEngine = c.remove-engine.result in
     let engines = c.loop-number.engines.items in
@@ -24,7 +24,7 @@ station_of-requires-clause-engine g c =
 
 pub loop-number-preserved : goal.loop-number-preserved
 loop-number-preserved g c =
-    let run = g.T.Terms.run in
+    let run = g.T.ShareRun.run in
     let was = c.loop-number.invariant in
     let engines = c.loop-number.engines.items in
     let some : 0 < length engines = omega (arith, was.rest, c.loop-number-test.true) in

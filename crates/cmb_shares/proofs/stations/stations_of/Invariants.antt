@@ -7,13 +7,13 @@ use Rattle.cmb_shares.proofs.stations.stations_of.Given as goal
 
 abbrev pub invariant-loop-number : goal.invariant-loop-number
 invariant-loop-number g l = record {
-  shares : l.shares ≡ length g.T.Terms.run.driven;
+  shares : l.shares ≡ length g.T.ShareRun.run.driven;
   rest : length l.engines.items + l.number ≡ l.shares;
-  each : AreEngines g.T.Terms.run l.number l.engines.items;
-  short : (k : ℕ) (d : ShareEngine) → k < length l.engines.items → g.T.Terms.run.windows.width ≤ (get_or l.engines.items k d).width;
+  each : AreEngines g.T.ShareRun.run l.number l.engines.items;
+  short : (k : ℕ) (d : ShareEngine) → k < length l.engines.items → g.T.ShareRun.run.windows.width ≤ (get_or l.engines.items k d).width;
   count : length l.stations.items ≡ l.number;
   stations : AreStations l.stations.items;
-  lone : AreLone (length g.T.Terms.run.driven) l.stations.items;
+  lone : AreLone (length g.T.ShareRun.run.driven) l.stations.items;
   told : length l.sources.items ≡ l.number;
-  sources : AreSources g.T.Terms.run 1 l.sources.items;
+  sources : AreSources g.T.ShareRun.run 1 l.sources.items;
 }

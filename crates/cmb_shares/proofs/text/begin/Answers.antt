@@ -6,7 +6,7 @@ use Rattle.cmb_shares.proofs.text.begin.Goals as goal
 
 pub start-requires-after_bounds : goal.start-requires-after_bounds
 start-requires-after_bounds g c κs within =
-    let run = g.T.Terms.run in
+    let run = g.T.ShareRun.run in
     let was = c.in-Ok.stations in
     let next : List Standing = c.connect_all.new.stations in
     let went = c.in-Ok-connect_all.ensures in

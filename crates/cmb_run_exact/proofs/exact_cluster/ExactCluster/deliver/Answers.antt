@@ -12,8 +12,8 @@ returns-clause-taken g c = search rules
 
 pub returns-clause-passed : goal.returns-clause-passed
 returns-clause-passed g c = λ there from to.
-    let all : AllByRecursion (IsExactWaveIn g.T.Terms.design) c.args.self.now.waves = subst (λ (s : Cluster). AllByRecursion (IsExactWaveIn g.T.Terms.design) s.waves) c.self.view_is c.self.invariant.waves in
-    let is = delivers_exact g.T.Terms.design c.args.self.now c.args.posted.now all (subst (IsExactIn g.T.Terms.design) c.piece.ensures.piece c.piece.ensures.exact) there from to in
+    let all : AllByRecursion (IsExactWaveIn g.T.ClusterRun.design) c.args.self.now.waves = subst (λ (s : Cluster). AllByRecursion (IsExactWaveIn g.T.ClusterRun.design) s.waves) c.self.view_is c.self.invariant.waves in
+    let is = delivers_exact g.T.ClusterRun.design c.args.self.now c.args.posted.now all (subst (IsExactIn g.T.ClusterRun.design) c.piece.ensures.piece c.piece.ensures.exact) there from to in
     on_ok_weaker c.match-deliver.result (λ put. passes c.args.self.now c.args.posted.now there c.deliver.new.self.waves put) (returns-clause-taken g c _ is)
 
 pub returns-clause-refused : goal.returns-clause-refused

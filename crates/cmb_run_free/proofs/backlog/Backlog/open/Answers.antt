@@ -8,4 +8,4 @@ use Rattle.cmb_run_free.proofs.backlog.Backlog.open.Goals as goal
 pub invariant_of-result : goal.invariant_of-result
 invariant_of-result g c =
     rw c.in_ok-collector.ensures
-    (subst (λ (design : Design). IsExactFrom g.T.Terms.design 0 (record { waves = new_waves (nets_of design); horizon = design.horizon })) (sym c.requires) (whole_from g.T.Terms.design 0 _ (new_exact g.T.Terms.design)))
+    (subst (λ (design : Design). IsExactFrom g.T.ClusterRun.design 0 (record { waves = new_waves (nets_of design); horizon = design.horizon })) (sym c.requires) (whole_from g.T.ClusterRun.design 0 _ (new_exact g.T.ClusterRun.design)))

@@ -19,10 +19,10 @@ left_has Has all left taken one each count is at =
 pub add_workers-requires : goal.add_workers-requires
 add_workers-requires g c =
     let opened = c.in_ok-board.ensures in
-    record { terms = c.requires.terms; each = c.requires.each; seats = opened.seats; count = opened.count }
+    record { run = c.requires.run; each = c.requires.each; seats = opened.seats; count = opened.count }
 
 pub connect-requires : goal.connect-requires
-connect-requires g c = record { design = c.requires.terms.design_is; clustering = c.requires.terms.clustering_is }
+connect-requires g c = record { design = c.requires.run.design_is; clustering = c.requires.run.clustering_is }
 
 pub remove-seat-requires : goal.remove-seat-requires
 remove-seat-requires g c =

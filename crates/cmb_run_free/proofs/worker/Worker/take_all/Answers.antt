@@ -17,5 +17,5 @@ invariant_of-self-2 g c =
 pub returns-in-Err : goal.returns-in-Err
 returns-in-Err g c =
     let inside = c.self.inside in
-    IsCutShort-seen g.T.Terms.design g.T.Terms.clustering c.args.self.now (working c.take_each.new.cluster c.clear.new.self.items inside.outs.items inside.desk.seat.view)
+    IsCutShort-seen g.T.ClusterRun.design g.T.ClusterRun.clustering c.args.self.now (working c.take_each.new.cluster c.clear.new.self.items inside.outs.items inside.worker_seat.seat.view)
     (ap (λ (w : Working). w.outs) c.self.view_is) (ap (λ (w : Working). w.seat) c.self.view_is)

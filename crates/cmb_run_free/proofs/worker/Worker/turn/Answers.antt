@@ -4,16 +4,16 @@ use Rattle.cmb_run_free.proofs.worker.Worker.turn.Goals as goal
 
 pub returns-in_err-stepped : goal.returns-in_err-stepped
 returns-in_err-stepped g c =
-    let design = g.T.Terms.design in
-    let clustering = g.T.Terms.clustering in
+    let design = g.T.ClusterRun.design in
+    let clustering = g.T.ClusterRun.clustering in
     let p = err_from_is_err_and c.from_residual-in_err-stepped.result c.from_residual-in_err-stepped.ensures.1 in
     rw p.1 (IsCutShort-again design clustering c.args.self.now c.look_all.new.self c.step.new.self
     (Goes-again design clustering c.args.self.now c.take_all.new.self c.look_all.new.self c.in_ok-take_all.ensures c.look_all.ensures) c.in_err-stepped.ensures)
 
 pub returns-in_err-is_left : goal.returns-in_err-is_left
 returns-in_err-is_left g c =
-    let design = g.T.Terms.design in
-    let clustering = g.T.Terms.clustering in
+    let design = g.T.ClusterRun.design in
+    let clustering = g.T.ClusterRun.clustering in
     let p = err_from_is_err_and c.from_residual-in_err-is_left.result c.from_residual-in_err-is_left.ensures.1 in
     let looked = Goes-again design clustering c.args.self.now c.take_all.new.self c.look_all.new.self c.in_ok-take_all.ensures c.look_all.ensures in
     let stepped = Goes-again design clustering c.args.self.now c.look_all.new.self c.step.new.self looked c.in_ok-stepped.ensures in
@@ -21,8 +21,8 @@ returns-in_err-is_left g c =
 
 pub returns : goal.returns
 returns g c =
-    let design = g.T.Terms.design in
-    let clustering = g.T.Terms.clustering in
+    let design = g.T.ClusterRun.design in
+    let clustering = g.T.ClusterRun.clustering in
     let old = c.args.self.now in
     let looked = Goes-again design clustering old c.take_all.new.self c.look_all.new.self c.in_ok-take_all.ensures c.look_all.ensures in
     let stepped = Goes-again design clustering old c.look_all.new.self c.step.new.self looked c.in_ok-stepped.ensures in

@@ -16,10 +16,10 @@ returns-then-look-promise g c = λ cluster ins outs driven known.
     let newest_is : c.look.result ≡ newest c.args.promise.net old.promised.published = search rules in
     let same = ap (λ (v : View). (newest c.args.promise.net v.promised.published).upto) looked in
     let further : (newest c.args.promise.net now.promised.published).upto < c.args.promise.upto = omega (arith, same, ap (λ (p : Promise). p.upto) newest_is, c.if-look-promise.true) in
-    Goes-again g.T.Terms.design g.T.Terms.clustering (working cluster ins outs old) (working cluster ins outs now) (working cluster ins outs c.publish.new.seat.view)
-    (SeatGoes-look g.T.Terms.design g.T.Terms.clustering old now c.look.result looked cluster ins outs)
-    (publish_goes g.T.Terms.design g.T.Terms.clustering now c.publish.new.seat.view c.args.promise further told cluster ins outs driven known)
+    Goes-again g.T.ClusterRun.design g.T.ClusterRun.clustering (working cluster ins outs old) (working cluster ins outs now) (working cluster ins outs c.publish.new.seat.view)
+    (SeatGoes-look g.T.ClusterRun.design g.T.ClusterRun.clustering old now c.look.result looked cluster ins outs)
+    (publish_goes g.T.ClusterRun.design g.T.ClusterRun.clustering now c.publish.new.seat.view c.args.promise further told cluster ins outs driven known)
 
 pub returns-else-look-promise : goal.returns-else-look-promise
 returns-else-look-promise g c = λ cluster ins outs driven known.
-    SeatGoes-look g.T.Terms.design g.T.Terms.clustering c.args.self.now.seat.view c.look.new.seat.view c.look.result (ap (λ (s : SeatData). s.view) c.look.ensures.entry) cluster ins outs
+    SeatGoes-look g.T.ClusterRun.design g.T.ClusterRun.clustering c.args.self.now.seat.view c.look.new.seat.view c.look.result (ap (λ (s : SeatData). s.view) c.look.ensures.entry) cluster ins outs

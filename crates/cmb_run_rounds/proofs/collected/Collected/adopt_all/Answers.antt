@@ -10,7 +10,7 @@ pub loop-wave-preserved : goal.loop-wave-preserved
 loop-wave-preserved g c =
     let items : c.loop-wave.waves.items ≡ c.pop.new.self.items ++ c.in-Some.wave ∷ [] = c.pop.ensures.items ∙ ap (λ o. c.pop.new.self.items ++ option_to_list o) c.in-Some.is in
     record {
-      exact = all_front (IsExactWaveIn g.T.Terms.design) c.pop.new.self.items (c.in-Some.wave ∷ []) (subst (AllByRecursion (IsExactWaveIn g.T.Terms.design)) items c.loop-wave.invariant.exact);
+      exact = all_front (IsExactWaveIn g.T.ClusterRun.design) c.pop.new.self.items (c.in-Some.wave ∷ []) (subst (AllByRecursion (IsExactWaveIn g.T.ClusterRun.design)) items c.loop-wave.invariant.exact);
       keeps = λ net. omega (arith, c.loop-wave.invariant.keeps net, c.adopt.ensures.keeps net);
       given = λ known above all.
           c.loop-wave.invariant.given known (λ net. omega (arith, c.adopt.ensures.keeps net, above net))

@@ -8,4 +8,4 @@ use Rattle.cmb_run_rounds.proofs.collected.Collected.open.Goals as goal
 pub invariant_of-result : goal.invariant_of-result
 invariant_of-result g c =
     rw c.in_ok-collector.ensures
-    (subst (λ (design : Design). IsExactFor g.T.Terms.design (record { waves = new_waves (nets_of design); horizon = design.horizon })) (sym c.requires) (new_exact g.T.Terms.design))
+    (subst (λ (design : Design). IsExactFor g.T.ClusterRun.design (record { waves = new_waves (nets_of design); horizon = design.horizon })) (sym c.requires) (new_exact g.T.ClusterRun.design))

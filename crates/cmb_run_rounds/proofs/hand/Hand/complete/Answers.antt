@@ -8,8 +8,8 @@ use Rattle.cmb_run_rounds.proofs.hand.Hand.complete.Goals as goal
 pub returns : goal.returns
 returns g c = λ worker of.
     let same : c.self.inside.cluster ≡ c.args.self.now.cluster = ap (λ (h : Hand). h.cluster) c.self.view_is in
-    let inside : IsClusterOf g.T.Terms.design g.T.Terms.clustering worker c.self.inside.cluster = subst (λ (s : Cluster). IsClusterOf g.T.Terms.design g.T.Terms.clustering worker s) (sym same) of in
+    let inside : IsClusterOf g.T.ClusterRun.design g.T.ClusterRun.clustering worker c.self.inside.cluster = subst (λ (s : Cluster). IsClusterOf g.T.ClusterRun.design g.T.ClusterRun.clustering worker s) (sym same) of in
     rw (sym same) (
       (λ all net own. c.complete.ensures.known worker net inside own all),
-      (λ known. c.complete.ensures.complete ∙ known_complete g.T.Terms.design g.T.Terms.clustering worker c.self.inside.cluster inside known),
+      (λ known. c.complete.ensures.complete ∙ known_complete g.T.ClusterRun.design g.T.ClusterRun.clustering worker c.self.inside.cluster inside known),
     )

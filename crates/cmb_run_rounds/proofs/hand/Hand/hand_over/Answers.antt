@@ -13,10 +13,10 @@ use Rattle.cmb_run_rounds.proofs.hand.Hand.hand_over.Goals as goal
 pub returns-clause-given : goal.returns-clause-given
 returns-clause-given g c = λ worker net of own.
     let same : c.self.inside.cluster ≡ c.args.self.cluster = ap (λ (h : Hand). h.cluster) c.self.view_is in
-    let inside : IsClusterOf g.T.Terms.design g.T.Terms.clustering worker c.self.inside.cluster = subst (λ (s : Cluster). IsClusterOf g.T.Terms.design g.T.Terms.clustering worker s) (sym same) of in
+    let inside : IsClusterOf g.T.ClusterRun.design g.T.ClusterRun.clustering worker c.self.inside.cluster = subst (λ (s : Cluster). IsClusterOf g.T.ClusterRun.design g.T.ClusterRun.clustering worker s) (sym same) of in
     let P : Wave → Type 0 = λ wave. wave.base ≡ 0 → wave.clock ≤ (wave_of c.adopt_all.new.self.waves wave.net).clock in
     let all : AllByRecursion P c.self.inside.cluster.waves = subst (AllByRecursion P) c.into_waves.ensures.waves c.adopt_all.ensures.given in
-    let low = own_among g.T.Terms.design g.T.Terms.clustering worker c.self.inside.cluster inside net own P all (c.into_waves.ensures.whole worker net inside own) in
+    let low = own_among g.T.ClusterRun.design g.T.ClusterRun.clustering worker c.self.inside.cluster inside net own P all (c.into_waves.ensures.whole worker net inside own) in
     let Q : ℕ → Type 0 = λ n. (wave_at c.self.inside.cluster.waves net).clock ≤ (wave_of c.adopt_all.new.self.waves n).clock in
     let R : Cluster → Type 0 = λ s. (wave_at s.waves net).clock ≤ (wave_of c.adopt_all.new.self.waves net).clock in
     subst R same (subst Q (wave_at-net c.self.inside.cluster.waves net) low)

@@ -5,13 +5,13 @@ use Rattle.cmb_run_rounds.proofs.hand.Hand.step.Goals as goal
 
 pub returns-then-complete-clause-swept : goal.returns-then-complete-clause-swept
 returns-then-complete-clause-swept g c =
-    whole_swept g.T.Terms.design g.T.Terms.clustering c.self.inside.cluster c.args.self.now.cluster (ap (λ (h : Hand). h.cluster) c.self.view_is)
+    whole_swept g.T.ClusterRun.design g.T.ClusterRun.clustering c.self.inside.cluster c.args.self.now.cluster (ap (λ (h : Hand). h.cluster) c.self.view_is)
     (λ cluster net of own. c.complete.ensures.known cluster net of own c.if-complete.true)
 
 pub returns-then-branch-clause-swept : goal.returns-then-branch-clause-swept
 returns-then-branch-clause-swept g c =
-    swept_as g.T.Terms.design g.T.Terms.clustering _ _ c.step.new.self.waves (ap (λ (h : Hand). h.cluster) c.self.view_is) c.in_ok-step.ensures.clocks
+    swept_as g.T.ClusterRun.design g.T.ClusterRun.clustering _ _ c.step.new.self.waves (ap (λ (h : Hand). h.cluster) c.self.view_is) c.in_ok-step.ensures.clocks
 
 pub returns-else-branch-clause-swept : goal.returns-else-branch-clause-swept
 returns-else-branch-clause-swept g c =
-    swept_as g.T.Terms.design g.T.Terms.clustering _ _ c.step.new.self.waves (ap (λ (h : Hand). h.cluster) c.self.view_is) c.in_ok-step.ensures.clocks
+    swept_as g.T.ClusterRun.design g.T.ClusterRun.clustering _ _ c.step.new.self.waves (ap (λ (h : Hand). h.cluster) c.self.view_is) c.in_ok-step.ensures.clocks

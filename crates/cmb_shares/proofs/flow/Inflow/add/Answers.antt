@@ -8,7 +8,7 @@ use Rattle.cmb_shares.proofs.flow.Inflow.add.Goals as goal
 
 pub returns-clause-made : goal.returns-clause-made
 returns-clause-made g c = λ text before.
-    let run = g.T.Terms.run in
+    let run = g.T.ShareRun.run in
     let next : Envelope = c.receive.new.self in
     let left = c.deref.result.now in
     let own = c.deref-2.result.now in

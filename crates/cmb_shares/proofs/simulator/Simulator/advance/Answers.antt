@@ -25,13 +25,13 @@ returns-clause-simulates g c =
       windows = is.windows;
       design = went.design ∙ is.design;
       driven = went.driven ∙ is.driven;
-      width = subst (λ w. g.T.Terms.run.windows.width ≤ w) (sym went.width) is.width;
-      exports = subst (λ (l : List ℕ). (net : ℕ) → Contains l net ↔ (IsDriven (driven_by g.T.Terms.run c.args.self.number) net × IsCrossing g.T.Terms.run.design g.T.Terms.run.crossing net)) (sym went.exports) is.exports;
+      width = subst (λ w. g.T.ShareRun.run.windows.width ≤ w) (sym went.width) is.width;
+      exports = subst (λ (l : List ℕ). (net : ℕ) → Contains l net ↔ (IsDriven (driven_by g.T.ShareRun.run c.args.self.number) net × IsCrossing g.T.ShareRun.run.design g.T.ShareRun.run.crossing net)) (sym went.exports) is.exports;
     }
 
 pub returns-clause-told : goal.returns-clause-told
 returns-clause-told g c =
-    let run = g.T.Terms.run in
+    let run = g.T.ShareRun.run in
     let is = c.requires.simulates in
     let went = c.in-Ok.ensures in
     let s = c.args.self in

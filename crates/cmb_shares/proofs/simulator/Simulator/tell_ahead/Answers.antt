@@ -8,7 +8,7 @@ use Rattle.cmb_shares.proofs.simulator.Simulator.tell_ahead.Goals as goal
 
 pub returns : goal.returns
 returns g c =
-    let run = g.T.Terms.run in
+    let run = g.T.ShareRun.run in
     let s = c.args.self.now in
     let is = c.requires.simulates in
     let told = c.tell_ahead.new.told.items in

@@ -6,5 +6,5 @@ pub loop-preserved : goal.loop-preserved
 loop-preserved g c =
     let next = c.in-Some-step.next in
     let went = c.in-Some-step.ensures in
-    subst (λ (n : ℕ). Covers g.T.Terms.run n next.senders) (sym went.number)
-    (subst (λ (l : List ℕ). Covers g.T.Terms.run c.loop.station.number l) (sym went.senders) c.loop.invariant)
+    subst (λ (n : ℕ). Covers g.T.ShareRun.run n next.senders) (sym went.number)
+    (subst (λ (l : List ℕ). Covers g.T.ShareRun.run c.loop.station.number l) (sym went.senders) c.loop.invariant)

@@ -2,4 +2,4 @@ use Rattle.cmb_shares.specs.Inner.Stations.{Covers}
 use Rattle.cmb_shares.proofs.station.Station.run.Given as goal
 
 abbrev pub invariant-loop : goal.invariant-loop
-invariant-loop g l = Covers g.T.Terms.run l.station.number l.station.senders
+invariant-loop g l = Covers g.T.ShareRun.run l.station.number l.station.senders

@@ -9,7 +9,7 @@ use Rattle.cmb_shares.proofs.station.Station.step.Goals as goal
 
 pub talk-requires-clause-covers : goal.talk-requires-clause-covers
 talk-requires-clause-covers g c =
-    let run = g.T.Terms.run in
+    let run = g.T.ShareRun.run in
     let number = c.self.inside.simulator.number in
     subst (λ (l : List Envelope). Covers run number (senders_of l)) (sym c.deref_mut-2.ensures.value)
     (subst (λ (s : Standing). Covers run s.number s.senders) (sym c.self.view_is) c.requires.covers)
@@ -42,7 +42,7 @@ invariant_of-result g c =
 
 pub returns-clause-turns : goal.returns-clause-turns
 returns-clause-turns g c =
-    let run = g.T.Terms.run in
+    let run = g.T.ShareRun.run in
     let was = c.self.inside in
     let held = c.self.invariant in
     let next = c.in-Ok.simulator in
