@@ -8,6 +8,7 @@ use indexmap::IndexSet;
 use smallvec::SmallVec;
 use std::alloc::{AllocError, Global};
 use std::marker::Model;
+use std::slice;
 
 /// A gate's function.
 #[derive(Clone, Copy, Debug, PartialEq, Eq)]
@@ -77,6 +78,22 @@ pub enum Driver {
     Input,
     Gate(Kind, Operands),
     Flop(u32),
+}
+
+impl Driver {
+    ghost use Rattle.cmb_netlist.specs.Netlist.{pins_of};
+
+    /// The nets that the driver reads, in the order of its pins: none of an input, the operands of a gate, the data of a
+    /// flip-flop.
+    pub fn pins(&self) -> &[u32]
+        ensures { result.now ≡ pins_of self.now }
+    {
+        match self {
+            Driver::Input => &[],
+            Driver::Gate(_, operands) => operands.as_slice(),
+            Driver::Flop(data) => slice::from_ref(data),
+        }
+    }
 }
 
 /// Nets, numbered from 0 in the order of their driving statements, and the outputs in the order of
