@@ -1,11 +1,12 @@
 -- A search begins.
-use Rattle.std.proofs.Common.{◌≡◌, ◌⊎◌, inl, inr, ℕ, ◌<◌, ◌≤◌, false, List, [], length, get_or, replicate, sym, ap, ◌∙◌, subst, arith}
+use Rattle.std.proofs.Common.{◌≡◌, ◌⊎◌, inl, inr, ℕ, ◌<◌, ◌≤◌, false, List, [], length, get_or, replicate, sym, ap, ◌∙◌, arith}
 use Rattle.std.specs.Prelude.{All}
 use Rattle.std.proofs.lemmas.Bool.{cases_lt}
 use Rattle.std.proofs.lemmas.List.{get_or_past, get_or-replicate, length-replicate}
-use Rattle.std.proofs.lemmas.List.Elements.{All-cons, All-get_or, All-nil}
+use Rattle.std.proofs.lemmas.List.Elements.{All-nil}
 use Rattle.std.proofs.lemmas.List.Sums.{count_by-le-length}
-use Rattle.cmb_netlist.specs.Netlist.{Netlist, IsNetlist, IsWired, driver_of}
+use Rattle.cmb_netlist.proofs.Wired.{pins-below}
+use Rattle.cmb_netlist.specs.Netlist.{Netlist, IsNetlist, driver_of, pins_of}
 use Rattle.cmb_netlist.specs.declared.netlist.Driver.{Driver}
 use Rattle.cmb_netlist.specs.declared.netlist.Driver.TheVariants.{Input, Gate, Flop}
 use Rattle.cmb_graph.specs.Loops.{targets, targets_of}
@@ -43,23 +44,14 @@ nothing next n = record {
 }
 
 -- steps lead to nets
-inside : (nets : ℕ) (steps : Steps) (driver : Driver) → IsWired nets driver → All (λ net. net < nets) (targets_of steps driver)
-inside nets kind.All Input wired = All-nil (λ net. net < nets)
-inside nets kind.All (Gate k operands) wired = wired.1
-inside nets kind.All (Flop source) wired = All-cons (λ net. net < nets) source [] wired (All-nil (λ net. net < nets))
-inside nets kind.Gates Input wired = All-nil (λ net. net < nets)
-inside nets kind.Gates (Gate k operands) wired = wired.1
-inside nets kind.Gates (Flop source) wired = All-nil (λ net. net < nets)
-
-wired : (netlist : Netlist) (net : ℕ) → IsNetlist netlist → IsWired (length netlist.names) (driver_of netlist net)
-wired netlist net lawful = by (cases_lt net (length netlist.drivers))
-  where
-    by : (net < length netlist.drivers) ⊎ (length netlist.drivers ≤ net) → IsWired (length netlist.names) (driver_of netlist net)
-    by (inl l) = All-get_or (IsWired (length netlist.names)) netlist.drivers net Input l lawful.wired
-    by (inr g) = let P : Driver → Type 0 = λ d. IsWired (length netlist.names) d in subst P (sym (get_or_past netlist.drivers net Input g)) tt
+inside : (nets : ℕ) (steps : Steps) (driver : Driver) → All (λ net. net < nets) (pins_of driver) → All (λ net. net < nets) (targets_of steps driver)
+inside nets kind.All driver below = below
+inside nets kind.Gates Input below = below
+inside nets kind.Gates (Gate k operands) below = below
+inside nets kind.Gates (Flop source) below = All-nil (λ net. net < nets)
 
 pub targets_inside : (netlist : Netlist) (steps : Steps) (net : ℕ) → IsNetlist netlist → All (λ target. target < length netlist.names) (targets netlist steps net)
-targets_inside netlist steps net lawful = inside (length netlist.names) steps (driver_of netlist net) (wired netlist net lawful)
+targets_inside netlist steps net lawful = inside (length netlist.names) steps (driver_of netlist net) (pins-below netlist lawful net)
 
 pub begun : (netlist : Netlist) (steps : Steps) (search : Search) → IsNetlist netlist → IsBegun (length netlist.names) search → IsUnderWay netlist steps search []
 begun netlist steps search lawful is = record {

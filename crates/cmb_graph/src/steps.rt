@@ -4,7 +4,6 @@ ghost use Rattle.std.specs.Prelude.{◌≡◌, ◌<◌, length};
 ghost use Rattle.cmb_graph.specs.Loops.{targets, targets_of};
 
 use cmb_netlist::{Driver, Netlist};
-use std::slice;
 
 /// Which steps count.
 #[derive(Clone, Copy)]
@@ -18,13 +17,9 @@ pub enum Steps {
 fn targets_by(steps: Steps, driver: &Driver) -> &[u32]
     ensures { result.now ≡ targets_of steps driver.now }
 {
-    match driver {
-        Driver::Input => &[],
-        Driver::Gate(_, operands) => operands.as_slice(),
-        Driver::Flop(source) => match steps {
-            Steps::All => slice::from_ref(source),
-            Steps::Gates => &[],
-        },
+    match (steps, driver) {
+        (Steps::Gates, Driver::Flop(_)) => &[],
+        _ => driver.pins(),
     }
 }
 
