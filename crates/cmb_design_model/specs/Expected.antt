@@ -1,5 +1,5 @@
 -- What is expected of a design's run.
-use Rattle.std.specs.Prelude.{ℕ, ◌<◌, List, All, unwrap_or}
+use Rattle.std.specs.Prelude.{◌<◌, unwrap_or}
 use Rattle.cmb_netlist.specs.Netlist.{Netlist, number_of}
 use Rattle.cmb_design_model.specs.Design.{Design}
 use Rattle.cmb_design_model.specs.Exact.{nets_of}

@@ -1,6 +1,6 @@
-use Rattle.std.proofs.Common.{◌≡◌, ◌∙◌, ◌+◌, ◌<◌, ℕ, List, [], ◌∷◌, ◌++◌, arith, get_or, length, map, refl, subst, sym, take, true, ap}
+use Rattle.std.proofs.Common.{◌≡◌, ◌∙◌, List, [], ◌∷◌, ◌++◌, arith, length, map, refl, subst, sym, take, true, ap}
 use Rattle.std.specs.Prelude.{All, is_ok, not}
-use Rattle.std.proofs.lemmas.List.{map_more, take_all}
+use Rattle.std.proofs.lemmas.List.{map_more}
 use Rattle.std.proofs.lemmas.List.Elements.{All-push}
 use Rattle.std.proofs.lemmas.Result.{err_from_is_err_and}
 use Rattle.cmb_design_model.specs.Checks.{checks_after, first_fault}

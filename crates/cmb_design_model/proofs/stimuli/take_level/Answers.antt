@@ -1,4 +1,4 @@
-use Rattle.std.proofs.Common.{arith, ◌≡◌, ◌∙◌, sym, ap, inr, None, true, false, refl, get_or}
+use Rattle.std.proofs.Common.{arith, ◌≡◌, ◌∙◌, sym, ap, inr, None, true, false, get_or}
 use Rattle.std.specs.Prelude.{is_some}
 use Rattle.std.proofs.lemmas.List.{get_or_default}
 use Rattle.cmb_netlist.specs.Netlist.{number_of}

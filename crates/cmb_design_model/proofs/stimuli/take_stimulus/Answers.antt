@@ -1,4 +1,4 @@
-use Rattle.std.proofs.Common.{◌≡◌, ◌∙◌, sym, ap, inr, true, false}
+use Rattle.std.proofs.Common.{◌∙◌, sym, ap, inr, true, false}
 use Rattle.std.proofs.lemmas.Result.{err_from_is_err_and}
 use Rattle.cmb_netlist.specs.Netlist.{number_of}
 use Rattle.cmb_design_model.specs.Nets.{is_input}
