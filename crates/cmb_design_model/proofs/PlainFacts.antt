@@ -4,7 +4,6 @@ use Rattle.std.specs.Prelude.{slice_get, All}
 use Rattle.std.specs.List.{range_with_len}
 use Rattle.std.proofs.lemmas.Bool.{le-ltb}
 use Rattle.std.proofs.lemmas.List.{length-take, take_more}
-use Rattle.std.proofs.lemmas.List.Elements.{All-get_or}
 use Rattle.std.proofs.lemmas.List.FromFn.{length-map-range_with_len, get_or-map-range_with_len, map-range_with_len_more}
 use Rattle.std.proofs.lemmas.Nat.{mul-add-lt, div-mul-add, mod-mul-add}
 use Rattle.std.proofs.lemmas.Option.{slice_get_within, slice_get_read}
@@ -15,9 +14,6 @@ use Rattle.cmb_wave.specs.Waveform.{change_at, changes_between, count_below, lev
 use Rattle.cmb_wave.specs.Wave.{grown, new_wave}
 use Rattle.cmb_wave.proofs.Spans.{trace-both}
 use Rattle.cmb_wave.proofs.Waveforms.{changes_between-alternates, changes_between-rises, changes_between-suc}
-use Rattle.cmb_netlist.specs.declared.netlist.Driver.{Driver}
-use Rattle.cmb_netlist.specs.declared.netlist.Driver.TheVariants.{Input}
-use Rattle.cmb_netlist.specs.Netlist.{Netlist, IsNetlist, IsWired, driver_of}
 use Rattle.cmb_design_model.specs.Design.{Design}
 use Rattle.cmb_design_model.specs.Exact.{IsExactWaveIn, nets_of}
 use Rattle.cmb_design_model.specs.Plain.{whole_wave, whole_waves}
@@ -64,12 +60,6 @@ pin_levels-more design level net tick operands i d h =
 pub length-pin_levels : (design : Design) (level : ℕ → ℕ → Level) (net tick pin : ℕ) (operands : List ℕ) → length (pin_levels design level net tick pin operands) ≡ length operands
 length-pin_levels design level net tick pin [] = refl
 length-pin_levels design level net tick pin (operand ∷ operands) = ap suc (length-pin_levels design level net tick (suc pin) operands)
-
--- each driver of a netlist is wired
-pub driver-wired : (netlist : Netlist) (net : ℕ) (driver : Driver) → IsNetlist netlist → net < length netlist.names → driver ≡ driver_of netlist net → IsWired (length netlist.names) driver
-driver-wired netlist net driver is b e =
-    let within : net < length netlist.drivers = omega (arith, is.paired) in
-    rw e (All-get_or (IsWired (length netlist.names)) netlist.drivers net Input within is.wired)
 
 -- ---- filling
 

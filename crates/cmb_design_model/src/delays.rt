@@ -23,7 +23,7 @@ fn place_of_pin(netlist: &Netlist, starts: &[usize], net: usize, pin: u64) -> Op
     requires room { table_size netlist.now < 2 ^ 64 }
     ensures { result ≡ pin_place netlist.now net pin }
 {
-    if pin < 1 || pin > pin_count(netlist.driver(net)) as u64 {
+    if pin < 1 || pin > pin_count(netlist, net) as u64 {
         return None;
     }
     Some(9 + netlist.len() + starts[net] + (pin as usize - 1))
@@ -164,7 +164,7 @@ pub(crate) fn lay_out(alloc: Global, netlist: &Netlist) -> Result<Layout, Design
         let Ok(()) = starts.push(next) else {
             return Err(DesignFault::Memory);
         };
-        let Some(more) = next.checked_add(pin_count(netlist.driver(net))) else {
+        let Some(more) = next.checked_add(pin_count(netlist, net)) else {
             return Err(DesignFault::Memory);
         };
         next = more;
@@ -243,7 +243,7 @@ fn push_delays(
     requires room { table_size netlist.now < 2 ^ 64 }
     ensures { OnOk result (flat.new.items ≡ flat.old.items ++ net_delays netlist.now rows.now net) }
 {
-    for pin in 0..pin_count(netlist.driver(net)) {
+    for pin in 0..pin_count(netlist, net) {
         flat.push(delay_at(netlist, starts, places, rows, net, pin + 1))?;
     }
     Ok(())

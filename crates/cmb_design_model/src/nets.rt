@@ -1,11 +1,10 @@
 //! What the checks ask of a net's driver.
 
 ghost use Rattle.std.specs.Prelude.{◌≡◌, ◌<◌, length};
-ghost use Rattle.cmb_netlist.specs.Netlist.{pins_of};
 ghost use Rattle.cmb_netlist.specs.declared.netlist.Cell.TheVariants.{Gate as GateCell};
-ghost use Rattle.cmb_design_model.specs.Nets.{cell_number, is_flop, is_input, driver_cell};
+ghost use Rattle.cmb_design_model.specs.Nets.{cell_number, is_flop, is_input, driver_cell, pins_at};
 
-use cmb_netlist::{Cell, Driver, Kind};
+use cmb_netlist::{Cell, Driver, Kind, Netlist};
 
 pub(crate) fn is_input_driver(driver: &Driver) -> bool
     ensures { result ≡ is_input driver.now }
@@ -27,14 +26,11 @@ pub(crate) fn is_flop_driver(driver: &Driver) -> bool
     }
 }
 
-pub(crate) fn pin_count(driver: &Driver) -> usize
-    ensures { result ≡ length (pins_of driver.now) }
+pub(crate) fn pin_count(netlist: &Netlist, net: usize) -> usize
+    requires { net < length netlist.now.names }
+    ensures { result ≡ pins_at netlist.now net }
 {
-    match driver {
-        Driver::Input => 0,
-        Driver::Gate(_, operands) => operands.as_slice().len(),
-        Driver::Flop(_) => 1,
-    }
+    netlist.driver(net).pins().len()
 }
 
 fn number_of_kind(kind: Kind) -> usize

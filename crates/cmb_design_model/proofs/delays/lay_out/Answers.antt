@@ -1,8 +1,6 @@
-use Rattle.std.proofs.Common.{◌≡◌, ◌+◌, ◌++◌, ◌∷◌, [], ◌∙◌, ap, arith, length, sym, refl, map}
+use Rattle.std.proofs.Common.{◌+◌, ◌++◌, ◌∷◌, [], ◌∙◌, ap, arith, sym, refl, map}
 use Rattle.std.specs.List.{range_with_len}
 use Rattle.std.proofs.lemmas.List.FromFn.{map-range_with_len_more}
-use Rattle.cmb_netlist.specs.Netlist.{pins_of}
-use Rattle.cmb_design_model.specs.Nets.{pins_at}
 use Rattle.cmb_design_model.specs.Inner.Tables.{start}
 use Rattle.cmb_design_model.proofs.RowFacts.{start-next}
 use Rattle.cmb_design_model.proofs.delays.lay_out.Goals as goal
@@ -14,9 +12,8 @@ loop-net-init c = (c.new-starts.ensures.items, refl)
 pub loop-net-preserved : goal.loop-net-preserved
 loop-net-preserved c =
     let netlist = c.args.netlist.now in
-    let net = c.loop-net.net in
-    let p : c.pin_count.result ≡ pins_at netlist net = c.pin_count.ensures ∙ ap (λ d. length (pins_of d)) c.driver.ensures in (
+    let net = c.loop-net.net in (
       c.in-Ok.ensures.items ∙ ap (λ t. t ++ c.loop-net.next ∷ []) c.loop-net.invariant.0 ∙ ap (λ n. map (start netlist) (range_with_len 0 net) ++ n ∷ []) c.loop-net.invariant.1
           ∙ sym (map-range_with_len_more (start netlist) 0 net net (omega arith)),
-      c.in-Some.ensures.1 ∙ ap (λ n. n + c.pin_count.result) c.loop-net.invariant.1 ∙ ap (λ n. start netlist net + n) p ∙ sym (start-next netlist net),
+      c.in-Some.ensures.1 ∙ ap (λ n. n + c.pin_count.result) c.loop-net.invariant.1 ∙ ap (λ n. start netlist net + n) c.pin_count.ensures ∙ sym (start-next netlist net),
     )

@@ -1,6 +1,4 @@
-use Rattle.std.proofs.Common.{◌≡◌, ◌∙◌, ap, sym, arith, length}
-use Rattle.cmb_netlist.specs.Netlist.{pins_of}
-use Rattle.cmb_design_model.specs.Nets.{pins_at}
+use Rattle.std.proofs.Common.{sym, arith}
 use Rattle.cmb_design_model.proofs.RowFacts.{length-starts, pin_place-at, start_in, starts-at}
 use Rattle.cmb_design_model.proofs.delays.place_of_pin.Goals as goal
 
@@ -19,13 +17,11 @@ overflow_add-result-3 c =
     let netlist = c.args.netlist.now in
     let s = starts-at netlist c.args.starts.now c.args.net c.requires.starts c.requires.within in
     let t = start_in netlist c.args.net c.requires.within in
-    let e : c.pin_count.result ≡ pins_at netlist c.args.net = c.pin_count.ensures ∙ ap (λ d. length (pins_of d)) c.driver.ensures in
-    omega (arith, s, t, e, c.len.ensures.value, c.requires.room)
+    omega (arith, s, t, c.pin_count.ensures, c.len.ensures.value, c.requires.room)
 
 pub returns : goal.returns
 returns c =
     let netlist = c.args.netlist.now in
     let s = starts-at netlist c.args.starts.now c.args.net c.requires.starts c.requires.within in
-    let e : c.pin_count.result ≡ pins_at netlist c.args.net = c.pin_count.ensures ∙ ap (λ d. length (pins_of d)) c.driver.ensures in
     let p = pin_place-at netlist c.args.net c.args.pin (omega arith) (omega arith) in
     rw (s, c.len.ensures.value) (sym p)

@@ -1,7 +1,6 @@
-use Rattle.std.proofs.Common.{◌≡◌, ◌+◌, ◌++◌, ◌∷◌, [], ℕ, List, ◌∙◌, ap, sym, arith, append_assoc, map, length}
+use Rattle.std.proofs.Common.{◌≡◌, ◌+◌, ◌++◌, ◌∷◌, [], ℕ, List, ◌∙◌, ap, sym, arith, append_assoc, map}
 use Rattle.std.specs.List.{range_with_len}
 use Rattle.std.proofs.lemmas.List.FromFn.{map-range_with_len_more}
-use Rattle.cmb_netlist.specs.Netlist.{pins_of}
 use Rattle.cmb_design_model.specs.Nets.{pins_at}
 use Rattle.cmb_design_model.specs.Timing.{delay_by, net_delays}
 use Rattle.cmb_design_model.proofs.delays.push_delays.Goals as goal
@@ -26,6 +25,5 @@ returns c =
     let net = c.args.net in
     let f : ℕ → ℕ = λ k. delay_by netlist rows net (k + 1) in
     let first : List ℕ = c.args.flat.now.items in
-    let p : c.pin_count-pin-end.result ≡ pins_at netlist net = c.pin_count-pin-end.ensures ∙ ap (λ d. length (pins_of d)) c.driver.ensures in
-    let e : c.loop-pin.pin ≡ pins_at netlist net = omega (arith, p) in
+    let e : c.loop-pin.pin ≡ pins_at netlist net = omega (arith, c.pin_count-pin-end.ensures) in
     c.loop-pin.invariant ∙ ap (λ n. first ++ map f (range_with_len 0 n)) e

@@ -1,9 +1,10 @@
-use Rattle.std.proofs.Common.{◌≡◌, ◌∙◌, sym, ap, length}
+use Rattle.std.proofs.Common.{◌≡◌, ◌∙◌, sym, subst, ap, length}
 use Rattle.cmb_netlist.specs.declared.netlist.Driver.TheVariants.{Input, Gate, Flop}
 use Rattle.cmb_netlist.specs.Netlist.{IsWired, driver_of}
+use Rattle.cmb_netlist.proofs.Wired.{driver-wired}
 use Rattle.cmb_design_model.specs.Gate.{gate}
 use Rattle.cmb_design_model.specs.Value.{value, pin_levels}
-use Rattle.cmb_design_model.proofs.PlainFacts.{driver-wired, length-pin_levels}
+use Rattle.cmb_design_model.proofs.PlainFacts.{length-pin_levels}
 use Rattle.cmb_design_model.proofs.ValueFacts.{value-at_input, value-at_gate, value-at_flop}
 use Rattle.cmb_design_model.proofs.plain_cells.level_of_cell.Goals as goal
 
@@ -15,7 +16,7 @@ returns-in-Input c =
 pub gate-requires : goal.gate-requires
 gate-requires c =
     let driver : Gate c.in-Gate.kind c.in-Gate.operands ≡ driver_of c.args.design.now.netlist c.args.net = rw (sym c.netlist.ensures) (sym c.in-Gate.is ∙ c.driver.ensures) in
-    let wired : IsWired (length c.args.design.now.netlist.names) (Gate c.in-Gate.kind c.in-Gate.operands) = driver-wired c.args.design.now.netlist c.args.net (Gate c.in-Gate.kind c.in-Gate.operands) c.requires.wired c.requires.net driver in
+    let wired : IsWired (length c.args.design.now.netlist.names) (Gate c.in-Gate.kind c.in-Gate.operands) = subst (IsWired (length c.args.design.now.netlist.names)) (sym driver) (driver-wired c.args.design.now.netlist c.requires.wired c.args.net) in
     let n : length c.as_slice-in-Gate.result.now ≡ length c.in-Gate.operands =
     ap length (c.as_slice-in-Gate.ensures.value ∙ c.in_ok-collect_levels-in-Gate.ensures ∙ ap (pin_levels c.args.design.now (value c.args.design.now) c.args.net c.args.tick 1) c.as_slice.ensures)
     ∙ length-pin_levels c.args.design.now (value c.args.design.now) c.args.net c.args.tick 1 c.in-Gate.operands in
