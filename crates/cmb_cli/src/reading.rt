@@ -5,7 +5,6 @@ ghost use Rattle.std.specs.Prelude.{
   ◌≤◌,
   ◌↔◌,
   IfOk,
-  IfSome,
   IsSome,
   Some,
   codes,
@@ -18,7 +17,6 @@ ghost use Rattle.clap.specs.Matches.{first_value, found_of, one_text};
 ghost use Rattle.cmb_cli.specs.Inner.Clocks.{IsClockIn};
 ghost use Rattle.cmb_cli_line.specs.declared.choice.Choice.TheVariants.{Only};
 ghost use Rattle.cmb_cli_line.specs.declared.choice.Pick.TheVariants.{Listed};
-ghost use Rattle.cmb_cli_line.specs.Modes.{IsLawful, IsLawfulCount, clusters_of, workers_of};
 
 use crate::clock::{clock_message, clock_of};
 use crate::explaining::{explain_command, explain_fault, explain_message};
@@ -34,6 +32,7 @@ use clap::error::ErrorKind;
 use clap::{ArgMatches, Command, Error};
 use cmb_cli_line::{Choice, Line, Mode, Pick, Task};
 use cmb_design_model::Settings;
+use cmb_netlist::PartCount;
 use cmb_wave::Level;
 use std::alloc::{AllocError, Global};
 
@@ -60,8 +59,6 @@ impl From<AllocError> for LineFault {
 }
 
 const MOST_TICKS: u32 = 1_000_000;
-
-const MOST_PARTS: u32 = 64;
 
 /// How many a check names of each thing that it counts.
 const NAMED: usize = 20;
@@ -155,32 +152,30 @@ fn fault_of(kind: ErrorKind) -> LineFault {
     }
 }
 
-// A number from 1 to `most`.
-fn number_up_to(text: &str, most: u32) -> Result<u32, LineFault>
-    ensures { IfOk result (λ n. (1 ≤ n) × (n ≤ most)) }
-{
-    match text.parse::<u32>() {
-        Ok(n) if 1 <= n && n <= most => Ok(n),
-        _ => Err(LineFault::Wrong),
-    }
+fn number_of(text: &str) -> Result<u32, LineFault> {
+    text.parse::<u32>().map_err(|_| LineFault::Wrong)
 }
 
 fn horizon_of(matches: &ArgMatches<'_>) -> Result<u32, LineFault>
     ensures { IfOk result (λ n. (1 ≤ n) × (n ≤ 1000000)) }
 {
-    match matches.get_str("horizon") {
-        Some(text) => number_up_to(text, MOST_TICKS),
-        None => Err(LineFault::Wrong),
+    let Some(text) = matches.get_str("horizon") else {
+        return Err(LineFault::Wrong);
+    };
+    match number_of(text)? {
+        n if 1 <= n && n <= MOST_TICKS => Ok(n),
+        _ => Err(LineFault::Wrong),
     }
 }
 
-// How many workers or clusters there are, 1 where the line doesn't say.
-fn parts_of(matches: &ArgMatches<'_>, name: &str) -> Result<u32, LineFault>
-    ensures { IfOk result (λ n. (1 ≤ n) × (n ≤ 64)) }
-{
-    match matches.get_str(name) {
-        Some(text) => number_up_to(text, MOST_PARTS),
-        None => Ok(1),
+// How many workers, clusters or threads there are, where the line says that.
+fn parts_of(matches: &ArgMatches<'_>, name: &str) -> Result<Option<PartCount>, LineFault> {
+    let Some(text) = matches.get_str(name) else {
+        return Ok(None);
+    };
+    match PartCount::new(number_of(text)?) {
+        Some(parts) => Ok(Some(parts)),
+        None => Err(LineFault::Wrong),
     }
 }
 
@@ -193,22 +188,10 @@ fn mode_name<'a>(matches: &ArgMatches<'a>) -> &'a str {
     }
 }
 
-// How many threads share the work, where the line says that.
-fn threads_of(matches: &ArgMatches<'_>) -> Result<Option<u32>, LineFault>
-    ensures { IfOk result (λ threads. IfSome threads IsLawfulCount) }
-{
-    match matches.get_str("threads") {
-        Some(text) => Ok(Some(number_up_to(text, MOST_PARTS)?)),
-        None => Ok(None),
-    }
-}
-
-// How the design is run.
-fn mode_of(matches: &ArgMatches<'_>) -> Result<Mode, LineFault>
-    ensures { IfOk result (λ mode. IsLawfulCount (clusters_of mode) × IsLawfulCount (workers_of mode)) }
-{
-    let workers = parts_of(matches, "workers")?;
-    let clusters = parts_of(matches, "clusters")?;
+// How the design is run: by one worker with one cluster, where the line doesn't say.
+fn mode_of(matches: &ArgMatches<'_>) -> Result<Mode, LineFault> {
+    let workers = parts_of(matches, "workers")?.unwrap_or(PartCount::ONE);
+    let clusters = parts_of(matches, "clusters")?.unwrap_or(PartCount::ONE);
     match mode_name(matches) {
         "plain" => Ok(Mode::Plain),
         "free" => Ok(Mode::Free { workers, clusters }),
@@ -327,7 +310,6 @@ fn line_of(
     on_terminal: bool,
 ) -> Result<Line, LineFault>
     ensures horizon { IfOk result (λ line. (1 ≤ line.settings.horizon) × (line.settings.horizon ≤ 1000000)) }
-    ensures mode { IfOk result (λ line. IsLawful line.mode line.threads) }
     ensures clock { IfOk result (λ line. IsClockIn (found_of matches.now) line.settings.clock) }
     ensures choice { IfOk result (λ line. (line.choice ≡ Only Listed) ↔ IsSome line.only) }
     ensures scopes { IfOk result (λ line. (one_text (found_of matches.now) (codes "scopes") ≡ Some (codes "true"))
@@ -349,7 +331,7 @@ fn line_of(
         ≡ first_value (found_of matches.now) (codes "expected")) }
 {
     let mode = mode_of(matches)?;
-    let threads = threads_of(matches)?;
+    let threads = parts_of(matches, "threads")?;
     let settings = settings_of(matches)?;
     let files = files_of(alloc, matches)?;
     let quiet = is_quiet(matches, on_terminal);
@@ -377,7 +359,6 @@ fn line_of(
 // The line of the command that is met.
 fn line_in(alloc: Global, matches: &ArgMatches<'_>, on_terminal: bool) -> Result<Line, LineFault>
     ensures horizon { IfOk result (λ line. (1 ≤ line.settings.horizon) × (line.settings.horizon ≤ 1000000)) }
-    ensures mode { IfOk result (λ line. IsLawful line.mode line.threads) }
     ensures choice { IfOk result (λ line. (line.choice ≡ Only Listed) ↔ IsSome line.only) }
     ensures quiet { IfOk result (λ line. (line.quiet ≡ true) → (on_terminal ≡ true) × (line.explain ≡ true)) }
 {
@@ -397,15 +378,13 @@ fn line_in(alloc: Global, matches: &ArgMatches<'_>, on_terminal: bool) -> Result
 }
 
 /// Reads the words after the program's name: `run`, `activity`, `expect` or `check`, and its options. The horizon of a
-/// line is 1 to 1,000,000 ticks, and it has 1 to 64 threads, or workers and clusters; it chooses the nets of a list
-/// just where it names one. Errors: `Help` where the words ask for help, the version or the explanation of a fault,
-/// `Wrong` where they aren't a line of the program, `Clock` where only the value of `--clock` has another form, and
-/// `Memory`.
+/// line is 1 to 1,000,000 ticks; it chooses the nets of a list just where it names one. Errors: `Help` where the words
+/// ask for help, the version or the explanation of a fault, `Wrong` where they aren't a line of the program, `Clock`
+/// where only the value of `--clock` has another form, and `Memory`.
 ///
 /// Where standard error is a terminal a fault is told in words, unless `--no-explain` turns that off.
 pub fn read_line(alloc: Global, words: &[String], on_terminal: bool) -> Result<Line, LineFault>
     ensures horizon { IfOk result (λ line. (1 ≤ line.settings.horizon) × (line.settings.horizon ≤ 1000000)) }
-    ensures mode { IfOk result (λ line. IsLawful line.mode line.threads) }
     ensures choice { IfOk result (λ line. (line.choice ≡ Only Listed) ↔ IsSome line.only) }
     ensures quiet { IfOk result (λ line. (line.quiet ≡ true) → (on_terminal ≡ true) × (line.explain ≡ true)) }
 {

@@ -3,6 +3,7 @@
 use crate::choice::Choice;
 use crate::mode::Mode;
 use cmb_design_model::Settings;
+use cmb_netlist::PartCount;
 
 /// What is done with a design.
 #[derive(Clone, Copy, Debug, PartialEq, Eq)]
@@ -22,8 +23,8 @@ pub enum Task {
 pub struct Request {
     pub settings: Settings,
     pub mode: Mode,
-    /// By so many threads at most, 1 to 64, that share the work in the place of workers.
-    pub threads: Option<u32>,
+    /// By so many threads at most, that share the work in the place of workers.
+    pub threads: Option<PartCount>,
     /// Which nets are written.
     pub choice: Choice,
     /// Names are parted at `.` into modules, and `led[3]` is bit 3 of bus `led`.
@@ -45,7 +46,7 @@ pub struct Line {
     pub settings: Settings,
     pub mode: Mode,
     /// How many threads share the work, where that is said.
-    pub threads: Option<u32>,
+    pub threads: Option<PartCount>,
     /// Which nets are written: those of a list exactly where `only` names its file.
     pub choice: Choice,
     /// Names are parted at `.` into modules, and `led[3]` is bit 3 of bus `led`.

@@ -5,3 +5,4 @@
 pub use cmb_core_cluster::{Cluster, Clustering, ClusteringFault, DeliverFault, Stranger};
 pub use cmb_core_protocol::{Event, PlayFault, Reply};
 pub use cmb_core_world::World;
+pub use cmb_netlist::PartCount;

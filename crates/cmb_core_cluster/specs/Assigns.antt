@@ -12,11 +12,15 @@ checked_clustering nets clusters assign =
     else if not (nat_eq (length assign) nets) || not (list_all (λ cluster. nat_lt cluster clusters) assign) then Err Assign
     else Ok (record { clusters = clusters; assign = assign })
 
--- net n in cluster `n mod clusters`, where there are from 1 to 64
+-- net n in cluster `n mod clusters`
+abbrev pub round_robin : ℕ → ℕ → Clustering
+round_robin nets clusters = record { clusters = clusters; assign = map (λ net. net % clusters) (range_with_len 0 nets) }
+
+-- the same, where there are from 1 to 64
 abbrev pub spread_clustering : ℕ → ℕ → Result Clustering ClusteringFault
 spread_clustering nets clusters =
     if nat_lt clusters 1 || nat_lt 64 clusters then Err Clusters
-    else Ok (record { clusters = clusters; assign = map (λ net. net % clusters) (range_with_len 0 nets) })
+    else Ok (round_robin nets clusters)
 
 -- what cluster c has goes to cluster `c mod clusters`
 abbrev pub merged_clustering : Clustering → ℕ → Clustering

@@ -5,6 +5,7 @@ ghost use Rattle.std.specs.List.{range_with_len};
 ghost use Rattle.cmb_core_cluster.specs.Faults.{number_of_clustering_fault};
 
 use crate::below::all_below;
+use cmb_netlist::PartCount;
 use std::alloc::{AllocError, Global};
 use std::marker::Model;
 use thiserror::Error;
@@ -40,7 +41,7 @@ impl ClusteringFault {
 fn is_unlawful(clusters: u32) -> bool
     ensures { result ≡ (nat_lt clusters 1 || nat_lt 64 clusters) }
 {
-    clusters < 1 || clusters > 64
+    PartCount::new(clusters).is_none()
 }
 
 // The clusters in turn, net by net.
@@ -89,7 +90,7 @@ impl Model for Clustering {
 impl Clustering {
     ghost use Rattle.std.specs.Prelude.{◌≡◌, ◌<◌, ◌≤◌, Ok, IfOk, IfErr, length};
     ghost use Rattle.cmb_core_cluster.specs.Assigns.{checked_clustering, merged_clustering, spread_clustering};
-    ghost use Rattle.cmb_core_cluster.specs.Assigns.{RefusesClustering};
+    ghost use Rattle.cmb_core_cluster.specs.Assigns.{RefusesClustering, round_robin};
     ghost use Rattle.cmb_core_cluster.specs.Clustering.{cluster_of, IsClustering};
 
     /// The clustering of so many nets in which net n goes to cluster `assign[n]`. 40 where the number of
@@ -106,19 +107,34 @@ impl Clustering {
         Ok(Clustering { clusters, assign })
     }
 
-    /// Net n goes to cluster `n mod clusters`. 40 where the number of clusters is not from 1 to 64, and 70
-    /// where there is no memory.
+    /// Net n goes to cluster `n mod clusters`.
+    pub fn round_robin(
+        alloc: Global,
+        nets: u32,
+        clusters: PartCount,
+    ) -> Result<Clustering, AllocError>
+        ensures { IfOk result (λ spread. spread ≡ round_robin nets clusters) }
+    {
+        let clusters = clusters.get();
+        Ok(Clustering {
+            clusters,
+            assign: in_turn(alloc, nets, clusters)?,
+        })
+    }
+
+    /// The same of a number that may be none of clusters. 40 where it is not from 1 to 64, and 70 where there is no
+    /// memory.
     pub fn spread(alloc: Global, nets: u32, clusters: u32) -> Result<Clustering, ClusteringFault>
         ensures ok { IfOk result (λ spread. spread_clustering nets clusters ≡ Ok spread) }
         ensures fault { IfErr result (λ fault. RefusesClustering fault (spread_clustering nets clusters)) }
     {
-        if is_unlawful(clusters) {
+        let Some(clusters) = PartCount::new(clusters) else {
             return Err(ClusteringFault::Clusters);
-        }
-        let Ok(assign) = in_turn(alloc, nets, clusters) else {
-            return Err(ClusteringFault::Memory);
         };
-        Ok(Clustering { clusters, assign })
+        match Clustering::round_robin(alloc, nets, clusters) {
+            Ok(clustering) => Ok(clustering),
+            Err(_) => Err(ClusteringFault::Memory),
+        }
     }
 
     /// So many clusters, from 1 to 64, of which cluster `c mod clusters` has what cluster c of this clustering has.

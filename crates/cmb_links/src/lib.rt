@@ -9,6 +9,7 @@ mod view;
 mod workers;
 
 pub use board::{Board, Ending, Seat};
+pub use cmb_netlist::PartCount;
 pub use fault::{LinkFault, WorkersFault};
 pub use link::{Full, Link, PutPass, TakePass};
 pub use workers::Workers;

@@ -1,6 +1,7 @@
 //! How many workers a run has, and which of them has a cluster.
 
 use crate::fault::WorkersFault;
+use cmb_netlist::PartCount;
 use std::marker::Model;
 
 /// A number of workers, from 1 to 64. Contracts see the number.
@@ -21,6 +22,16 @@ impl Model for Workers {
     ghost inverse = { λ n. record { count = n } };
 }
 
+impl From<PartCount> for Workers {
+    ghost use Rattle.std.specs.Prelude.{◌≡◌};
+
+    ghost from_gives = { λ parts workers. workers ≡ parts };
+
+    fn from(parts: PartCount) -> Workers {
+        Workers { count: parts.get() }
+    }
+}
+
 impl Workers {
     ghost use Rattle.std.specs.Prelude.{◌≡◌, ◌≤◌, ◌<◌, ◌↔◌, IsOk, IfOk, IfErr, min};
     ghost use Rattle.cmb_links.specs.Workers.{worker_of};
@@ -31,10 +42,10 @@ impl Workers {
         ensures count { IfOk result (λ workers. workers ≡ n) }
         ensures fault { IfErr result (λ fault. fault ≡ WorkersFault.Workers) }
     {
-        if n < 1 || n > 64 {
-            return Err(WorkersFault::Workers);
+        match PartCount::new(n) {
+            Some(parts) => Ok(Workers::from(parts)),
+            None => Err(WorkersFault::Workers),
         }
-        Ok(Workers { count: n })
     }
 
     /// How many there are.

@@ -53,4 +53,4 @@ IsRun-chosen request pick texts o report there h =
     let nets : List ℕ = made.2.0 in
     let all = chosen_all pick design texts.names nets made.2.1 (there design nets made.2.1) in
     let whole : h.ok.0 ≡ in_form request.scopes design.netlist.names (vcd design) = made.2.2 ∙ form-all request.scopes design nets all in
-    record { ok = (h.ok.0, (design, made.1, whole, record { fits = made.3.fits; clusters = made.3.clusters; hands = made.3.hands }, made.4), h.ok.2); fault = tt }
+    record { ok = (h.ok.0, (design, made.1, whole, made.3, made.4), h.ok.2); fault = tt }

@@ -23,7 +23,7 @@ AreCompared-spelled request texts design o answer spelled h =
     (λ text told made. (design, spelled, made)) (λ f refused. inr (design, spelled, refused)) h
 
 module _ (request : Request) (design : Design) (table : List ℕ) (count differ : ℕ) (text : List ℕ) (o : Output)
-    (compared : IsCompared design table count differ text) (runs : CanRun request design) where
+    (compared : IsCompared design table count differ text) (runs : CanRun request.mode design) where
   -- the rows were written
   pub IsComparisonOf-written : HasTaken text o → (nets horizon written : ℕ) → nets ≡ nets_of design → horizon ≡ design.horizon → written ≡ length text
       → IsComparisonOf request design table o

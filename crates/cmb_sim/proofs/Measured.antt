@@ -22,7 +22,7 @@ IsTabled-spelled request texts design o answer spelled h =
     (λ text report made. (design, spelled, made.0, made.1, made.2)) (λ f refused. inr (design, spelled, refused)) h
 
 module _ (request : Request) (names : List ℕ) (design : Design) (text : List ℕ) (o : Output)
-    (table : IsTableOf request.choice design names text) (runs : CanRun request design) where
+    (table : IsTableOf request.choice design names text) (runs : CanRun request.mode design) where
   -- the table was written
   pub IsTabledOf-written : HasTaken text o → (nets horizon written : ℕ) → nets ≡ nets_of design → horizon ≡ design.horizon → written ≡ length text
       → IsTabledOf request design names o (Ok (record { nets = nets; horizon = horizon; written = written }))

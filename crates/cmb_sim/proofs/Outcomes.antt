@@ -50,12 +50,12 @@ IsRun-spelled request texts design o answer spelled h =
     (λ text report made. (design, spelled, made.0, made.1, made.2)) (λ f refused. inr (design, spelled, refused)) h
 
 -- all nets are asked for, and can't be run
-pub IsRefused-unrun : (request : Request) (names : List ℕ) (design : Design) (f : Fault) → request.choice ≡ All → IsUnrun request design f → IsRefused request names design f
+pub IsRefused-unrun : (request : Request) (names : List ℕ) (design : Design) (f : Fault) → request.choice ≡ All → IsUnrun request.mode design f → IsRefused request names design f
 IsRefused-unrun request names design f all h = inr (in_form request.scopes design.netlist.names (vcd design), rw all refl, h)
 
 -- chosen nets are asked for, and can't be run
 pub IsRefused-chosen : (request : Request) (pick : Pick) (names nets : List ℕ) (design : Design) (f : Fault) → request.choice ≡ Only pick → AreChosen pick design names nets
-    → IsUnrun request design f → IsRefused request names design f
+    → IsUnrun request.mode design f → IsRefused request names design f
 IsRefused-chosen request pick names nets design f only chosen h =
     inr (in_form request.scopes (names_of design.netlist nets) (vcd_of design nets), rw only (nets, chosen, refl), h)
 

@@ -22,11 +22,11 @@ comparison_of design rows text = record { report = report_of design text; rows =
 abbrev pub MakesComparison : Request → Texts → List ℕ → Comparison → Type 0
 MakesComparison request texts text told =
     (design : Design) × SpellAny texts request.settings design × ((rows : List Expected) × AreExpected design texts.names rows × (text ≡ difference_table design rows)
-    × CanRun request design × (told ≡ comparison_of design rows text))
+    × CanRun request.mode design × (told ≡ comparison_of design rows text))
 
 -- why a design isn't compared: the table can't expect that of it, or the mode can't run it
 abbrev pub IsUncompared : Request → List ℕ → Design → Fault → Type 0
-IsUncompared request table design f = AreUnexpected design table f ⊎ ((first_fault (expected_checks design table) ≡ None) × IsUnrun request design f)
+IsUncompared request table design f = AreUnexpected design table f ⊎ ((first_fault (expected_checks design table) ≡ None) × IsUnrun request.mode design f)
 
 -- why nothing comes of the texts: they spell no design, or it isn't compared
 abbrev pub RefusesComparison : Request → Texts → Fault → Type 0

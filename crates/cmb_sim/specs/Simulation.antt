@@ -9,7 +9,6 @@ use Rattle.cmb_design_model.specs.declared.fault.DesignFault.TheVariants.{TableT
 use Rattle.cmb_run_scopes.specs.Scopes.{in_form}
 use Rattle.cmb_run_text.specs.Chosen.{names_of, vcd_of}
 use Rattle.cmb_run_text.specs.Vcd.{vcd}
-use Rattle.cmb_cli_line.specs.Modes.{HasLawfulHands, IsLawfulCount, clusters_of}
 use Rattle.cmb_design_model.specs.declared.settings.Settings.{Settings}
 use Rattle.cmb_cli_line.specs.declared.choice.Choice.{Choice}
 use Rattle.cmb_cli_line.specs.declared.choice.Choice.TheVariants.{All, Only}
@@ -32,20 +31,15 @@ mode_checks Plain design = check TableTooLarge (nat_lt 16777216 (cells_of design
 mode_checks (Rounds workers clusters) design = []
 mode_checks (Free workers clusters) design = []
 
--- a design can be run as it is asked for
-pub record CanRun (request : Request) (design : Design) : Type 0 where
-  pub fits : first_fault (mode_checks request.mode design) ≡ None
-  pub clusters : IsLawfulCount (clusters_of request.mode)
-  pub hands : HasLawfulHands request.mode request.threads
+-- a design can be run in a mode
+abbrev pub CanRun : Mode → Design → Type 0
+CanRun mode design = first_fault (mode_checks mode design) ≡ None
 
--- why it can't: the first check of the mode that stands, then the number of clusters, then that of workers or of threads
-abbrev pub IsUnrun : Request → Design → Fault → Type 0
-IsUnrun request design (fault.Design f) = first_fault (mode_checks request.mode design) ≡ Some f
-IsUnrun request design fault.Clusters = (first_fault (mode_checks request.mode design) ≡ None) × (IsLawfulCount (clusters_of request.mode) → ⊥)
-IsUnrun request design fault.Workers =
-    (first_fault (mode_checks request.mode design) ≡ None) × IsLawfulCount (clusters_of request.mode) × (HasLawfulHands request.mode request.threads → ⊥)
-IsUnrun request design fault.Memory = ⊤
-IsUnrun request design _ = ⊥
+-- why it can't: the first check of the mode that stands
+abbrev pub IsUnrun : Mode → Design → Fault → Type 0
+IsUnrun mode design (fault.Design f) = first_fault (mode_checks mode design) ≡ Some f
+IsUnrun mode design fault.Memory = ⊤
+IsUnrun mode design _ = ⊥
 
 -- the text is written while the run goes on: that of all nets, without scopes
 abbrev pub IsStreamed : Mode → Choice → Bool → Type 0
@@ -75,7 +69,7 @@ report_of design text = record { nets = nets_of design; horizon = design.horizon
 -- of the texts comes a text, which IsText says of their design and of the names that are listed, with this report
 abbrev pub MakesText : (Design → List ℕ → List ℕ → Type 0) → Request → Texts → List ℕ → Report → Type 0
 MakesText IsText request texts text report =
-    (design : Design) × SpellAny texts request.settings design × IsText design texts.names text × CanRun request design
+    (design : Design) × SpellAny texts request.settings design × IsText design texts.names text × CanRun request.mode design
     × (report ≡ report_of design text)
 
 -- of the texts comes the text that is asked for
@@ -91,7 +85,7 @@ IsUnasked (Only pick) netlist names f = IsUnchosen pick netlist names f
 abbrev pub IsRefused : Request → List ℕ → Design → Fault → Type 0
 IsRefused request names design f =
     IsUnasked request.choice design.netlist names f
-    ⊎ ((text : List ℕ) × IsTextOf request.choice request.scopes design names text × IsUnrun request design f)
+    ⊎ ((text : List ℕ) × IsTextOf request.choice request.scopes design names text × IsUnrun request.mode design f)
 
 -- why nothing comes of the texts: they spell no design, or it isn't run
 abbrev pub Refuses : Request → Texts → Fault → Type 0

@@ -41,8 +41,8 @@ fn whole_table(alloc: Global, design: &Design) -> Result<Vec<u8>, AllocError>
     activity_text(alloc, design, &nets)
 }
 
-// The table that is asked for of a design, by the text of the list that names nets. The faults are 38, 33, 40 and 54,
-// in this order, and 70.
+// The table that is asked for of a design, by the text of the list that names nets. The faults are 38 and 33, in this
+// order, and 70.
 fn asked_table(
     alloc: Global,
     request: Request,
@@ -51,17 +51,17 @@ fn asked_table(
 ) -> Result<Vec<u8>, Fault>
     requires { length names.now ≤ input_limit }
     ensures table { IfOk result (λ table. IsTableOf request.choice design.now names.now table.items) }
-    ensures runs { OnOk result (CanRun request design.now) }
+    ensures runs { OnOk result (CanRun request.mode design.now) }
     ensures fault { IfErr result (IsRefused request names.now design.now) }
 {
     match request.choice {
         Choice::All => {
-            check_mode(request, design)?;
+            check_mode(request.mode, design)?;
             Ok(whole_table(alloc, design)?)
         }
         Choice::Only(pick) => {
             let nets = chosen_nets(alloc, pick, design, names)?;
-            check_mode(request, design)?;
+            check_mode(request.mode, design)?;
             Ok(chosen_activity_text(alloc, design, &nets)?)
         }
     }

@@ -23,7 +23,7 @@ use cmb_io::{Sink, Source};
 use std::alloc::Global;
 
 // The rows of a table that differ from a design's run, and how many rows it has. The faults are those of the table,
-// then 33, 40 and 54, and 70.
+// then 33, and 70.
 fn compared(
     alloc: Global,
     request: Request,
@@ -32,11 +32,11 @@ fn compared(
 ) -> Result<(u32, Differences), Fault>
     requires { length table.now ≤ input_limit }
     ensures compared { IfOk result (λ told. IsCompared design.now table.now told.0 told.1.count told.1.text.items) }
-    ensures runs { OnOk result (CanRun request design.now) }
+    ensures runs { OnOk result (CanRun request.mode design.now) }
     ensures fault { IfErr result (IsUncompared request table.now design.now) }
 {
     let rows = expected_in(alloc, design, table)?;
-    check_mode(request, design)?;
+    check_mode(request.mode, design)?;
     let told = expected_differences(alloc, design, &rows)?;
     Ok((rows.len() as u32, told))
 }

@@ -28,6 +28,7 @@ pub use cmb_io::{
     Failed, FromBytes, FromReader, Limited, ReadFault, Room, Sink, Source, ToWriter, read_whole,
     write_whole,
 };
+pub use cmb_netlist::PartCount;
 pub use cmb_wave::Level;
 pub use expecting::compare;
 pub use simulation::{simulate, simulate_chosen};

@@ -18,6 +18,7 @@ use cmb_design_model::Design;
 use cmb_faults::Fault;
 use cmb_graph_partition::Partition;
 use cmb_inputs::chosen_nets;
+use cmb_netlist::PartCount;
 use std::alloc::{AllocError, Global};
 use std::thread::Threads;
 
@@ -34,11 +35,20 @@ pub enum Way {
     Engine(u32),
     /// By a thread for each share of the nets, and one that makes the text. Where the shares have no common windows, by
     /// the engine and so many threads at most.
-    Shares { partition: Partition, threads: u32 },
+    Shares {
+        partition: Partition,
+        threads: u32,
+    },
     /// By workers with clusters of their own, in rounds.
-    Rounds { workers: u32, clusters: u32 },
+    Rounds {
+        workers: PartCount,
+        clusters: PartCount,
+    },
     /// By workers that run freely.
-    Free { workers: u32, clusters: u32 },
+    Free {
+        workers: PartCount,
+        clusters: PartCount,
+    },
 }
 
 /// What is done for what is asked for.
@@ -71,7 +81,7 @@ fn way_of<R: Threads + Sync>(
     request: Request,
     design: &Design,
 ) -> Result<Way, AllocError>
-    requires { CanRun request design.now }
+    requires { CanRun request.mode design.now }
     ensures way { IfOk result (IsWayTo design.now design.now.netlist.names (vcd design.now)
         (CanBeStopped request.mode request.threads All false)) }
     ensures table { request.mode ≡ Mode.Plain → IfOk result (λ way. IsByTable way) }
@@ -127,14 +137,14 @@ fn plan_for_all<R: Threads + Sync>(
     ensures plan { IfOk result (λ plan. (names : List ℕ) → IsPlan request design.now names plan) }
     ensures fault { IfErr result (λ fault. (names : List ℕ) → IsRefused request names design.now fault) }
 {
-    check_mode(request, design)?;
+    check_mode(request.mode, design)?;
     let way = way_of(rt, alloc, request, design)?;
     let held = is_held(request.mode, &way);
     Ok(Plan { way, held })
 }
 
-/// The plan for what is asked for of a design, by the text of the list that names nets. The faults are 38, 33, 40 and
-/// 54, in this order, and 70.
+/// The plan for what is asked for of a design, by the text of the list that names nets. The faults are 38 and 33, in
+/// this order, and 70.
 pub(crate) fn plan_of<R: Threads + Sync>(
     rt: &R,
     alloc: Global,
@@ -150,7 +160,7 @@ pub(crate) fn plan_of<R: Threads + Sync>(
         Choice::All => plan_for_all(rt, alloc, request, design),
         Choice::Only(pick) => {
             let nets = chosen_nets(alloc, pick, design, names)?;
-            check_mode(request, design)?;
+            check_mode(request.mode, design)?;
             Ok(Plan {
                 way: way_to_chosen(request.mode, nets, design),
                 held: false,

@@ -5,7 +5,6 @@ ghost use Rattle.cmb_design_model.specs.Checks.{first_fault};
 ghost use Rattle.cmb_design_model.specs.Exact.{nets_of};
 ghost use Rattle.cmb_dump.specs.Excerpts.{AreAmong};
 ghost use Rattle.cmb_inputs.specs.Outputs.{written_to};
-ghost use Rattle.cmb_cli_line.specs.Modes.{IsLawfulCount};
 ghost use Rattle.cmb_graph_partition.specs.Partitions.{IsPartition};
 ghost use Rattle.cmb_cli_line.specs.declared.mode.Mode.TheVariants.{Plain};
 ghost use Rattle.cmb_sim.specs.Inner.Plans.{CanMake, IsPut, MayBreak, PlanMayBreak, way_text};
@@ -16,13 +15,14 @@ ghost use Rattle.cmb_run_text.specs.Vcd.{vcd};
 
 use crate::plan::{Plan, Way};
 use cmb_chosen::chosen_text;
-use cmb_core_cluster::{Clustering, ClusteringFault};
+use cmb_core_cluster::Clustering;
 use cmb_design_model::{Design, DesignFault, plain_waves};
 use cmb_faults::Fault;
 use cmb_graph_partition::Partition;
 use cmb_inputs::write_text;
 use cmb_io::{Room, Sink};
 use cmb_links::Workers;
+use cmb_netlist::PartCount;
 use cmb_run_free::{OpenGate, run_free_text};
 use cmb_run_rounds::run_rounds;
 use cmb_run_text::{Collector, vcd_text, vcd_text_of};
@@ -65,41 +65,24 @@ fn picked_text(alloc: Global, design: &Design, nets: &[u32]) -> Result<Vec<u8>, 
 }
 
 // Net n in cluster `n mod clusters`.
-fn spread(alloc: Global, design: &Design, clusters: u32) -> Result<Clustering, AllocError>
-    requires { IsLawfulCount clusters }
+fn spread(alloc: Global, design: &Design, clusters: PartCount) -> Result<Clustering, AllocError>
     ensures { IfOk result (λ clustering. length clustering.assign ≡ nets_of design.now) }
 {
-    match Clustering::spread(alloc, design.netlist().len() as u32, clusters) {
-        Ok(clustering) => Ok(clustering),
-        Err(ClusteringFault::Memory) => Err(AllocError),
-        Err(_) => unreachable!(),
-    }
-}
-
-// So many workers.
-fn workers_of(workers: u32) -> Workers
-    requires { IsLawfulCount workers }
-{
-    match Workers::new(workers) {
-        Ok(workers) => workers,
-        Err(_) => unreachable!(),
-    }
+    Clustering::round_robin(alloc, design.netlist().len() as u32, clusters)
 }
 
 // The text of a design, by rounds of several workers.
 fn rounds_text<R: AllocGlobal + Threads + Sync>(
     rt: &R,
-    workers: u32,
-    clusters: u32,
+    workers: PartCount,
+    clusters: PartCount,
     design: &Design,
 ) -> Result<Vec<u8>, AllocError>
-    requires workers { IsLawfulCount workers }
-    requires clusters { IsLawfulCount clusters }
     ensures { IfOk result (λ text. text.items ≡ vcd design.now) }
 {
     let alloc = rt.alloc();
     let clustering = spread(alloc, design, clusters)?;
-    match run_rounds(rt, alloc, design, &clustering, workers_of(workers)) {
+    match run_rounds(rt, alloc, design, &clustering, Workers::from(workers)) {
         Ok(run) => vcd_text(alloc, design, &run.collector),
         Err(_) => Err(AllocError),
     }
@@ -108,13 +91,11 @@ fn rounds_text<R: AllocGlobal + Threads + Sync>(
 // Writes the text of a design while several workers run, and gives the text's length.
 fn write_by_workers<R: AllocGlobal + Threads + Wait + Sync, O: Sink>(
     rt: &R,
-    workers: u32,
-    clusters: u32,
+    workers: PartCount,
+    clusters: PartCount,
     design: &Design,
     out: &mut O,
 ) -> Result<u64, Fault>
-    requires workers { IsLawfulCount workers }
-    requires clusters { IsLawfulCount clusters }
     requires out { O.failures out.old < 2 ^ 64 - 1 }
     ensures { IsPut (vcd design.now) (MayBreak (Way.Free workers clusters) design.now)
         (written_to O.Sink out.old out.new) result }
@@ -122,7 +103,7 @@ fn write_by_workers<R: AllocGlobal + Threads + Wait + Sync, O: Sink>(
     let alloc = rt.alloc();
     let clustering = spread(alloc, design, clusters)?;
     // A worker without a cluster would have nothing to do.
-    let busy = workers_of(workers).at_most(clustering.clusters());
+    let busy = Workers::from(workers).at_most(clustering.clusters());
     let written = run_free_text(rt, alloc, design, &clustering, busy, &OpenGate, out)?;
     Ok(written)
 }

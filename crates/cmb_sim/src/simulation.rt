@@ -23,7 +23,7 @@ use std::thread::Threads;
 ///
 /// The five inputs, numbered 1 to 4 and 6, are read whole, in order, before anything else: 60 where one has more than
 /// 16,777,216 bytes, 61 where a read of it failed. Then come the faults of the netlist (1 to 8), of the
-/// tables and the design (20 to 37) and of the mode (33, 40, 54). The text is written once the run is complete, in mode
+/// tables and the design (20 to 37) and of the mode (33). The text is written once the run is complete, in mode
 /// free while it runs: 62 where a write failed. `Memory` (70) comes where memory or a worker's thread was refused, in
 /// mode free also in the middle of the text. 53 would come where several workers run freely and were stopped.
 pub fn simulate<

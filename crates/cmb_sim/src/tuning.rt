@@ -6,7 +6,7 @@ ghost use Rattle.cmb_graph_partition.specs.Partitions.{IsPartition};
 
 use cmb_design_model::Design;
 use cmb_graph_partition::{Partition, Structure, load, partition, structure_of, total};
-use cmb_netlist::Driver;
+use cmb_netlist::{Driver, PartCount};
 use cmb_shares::costs_of;
 use std::alloc::{AllocError, Global};
 use std::thread;
@@ -34,12 +34,12 @@ const PARTS: u32 = 50;
 
 /// Whether several workers have the nets of a design. Else the engine carries all of them: where one worker has them,
 /// and where several wouldn't pay.
-pub(crate) fn workers_pay(workers: u32, clusters: u32, design: &Design) -> bool
+pub(crate) fn workers_pay(workers: PartCount, clusters: PartCount, design: &Design) -> bool
     ensures { result ≡ true → (2 ≤ workers) × (2 ≤ clusters) }
 {
     let nets = design.netlist().len() as u64;
     let pairs = nets.saturating_mul(u64::from(design.horizon()));
-    2 <= workers && 2 <= clusters && pairs <= MOST_BY_WORKERS
+    2 <= workers.get() && 2 <= clusters.get() && pairs <= MOST_BY_WORKERS
 }
 
 // About how many samples the flip-flops of a design take in its run.

@@ -3,6 +3,7 @@
 use crate::checks::{contains, holds, same};
 use cmb_cli::{LineFault, line_message, read_line};
 use cmb_cli_line::{Choice, Line, Mode, Pick, Task};
+use cmb_netlist::PartCount;
 use cmb_wave::Level;
 use std::alloc::{AllocError, Global};
 use std::process::Abort;
@@ -213,10 +214,25 @@ fn names_of_a_check(rt: HostRuntime) -> Result<(), Fail> {
     Ok(())
 }
 
+const ONE: PartCount = PartCount::ONE;
+
 const ALONE: Mode = Mode::Rounds {
-    workers: 1,
-    clusters: 1,
+    workers: ONE,
+    clusters: ONE,
 };
+
+const ALONE_FREELY: Mode = Mode::Free {
+    workers: ONE,
+    clusters: ONE,
+};
+
+// So many workers, clusters or threads.
+fn parts(n: u32) -> Result<PartCount, Fail> {
+    match PartCount::new(n) {
+        Some(parts) => Ok(parts),
+        None => Err(Fail::new("a number of parts is refused")),
+    }
+}
 
 // A run in this mode, which shows how far it is and tells what it took, or doesn't.
 fn tells(
@@ -234,25 +250,16 @@ fn tells(
 #[test]
 fn telling_of_lines(rt: HostRuntime) -> Result<(), Fail> {
     let alloc = rt.alloc();
-    let free = Mode::Free {
-        workers: 1,
-        clusters: 1,
-    };
     tells(&rt, alloc, "run --horizon 10", ALONE, (false, false))?;
     tells(&rt, alloc, "run --horizon 10 --stats", ALONE, (false, true))?;
-    tells(
-        &rt,
-        alloc,
-        "run --horizon 10 --progress",
-        free,
-        (true, false),
-    )?;
+    let line = "run --horizon 10 --progress";
+    tells(&rt, alloc, line, ALONE_FREELY, (true, false))?;
     let line = "run --horizon 10 --progress --mode rounds";
     tells(&rt, alloc, line, ALONE, (true, false))?;
     let line = "run --horizon 10 --progress --stats --mode plain";
     tells(&rt, alloc, line, Mode::Plain, (true, true))?;
     let line = "run --horizon 10 --progress --threads 2";
-    tells(&rt, alloc, line, free, (true, false))
+    tells(&rt, alloc, line, ALONE_FREELY, (true, false))
 }
 
 #[test]
@@ -260,28 +267,16 @@ fn modes_of_lines(rt: HostRuntime) -> Result<(), Fail> {
     let alloc = rt.alloc();
     let rounds = |workers, clusters| Mode::Rounds { workers, clusters };
     runs(&rt, alloc, "run --horizon 10", ALONE)?;
-    runs(
-        &rt,
-        alloc,
-        "run --horizon 10 --mode rounds --workers 64",
-        rounds(64, 1),
-    )?;
-    runs(
-        &rt,
-        alloc,
-        "run --horizon 10 --clusters 64 --workers 2",
-        rounds(2, 64),
-    )?;
+    let line = "run --horizon 10 --mode rounds --workers 64";
+    runs(&rt, alloc, line, rounds(parts(64)?, ONE))?;
+    let line = "run --horizon 10 --clusters 64 --workers 2";
+    runs(&rt, alloc, line, rounds(parts(2)?, parts(64)?))?;
     let free = Mode::Free {
-        workers: 3,
-        clusters: 5,
+        workers: parts(3)?,
+        clusters: parts(5)?,
     };
-    runs(
-        &rt,
-        alloc,
-        "run --horizon 10 --mode free --clusters 5 --workers 3",
-        free,
-    )
+    let line = "run --horizon 10 --mode free --clusters 5 --workers 3";
+    runs(&rt, alloc, line, free)
 }
 
 // A line that asks for a run in this mode, by so many threads where it says that.
@@ -290,7 +285,7 @@ fn shares(
     alloc: Global,
     line: &str,
     mode: Mode,
-    threads: Option<u32>,
+    threads: Option<PartCount>,
 ) -> Result<(), Fail> {
     let line = line_of(alloc, line)?;
     same(rt, (line.mode, line.threads), (mode, threads));
@@ -301,15 +296,11 @@ fn shares(
 fn threads_of_lines(rt: HostRuntime) -> Result<(), Fail> {
     let alloc = rt.alloc();
     let line = "run --horizon 10 --threads 1";
-    shares(&rt, alloc, line, ALONE, Some(1))?;
+    shares(&rt, alloc, line, ALONE, Some(ONE))?;
     let line = "run --horizon 10 --mode free --threads 64";
-    let free = Mode::Free {
-        workers: 1,
-        clusters: 1,
-    };
-    shares(&rt, alloc, line, free, Some(64))?;
+    shares(&rt, alloc, line, ALONE_FREELY, Some(parts(64)?))?;
     let line = "run --horizon 10 --threads 4 --mode plain";
-    shares(&rt, alloc, line, Mode::Plain, Some(4))?;
+    shares(&rt, alloc, line, Mode::Plain, Some(parts(4)?))?;
     shares(&rt, alloc, "run --horizon 10", ALONE, None)
 }
 

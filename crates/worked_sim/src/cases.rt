@@ -1,8 +1,11 @@
 //! What a simulation is given, and what is to come of it.
 
+ghost use Rattle.std.specs.Prelude.{◌≤◌};
+
 use crate::checks::{holds, same};
 use cmb_sim::{
-    Choice, Fault, FromBytes, Level, Limited, Mode, Report, Request, Settings, simulate_chosen,
+    Choice, Fault, FromBytes, Level, Limited, Mode, PartCount, Report, Request, Settings,
+    simulate_chosen,
 };
 use std::alloc::{AllocError, Global};
 use std::process::Abort;
@@ -66,13 +69,22 @@ pub fn table(alloc: Global, header: &str, rows: &str) -> Result<String, AllocErr
 }
 
 /// How a case is run: by a mode, and by so many threads where that is said.
-pub type How = (Mode, Option<u32>);
+pub type How = (Mode, Option<PartCount>);
 
-fn rounds(workers: u32, clusters: u32) -> How {
+// So many workers, clusters or threads.
+fn parts(n: u32) -> PartCount
+    requires some { 1 ≤ n }
+    requires few { n ≤ 64 }
+{
+    PartCount::new(n).unwrap()
+}
+
+// By so many workers, and over so many clusters.
+fn rounds(workers: PartCount, clusters: PartCount) -> How {
     (Mode::Rounds { workers, clusters }, None)
 }
 
-fn free(workers: u32, clusters: u32) -> How {
+fn free(workers: PartCount, clusters: PartCount) -> How {
     (Mode::Free { workers, clusters }, None)
 }
 
@@ -80,35 +92,37 @@ fn free(workers: u32, clusters: u32) -> How {
 pub const PLAIN: How = (Mode::Plain, None);
 
 /// By threads that share the work, the text being written once it is whole.
-pub fn shared(threads: u32) -> How {
-    let (mode, _) = rounds(1, 1);
+fn shared(threads: PartCount) -> How {
+    let (mode, _) = rounds(PartCount::ONE, PartCount::ONE);
     (mode, Some(threads))
 }
 
 /// By threads that share the work, the text being written while it is made.
-pub fn shared_freely(threads: u32) -> How {
-    let (mode, _) = free(1, 1);
+fn shared_freely(threads: PartCount) -> How {
+    let (mode, _) = free(PartCount::ONE, PartCount::ONE);
     (mode, Some(threads))
 }
 
 /// All modes, with one worker and with more, with each net in a cluster of its own and empty clusters besides, and by
 /// threads that share the work.
 pub fn modes() -> [How; 14] {
+    let (one, two, three) = (PartCount::ONE, parts(2), parts(3));
+    let (seven, most) = (parts(7), parts(64));
     [
         PLAIN,
-        rounds(1, 1),
-        rounds(1, 64),
-        rounds(2, 7),
-        rounds(3, 2),
-        rounds(64, 64),
-        free(1, 64),
-        free(2, 7),
-        free(3, 64),
-        free(64, 64),
-        shared(1),
-        shared(3),
-        shared_freely(2),
-        shared_freely(64),
+        rounds(one, one),
+        rounds(one, most),
+        rounds(two, seven),
+        rounds(three, two),
+        rounds(most, most),
+        free(one, most),
+        free(two, seven),
+        free(three, most),
+        free(most, most),
+        shared(one),
+        shared(three),
+        shared_freely(two),
+        shared_freely(most),
     ]
 }
 
@@ -204,25 +218,14 @@ pub fn writes<R: AllocGlobal + Abort + Threads + Wait + Sync>(
     Ok(())
 }
 
-/// The answer to this case is this fault at this place, and nothing is written.
+/// The answer to this case, by the table, is this fault at this place, and nothing is written.
 pub fn refuses<R: AllocGlobal + Abort + Threads + Wait + Sync>(
     rt: &R,
     case: Case<'_>,
     number: u32,
     place: u64,
 ) -> Result<(), Fail> {
-    refuses_in(rt, case, PLAIN, number, place)
-}
-
-/// Run so, the answer to this case is this fault at this place, and nothing is written.
-pub fn refuses_in<R: AllocGlobal + Abort + Threads + Wait + Sync>(
-    rt: &R,
-    case: Case<'_>,
-    how: How,
-    number: u32,
-    place: u64,
-) -> Result<(), Fail> {
-    let (told, text) = run(rt, case, how)?;
+    let (told, text) = run(rt, case, PLAIN)?;
     same(rt, told, Err((number, place)));
     holds(rt, text.is_empty());
     Ok(())

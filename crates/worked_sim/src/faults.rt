@@ -1,8 +1,9 @@
 //! Faults of the netlist and of the settings.
 
-use crate::cases::{Case, bench_case, clocked, refuses, refuses_in, shared, shared_freely, writes};
+use crate::cases::{Case, bench_case, clocked, refuses, writes};
+use crate::checks::same;
 use crate::waves::{inverter, toggle};
-use cmb_sim::{Mode, Settings};
+use cmb_sim::{PartCount, Settings};
 use std::alloc::{AllocError, Global};
 use std::process::Abort;
 use std::sync::Wait;
@@ -82,19 +83,14 @@ fn operands(rt: HostRuntime) -> Result<(), Fail> {
 }
 
 #[test]
-fn refused_numbers(rt: HostRuntime) -> Result<(), Fail> {
-    for (workers, clusters, number) in [(1, 0, 40), (0, 65, 40), (0, 64, 54), (65, 1, 54)] {
-        let how = (Mode::Rounds { workers, clusters }, None);
-        refuses_in(&rt, inverter(), how, number, 0)?;
-        refuses_in(&rt, toggle(), how, 22, 0)?;
+fn part_counts(rt: HostRuntime) {
+    same(&rt, PartCount::ONE.get(), 1);
+    for n in [1, 2, 64] {
+        same(&rt, PartCount::new(n).map(|parts| parts.get()), Some(n));
     }
-    for threads in [0, 65] {
-        refuses_in(&rt, inverter(), shared(threads), 54, 0)?;
-        refuses_in(&rt, inverter(), shared_freely(threads), 54, 0)?;
-        refuses_in(&rt, inverter(), (Mode::Plain, Some(threads)), 54, 0)?;
-        refuses_in(&rt, toggle(), shared_freely(threads), 22, 0)?;
+    for n in [0, 65, u32::MAX] {
+        same(&rt, PartCount::new(n), None);
     }
-    Ok(())
 }
 
 #[test]

@@ -15,12 +15,12 @@ use Rattle.cmb_sim.specs.Simulation.{Breaks, CanRun, IsMade, IsRefused, IsTextOf
 
 -- a text that IsText says, with this report
 abbrev pub MakesOf : (Design → List ℕ → List ℕ → Type 0) → Request → Design → List ℕ → List ℕ → Report → Type 0
-MakesOf IsText request design names text report = IsText design names text × CanRun request design × (report ≡ report_of design text)
+MakesOf IsText request design names text report = IsText design names text × CanRun request.mode design × (report ≡ report_of design text)
 
 -- the table of the rows that differ from its run
 abbrev pub MakesComparisonOf : Request → Design → List ℕ → List ℕ → Comparison → Type 0
 MakesComparisonOf request design table text told =
-    (rows : List Expected) × AreExpected design table rows × (text ≡ difference_table design rows) × CanRun request design
+    (rows : List Expected) × AreExpected design table rows × (text ≡ difference_table design rows) × CanRun request.mode design
     × (told ≡ comparison_of design rows text)
 
 -- its waveforms

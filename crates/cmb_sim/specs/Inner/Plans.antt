@@ -8,7 +8,6 @@ use Rattle.cmb_run_scopes.specs.Scopes.{in_form, scoped_header}
 use Rattle.cmb_run_scopes.specs.declared.header.Headers.{Headers}
 use Rattle.cmb_run_text.specs.Chosen.{names_of, vcd_of}
 use Rattle.cmb_run_text.specs.Vcd.{header, vcd}
-use Rattle.cmb_cli_line.specs.Modes.{IsLawfulCount}
 use Rattle.cmb_graph_partition.specs.Partitions.{IsPartition}
 use Rattle.cmb_cli_line.specs.declared.line.Request.{Request}
 use Rattle.cmb_cli_line.specs.declared.mode.Mode.TheVariants.{Plain}
@@ -48,8 +47,8 @@ CanMake (Picked nets) design = (first_fault (mode_checks Plain design) ≡ None)
 CanMake (Chosen nets) design = AreAmong (nets_of design) nets.items
 CanMake (Engine threads) design = ⊤
 CanMake (Shares partition threads) design = IsPartition design.netlist partition
-CanMake (Rounds workers clusters) design = IsLawfulCount workers × IsLawfulCount clusters
-CanMake (Free workers clusters) design = IsLawfulCount workers × IsLawfulCount clusters
+CanMake (Rounds workers clusters) design = ⊤
+CanMake (Free workers clusters) design = ⊤
 
 -- it fills the table
 abbrev pub IsByTable : Way → Type 0
@@ -96,7 +95,7 @@ pub record IsWayTo (design : Design) (names : List (List ℕ)) (text : List ℕ)
 -- What is planned is what is asked for: the text, in mode plain by the table, and, without scopes, whether it is held. The run can be stopped
 -- only where what is asked for can.
 pub record IsPlan (request : Request) (design : Design) (names : List ℕ) (plan : Plan) : Type 0 where
-  pub runs : CanRun request design
+  pub runs : CanRun request.mode design
   pub makes : CanMake plan.way design
   pub text : IsTextOf request.choice request.scopes design names (form_text request.scopes plan.way design)
   pub table : request.mode ≡ Plain → IsByTable plan.way
