@@ -1,7 +1,6 @@
 -- The nets and clocks behind some counts.
-use Rattle.std.specs.Prelude.{◌≡◌, ℕ, ◌<◌, Bool, false, List, length, map, slice_index_or, take, All}
+use Rattle.std.specs.Prelude.{◌≡◌, ℕ, Bool, false, List, length, map, slice_index_or, take, All}
 use Rattle.std.specs.List.{filter, range_with_len}
-use Rattle.cmb_netlist.specs.Netlist.{Netlist}
 use Rattle.cmb_design_model.specs.Design.{Design}
 use Rattle.cmb_design_model.specs.Timing.{clock_of}
 use Rattle.cmb_design_model.specs.declared.rows.Clock.{Clock}

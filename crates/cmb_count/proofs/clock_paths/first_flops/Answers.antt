@@ -1,9 +1,7 @@
-use Rattle.std.proofs.Common.{◌≡◌, ◌∙◌, ℕ, Vec, Global, ap, length, refl, arith}
+use Rattle.std.proofs.Common.{◌∙◌, ap}
 use Rattle.std.specs.BTreeMap.{is_at}
 use Rattle.std.specs.List.{list_any}
-use Rattle.cmb_netlist.specs.Netlist.{Netlist}
 use Rattle.cmb_count.specs.Clocks.{is_first_clocked}
-use Rattle.cmb_count.specs.Findings.{first_nets}
 use Rattle.cmb_count.specs.Inner.ClockSets.{pair_cmp}
 use Rattle.cmb_count.proofs.ClockFacts.{none_before}
 use Rattle.cmb_count.proofs.FirstFacts.{first_none, first_step}

@@ -1,11 +1,9 @@
-use Rattle.std.proofs.Common.{◌≡◌, ◌∙◌, ap, sym, subst}
+use Rattle.std.proofs.Common.{◌≡◌, ◌∙◌, ap, sym}
 use Rattle.std.specs.Prelude.{◌||◌}
 use Rattle.cmb_netlist.specs.Netlist.{Netlist, driver_of}
 use Rattle.cmb_design_model.specs.Nets.{is_flop}
-use Rattle.cmb_design_model.specs.Settings.{any_below}
-use Rattle.cmb_design_model.specs.Timing.{clock_of}
 use Rattle.cmb_design_model.specs.declared.rows.Clock.{Clock}
-use Rattle.cmb_count.specs.Clocks.{is_clocked_by, same_clock}
+use Rattle.cmb_count.specs.Clocks.{same_clock}
 use Rattle.cmb_count.specs.Inner.ClockSets.{has_clock}
 use Rattle.cmb_count.proofs.ClockFacts.{met, noted, passed}
 use Rattle.cmb_count.proofs.clock_paths.note_flop.Goals as goal

@@ -1,4 +1,4 @@
-use Rattle.std.proofs.Common.{◌≡◌, ◌∙◌, List, Bool, ap, sym, length}
+use Rattle.std.proofs.Common.{◌∙◌, List, Bool, ap, length}
 use Rattle.cmb_count.specs.Findings.{first_nets}
 use Rattle.cmb_count.specs.Inner.Marks.{is_found}
 use Rattle.cmb_count.proofs.FoundFacts.{found_by_marks}
