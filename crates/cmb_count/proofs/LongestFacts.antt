@@ -2,11 +2,11 @@
 use Rattle.std.proofs.Common.{◌≡◌, ◌⊎◌, inl, inr, ◌∙◌, ℕ, ◌+◌, ◌<◌, ◌≤◌, true, length, refl, ap, sym, subst, arith}
 use Rattle.std.proofs.lemmas.Bool.{cases_lt}
 use Rattle.std.proofs.lemmas.List.{get_or_past}
-use Rattle.cmb_netlist.specs.Netlist.{Netlist, IsNetlist, driver_of}
+use Rattle.cmb_netlist.specs.Netlist.{Netlist, IsNetlist, driver_of, IsWired}
 use Rattle.cmb_netlist.specs.declared.netlist.Driver.{Driver}
 use Rattle.cmb_netlist.specs.declared.netlist.Driver.TheVariants.{Input, Gate, Flop}
 use Rattle.cmb_design_model.specs.Design.{Design}
-use Rattle.cmb_design_model.proofs.PlainFacts.{driver-wired}
+use Rattle.cmb_netlist.proofs.Wired.{driver-wired}
 use Rattle.cmb_count.specs.Inner.Arrivals.{Covers, IsReached}
 use Rattle.cmb_count.specs.Inner.LongestPaths.{AreFound, AreLatest, Bounds, IsLongestSoFar, IsOutput, is_sampled, longest_at, time_at}
 use Rattle.cmb_count.specs.Paths.{Arrives, IsEnd, IsLongest, Settles}
@@ -130,7 +130,7 @@ longest_is design paths arrivals longest sound are within so_far = by longest so
 pub end_within : (paths : Between) (design : Design) (net : ℕ) → IsNetlist design.netlist → IsEnd paths design net → net < length design.netlist.names
 end_within All design net sound (inl h) =
     let low = sound.outputs h.0 net h.1 in subst (λ (k : ℕ). k < length design.netlist.names) h.2 low
-end_within All design net sound (inr h) = driver-wired design.netlist h.0 (Flop net) sound (flop_within design.netlist h.0 net sound h.1) (sym h.1)
-end_within (Clocked clock) design net sound h = driver-wired design.netlist h.0 (Flop net) sound (flop_within design.netlist h.0 net sound h.1) (sym h.1)
-end_within (InputsTo clock) design net sound h = driver-wired design.netlist h.0 (Flop net) sound (flop_within design.netlist h.0 net sound h.1) (sym h.1)
-end_within (OthersTo clock) design net sound h = driver-wired design.netlist h.0 (Flop net) sound (flop_within design.netlist h.0 net sound h.1) (sym h.1)
+end_within All design net sound (inr h) = subst (IsWired (length design.netlist.names)) h.1 (driver-wired design.netlist sound h.0)
+end_within (Clocked clock) design net sound h = subst (IsWired (length design.netlist.names)) h.1 (driver-wired design.netlist sound h.0)
+end_within (InputsTo clock) design net sound h = subst (IsWired (length design.netlist.names)) h.1 (driver-wired design.netlist sound h.0)
+end_within (OthersTo clock) design net sound h = subst (IsWired (length design.netlist.names)) h.1 (driver-wired design.netlist sound h.0)

@@ -1,13 +1,8 @@
 -- Marks of nets.
-use Rattle.std.proofs.Common.{◌≡◌, ◌||◌, ◌∙◌, ℕ, ◌+◌, ◌<◌, Bool, true, false, List, [], length, get_or, set, take, nat_eq, add-one, ap, sym, refl}
-use Rattle.std.specs.Prelude.{All}
+use Rattle.std.proofs.Common.{◌≡◌, ◌||◌, ◌∙◌, ℕ, ◌+◌, ◌<◌, Bool, true, false, List, length, get_or, set, take, nat_eq, add-one, ap, sym, refl}
 use Rattle.std.proofs.Math.Bool.{or_assoc}
-use Rattle.std.proofs.lemmas.List.Elements.{All-cons, All-nil}
-use Rattle.cmb_netlist.specs.Netlist.{Netlist, IsNetlist, IsWired, driver_of, pins_of}
-use Rattle.cmb_netlist.specs.declared.netlist.Driver.{Driver}
-use Rattle.cmb_netlist.specs.declared.netlist.Driver.TheVariants.{Input, Gate, Flop}
+use Rattle.cmb_netlist.specs.Netlist.{Netlist, driver_of, pins_of}
 use Rattle.cmb_design_model.specs.Settings.{any_below}
-use Rattle.cmb_design_model.proofs.PlainFacts.{driver-wired}
 use Rattle.std.proofs.lemmas.Bool.{eqb-false, eqb-true}
 use Rattle.std.proofs.lemmas.Grind.{get_or-set_at}
 use Rattle.std.proofs.lemmas.List.{get_or-set_other}
@@ -41,21 +36,11 @@ marked_more marks old nets i net within low before = by (nat_eq net (get_or nets
         get_or-set_other marks (get_or nets i 0) net true false (eqb-false _ _ e)
         ∙ before ∙ sym (ap (λ x. old || x) (more ∙ ap (λ x. is_among (take i nets) net || x) e) ∙ or_false old (is_among (take i nets) net))
 
--- the pins of a netlist's drivers are nets
-pins_wired : (nets : ℕ) (driver : Driver) → IsWired nets driver → All (λ net. net < nets) (pins_of driver)
-pins_wired nets Input w = All-nil (λ net. net < nets)
-pins_wired nets (Gate kind operands) w = w.1
-pins_wired nets (Flop source) w = All-cons (λ net. net < nets) source [] w (All-nil (λ net. net < nets))
-
-pub pins_are_nets : (netlist : Netlist) (net : ℕ) (driver : Driver) → IsNetlist netlist → net < length netlist.names → driver ≡ driver_of netlist net
-    → All (λ pin. pin < length netlist.names) (pins_of driver)
-pins_are_nets netlist net driver lawful within is = pins_wired (length netlist.names) driver (driver-wired netlist net driver lawful within is)
-
 -- the nets that one more net reads
-pub used_more : (netlist : Netlist) (net readers : ℕ) (driver : Driver) (old new : Bool) → driver ≡ driver_of netlist readers
-    → old ≡ is_used_below netlist readers net → new ≡ (old || is_among (pins_of driver) net) → new ≡ is_used_below netlist (readers + 1) net
+pub used_more : (netlist : Netlist) (net readers : ℕ) (pins : List ℕ) (old new : Bool) → pins ≡ pins_of (driver_of netlist readers)
+    → old ≡ is_used_below netlist readers net → new ≡ (old || is_among pins net) → new ≡ is_used_below netlist (readers + 1) net
 unfolding any_below
-used_more netlist net readers driver old new is before more = more ∙ rw (before, is, add-one) (or_assoc (is_among netlist.outputs net) (any_below (is_read_by netlist net) readers) (is_read_by netlist net readers))
+used_more netlist net readers pins old new is before more = more ∙ rw (before, is, add-one) (or_assoc (is_among netlist.outputs net) (any_below (is_read_by netlist net) readers) (is_read_by netlist net readers))
 
 -- what no one of the first nets reads
 pub used_none : (netlist : Netlist) (net : ℕ) → (false || is_among netlist.outputs net) ≡ is_used_below netlist 0 net

@@ -1,15 +1,15 @@
 -- Paths, in turn and over again, and components of gates.
-use Rattle.std.proofs.Common.{◌≡◌, ◌⊎◌, inl, inr, ℕ, zero, suc, ◌+◌, ◌<◌, ◌≤◌, Bool, true, false, List, length, get_or, refl, sym, ap, subst, ◌∙◌, arith}
-use Rattle.std.specs.Prelude.{All, Contains}
+use Rattle.std.proofs.Common.{◌≡◌, ◌⊎◌, inl, inr, ℕ, zero, suc, ◌+◌, ◌<◌, ◌≤◌, Bool, true, false, List, length, get_or, sym, ap, subst, ◌∙◌, arith}
+use Rattle.std.specs.Prelude.{Contains}
 use Rattle.std.proofs.lemmas.Bool.{cases_eq, cases_lt}
 use Rattle.std.proofs.lemmas.List.{get_or_default, get_or_past}
-use Rattle.std.proofs.lemmas.List.Elements.{All-get_or, All-nil, Contains-get_or}
-use Rattle.cmb_netlist.specs.Netlist.{Netlist, IsNetlist, IsWired, driver_of}
+use Rattle.std.proofs.lemmas.List.Elements.{All-get_or, Contains-get_or}
+use Rattle.cmb_netlist.specs.Netlist.{Netlist, IsNetlist, driver_of}
 use Rattle.cmb_netlist.specs.declared.netlist.Driver.{Driver}
-use Rattle.cmb_netlist.specs.declared.netlist.Driver.TheVariants.{Input, Gate, Flop}
+use Rattle.cmb_netlist.specs.declared.netlist.Driver.TheVariants.{Input}
 use Rattle.cmb_design_model.specs.Design.{Design}
 use Rattle.cmb_design_model.specs.Timing.{delay}
-use Rattle.cmb_design_model.proofs.PlainFacts.{driver-wired}
+use Rattle.cmb_graph.proofs.BeginFacts.{targets_inside}
 use Rattle.cmb_design_model.proofs.SampleFacts.{delay-positive}
 use Rattle.cmb_graph.specs.Loops.{AreLoops, AreStrongComponents, IsInLoop, Reaches, Walk, one, more, targets, targets_of}
 use Rattle.cmb_graph.specs.declared.steps.Steps.TheVariants as steps
@@ -80,11 +80,6 @@ reached_endless design between x m Unbounded loop r a = let first = a 0 in ever 
 
 -- ---- operands
 
-gates_wired : (nets : ℕ) (driver : Driver) → IsWired nets driver → All (λ net. net < nets) (targets_of steps.Gates driver)
-gates_wired nets Input w = All-nil (λ net. net < nets)
-gates_wired nets (Gate kind operands) w = w.1
-gates_wired nets (Flop source) w = All-nil (λ net. net < nets)
-
 -- what has operands is a net
 pub gate_within : (netlist : Netlist) (gate k : ℕ) → IsNetlist netlist → k < length (operands netlist gate) → gate < length netlist.names
 gate_within netlist gate k is within = by (cases_lt gate (length netlist.names))
@@ -97,9 +92,7 @@ gate_within netlist gate k is within = by (cases_lt gate (length netlist.names))
         absurd (omega (arith, within, short))
 
 pub operand_within : (netlist : Netlist) (gate k : ℕ) → IsNetlist netlist → k < length (operands netlist gate) → get_or (operands netlist gate) k 0 < length netlist.names
-operand_within netlist gate k is within =
-    All-get_or (λ net. net < length netlist.names) (operands netlist gate) k 0 within
-    (gates_wired (length netlist.names) (driver_of netlist gate) (driver-wired netlist gate (driver_of netlist gate) is (gate_within netlist gate k is within) refl))
+operand_within netlist gate k is within = All-get_or (λ net. net < length netlist.names) (operands netlist gate) k 0 within (targets_inside netlist steps.Gates gate is)
 
 -- ---- components
 

@@ -1,23 +1,11 @@
 //! The largest delay.
 
-ghost use Rattle.std.specs.Prelude.{◌≡◌, ◌⊎◌, ℕ, ◌<◌, ◌≤◌, length};
-ghost use Rattle.cmb_netlist.specs.Netlist.{pins_of};
+ghost use Rattle.std.specs.Prelude.{◌⊎◌, ℕ, ◌<◌, ◌≤◌, length};
 ghost use Rattle.cmb_design_model.specs.Nets.{pins_at};
 ghost use Rattle.cmb_design_model.specs.Timing.{delay};
 ghost use Rattle.cmb_count.specs.Largest.{BoundsBelow, IsDelayOfPin, IsLargestDelay};
 
 use cmb_design_model::Design;
-use cmb_netlist::Driver;
-
-fn pin_count(driver: &Driver) -> usize
-    ensures { result ≡ length (pins_of driver.now) }
-{
-    match driver {
-        Driver::Input => 0,
-        Driver::Gate(_, operands) => operands.as_slice().len(),
-        Driver::Flop(_) => 1,
-    }
-}
 
 // The greatest of a number and the delays of a net's pins.
 fn largest_of(design: &Design, net: usize, least: u32) -> u32
@@ -27,7 +15,7 @@ fn largest_of(design: &Design, net: usize, least: u32) -> u32
     ensures met { IsDelayOfPin design.now least → IsDelayOfPin design.now result }
 {
     let mut most = least;
-    for place in 0..pin_count(design.netlist().driver(net)) {
+    for place in 0..design.netlist().driver(net).pins().len() {
         most = most.max(design.delay(net, place + 1));
     }
     most

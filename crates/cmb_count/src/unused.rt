@@ -1,12 +1,12 @@
 //! Nets that drive nothing.
 
 ghost use Rattle.std.specs.Prelude.{◌≡◌, ◌||◌, ℕ, ◌<◌, ◌≤◌, false, not, length, slice_index_or, All, IfOk};
-ghost use Rattle.cmb_netlist.specs.Netlist.{IsNetlist, driver_of, pins_of};
+ghost use Rattle.cmb_netlist.specs.Netlist.{IsNetlist};
 ghost use Rattle.cmb_count.specs.Below.{count_below};
 ghost use Rattle.cmb_count.specs.Inner.Marks.{AreUsed};
 ghost use Rattle.cmb_count.specs.Unused.{is_among, is_used_below, unused_count};
 
-use cmb_netlist::{Driver, Netlist};
+use cmb_netlist::Netlist;
 use std::alloc::{AllocError, Global};
 
 // Marks each of these nets.
@@ -21,21 +21,6 @@ fn mark_all(marks: &mut [bool], nets: &[u32])
     }
 }
 
-// Marks the nets that a driver reads.
-fn mark_pins(marks: &mut [bool], driver: &Driver)
-    requires { All (λ net. net < length marks.old) (pins_of driver.now) }
-    ensures long { length marks.new ≡ length marks.old }
-    ensures marked { (net : ℕ) → net < length marks.old
-        → slice_index_or marks.new net false
-        ≡ (slice_index_or marks.old net false || is_among (pins_of driver.now) net) }
-{
-    match driver {
-        Driver::Input => {}
-        Driver::Gate(_, operands) => mark_all(marks, operands.as_slice()),
-        Driver::Flop(source) => mark_all(marks, &[*source]),
-    }
-}
-
 // Marks the nets that a pin reads and those that are outputs.
 fn mark_used(marks: &mut [bool], netlist: &Netlist)
     requires sound { IsNetlist netlist.now }
@@ -47,7 +32,7 @@ fn mark_used(marks: &mut [bool], netlist: &Netlist)
 {
     mark_all(marks, netlist.outputs());
     for net in 0..netlist.len() {
-        mark_pins(marks, netlist.driver(net));
+        mark_all(marks, netlist.driver(net).pins());
     }
 }
 

@@ -10,8 +10,8 @@ loop-place-preserved c =
     let design = c.args.design.now in
     let here : c.delay.result ≡ delay design c.args.net (c.loop-place.place + 1) = c.delay.ensures.value in
     let is : c.max-most.result ≡ max c.loop-place.most (delay design c.args.net (c.loop-place.place + 1)) = c.max-most.ensures ∙ ap (max c.loop-place.most) here in
-    let many : c.pin_count-place-end.result ≡ pins_at design.netlist c.args.net =
-    c.pin_count-place-end.ensures ∙ ap (λ d. length (pins_of d)) (c.driver.ensures ∙ ap (λ n. driver_of n c.args.net) c.netlist.ensures) in
+    let many : length c.pins-place-end.result.now ≡ pins_at design.netlist c.args.net =
+    ap length (c.pins-place-end.ensures ∙ ap (λ d. pins_of d) (c.driver.ensures ∙ ap (λ n. driver_of n c.args.net) c.netlist.ensures)) in
     record {
       least = let old = c.loop-place.invariant.least in omega (arith, is);
       bounds = bounds-next design c.args.net c.loop-place.place c.loop-place.most c.max-most.result c.loop-place.invariant.bounds (omega (arith, is)) (omega (arith, is));

@@ -1,7 +1,7 @@
 use Rattle.std.proofs.Common.{◌≡◌, ◌∙◌, ◌+◌, ◌<◌, ℕ, ap, sym, subst, arith, length}
-use Rattle.cmb_netlist.specs.Netlist.{Netlist, driver_of}
+use Rattle.cmb_netlist.specs.Netlist.{Netlist, IsWired, driver_of}
 use Rattle.cmb_netlist.specs.declared.netlist.Driver.TheVariants.{Flop}
-use Rattle.cmb_design_model.proofs.PlainFacts.{driver-wired}
+use Rattle.cmb_netlist.proofs.Wired.{driver-wired}
 use Rattle.cmb_count.specs.Inner.LongestPaths.{IsLongestSoFar, longest_at, time_at}
 use Rattle.cmb_count.specs.Paths.{IsEnd}
 use Rattle.cmb_count.proofs.LongestFacts.{IsEndBelow, end_all, end_more, end_of_flop, end_skipped, longest_more, longest_same}
@@ -18,7 +18,7 @@ loop-flop-preserved c =
           let x = w.in-Some.net in
           let is : driver_of design.netlist k ≡ Flop x = w.in-Some.ensures.0 in
           let within : k < length design.netlist.names = omega (arith, c.loop-flop-test.true, c.len-flop-end.ensures.value, ap (λ (n : Netlist). length n.names) c.netlist.ensures) in
-          let low : x < length design.netlist.names = driver-wired design.netlist k (Flop x) c.requires.sound within (sym is) in
+          let low : x < length design.netlist.names = subst (IsWired (length design.netlist.names)) is (driver-wired design.netlist c.requires.sound k) in
           let come : w.longest_at.result ≡ longest_at x (time_at c.args.arrivals.now x) = w.longest_at.ensures ∙ ap (longest_at x) w.at.ensures in
           subst (IsLongestSoFar design paths c.args.arrivals.now (IsEndBelow paths design (k + 1))) (sym w.longest-is)
           (longest_more design paths c.args.arrivals.now x (IsEndBelow paths design k) (IsEndBelow paths design (k + 1)) c.loop-flop.longest w.longest_at.result w.longer-longest.result c.requires.arrivals
