@@ -9,10 +9,7 @@ use Rattle.std.proofs.lemmas.List.Elements.{All-nil, All-append, All-filter, All
 use Rattle.std.proofs.lemmas.List.FromFn.{map-range_with_len_more, length-range_with_len, get_or-range_with_len}
 use Rattle.std.proofs.lemmas.List.Kept.{IsStrictlyIncreasing-filter}
 use Rattle.std.proofs.lemmas.List.Sums.{count_by-le-length, sum_by-set}
-use Rattle.cmb_netlist.specs.declared.netlist.Driver.{Driver}
-use Rattle.cmb_netlist.specs.declared.netlist.Driver.TheVariants.{Input, Gate, Flop}
-use Rattle.cmb_netlist.specs.Netlist.{Netlist, IsNetlist, IsWired, driver_of, pins_of}
-use Rattle.cmb_cone.proofs.ValueFacts.{wired_at}
+use Rattle.cmb_netlist.specs.Netlist.{Netlist}
 use Rattle.cmb_cone.specs.Closed.{IsClosed, IsClosure, asked_by}
 use Rattle.cmb_cone.specs.Inner.Found.{IsFound, Gains, Follows}
 use Rattle.cmb_cone.specs.declared.closed.Found.{Found}
@@ -270,17 +267,3 @@ added_new old new net is within unmarked m l = record {
   marks = ap length m ∙ length-set old.marks.items net true;
   gains = let P : List ℕ → Type 0 = λ xs. Gains old.list.items (net ∷ []) xs in subst P (sym l) (gains_new old.list.items net);
 }
-
--- the pins of a driver are nets
-pub wired_pins : (count : ℕ) (driver : Driver) → IsWired count driver → All (λ pin. pin < count) (pins_of driver)
-wired_pins count Input wired = All-nil (λ pin. pin < count)
-wired_pins count (Gate kind operands) wired = wired.1
-wired_pins count (Flop source) wired = single (λ pin. pin < count) source wired
-
--- of one that was read
-pub pins_below : (netlist : Netlist) (net count : ℕ) (read driver : Driver) → IsNetlist netlist → net < length netlist.names → count ≡ length netlist.names
-    → read ≡ driver_of netlist net → read ≡ driver → All (λ pin. pin < count) (pins_of driver)
-pins_below netlist net count read driver lawful within long first second =
-    let P : Driver → Type 0 = λ d. All (λ pin. pin < count) (pins_of d) in
-    subst P (sym first ∙ second) (All-weaker (λ pin. pin < length netlist.names) (λ pin. pin < count) (λ pin l. omega (arith, long)) (pins_of (driver_of netlist net))
-    (wired_pins (length netlist.names) (driver_of netlist net) (wired_at netlist net lawful within)))

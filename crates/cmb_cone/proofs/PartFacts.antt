@@ -13,6 +13,7 @@ use Rattle.std.proofs.lemmas.Map.Keys.{apart_from_distinct, IsDistinct-from_apar
 use Rattle.std.specs.Cmp.Lexicographic.{nat_list_eq_equiv}
 use Rattle.cmb_netlist.specs.declared.netlist.Driver.{Driver}
 use Rattle.cmb_netlist.specs.declared.netlist.Driver.TheVariants.{Input, Gate, Flop}
+use Rattle.cmb_netlist.proofs.Wired.{driver-wired}
 use Rattle.cmb_netlist.specs.Netlist.{Netlist, IsNetlist, IsWired, MayTake, driver_of, name_of, pins_of}
 use Rattle.cmb_design_model.proofs.RowFacts.{same_test}
 use Rattle.cmb_cone.specs.Closed.{IsClosed, asked_by}
@@ -183,8 +184,7 @@ module _ (whole : Netlist) (nets places : List ℕ) (lawful : IsNetlist whole) (
     wired = let P : ℕ → List Driver → Type 0 = λ n ds. All (IsWired n) ds in
         rw long (subst (P (length nets)) (sym drivers) (All-map (IsWired (length nets)) (λ net. with_nets (λ n. get_or places n 0) (driver_of whole net)) nets
         (λ k d within. wired_part nets places are (length whole.names) (driver_of whole (get_or nets k d))
-        (All-get_or (IsWired (length whole.names)) whole.drivers (get_or nets k d) Input (let h : get_or nets k d < length whole.names = closed.within k d within in omega (arith, lawful.paired)) lawful.wired)
-        (pins_there k d within))));
+        (driver-wired whole lawful (get_or nets k d)) (pins_there k d within))));
     outputs = let P : List ℕ → Type 0 = λ os. All (λ net. net < length nets) os in
         rw long (subst P (sym outputs) (All-map (λ net. net < length nets) (λ n. get_or places n 0) (filter (is_among nets) whole.outputs) (λ k d within. (place_back nets places are _ (outputs_there k d within)).0)));
     different_outputs = distinct;

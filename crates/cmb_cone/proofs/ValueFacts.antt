@@ -2,9 +2,10 @@
 use Rattle.std.proofs.Common.{◌≡◌, ℕ, zero, suc, ◌<◌, List, [], ◌∷◌, length, map, get_or, refl, sym, ap, ◌∙◌, arith}
 use Rattle.std.specs.Prelude.{All}
 use Rattle.std.proofs.lemmas.List.{get_or-map, length-map}
-use Rattle.std.proofs.lemmas.List.Elements.{All-get_or, All-head, All-tail}
+use Rattle.std.proofs.lemmas.List.Elements.{All-head, All-tail}
 use Rattle.cmb_netlist.specs.declared.netlist.Driver.{Driver}
 use Rattle.cmb_netlist.specs.declared.netlist.Driver.TheVariants.{Input, Gate, Flop}
+use Rattle.cmb_netlist.proofs.Wired.{driver-wired}
 use Rattle.cmb_netlist.specs.Netlist.{Netlist, IsNetlist, IsWired, driver_of}
 use Rattle.cmb_design_model.specs.Design.{Design}
 use Rattle.cmb_design_model.specs.Gate.{gate}
@@ -25,10 +26,6 @@ driver_read whole part nets is lawful i within =
 
 pub names_long : (whole part : Netlist) (nets : List ℕ) → IsPart whole nets part → length part.names ≡ length nets
 names_long whole part nets is = ap length is.names ∙ length-map nets _
-
--- its pins are nets of the part
-pub wired_at : (part : Netlist) (i : ℕ) → IsNetlist part → i < length part.names → IsWired (length part.names) (driver_of part i)
-wired_at part i lawful within = All-get_or (IsWired (length part.names)) part.drivers i Input (omega (arith, lawful.paired)) lawful.wired
 
 module _ (design part : Design) (nets : List ℕ) (is : IsRestriction design nets part) (i tick : ℕ) (within : i < length nets)
     (agree : (k : ℕ) → k < length nets → AgreeBefore tick (value part k) (value design (get_or nets k 0))) where
@@ -63,7 +60,7 @@ pub value-restricted : (design part : Design) (nets : List ℕ) → IsRestrictio
 value-restricted design part nets is lawful zero tick below i within = absurd (omega arith)
 value-restricted design part nets is lawful (suc fuel) tick below i within =
     let long : length part.netlist.names ≡ length nets = names_long design.netlist part.netlist nets is.netlist in
-    let wired : IsWired (length nets) (driver_of part.netlist i) = rw long at (wired_at part.netlist i lawful (omega arith)) in
+    let wired : IsWired (length nets) (driver_of part.netlist i) = rw long at (driver-wired part.netlist lawful i) in
     let agree : (k : ℕ) → k < length nets → AgreeBefore tick (value part k) (value design (get_or nets k 0)) =
     λ k known t earlier. value-restricted design part nets is lawful fuel t (omega arith) k known in
     value-is part i tick

@@ -1,6 +1,6 @@
 //! The least set of nets that has the wanted ones and, with each net, those that its value rule asks for.
 
-ghost use Rattle.std.specs.Prelude.{◌≡◌, ◌∷◌, [], ℕ, ◌<◌, ◌≤◌, ◌^◌, false, length, filter, slice_index_or, All, IfOk};
+ghost use Rattle.std.specs.Prelude.{◌≡◌, [], ℕ, ◌<◌, ◌≤◌, ◌^◌, false, length, filter, slice_index_or, All, IfOk};
 ghost use Rattle.std.specs.Prelude.{OnOk};
 ghost use Rattle.std.specs.List.{range_with_len};
 ghost use Rattle.std.specs.List.Sorted.{IsStrictlyIncreasing};
@@ -9,7 +9,7 @@ ghost use Rattle.cmb_cone.specs.Chosen.{each_once};
 ghost use Rattle.cmb_cone.specs.Closed.{IsClosure, asked_by};
 ghost use Rattle.cmb_cone.specs.Inner.Found.{IsFound, Gains, Follows};
 
-use cmb_netlist::{Driver, MAX_NETS, Netlist};
+use cmb_netlist::{MAX_NETS, Netlist};
 use std::alloc::{AllocError, Global};
 
 /// Nets in the order in which they were found, and for each net of the netlist whether it was.
@@ -60,11 +60,7 @@ fn add_asked(netlist: &Netlist, net: usize, found: &mut Found) -> Result<(), All
     ensures marks { length found.new.marks.items ≡ length found.old.marks.items }
     ensures gains { OnOk result (Gains found.old.list.items (asked_by netlist.now net) found.new.list.items) }
 {
-    match netlist.driver(net) {
-        Driver::Input => Ok(()),
-        Driver::Gate(_, operands) => found.add_all(operands.as_slice()),
-        Driver::Flop(source) => found.add_all(&[*source]),
-    }
+    found.add_all(netlist.driver(net).pins())
 }
 
 /// Adds all nets that those found ask for, and that these ask for in turn.
