@@ -1,12 +1,10 @@
 -- Which nets a process reads, and which clusters are given them.
-use Rattle.std.proofs.Common.{◌≡◌, ℕ, zero, suc, ◌<◌, ◌≤◌, Bool, true, false, not, ◌||◌, eqb, List, [], ◌∷◌, ◌⊎◌, inl, inr, length, refl, ap, sym, ◌∙◌, arith}
+use Rattle.std.proofs.Common.{◌≡◌, ℕ, zero, suc, ◌<◌, Bool, true, false, not, ◌||◌, eqb, List, [], ◌∷◌, ◌⊎◌, inl, inr, refl, ap, sym, ◌∙◌, arith}
 use Rattle.std.specs.List.{AllByRecursion, list_any}
-use Rattle.std.proofs.lemmas.List.{get_or_past}
 use Rattle.std.proofs.lemmas.List.Elements.{recursion_from_All}
-use Rattle.std.proofs.lemmas.Bool.{eq-eqb, ne_eqb, cases_eq, cases_lt, or_left, or_right, and_from, and_parts, not_from_false}
-use Rattle.cmb_netlist.specs.declared.netlist.Driver.{Driver}
-use Rattle.cmb_netlist.specs.declared.netlist.Driver.TheVariants.{Input, Gate, Flop}
-use Rattle.cmb_netlist.specs.Netlist.{Netlist, driver_of, pins_of, IsWired, IsNetlist}
+use Rattle.std.proofs.lemmas.Bool.{eq-eqb, ne_eqb, cases_eq, or_left, or_right, and_from, and_parts, not_from_false}
+use Rattle.cmb_netlist.proofs.Wired.{pins-below}
+use Rattle.cmb_netlist.specs.Netlist.{driver_of, pins_of, IsNetlist}
 use Rattle.cmb_design_model.specs.Design.{Design}
 use Rattle.cmb_design_model.specs.Exact.{nets_of}
 use Rattle.cmb_core_cluster.specs.Clustering.{Clustering, IsClustering, cluster_of, has_input, some_below, net_reads}
@@ -43,26 +41,13 @@ each_among (net ∷ pins) = (
   all_weaker (λ other. list_any (λ pin. eqb pin other) pins ≡ true) (λ other. list_any (λ pin. eqb pin other) (net ∷ pins) ≡ true) (λ other among. or_right (eqb net other) _ among) pins (each_among pins),
 )
 
-pins-there : (nets : ℕ) (driver : Driver) → IsWired nets driver → AllByRecursion (λ net. net < nets) (pins_of driver)
-pins-there nets Input wired = tt
-pins-there nets (Gate kind operands) wired = recursion_from_All (λ net. net < nets) operands wired.1
-pins-there nets (Flop source) wired = (wired, tt)
-
--- each net's driver is wired, also that of a number that is no net's
-pub wired-at : (netlist : Netlist) → IsNetlist netlist → (net : ℕ) → IsWired (length netlist.names) (driver_of netlist net)
-wired-at netlist is net = go (cases_lt net (length netlist.drivers))
-  where
-    go : (net < length netlist.drivers) ⊎ (length netlist.drivers ≤ net) → IsWired (length netlist.names) (driver_of netlist net)
-    go (inl here) = is.wired net Input here
-    go (inr beyond) = let e : driver_of netlist net ≡ Input = get_or_past netlist.drivers net Input beyond in rw e tt
-
 abbrev pub IsPin : Design → ℕ → ℕ → Type 0
 IsPin design reader net = (net < nets_of design) × (net_reads design reader net ≡ true)
 
 pub pins-are : (design : Design) → IsNetlist design.netlist → (reader : ℕ) → AllByRecursion (IsPin design reader) (pins_of (driver_of design.netlist reader))
 pins-are design netlist reader =
     all_both (λ net. net < nets_of design) (λ net. net_reads design reader net ≡ true) (pins_of (driver_of design.netlist reader))
-    (pins-there (nets_of design) (driver_of design.netlist reader) (wired-at design.netlist netlist reader))
+    (recursion_from_All (λ net. net < nets_of design) (pins_of (driver_of design.netlist reader)) (pins-below design.netlist netlist reader))
     (each_among (pins_of (driver_of design.netlist reader)))
 
 -- each net's cluster is there

@@ -12,7 +12,6 @@ use Rattle.cmb_wave.specs.Waveform.{changes_between}
 use Rattle.cmb_wave.specs.Wave.{Wave}
 use Rattle.cmb_wave.proofs.Waveforms.{changes_between-rises}
 use Rattle.cmb_netlist.specs.declared.netlist.Kind.{Kind}
-use Rattle.cmb_netlist.specs.declared.netlist.Driver.{Driver}
 use Rattle.cmb_netlist.specs.Netlist.{MayTake, driver_of, pins_of}
 use Rattle.cmb_design_model.specs.Design.{Design}
 use Rattle.cmb_design_model.specs.Timing.{delay}
@@ -54,14 +53,14 @@ mark_more pins read k before net within inside e = rw (list_any_more (λ pin. eq
         ∙ sym (ap (λ b. (any || b) || before) (ne_eqb (get_or pins k 0) net (λ q. ne (sym q))) ∙ or_false any before)
 
 -- one more net is looked at: one of the cluster's own, whose pins are marked, or another
-pub read_own : (design : Design) (clustering : Clustering) (cluster upto : ℕ) (old new : List Bool) (driver : Driver) → AreRead design clustering cluster upto old
-    → cluster_of clustering upto ≡ cluster → driver ≡ driver_of design.netlist upto → length new ≡ length old
-    → ((net : ℕ) → get_or new net false ≡ (list_any (λ pin. eqb pin net) (pins_of driver) || get_or old net false)) → AreRead design clustering cluster (upto + 1) new
-read_own design clustering cluster upto old new driver is own here long marked = record {
+pub read_own : (design : Design) (clustering : Clustering) (cluster upto : ℕ) (old new : List Bool) (pins : List ℕ) → AreRead design clustering cluster upto old
+    → cluster_of clustering upto ≡ cluster → pins ≡ pins_of (driver_of design.netlist upto) → length new ≡ length old
+    → ((net : ℕ) → get_or new net false ≡ (list_any (λ pin. eqb pin net) pins || get_or old net false)) → AreRead design clustering cluster (upto + 1) new
+read_own design clustering cluster upto old new pins is own here long marked = record {
   count = long ∙ is.count;
   each = λ net within.
       let reads = λ (reader : ℕ). eqb (cluster_of clustering reader) cluster && net_reads design reader net in
-      rw add-one (marked net ∙ ap (λ (d : Driver). list_any (λ pin. eqb pin net) (pins_of d) || get_or old net false) here
+      rw add-one (marked net ∙ ap (λ (ps : List ℕ). list_any (λ pin. eqb pin net) ps || get_or old net false) here
       ∙ ap (λ (b : Bool). net_reads design upto net || b) (is.each net within)
       ∙ ap (λ (b : Bool). (b && net_reads design upto net) || some_below reads upto) (sym (eq-eqb (cluster_of clustering upto) cluster own)));
 }

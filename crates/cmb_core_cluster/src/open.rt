@@ -33,19 +33,6 @@ fn mark_all(pins: &[u32], read: &mut [bool])
     }
 }
 
-// Marks the nets on a driver's pins.
-fn mark_pins(driver: &Driver, read: &mut [bool])
-    requires { IsWired (length read.old) driver.now }
-    ensures { (net : ℕ) → slice_index_or read.new net false
-        ≡ (list_any (λ pin. pin == net) (pins_of driver.now) || slice_index_or read.old net false) }
-{
-    match driver {
-        Driver::Input => {}
-        Driver::Gate(_, operands) => mark_all(operands.as_slice(), read),
-        Driver::Flop(source) => mark_all(&[*source], read),
-    }
-}
-
 // For each net whether a net of the cluster reads it.
 fn nets_read(
     alloc: Global,
@@ -61,7 +48,7 @@ fn nets_read(
     let mut read = vec![in alloc; false; netlist.len()]?;
     for net in 0..netlist.len() {
         if clustering.of(net as u32) == cluster {
-            mark_pins(netlist.driver(net), &mut read);
+            mark_all(netlist.driver(net).pins(), &mut read);
         }
     }
     Ok(read)
