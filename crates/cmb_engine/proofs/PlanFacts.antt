@@ -13,6 +13,7 @@ use Rattle.cmb_netlist.specs.declared.netlist.Driver.TheVariants as driver
 use Rattle.cmb_netlist.specs.declared.netlist.Kind.{Kind}
 use Rattle.cmb_netlist.specs.declared.netlist.Kind.TheVariants.{And, Nand, Or, Nor, Xor, Xnor, Not, Buff}
 use Rattle.cmb_netlist.specs.Netlist.{Netlist, driver_of, pins_of as operands_of, IsNetlist, IsWired, MayTake}
+use Rattle.cmb_netlist.proofs.Wired.{driver-wired}
 use Rattle.cmb_design_model.specs.declared.rows.Clock.{Clock}
 use Rattle.cmb_design_model.specs.Design.{Design}
 use Rattle.cmb_design_model.specs.Exact.{nets_of}
@@ -84,13 +85,6 @@ pins-more design net operands i d ticks nets after old new least most pins next 
     (AllZip-push (StandsFor after new most) _ _ wanted pin before stands))
 
 -- ---- the drivers of a lawful netlist
-
-pub driver-wired : (netlist : Netlist) → IsNetlist netlist → (net : ℕ) → IsWired (length netlist.names) (driver_of netlist net)
-driver-wired netlist lawful net = go (cases_lt net (length netlist.drivers))
-  where
-    go : (net < length netlist.drivers) ⊎ (length netlist.drivers ≤ net) → IsWired (length netlist.names) (driver_of netlist net)
-    go (inl here) = lawful.wired net driver.Input here
-    go (inr past) = rw (get_or_past netlist.drivers net driver.Input past) tt
 
 takes-some : (kind : Kind) (count : ℕ) → MayTake kind count → 1 ≤ count
 takes-some And count h = h

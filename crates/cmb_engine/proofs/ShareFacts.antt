@@ -5,7 +5,8 @@ use Rattle.std.proofs.lemmas.Bool.{false≢true}
 use Rattle.std.proofs.lemmas.List.{get_or-replicate}
 use Rattle.std.proofs.lemmas.List.Elements.{All-contains, Contains-get_or}
 use Rattle.cmb_wave.specs.declared.level.Level.{Level}
-use Rattle.cmb_netlist.specs.Netlist.{IsNetlist, IsWired, driver_of, pins_of}
+use Rattle.cmb_netlist.proofs.Wired.{pins-below}
+use Rattle.cmb_netlist.specs.Netlist.{IsNetlist, driver_of, pins_of}
 use Rattle.cmb_netlist.specs.declared.netlist.Driver.{Driver}
 use Rattle.cmb_netlist.specs.declared.netlist.Driver.TheVariants.{Input, Gate, Flop}
 use Rattle.cmb_design_model.specs.Exact.{nets_of}
@@ -15,20 +16,13 @@ use Rattle.cmb_words.specs.Changes.{RisesWithin, Tells}
 use Rattle.cmb_words.proofs.Rising.{rises_at}
 use Rattle.cmb_engine.specs.Shares.{IsDriven, IsGiven, ShareEngine, TellsThose}
 use Rattle.cmb_engine.specs.Inner.States.{DrivesAll}
-use Rattle.cmb_engine.proofs.PlanFacts.{driver-wired}
 use Rattle.cmb_engine.proofs.RoleFacts.{only-among}
-
--- what a net reads is a net
-pin-inside : (nets : ℕ) (driver : Driver) (net : ℕ) → IsWired nets driver → Contains (pins_of driver) net → net < nets
-pin-inside nets Input net wired among = absurd (omega (arith, among.1))
-pin-inside nets (Gate kind operands) net wired among = All-contains (λ operand. operand < nets) operands net wired.1 among
-pin-inside nets (Flop source) net wired among = subst (λ (n : ℕ). n < nets) (only-among source net among) wired
 
 pub drives-all : (share : ShareEngine) → IsNetlist share.design.netlist → share.driven ≡ replicate (nets_of share.design) true → DrivesAll share
 drives-all share netlist whole = record {
   all = all;
   alone = λ net given.
-      let inside = pin-inside (nets_of share.design) (driver_of share.design.netlist given.reader) net (driver-wired share.design.netlist netlist given.reader) given.read in
+      let inside = All-contains (λ pin. pin < nets_of share.design) (pins_of (driver_of share.design.netlist given.reader)) net (pins-below share.design.netlist netlist given.reader) given.read in
       false≢true (sym given.undriven ∙ all net inside);
 }
   where

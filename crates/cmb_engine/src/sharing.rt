@@ -1,13 +1,12 @@
 //! What an engine does with each net, where it drives a share of them.
 
-ghost use Rattle.std.specs.Prelude.{◌≡◌, ℕ, ◌<◌, ◌∷◌, [], false, All, IfOk, length};
+ghost use Rattle.std.specs.Prelude.{◌≡◌, ℕ, ◌<◌, false, All, IfOk, length};
 ghost use Rattle.cmb_netlist.specs.Netlist.{driver_of, pins_of, IsNetlist};
 ghost use Rattle.cmb_design_model.specs.Exact.{nets_of};
 ghost use Rattle.cmb_engine.specs.Inner.Roles.{driven_of, gives, is_driven, is_given, AreOf, Gives};
 
 use crate::role::Role;
 use cmb_design_model::Design;
-use cmb_netlist::Driver;
 use std::alloc::{AllocError, Global};
 
 // The role of a net where nothing is given yet.
@@ -50,11 +49,7 @@ fn give_pins(design: &Design, net: usize, roles: &mut [Role])
     requires count { length roles.old ≡ nets_of design.now }
     ensures { Gives roles.old roles.new (pins_of (driver_of design.now.netlist net)) }
 {
-    match design.netlist().driver(net) {
-        Driver::Input => {}
-        Driver::Gate(_, operands) => give_all(roles, operands.as_slice()),
-        Driver::Flop(source) => give_all(roles, &[*source]),
-    }
+    give_all(roles, design.netlist().driver(net).pins());
 }
 
 /// The roles of a design's nets for an engine that drives those that `driven` marks: what these read is given.

@@ -78,8 +78,7 @@ impl Profile {
     fn cost_of(&self, driver: &Driver, changes: u32) -> u32 {
         match driver {
             Driver::Input => 0,
-            Driver::Gate(_, operands) => self.cost(self.visits(operands.as_slice()), changes),
-            Driver::Flop(data) => self.cost(self.visits(&[*data]), changes),
+            Driver::Gate(..) | Driver::Flop(_) => self.cost(self.visits(driver.pins()), changes),
         }
     }
 }
