@@ -54,6 +54,7 @@ fn flip_flops(rt: HostRuntime) {
     let netlist = netlist_of(&rt, rt.alloc(), b"q = DFF(d)\nd = NOT(q)\n");
     holds(&rt, netlist.len() == 2);
     holds(&rt, matches!(netlist.driver(0), Driver::Flop(1)));
+    holds(&rt, netlist.driver(0).pins() == &[1][..]);
     holds(&rt, has_gate(&netlist, 1, Kind::Not, &[0]));
 }
 
