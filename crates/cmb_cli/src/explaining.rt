@@ -1,6 +1,6 @@
 //! What `explain` asks for: one fault's explanation, or the list of all.
 
-use crate::help::{EXPLAIN, EXPLAIN_NUMBER};
+use crate::help::{EXPLAIN_COMMAND, EXPLAIN_NUMBER};
 use crate::reading::LineFault;
 use clap::{Arg, ArgMatches, Command};
 use cmb_explain::{explained, explanation_of, fault_list};
@@ -8,7 +8,7 @@ use std::alloc::{AllocError, Global};
 
 // The command line of `explain`.
 pub(crate) fn explain_command<'a>(alloc: Global) -> Result<Command<'a>, AllocError> {
-    Command::new(alloc, "explain").about(EXPLAIN).arg(
+    Command::new(alloc, "explain").about(EXPLAIN_COMMAND).arg(
         Arg::new(alloc, "number")
             .value_name("N")
             .help(EXPLAIN_NUMBER),

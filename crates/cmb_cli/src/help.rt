@@ -69,7 +69,7 @@ from inputs, and from other clocks; and by how much a clock's period is shorter 
 
 pub const ALL: &str = "Names all that is counted, and not the first twenty alone";
 
-pub const EXPLAIN_FAULT: &str = "\
+pub const EXPLAIN_OPTION: &str = "\
 Says a fault in words too, with its file and its line or record
 
 A second line on standard error has the file by its path, the line in it, what is wrong,
@@ -88,13 +88,13 @@ far. It is rewritten a few times a second, and removed at the end. In modes roun
 plain nothing is written before the run is complete.";
 
 pub const STATS: &str = "\
-Tells at the end, on standard error, what the run took
+Reports at the end, on standard error, what the run took
 
 That is nets, ticks, changes and bytes; the seconds of reading, of simulating and of
 writing; the processor time of all threads together; and the most memory that the
-program used. What the system doesn't tell is left out.";
+program used. What the system doesn't report is left out.";
 
-pub const EXPLAIN: &str =
+pub const EXPLAIN_COMMAND: &str =
     "Says what a fault means and what to do about it; without N it lists all faults";
 
 pub const EXPLAIN_NUMBER: &str = "The fault's number, as in `cmbsim: fault N at P`";
@@ -166,14 +166,14 @@ In mode rounds they pass on what is new after each round, in mode free at any ti
 is so with several workers and clusters, in a run of at most 262,144 nets times ticks. A
 longer one is made as with --threads, by the smaller of W and K.";
 
-pub const PARTS: &str = "\
+pub const CLUSTERS: &str = "\
 Clusters of nets that workers share out, 1 to 64 [default: 1]
 
 The nets go to the clusters in turn, and these to the workers. A worker without a
 cluster gets no thread: give at least as many clusters as workers.";
 
 /// What stands below the options of `activity`.
-pub const TABLE: &str = "\
+pub const BELOW_ACTIVITY: &str = "\
 Of each net, in order: how often it changes after tick 0, and at how many of the ticks it is 0, 1
 and x. That of an inverter whose input rises at tick 5 of 10:
     net,changes,low,high,unknown
@@ -188,7 +188,7 @@ Example, in the repository's folder examples/inverter:
     cmbsim activity --horizon 10 --stimuli stimuli.csv < netlist.bench > activity.csv";
 
 /// What stands below the options of `expect`.
-pub const DIFFERENCES: &str = "\
+pub const BELOW_EXPECT: &str = "\
 --expected FILE has the form of the stimuli, and its rows are of any nets: a row says that its net
 has this level at this tick, and x that it is x. What isn't to be compared has no row.
     tick,net,value
@@ -206,7 +206,7 @@ Example, in the repository's folder examples/inverter:
     cmbsim expect --horizon 10 --stimuli stimuli.csv --expected expected.csv < netlist.bench";
 
 /// What stands below the options of `run`: the files, the statuses and a line to begin with.
-pub const FILES: &str = "\
+pub const BELOW_RUN: &str = "\
 Time is whole ticks; the VCD has one tick as 1 ns. A level is 0, 1 or x, which is: not known.
 All nets are x before tick 0. A file has at most 16,777,216 bytes; a table not given is empty.
 
@@ -238,7 +238,7 @@ A pin's row beats its net's, and that its kind's. A delay is a transport delay: 
     y
 
 Status 0: the text was written. Status 2: the command line is wrong.
-Status 1: a fault, told by one line on standard error, `cmbsim: fault N at P`. By N, P is
+Status 1: a fault, reported by one line on standard error, `cmbsim: fault N at P`. By N, P is
     1 to 8              the line of the netlist
     20 to 22            0: the horizon, --clock, or a flip-flop without a clock
     23 to 32, 34 to 37  the record of a table, the header being record 1; 39 too

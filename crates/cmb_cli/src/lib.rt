@@ -6,6 +6,6 @@ mod explaining;
 mod help;
 mod options;
 pub mod reading;
-mod telling;
+mod reporting;
 
 pub use reading::{LineFault, line_message, read_line};

@@ -1,8 +1,8 @@
 //! The options of the program's commands.
 
 use crate::help::{
-    ALL, CLOCK, CLOCKS, DELAYS, EXPECTED, EXPLAIN_FAULT, HORIZON, INIT, INITIAL, MODE, NO_EXPLAIN,
-    ONLY, ONLY_OUTPUTS, PARTS, PROGRESS, SCOPES, STATS, STIMULI, THREADS, WORKERS,
+    ALL, CLOCK, CLOCKS, DELAYS, EXPECTED, EXPLAIN_OPTION, HORIZON, INIT, INITIAL, MODE, NO_EXPLAIN,
+    ONLY, ONLY_OUTPUTS, CLUSTERS, PROGRESS, SCOPES, STATS, STIMULI, THREADS, WORKERS,
 };
 use clap::builder::ValueParser;
 use clap::{Arg, ArgAction, Command};
@@ -31,7 +31,7 @@ pub(crate) struct Choosable {
     excludes: &'static [&'static str],
 }
 
-/// Of all commands but `explain`: what is simulated, and whether a fault is told in words.
+/// Of all commands but `explain`: what is simulated, and whether a fault is reported in words.
 pub(crate) const SETTINGS: &[Choosable] = &[
     Choosable {
         name: "horizon",
@@ -78,7 +78,7 @@ pub(crate) const SETTINGS: &[Choosable] = &[
     Choosable {
         name: "explain",
         takes: Takes::Nothing,
-        help: EXPLAIN_FAULT,
+        help: EXPLAIN_OPTION,
         excludes: &[],
     },
     Choosable {
@@ -113,7 +113,7 @@ pub(crate) const RUNNING: &[Choosable] = &[
     Choosable {
         name: "clusters",
         takes: Takes::Number("K", 64),
-        help: PARTS,
+        help: CLUSTERS,
         excludes: &[],
     },
 ];
@@ -135,7 +135,7 @@ pub(crate) const CHOOSING: &[Choosable] = &[
 ];
 
 /// Of `run`: how the nets are declared.
-pub(crate) const PARTING: &[Choosable] = &[Choosable {
+pub(crate) const SCOPING: &[Choosable] = &[Choosable {
     name: "scopes",
     takes: Takes::Nothing,
     help: SCOPES,
@@ -158,8 +158,8 @@ pub(crate) const CHECKING: &[Choosable] = &[Choosable {
     excludes: &[],
 }];
 
-/// Of `run`: what is told of it on standard error.
-pub(crate) const TELLING: &[Choosable] = &[
+/// Of `run`: what is reported of it on standard error.
+pub(crate) const REPORTING: &[Choosable] = &[
     Choosable {
         name: "progress",
         takes: Takes::Nothing,

@@ -21,13 +21,13 @@ ghost use Rattle.cmb_cli_line.specs.declared.choice.Pick.TheVariants.{Listed};
 use crate::clock::{clock_message, clock_of};
 use crate::explaining::{explain_command, explain_fault, explain_message};
 use crate::help::{
-    ABOUT, ACTIVITY, BEGIN, CHECK, DIFFERENCES, EXPECT, FILES, NETLIST_HINT, NO_COMMAND, RUN,
-    TABLE, USUAL, VERSION,
+    ABOUT, ACTIVITY, BEGIN, CHECK, BELOW_EXPECT, EXPECT, BELOW_RUN, NETLIST_HINT, NO_COMMAND, RUN,
+    BELOW_ACTIVITY, USUAL, VERSION,
 };
 use crate::options::{
-    CHECKING, CHOOSING, EXPECTING, PARTING, RUNNING, SETTINGS, TELLING, first_line, with_options,
+    CHECKING, CHOOSING, EXPECTING, SCOPING, RUNNING, SETTINGS, REPORTING, first_line, with_options,
 };
-use crate::telling::{is_explained, is_quiet};
+use crate::reporting::{is_explained, is_quiet};
 use clap::error::ErrorKind;
 use clap::{ArgMatches, Command, Error};
 use cmb_cli_line::{Choice, Line, Mode, Pick, Task};
@@ -72,19 +72,19 @@ fn run_command<'a>(alloc: Global) -> Result<Command<'a>, AllocError> {
         .about(first_line(RUN))
         .long_about(RUN)
         .before_help(USUAL)
-        .after_long_help(FILES);
+        .after_long_help(BELOW_RUN);
     let command = with_options(alloc, command, SETTINGS)?;
     let command = with_options(alloc, command, RUNNING)?;
     let command = with_options(alloc, command, CHOOSING)?;
-    let command = with_options(alloc, command, PARTING)?;
-    with_options(alloc, command, TELLING)
+    let command = with_options(alloc, command, SCOPING)?;
+    with_options(alloc, command, REPORTING)
 }
 
 // The command line of `activity`.
 fn activity_command<'a>(alloc: Global) -> Result<Command<'a>, AllocError> {
     let command = Command::new(alloc, "activity")
         .about(ACTIVITY)
-        .after_long_help(TABLE);
+        .after_long_help(BELOW_ACTIVITY);
     let command = with_options(alloc, command, SETTINGS)?;
     let command = with_options(alloc, command, RUNNING)?;
     with_options(alloc, command, CHOOSING)
@@ -94,7 +94,7 @@ fn activity_command<'a>(alloc: Global) -> Result<Command<'a>, AllocError> {
 fn expect_command<'a>(alloc: Global) -> Result<Command<'a>, AllocError> {
     let command = Command::new(alloc, "expect")
         .about(EXPECT)
-        .after_long_help(DIFFERENCES);
+        .after_long_help(BELOW_EXPECT);
     let command = with_options(alloc, command, SETTINGS)?;
     let command = with_options(alloc, command, RUNNING)?;
     with_options(alloc, command, EXPECTING)
@@ -116,7 +116,7 @@ fn bare_command<'a>(alloc: Global) -> Result<Command<'a>, AllocError> {
             .version(VERSION)
             .about(ABOUT)
             .before_help(USUAL)
-            .after_long_help(FILES)
+            .after_long_help(BELOW_RUN)
             .bin_name("cmbsim")?
             .no_binary_name(true)
             .subcommand_required(true),
@@ -169,7 +169,7 @@ fn horizon_of(matches: &ArgMatches<'_>) -> Result<u32, LineFault>
 }
 
 // How many workers, clusters or threads there are, where the line says that.
-fn parts_of(matches: &ArgMatches<'_>, name: &str) -> Result<Option<PartCount>, LineFault> {
+fn part_count_of(matches: &ArgMatches<'_>, name: &str) -> Result<Option<PartCount>, LineFault> {
     let Some(text) = matches.get_str(name) else {
         return Ok(None);
     };
@@ -190,8 +190,8 @@ fn mode_name<'a>(matches: &ArgMatches<'a>) -> &'a str {
 
 // How the design is run: by one worker with one cluster, where the line doesn't say.
 fn mode_of(matches: &ArgMatches<'_>) -> Result<Mode, LineFault> {
-    let workers = parts_of(matches, "workers")?.unwrap_or(PartCount::ONE);
-    let clusters = parts_of(matches, "clusters")?.unwrap_or(PartCount::ONE);
+    let workers = part_count_of(matches, "workers")?.unwrap_or(PartCount::ONE);
+    let clusters = part_count_of(matches, "clusters")?.unwrap_or(PartCount::ONE);
     match mode_name(matches) {
         "plain" => Ok(Mode::Plain),
         "free" => Ok(Mode::Free { workers, clusters }),
@@ -331,7 +331,7 @@ fn line_of(
         ≡ first_value (found_of matches.now) (codes "expected")) }
 {
     let mode = mode_of(matches)?;
-    let threads = parts_of(matches, "threads")?;
+    let threads = part_count_of(matches, "threads")?;
     let settings = settings_of(matches)?;
     let files = files_of(alloc, matches)?;
     let quiet = is_quiet(matches, on_terminal);
@@ -382,7 +382,7 @@ fn line_in(alloc: Global, matches: &ArgMatches<'_>, on_terminal: bool) -> Result
 /// ask for help, the version or the explanation of a fault, `Wrong` where they aren't a line of the program, `Clock`
 /// where only the value of `--clock` has another form, and `Memory`.
 ///
-/// Where standard error is a terminal a fault is told in words, unless `--no-explain` turns that off.
+/// Where standard error is a terminal a fault is reported in words, unless `--no-explain` turns that off.
 pub fn read_line(alloc: Global, words: &[String], on_terminal: bool) -> Result<Line, LineFault>
     ensures horizon { IfOk result (λ line. (1 ≤ line.settings.horizon) × (line.settings.horizon ≤ 1000000)) }
     ensures choice { IfOk result (λ line. (line.choice ≡ Only Listed) ↔ IsSome line.only) }

@@ -7,10 +7,10 @@ use Rattle.cmb_wave.specs.Wave.{Wave}
 use Rattle.cmb_core_cluster.specs.Inner.Spans.{changes_from}
 use Rattle.cmb_design_model.specs.Timing.{sample_upto}
 use Rattle.cmb_core_cluster.proofs.Changes.{changes_from_held, changes_from_same, changes_from_spans, head}
-use Rattle.cmb_core_cluster.specs.declared.process.Operand.{Operand}
+use Rattle.cmb_core_cluster.specs.declared.process.ProcessPin.{ProcessPin}
 use Rattle.cmb_core_cluster.specs.Inner.Processes.{gate_reach, sampled_wave}
 
-pub gate_reach_le : (horizon : ℕ) (waves : List Wave) (os : List Operand) → gate_reach horizon waves os ≤ horizon
+pub gate_reach_le : (horizon : ℕ) (waves : List Wave) (os : List ProcessPin) → gate_reach horizon waves os ≤ horizon
 gate_reach_le horizon waves [] = omega arith
 gate_reach_le horizon waves (o ∷ os) = let rest : gate_reach horizon waves os ≤ horizon = gate_reach_le horizon waves os in omega arith
 

@@ -8,7 +8,7 @@ use Rattle.cmb_wave.specs.declared.level.Change.{Change}
 use Rattle.cmb_wave.specs.Waveform.{IsTrace}
 use Rattle.cmb_wave.specs.Wave.{Wave, new_wave}
 use Rattle.cmb_core_cluster.specs.Inner.Spans.{changes_from}
-use Rattle.cmb_core_cluster.specs.declared.process.Operand.{Operand}
+use Rattle.cmb_core_cluster.specs.declared.process.ProcessPin.{ProcessPin}
 use Rattle.cmb_core_cluster.specs.declared.process.ProcessRule.{ProcessRule}
 use Rattle.cmb_core_cluster.specs.declared.process.ProcessRule.TheVariants.{Given, Input, Gate, Flop}
 use Rattle.cmb_design_model.specs.Timing.{sample_upto}
@@ -52,7 +52,7 @@ gone_on_set old n w h e b k = record {
   ];
 }
 
-are_ready_still : (old new : List Wave) (clock later : ℕ) (os : List Operand) → GoneOn old new → clock ≤ later → AreReady old clock os → AreReady new later os
+are_ready_still : (old new : List Wave) (clock later : ℕ) (os : List ProcessPin) → GoneOn old new → clock ≤ later → AreReady old clock os → AreReady new later os
 are_ready_still old new clock later [] g h r = tt
 are_ready_still old new clock later (o ∷ os) g h r =
     let kept : (wave_at old o.net).base ≤ clock - o.delay = r.0.1 in
@@ -63,7 +63,7 @@ sample_need_le first period delay clock later pos h =
     let samples : sample_upto first period (clock - delay) ≤ sample_upto first period (later - delay) = sample_upto_le first period (clock - delay) (later - delay) pos (omega arith) in
     grind (arith, nat_tests)
 
-pub ready_still : (old new : List Wave) (clock later : ℕ) (rule : ProcessRule) (os : List Operand) (cs : List Change) → GoneOn old new → clock ≤ later → IsReadyFor old clock rule os cs → IsReadyFor new later rule os cs
+pub ready_still : (old new : List Wave) (clock later : ℕ) (rule : ProcessRule) (os : List ProcessPin) (cs : List Change) → GoneOn old new → clock ≤ later → IsReadyFor old clock rule os cs → IsReadyFor new later rule os cs
 ready_still old new clock later Given os cs g h r = tt
 ready_still old new clock later Input os cs g h r = r
 ready_still old new clock later (Gate kind) os cs g h r = (r.0, are_ready_still old new clock later os g h r.1)

@@ -14,7 +14,7 @@ use Rattle.cmb_design_model.specs.Design.{Design}
 use Rattle.cmb_design_model.specs.Gate.{gate}
 use Rattle.cmb_design_model.specs.Timing.{delay, clock_of, initial_level, stimulus, last_sample, next_sample}
 use Rattle.cmb_design_model.specs.Value.{pin_levels, flop_level, driven_level}
-use Rattle.cmb_core_cluster.specs.declared.process.Operand.{Operand}
+use Rattle.cmb_core_cluster.specs.declared.process.ProcessPin.{ProcessPin}
 use Rattle.cmb_core_cluster.specs.declared.process.ProcessRule.TheVariants.{Flop}
 use Rattle.cmb_core_cluster.specs.Rows.{Process, slot_of}
 use Rattle.cmb_core_cluster.specs.Inner.Processes.{delayed_levels, sampled_wave, process_level, process_reach, gate_reach}
@@ -34,14 +34,14 @@ pub record Drives (design : Design) (s : Cluster) (net slot : ℕ) : Type 0 wher
 
 -- ---- the levels on the pins
 
-pins-same : (design : Design) (waves : List Wave) (net pin tick : ℕ) (sources : List ℕ) (os : List Operand) → AreOperands design net pin sources os → delayed_levels waves os tick ≡ pin_levels design (told_level waves) net tick pin sources
+pins-same : (design : Design) (waves : List Wave) (net pin tick : ℕ) (sources : List ℕ) (os : List ProcessPin) → AreOperands design net pin sources os → delayed_levels waves os tick ≡ pin_levels design (told_level waves) net tick pin sources
 pins-same design waves net pin tick [] [] a = refl
 pins-same design waves net pin tick (source ∷ sources) (o ∷ os) a =
     rw (a.0, a.1, pins-same design waves net (suc pin) tick sources os a.2) refl
 pins-same design waves net pin tick [] (o ∷ os) a = absurd a
 pins-same design waves net pin tick (source ∷ sources) [] a = absurd a
 
-pins_reach-same : (design : Design) (waves : List Wave) (net pin : ℕ) (sources : List ℕ) (os : List Operand) → AreOperands design net pin sources os → gate_reach design.horizon waves os ≡ pins_reach design (told_upto waves) net design.horizon pin sources
+pins_reach-same : (design : Design) (waves : List Wave) (net pin : ℕ) (sources : List ℕ) (os : List ProcessPin) → AreOperands design net pin sources os → gate_reach design.horizon waves os ≡ pins_reach design (told_upto waves) net design.horizon pin sources
 pins_reach-same design waves net pin [] [] a = refl
 pins_reach-same design waves net pin (source ∷ sources) (o ∷ os) a =
     rw (a.0, a.1, pins_reach-same design waves net (suc pin) sources os a.2) refl
@@ -72,12 +72,12 @@ flop-same design waves net source tick =
 
 -- ---- the row and the reach of a process
 
-flop_row : (design : Design) (waves : List Wave) (net source tick : ℕ) (os : List Operand) (cs : List Change) → AreOperands design net 1 (source ∷ []) os → process_level waves (Flop (clock_of design net).first (clock_of design net).period (initial_level design net)) os cs tick ≡ flop_level design (told_level waves source) net tick
+flop_row : (design : Design) (waves : List Wave) (net source tick : ℕ) (os : List ProcessPin) (cs : List Change) → AreOperands design net 1 (source ∷ []) os → process_level waves (Flop (clock_of design net).first (clock_of design net).period (initial_level design net)) os cs tick ≡ flop_level design (told_level waves source) net tick
 flop_row design waves net source tick [] cs a = absurd a
 flop_row design waves net source tick (o ∷ []) cs a = rw (a.0, a.1) (flop-same design waves net source tick)
 flop_row design waves net source tick (o ∷ q ∷ os) cs a = absurd a.2
 
-flop_reach-same : (design : Design) (waves : List Wave) (net source : ℕ) (os : List Operand) → AreOperands design net 1 (source ∷ []) os → process_reach design.horizon waves (Flop (clock_of design net).first (clock_of design net).period (initial_level design net)) os ≡ driver_reach design (told_upto waves) net (FlopNet source)
+flop_reach-same : (design : Design) (waves : List Wave) (net source : ℕ) (os : List ProcessPin) → AreOperands design net 1 (source ∷ []) os → process_reach design.horizon waves (Flop (clock_of design net).first (clock_of design net).period (initial_level design net)) os ≡ driver_reach design (told_upto waves) net (FlopNet source)
 unfolding next_sample
 flop_reach-same design waves net source [] a = absurd a
 flop_reach-same design waves net source (o ∷ []) a = rw (a.0, a.1) refl

@@ -20,7 +20,7 @@ use Rattle.cmb_design_model.specs.Design.{Design}
 use Rattle.cmb_design_model.specs.Exact.{nets_of, IsExactIn, IsExactWaveIn, IsRightIn}
 use Rattle.cmb_design_model.specs.Timing.{delay, clock_of, initial_level, last_sample}
 use Rattle.cmb_design_model.specs.Value.{value}
-use Rattle.cmb_core_cluster.specs.declared.process.Operand.{Operand}
+use Rattle.cmb_core_cluster.specs.declared.process.ProcessPin.{ProcessPin}
 use Rattle.cmb_core_cluster.specs.declared.process.ProcessRule.{ProcessRule}
 use Rattle.cmb_core_cluster.specs.declared.process.ProcessRule.TheVariants.{Flop}
 use Rattle.cmb_core_cluster.specs.declared.delivery.DeliverFault.{DeliverFault}
@@ -72,7 +72,7 @@ need_same design net clock = go (cases_lt clock ((clock_of design net).first + d
         rw (a, b) (omega arith)
 
 module _ (design : Design) (waves : List Wave) (net clock : ℕ) where
-  gate_kept : (pin : ℕ) (sources : List ℕ) (os : List Operand) → AreOperands design net pin sources os → AreReady waves clock os → AreKept design (told_from waves) net clock pin sources
+  gate_kept : (pin : ℕ) (sources : List ℕ) (os : List ProcessPin) → AreOperands design net pin sources os → AreReady waves clock os → AreKept design (told_from waves) net clock pin sources
   gate_kept pin [] [] a r = tt
   gate_kept pin (source ∷ sources) (o ∷ os) a r =
       let same : (wave_at waves o.net).base ≡ (wave_at waves source).base = ap (λ n. (wave_at waves n).base) a.0 in
@@ -82,7 +82,7 @@ module _ (design : Design) (waves : List Wave) (net clock : ℕ) where
   gate_kept pin [] (o ∷ os) a r = absurd a
   gate_kept pin (source ∷ sources) [] a r = absurd a
 
-  flop_kept : (source : ℕ) (os : List Operand) (cs : List Change) → AreOperands design net 1 (source ∷ []) os → IsReadyFor waves clock (Flop (clock_of design net).first (clock_of design net).period (initial_level design net)) os cs → told_from waves source ≤ flop_need design net clock
+  flop_kept : (source : ℕ) (os : List ProcessPin) (cs : List Change) → AreOperands design net 1 (source ∷ []) os → IsReadyFor waves clock (Flop (clock_of design net).first (clock_of design net).period (initial_level design net)) os cs → told_from waves source ≤ flop_need design net clock
   flop_kept source [] cs a r = absurd a
   flop_kept source (o ∷ []) cs a r =
       let same : (wave_at waves o.net).base ≡ (wave_at waves source).base = ap (λ n. (wave_at waves n).base) a.0 in

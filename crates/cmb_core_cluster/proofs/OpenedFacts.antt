@@ -8,7 +8,7 @@ use Rattle.cmb_wave.specs.Wave.{new_wave}
 use Rattle.cmb_netlist.specs.Netlist.{driver_of, pins_of, IsNetlist}
 use Rattle.cmb_design_model.specs.Design.{Design}
 use Rattle.cmb_design_model.specs.Exact.{nets_of}
-use Rattle.cmb_core_cluster.specs.declared.process.Operand.{Operand}
+use Rattle.cmb_core_cluster.specs.declared.process.ProcessPin.{ProcessPin}
 use Rattle.cmb_core_cluster.specs.declared.process.ProcessRule.TheVariants.{Given}
 use Rattle.cmb_core_cluster.specs.Clustering.{Clustering, cluster_of, has_input, some_below, net_reads}
 use Rattle.cmb_core_cluster.specs.Clusters.{IsSound, wave_nets}
@@ -84,7 +84,7 @@ place_below (n ∷ nets) net place e = go (eqb n net) (place_in nets net) refl (
     go false (Some k) q rest h = let z : place ≡ suc k = cc in let less : k < length nets = rest k q in omega arith
     go false None q rest h = cc
 
-at_below : (places : List (Option ℕ)) (nets : List ℕ) → ((net : ℕ) → get_or places net None ≡ place_in nets net) → (os : List Operand) → AreAt places os → AllByRecursion (λ o. o.slot < length nets) os
+at_below : (places : List (Option ℕ)) (nets : List ℕ) → ((net : ℕ) → get_or places net None ≡ place_in nets net) → (os : List ProcessPin) → AreAt places os → AllByRecursion (λ o. o.slot < length nets) os
 at_below places nets at [] a = tt
 at_below places nets at (o ∷ os) a = (place_below nets o.net o.slot (sym (at o.net) ∙ a.0), at_below places nets at os a.1)
 

@@ -16,7 +16,7 @@ use Rattle.cmb_netlist.specs.Netlist.{MayTake, driver_of, pins_of}
 use Rattle.cmb_design_model.specs.Design.{Design}
 use Rattle.cmb_design_model.specs.Timing.{delay}
 use Rattle.cmb_design_model.proofs.AskFacts.{rises-within}
-use Rattle.cmb_core_cluster.specs.declared.process.Operand.{Operand}
+use Rattle.cmb_core_cluster.specs.declared.process.ProcessPin.{ProcessPin}
 use Rattle.cmb_core_cluster.specs.declared.process.ProcessRule.TheVariants.{Input, Gate, Flop}
 use Rattle.cmb_core_cluster.specs.Clustering.{Clustering, cluster_of, net_reads, some_below}
 use Rattle.cmb_core_cluster.specs.Clusters.{AreOperands}
@@ -169,7 +169,7 @@ placed_at places (net ∷ nets) (suc i) d a h = placed_at places nets i d a.1 (o
 
 -- ---- operands
 
-pub operands_more : (design : Design) (net pin x : ℕ) (o : Operand) (xs : List ℕ) (os : List Operand) → AreOperands design net pin xs os → o.net ≡ x → o.delay ≡ delay design net (pin + length xs)
+pub operands_more : (design : Design) (net pin x : ℕ) (o : ProcessPin) (xs : List ℕ) (os : List ProcessPin) → AreOperands design net pin xs os → o.net ≡ x → o.delay ≡ delay design net (pin + length xs)
     → AreOperands design net pin (xs ++ x ∷ []) (os ++ o ∷ [])
 operands_more design net pin x o [] [] a e d = let none : pin + 0 ≡ pin = omega arith in (e, d ∙ ap (delay design net) none, tt)
 operands_more design net pin x o (y ∷ ys) (q ∷ os) a e d =
@@ -178,28 +178,28 @@ operands_more design net pin x o (y ∷ ys) (q ∷ os) a e d =
 operands_more design net pin x o [] (q ∷ os) a e d = absurd a
 operands_more design net pin x o (y ∷ ys) [] a e d = absurd a
 
-pub at_more : (places : List (Option ℕ)) (os : List Operand) (o : Operand) → AreAt places os → get_or places o.net None ≡ Some o.slot → AreAt places (os ++ o ∷ [])
+pub at_more : (places : List (Option ℕ)) (os : List ProcessPin) (o : ProcessPin) → AreAt places os → get_or places o.net None ≡ Some o.slot → AreAt places (os ++ o ∷ [])
 at_more places [] o a e = (e, tt)
 at_more places (q ∷ os) o a e = (a.0, at_more places os o a.1 e)
 
 -- ---- ready to start
 
-pub ready_at : (places : List (Option ℕ)) (waves : List Wave) (os : List Operand) → AreWhole places waves → AreAt places os → AreReady waves 0 os
+pub ready_at : (places : List (Option ℕ)) (waves : List Wave) (os : List ProcessPin) → AreWhole places waves → AreAt places os → AreReady waves 0 os
 ready_at places waves [] whole a = tt
 ready_at places waves (o ∷ os) whole a = ((whole.slots o.net ∙ a.0, omega (arith, whole.bases o.net)), ready_at places waves os whole a.1)
 
-pub gate_starts : (places : List (Option ℕ)) (kind : Kind) (os : List Operand) (cs : List Change) → MayTake kind (length os) → AreAt places os
+pub gate_starts : (places : List (Option ℕ)) (kind : Kind) (os : List ProcessPin) (cs : List Change) → MayTake kind (length os) → AreAt places os
     → StartsOn places (record { rule = Gate kind; operands = os; stimulus = cs })
 gate_starts places kind os cs takes a = record { at = a; ready = λ waves whole. (takes, ready_at places waves os whole a) }
 
-flop_ready : (places : List (Option ℕ)) (first period : ℕ) (init : Level) (os : List Operand) (cs : List Change) → 0 < period → length os ≡ 1 → AreAt places os
+flop_ready : (places : List (Option ℕ)) (first period : ℕ) (init : Level) (os : List ProcessPin) (cs : List Change) → 0 < period → length os ≡ 1 → AreAt places os
     → (waves : List Wave) → AreWhole places waves → IsReadyFor waves 0 (Flop first period init) os cs
 flop_ready places first period init [] cs positive one a waves whole = absurd (omega arith)
 flop_ready places first period init (o ∷ []) cs positive one a waves whole =
     (positive, whole.slots o.net ∙ a.0, omega (arith, whole.bases o.net))
 flop_ready places first period init (o ∷ q ∷ os) cs positive one a waves whole = absurd (omega arith)
 
-pub flop_starts : (places : List (Option ℕ)) (first period : ℕ) (init : Level) (os : List Operand) (cs : List Change) → 0 < period → length os ≡ 1 → AreAt places os
+pub flop_starts : (places : List (Option ℕ)) (first period : ℕ) (init : Level) (os : List ProcessPin) (cs : List Change) → 0 < period → length os ≡ 1 → AreAt places os
     → StartsOn places (record { rule = Flop first period init; operands = os; stimulus = cs })
 flop_starts places first period init os cs positive one a = record { at = a; ready = flop_ready places first period init os cs positive one a }
 

@@ -2,12 +2,12 @@
 use Rattle.std.proofs.Common.{◌≡◌, ℕ, suc, ◌+◌, ◌<◌, Bool, true, false, cond, eqb, List, [], ◌∷◌, ◌++◌, ◌⊎◌, inl, inr, length, get_or, set, take, refl, sym, ◌∙◌, ap, arith, append_assoc, get_or-set_same, get_or-set_other}
 use Rattle.std.proofs.lemmas.Bool.{eq-eqb, ne_eqb, cases_eq}
 use Rattle.std.proofs.lemmas.List.{append-nil, take_more, length-take-le}
-use Rattle.cmb_core_cluster.specs.declared.process.Operand.{Operand}
+use Rattle.cmb_core_cluster.specs.declared.process.ProcessPin.{ProcessPin}
 use Rattle.cmb_core_cluster.specs.declared.directory.Reader.{Reader}
 use Rattle.cmb_core_cluster.specs.Rows.{Process}
 use Rattle.cmb_core_cluster.specs.Directory.{pins_on, readers_from, given_at, listed_readers}
 
-pins_more : (place slot : ℕ) (os : List Operand) (o : Operand) → pins_on place slot (os ++ o ∷ []) ≡ pins_on place slot os ++ cond (eqb o.slot place) (record { slot = slot; delay = o.delay } ∷ []) []
+pins_more : (place slot : ℕ) (os : List ProcessPin) (o : ProcessPin) → pins_on place slot (os ++ o ∷ []) ≡ pins_on place slot os ++ cond (eqb o.slot place) (record { slot = slot; delay = o.delay } ∷ []) []
 pins_more place slot [] o = refl
 pins_more place slot (q ∷ os) o = go (eqb q.slot place) (pins_more place slot os o)
   where
@@ -25,13 +25,13 @@ readers_more place slot (q ∷ ps) p =
     ∙ sym (append_assoc (pins_on place slot q.operands) (readers_from place (suc slot) ps) (pins_on place (slot + suc (length ps)) p.operands))
 
 -- the pins of a given wave, none of another
-abbrev pub pins_if : List Process → ℕ → ℕ → List Operand → List Reader
+abbrev pub pins_if : List Process → ℕ → ℕ → List ProcessPin → List Reader
 pins_if nodes place slot os = cond (given_at nodes place) (pins_on place slot os) []
 
-abbrev pub one_if : List Process → ℕ → ℕ → Operand → List Reader
+abbrev pub one_if : List Process → ℕ → ℕ → ProcessPin → List Reader
 one_if nodes place slot o = cond (given_at nodes place) (cond (eqb o.slot place) (record { slot = slot; delay = o.delay } ∷ []) []) []
 
-pub pins_if_more : (nodes : List Process) (place slot i : ℕ) (os : List Operand) (d : Operand) → i < length os
+pub pins_if_more : (nodes : List Process) (place slot i : ℕ) (os : List ProcessPin) (d : ProcessPin) → i < length os
     → pins_if nodes place slot (take (i + 1) os) ≡ pins_if nodes place slot (take i os) ++ one_if nodes place slot (get_or os i d)
 pins_if_more nodes place slot i os d h = go (given_at nodes place) (ap (pins_on place slot) (take_more os i d h) ∙ pins_more place slot (take i os) (get_or os i d))
   where
@@ -41,7 +41,7 @@ pins_if_more nodes place slot i os d h = go (given_at nodes place) (ap (pins_on 
     go false e = refl
 
 -- what was listed so far, and one operand more
-pub listed_more : (nodes : List Process) (now old : List (List Reader)) (place slot i : ℕ) (os : List Operand) (d : Operand) (new : List Reader) → i < length os
+pub listed_more : (nodes : List Process) (now old : List (List Reader)) (place slot i : ℕ) (os : List ProcessPin) (d : ProcessPin) (new : List Reader) → i < length os
     → get_or now place [] ≡ get_or old place [] ++ pins_if nodes place slot (take i os)
     → new ≡ get_or now place [] ++ one_if nodes place slot (get_or os i d)
     → new ≡ get_or old place [] ++ pins_if nodes place slot (take (i + 1) os)
@@ -50,7 +50,7 @@ listed_more nodes now old place slot i os d new h e n =
     ∙ append_assoc (get_or old place []) (pins_if nodes place slot (take i os)) (one_if nodes place slot (get_or os i d))
     ∙ ap (λ xs. get_or old place [] ++ xs) (sym (pins_if_more nodes place slot i os d h))
 
-none_of : (nodes : List Process) (place slot : ℕ) (o : Operand) → eqb o.slot place ≡ false → one_if nodes place slot o ≡ []
+none_of : (nodes : List Process) (place slot : ℕ) (o : ProcessPin) → eqb o.slot place ≡ false → one_if nodes place slot o ≡ []
 none_of nodes place slot o other = go (given_at nodes place) (eqb o.slot place) other
   where
     go : (a b : Bool) → b ≡ false → cond {A = List Reader} a (cond {A = List Reader} b (record { slot = slot; delay = o.delay } ∷ []) []) [] ≡ []
@@ -58,7 +58,7 @@ none_of nodes place slot o other = go (given_at nodes place) (eqb o.slot place) 
     go true false e = refl
     go false b e = refl
 
-none_driven : (nodes : List Process) (place slot : ℕ) (o : Operand) → given_at nodes place ≡ false → one_if nodes place slot o ≡ []
+none_driven : (nodes : List Process) (place slot : ℕ) (o : ProcessPin) → given_at nodes place ≡ false → one_if nodes place slot o ≡ []
 none_driven nodes place slot o driven = go (given_at nodes place) driven
   where
     go : (b : Bool) → b ≡ false → cond {A = List Reader} b (cond {A = List Reader} (eqb o.slot place) (record { slot = slot; delay = o.delay } ∷ []) []) [] ≡ []
@@ -66,7 +66,7 @@ none_driven nodes place slot o driven = go (given_at nodes place) driven
     go false e = refl
 
 -- a pin is put into the list of its given wave
-pub listed_put : (nodes : List Process) (now : List (List Reader)) (place slot : ℕ) (o : Operand) → o.slot < length now → given_at nodes o.slot ≡ true
+pub listed_put : (nodes : List Process) (now : List (List Reader)) (place slot : ℕ) (o : ProcessPin) → o.slot < length now → given_at nodes o.slot ≡ true
     → get_or (set now o.slot (get_or now o.slot [] ++ record { slot = slot; delay = o.delay } ∷ [])) place [] ≡ get_or now place [] ++ one_if nodes place slot o
 listed_put nodes now place slot o h given = go (cases_eq place o.slot)
   where
@@ -84,7 +84,7 @@ listed_put nodes now place slot o h given = go (cases_eq place o.slot)
         get_or-set_other now o.slot place _ [] ne ∙ sym (append-nil (get_or now place [])) ∙ ap (λ xs. get_or now place [] ++ xs) (sym (none_of nodes place slot o other))
 
 -- a pin of a wave that is driven here is put nowhere
-pub listed_still : (nodes : List Process) (now : List (List Reader)) (place slot : ℕ) (o : Operand) → given_at nodes o.slot ≡ false
+pub listed_still : (nodes : List Process) (now : List (List Reader)) (place slot : ℕ) (o : ProcessPin) → given_at nodes o.slot ≡ false
     → get_or now place [] ≡ get_or now place [] ++ one_if nodes place slot o
 listed_still nodes now place slot o driven = sym (append-nil (get_or now place [])) ∙ ap (λ xs. get_or now place [] ++ xs) (sym (go (cases_eq place o.slot)))
   where

@@ -11,7 +11,7 @@ use Rattle.cmb_core_cluster.specs.declared.directory.Directory.{Directory}
 use Rattle.cmb_wave.specs.declared.level.Change.{Change}
 use Rattle.cmb_wave.specs.declared.level.Level.{Level}
 use Rattle.cmb_wave.specs.Wave.{Wave, new_wave, wave_from}
-use Rattle.cmb_core_cluster.specs.declared.process.Operand.{Operand}
+use Rattle.cmb_core_cluster.specs.declared.process.ProcessPin.{ProcessPin}
 use Rattle.cmb_core_cluster.specs.declared.process.ProcessRule.{ProcessRule}
 use Rattle.cmb_core_cluster.specs.declared.process.ProcessRule.TheVariants.{Given, Input, Gate, Flop}
 use Rattle.cmb_core_cluster.specs.declared.directory.Reader.{Reader}
@@ -53,18 +53,18 @@ module _ (ws : List Wave) (i least : ℕ) (w : Wave) (h : i < length ws) (net : 
   abbrev after : List Wave
   after = set ws i w
 
-  there_still : (o : Operand) → IsThere ws o → IsThere after o
+  there_still : (o : ProcessPin) → IsThere ws o → IsThere after o
   there_still o t = set_slots ws i w (new_wave 0) h net o.net ∙ t
 
-  base_here : (o : Operand) → IsThere ws o → o.slot ≡ i → (wave_at after o.net).base ≡ least
+  base_here : (o : ProcessPin) → IsThere ws o → o.slot ≡ i → (wave_at after o.net).base ≡ least
   base_here o t e =
       ap (λ v. v.base) (sym (read_slot after o.net o.slot (new_wave 0) (there_still o t)) ∙ ap (λ k. get_or after k (new_wave 0)) e ∙ get_or-set_same ws i w (new_wave 0) h) ∙ base
 
-  base_other : (o : Operand) → IsThere ws o → (o.slot ≡ i → ⊥) → (wave_at after o.net).base ≡ (wave_at ws o.net).base
+  base_other : (o : ProcessPin) → IsThere ws o → (o.slot ≡ i → ⊥) → (wave_at after o.net).base ≡ (wave_at ws o.net).base
   base_other o t ne =
       ap (λ v. v.base) (sym (read_slot after o.net o.slot (new_wave 0) (there_still o t)) ∙ get_or-set_other ws i o.slot w (new_wave 0) ne ∙ read_slot ws o.net o.slot (new_wave 0) t)
 
-  gate_still : (slot clock : ℕ) (os : List Operand) → AreReady ws clock os → AllByRecursion (λ r. least ≤ clock - r.delay) (pins_on i slot os) → AreReady after clock os
+  gate_still : (slot clock : ℕ) (os : List ProcessPin) → AreReady ws clock os → AllByRecursion (λ r. least ≤ clock - r.delay) (pins_on i slot os) → AreReady after clock os
   gate_still slot clock [] r a = tt
   gate_still slot clock (o ∷ os) r a = go (cases_eq o.slot i) (λ b. gate_still slot clock os r.1 b)
     where
@@ -79,7 +79,7 @@ module _ (ws : List Wave) (i least : ℕ) (w : Wave) (h : i < length ws) (net : 
           let kept : (wave_at ws o.net).base ≤ clock - o.delay = r.0.1 in
           ((there_still o r.0.0, omega (arith, base_other o r.0.0 ne)), rest b)
 
-  flop_still : (slot clock first period : ℕ) (init : Level) (os : List Operand) (cs : List Change) → IsReadyFor ws clock (Flop first period init) os cs → AllByRecursion (λ r. least ≤ sample_need first period r.delay clock) (pins_on i slot os) → IsReadyFor after clock (Flop first period init) os cs
+  flop_still : (slot clock first period : ℕ) (init : Level) (os : List ProcessPin) (cs : List Change) → IsReadyFor ws clock (Flop first period init) os cs → AllByRecursion (λ r. least ≤ sample_need first period r.delay clock) (pins_on i slot os) → IsReadyFor after clock (Flop first period init) os cs
   flop_still slot clock first period init [] cs r a = absurd r
   flop_still slot clock first period init (o ∷ []) cs r a = go (cases_eq o.slot i)
     where
@@ -93,14 +93,14 @@ module _ (ws : List Wave) (i least : ℕ) (w : Wave) (h : i < length ws) (net : 
           (r.0, there_still o r.1, omega (arith, base_other o r.1 ne))
   flop_still slot clock first period init (o ∷ q ∷ os) cs r a = absurd r
 
-  pub ready_trimmed : (slot clock : ℕ) (rule : ProcessRule) (os : List Operand) (cs : List Change) → IsReadyFor ws clock rule os cs → AllByRecursion (λ r. least ≤ need rule r.delay clock) (pins_on i slot os) → IsReadyFor after clock rule os cs
+  pub ready_trimmed : (slot clock : ℕ) (rule : ProcessRule) (os : List ProcessPin) (cs : List Change) → IsReadyFor ws clock rule os cs → AllByRecursion (λ r. least ≤ need rule r.delay clock) (pins_on i slot os) → IsReadyFor after clock rule os cs
   ready_trimmed slot clock Given os cs r a = tt
   ready_trimmed slot clock Input os cs r a = r
   ready_trimmed slot clock (Gate kind) os cs r a = (r.0, gate_still slot clock os r.1 a)
   ready_trimmed slot clock (Flop first period init) os cs r a = flop_still slot clock first period init os cs r a
 
 -- the needs of the pins of one process
-needs_of : (ps : List Process) (ws : List Wave) (least place slot : ℕ) (os : List Operand) → AllByRecursion (λ r. least ≤ need_at ps ws r) (pins_on place slot os)
+needs_of : (ps : List Process) (ws : List Wave) (least place slot : ℕ) (os : List ProcessPin) → AllByRecursion (λ r. least ≤ need_at ps ws r) (pins_on place slot os)
     → AllByRecursion (λ r. least ≤ need (get_or ps slot (record { rule = Given; operands = []; stimulus = [] })).rule r.delay (get_or ws slot (new_wave 0)).clock) (pins_on place slot os)
 needs_of ps ws least place slot [] a = tt
 needs_of ps ws least place slot (o ∷ os) a = go (eqb o.slot place) a (λ b. needs_of ps ws least place slot os b)
@@ -254,7 +254,7 @@ trim_all old now i h so =
 
 -- ---- what the lists of readers say
 
-pins_below : (place slot most : ℕ) (os : List Operand) → slot < most → AllByRecursion (λ r. r.slot < most) (pins_on place slot os)
+pins_below : (place slot most : ℕ) (os : List ProcessPin) → slot < most → AllByRecursion (λ r. r.slot < most) (pins_on place slot os)
 pins_below place slot most [] h = tt
 pins_below place slot most (o ∷ os) h = go (eqb o.slot place) (pins_below place slot most os h)
   where

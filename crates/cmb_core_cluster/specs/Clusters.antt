@@ -7,7 +7,7 @@ use Rattle.cmb_netlist.specs.declared.netlist.Driver.{Driver}
 use Rattle.cmb_netlist.specs.declared.netlist.Driver.TheVariants.{Input as InputNet, Gate as GateNet, Flop as FlopNet}
 use Rattle.cmb_design_model.specs.Design.{Design}
 use Rattle.cmb_design_model.specs.Timing.{delay, clock_of, initial_level, stimulus}
-use Rattle.cmb_core_cluster.specs.declared.process.Operand.{Operand}
+use Rattle.cmb_core_cluster.specs.declared.process.ProcessPin.{ProcessPin}
 use Rattle.cmb_core_cluster.specs.declared.process.ProcessRule.TheVariants.{Given, Input, Gate, Flop}
 use Rattle.cmb_core_cluster.specs.Rows.{Process, IsReadyFor, slot_of, is_given}
 use Rattle.cmb_core_cluster.specs.Directory.{driven_among, given_among}
@@ -65,7 +65,7 @@ pub record IsSound (s : Cluster) : Type 0 where
   pub ready : (i : ℕ) → i < length s.processes → IsReadyFor s.waves (slot_wave s i).clock (process_at s i).rule (process_at s i).operands (process_at s i).stimulus
 
 -- the operands are the nets on a net's pins, from a pin on, with their delays
-abbrev pub AreOperands : Design → ℕ → ℕ → List ℕ → List Operand → Type 0
+abbrev pub AreOperands : Design → ℕ → ℕ → List ℕ → List ProcessPin → Type 0
 AreOperands design net pin [] [] = Unit {0}
 AreOperands design net pin (source ∷ sources) (o ∷ os) =
     (o.net ≡ source) × (o.delay ≡ delay design net pin) × AreOperands design net (suc pin) sources os

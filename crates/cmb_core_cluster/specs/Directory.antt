@@ -1,7 +1,7 @@
 -- What a cluster looks up: the place of each net's wave, the nets that it drives and those that it is given, and who reads each given wave.
 use Rattle.std.specs.Prelude.{◌≡◌, ℕ, suc, Bool, nat_eq, List, [], ◌∷◌, ◌++◌, if◌then◌else◌, length, map, slice_index_or, Option, Some, None, option_map}
 use Rattle.std.specs.List.{range_with_len}
-use Rattle.cmb_core_cluster.specs.declared.process.Operand.{Operand}
+use Rattle.cmb_core_cluster.specs.declared.process.ProcessPin.{ProcessPin}
 use Rattle.cmb_core_cluster.specs.declared.process.ProcessRule.TheVariants.{Given}
 use Rattle.cmb_core_cluster.specs.declared.directory.Reader.{Reader}
 use Rattle.cmb_core_cluster.specs.declared.directory.Directory.{Directory}
@@ -26,7 +26,7 @@ given_among (process ∷ processes) (first ∷ held) =
     if is_given process.rule then first ∷ given_among processes held else given_among processes held
 
 -- the pins that read the wave in a place, of the operands of the process in another
-abbrev pub pins_on : ℕ → ℕ → List Operand → List Reader
+abbrev pub pins_on : ℕ → ℕ → List ProcessPin → List Reader
 pins_on place slot [] = []
 pins_on place slot (operand ∷ operands) =
     if nat_eq operand.slot place then record { slot = slot; delay = operand.delay } ∷ pins_on place slot operands

@@ -13,7 +13,7 @@ ghost use Rattle.cmb_core_cluster.specs.Step.{wave_at};
 
 use crate::merge::{Lag, differ, follow, merge};
 use crate::pins::{gate_pins, operand_left, operand_wave};
-use crate::process::Operand;
+use crate::process::ProcessPin;
 use crate::span::Span;
 use cmb_netlist::netlist::Kind;
 use cmb_wave::search::{Rest, left_from};
@@ -21,7 +21,7 @@ use cmb_wave::{Change, Level, Wave};
 use std::alloc::AllocError;
 
 /// The tick up to which a gate's operands are known at its output.
-pub(crate) fn reach_of_gate(horizon: u32, operands: &[Operand], waves: &[Wave]) -> u32
+pub(crate) fn reach_of_gate(horizon: u32, operands: &[ProcessPin], waves: &[Wave]) -> u32
     requires { (clock : ℕ) × AreReady waves.now clock operands.now }
     ensures { result ≡ gate_reach horizon waves.now operands.now }
 {
@@ -77,7 +77,7 @@ fn held_changes(room: &mut Vec<Change>, level: Level, span: Span) -> Result<(), 
 pub(crate) fn gate_changes(
     room: &mut Vec<Change>,
     kind: Kind,
-    operands: &[Operand],
+    operands: &[ProcessPin],
     waves: &[Wave],
     span: Span,
 ) -> Result<(), AllocError>
@@ -108,7 +108,7 @@ fn seen_upto(first: u32, period: u32, delay: u32, clock: u32) -> u32
 fn sampled_changes(
     room: &mut Vec<Change>,
     waves: &[Wave],
-    operand: Operand,
+    operand: ProcessPin,
     first: u32,
     period: u32,
     span: Span,
@@ -133,7 +133,7 @@ fn sampled_changes(
 pub(crate) fn flop_changes(
     room: &mut Vec<Change>,
     waves: &[Wave],
-    operand: Operand,
+    operand: ProcessPin,
     first: u32,
     period: u32,
     init: Level,

@@ -4,7 +4,7 @@ ghost use Rattle.std.specs.Prelude.{◌≡◌};
 
 use crate::advance::{flop_changes, gate_changes, input_changes, reach_of_flop, reach_of_gate};
 use crate::pins::operand_wave;
-use crate::process::{Operand, ProcessRule};
+use crate::process::{ProcessPin, ProcessRule};
 use crate::span::Span;
 use cmb_wave::{Change, Wave};
 use std::alloc::AllocError;
@@ -14,7 +14,7 @@ use std::marker::Model;
 #[derive(Drop)]
 pub(crate) struct Node {
     rule: ProcessRule,
-    operands: Vec<Operand>,
+    operands: Vec<ProcessPin>,
     stimulus: Vec<Change>,
 }
 
@@ -32,7 +32,7 @@ impl Node {
     ghost use Rattle.cmb_core_cluster.specs.Inner.Processes.{process_level, process_reach};
     ghost use Rattle.cmb_core_cluster.specs.Inner.Spans.{changes_over};
 
-    pub(crate) fn new(rule: ProcessRule, operands: Vec<Operand>, stimulus: Vec<Change>) -> Node
+    pub(crate) fn new(rule: ProcessRule, operands: Vec<ProcessPin>, stimulus: Vec<Change>) -> Node
         ensures { result ≡ record { rule = rule; operands = operands.items; stimulus = stimulus.items } }
     {
         Node {
@@ -50,7 +50,7 @@ impl Node {
     }
 
     /// What the process reads.
-    pub(crate) fn operands(&self) -> &[Operand]
+    pub(crate) fn operands(&self) -> &[ProcessPin]
         ensures { result.now ≡ self.now.operands }
     {
         self.operands.as_slice()

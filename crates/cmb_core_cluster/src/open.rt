@@ -15,7 +15,7 @@ ghost use Rattle.cmb_core_cluster.specs.Directory.{place_in, driven_among, given
 
 use crate::clustering::Clustering;
 use crate::node::Node;
-use crate::process::{Operand, ProcessRule};
+use crate::process::{ProcessPin, ProcessRule};
 use cmb_design_model::Design;
 use cmb_netlist::MAX_NETS;
 use cmb_netlist::netlist::{Driver, Kind};
@@ -124,7 +124,7 @@ fn operands_on(
     net: u32,
     sources: &[u32],
     places: &[Option<u16>],
-) -> Result<Vec<Operand>, AllocError>
+) -> Result<Vec<ProcessPin>, AllocError>
     requires net { net < nets_of design.now }
     requires pins { sources.now ≡ pins_of (driver_of design.now.netlist net) }
     requires placed { ArePlaced places.now sources.now }
@@ -136,7 +136,7 @@ fn operands_on(
 {
     let mut operands = Vec::with_capacity(alloc, sources.len())?;
     for (i, source) in sources.iter().enumerate() {
-        operands.push(Operand {
+        operands.push(ProcessPin {
             net: *source as u16,
             slot: places[*source as usize].unwrap(),
             delay: design.delay(net as usize, i + 1),

@@ -8,14 +8,14 @@ ghost use Rattle.cmb_core_cluster.specs.Inner.Processes.{delayed_wave, delayed_l
 ghost use Rattle.cmb_core_cluster.specs.Step.{wave_at};
 
 use crate::merge::{Lag, PinCursor};
-use crate::process::Operand;
+use crate::process::ProcessPin;
 use cmb_wave::Wave;
 use cmb_wave::search::{Rest, left_from};
 use std::alloc::{AllocError, Global};
 
 /// The wave that an operand reads.
 #[tactic(auto, using(crate::proofs::Slots::slot_there, crate::proofs::Slots::slot_wave))]
-pub(crate) fn operand_wave(waves: &[Wave], operand: Operand) -> &Wave
+pub(crate) fn operand_wave(waves: &[Wave], operand: ProcessPin) -> &Wave
     requires { IsThere waves.now operand }
     ensures { result.now ≡ wave_at waves.now operand.net }
 {
@@ -23,7 +23,7 @@ pub(crate) fn operand_wave(waves: &[Wave], operand: Operand) -> &Wave
 }
 
 /// What is left from a tick on of the wave that an operand reads.
-pub(crate) fn operand_left(waves: &[Wave], operand: Operand, tick: u32) -> Rest<'_>
+pub(crate) fn operand_left(waves: &[Wave], operand: ProcessPin, tick: u32) -> Rest<'_>
     requires { IsThere waves.now operand }
     ensures { (t : ℕ) → tick ≤ t → level_at result.level result.changes.now t
         ≡ level_at (wave_at waves.now operand.net).kept (wave_at waves.now operand.net).changes t }
@@ -33,7 +33,7 @@ pub(crate) fn operand_left(waves: &[Wave], operand: Operand, tick: u32) -> Rest<
 }
 
 /// The pin of an operand that reaches the output with a delay, from the output's clock on.
-pub(crate) fn pin_of(waves: &[Wave], operand: Operand, clock: u32) -> PinCursor<'_>
+pub(crate) fn pin_of(waves: &[Wave], operand: ProcessPin, clock: u32) -> PinCursor<'_>
     requires { IsReady waves.now clock operand }
     ensures { (t : ℕ) → clock ≤ t → pin_at result t ≡ delayed_wave (wave_at waves.now operand.net) operand.delay t }
 {
@@ -50,7 +50,7 @@ pub(crate) fn pin_of(waves: &[Wave], operand: Operand, clock: u32) -> PinCursor<
 /// The pins of a gate, from the output's clock on.
 pub(crate) fn gate_pins<'a>(
     alloc: Global,
-    operands: &[Operand],
+    operands: &[ProcessPin],
     waves: &'a [Wave],
     clock: u32,
 ) -> Result<Vec<PinCursor<'a>>, AllocError>

@@ -7,7 +7,7 @@ ghost use Rattle.cmb_core_cluster.specs.Directory.{pins_on, listed_readers, give
 
 use crate::directory::Reader;
 use crate::node::Node;
-use crate::process::Operand;
+use crate::process::ProcessPin;
 use cmb_netlist::MAX_NETS;
 use std::alloc::{AllocError, Global};
 
@@ -26,7 +26,7 @@ fn push_reader(readers: &mut [Vec<Reader>], place: usize, reader: Reader) -> Res
 fn push_readers(
     nodes: &[Node],
     slot: u32,
-    operands: &[Operand],
+    operands: &[ProcessPin],
     readers: &mut [Vec<Reader>],
 ) -> Result<(), AllocError>
     requires within { All (λ operand. operand.slot < length nodes.now) operands.now }

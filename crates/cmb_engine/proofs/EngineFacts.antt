@@ -46,10 +46,10 @@ module _ (design : Design) (circuit : Circuit) (state : State) (is_circuit : IsC
         taken-tells design circuit.wiring.roles.items circuit.lines.items circuit.wiring.most circuit.width circuit.wiring.cells is_circuit.plan state.calendar between taken state.clock to
         (64 - (to - state.clock)) is_state.ahead is_state.begun later short within place takes
 
-    pub told-slots : AreInOrder taken → (tell : LevelEvent) → Contains taken tell
-        → (tell.slot < length circuit.wiring.cells) × (is_made (cell_at circuit.wiring.cells tell.slot) ≡ false) × (to ≤ tell.tick + (to - state.clock)) × (tell.tick < to)
-    told-slots order tell h =
-        let right = (window-tells order).right tell h in
+    pub told-slots : AreInOrder taken → (event : LevelEvent) → Contains taken event
+        → (event.slot < length circuit.wiring.cells) × (is_made (cell_at circuit.wiring.cells event.slot) ≡ false) × (to ≤ event.tick + (to - state.clock)) × (event.tick < to)
+    told-slots order event h =
+        let right = (window-tells order).right event h in
         (right.0.slot, right.0.told, omega (arith, right.1, later), right.2)
 
     back : to - (to - state.clock) ≡ state.clock

@@ -184,7 +184,7 @@ module _ (trace : ℕ → ℕ → Level) (cells : List Cell) (roles : List Role)
   below : (slot place : ℕ) → slot < length cells → place < first → told slot place ≡ moved slot place
   below slot place inside early =
       told_words slot place inside (omega arith)
-      ∙ told-keeps tells slot (to + place - 64) (moved slot place) (λ tell among e l. absurd (omega (arith, (right.right tell among).1)))
+      ∙ told-keeps tells slot (to + place - 64) (moved slot place) (λ event among e l. absurd (omega (arith, (right.right event among).1)))
 
   -- a told slot that isn't given
   told-other : (slot place : ℕ) → slot < length cells → is_made (cell_at cells slot) ≡ false → gives roles slot ≡ false → first ≤ place → place < 64 → told slot place ≡ shown trace to slot place
@@ -199,10 +199,10 @@ module _ (trace : ℕ → ℕ → Level) (cells : List Cell) (roles : List Role)
   told-still slot place inside still late small =
       told_words slot place inside small
       ∙ told-same tells slot (to + place - 64) (trace slot (to + place - 64)) (moved slot place)
-      (λ tell among e l.
-      (right.right tell among).0.level
-      ∙ ap (λ n. trace n tell.tick) e
-      ∙ still-level (trace slot) from to tell.tick window.begun still (omega (arith, (right.right tell among).1)) (omega (arith, (right.right tell among).2))
+      (λ event among e l.
+      (right.right event among).0.level
+      ∙ ap (λ n. trace n event.tick) e
+      ∙ still-level (trace slot) from to event.tick window.begun still (omega (arith, (right.right event among).1)) (omega (arith, (right.right event among).2))
       ∙ sym now)
       (moved-held trace from ticks to first most (length cells) window old moved shows moves slot place inside late small ∙ sym now)
       ∙ sym (in_place-tick (trace slot) to place (omega arith))
@@ -245,20 +245,20 @@ module _ (trace : ℕ → ℕ → Level) (cells : List Cell) (roles : List Role)
       writes.others slot place (unwritten roles given slot (idle (cases_Bool (gives roles slot))))
       ∙ told_words slot place inside small
       ∙ told-keeps tells slot (to + place - 64) (moved slot place)
-      (λ tell among e l. false≢true (sym (subst (λ (n : ℕ). is_made (cell_at cells n) ≡ false) e (right.right tell among).0.told) ∙ made))
+      (λ event among e l. false≢true (sym (subst (λ (n : ℕ). is_made (cell_at cells n) ≡ false) e (right.right event among).0.told) ∙ made))
     where
       idle : (gives roles slot ≡ true) ⊎ (gives roles slot ≡ false) → gives roles slot ≡ false
       idle (inl gift) = absurd (false≢true (sym (told_nets slot gift).1 ∙ made))
       idle (inr other) = other
 
   -- a slot whose readers aren't all marked is as it was
-  pub unmarked-kept : (readers : List (List ℕ)) (marks : List ℕ) → ((tell : LevelEvent) → Contains tells tell → AreMarked (has marks) (get_or readers tell.slot []))
+  pub unmarked-kept : (readers : List (List ℕ)) (marks : List ℕ) → ((event : LevelEvent) → Contains tells event → AreMarked (has marks) (get_or readers event.slot []))
       → ((slot : ℕ) → is_written roles given slot ≡ true → AreMarked (has marks) (get_or readers slot []))
       → (slot : ℕ) → slot < length cells → (AreMarked (has marks) (get_or readers slot []) → ⊥) → (place : ℕ) → place < 64 → new slot place ≡ moved slot place
   unmarked-kept readers marks told_news given_news slot inside none place small =
       writes.others slot place (idle (cases_Bool (is_written roles given slot)))
       ∙ told_words slot place inside small
-      ∙ told-keeps tells slot (to + place - 64) (moved slot place) (λ tell among e l. none (subst (λ (n : ℕ). AreMarked (has marks) (get_or readers n [])) e (told_news tell among)))
+      ∙ told-keeps tells slot (to + place - 64) (moved slot place) (λ event among e l. none (subst (λ (n : ℕ). AreMarked (has marks) (get_or readers n [])) e (told_news event among)))
     where
       idle : (is_written roles given slot ≡ true) ⊎ (is_written roles given slot ≡ false) → is_written roles given slot ≡ false
       idle (inl h) = absurd (none (given_news slot h))

@@ -18,10 +18,10 @@ use Rattle.cmb_engine.specs.Inner.Lines.{Follows, IsOfChange, IsOfFollower, IsOf
 use Rattle.cmb_engine.proofs.NoteFacts.{taken-before, taken-last, taken-cases}
 
 -- a tell is of one of some places
-pub record IsOfPlaces (word : Word) (slot delay to : ℕ) (places : List ℕ) (tell : LevelEvent) : Type 0 where
+pub record IsOfPlaces (word : Word) (slot delay to : ℕ) (places : List ℕ) (event : LevelEvent) : Type 0 where
   pub place : ℕ
   pub among : Contains places place
-  pub is : tell ≡ tell_of word slot delay to place
+  pub is : event ≡ tell_of word slot delay to place
 
 -- the mask of a word's changes from a place on
 module _ (word : Word) (mask first : ℕ) (below : (i : ℕ) → i < first → is_set_at mask i ≡ false)
@@ -45,15 +45,15 @@ module _ (word : Word) (mask first : ℕ) (below : (i : ℕ) → i < first → i
       (λ other. ap not other)
       (cases_Bool (same_level (level_at_place word (place - 1)) (level_at_place word place)))
 
-  pub change-of-place : (slot delay to : ℕ) (tell : LevelEvent) → IsOfPlaces word slot delay to (places_set mask) tell → IsOfChange word slot delay to first tell
-  change-of-place slot delay to tell h =
+  pub change-of-place : (slot delay to : ℕ) (event : LevelEvent) → IsOfPlaces word slot delay to (places_set mask) event → IsOfChange word slot delay to first event
+  change-of-place slot delay to event h =
       let set : (h.place < 64) × (is_set_at mask h.place ≡ true) =
       All-contains (λ place. (place < 64) × (is_set_at mask place ≡ true)) (places_set mask) h.place (places-each mask) h.among in
       let parts = place-changes h.place set.0 set.1 in
       record { place = h.place; from = parts.0; within = set.0; differs = parts.1; is = h.is }
 
-  pub place-of-change : (slot delay to : ℕ) (tell : LevelEvent) → IsOfChange word slot delay to first tell → IsOfPlaces word slot delay to (places_set mask) tell
-  place-of-change slot delay to tell h = record {
+  pub place-of-change : (slot delay to : ℕ) (event : LevelEvent) → IsOfChange word slot delay to first event → IsOfPlaces word slot delay to (places_set mask) event
+  place-of-change slot delay to event h = record {
     place = h.place;
     among = places-all mask h.place h.within (change-set h.place h.from h.within h.differs);
     is = h.is;
@@ -61,22 +61,22 @@ module _ (word : Word) (mask first : ℕ) (below : (i : ℕ) → i < first → i
 
 -- one place more
 module _ (word : Word) (slot delay to : ℕ) (places : List ℕ) (place : ℕ) (one : LevelEvent) (at : one ≡ tell_of word slot delay to place) where
-  pub place-parts : (tell : LevelEvent) → IsOfPlaces word slot delay to (places ++ place ∷ []) tell → IsOfPlaces word slot delay to places tell ⊎ (tell ≡ one)
-  place-parts tell h = go (Contains-push_cases places place h.place h.among)
+  pub place-parts : (event : LevelEvent) → IsOfPlaces word slot delay to (places ++ place ∷ []) event → IsOfPlaces word slot delay to places event ⊎ (event ≡ one)
+  place-parts event h = go (Contains-push_cases places place h.place h.among)
     where
-      go : Contains places h.place ⊎ (place ≡ h.place) → IsOfPlaces word slot delay to places tell ⊎ (tell ≡ one)
+      go : Contains places h.place ⊎ (place ≡ h.place) → IsOfPlaces word slot delay to places event ⊎ (event ≡ one)
       go (inl a) = inl (record { place = h.place; among = a; is = h.is })
       go (inr e) = inr (h.is ∙ ap (λ p. tell_of word slot delay to p) (sym e) ∙ sym at)
 
-  pub place-before : (tell : LevelEvent) → IsOfPlaces word slot delay to places tell → IsOfPlaces word slot delay to (places ++ place ∷ []) tell
-  place-before tell h = record { place = h.place; among = Contains-append_left places (place ∷ []) h.place h.among; is = h.is }
+  pub place-before : (event : LevelEvent) → IsOfPlaces word slot delay to places event → IsOfPlaces word slot delay to (places ++ place ∷ []) event
+  place-before event h = record { place = h.place; among = Contains-append_left places (place ∷ []) h.place h.among; is = h.is }
 
-  pub place-last : (tell : LevelEvent) → tell ≡ one → IsOfPlaces word slot delay to (places ++ place ∷ []) tell
-  place-last tell e = record { place = place; among = Contains-push places place; is = e ∙ at }
+  pub place-last : (event : LevelEvent) → event ≡ one → IsOfPlaces word slot delay to (places ++ place ∷ []) event
+  place-last event e = record { place = place; among = Contains-push places place; is = e ∙ at }
 
 -- no place
-pub place-none : (word : Word) (slot delay to : ℕ) (tell : LevelEvent) → IsOfPlaces word slot delay to [] tell → ⊥
-place-none word slot delay to tell h = absurd (omega (arith, h.among.1))
+pub place-none : (word : Word) (slot delay to : ℕ) (event : LevelEvent) → IsOfPlaces word slot delay to [] event → ⊥
+place-none word slot delay to event h = absurd (omega (arith, h.among.1))
 
 -- the places of the mask of a word's changes
 pub places-within : (word : Word) (mask first : ℕ) (below : (i : ℕ) → i < first → is_set_at mask i ≡ false)
@@ -91,25 +91,25 @@ pub next-of : {X : Type 0} (P : X → Type 0) (left : List X) (x : X) (rest : Li
 next-of P left x rest is all = All-head P x rest (All-same P (x ∷ rest) left (sym is) all)
 
 -- no line
-pub follower-none : (word : Word) (lines : List Pin) (nets to first : ℕ) (tell : LevelEvent) → IsOfFollower word [] lines nets to first tell → ⊥
-follower-none word lines nets to first tell h = absurd (omega (arith, h.among.1))
+pub follower-none : (word : Word) (lines : List Pin) (nets to first : ℕ) (event : LevelEvent) → IsOfFollower word [] lines nets to first event → ⊥
+follower-none word lines nets to first event h = absurd (omega (arith, h.among.1))
 
 -- one line more
 module _ (word : Word) (numbers : List ℕ) (i : ℕ) (inside : i < length numbers) (lines : List Pin) (d : Pin) (nets to first : ℕ) where
-  pub follower-parts : (tell : LevelEvent) → IsOfFollower word (take (i + 1) numbers) lines nets to first tell
-      → IsOfFollower word (take i numbers) lines nets to first tell ⊎ IsOfChange word (nets + get_or numbers i 0) (get_or lines (get_or numbers i 0) d).delay to first tell
-  follower-parts tell h = go (taken-cases numbers i 0 inside h.number h.among)
+  pub follower-parts : (event : LevelEvent) → IsOfFollower word (take (i + 1) numbers) lines nets to first event
+      → IsOfFollower word (take i numbers) lines nets to first event ⊎ IsOfChange word (nets + get_or numbers i 0) (get_or lines (get_or numbers i 0) d).delay to first event
+  follower-parts event h = go (taken-cases numbers i 0 inside h.number h.among)
     where
       go : Contains (take i numbers) h.number ⊎ (get_or numbers i 0 ≡ h.number)
-          → IsOfFollower word (take i numbers) lines nets to first tell ⊎ IsOfChange word (nets + get_or numbers i 0) (get_or lines (get_or numbers i 0) d).delay to first tell
+          → IsOfFollower word (take i numbers) lines nets to first event ⊎ IsOfChange word (nets + get_or numbers i 0) (get_or lines (get_or numbers i 0) d).delay to first event
       go (inl a) = inl (record { number = h.number; line = h.line; among = a; has_number = h.has_number; change = h.change })
       go (inr e) =
           let line : h.line ≡ get_or lines h.number d = sym (get_or_from_slice_get lines h.number h.line d h.has_number) in
-          inr (subst (λ (n : ℕ). IsOfChange word (nets + n) (get_or lines n d).delay to first tell) (sym e)
-          (subst (λ (l : Pin). IsOfChange word (nets + h.number) l.delay to first tell) line h.change))
+          inr (subst (λ (n : ℕ). IsOfChange word (nets + n) (get_or lines n d).delay to first event) (sym e)
+          (subst (λ (l : Pin). IsOfChange word (nets + h.number) l.delay to first event) line h.change))
 
-  pub follower-before : (tell : LevelEvent) → IsOfFollower word (take i numbers) lines nets to first tell → IsOfFollower word (take (i + 1) numbers) lines nets to first tell
-  follower-before tell h = record {
+  pub follower-before : (event : LevelEvent) → IsOfFollower word (take i numbers) lines nets to first event → IsOfFollower word (take (i + 1) numbers) lines nets to first event
+  follower-before event h = record {
     number = h.number;
     line = h.line;
     among = taken-before numbers i 0 inside h.number h.among;
@@ -117,9 +117,9 @@ module _ (word : Word) (numbers : List ℕ) (i : ℕ) (inside : i < length numbe
     change = h.change;
   }
 
-  pub follower-last : get_or numbers i 0 < length lines → (tell : LevelEvent) → IsOfChange word (nets + get_or numbers i 0) (get_or lines (get_or numbers i 0) d).delay to first tell
-      → IsOfFollower word (take (i + 1) numbers) lines nets to first tell
-  follower-last small tell h = record {
+  pub follower-last : get_or numbers i 0 < length lines → (event : LevelEvent) → IsOfChange word (nets + get_or numbers i 0) (get_or lines (get_or numbers i 0) d).delay to first event
+      → IsOfFollower word (take (i + 1) numbers) lines nets to first event
+  follower-last small event h = record {
     number = get_or numbers i 0;
     line = get_or lines (get_or numbers i 0) d;
     among = taken-last numbers i 0 inside;
@@ -128,29 +128,29 @@ module _ (word : Word) (numbers : List ℕ) (i : ℕ) (inside : i < length numbe
   }
 
 -- no net
-pub line-none : (lines : List Pin) (nets to first : ℕ) (tell : LevelEvent) → IsOfLine [] lines nets to first tell → ⊥
-line-none lines nets to first tell h = absurd (omega (arith, h.among.1))
+pub line-none : (lines : List Pin) (nets to first : ℕ) (event : LevelEvent) → IsOfLine [] lines nets to first event → ⊥
+line-none lines nets to first event h = absurd (omega (arith, h.among.1))
 
 -- one net more
 module _ (changed : List Changed) (i : ℕ) (one : Changed) (inside : i < length changed) (item : one ≡ get_or changed i one) (lines : List Pin) (nets to first : ℕ) (numbers : List ℕ)
     (follow : (number : ℕ) → Contains numbers number ↔ Follows lines number one.net) where
-  pub line-parts : (tell : LevelEvent) → IsOfLine (take (i + 1) changed) lines nets to first tell
-      → IsOfLine (take i changed) lines nets to first tell ⊎ IsOfFollower one.word numbers lines nets to first tell
-  line-parts tell h = go (taken-cases changed i one inside h.one h.among)
+  pub line-parts : (event : LevelEvent) → IsOfLine (take (i + 1) changed) lines nets to first event
+      → IsOfLine (take i changed) lines nets to first event ⊎ IsOfFollower one.word numbers lines nets to first event
+  line-parts event h = go (taken-cases changed i one inside h.one h.among)
     where
       go : Contains (take i changed) h.one ⊎ (get_or changed i one ≡ h.one)
-          → IsOfLine (take i changed) lines nets to first tell ⊎ IsOfFollower one.word numbers lines nets to first tell
+          → IsOfLine (take i changed) lines nets to first event ⊎ IsOfFollower one.word numbers lines nets to first event
       go (inl a) = inl (record { one = h.one; number = h.number; line = h.line; among = a; has_number = h.has_number; follows = h.follows; change = h.change })
       go (inr e) = inr (record {
         number = h.number;
         line = h.line;
         among = (follow h.number).1 (h.line, h.has_number, h.follows ∙ ap (λ (c : Changed). c.net) (sym (item ∙ e)));
         has_number = h.has_number;
-        change = subst (λ (c : Changed). IsOfChange c.word (nets + h.number) h.line.delay to first tell) (sym (item ∙ e)) h.change;
+        change = subst (λ (c : Changed). IsOfChange c.word (nets + h.number) h.line.delay to first event) (sym (item ∙ e)) h.change;
       })
 
-  pub line-before : (tell : LevelEvent) → IsOfLine (take i changed) lines nets to first tell → IsOfLine (take (i + 1) changed) lines nets to first tell
-  line-before tell h = record {
+  pub line-before : (event : LevelEvent) → IsOfLine (take i changed) lines nets to first event → IsOfLine (take (i + 1) changed) lines nets to first event
+  line-before event h = record {
     one = h.one;
     number = h.number;
     line = h.line;
@@ -160,8 +160,8 @@ module _ (changed : List Changed) (i : ℕ) (one : Changed) (inside : i < length
     change = h.change;
   }
 
-  pub line-last : (tell : LevelEvent) → IsOfFollower one.word numbers lines nets to first tell → IsOfLine (take (i + 1) changed) lines nets to first tell
-  line-last tell h =
+  pub line-last : (event : LevelEvent) → IsOfFollower one.word numbers lines nets to first event → IsOfLine (take (i + 1) changed) lines nets to first event
+  line-last event h =
       let line : Follows lines h.number one.net = (follow h.number).0 h.among in
       let same : h.line ≡ line.0 = sym (get_or_from_slice_get lines h.number h.line h.line h.has_number) ∙ get_or_from_slice_get lines h.number line.0 h.line line.1 in
       record {

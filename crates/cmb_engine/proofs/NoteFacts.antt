@@ -14,62 +14,62 @@ pub ticks-on : (old between new : Calendar) → SameTicks old between → SameTi
 ticks-on old between new g h = record { horizon = h.horizon ∙ g.horizon; clock = h.clock ∙ g.clock }
 
 -- nothing is told
-pub notes-none : (IsNew : LevelEvent → Type 0) (calendar : Calendar) → ((tell : LevelEvent) → IsNew tell → ⊥) → NotesEach IsNew calendar calendar
-notes-none IsNew calendar none tell = (inl, back)
+pub notes-none : (IsNew : LevelEvent → Type 0) (calendar : Calendar) → ((event : LevelEvent) → IsNew event → ⊥) → NotesEach IsNew calendar calendar
+notes-none IsNew calendar none event = (inl, back)
   where
-    back : Contains calendar.tells tell ⊎ (IsNew tell × (tell.tick < calendar.horizon)) → Contains calendar.tells tell
+    back : Contains calendar.tells event ⊎ (IsNew event × (event.tick < calendar.horizon)) → Contains calendar.tells event
     back (inl h) = h
-    back (inr h) = absurd (none tell h.0)
+    back (inr h) = absurd (none event h.0)
 
 -- one thing is told
-pub notes-one : (old new : Calendar) (one : LevelEvent) → Notes old new one → NotesEach (λ tell. tell ≡ one) old new
-notes-one old new one notes tell = (λ h. there ((notes tell).0 h), λ h. (notes tell).1 (back h))
+pub notes-one : (old new : Calendar) (one : LevelEvent) → Notes old new one → NotesEach (λ event. event ≡ one) old new
+notes-one old new one notes event = (λ h. there ((notes event).0 h), λ h. (notes event).1 (back h))
   where
-    there : Contains old.tells tell ⊎ ((tell ≡ one) × (one.tick < old.horizon)) → Contains old.tells tell ⊎ ((tell ≡ one) × (tell.tick < old.horizon))
+    there : Contains old.tells event ⊎ ((event ≡ one) × (one.tick < old.horizon)) → Contains old.tells event ⊎ ((event ≡ one) × (event.tick < old.horizon))
     there (inl h) = inl h
     there (inr h) = inr (h.0, subst (λ (t : LevelEvent). t.tick < old.horizon) (sym h.0) h.1)
 
-    back : Contains old.tells tell ⊎ ((tell ≡ one) × (tell.tick < old.horizon)) → Contains old.tells tell ⊎ ((tell ≡ one) × (one.tick < old.horizon))
+    back : Contains old.tells event ⊎ ((event ≡ one) × (event.tick < old.horizon)) → Contains old.tells event ⊎ ((event ≡ one) × (one.tick < old.horizon))
     back (inl h) = inl h
     back (inr h) = inr (h.0, subst (λ (t : LevelEvent). t.tick < old.horizon) h.0 h.1)
 
 -- the same in other words
-pub notes-as : (IsNew IsOther : LevelEvent → Type 0) (old new : Calendar) → ((tell : LevelEvent) → IsNew tell → IsOther tell) → ((tell : LevelEvent) → IsOther tell → IsNew tell)
+pub notes-as : (IsNew IsOther : LevelEvent → Type 0) (old new : Calendar) → ((event : LevelEvent) → IsNew event → IsOther event) → ((event : LevelEvent) → IsOther event → IsNew event)
     → NotesEach IsNew old new → NotesEach IsOther old new
-notes-as IsNew IsOther old new to from notes tell = (λ h. there ((notes tell).0 h), λ h. (notes tell).1 (back h))
+notes-as IsNew IsOther old new to from notes event = (λ h. there ((notes event).0 h), λ h. (notes event).1 (back h))
   where
-    there : Contains old.tells tell ⊎ (IsNew tell × (tell.tick < old.horizon)) → Contains old.tells tell ⊎ (IsOther tell × (tell.tick < old.horizon))
+    there : Contains old.tells event ⊎ (IsNew event × (event.tick < old.horizon)) → Contains old.tells event ⊎ (IsOther event × (event.tick < old.horizon))
     there (inl h) = inl h
-    there (inr h) = inr (to tell h.0, h.1)
+    there (inr h) = inr (to event h.0, h.1)
 
-    back : Contains old.tells tell ⊎ (IsOther tell × (tell.tick < old.horizon)) → Contains old.tells tell ⊎ (IsNew tell × (tell.tick < old.horizon))
+    back : Contains old.tells event ⊎ (IsOther event × (event.tick < old.horizon)) → Contains old.tells event ⊎ (IsNew event × (event.tick < old.horizon))
     back (inl h) = inl h
-    back (inr h) = inr (from tell h.0, h.1)
+    back (inr h) = inr (from event h.0, h.1)
 
 -- some things, and then others
 pub notes-more : (IsFirst IsSecond IsNew : LevelEvent → Type 0) (old between new : Calendar) → between.horizon ≡ old.horizon
-    → ((tell : LevelEvent) → IsNew tell → IsFirst tell ⊎ IsSecond tell) → ((tell : LevelEvent) → IsFirst tell → IsNew tell) → ((tell : LevelEvent) → IsSecond tell → IsNew tell)
+    → ((event : LevelEvent) → IsNew event → IsFirst event ⊎ IsSecond event) → ((event : LevelEvent) → IsFirst event → IsNew event) → ((event : LevelEvent) → IsSecond event → IsNew event)
     → NotesEach IsFirst old between → NotesEach IsSecond between new → NotesEach IsNew old new
-notes-more IsFirst IsSecond IsNew old between new same parts first second before after tell = (λ h. there ((after tell).0 h), back)
+notes-more IsFirst IsSecond IsNew old between new same parts first second before after event = (λ h. there ((after event).0 h), back)
   where
-    below : tell.tick < between.horizon → tell.tick < old.horizon
-    below h = subst (λ (n : ℕ). tell.tick < n) same h
+    below : event.tick < between.horizon → event.tick < old.horizon
+    below h = subst (λ (n : ℕ). event.tick < n) same h
 
-    early : Contains old.tells tell ⊎ (IsFirst tell × (tell.tick < old.horizon)) → Contains old.tells tell ⊎ (IsNew tell × (tell.tick < old.horizon))
+    early : Contains old.tells event ⊎ (IsFirst event × (event.tick < old.horizon)) → Contains old.tells event ⊎ (IsNew event × (event.tick < old.horizon))
     early (inl h) = inl h
-    early (inr h) = inr (first tell h.0, h.1)
+    early (inr h) = inr (first event h.0, h.1)
 
-    there : Contains between.tells tell ⊎ (IsSecond tell × (tell.tick < between.horizon)) → Contains old.tells tell ⊎ (IsNew tell × (tell.tick < old.horizon))
-    there (inl h) = early ((before tell).0 h)
-    there (inr h) = inr (second tell h.0, below h.1)
+    there : Contains between.tells event ⊎ (IsSecond event × (event.tick < between.horizon)) → Contains old.tells event ⊎ (IsNew event × (event.tick < old.horizon))
+    there (inl h) = early ((before event).0 h)
+    there (inr h) = inr (second event h.0, below h.1)
 
-    late : IsFirst tell ⊎ IsSecond tell → tell.tick < old.horizon → Contains new.tells tell
-    late (inl h) small = (after tell).1 (inl ((before tell).1 (inr (h, small))))
-    late (inr h) small = (after tell).1 (inr (h, subst (λ (n : ℕ). tell.tick < n) (sym same) small))
+    late : IsFirst event ⊎ IsSecond event → event.tick < old.horizon → Contains new.tells event
+    late (inl h) small = (after event).1 (inl ((before event).1 (inr (h, small))))
+    late (inr h) small = (after event).1 (inr (h, subst (λ (n : ℕ). event.tick < n) (sym same) small))
 
-    back : Contains old.tells tell ⊎ (IsNew tell × (tell.tick < old.horizon)) → Contains new.tells tell
-    back (inl h) = (after tell).1 (inl ((before tell).1 (inl h)))
-    back (inr h) = late (parts tell h.0) h.1
+    back : Contains old.tells event ⊎ (IsNew event × (event.tick < old.horizon)) → Contains new.tells event
+    back (inl h) = (after event).1 (inl ((before event).1 (inl h)))
+    back (inr h) = late (parts event h.0) h.1
 
 -- one more element of a list
 module _ {X : Type 0} (xs : List X) (i : ℕ) (d : X) (inside : i < length xs) where

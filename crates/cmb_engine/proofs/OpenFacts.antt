@@ -33,18 +33,18 @@ module _ (design : Design) (roles : List Role) (lines : List Pin) (most width : 
     (shows : Shows words (trace_of design roles lines) (nets_of design + length lines) 1) (empty noted started : Calendar) (none : empty.tells ≡ [])
     (ends : empty.horizon ≡ design.horizon) (zero : empty.clock ≡ 0) (first : SameTicks empty noted) (second : SameTicks noted started)
     (inputs : NotesEach (IsOfInput design roles) empty noted) (starts : NotesEach (IsOfStart words lines (nets_of design)) noted started) where
-  noted-below : (tell : LevelEvent) → Contains noted.tells tell → tell.tick < design.horizon
-  noted-below tell h = go ((inputs tell).0 h)
+  noted-below : (event : LevelEvent) → Contains noted.tells event → event.tick < design.horizon
+  noted-below event h = go ((inputs event).0 h)
     where
-      go : Contains empty.tells tell ⊎ (IsOfInput design roles tell × (tell.tick < empty.horizon)) → tell.tick < design.horizon
+      go : Contains empty.tells event ⊎ (IsOfInput design roles event × (event.tick < empty.horizon)) → event.tick < design.horizon
       go (inl h) = absurd (omega (arith, h.1, ap length none))
       go (inr h) = omega (arith, h.1, ends)
 
-  started-below : (tell : LevelEvent) → Contains started.tells tell → tell.tick < design.horizon
-  started-below tell h = go ((starts tell).0 h)
+  started-below : (event : LevelEvent) → Contains started.tells event → event.tick < design.horizon
+  started-below event h = go ((starts event).0 h)
     where
-      go : Contains noted.tells tell ⊎ (IsOfStart words lines (nets_of design) tell × (tell.tick < noted.horizon)) → tell.tick < design.horizon
-      go (inl h) = noted-below tell h
+      go : Contains noted.tells event ⊎ (IsOfStart words lines (nets_of design) event × (event.tick < noted.horizon)) → event.tick < design.horizon
+      go (inl h) = noted-below event h
       go (inr h) = omega (arith, h.1, first.horizon, ends)
 
   pub starts-ahead : TellsAhead design roles lines cells 1 started

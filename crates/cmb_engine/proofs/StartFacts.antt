@@ -72,17 +72,17 @@ module _ (design : Design) (roles : List Role) (lines : List Pin) (most width : 
       let lawful = plan.sources number line (slice_get_within lines number line has) in
       (omega (arith, lawful.0, ap (λ (p : Pin). p.net) is), omega (arith, lawful.1, plan.wide, ap (λ (p : Pin). p.delay) is))
 
-  input-right : (tell : LevelEvent) → IsOfInput design roles tell → IsRight (trace_of design roles lines) (cell_at cells) (length cells) tell × (1 ≤ tell.tick)
-  input-right tell h = (
+  input-right : (event : LevelEvent) → IsOfInput design roles event → IsRight (trace_of design roles lines) (cell_at cells) (length cells) event × (1 ≤ event.tick)
+  input-right event h = (
     record {
       slot = omega (arith, h.net, plan.count);
-      told = plan.drivers tell.slot h.net h.input;
-      level = h.change.level ∙ sym (input-shows tell.slot tell.tick h.net h.input h.driven);
+      told = plan.drivers event.slot h.net h.input;
+      level = h.change.level ∙ sym (input-shows event.slot event.tick h.net h.input h.driven);
     },
     h.change.later,
   )
 
-  input-told : (tells : List LevelEvent) → ((tell : LevelEvent) → IsOfInput design roles tell → tell.tick < design.horizon → Contains tells tell)
+  input-told : (tells : List LevelEvent) → ((event : LevelEvent) → IsOfInput design roles event → event.tick < design.horizon → Contains tells event)
       → (slot tick : ℕ) → slot < nets_of design → drives roles slot ≡ true → is_made (cell_at cells slot) ≡ false → 1 ≤ tick → tick < design.horizon → IsTold (trace_of design roles lines) tells slot tick
   input-told tells has slot tick inside driven told later within = go (same-cases (trace_of design roles lines slot (tick - 1)) (trace_of design roles lines slot tick))
     where
@@ -116,8 +116,8 @@ module _ (design : Design) (roles : List Role) (lines : List Pin) (most width : 
         word-shows line (line-lawful number line has).0
         ∙ sym (line-shows number line.delay line has ∙ line-late (level_in design roles) line line.delay (omega arith) ∙ ap (level_in design roles line.net) none)
 
-    start-right : (tell : LevelEvent) → IsOfStart words lines (nets_of design) tell → IsRight (trace_of design roles lines) (cell_at cells) (length cells) tell × (1 ≤ tell.tick)
-    start-right tell h =
+    start-right : (event : LevelEvent) → IsOfStart words lines (nets_of design) event → IsRight (trace_of design roles lines) (cell_at cells) (length cells) event × (1 ≤ event.tick)
+    start-right event h =
         subst (λ (t : LevelEvent). IsRight (trace_of design roles lines) (cell_at cells) (length cells) t × (1 ≤ t.tick)) (sym h.is) (
           record {
             slot = omega (arith, slice_get_within lines h.number h.line h.has_number, plan.count);
@@ -127,7 +127,7 @@ module _ (design : Design) (roles : List Role) (lines : List Pin) (most width : 
           (line-lawful h.number h.line h.has_number).1,
         )
 
-    start-told : (tells : List LevelEvent) → ((tell : LevelEvent) → IsOfStart words lines (nets_of design) tell → tell.tick < design.horizon → Contains tells tell)
+    start-told : (tells : List LevelEvent) → ((event : LevelEvent) → IsOfStart words lines (nets_of design) event → event.tick < design.horizon → Contains tells event)
         → (number tick : ℕ) (line : Pin) → slice_get lines number ≡ Some line → 1 ≤ tick → tick < 1 + line.delay → tick < design.horizon
         → IsTold (trace_of design roles lines) tells (nets_of design + number) tick
     start-told tells has number tick line is later reach within = go (cases_lt tick line.delay)
@@ -155,23 +155,23 @@ module _ (design : Design) (roles : List Role) (lines : List Pin) (most width : 
     pub starts-told : (empty noted started : Calendar) → empty.tells ≡ [] → empty.horizon ≡ design.horizon → noted.horizon ≡ empty.horizon
         → NotesEach (IsOfInput design roles) empty noted → NotesEach (IsOfStart words lines (nets_of design)) noted started
         → AreTold (trace_of design roles lines) (cell_at cells) (gives roles) (length cells) (reach_of (nets_of design) lines design.horizon) design.horizon 1 started.tells
-    starts-told empty noted started none horizon same inputs starts = record { right = λ tell h. right tell ((starts tell).0 h); all = all }
+    starts-told empty noted started none horizon same inputs starts = record { right = λ event h. right event ((starts event).0 h); all = all }
       where
-        early : (tell : LevelEvent) → Contains empty.tells tell ⊎ (IsOfInput design roles tell × (tell.tick < empty.horizon))
-            → IsRight (trace_of design roles lines) (cell_at cells) (length cells) tell × (1 ≤ tell.tick)
-        early tell (inl h) = absurd (omega (arith, h.1, ap length none))
-        early tell (inr h) = input-right tell h.0
+        early : (event : LevelEvent) → Contains empty.tells event ⊎ (IsOfInput design roles event × (event.tick < empty.horizon))
+            → IsRight (trace_of design roles lines) (cell_at cells) (length cells) event × (1 ≤ event.tick)
+        early event (inl h) = absurd (omega (arith, h.1, ap length none))
+        early event (inr h) = input-right event h.0
 
-        right : (tell : LevelEvent) → Contains noted.tells tell ⊎ (IsOfStart words lines (nets_of design) tell × (tell.tick < noted.horizon))
-            → IsRight (trace_of design roles lines) (cell_at cells) (length cells) tell × (1 ≤ tell.tick)
-        right tell (inl h) = early tell ((inputs tell).0 h)
-        right tell (inr h) = start-right tell h.0
+        right : (event : LevelEvent) → Contains noted.tells event ⊎ (IsOfStart words lines (nets_of design) event × (event.tick < noted.horizon))
+            → IsRight (trace_of design roles lines) (cell_at cells) (length cells) event × (1 ≤ event.tick)
+        right event (inl h) = early event ((inputs event).0 h)
+        right event (inr h) = start-right event h.0
 
-        has-input : (tell : LevelEvent) → IsOfInput design roles tell → tell.tick < design.horizon → Contains started.tells tell
-        has-input tell h within = (starts tell).1 (inl ((inputs tell).1 (inr (h, omega (arith, within, horizon)))))
+        has-input : (event : LevelEvent) → IsOfInput design roles event → event.tick < design.horizon → Contains started.tells event
+        has-input event h within = (starts event).1 (inl ((inputs event).1 (inr (h, omega (arith, within, horizon)))))
 
-        has-start : (tell : LevelEvent) → IsOfStart words lines (nets_of design) tell → tell.tick < design.horizon → Contains started.tells tell
-        has-start tell h within = (starts tell).1 (inr (h, omega (arith, within, horizon, same)))
+        has-start : (event : LevelEvent) → IsOfStart words lines (nets_of design) event → event.tick < design.horizon → Contains started.tells event
+        has-start event h within = (starts event).1 (inr (h, omega (arith, within, horizon, same)))
 
         all : (slot tick : ℕ) → slot < length cells → is_made (cell_at cells slot) ≡ false → gives roles slot ≡ false → 1 ≤ tick → tick < 1 + reach_of (nets_of design) lines design.horizon slot
             → tick < design.horizon → IsTold (trace_of design roles lines) started.tells slot tick

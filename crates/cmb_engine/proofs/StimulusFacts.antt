@@ -25,11 +25,11 @@ abbrev pub tell_to : ℕ → Change → LevelEvent
 tell_to slot change = record { tick = change.tick; slot = slot; level = change.level }
 
 -- a tell is of one of some changes of a slot, after tick 0
-pub record IsOfChanges (changes : List Change) (slot : ℕ) (tell : LevelEvent) : Type 0 where
+pub record IsOfChanges (changes : List Change) (slot : ℕ) (event : LevelEvent) : Type 0 where
   pub change : Change
   pub among : Contains changes change
   pub later : 1 ≤ change.tick
-  pub is : tell ≡ tell_to slot change
+  pub is : event ≡ tell_to slot change
 
 no-changes : (changes : List Change) (x : Change) → changes ≡ [] → Contains changes x → ⊥
 no-changes changes x none h = omega (arith, ap length none, h.1)
@@ -99,30 +99,30 @@ among-changes level (suc to) tick within differs =
 
 module _ (changes : List Change) (i : ℕ) (d : Change) (slot : ℕ) (inside : i < length changes) (old between new : Calendar) (same : between.horizon ≡ old.horizon)
     (so_far : NotesEach (IsOfChanges (take i changes) slot) old between) where
-  before : (tell : LevelEvent) → IsOfChanges (take i changes) slot tell → IsOfChanges (take (i + 1) changes) slot tell
-  before tell h = record { change = h.change; among = taken-before changes i d inside h.change h.among; later = h.later; is = h.is }
+  before : (event : LevelEvent) → IsOfChanges (take i changes) slot event → IsOfChanges (take (i + 1) changes) slot event
+  before event h = record { change = h.change; among = taken-before changes i d inside h.change h.among; later = h.later; is = h.is }
 
   pub changes-noted : 1 ≤ (get_or changes i d).tick → Notes between new (tell_to slot (get_or changes i d))
       → NotesEach (IsOfChanges (take (i + 1) changes) slot) old new
   changes-noted late noted =
-      notes-more (IsOfChanges (take i changes) slot) (λ tell. tell ≡ tell_to slot (get_or changes i d)) (IsOfChanges (take (i + 1) changes) slot) old between new same
-      (λ tell h. parts tell h (taken-cases changes i d inside h.change h.among)) before last so_far (notes-one between new (tell_to slot (get_or changes i d)) noted)
+      notes-more (IsOfChanges (take i changes) slot) (λ event. event ≡ tell_to slot (get_or changes i d)) (IsOfChanges (take (i + 1) changes) slot) old between new same
+      (λ event h. parts event h (taken-cases changes i d inside h.change h.among)) before last so_far (notes-one between new (tell_to slot (get_or changes i d)) noted)
     where
-      parts : (tell : LevelEvent) (h : IsOfChanges (take (i + 1) changes) slot tell) → Contains (take i changes) h.change ⊎ (get_or changes i d ≡ h.change)
-          → IsOfChanges (take i changes) slot tell ⊎ (tell ≡ tell_to slot (get_or changes i d))
-      parts tell h (inl early) = inl (record { change = h.change; among = early; later = h.later; is = h.is })
-      parts tell h (inr here) = inr (h.is ∙ ap (tell_to slot) (sym here))
+      parts : (event : LevelEvent) (h : IsOfChanges (take (i + 1) changes) slot event) → Contains (take i changes) h.change ⊎ (get_or changes i d ≡ h.change)
+          → IsOfChanges (take i changes) slot event ⊎ (event ≡ tell_to slot (get_or changes i d))
+      parts event h (inl early) = inl (record { change = h.change; among = early; later = h.later; is = h.is })
+      parts event h (inr here) = inr (h.is ∙ ap (tell_to slot) (sym here))
 
-      last : (tell : LevelEvent) → tell ≡ tell_to slot (get_or changes i d) → IsOfChanges (take (i + 1) changes) slot tell
-      last tell is = record { change = get_or changes i d; among = taken-last changes i d inside; later = late; is = is }
+      last : (event : LevelEvent) → event ≡ tell_to slot (get_or changes i d) → IsOfChanges (take (i + 1) changes) slot event
+      last event is = record { change = get_or changes i d; among = taken-last changes i d inside; later = late; is = is }
 
   pub changes-passed : (get_or changes i d).tick < 1 → NotesEach (IsOfChanges (take (i + 1) changes) slot) old between
   changes-passed early = notes-as (IsOfChanges (take i changes) slot) (IsOfChanges (take (i + 1) changes) slot) old between before
-      (λ tell h. kept tell h (taken-cases changes i d inside h.change h.among)) so_far
+      (λ event h. kept event h (taken-cases changes i d inside h.change h.among)) so_far
     where
-      kept : (tell : LevelEvent) (h : IsOfChanges (take (i + 1) changes) slot tell) → Contains (take i changes) h.change ⊎ (get_or changes i d ≡ h.change) → IsOfChanges (take i changes) slot tell
-      kept tell h (inl among) = record { change = h.change; among = among; later = h.later; is = h.is }
-      kept tell h (inr here) = absurd (omega (arith, early, h.later, ap (λ (c : Change). c.tick) here))
+      kept : (event : LevelEvent) (h : IsOfChanges (take (i + 1) changes) slot event) → Contains (take i changes) h.change ⊎ (get_or changes i d ≡ h.change) → IsOfChanges (take i changes) slot event
+      kept event h (inl among) = record { change = h.change; among = among; later = h.later; is = h.is }
+      kept event h (inr here) = absurd (omega (arith, early, h.later, ap (λ (c : Change). c.tick) here))
 
 -- ---- all changes of a net by its stimulus
 
@@ -131,10 +131,10 @@ pub changes-are_stimulus : (design : Design) (net : ℕ) (old new : Calendar)
 changes-are_stimulus design net old new notes =
     notes-as (IsOfChanges (changes_between (stimulus design net) 0 design.horizon) net) (IsOfStimulus design net) old new there back notes
   where
-    there : (tell : LevelEvent) → IsOfChanges (changes_between (stimulus design net) 0 design.horizon) net tell → IsOfStimulus design net tell
-    there tell h =
+    there : (event : LevelEvent) → IsOfChanges (changes_between (stimulus design net) 0 design.horizon) net event → IsOfStimulus design net event
+    there event h =
         let is = change-among (stimulus design net) design.horizon h.change h.among in
-        let at : h.change.tick ≡ tell.tick = ap (λ (t : LevelEvent). t.tick) (sym h.is) in
+        let at : h.change.tick ≡ event.tick = ap (λ (t : LevelEvent). t.tick) (sym h.is) in
         let differs : stimulus design net (h.change.tick - 1) ≢ stimulus design net h.change.tick =
         λ same. is.2 (sym (before-later (stimulus design net) h.change.tick h.later ∙ same)) in
         record {
@@ -145,53 +145,53 @@ changes-are_stimulus design net old new notes =
           level = ap (λ (t : LevelEvent). t.level) h.is ∙ is.1 ∙ ap (stimulus design net) at;
         }
 
-    back : (tell : LevelEvent) → IsOfStimulus design net tell → IsOfChanges (changes_between (stimulus design net) 0 design.horizon) net tell
-    back tell h = record {
-      change = change_to (stimulus design net) tell.tick;
-      among = among-changes (stimulus design net) design.horizon tell.tick h.within (λ same. h.differs (sym (same ∙ before-later (stimulus design net) tell.tick h.later)));
+    back : (event : LevelEvent) → IsOfStimulus design net event → IsOfChanges (changes_between (stimulus design net) 0 design.horizon) net event
+    back event h = record {
+      change = change_to (stimulus design net) event.tick;
+      among = among-changes (stimulus design net) design.horizon event.tick h.within (λ same. h.differs (sym (same ∙ before-later (stimulus design net) event.tick h.later)));
       later = h.later;
-      is = ap₂ (λ (slot : ℕ) (level : Level). tell_to slot (record { tick = tell.tick; level = level })) h.slot h.level;
+      is = ap₂ (λ (slot : ℕ) (level : Level). tell_to slot (record { tick = event.tick; level = level })) h.slot h.level;
     }
 
 -- ---- one more net
 
 module _ (design : Design) (roles : List Role) (net : ℕ) (old between new : Calendar) (same : between.horizon ≡ old.horizon)
-    (so_far : NotesEach (λ tell. IsOfInput design roles tell × (tell.slot < net)) old between) where
+    (so_far : NotesEach (λ event. IsOfInput design roles event × (event.slot < net)) old between) where
   pub inputs-noted : net < nets_of design → (driver_of design.netlist net ≡ Input) × (drives roles net ≡ true) → NotesEach (IsOfStimulus design net) between new
-      → NotesEach (λ tell. IsOfInput design roles tell × (tell.slot < net + 1)) old new
+      → NotesEach (λ event. IsOfInput design roles event × (event.slot < net + 1)) old new
   inputs-noted inside is noted =
-      notes-more (λ tell. IsOfInput design roles tell × (tell.slot < net)) (IsOfStimulus design net) (λ tell. IsOfInput design roles tell × (tell.slot < net + 1)) old between new same
-      (λ tell h. parts tell h (cases_lt tell.slot net)) (λ tell h. (h.0, omega (arith, h.1))) last so_far noted
+      notes-more (λ event. IsOfInput design roles event × (event.slot < net)) (IsOfStimulus design net) (λ event. IsOfInput design roles event × (event.slot < net + 1)) old between new same
+      (λ event h. parts event h (cases_lt event.slot net)) (λ event h. (h.0, omega (arith, h.1))) last so_far noted
     where
-      parts : (tell : LevelEvent) → IsOfInput design roles tell × (tell.slot < net + 1) → (tell.slot < net) ⊎ (net ≤ tell.slot)
-          → (IsOfInput design roles tell × (tell.slot < net)) ⊎ IsOfStimulus design net tell
-      parts tell h (inl l) = inl (h.0, l)
-      parts tell h (inr l) =
-          let e : tell.slot ≡ net = omega (arith, l, h.1) in
-          inr (subst (λ (n : ℕ). IsOfStimulus design n tell) e h.0.change)
+      parts : (event : LevelEvent) → IsOfInput design roles event × (event.slot < net + 1) → (event.slot < net) ⊎ (net ≤ event.slot)
+          → (IsOfInput design roles event × (event.slot < net)) ⊎ IsOfStimulus design net event
+      parts event h (inl l) = inl (h.0, l)
+      parts event h (inr l) =
+          let e : event.slot ≡ net = omega (arith, l, h.1) in
+          inr (subst (λ (n : ℕ). IsOfStimulus design n event) e h.0.change)
 
-      last : (tell : LevelEvent) → IsOfStimulus design net tell → IsOfInput design roles tell × (tell.slot < net + 1)
-      last tell h =
-          let input : IsOfInput design roles tell = record {
+      last : (event : LevelEvent) → IsOfStimulus design net event → IsOfInput design roles event × (event.slot < net + 1)
+      last event h =
+          let input : IsOfInput design roles event = record {
             net = omega (arith, h.slot, inside);
             input = ap (driver_of design.netlist) h.slot ∙ is.0;
             driven = ap (drives roles) h.slot ∙ is.1;
-            change = subst (λ (n : ℕ). IsOfStimulus design n tell) (sym h.slot) h;
+            change = subst (λ (n : ℕ). IsOfStimulus design n event) (sym h.slot) h;
           } in
           (input, omega (arith, h.slot))
 
-  pub inputs-passed : (driver_of design.netlist net ≡ Input → drives roles net ≡ true → ⊥) → NotesEach (λ tell. IsOfInput design roles tell × (tell.slot < net + 1)) old between
+  pub inputs-passed : (driver_of design.netlist net ≡ Input → drives roles net ≡ true → ⊥) → NotesEach (λ event. IsOfInput design roles event × (event.slot < net + 1)) old between
   inputs-passed other =
-      notes-as (λ tell. IsOfInput design roles tell × (tell.slot < net)) (λ tell. IsOfInput design roles tell × (tell.slot < net + 1)) old between
-      (λ tell h. (h.0, omega (arith, h.1))) (λ tell h. kept tell h (cases_lt tell.slot net)) so_far
+      notes-as (λ event. IsOfInput design roles event × (event.slot < net)) (λ event. IsOfInput design roles event × (event.slot < net + 1)) old between
+      (λ event h. (h.0, omega (arith, h.1))) (λ event h. kept event h (cases_lt event.slot net)) so_far
     where
-      kept : (tell : LevelEvent) → IsOfInput design roles tell × (tell.slot < net + 1) → (tell.slot < net) ⊎ (net ≤ tell.slot) → IsOfInput design roles tell × (tell.slot < net)
-      kept tell h (inl l) = (h.0, l)
-      kept tell h (inr l) =
-          let e : tell.slot ≡ net = omega (arith, l, h.1) in
+      kept : (event : LevelEvent) → IsOfInput design roles event × (event.slot < net + 1) → (event.slot < net) ⊎ (net ≤ event.slot) → IsOfInput design roles event × (event.slot < net)
+      kept event h (inl l) = (h.0, l)
+      kept event h (inr l) =
+          let e : event.slot ≡ net = omega (arith, l, h.1) in
           absurd (other (ap (driver_of design.netlist) (sym e) ∙ h.0.input) (ap (drives roles) (sym e) ∙ h.0.driven))
 
 pub inputs-all : (design : Design) (roles : List Role) (nets : ℕ) (old new : Calendar) → nets_of design ≤ nets
-    → NotesEach (λ tell. IsOfInput design roles tell × (tell.slot < nets)) old new → NotesEach (IsOfInput design roles) old new
+    → NotesEach (λ event. IsOfInput design roles event × (event.slot < nets)) old new → NotesEach (IsOfInput design roles) old new
 inputs-all design roles nets old new all notes =
-    notes-as (λ tell. IsOfInput design roles tell × (tell.slot < nets)) (IsOfInput design roles) old new (λ tell h. h.0) (λ tell h. (h, omega (arith, h.net, all))) notes
+    notes-as (λ event. IsOfInput design roles event × (event.slot < nets)) (IsOfInput design roles) old new (λ event h. h.0) (λ event h. (h, omega (arith, h.net, all))) notes

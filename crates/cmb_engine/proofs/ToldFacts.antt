@@ -63,14 +63,14 @@ word-tells level from to first place tick one tells window late small at =
 abbrev tell_at : ℕ → ℕ → Level → LevelEvent
 tell_at tick slot level = record { tick = tick; slot = slot; level = level }
 
-tell-same : (tick tick' slot slot' : ℕ) (level level' : Level) → tick ≡ tick' → slot ≡ slot' → level ≡ level' → tell_at tick slot level ≡ tell_at tick' slot' level'
-tell-same tick tick' slot slot' level level' a b c =
+event-same : (tick tick' slot slot' : ℕ) (level level' : Level) → tick ≡ tick' → slot ≡ slot' → level ≡ level' → tell_at tick slot level ≡ tell_at tick' slot' level'
+event-same tick tick' slot slot' level level' a b c =
     ap (λ t. tell_at t slot level) a ∙ ap (λ s. tell_at tick' s level) b ∙ ap (λ l. tell_at tick' slot' l) c
 
 -- what is told of a window is taken: `from` is the clock, `to` where it goes
 module _ (design : Design) (roles : List Role) (lines : List Pin) (most width horizon : ℕ) (cells : List Cell) (plan : IsPlan design roles lines most width cells)
     (old between : Calendar) (taken : List LevelEvent) (from to first : ℕ) (window : IsWindow old width horizon from to first) (takes : Takes to old between taken)
-    (below : (tell : LevelEvent) → Contains old.tells tell → tell.tick < horizon)
+    (below : (event : LevelEvent) → Contains old.tells event → event.tick < horizon)
     (told : AreTold (trace_of design roles lines) (cell_at cells) (gives roles) (length cells) (reach_of (nets_of design) lines horizon) horizon from old.tells) where
   -- a line of a slot
   line-of : (slot : ℕ) → slot < length cells → nets_of design ≤ slot
@@ -99,9 +99,9 @@ module _ (design : Design) (roles : List Role) (lines : List Pin) (most width ho
   -- what was taken tells of the window
   pub window-told : AreInOrder taken → AreOfWindow (trace_of design roles lines) (cell_at cells) (gives roles) (length cells) from to taken
   window-told order = record {
-    right = λ tell h.
-        let was = (takes.early tell).0 h in
-        let right = told.right tell was.0 in
+    right = λ event h.
+        let was = (takes.early event).0 h in
+        let right = told.right event was.0 in
         (right.0, right.1, was.1);
     all = λ slot tick inside untold other late small.
         let reach = reached slot inside in
@@ -127,16 +127,16 @@ module _ (design : Design) (roles : List Role) (lines : List Pin) (most width ho
     same = takes.horizon ∙ window.same_horizon
 
     -- nothing is told of the horizon or of what lies behind it
-    pub still-below : (tell : LevelEvent) → Contains new.tells tell → tell.tick < horizon
-    still-below tell h = go ((noted tell).0 h)
+    pub still-below : (event : LevelEvent) → Contains new.tells event → event.tick < horizon
+    still-below event h = go ((noted event).0 h)
       where
-        go : Contains between.tells tell ⊎ (IsOfLine changed lines (nets_of design) to first tell × (tell.tick < between.horizon)) → tell.tick < horizon
-        go (inl a) = below tell ((takes.late tell).0 a).0
+        go : Contains between.tells event ⊎ (IsOfLine changed lines (nets_of design) to first event × (event.tick < between.horizon)) → event.tick < horizon
+        go (inl a) = below event ((takes.late event).0 a).0
         go (inr a) = omega (arith, a.1, same)
 
     -- a tell of a line is right, and ahead of the window
-    noted-right : (tell : LevelEvent) → IsOfLine changed lines (nets_of design) to first tell → IsRight (trace_of design roles lines) (cell_at cells) (length cells) tell × (to ≤ tell.tick)
-    noted-right tell h =
+    noted-right : (event : LevelEvent) → IsOfLine changed lines (nets_of design) to first event → IsRight (trace_of design roles lines) (cell_at cells) (length cells) event × (to ≤ event.tick)
+    noted-right event h =
         subst (λ (t : LevelEvent). IsRight (trace_of design roles lines) (cell_at cells) (length cells) t × (to ≤ t.tick)) (sym h.change.is)
         (record { slot = omega (arith, inside, plan.count); told = plan.told (nets_of design + h.number) (omega arith); level = level }, omega (arith, source.1, window.place, h.change.from, window.short))
       where
@@ -224,7 +224,7 @@ module _ (design : Design) (roles : List Role) (lines : List Pin) (most width ho
                   from = omega (arith, window.place, begun);
                   within = omega (arith, ended);
                   differs = λ e. absurd (false≢true (sym d ∙ same_level-same _ _ e));
-                  is = tell-same tick (to + (past + 64 - to) - 64 + line.delay) slot (nets_of design + (slot - nets_of design)) (trace_of design roles lines slot tick) (level_at_place one.word (past + 64 - to))
+                  is = event-same tick (to + (past + 64 - to) - 64 + line.delay) slot (nets_of design + (slot - nets_of design)) (trace_of design roles lines slot tick) (level_at_place one.word (past + 64 - to))
                       (omega (arith, at, window.place, begun)) (omega (arith, late)) (now ∙ ap (λ n. level_in design roles n past) (sym of) ∙ sym here);
                 };
               },
@@ -242,18 +242,18 @@ module _ (design : Design) (roles : List Role) (lines : List Pin) (most width ho
     -- the calendar has what is told of the ticks from the window's end on
     pub told-ahead : AreTold (trace_of design roles lines) (cell_at cells) (gives roles) (length cells) (reach_of (nets_of design) lines horizon) horizon to new.tells
     told-ahead = record {
-      right = λ tell h. judged tell ((noted tell).0 h);
+      right = λ event h. judged event ((noted event).0 h);
       all = λ slot tick inside untold other late ahead near.
           split slot tick inside untold other late ahead near (cases_lt tick (from + reach_of (nets_of design) lines horizon slot)) (cases_lt slot (nets_of design));
     }
       where
-        judged : (tell : LevelEvent) → Contains between.tells tell ⊎ (IsOfLine changed lines (nets_of design) to first tell × (tell.tick < between.horizon))
-            → IsRight (trace_of design roles lines) (cell_at cells) (length cells) tell × (to ≤ tell.tick)
-        judged tell (inl a) =
-            let late = (takes.late tell).0 a in
-            let right = told.right tell late.0 in
+        judged : (event : LevelEvent) → Contains between.tells event ⊎ (IsOfLine changed lines (nets_of design) to first event × (event.tick < between.horizon))
+            → IsRight (trace_of design roles lines) (cell_at cells) (length cells) event × (to ≤ event.tick)
+        judged event (inl a) =
+            let late = (takes.late event).0 a in
+            let right = told.right event late.0 in
             (right.0, late.1)
-        judged tell (inr a) = noted-right tell a.0
+        judged event (inr a) = noted-right event a.0
 
         split : (slot tick : ℕ) → slot < length cells → is_made (cell_at cells slot) ≡ false → gives roles slot ≡ false → to ≤ tick → tick < to + reach_of (nets_of design) lines horizon slot → tick < horizon
             → (tick < from + reach_of (nets_of design) lines horizon slot) ⊎ (from + reach_of (nets_of design) lines horizon slot ≤ tick) → (slot < nets_of design) ⊎ (nets_of design ≤ slot)

@@ -24,8 +24,8 @@ pub(crate) fn write_told(
     marks: &mut Marks,
     to: u32,
 )
-    requires slots { (tell : LevelEvent) → Contains tells.now tell
-        → (tell.slot < length words.old) × (1 ≤ tell.tick) × (to ≤ tell.tick + 64) × (tell.tick < to) }
+    requires slots { (event : LevelEvent) → Contains tells.now event
+        → (event.slot < length words.old) × (1 ≤ event.tick) × (to ≤ event.tick + 64) × (event.tick < to) }
     requires lists { length readers.now ≡ length words.old }
     requires within { AreBelow (64 * length marks.old) readers.now }
     requires live { length words.old ≤ 64 * length live.old }
@@ -33,12 +33,12 @@ pub(crate) fn write_told(
     ensures writes { Writes words.old words.new live.old live.new marks.old marks.new }
     ensures words { (slot place : ℕ) → slot < length words.old → place < 64 → levels_of words.new slot place
         ≡ told_level tells.now slot (levels_of words.old slot place) (to + place - 64) }
-    ensures news { (tell : LevelEvent) → Contains tells.now tell
-        → AreMarked (has marks.new) (slice_index_or readers.now tell.slot []) }
+    ensures news { (event : LevelEvent) → Contains tells.now event
+        → AreMarked (has marks.new) (slice_index_or readers.now event.slot []) }
 {
-    for tell in tells {
-        let slot = tell.slot as usize;
-        let word = words[slot].with_from(tell.tick + 64 - to, tell.level);
+    for event in tells {
+        let slot = event.slot as usize;
+        let word = words[slot].with_from(event.tick + 64 - to, event.level);
         put_word(slot, word, readers.of(slot), words, live, marks);
     }
 }

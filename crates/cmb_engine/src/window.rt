@@ -46,9 +46,9 @@ pub(crate) fn go_on(
     requires later { ticks < to }
     requires to { to ≤ 1000000 }
     requires quiet { AreQuiet (levels_of words.old) (has live.old) (length words.old) }
-    requires told { (tell : LevelEvent) → Contains tells.now tell
-        → (tell.slot < length words.old) × (is_made (cell_at wiring.now.cells tell.slot) ≡ false)
-        × (to ≤ tell.tick + ticks) × (tell.tick < to) }
+    requires told { (event : LevelEvent) → Contains tells.now event
+        → (event.slot < length words.old) × (is_made (cell_at wiring.now.cells event.slot) ≡ false)
+        × (to ≤ event.tick + ticks) × (event.tick < to) }
     ensures len { length words.new ≡ length words.old }
     ensures room { length marks.new ≡ length marks.old }
     ensures live { length live.new ≡ length live.old }

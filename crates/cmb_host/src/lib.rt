@@ -2,9 +2,9 @@
 #![tactic(auto)]
 
 pub mod measures;
+pub mod open_files;
 pub mod statuses;
-pub mod tables;
 
 pub use measures::{Times, stats_of};
+pub use open_files::{OpenFiles, Refusal, kept, notes_of, open_files, told_of};
 pub use statuses::{help, no_words, on_terminal, print_fault, refuse, refuse_clock, status_of};
-pub use tables::{OpenFiles, Refusal, kept, notes_of, open_tables, told_of};

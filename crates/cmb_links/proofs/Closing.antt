@@ -15,7 +15,7 @@ use Rattle.cmb_links.specs.Promises.{promise, promise_of_word, newest}
 use Rattle.cmb_links.specs.Seats.{SeatData, driver, AreAllSeats}
 use Rattle.cmb_links.specs.Inner.BoardSteps.{joined}
 use Rattle.cmb_links.specs.Boards.{IsBoard, IsKnown, EndsAs, published_at, promise_at, any_raised, some_raised, count_finished, number_finished}
-use Rattle.cmb_links.specs.declared.view.BoardTerms.{BoardTerms}
+use Rattle.cmb_links.specs.declared.view.BoardRun.{BoardRun}
 use Rattle.cmb_links.specs.declared.view.View.{View}
 use Rattle.cmb_links.proofs.Allowed.{S, Law}
 use Rattle.cmb_links.proofs.EndWord.{finished_few}
@@ -66,7 +66,7 @@ pub one_more : (all_seats seats rest : List SeatData) (u : SeatData) (all : List
 one_more all_seats seats rest u all is parted =
     sym (ap (λ (l : List View). l ++ all) (ap (map view_of) is ∙ map-append view_of rest (u ∷ [])) ∙ append_assoc (map view_of rest) (u.view ∷ []) all) ∙ parted
 
-pub joins : (t : BoardTerms) (id two n : ℕ) (all_seats rest : List SeatData) (u : SeatData) (w all : List View) → w ≡ u.view ∷ [] → 0 < length all
+pub joins : (t : BoardRun) (id two n : ℕ) (all_seats rest : List SeatData) (u : SeatData) (w all : List View) → w ≡ u.view ∷ [] → 0 < length all
     → map view_of rest ++ u.view ∷ all ≡ map view_of all_seats → map (λ (s : SeatData). s.view.place) all_seats ≡ range_with_len 0 n
     → Joins (Law t) id all two w (w ++ all) []
 joins t id two n all_seats rest u w all is any parted order =
@@ -81,18 +81,18 @@ at_place (x ∷ xs) (suc k) d in' = at_place xs k d (omega arith)
 -- ---- the end
 
 -- the seat that was joined with all others has all views
-pub all_told : (t : BoardTerms) (s : S) (id : ℕ) (board : TableId) (seats : List SeatData) → AreAllSeats board seats → Law t s → get_elem? s.views id ≡ some (map view_of seats)
+pub all_told : (t : BoardRun) (s : S) (id : ℕ) (board : TableId) (seats : List SeatData) → AreAllSeats board seats → Law t s → get_elem? s.views id ≡ some (map view_of seats)
     → IsBoard t record { words = s.words; homes = s.homes; views = map view_of seats }
 all_told t s id board [] are kept at = let none = are.some in absurd (omega arith)
 all_told t s id board (x ∷ xs) are kept at =
     let all : List View = map view_of (x ∷ xs) in
     let first = kept.seats (place_of s.views id) x.view (at_joined s.views id x.view (map view_of xs) at) in
-    let many : length (x ∷ xs) ≡ t.workers + 1 = subst (λ (u : BoardTerms). length (x ∷ xs) ≡ u.workers + 1) first.terms (are.all 0 x (omega arith)) in
+    let many : length (x ∷ xs) ≡ t.workers + 1 = subst (λ (u : BoardRun). length (x ∷ xs) ≡ u.workers + 1) first.board_run (are.all 0 x (omega arith)) in
     let few = kept.few_seats in
     let whole : joined s.views ≡ all = joined-whole s.views id all at (omega (arith, length-map xs view_of)) in
     subst (λ (vs : List View). IsBoard t record { words = s.words; homes = s.homes; views = vs }) whole kept
 
-module _ (t : BoardTerms) (s : State (Unit {0}) View) (kept : IsBoard t s) (promises : List Promise)
+module _ (t : BoardRun) (s : State (Unit {0}) View) (kept : IsBoard t s) (promises : List Promise)
     (read : (net : ℕ) → net < nets_of t.design → promise_at promises net ≡ promise_of_word net (slice_index s.words net)) where
   -- each net's word is what its driving seat published last
   tells_newest : (net : ℕ) → net < nets_of t.design → promise_at promises net ≡ newest net (published_at s.views (driver t net))
@@ -105,11 +105,11 @@ module _ (t : BoardTerms) (s : State (Unit {0}) View) (kept : IsBoard t s) (prom
       let seat = kept.seats i v at in
       record {
         words = λ net in'.
-            subst (λ (u : BoardTerms). promise_at promises net ≡ newest net (published_at s.views (driver u net))) (sym seat.terms)
-            (tells_newest net (subst (λ (u : BoardTerms). net < nets_of u.design) seat.terms in'));
+            subst (λ (u : BoardRun). promise_at promises net ≡ newest net (published_at s.views (driver u net))) (sym seat.board_run)
+            (tells_newest net (subst (λ (u : BoardRun). net < nets_of u.design) seat.board_run in'));
         found = λ net in'.
-            subst (λ (u : BoardTerms). All (λ (q : Promise). q.net ≡ net → IsKnown net (published_at s.views (driver u net)) q) v.promised.loads) (sym seat.terms)
-            ((kept.nets net (subst (λ (u : BoardTerms). net < nets_of u.design) seat.terms in')).found i v.promised.loads (at_map loads s.views i v at));
+            subst (λ (u : BoardRun). All (λ (q : Promise). q.net ≡ net → IsKnown net (published_at s.views (driver u net)) q) v.promised.loads) (sym seat.board_run)
+            ((kept.nets net (subst (λ (u : BoardRun). net < nets_of u.design) seat.board_run in')).found i v.promised.loads (at_map loads s.views i v at));
         stops = λ c. All-contains (λ (b : Bool). b ≡ true → some_raised s.views ≡ true) v.stops.loads true (kept.stop.found i v.stops (at_map (λ (u : View). u.stops) s.views i v at)) c refl;
         counts = subst (λ (k : ℕ). All (λ j. j ≤ k) v.endings.loads) kept.finished.held (kept.finished.found i v.endings (at_map (λ (u : View). u.endings) s.views i v at));
       }
@@ -119,7 +119,7 @@ module _ (t : BoardTerms) (s : State (Unit {0}) View) (kept : IsBoard t s) (prom
 
 -- what a closed board tells: a promise for each net, the stop word and the number of finished workers
 pub record Tells (promises : List Promise) (raised : Bool) (finished : ℕ) (seats : List SeatData) : Type 0 where
-  pub nets : All (λ (s : SeatData). length promises ≡ nets_of s.view.terms.design) seats
+  pub nets : All (λ (s : SeatData). length promises ≡ nets_of s.view.board_run.design) seats
   pub words : All (λ (s : SeatData). EndsAs promises raised finished (map view_of seats) s.view) seats
   pub stop : raised ≡ any_raised (map (λ (s : SeatData). s.view.stops) seats)
   pub count : finished ≡ count_finished (map (λ (s : SeatData). s.view.endings) seats)
@@ -131,7 +131,7 @@ promises_of words n = map (λ net. promise_of_word net (slice_index words net)) 
 promises_of-at : (words : List ℕ) (n net : ℕ) → net < n → promise_at (promises_of words n) net ≡ promise_of_word net (slice_index words net)
 promises_of-at words n net in' = get_or-map-range_with_len (λ (k : ℕ). promise_of_word k (slice_index words k)) 0 n net net (promise net 0 0) in' (omega arith)
 
-pub closes : (t : BoardTerms) (s : S) (id n : ℕ) (board : TableId) (seats : List SeatData) (words : List ℕ) → AreAllSeats board seats → Law t s → get_elem? s.views id ≡ some (map view_of seats)
+pub closes : (t : BoardRun) (s : S) (id n : ℕ) (board : TableId) (seats : List SeatData) (words : List ℕ) → AreAllSeats board seats → Law t s → get_elem? s.views id ≡ some (map view_of seats)
     → s.words ≡ words → length words ≡ n + 2 → Tells (promises_of words n) (slice_index words n == 1) (slice_index words (n + 1)) seats
 closes t s id n board seats words are kept at same width =
     let f : State (Unit {0}) View = record { words = s.words; homes = s.homes; views = map view_of seats } in
@@ -146,7 +146,7 @@ closes t s id n board seats words are kept at same width =
     let count : slice_index words (n + 1) ≡ number_finished f.views = (λ i. slice_index (sym same i) (nets i + 1)) ∙ told.finished.held in
     record {
       nets = λ k d in'. length-map-range_with_len (λ (j : ℕ). promise_of_word j (slice_index words j)) 0 n ∙ nets
-          ∙ ap (λ (u : BoardTerms). nets_of u.design) (sym (told.seats k (get_or seats k d).view (at_map view_of seats k (get_or seats k d) (at_place seats k d in'))).terms);
+          ∙ ap (λ (u : BoardRun). nets_of u.design) (sym (told.seats k (get_or seats k d).view (at_map view_of seats k (get_or seats k d) (at_place seats k d in'))).board_run);
       words = λ k d in'. subst (λ (z : Bool × ℕ). EndsAs promises z.0 z.1 (map view_of seats) (get_or seats k d).view) (λ i. (sym stop i, sym count i))
           (ends_as t f told promises read k (get_or seats k d).view (at_map view_of seats k (get_or seats k d) (at_place seats k d in')));
       stop = stop ∙ ap any_raised (map-twice (λ (v : View). v.stops) seats);
@@ -154,7 +154,7 @@ closes t s id n board seats words are kept at same width =
     }
 
 -- no more finish than there are workers
-pub few_end : (t : BoardTerms) (s : S) (n : ℕ) (words : List ℕ) → Law t s → s.words ≡ words → length words ≡ n + 2 → slice_index words (n + 1) ≤ 64
+pub few_end : (t : BoardRun) (s : S) (n : ℕ) (words : List ℕ) → Law t s → s.words ≡ words → length words ≡ n + 2 → slice_index words (n + 1) ≤ 64
 few_end t s n words kept same width =
     let few = finished_few (joined s.views) t.workers (λ i u at' e. (kept.seats i u at').worker e) in
     let most = kept.few_workers in

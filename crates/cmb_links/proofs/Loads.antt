@@ -23,13 +23,13 @@ use Rattle.cmb_links.proofs.Steps.{log_here, loads, few_ended}
 -- a seat of a board, as it is within and as contracts see it: its table is the board's, and the board's nets are those of its design
 pub record IsAtBoard (mine own : TableId) (me : M) (seat : SeatData) (nets : ℕ) : Type 0 where
   pub board : mine ≡ own
-  pub nets_is : nets ≡ nets_of (only me.0).terms.design
+  pub nets_is : nets ≡ nets_of (only me.0).board_run.design
   pub room : nets + 1 < own.words
   pub one : IsOne me
   pub view : only me.0 ≡ seat.view
 
 pub at_board : (mine own board : TableId) (me : M) (seat : SeatData) (nets : ℕ) → record { board = mine; view = only me.0 } ≡ seat → seat.board ≡ board → own ≡ board
-    → (me ≡ (only me.0 ∷ [], [])) × (mine.words ≡ nets_of (only me.0).terms.design + 2) → own.words ≡ nets + 2 → IsAtBoard mine own me seat nets
+    → (me ≡ (only me.0 ∷ [], [])) × (mine.words ≡ nets_of (only me.0).board_run.design + 2) → own.words ≡ nets + 2 → IsAtBoard mine own me seat nets
 at_board mine own board me seat nets is of same kept wide =
     let one : mine ≡ own = ap (λ (s : SeatData). s.board) is ∙ of ∙ sym same in
     let words = ap (λ (t : TableId). t.words) one in
@@ -51,21 +51,21 @@ All-front P xs ys a k d in' = subst P (get_or_append_left xs ys d k in') (a k d 
 -- what the load of a net's word tells, by the view before and after it
 pub record Looked (v w : View) (n : ℕ) (q : Promise) : Type 0 where
   pub now : w ≡ after_look v q
-  pub right : IsRightIn v.terms.design q
+  pub right : IsRightIn v.board_run.design q
   pub rising : All (λ (p : Promise). p.net ≡ n → p.upto ≤ q.upto) v.promised.loads
-  pub own : driver v.terms n ≡ v.place → q ≡ newest n v.promised.published
-  pub moment : Moment w (λ s. (slice_index s.words n ≡ word_of q) × IsKnown n (published_at s.views (driver v.terms n)) q)
+  pub own : driver v.board_run n ≡ v.place → q ≡ newest n v.promised.published
+  pub moment : Moment w (λ s. (slice_index s.words n ≡ word_of q) × IsKnown n (published_at s.views (driver v.board_run n)) q)
 
-pub looks : (v : View) (n found : ℕ) → n < (nets_of v.terms.design) → Moment (after_look v (promise_of_word n found)) (λ s. slice_index s.words n ≡ found) → Looked v (after_look v (promise_of_word n found)) n (promise_of_word n found)
+pub looks : (v : View) (n found : ℕ) → n < (nets_of v.board_run.design) → Moment (after_look v (promise_of_word n found)) (λ s. slice_index s.words n ≡ found) → Looked v (after_look v (promise_of_word n found)) n (promise_of_word n found)
 looks v n found in' m =
     let s = m.0 in let q : Promise = promise_of_word n found in let w : View = after_look v q in
-    let log : List Promise = published_at s.views (driver v.terms n) in
+    let log : List Promise = published_at s.views (driver v.board_run n) in
     let held = m.1.nets n in' in
     let is : q ≡ newest n log = ap (promise_of_word n) (sym m.3 ∙ held.held) ∙ promise_of_word-word_of (newest n log) n (newest-net n log) held.fits in
     let known = All-front (λ (p : Promise). p.net ≡ n → IsKnown n log p) v.promised.loads (q ∷ []) (held.found v.place w.promised.loads (at_map loads s.views v.place w m.2)) in
     record {
       now = refl;
-      right = subst (IsRightIn v.terms.design) (sym is) held.right;
+      right = subst (IsRightIn v.board_run.design) (sym is) held.right;
       rising = All-weaker (λ (p : Promise). p.net ≡ n → IsKnown n log p) (λ (p : Promise). p.net ≡ n → p.upto ≤ q.upto)
           (λ p h same. subst (λ (z : Promise). p.upto ≤ z.upto) (sym is) (h same).below) v.promised.loads known;
       own = λ here. is ∙ ap (λ (l : List Promise). newest n l) (ap (published_at s.views) here ∙ log_here s v.place w m.2);
@@ -83,7 +83,7 @@ pub one_or_none : (c : Bool) (x : ℕ) → x ≡ (if c then 1 else 0) → (x == 
 one_or_none true x e = ap (λ (k : ℕ). k == 1) e
 one_or_none false x e = ap (λ (k : ℕ). k == 1) e
 
-pub looks_at_stop : (v : View) (k found : ℕ) → k ≡ (nets_of v.terms.design) → Moment (after_check v (found == 1)) (λ s. slice_index s.words k ≡ found) → Checked v (after_check v (found == 1)) (found == 1)
+pub looks_at_stop : (v : View) (k found : ℕ) → k ≡ (nets_of v.board_run.design) → Moment (after_check v (found == 1)) (λ s. slice_index s.words k ≡ found) → Checked v (after_check v (found == 1)) (found == 1)
 looks_at_stop v k found here m =
     let s = m.0 in let b : Bool = found == 1 in let w : View = after_check v b in
     let held = m.1.stop in
@@ -102,20 +102,20 @@ pub record Counted (v w : View) (k : ℕ) : Type 0 where
   pub now : w ≡ after_count v k
   pub rising : All (λ (j : ℕ). j ≤ k) v.endings.loads
   pub own : v.endings.finished ≡ true → 1 ≤ k
-  pub few : k ≤ v.terms.workers
+  pub few : k ≤ v.board_run.workers
   pub moment : Moment w (λ s. k ≡ number_finished s.views)
 
-pub looks_at_end : (v : View) (i k : ℕ) → i ≡ nets_of v.terms.design + 1 → Moment (after_count v k) (λ s. slice_index s.words i ≡ k) → Counted v (after_count v k) k
+pub looks_at_end : (v : View) (i k : ℕ) → i ≡ nets_of v.board_run.design + 1 → Moment (after_count v k) (λ s. slice_index s.words i ≡ k) → Counted v (after_count v k) k
 looks_at_end v i k here m =
     let s = m.0 in let w : View = after_count v k in
     let held = m.1.finished in
-    let x : ℕ = slice_index s.words (nets_of v.terms.design + 1) in
+    let x : ℕ = slice_index s.words (nets_of v.board_run.design + 1) in
     let same : x ≡ k = ap (slice_index s.words) (sym here) ∙ m.3 in
     let at = at_map (λ (u : View). u.endings) s.views v.place w m.2 in
     record {
       now = refl;
       rising = subst (λ (y : ℕ). All (λ (j : ℕ). j ≤ y) v.endings.loads) same (All-front (λ (j : ℕ). j ≤ x) v.endings.loads (k ∷ []) (held.found v.place w.endings at));
       own = λ finished. subst (λ (y : ℕ). 1 ≤ y) (sym held.held ∙ same) (counts_itself (map (λ (u : View). u.endings) s.views) v.place w.endings at finished);
-      few = subst (λ (y : ℕ). y ≤ v.terms.workers) same (few_ended v.terms s v.place w m.1 m.2 []);
+      few = subst (λ (y : ℕ). y ≤ v.board_run.workers) same (few_ended v.board_run s v.place w m.1 m.2 []);
       moment = (s, m.1, m.2, sym same ∙ held.held);
     }

@@ -19,7 +19,7 @@ use Rattle.cmb_links.specs.Seats.{SeatData, driver, new_view, new_seat, new_seat
 use Rattle.cmb_links.specs.Inner.BoardSteps.{cut_left, cut_right, only, joined}
 use Rattle.cmb_links.specs.Boards.{MayPublish, IsSeated, IsKnown, IsBoard, published_at}
 use Rattle.cmb_links.specs.Inner.BoardSteps.{seats_of}
-use Rattle.cmb_links.specs.declared.view.BoardTerms.{BoardTerms}
+use Rattle.cmb_links.specs.declared.view.BoardRun.{BoardRun}
 use Rattle.cmb_links.specs.declared.view.View.{View}
 use Rattle.cmb_links.proofs.Allowed.{Law}
 use Rattle.cmb_links.proofs.Joined.{place_of, at_joined, joined-set, joined-push, joined-moved}
@@ -38,9 +38,9 @@ no_log v zero e = e
 no_log v (suc d) e = refl
 
 -- a seat that has done nothing
-new_seated : (t : BoardTerms) (place seats : ℕ) (last : Bool) → (last ≡ true → seats ≡ place + 1) → IsSeated t seats place (new_view t place last)
+new_seated : (t : BoardRun) (place seats : ℕ) (last : Bool) → (last ≡ true → seats ≡ place + 1) → IsSeated t seats place (new_view t place last)
 new_seated t place seats last is = record {
-  terms = refl;
+  board_run = refl;
   place = refl;
   last = is;
   published = All-nil (MayPublish t place);
@@ -48,7 +48,7 @@ new_seated t place seats last is = record {
   worker = λ e. absurd (true≢false (sym e));
 }
 
-alone : (t : BoardTerms) (i : ℕ) (u : View) → get_elem? (new_view t 0 true ∷ []) i ≡ some u → IsSeated t 1 i u
+alone : (t : BoardRun) (i : ℕ) (u : View) → get_elem? (new_view t 0 true ∷ []) i ≡ some u → IsSeated t 1 i u
 alone t zero u at = subst (IsSeated t 1 0) (some-injective (new_view t 0 true) u at) (new_seated t 0 1 true (λ _. refl))
 alone t (suc i) u at = absurd (some-ne-none u (sym at))
 
@@ -56,7 +56,7 @@ nothing : (n i : ℕ) (l : List Promise) → get_elem? ([] ∷ []) i ≡ some l 
 nothing n zero l at = subst (All (λ q. q.net ≡ n → IsKnown n [] q)) (some-injective [] l at) (All-nil (λ q. q.net ≡ n → IsKnown n [] q))
 nothing n (suc i) l at = absurd (some-ne-none l (sym at))
 
-pub opens : (t : BoardTerms) → 1 ≤ t.workers → t.workers ≤ 64 → Law t (opening (replicate (nets_of t.design + 2) 0) [] (new_view t 0 true ∷ []))
+pub opens : (t : BoardRun) → 1 ≤ t.workers → t.workers ≤ 64 → Law t (opening (replicate (nets_of t.design + 2) 0) [] (new_view t 0 true ∷ []))
 opens t some_workers few_workers = let v : View = new_view t 0 true in record {
   some_workers = some_workers;
   few_workers = few_workers;
@@ -82,7 +82,7 @@ cut-map : {B : Type 0} (f : View → B) (views : List View) (id : ℕ) (v : View
 cut-map f views id v at same = map-append f (set views id (cut_left v)) (cut_right v ∷ []) ∙ ap (λ l. l ++ f (cut_right v) ∷ []) (map-set_unseen f views id v (cut_left v) at same)
 
 -- a seat that is the last cuts the next one
-splits : (t : BoardTerms) (id : ℕ) (v : View) → v.is_last ≡ true → v.place < v.terms.workers → Splits (IsBoard t) id v (cut_left v) (cut_right v)
+splits : (t : BoardRun) (id : ℕ) (v : View) → v.is_last ≡ true → v.place < v.board_run.workers → Splits (IsBoard t) id v (cut_left v) (cut_right v)
 splits t id v is_last room s kept at =
     let mine = kept.seats id v at in
     let left : View = cut_left v in
@@ -90,7 +90,7 @@ splits t id v is_last room s kept at =
     let after : List View = set s.views id left ++ right ∷ [] in
     let there : length s.views ≡ id + 1 = mine.last is_last in
     let place = mine.place in
-    let room' : id < t.workers = subst (λ (u : BoardTerms). id < u.workers) mine.terms (omega arith) in
+    let room' : id < t.workers = subst (λ (u : BoardRun). id < u.workers) mine.board_run (omega arith) in
     let longer : length after ≡ length s.views + 1 = omega (arith, length-append (set s.views id left) (right ∷ []), length-set s.views id left) in
     record {
       some_workers = kept.some_workers;
@@ -101,7 +101,7 @@ splits t id v is_last room s kept at =
           (λ (h : get_elem? (set s.views id left) j ≡ some u). ⊎_elim
           (λ (e : (j ≡ id) × (left ≡ u)). subst (λ (z : ℕ × View). IsSeated t (length after) z.0 z.1) (λ k. (sym e.0 k, e.1 k))
           (record {
-            terms = mine.terms;
+            board_run = mine.board_run;
             place = mine.place;
             last = λ l. absurd (true≢false (sym l));
             published = mine.published;
@@ -109,7 +109,7 @@ splits t id v is_last room s kept at =
             worker = mine.worker;
           }))
           (λ (e : (j ≢ id) × (get_elem? s.views j ≡ some u)). let old = kept.seats j u e.1 in record {
-            terms = old.terms;
+            board_run = old.board_run;
             place = old.place;
             last = λ l. let h' = old.last l in absurd (e.0 (omega arith));
             published = old.published;
@@ -118,7 +118,7 @@ splits t id v is_last room s kept at =
           })
           (at_set s.views id j left u h))
           (λ (h : (j ≡ length (set s.views id left)) × (right ≡ u)). let h' = h.0 in let w = length-set s.views id left in subst (IsSeated t (length after) j) h.1 (record {
-            terms = mine.terms;
+            board_run = mine.board_run;
             place = omega arith;
             last = λ _. omega arith;
             published = All-nil (MayPublish t j);
@@ -135,7 +135,7 @@ splits t id v is_last room s kept at =
           (cut-map (λ (u : View). u.endings) s.views id v at refl) (end.seated (slice_index s.words (nets_of t.design + 1)) (map (λ (u : View). u.endings) s.views) kept.finished);
     }
 
-pub cuts : (t : BoardTerms) (id : ℕ) (l : List View) → l ≡ only l ∷ [] → (only l).is_last ≡ true → (only l).place < (only l).terms.workers
+pub cuts : (t : BoardRun) (id : ℕ) (l : List View) → l ≡ only l ∷ [] → (only l).is_last ≡ true → (only l).place < (only l).board_run.workers
     → Splits (Law t) id l (cut_left (only l) ∷ []) (cut_right (only l) ∷ [])
 cuts t id l one is_last room s kept at =
     let v : View = only l in let left : View = cut_left v in let right : View = cut_right v in
@@ -147,7 +147,7 @@ cuts t id l one is_last room s kept at =
     (splits t i v is_last room (seats_of s) kept (at_joined s.views id v [] at'))
 
 -- a seat takes over the view of the one that was cut before it
-pub gathers : (t : BoardTerms) (id two : ℕ) (u a : View) (l : List View) → a.place ≡ u.place + 1 → Joins (Law t) id (a ∷ l) two (u ∷ []) (u ∷ a ∷ l) []
+pub gathers : (t : BoardRun) (id two : ℕ) (u a : View) (l : List View) → a.place ≡ u.place + 1 → Joins (Law t) id (a ∷ l) two (u ∷ []) (u ∷ a ∷ l) []
 gathers t id two u a l next s kept at apart at' =
     let was : get_elem? s.views two ≡ some (u ∷ []) = ⊎_elim (λ h. absurd (apart h.0)) (λ h. h.1) (at_set s.views id two (u ∷ a ∷ l) (u ∷ []) at') in
     let mine = (kept.seats (place_of s.views id) a (at_joined s.views id a l at)).place in
@@ -155,17 +155,17 @@ gathers t id two u a l next s kept at apart at' =
     let beside : place_of s.views id ≡ place_of s.views two + 1 = omega arith in
     subst (λ (vs : List View). IsBoard t record { words = s.words; homes = s.homes; views = vs }) (sym (joined-moved s.views id two u a l at was beside)) kept
 
-pub all_seats : (b : TableId) (t : BoardTerms) → All (IsSeatOf b t) (new_seats b t)
+pub all_seats : (b : TableId) (t : BoardRun) → All (IsSeatOf b t) (new_seats b t)
 all_seats b t = All-push (IsSeatOf b t) (map (new_seat b t false) (range_with_len 0 t.workers)) (new_seat b t true t.workers)
     (All-map (IsSeatOf b t) (new_seat b t false) (range_with_len 0 t.workers) (λ k d in'. (refl, refl))) (refl, refl)
 
 -- the seat of a worker stands at the worker's number
-pub worker_seat : (b : TableId) (t : BoardTerms) (k : ℕ) (d : SeatData) → k < t.workers → get_or (new_seats b t) k d ≡ new_seat b t false k
+pub worker_seat : (b : TableId) (t : BoardRun) (k : ℕ) (d : SeatData) → k < t.workers → get_or (new_seats b t) k d ≡ new_seat b t false k
 worker_seat b t k d in' = let front : List SeatData = map (new_seat b t false) (range_with_len 0 t.workers) in
     get_or_append_left front (new_seat b t true t.workers ∷ []) d k (omega (arith, length-map-range_with_len (new_seat b t false) 0 t.workers))
     ∙ get_or-map-range_with_len (new_seat b t false) 0 t.workers k k d in' (omega arith)
 
 -- the first of the seats from the k-th on
-pub next_seat : (b : TableId) (t : BoardTerms) (k : ℕ) (d : SeatData) (xs : List SeatData) → xs ≡ drop k (new_seats b t) → k < t.workers → get_or xs 0 d ≡ new_seat b t false k
+pub next_seat : (b : TableId) (t : BoardRun) (k : ℕ) (d : SeatData) (xs : List SeatData) → xs ≡ drop k (new_seats b t) → k < t.workers → get_or xs 0 d ≡ new_seat b t false k
 next_seat b t k d xs e in' = let here : k + 0 ≡ k = omega arith in
     ap (λ (l : List SeatData). get_or l 0 d) e ∙ get_or-drop k (new_seats b t) 0 d ∙ ap (λ (j : ℕ). get_or (new_seats b t) j d) here ∙ worker_seat b t k d in'

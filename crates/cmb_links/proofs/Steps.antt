@@ -15,7 +15,7 @@ use Rattle.cmb_design_model.specs.Exact.{nets_of, IsRightIn}
 use Rattle.cmb_links.specs.Promises.{promise_of_word, newest, NeverFalls}
 use Rattle.cmb_links.specs.Seats.{driver, after_publish, after_look, after_raise, after_check, after_finish, after_count}
 use Rattle.cmb_links.specs.Boards.{MayPublish, IsSeated, IsKnown, IsNetKept, IsStopKept, IsEndKept, IsBoard, Moment, published_at}
-use Rattle.cmb_links.specs.declared.view.BoardTerms.{BoardTerms}
+use Rattle.cmb_links.specs.declared.view.BoardRun.{BoardRun}
 use Rattle.cmb_links.specs.declared.view.Stops.{Stops}
 use Rattle.cmb_links.specs.declared.view.Endings.{Endings}
 use Rattle.cmb_links.specs.declared.view.View.{View}
@@ -37,13 +37,13 @@ log v = v.promised.published
 abbrev pub loads : View → List Promise
 loads v = v.promised.loads
 
-abbrev Nets : BoardTerms → List ℕ → List View → Type 0
+abbrev Nets : BoardRun → List ℕ → List View → Type 0
 Nets t words views = (n : ℕ) → n < (nets_of t.design) → IsNetKept t.design n (slice_index words n) (published_at views (driver t n)) (map loads views)
 
-abbrev Stopped : BoardTerms → List ℕ → List View → Type 0
+abbrev Stopped : BoardRun → List ℕ → List View → Type 0
 Stopped t words views = IsStopKept (slice_index words (nets_of t.design)) (map (λ (v : View). v.stops) views)
 
-abbrev Ended : BoardTerms → List ℕ → List View → Type 0
+abbrev Ended : BoardRun → List ℕ → List View → Type 0
 Ended t words views = IsEndKept (slice_index words (nets_of t.design + 1)) (map (λ (v : View). v.endings) views)
 
 pub net_along : (d : Design) (n : ℕ) (x y : ℕ) (l m : List Promise) (r q : List (List Promise)) → y ≡ x → m ≡ l → q ≡ r → IsNetKept d n x l r → IsNetKept d n y m q
@@ -57,13 +57,13 @@ end_along x y l m e f h = subst (λ (z : ℕ × List Endings). IsEndKept z.0 z.1
 
 -- the seat that steps stays in its place
 abbrev pub Stays : View → View → Type 0
-Stays v w = (w.terms ≡ v.terms) × (w.place ≡ v.place) × (w.is_last ≡ v.is_last)
+Stays v w = (w.board_run ≡ v.board_run) × (w.place ≡ v.place) × (w.is_last ≡ v.is_last)
 
-module _ (t : BoardTerms) (s : S) (id : ℕ) (v w : View) (kept : IsBoard t s) (at : get_elem? s.views id ≡ some v) (c : List (ℕ × Unit {0})) where
+module _ (t : BoardRun) (s : S) (id : ℕ) (v w : View) (kept : IsBoard t s) (at : get_elem? s.views id ≡ some v) (c : List (ℕ × Unit {0})) where
   -- a seat that neither publishes nor finishes
   pub stays_seated : Stays v w → log w ≡ log v → w.endings.finished ≡ v.endings.finished → IsSeated t (length s.views) id w
   stays_seated stays same ended = let old = kept.seats id v at in record {
-    terms = stays.0 ∙ old.terms;
+    board_run = stays.0 ∙ old.board_run;
     place = stays.1 ∙ old.place;
     last = λ l. old.last (sym stays.2 ∙ l);
     published = subst (All (MayPublish t id)) (sym same) old.published;
@@ -106,7 +106,7 @@ module _ (t : BoardTerms) (s : S) (id : ℕ) (v w : View) (kept : IsBoard t s) (
   pub tells : (i x : ℕ) → i < nets_of t.design + 2 → Stays v w → IsBoard t (stepped s i x id c w keeps) → Moment w (λ y. slice_index y.words i ≡ x)
   tells i x in' stays after = let old = kept.seats id v at in let width = kept.words in (
     stepped s i x id c w keeps,
-    subst (λ (u : BoardTerms). IsBoard u (stepped s i x id c w keeps)) (sym (stays.0 ∙ old.terms)) after,
+    subst (λ (u : BoardRun). IsBoard u (stepped s i x id c w keeps)) (sym (stays.0 ∙ old.board_run)) after,
     subst (λ (j : ℕ). get_elem? (set s.views id w) j ≡ some w) (sym (stays.1 ∙ old.place)) (set_here s.views id w (at_inside s.views id v at)),
     get_or-set_same s.words i x 0 (omega arith),
   )
@@ -115,7 +115,7 @@ module _ (t : BoardTerms) (s : S) (id : ℕ) (v w : View) (kept : IsBoard t s) (
 pub log_here : (s : S) (id : ℕ) (v : View) → get_elem? s.views id ≡ some v → published_at s.views id ≡ log v
 log_here s id v at = get_at (map log s.views) id (log v) [] (at_map log s.views id v at)
 
-module _ (t : BoardTerms) (s : S) (id : ℕ) (v : View) (kept : IsBoard t s) (at : get_elem? s.views id ≡ some v) (c : List (ℕ × Unit {0})) where
+module _ (t : BoardRun) (s : S) (id : ℕ) (v : View) (kept : IsBoard t s) (at : get_elem? s.views id ≡ some v) (c : List (ℕ × Unit {0})) where
   log_there : (p : Promise) (d : ℕ) → d ≡ id → published_at (set s.views id (after_publish v p)) d ≡ published_at s.views d ++ p ∷ []
   log_there p d is = let here : id < length (map log s.views) = rw (length-map s.views log) (at_inside s.views id v at) in
       subst (λ (k : ℕ). published_at (set s.views id (after_publish v p)) k ≡ published_at s.views k ++ p ∷ []) (sym is)
@@ -130,7 +130,7 @@ module _ (t : BoardTerms) (s : S) (id : ℕ) (v : View) (kept : IsBoard t s) (at
   publishes_kept p drives right fits rises = let in' = right.net in let w : View = after_publish v p in let x : ℕ = word_of p in let width = kept.words in let old = kept.seats id v at in
       let same : map loads (set s.views id w) ≡ map loads s.views = map-set_unseen loads s.views id v w at refl in
       assembles t s id v w kept at c p.net x (record {
-        terms = old.terms;
+        board_run = old.board_run;
         place = old.place;
         last = old.last;
         published = All-push (MayPublish t id) (log v) p old.published (record { drives = drives; right = right });
@@ -189,7 +189,7 @@ module _ (t : BoardTerms) (s : S) (id : ℕ) (v : View) (kept : IsBoard t s) (at
   pub finishes_kept : id < t.workers → v.endings.finished ≡ false → IsBoard t (stepped s (nets_of t.design + 1) ((slice_index s.words (nets_of t.design + 1) + 1) % 2 ^ 64) id c (after_finish v) keeps)
   finishes_kept works not_yet = let old = kept.seats id v at in let few_workers = kept.few_workers in let i : ℕ = nets_of t.design + 1 in let x : ℕ = slice_index s.words i in let y : ℕ = (x + 1) % 2 ^ 64 in let w : View = after_finish v in let width = kept.words in
       let few = few_ended in let wraps : y ≡ x + 1 = mod-eq_of_lt (omega arith) in
-      assembles t s id v w kept at c i y (record { terms = old.terms; place = old.place; last = old.last; published = old.published; rising = old.rising; worker = λ _. works }) (nets_stay t s id v w kept at c i y (omega arith) refl refl) (stop_stays t s id v w kept at c i y (λ e. absurd (omega arith)) refl)
+      assembles t s id v w kept at c i y (record { board_run = old.board_run; place = old.place; last = old.last; published = old.published; rising = old.rising; worker = λ _. works }) (nets_stay t s id v w kept at c i y (omega arith) refl refl) (stop_stays t s id v w kept at c i y (λ e. absurd (omega arith)) refl)
       (end_along (x + 1) (slice_index (set s.words i y) i) (set (map (λ (u : View). u.endings) s.views) id w.endings) (map (λ (u : View). u.endings) (set s.views id w))
       (get_or-set_same s.words i y 0 (omega arith) ∙ wraps) (map-set (λ (u : View). u.endings) s.views id w)
       (end.finished x (map (λ (u : View). u.endings) s.views) id v.endings kept.finished (at_map (λ (u : View). u.endings) s.views id v at) not_yet))

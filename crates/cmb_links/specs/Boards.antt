@@ -10,7 +10,7 @@ use Rattle.cmb_design_model.specs.Design.{Design}
 use Rattle.cmb_design_model.specs.Exact.{nets_of, IsRightIn}
 use Rattle.cmb_links.specs.Promises.{promise, newest, NeverFalls}
 use Rattle.cmb_links.specs.Seats.{driver}
-use Rattle.cmb_links.specs.declared.view.BoardTerms.{BoardTerms}
+use Rattle.cmb_links.specs.declared.view.BoardRun.{BoardRun}
 use Rattle.cmb_links.specs.declared.view.Stops.{Stops}
 use Rattle.cmb_links.specs.declared.view.Endings.{Endings}
 use Rattle.cmb_links.specs.declared.view.View.{View}
@@ -62,13 +62,13 @@ number_finished views = count_finished (map (λ (v : View). v.endings) views)
 -- ---- the board
 
 -- a seat publishes right promises of nets that it drives
-pub record MayPublish (t : BoardTerms) (place : ℕ) (p : Promise) : Type 0 where
+pub record MayPublish (t : BoardRun) (place : ℕ) (p : Promise) : Type 0 where
   pub drives : driver t p.net ≡ place
   pub right : IsRightIn t.design p
 
 -- the view of seat i, where there are so many seats
-pub record IsSeated (t : BoardTerms) (seats i : ℕ) (v : View) : Type 0 where
-  pub terms : v.terms ≡ t
+pub record IsSeated (t : BoardRun) (seats i : ℕ) (v : View) : Type 0 where
+  pub board_run : v.board_run ≡ t
   pub place : v.place ≡ i
   pub last : v.is_last ≡ true → seats ≡ i + 1
   pub published : All (MayPublish t i) v.promised.published
@@ -76,7 +76,7 @@ pub record IsSeated (t : BoardTerms) (seats i : ℕ) (v : View) : Type 0 where
   pub worker : v.endings.finished ≡ true → i < t.workers
 
 -- the words are one for each net, the stop word and the word of finished workers; seat i has the view i
-pub record IsBoard (t : BoardTerms) (s : State (Unit {0}) View) : Type 0 where
+pub record IsBoard (t : BoardRun) (s : State (Unit {0}) View) : Type 0 where
   pub some_workers : 1 ≤ t.workers
   pub few_workers : t.workers ≤ 64
   pub few_seats : length s.views ≤ t.workers + 1
@@ -91,7 +91,7 @@ pub record IsBoard (t : BoardTerms) (s : State (Unit {0}) View) : Type 0 where
 
 -- some state of words and views that the board's rule allows has this view at the seat's place, and P holds of it
 abbrev pub Moment : View → (State (Unit {0}) View → Type 0) → Type 0
-Moment v P = (s : State (Unit {0}) View) × IsBoard v.terms s × (get_elem? s.views v.place ≡ some v) × P s
+Moment v P = (s : State (Unit {0}) View) × IsBoard v.board_run s × (get_elem? s.views v.place ≡ some v) × P s
 
 -- ---- the end
 
@@ -102,7 +102,7 @@ promise_at promises net = slice_index_or promises net (promise net 0 0)
 -- What a board's words held at the end, and what a seat knows, where all seats know these views: each net's promise is the newest of its
 -- driving seat, and what a load of the seat found of a net is (0, 0) or was published by that seat, and isn't above its newest
 pub record EndsAs (promises : List Promise) (raised : Bool) (finished : ℕ) (views : List View) (v : View) : Type 0 where
-  pub words : (net : ℕ) → net < nets_of v.terms.design → promise_at promises net ≡ newest net (published_at views (driver v.terms net))
-  pub found : (net : ℕ) → net < nets_of v.terms.design → All (λ q. q.net ≡ net → IsKnown net (published_at views (driver v.terms net)) q) v.promised.loads
+  pub words : (net : ℕ) → net < nets_of v.board_run.design → promise_at promises net ≡ newest net (published_at views (driver v.board_run net))
+  pub found : (net : ℕ) → net < nets_of v.board_run.design → All (λ q. q.net ≡ net → IsKnown net (published_at views (driver v.board_run net)) q) v.promised.loads
   pub stops : Contains v.stops.loads true → raised ≡ true
   pub counts : All (λ k. k ≤ finished) v.endings.loads

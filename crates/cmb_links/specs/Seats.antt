@@ -6,24 +6,24 @@ use Rattle.cmb_wave.specs.declared.level.Promise.{Promise}
 use Rattle.cmb_design_model.specs.Design.{Design}
 use Rattle.cmb_core_cluster.specs.Clustering.{Clustering, cluster_of}
 use Rattle.cmb_links.specs.Workers.{worker_of}
-use Rattle.cmb_links.specs.declared.view.BoardTerms.{BoardTerms}
+use Rattle.cmb_links.specs.declared.view.BoardRun.{BoardRun}
 use Rattle.cmb_links.specs.declared.view.Snapshots.{Snapshots}
 use Rattle.cmb_links.specs.declared.view.View.{View}
 
-abbrev pub terms : Design → Clustering → ℕ → BoardTerms
-terms design clustering workers = record { design = design; clustering = clustering; workers = workers }
+abbrev pub board_run : Design → Clustering → ℕ → BoardRun
+board_run design clustering workers = record { design = design; clustering = clustering; workers = workers }
 
-abbrev pub terms_of : Snapshots → BoardTerms
-terms_of told = terms told.design.value told.clustering.value told.workers
+abbrev pub board_run_of : Snapshots → BoardRun
+board_run_of told = board_run told.design.value told.clustering.value told.workers
 
 -- the place of a net's driving seat: the worker that has the net's cluster
-abbrev pub driver : BoardTerms → ℕ → ℕ
+abbrev pub driver : BoardRun → ℕ → ℕ
 driver t net = worker_of t.workers (cluster_of t.clustering net)
 
 -- a seat that has done nothing
-abbrev pub new_view : BoardTerms → ℕ → Bool → View
+abbrev pub new_view : BoardRun → ℕ → Bool → View
 new_view t place last = record {
-  terms = t;
+  board_run = t;
   place = place;
   is_last = last;
   promised = record { published = []; loads = [] };
@@ -63,20 +63,20 @@ pub record SeatData : Type 0 where
 abbrev pub with_view : SeatData → View → SeatData
 with_view seat view = record { board = seat.board; view = view }
 
-abbrev pub new_seat : TableId → BoardTerms → Bool → ℕ → SeatData
+abbrev pub new_seat : TableId → BoardRun → Bool → ℕ → SeatData
 new_seat board t last place = record { board = board; view = new_view t place last }
 
 -- the seats of a new board: one for each worker, in order, and the last one
-abbrev pub new_seats : TableId → BoardTerms → List SeatData
+abbrev pub new_seats : TableId → BoardRun → List SeatData
 new_seats board t = map (new_seat board t false) (range_with_len 0 t.workers) ++ new_seat board t true t.workers ∷ []
 
 -- the seat is of this board, which was opened for these terms
-abbrev pub IsSeatOf : TableId → BoardTerms → SeatData → Type 0
-IsSeatOf board t seat = (seat.board ≡ board) × (seat.view.terms ≡ t)
+abbrev pub IsSeatOf : TableId → BoardRun → SeatData → Type 0
+IsSeatOf board t seat = (seat.board ≡ board) × (seat.view.board_run ≡ t)
 
 -- the seats of a board, all of them, as they were cut
 pub record AreAllSeats (board : TableId) (seats : List SeatData) : Type 0 where
   pub some : 0 < length seats
   pub same : All (λ (s : SeatData). s.board ≡ board) seats
   pub order : map (λ (s : SeatData). s.view.place) seats ≡ range_with_len 0 (length seats)
-  pub all : All (λ (s : SeatData). length seats ≡ s.view.terms.workers + 1) seats
+  pub all : All (λ (s : SeatData). length seats ≡ s.view.board_run.workers + 1) seats

@@ -24,13 +24,13 @@ struct Law;
 
 impl TableRule<(), Views, Snapshots> for Law {
     ghost use Rattle.std.specs.Prelude.{true, [], ◌∷◌};
-    ghost use Rattle.cmb_links.specs.Seats.{terms_of, new_view};
+    ghost use Rattle.cmb_links.specs.Seats.{board_run_of, new_view};
     ghost use Rattle.cmb_links.specs.Boards.{IsBoard};
     ghost use Rattle.cmb_links.specs.Inner.BoardSteps.{seats_of};
 
-    ghost holds = { λ told s. IsBoard (terms_of told) (seats_of s) };
+    ghost holds = { λ told s. IsBoard (board_run_of told) (seats_of s) };
 
-    ghost first = { λ told. new_view (terms_of told) 0 true ∷ [] };
+    ghost first = { λ told. new_view (board_run_of told) 0 true ∷ [] };
 }
 
 // The steps of a board.
@@ -148,7 +148,7 @@ impl Model for Seat {
     ghost view = { λ s. record { board = s.inner.table_id; view = only s.inner.me.0 } };
 
     ghost invariant = { λ s. (s.inner.me ≡ (only s.inner.me.0 ∷ [], []))
-        × (s.inner.table_id.words ≡ nets_of (only s.inner.me.0).terms.design + 2) };
+        × (s.inner.table_id.words ≡ nets_of (only s.inner.me.0).board_run.design + 2) };
 }
 
 /// What the words of a board hold when it is closed: a promise for each net, in order, whether a seat raised the stop
@@ -167,7 +167,7 @@ impl Board {
     ghost use Rattle.cmb_design_model.specs.Exact.{nets_of, IsRightIn};
     ghost use Rattle.cmb_links.specs.Promises.{newest};
     ghost use Rattle.cmb_links.specs.Seats.{driver, after_publish, after_look, after_raise, after_check, after_finish};
-    ghost use Rattle.cmb_links.specs.Seats.{after_count, with_view, terms, new_seats, IsSeatOf, AreAllSeats};
+    ghost use Rattle.cmb_links.specs.Seats.{after_count, with_view, board_run, new_seats, IsSeatOf, AreAllSeats};
     ghost use Rattle.cmb_links.specs.Boards.{Moment, IsKnown, published_at, some_raised, number_finished, any_raised};
     ghost use Rattle.cmb_links.specs.Boards.{count_finished, EndsAs};
 
@@ -180,10 +180,10 @@ impl Board {
         workers: Workers,
     ) -> Result<(Board, Vec<Seat>), AllocError>
         ensures seats { IfOk result (λ opened.
-            opened.1.items ≡ new_seats opened.0 (terms design.now clustering.now workers)) }
+            opened.1.items ≡ new_seats opened.0 (board_run design.now clustering.now workers)) }
         ensures count { IfOk result (λ opened. vec_len opened.1 ≡ workers + 1) }
         ensures board { IfOk result (λ opened.
-            All (IsSeatOf opened.0 (terms design.now clustering.now workers)) opened.1.items) }
+            All (IsSeatOf opened.0 (board_run design.now clustering.now workers)) opened.1.items) }
     {
         let nets = design.netlist().len();
         let count = workers.count();
@@ -209,8 +209,8 @@ impl Board {
     /// seat's last one for that net.
     pub fn publish(&self, seat: &mut Seat, promise: Promise)
         requires board { seat.old.board ≡ self.now }
-        requires drives { driver seat.old.view.terms promise.net ≡ seat.old.view.place }
-        requires right { IsRightIn seat.old.view.terms.design promise }
+        requires drives { driver seat.old.view.board_run promise.net ≡ seat.old.view.place }
+        requires right { IsRightIn seat.old.view.board_run.design promise }
         requires rises { (newest promise.net seat.old.view.promised.published).upto ≤ promise.upto }
         ensures entry { seat.new ≡ with_view seat.old (after_publish seat.old.view promise) }
         ensures moment { Moment seat.new.view (λ s. slice_index s.words promise.net ≡ word_of promise) }
@@ -224,19 +224,19 @@ impl Board {
     /// The promise that a net's word holds, (0, 0) where none was published.
     pub fn look(&self, seat: &mut Seat, net: u32) -> Promise
         requires board { seat.old.board ≡ self.now }
-        requires net { net < nets_of seat.old.view.terms.design }
+        requires net { net < nets_of seat.old.view.board_run.design }
         ensures entry { seat.new ≡ with_view seat.old (after_look seat.old.view result) }
         ensures net { result.net ≡ net }
-        ensures right { IsRightIn seat.old.view.terms.design result }
+        ensures right { IsRightIn seat.old.view.board_run.design result }
         ensures rising { All (λ p. p.net ≡ net → p.upto ≤ result.upto) seat.old.view.promised.loads }
-        ensures own { driver seat.old.view.terms net ≡ seat.old.view.place
+        ensures own { driver seat.old.view.board_run net ≡ seat.old.view.place
             → result ≡ newest net seat.old.view.promised.published }
 
         // Some state that the rule allows, with the seat's new view, has the answer in the word; it is (0, 0), or the
         // net's driving seat published it.
         ensures moment { Moment seat.new.view
             (λ s. (slice_index s.words net ≡ word_of result)
-            × IsKnown net (published_at s.views (driver seat.old.view.terms net)) result) }
+            × IsKnown net (published_at s.views (driver seat.old.view.board_run net)) result) }
     {
         let found = self
             .table
@@ -249,7 +249,7 @@ impl Board {
     pub fn raise(&self, seat: &mut Seat)
         requires board { seat.old.board ≡ self.now }
         ensures entry { seat.new ≡ with_view seat.old (after_raise seat.old.view) }
-        ensures moment { Moment seat.new.view (λ s. slice_index s.words (nets_of seat.old.view.terms.design) ≡ 1) }
+        ensures moment { Moment seat.new.view (λ s. slice_index s.words (nets_of seat.old.view.board_run.design) ≡ 1) }
     {
         self.table
             .shared
@@ -270,11 +270,11 @@ impl Board {
     /// Counts the seat's worker as finished, once.
     pub fn finish(&self, seat: &mut Seat)
         requires board { seat.old.board ≡ self.now }
-        requires worker { seat.old.view.place < seat.old.view.terms.workers }
+        requires worker { seat.old.view.place < seat.old.view.board_run.workers }
         requires once { seat.old.view.endings.finished ≡ false }
         ensures entry { seat.new ≡ with_view seat.old (after_finish seat.old.view) }
         ensures moment { Moment seat.new.view
-            (λ s. slice_index s.words (nets_of seat.old.view.terms.design + 1) ≡ number_finished s.views) }
+            (λ s. slice_index s.words (nets_of seat.old.view.board_run.design + 1) ≡ number_finished s.views) }
     {
         self.table
             .shared
@@ -287,7 +287,7 @@ impl Board {
         ensures entry { seat.new ≡ with_view seat.old (after_count seat.old.view result) }
         ensures rising { All (λ k. k ≤ result) seat.old.view.endings.loads }
         ensures own { seat.old.view.endings.finished ≡ true → 1 ≤ result }
-        ensures few { result ≤ seat.old.view.terms.workers }
+        ensures few { result ≤ seat.old.view.board_run.workers }
         ensures moment { Moment seat.new.view (λ s. result ≡ number_finished s.views) }
     {
         self.table
@@ -300,7 +300,7 @@ impl Board {
     /// was published by that seat, and isn't above its newest. Where memory is refused, the board is given up.
     pub fn close(self, alloc: Global, seats: Vec<Seat>) -> Result<Ending, AllocError>
         requires seats { AreAllSeats self seats.items }
-        ensures nets { IfOk result (λ end. All (λ s. vec_len end.promises ≡ nets_of s.view.terms.design) seats.items) }
+        ensures nets { IfOk result (λ end. All (λ s. vec_len end.promises ≡ nets_of s.view.board_run.design) seats.items) }
         ensures words { IfOk result (λ end.
             All (λ s. EndsAs end.promises.items end.is_raised end.finished (map (λ s. s.view) seats.items) s.view)
             seats.items) }

@@ -7,7 +7,7 @@ use std::collections::LinkedList;
 use std::snapshot::Snapshot;
 
 /// What a board is opened for.
-pub struct BoardTerms {
+pub struct BoardRun {
     pub design: Design,
     pub clustering: Clustering,
     pub workers: u32,
@@ -40,7 +40,7 @@ pub struct Endings {
 }
 
 pub struct View {
-    pub terms: BoardTerms,
+    pub board_run: BoardRun,
     /// The seat's number: that of its worker, and for the last seat the number of workers.
     pub place: u32,
     /// No seat was cut after this one.

@@ -2,7 +2,7 @@
 
 ghost use Rattle.std.specs.Prelude.{◌≡◌, ◌+◌, ◌<◌, All, drop, length, vec_len, IfOk, OnOk};
 ghost use Rattle.std.specs.Arc.{arc_value};
-ghost use Rattle.cmb_links.specs.Seats.{IsSeatOf, new_seats, terms};
+ghost use Rattle.cmb_links.specs.Seats.{IsSeatOf, new_seats, board_run};
 ghost use Rattle.cmb_run_exact.specs.OfRun.{IsOfRun};
 
 use crate::collect::Found;
@@ -131,10 +131,10 @@ fn add_workers<T: ClusterRun>(
 ) -> Result<(), AllocError>
     requires run { IsOfRun T.design T.clustering design.now clustering.now }
     requires each { clustering.now.clusters ≡ workers }
-    requires seats { seats.old.items ≡ new_seats (arc_value board.now) (terms design.now clustering.now workers) }
+    requires seats { seats.old.items ≡ new_seats (arc_value board.now) (board_run design.now clustering.now workers) }
     requires count { vec_len seats.old ≡ workers + 1 }
     ensures { OnOk result (seats.new.items
-        ≡ drop workers (new_seats (arc_value board.now) (terms design.now clustering.now workers))) }
+        ≡ drop workers (new_seats (arc_value board.now) (board_run design.now clustering.now workers))) }
 {
     for number in 0..workers.count() {
         let shared = Arc::try_clone(board)?;
@@ -185,10 +185,10 @@ fn open_board(
     workers: Workers,
 ) -> Result<(Arc<Board>, Vec<Seat>), AllocError>
     ensures seats { IfOk result (λ opened.
-        opened.1.items ≡ new_seats (arc_value opened.0) (terms design.now clustering.now workers)) }
+        opened.1.items ≡ new_seats (arc_value opened.0) (board_run design.now clustering.now workers)) }
     ensures count { IfOk result (λ opened. vec_len opened.1 ≡ workers + 1) }
     ensures board { IfOk result (λ opened.
-        All (IsSeatOf (arc_value opened.0) (terms design.now clustering.now workers)) opened.1.items) }
+        All (IsSeatOf (arc_value opened.0) (board_run design.now clustering.now workers)) opened.1.items) }
 {
     let (board, seats) = Board::open(alloc, design, clustering, workers)?;
     Ok((Arc::new(alloc, board)?, seats))

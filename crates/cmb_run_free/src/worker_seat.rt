@@ -9,7 +9,7 @@ ghost use Rattle.cmb_core_cluster.specs.Clustering.{cluster_of};
 ghost use Rattle.cmb_core_cluster.specs.Clusters.{Cluster, IsDrivenHere};
 ghost use Rattle.cmb_core_cluster.specs.Step.{wave_at};
 ghost use Rattle.cmb_links.specs.Links.{TakeData};
-ghost use Rattle.cmb_links.specs.Seats.{driver, new_seat, terms};
+ghost use Rattle.cmb_links.specs.Seats.{driver, new_seat, board_run};
 ghost use Rattle.cmb_run_free.specs.Inner.Channels.{Outbound};
 ghost use Rattle.cmb_run_free.specs.Inner.Turns.{Goes, SeatGoes, working};
 
@@ -61,7 +61,7 @@ pub struct WorkerSeat<T: ClusterRun> {
     is_finished: bool,
     of: PhantomData<T>,
     ghost same: { seat.board ≡ arc_value board },
-    ghost of_run: { seat.view.terms ≡ terms T.design T.clustering workers },
+    ghost of_run: { seat.view.board_run ≡ board_run T.design T.clustering workers },
     ghost seated: { seat.view.place ≡ number },
     ghost worker: { number < workers },
     ghost words: { nets ≡ nets_of T.design },
@@ -78,7 +78,7 @@ impl<T: ClusterRun> WorkerSeat<T> {
         number: u32,
     ) -> WorkerSeat<T>
         requires design { design.now ≡ T.design }
-        requires seat { seat ≡ new_seat (arc_value board) (terms T.design T.clustering workers) false number }
+        requires seat { seat ≡ new_seat (arc_value board) (board_run T.design T.clustering workers) false number }
         requires number { number < workers }
         ensures { result.seat ≡ seat }
     {
@@ -95,7 +95,7 @@ impl<T: ClusterRun> WorkerSeat<T> {
 
     // Whether a net is an own one of this worker.
     fn drives(&self, own: &Own<T>, net: u32) -> bool
-        ensures { result ≡ true → driver self.now.seat.view.terms net ≡ self.now.seat.view.place }
+        ensures { result ≡ true → driver self.now.seat.view.board_run net ≡ self.now.seat.view.place }
     {
         own.net == net && own.worker == self.number
     }

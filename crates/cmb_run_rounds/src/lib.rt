@@ -3,7 +3,7 @@
 
 mod collected;
 mod gauge;
-mod hand;
+mod round_worker;
 pub mod rounds;
 
 pub use rounds::{Run, run_rounds};

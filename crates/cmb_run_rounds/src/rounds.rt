@@ -18,7 +18,7 @@ ghost use Rattle.cmb_run_exact.specs.OfRun.{IsOfRun};
 ghost use Rattle.cmb_run_exact.specs.declared.run_fault.RunFault.TheVariants.{Memory};
 
 use crate::collected::Collected;
-use crate::hand::Hand;
+use crate::round_worker::RoundWorker;
 use cmb_core_cluster::Clustering;
 use cmb_design_model::Design;
 use cmb_links::Workers;
@@ -46,7 +46,7 @@ fn deal<T: ClusterRun>(
     alloc: Global,
     design: &Design,
     clustering: &Clustering,
-) -> Result<Vec<Hand<T>>, AllocError>
+) -> Result<Vec<RoundWorker<T>>, AllocError>
     requires { IsOfRun T.design T.clustering design.now clustering.now }
     ensures of { IfOk result (λ hands. AreHandsOf T.design T.clustering hands.items) }
     ensures new { IfOk result (λ hands. AreAt T.design T.clustering (start T.design T.clustering) hands.items) }
@@ -56,14 +56,14 @@ fn deal<T: ClusterRun>(
     let count = clustering.clusters();
     let mut hands = Vec::with_capacity(alloc, count as usize)?;
     for worker in 0..count {
-        hands.push(Hand::open(alloc, design, clustering, worker)?)?;
+        hands.push(RoundWorker::open(alloc, design, clustering, worker)?)?;
     }
     Ok(hands)
 }
 
 // Whether a round in threads is done sooner: what the workers but the busiest have to do is then done beside it,
 // and that outweighs their threads.
-fn is_worth_threads<T: ClusterRun>(hands: &[Hand<T>]) -> bool {
+fn is_worth_threads<T: ClusterRun>(hands: &[RoundWorker<T>]) -> bool {
     let mut beside = 0_usize;
     let mut most = 0;
     for hand in hands {
@@ -75,7 +75,7 @@ fn is_worth_threads<T: ClusterRun>(hands: &[Hand<T>]) -> bool {
 }
 
 // In how many threads a round is done soonest: one for each worker, or the calling one alone.
-fn threads_for<T: ClusterRun>(hands: &[Hand<T>]) -> usize
+fn threads_for<T: ClusterRun>(hands: &[RoundWorker<T>]) -> usize
     ensures { 0 < result }
 {
     if is_worth_threads(hands) {
@@ -88,7 +88,7 @@ fn threads_for<T: ClusterRun>(hands: &[Hand<T>]) -> usize
 // The workers' parts of a round, in at most so many threads.
 fn work_all<T: ClusterRun + Send + Sync, R: Threads + Sync>(
     rt: &R,
-    hands: &mut [Hand<T>],
+    hands: &mut [RoundWorker<T>],
     threads: usize,
 )
     requires { 0 < threads }
@@ -100,7 +100,7 @@ fn work_all<T: ClusterRun + Send + Sync, R: Threads + Sync>(
 }
 
 // Whether one of them met want of memory.
-fn some_refused<T: ClusterRun>(hands: &[Hand<T>]) -> bool
+fn some_refused<T: ClusterRun>(hands: &[RoundWorker<T>]) -> bool
     ensures { result ≡ list_any (λ hand. hand.refused) hands.now }
 {
     hands.iter().any(|hand| hand.refused())
@@ -109,7 +109,7 @@ fn some_refused<T: ClusterRun>(hands: &[Hand<T>]) -> bool
 // The round's steps.
 fn step<T: ClusterRun + Send + Sync, R: Threads + Sync>(
     rt: &R,
-    hands: &mut [Hand<T>],
+    hands: &mut [RoundWorker<T>],
 ) -> Result<(), AllocError>
     requires { AreHandsOf T.design T.clustering hands.old }
     ensures kept { OnOk result (AreHandsOf T.design T.clustering hands.new) }
@@ -130,7 +130,7 @@ fn step<T: ClusterRun + Send + Sync, R: Threads + Sync>(
 
 // Gives a worker what is new of a net that it reads, by the worker that drives the net.
 fn pass_net<T: ClusterRun>(
-    hands: &mut [Hand<T>],
+    hands: &mut [RoundWorker<T>],
     home: usize,
     reader: usize,
     net: u32,
@@ -154,7 +154,7 @@ fn pass_net<T: ClusterRun>(
 // Gives a worker what is new of all nets that it reads.
 fn pass_to<T: ClusterRun>(
     clustering: &Clustering,
-    hands: &mut [Hand<T>],
+    hands: &mut [RoundWorker<T>],
     reader: usize,
 ) -> Result<(), AllocError>
     requires clustering { clustering.now ≡ T.clustering }
@@ -171,7 +171,7 @@ fn pass_to<T: ClusterRun>(
 }
 
 // Gives each worker what is new of the nets that it reads.
-fn pass_on<T: ClusterRun>(clustering: &Clustering, hands: &mut [Hand<T>]) -> Result<(), AllocError>
+fn pass_on<T: ClusterRun>(clustering: &Clustering, hands: &mut [RoundWorker<T>]) -> Result<(), AllocError>
     requires clustering { clustering.now ≡ T.clustering }
     requires hands { AreHandsOf T.design T.clustering hands.old }
     ensures kept { OnOk result (AreHandsOf T.design T.clustering hands.new) }
@@ -192,7 +192,7 @@ fn pass_on<T: ClusterRun>(clustering: &Clustering, hands: &mut [Hand<T>]) -> Res
 fn round<T: ClusterRun + Send + Sync, R: Threads + Sync>(
     rt: &R,
     clustering: &Clustering,
-    hands: &mut [Hand<T>],
+    hands: &mut [RoundWorker<T>],
 ) -> Result<(), AllocError>
     requires clustering { clustering.now ≡ T.clustering }
     requires hands { AreHandsOf T.design T.clustering hands.old }
@@ -208,7 +208,7 @@ fn round<T: ClusterRun + Send + Sync, R: Threads + Sync>(
 }
 
 // Whether each net is known up to the horizon where it is driven.
-fn all_complete<T: ClusterRun>(hands: &[Hand<T>]) -> bool
+fn all_complete<T: ClusterRun>(hands: &[RoundWorker<T>]) -> bool
     requires { AreHandsOf T.design T.clustering hands.now }
     ensures { IsTrue result ↔ AreComplete T.design T.clustering hands.now }
 {
@@ -225,7 +225,7 @@ fn all_rounds<T: ClusterRun + Send + Sync, R: Threads + Sync>(
     rt: &R,
     design: &Design,
     clustering: &Clustering,
-    hands: &mut [Hand<T>],
+    hands: &mut [RoundWorker<T>],
 ) -> Result<u32, AllocError>
     requires design { design.now ≡ T.design }
     requires clustering { clustering.now ≡ T.clustering }
@@ -245,7 +245,7 @@ fn all_rounds<T: ClusterRun + Send + Sync, R: Threads + Sync>(
 }
 
 // Gives the waves of all clusters to what is collected.
-fn hand_over_all<T: ClusterRun>(mut hands: Vec<Hand<T>>, collected: &mut Collected<T>)
+fn hand_over_all<T: ClusterRun>(mut hands: Vec<RoundWorker<T>>, collected: &mut Collected<T>)
     requires hands { AreHandsOf T.design T.clustering hands.items }
     requires known { AreComplete T.design T.clustering hands.items }
     ensures { (net : ℕ) → net < nets_of T.design → T.design.horizon ≤ (wave_of collected.new.waves net).clock }

@@ -1,4 +1,4 @@
-//! The calling thread's part of a run: it makes the text of what the shares tell.
+//! The calling thread's part of a run: it makes the text of what the shares send.
 
 ghost use Rattle.std.specs.Prelude.{◌≡◌, ℕ, suc, ◌<◌, ◌≤◌, length, [], IfOk, OnOk};
 ghost use Rattle.cmb_shares.specs.Inner.Channels.{Follows};
@@ -35,7 +35,7 @@ impl<T: ShareRun> Model for Inflow<T> {
     ghost view = { λ source. source.inlet };
 }
 
-/// Makes the text of what the shares tell.
+/// Makes the text of what the shares send.
 #[derive(Drop)]
 pub(crate) struct Flow<'a, T: ShareRun, R> {
     pub rt: &'a R,
@@ -59,7 +59,7 @@ impl<'a, T: ShareRun, R> Model for Flow<'a, T, R> {
 }
 
 impl<T: ShareRun> Inflow<T> {
-    // Adds what the share tells of a window to what earlier ones told.
+    // Adds what the share sent of a window to what earlier ones sent.
     fn add<R: Wait>(
         &mut self,
         rt: &R,
@@ -82,7 +82,7 @@ impl<T: ShareRun> Inflow<T> {
     }
 }
 
-// Puts together what all shares tell of a window, in place of what `all` had: a turn of the text's process.
+// Puts together what all shares sent of a window, in place of what `all` had: a turn of the text's process.
 fn gather<T: ShareRun, R: Wait>(
     rt: &R,
     sources: &mut [Inflow<T>],

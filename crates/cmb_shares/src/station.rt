@@ -85,7 +85,7 @@ impl<'a, T: ShareRun> Feed<'a, T> {
         }
     }
 
-    // Tells the share of what was told ahead of a window. Says whether it did so.
+    // Sends the share what was told ahead of a window. Says whether it did so.
     fn send_to<R: Wait>(
         &mut self,
         rt: &R,
@@ -125,7 +125,7 @@ fn room_of(alloc: Global, back: &mut Consumer<Vec<Changed>>) -> Vec<Changed> {
     }
 }
 
-// Tells all shares of what was told ahead of a window. Says whether it did so.
+// Sends all shares what was told ahead of a window. Says whether it did so.
 fn send_all<'a, T: ShareRun, R: Wait>(
     rt: &R,
     alloc: Global,
@@ -149,8 +149,8 @@ fn send_all<'a, T: ShareRun, R: Wait>(
     true
 }
 
-// Takes what others tell of a window, in place of what `given` had. Says whether it did so. All were told before:
-// shares that take before they tell wait for one another.
+// Receives what others send of a window, in place of what `given` had. Says whether it did so. It has sent before:
+// shares that receive before they send wait for one another.
 fn receive_all<'a, T: ShareRun, R: Wait>(
     rt: &R,
     simulator: &Simulator<'_>,
@@ -179,7 +179,7 @@ fn receive_all<'a, T: ShareRun, R: Wait>(
     true
 }
 
-// Tells other shares of a window, and takes what they tell of it. Says whether that was done.
+// Sends to other shares, and receives what they send, of a window. Says whether that was done.
 fn talk<'a, T: ShareRun, R: Wait>(
     rt: &R,
     alloc: Global,
@@ -212,7 +212,7 @@ fn talk<'a, T: ShareRun, R: Wait>(
 }
 
 impl<'a, T: ShareRun> Station<'a, T> {
-    /// The station of a share that made nothing yet. It hears of no share.
+    /// The station of a share that made nothing yet. It receives from no share.
     pub(crate) fn new(
         alloc: Global,
         simulator: Simulator<'a>,

@@ -28,7 +28,7 @@ const ROOM: usize = 2;
 // How many windows a share may be ahead of the text: an estimate.
 const AHEAD: usize = 16;
 
-// The station of the share of a number, of so many, and the channel by which it tells the text.
+// The station of the share of a number, of so many, and the channel by which it sends to the text.
 fn station_of<'a, T: ShareRun>(
     alloc: Global,
     engine: ShareEngine<'a>,
@@ -74,7 +74,7 @@ fn station_of<'a, T: ShareRun>(
     Ok((Station::new(alloc, simulator, text, back), source))
 }
 
-/// The stations of all shares, which hear of no share yet, and the channels by which they tell the text. Errors: memory
+/// The stations of all shares, which receive from no share yet, and their channels to the text. Errors: memory
 /// was refused.
 pub(crate) fn stations_of<'a, T: ShareRun>(
     alloc: Global,

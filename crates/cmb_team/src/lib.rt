@@ -3,10 +3,10 @@
 #![tactic(auto)]
 
 mod batch;
+mod batch_maker;
 mod formatter;
 mod job;
 mod lead;
-mod maker;
 mod opening;
 mod ports;
 mod team_run;

@@ -5,7 +5,7 @@ ghost use Rattle.std.specs.Prelude.{◌≡◌};
 use crate::formatter::Formatter;
 use crate::job::{Inlet, Outlet, TextInlet};
 use crate::lead::Lead;
-use crate::maker::Maker;
+use crate::batch_maker::BatchMaker;
 use crate::ports::FormatterPorts;
 use crate::team_run::TeamRun;
 use crate::texts::{Others, Texts};
@@ -27,7 +27,7 @@ const MORE: usize = 4;
 /// What a run begins with: a maker and the ports of each formatter, for a thread each, and the calling thread's part.
 #[derive(Drop)]
 pub(crate) struct Opened<'a, T: TeamRun, R> {
-    pub maker: Maker<'a, T>,
+    pub maker: BatchMaker<'a, T>,
     pub formatters: Vec<FormatterPorts<'a, T>>,
     pub lead: Lead<'a, T, R>,
 }
@@ -84,7 +84,7 @@ impl<'a, T: TeamRun> Rings<'a, T> {
         if count == 0 {
             self.own = Some(ring_to(alloc, &mut self.outlets)?);
         }
-        for _desk in 0..count {
+        for _formatter in 0..count {
             self.add_formatter(alloc, design)?;
         }
         Ok(())
@@ -151,7 +151,7 @@ pub(crate) fn open_run<'a, T: TeamRun, R: Wait>(
     let clock = engine.clock();
     let ways = Ways::new(alloc, design, most, spent, outlets);
     Opened {
-        maker: Maker::new(engine, design.horizon(), ways),
+        maker: BatchMaker::new(engine, design.horizon(), ways),
         formatters,
         lead: Lead::new(rt, clock, texts, back),
     }

@@ -55,7 +55,7 @@ fn begin(alloc: Global, design: &Design) -> Result<(Stream<'_>, TextBuffer<'_>, 
 }
 
 // How many formatters there are beside the calling thread, where one thread has the engine.
-fn tellers_of(threads: u32) -> usize {
+fn formatters_of(threads: u32) -> usize {
     threads.saturating_sub(2).min(MOST) as usize
 }
 
@@ -76,7 +76,7 @@ fn write_named<'a, T: TeamRun + Send + Sync, R: Threads + Wait + Sync, S: Sink>(
     requires all { kept.given ≡ 0 }
     ensures { IsWrittenTo S.Sink design.now sink.old sink.new result }
 {
-    let Ok(rings) = open_rings::<T>(alloc, design, tellers_of(threads)) else {
+    let Ok(rings) = open_rings::<T>(alloc, design, formatters_of(threads)) else {
         drop((stream, kept));
         return Err(WriteFault::Memory);
     };

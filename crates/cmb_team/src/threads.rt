@@ -1,6 +1,6 @@
 //! The threads of a run: one for the maker, and one for each formatter.
 
-use crate::maker::Maker;
+use crate::batch_maker::BatchMaker;
 use crate::ports::FormatterPorts;
 use crate::team_run::TeamRun;
 use std::sync::Wait;
@@ -11,7 +11,7 @@ use std::thread::{Scope, Threads};
 pub(crate) fn start<'s, 'a: 's, E, T: TeamRun + Send + Sync + 's, R: Threads + Wait + Sync>(
     rt: &'s R,
     scope: &Scope<'s, E>,
-    maker: Maker<'a, T>,
+    maker: BatchMaker<'a, T>,
     formatters: Vec<FormatterPorts<'a, T>>,
 ) {
     drop(scope.spawn(move || maker.run(rt)));

@@ -8,12 +8,12 @@ use Rattle.cmb_wheel.specs.Calendars.{AreInOrder}
 use Rattle.cmb_wheel.specs.declared.event.LevelEvent.{LevelEvent}
 
 abbrev pub tick_of : LevelEvent → ℕ
-tick_of tell = tell.tick
+tick_of event = event.tick
 
 pub order-from_ticks : (tells : List LevelEvent) → IsNonDecreasingBy tick_of tells → AreInOrder tells
 order-from_ticks [] rises = tt
-order-from_ticks (tell ∷ tells) rises = (
-  λ later has. subst (λ (t : LevelEvent). tell.tick ≤ t.tick) has.2 (rises zero (suc has.0) later (omega arith) (omega (arith, has.1))),
+order-from_ticks (event ∷ tells) rises = (
+  λ later has. subst (λ (t : LevelEvent). event.tick ≤ t.tick) has.2 (rises zero (suc has.0) later (omega arith) (omega (arith, has.1))),
   order-from_ticks tells (λ i j d below small. rises (suc i) (suc j) d (omega arith) (omega arith)),
 )
 

@@ -1,6 +1,6 @@
-//! Tells by days.
+//! Events by days.
 
-use crate::days::{collect_early, empty_days, push_tell, remove_early};
+use crate::days::{collect_early, empty_days, push_event, remove_early};
 use crate::event::LevelEvent;
 use crate::order::put_in_order;
 use std::alloc::{AllocError, Global};
@@ -61,14 +61,14 @@ impl Calendar {
     }
 
     /// Schedules an event at a tick from the clock on. One at the horizon or behind it is forgotten.
-    pub fn note(&mut self, tell: LevelEvent) -> Result<(), AllocError>
-        requires later { self.old.clock ≤ tell.tick }
-        ensures notes { OnOk result (Notes self.old self.new tell) }
+    pub fn note(&mut self, event: LevelEvent) -> Result<(), AllocError>
+        requires later { self.old.clock ≤ event.tick }
+        ensures notes { OnOk result (Notes self.old self.new event) }
         ensures ticks { SameTicks self.old self.new }
     {
-        if tell.tick < self.horizon {
+        if event.tick < self.horizon {
             let next = (self.clock / DAY) as usize;
-            push_tell(&mut self.days, next, (tell.tick / DAY) as usize, tell)?;
+            push_event(&mut self.days, next, (event.tick / DAY) as usize, event)?;
         }
         Ok(())
     }

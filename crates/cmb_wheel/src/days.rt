@@ -32,33 +32,33 @@ fn give_room(days: &mut [Vec<LevelEvent>], next: usize, day: usize)
     }
 }
 
-/// Adds a tell to those of a day, where the lists of the days before `next` are empty.
-pub(crate) fn push_tell(
+/// Adds an event to those of a day, where the lists of the days before `next` are empty.
+pub(crate) fn push_event(
     days: &mut [Vec<LevelEvent>],
     next: usize,
     day: usize,
-    tell: LevelEvent,
+    event: LevelEvent,
 ) -> Result<(), AllocError>
     requires day { day < length days.old }
     requires later { next ≤ day }
     requires past { (place : ℕ) → place < next
         → length (slice_index_or (map (λ list. list.items) days.old) place []) ≡ 0 }
     ensures added { OnOk result (map (λ list. list.items) days.new ≡ slice_set (map (λ list. list.items) days.old) day
-        (slice_index_or (map (λ list. list.items) days.old) day [] ++ tell ∷ [])) }
+        (slice_index_or (map (λ list. list.items) days.old) day [] ++ event ∷ [])) }
     ensures failed { OnErr result (map (λ list. list.items) days.new ≡ map (λ list. list.items) days.old) }
 {
     give_room(days, next, day);
-    days[day].push(tell)?;
+    days[day].push(event)?;
     Ok(())
 }
 
-// Adds the tells of a list that are below a tick.
+// Adds the events of a list that are below a tick.
 fn push_early(list: &[LevelEvent], upto: u32, taken: &mut Vec<LevelEvent>) -> Result<(), AllocError>
     ensures { OnOk result (taken.new.items ≡ taken.old.items ++ early_of upto list.now) }
 {
-    for tell in list {
-        if tell.tick < upto {
-            taken.push(*tell)?;
+    for event in list {
+        if event.tick < upto {
+            taken.push(*event)?;
         }
     }
     Ok(())
@@ -74,8 +74,8 @@ pub(crate) fn collect_early(
 ) -> Result<(), AllocError>
     requires order { first ≤ end }
     requires within { end ≤ length days.now }
-    ensures { OnOk result ((tell : LevelEvent) → Contains taken.new.items tell
-        ↔ IsEarly (map (λ list. list.items) days.now) first end upto tell) }
+    ensures { OnOk result ((event : LevelEvent) → Contains taken.new.items event
+        ↔ IsEarly (map (λ list. list.items) days.now) first end upto event) }
 {
     taken.clear();
     for day in first..end {
@@ -91,6 +91,6 @@ pub(crate) fn remove_early(days: &mut [Vec<LevelEvent>], first: usize, end: usiz
     ensures { Clears first end upto (map (λ list. list.items) days.old) (map (λ list. list.items) days.new) }
 {
     for day in first..end {
-        days[day].retain(|tell| upto <= tell.tick);
+        days[day].retain(|event| upto <= event.tick);
     }
 }

@@ -1,5 +1,5 @@
-//! The event list of the engine, as a timing wheel with a slot for each 64 ticks. An event is a *tell*, and a slot a
-//! *day*. All events below a tick are taken out at once.
+//! The event list of the engine: a calendar queue with a list for each *day* of 64 ticks. All events below a tick are
+//! taken out at once.
 #![tactic(auto)]
 
 pub mod calendar;

@@ -6,7 +6,7 @@ ghost use Rattle.std.specs.Prelude.{◌≡◌};
 
 use cmb_cli::{LineFault, read_line};
 use cmb_host::{
-    Refusal, Times, help, kept, no_words, notes_of, on_terminal, open_tables, print_fault, refuse,
+    Refusal, Times, help, kept, no_words, notes_of, on_terminal, open_files, print_fault, refuse,
     refuse_clock, stats_of, status_of, told_of,
 };
 use cmb_report::{Given, Piped, Timed, Watch, Watched};
@@ -62,7 +62,7 @@ fn do_line<R: AllocGlobal + Threads + Wait + Sync>(
     threads: &R,
     line: &Line,
 ) -> Result<Done, Refusal> {
-    let tables = open_tables(rt, line)?;
+    let tables = open_files(rt, line)?;
     let mut bench = kept(rt, line, FromReader::new(rt.stdin()));
     let mut delays = kept(rt, line, tables.delays);
     let mut stimuli = kept(rt, line, tables.stimuli);

@@ -1,8 +1,8 @@
 -- What a worker's thread is handed, and what it leaves.
 use Rattle.std.specs.Prelude.{◌≡◌, ℕ, ◌==◌, false, [], ◌∷◌, if◌then◌else◌}
 use Rattle.cmb_links.specs.Links.{LinkData}
-use Rattle.cmb_links.specs.Seats.{new_seat, terms}
-use Rattle.cmb_links.specs.declared.view.BoardTerms.{BoardTerms}
+use Rattle.cmb_links.specs.Seats.{new_seat, board_run}
+use Rattle.cmb_links.specs.declared.view.BoardRun.{BoardRun}
 use Rattle.links_stress.specs.Seats.{at_first}
 use Rattle.links_stress.specs.declared.circuit.Circuit.{Circuit}
 use Rattle.links_stress.specs.declared.closing.Room.{Room}
@@ -10,8 +10,8 @@ use Rattle.links_stress.specs.declared.run.Hand.{Hand}
 use Rattle.links_stress.specs.declared.worker.Left.{Left}
 
 -- what the board of a circuit's two workers is opened for
-abbrev pub board_terms : Circuit → BoardTerms
-board_terms circuit = terms circuit.design circuit.clustering 2
+abbrev pub board_terms : Circuit → BoardRun
+board_terms circuit = board_run circuit.design circuit.clustering 2
 
 -- the link into which a worker puts, and the one from which it takes
 abbrev pub link_out : Room → ℕ → LinkData

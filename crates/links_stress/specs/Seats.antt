@@ -4,4 +4,4 @@ use Rattle.cmb_links.specs.Seats.{SeatData, new_seat}
 
 -- the seat as it stood when nothing had been done there
 abbrev pub at_first : SeatData → SeatData
-at_first seat = new_seat seat.board seat.view.terms false seat.view.place
+at_first seat = new_seat seat.board seat.view.board_run false seat.view.place

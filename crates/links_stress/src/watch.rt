@@ -2,7 +2,7 @@
 
 ghost use Rattle.std.specs.Prelude.{◌≡◌, true, IfOk};
 ghost use Rattle.cmb_design_model.specs.Exact.{IsRightIn};
-ghost use Rattle.cmb_links.specs.Seats.{driver, terms};
+ghost use Rattle.cmb_links.specs.Seats.{driver, board_run};
 ghost use Rattle.links_stress.specs.Seats.{at_first};
 
 use crate::circuit::Circuit;
@@ -34,7 +34,7 @@ pub struct Watch<'a> {
     found: Vec<Promise>,
     published: Vec<Promise>,
     ghost same: { seat.board ≡ board.now },
-    ghost told: { seat.view.terms ≡ terms circuit.now.design circuit.now.clustering workers },
+    ghost told: { seat.view.board_run ≡ board_run circuit.now.design circuit.now.clustering workers },
     ghost seated: { seat.view.place ≡ place },
     ghost done: { seat.view.endings.finished ≡ is_done },
 }
@@ -76,7 +76,7 @@ impl<'a> Watch<'a> {
         place: u32,
     ) -> Watch<'a>
         requires board { seat.board ≡ board.now }
-        requires terms { seat.view.terms ≡ terms circuit.now.design circuit.now.clustering workers }
+        requires board_run { seat.view.board_run ≡ board_run circuit.now.design circuit.now.clustering workers }
         requires place { seat.view.place ≡ place }
         requires new { seat.view.endings.finished ≡ false }
         ensures circuit { result.circuit ≡ circuit.entry }
@@ -134,7 +134,7 @@ impl<'a> Watch<'a> {
 
     // Whether the seat's worker drives the net.
     fn drives(&self, net: u32) -> bool
-        ensures { result ≡ true → driver self.now.seat.view.terms net ≡ self.now.seat.view.place }
+        ensures { result ≡ true → driver self.now.seat.view.board_run net ≡ self.now.seat.view.place }
     {
         let clustering = &self.circuit.clustering;
         (net as usize) < clustering.nets() && self.workers.of(clustering.of(net)) == self.place

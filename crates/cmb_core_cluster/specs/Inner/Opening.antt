@@ -3,7 +3,7 @@ use Rattle.std.specs.Prelude.{◌≡◌, ℕ, ◌<◌, Bool, false, ◌&&◌, �
 use Rattle.cmb_wave.specs.Wave.{Wave}
 use Rattle.cmb_design_model.specs.Design.{Design}
 use Rattle.cmb_design_model.specs.Exact.{nets_of}
-use Rattle.cmb_core_cluster.specs.declared.process.Operand.{Operand}
+use Rattle.cmb_core_cluster.specs.declared.process.ProcessPin.{ProcessPin}
 use Rattle.cmb_core_cluster.specs.Clustering.{Clustering, cluster_of, some_below, net_reads}
 use Rattle.cmb_core_cluster.specs.Rows.{Process, IsReadyFor, slot_of}
 use Rattle.cmb_core_cluster.specs.Step.{wave_at}
@@ -19,7 +19,7 @@ ArePlaced places [] = Unit {0}
 ArePlaced places (net ∷ nets) = IsSome (slice_index_or places net None) × ArePlaced places nets
 
 -- operands have the places of their nets
-abbrev pub AreAt : List (Option ℕ) → List Operand → Type 0
+abbrev pub AreAt : List (Option ℕ) → List ProcessPin → Type 0
 AreAt places [] = Unit {0}
 AreAt places (o ∷ os) = (slice_index_or places o.net None ≡ Some o.slot) × AreAt places os
 

@@ -5,7 +5,7 @@ use Rattle.cmb_wave.specs.declared.level.Level.TheVariants.{X}
 use Rattle.cmb_wave.specs.declared.level.Change.{Change}
 use Rattle.cmb_wave.specs.Waveform.{level_at}
 use Rattle.cmb_wave.specs.Wave.{Wave}
-use Rattle.cmb_core_cluster.specs.declared.process.Operand.{Operand}
+use Rattle.cmb_core_cluster.specs.declared.process.ProcessPin.{ProcessPin}
 use Rattle.cmb_core_cluster.specs.declared.process.ProcessRule.{ProcessRule}
 use Rattle.cmb_core_cluster.specs.declared.process.ProcessRule.TheVariants.{Given, Input, Gate, Flop}
 use Rattle.cmb_netlist.specs.declared.netlist.Kind.{Kind}
@@ -18,7 +18,7 @@ abbrev pub delayed_wave : Wave → ℕ → ℕ → Level
 delayed_wave w delay t = if nat_lt t delay then X else level_at w.kept w.changes (t - delay)
 
 -- the levels that the operands of a gate have for the output's tick `t`
-abbrev pub delayed_levels : List Wave → List Operand → ℕ → List Level
+abbrev pub delayed_levels : List Wave → List ProcessPin → ℕ → List Level
 delayed_levels waves [] t = []
 delayed_levels waves (o ∷ os) t = delayed_wave (wave_at waves o.net) o.delay t ∷ delayed_levels waves os t
 
@@ -29,15 +29,15 @@ sampled_wave w first period init delay t =
     else level_at w.kept w.changes (sample_upto first period (t - delay))
 
 -- the level that a flip-flop has at tick `t`, by its operand
-abbrev pub flop_row : List Wave → Operand → ℕ → ℕ → Level → ℕ → Level
+abbrev pub flop_row : List Wave → ProcessPin → ℕ → ℕ → Level → ℕ → Level
 flop_row waves o first period init t = sampled_wave (wave_at waves o.net) first period init o.delay t
 
 -- the level that a gate has at tick `t`
-abbrev pub gate_row : Kind → List Wave → List Operand → ℕ → Level
+abbrev pub gate_row : Kind → List Wave → List ProcessPin → ℕ → Level
 gate_row kind waves os t = gate kind (delayed_levels waves os t)
 
 -- up to here a gate's operands are known at its output
-abbrev pub gate_reach : ℕ → List Wave → List Operand → ℕ
+abbrev pub gate_reach : ℕ → List Wave → List ProcessPin → ℕ
 gate_reach horizon waves [] = horizon
 gate_reach horizon waves (o ∷ os) = min ((wave_at waves o.net).clock + o.delay) (gate_reach horizon waves os)
 
@@ -46,7 +46,7 @@ abbrev pub flop_reach : ℕ → ℕ → ℕ → ℕ → ℕ → ℕ
 flop_reach horizon first period delay known = min (sample_from first period known + delay) horizon
 
 -- the level that a process has at tick `t`
-abbrev pub process_level : List Wave → ProcessRule → List Operand → List Change → ℕ → Level
+abbrev pub process_level : List Wave → ProcessRule → List ProcessPin → List Change → ℕ → Level
 process_level waves Given os cs t = X
 process_level waves Input os cs t = level_at X cs t
 process_level waves (Gate kind) os cs t = gate_row kind waves os t
@@ -54,7 +54,7 @@ process_level waves (Flop first period init) [] cs t = X
 process_level waves (Flop first period init) (o ∷ os) cs t = flop_row waves o first period init t
 
 -- up to here a process can go on
-abbrev pub process_reach : ℕ → List Wave → ProcessRule → List Operand → ℕ
+abbrev pub process_reach : ℕ → List Wave → ProcessRule → List ProcessPin → ℕ
 process_reach horizon waves Given os = 0
 process_reach horizon waves Input os = horizon
 process_reach horizon waves (Gate kind) os = gate_reach horizon waves os

@@ -15,5 +15,5 @@ use Rattle.cmb_engine.specs.declared.role.Role.{Role}
 pub record TellsAhead (design : Design) (roles : List Role) (lines : List Pin) (cells : List Cell) (clock : ℕ) (calendar : Calendar) : Type 0 where
   pub same_horizon : calendar.horizon ≡ design.horizon
   pub before : calendar.clock ≤ clock
-  pub below : (tell : LevelEvent) → Contains calendar.tells tell → tell.tick < design.horizon
+  pub below : (event : LevelEvent) → Contains calendar.tells event → event.tick < design.horizon
   pub told : AreTold (trace_of design roles lines) (cell_at cells) (gives roles) (length cells) (reach_of (nets_of design) lines design.horizon) design.horizon clock calendar.tells

@@ -13,24 +13,24 @@ use Rattle.cmb_engine.specs.declared.cell.Pin.{Pin}
 use Rattle.cmb_engine.specs.declared.role.Role.{Role}
 
 -- a tell is of a change of a net's stimulus, after tick 0 and below the design's horizon
-pub record IsOfStimulus (design : Design) (net : ℕ) (tell : LevelEvent) : Type 0 where
-  pub slot : tell.slot ≡ net
-  pub later : 1 ≤ tell.tick
-  pub within : tell.tick < design.horizon
-  pub differs : stimulus design net (tell.tick - 1) ≢ stimulus design net tell.tick
-  pub level : tell.level ≡ stimulus design net tell.tick
+pub record IsOfStimulus (design : Design) (net : ℕ) (event : LevelEvent) : Type 0 where
+  pub slot : event.slot ≡ net
+  pub later : 1 ≤ event.tick
+  pub within : event.tick < design.horizon
+  pub differs : stimulus design net (event.tick - 1) ≢ stimulus design net event.tick
+  pub level : event.level ≡ stimulus design net event.tick
 
 -- a tell is of a change of a driven input
-pub record IsOfInput (design : Design) (roles : List Role) (tell : LevelEvent) : Type 0 where
-  pub net : tell.slot < nets_of design
-  pub input : driver_of design.netlist tell.slot ≡ Input
-  pub driven : drives roles tell.slot ≡ true
-  pub change : IsOfStimulus design tell.slot tell
+pub record IsOfInput (design : Design) (roles : List Role) (event : LevelEvent) : Type 0 where
+  pub net : event.slot < nets_of design
+  pub input : driver_of design.netlist event.slot ≡ Input
+  pub driven : drives roles event.slot ≡ true
+  pub change : IsOfStimulus design event.slot event
 
 -- a tell is of the first change of a line: to the level that its net has at tick 0, where that isn't x
-pub record IsOfStart (words : ℕ → ℕ → Level) (lines : List Pin) (nets : ℕ) (tell : LevelEvent) : Type 0 where
+pub record IsOfStart (words : ℕ → ℕ → Level) (lines : List Pin) (nets : ℕ) (event : LevelEvent) : Type 0 where
   pub number : ℕ
   pub line : Pin
   pub has_number : slice_get lines number ≡ Some line
   pub known : words line.net 63 ≢ X
-  pub is : tell ≡ record { tick = line.delay; slot = nets + number; level = words line.net 63 }
+  pub is : event ≡ record { tick = line.delay; slot = nets + number; level = words line.net 63 }

@@ -9,13 +9,13 @@ use Rattle.cmb_engine.specs.declared.cell.Pin.{Pin}
 -- the level of a slot at a tick: that of the last tell of it at or before the tick, `held` where there is none
 abbrev pub told_level : List LevelEvent → ℕ → Level → ℕ → Level
 told_level [] slot held tick = held
-told_level (tell ∷ tells) slot held tick = told_level tells slot (if tell.slot == slot && nat_le tell.tick tick then tell.level else held) tick
+told_level (event ∷ tells) slot held tick = told_level tells slot (if event.slot == slot && nat_le event.tick tick then event.level else held) tick
 
 -- a tell is right: it is of a told slot of so many, and says what the slot shows from its tick on
-pub record IsRight (trace : ℕ → ℕ → Level) (cells : ℕ → Cell) (count : ℕ) (tell : LevelEvent) : Type 0 where
-  pub slot : tell.slot < count
-  pub told : is_made (cells tell.slot) ≡ false
-  pub level : tell.level ≡ trace tell.slot tell.tick
+pub record IsRight (trace : ℕ → ℕ → Level) (cells : ℕ → Cell) (count : ℕ) (event : LevelEvent) : Type 0 where
+  pub slot : event.slot < count
+  pub told : is_made (cells event.slot) ≡ false
+  pub level : event.level ≡ trace event.slot event.tick
 
 -- what a slot shows changes at a tick only where a tell says so
 abbrev pub IsTold : (ℕ → ℕ → Level) → List LevelEvent → ℕ → ℕ → Type 0
@@ -33,12 +33,12 @@ reach_of nets lines horizon slot =
 
 -- the tells are those of what the told slots show from a tick on, as far as they are told, but for the given ones
 pub record AreTold (trace : ℕ → ℕ → Level) (cells : ℕ → Cell) (gives : ℕ → Bool) (count : ℕ) (reach : ℕ → ℕ) (horizon clock : ℕ) (tells : List LevelEvent) : Type 0 where
-  pub right : (tell : LevelEvent) → Contains tells tell → IsRight trace cells count tell × (clock ≤ tell.tick)
+  pub right : (event : LevelEvent) → Contains tells event → IsRight trace cells count event × (clock ≤ event.tick)
   pub all : (slot tick : ℕ) → slot < count → is_made (cells slot) ≡ false → gives slot ≡ false → clock ≤ tick → tick < clock + reach slot → tick < horizon
       → IsTold trace tells slot tick
 
 -- the tells of a window's ticks [from, upto), by rising ticks, but those of given slots
 pub record AreOfWindow (trace : ℕ → ℕ → Level) (cells : ℕ → Cell) (gives : ℕ → Bool) (count from upto : ℕ) (tells : List LevelEvent) : Type 0 where
-  pub right : (tell : LevelEvent) → Contains tells tell → IsRight trace cells count tell × (from ≤ tell.tick) × (tell.tick < upto)
+  pub right : (event : LevelEvent) → Contains tells event → IsRight trace cells count event × (from ≤ event.tick) × (event.tick < upto)
   pub all : (slot tick : ℕ) → slot < count → is_made (cells slot) ≡ false → gives slot ≡ false → from ≤ tick → tick < upto → IsTold trace tells slot tick
   pub order : AreInOrder tells

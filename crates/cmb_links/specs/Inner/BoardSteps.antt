@@ -2,7 +2,7 @@
 use Rattle.std.specs.Prelude.{◌≡◌, ℕ, ◌+◌, ◌%◌, ◌^◌, List, [], ◌∷◌, slice_index, ◌==◌, true, false, ◌++◌}
 use Rattle.atomic_table.specs.Table.{Me, Step, State}
 use Rattle.cmb_links.specs.Promises.{promise_of_word}
-use Rattle.cmb_links.specs.Seats.{after_publish, after_look, after_raise, after_check, after_finish, after_count, terms, new_view}
+use Rattle.cmb_links.specs.Seats.{after_publish, after_look, after_raise, after_check, after_finish, after_count, board_run, new_view}
 use Rattle.cmb_links.specs.declared.view.View.{View}
 use Rattle.cmb_links.specs.Boards.{Moment}
 use Rattle.cmb_links.specs.Inner.Ends.{no_design}
@@ -10,7 +10,7 @@ use Rattle.cmb_links.specs.Inner.Ends.{no_design}
 -- What the table keeps for a seat is a list: its one view. The seat that closes the board has the views of all, and a seat that was
 -- joined to it has none
 abbrev pub no_view : View
-no_view = new_view (terms no_design record { clusters = 0; assign = [] } 0) 0 false
+no_view = new_view (board_run no_design record { clusters = 0; assign = [] } 0) 0 false
 
 abbrev pub only : List View → View
 only [] = no_view
@@ -25,7 +25,7 @@ abbrev pub cut_left : View → View
 cut_left v = record v { is_last = false }
 
 abbrev pub cut_right : View → View
-cut_right v = new_view v.terms (v.place + 1) true
+cut_right v = new_view v.board_run (v.place + 1) true
 
 -- the words, and the views of all seats in order
 abbrev pub seats_of : State (Unit {0}) (List View) → State (Unit {0}) View

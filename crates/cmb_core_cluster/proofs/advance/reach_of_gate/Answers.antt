@@ -1,6 +1,6 @@
 use Rattle.std.proofs.Common.{◌≡◌, ◌<◌, ◌+◌, min, arith, length, get_or, drop, ap}
 use Rattle.cmb_wave.specs.Wave.{Wave}
-use Rattle.cmb_core_cluster.specs.declared.process.Operand.{Operand}
+use Rattle.cmb_core_cluster.specs.declared.process.ProcessPin.{ProcessPin}
 use Rattle.cmb_core_cluster.specs.Inner.Processes.{gate_reach}
 use Rattle.cmb_core_cluster.specs.Step.{wave_at}
 use Rattle.cmb_core_cluster.proofs.AdvanceLemmas.{gate_reach_le}
@@ -20,7 +20,7 @@ loop-operand-preserved c =
     let i = c.loop-operand.operand-index in
     let os = c.args.operands.now in
     let here : i < length os = omega arith in
-    let none : Operand = record { net = 0; slot = 0; delay = 0 } in
+    let none : ProcessPin = record { net = 0; slot = 0; delay = 0 } in
     let rest : gate_reach c.args.horizon c.args.waves.now (drop i os) ≡ min ((wave_at c.args.waves.now (get_or os i none).net).clock + (get_or os i none).delay) (gate_reach c.args.horizon c.args.waves.now (drop (i + 1) os)) = reach_step c.args.horizon c.args.waves.now os i none here in
     let ready = c.loop-operand.invariant.ready in
     record {

@@ -1,6 +1,6 @@
 use Rattle.std.proofs.Common.{◌+◌, ◌<◌, length, arith, ap, ◌∙◌}
 use Rattle.std.proofs.lemmas.List.{length_push}
-use Rattle.cmb_core_cluster.specs.declared.process.Operand.{Operand}
+use Rattle.cmb_core_cluster.specs.declared.process.ProcessPin.{ProcessPin}
 use Rattle.cmb_core_cluster.proofs.PinLists.{late_step, ready_step}
 use Rattle.cmb_core_cluster.proofs.pins.gate_pins.Goals as goal
 
@@ -9,7 +9,7 @@ loop-operand-preserved c =
     let i = c.loop-operand.operand-index in
     let os = c.args.operands.now in
     let here : i < length os = omega arith in
-    let none : Operand = record { net = 0; slot = 0; delay = 0 } in
+    let none : ProcessPin = record { net = 0; slot = 0; delay = 0 } in
     rw c.in_ok-push.ensures.items (record {
       late = λ t h. late_step c.args.waves.now c.loop-operand.pins.items c.pin_of.result os i none t here (c.loop-operand.invariant.late t h) (c.pin_of.ensures t h);
       count = length_push c.loop-operand.pins.items c.pin_of.result ∙ ap (λ n. n + 1) c.loop-operand.invariant.count;

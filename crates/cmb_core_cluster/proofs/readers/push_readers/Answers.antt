@@ -1,6 +1,6 @@
 use Rattle.std.proofs.Common.{◌≡◌, ◌<◌, ℕ, length, [], map, get_or, arith, sym, ◌∙◌, ap}
 use Rattle.std.proofs.lemmas.List.{get_or_read, length-map}
-use Rattle.cmb_core_cluster.specs.declared.process.Operand.{Operand}
+use Rattle.cmb_core_cluster.specs.declared.process.ProcessPin.{ProcessPin}
 use Rattle.cmb_core_cluster.specs.declared.process.ProcessRule.TheVariants.{Given}
 use Rattle.cmb_core_cluster.specs.Rows.{Process, is_given}
 use Rattle.cmb_core_cluster.specs.Directory.{given_at}
@@ -10,10 +10,10 @@ use Rattle.cmb_core_cluster.proofs.readers.push_readers.Goals.{then-is_given+in_
 
 pub loop-operand-preserved : goal.loop-operand-preserved
 loop-operand-preserved c = λ place h.
-    let none : Operand = record { net = 0; slot = 0; delay = 0 } in
+    let none : ProcessPin = record { net = 0; slot = 0; delay = 0 } in
     let no_process : Process = record { rule = Given; operands = []; stimulus = [] } in
     let i : ℕ = c.loop-operand.operand-index in
-    let o : Operand = get_or c.args.operands.now i none in
+    let o : ProcessPin = get_or c.args.operands.now i none in
     let here : i < length c.args.operands.now = omega arith in
     let there : o.slot < length c.args.nodes.now = c.requires.within i none here in
     let read : c.index-nodes-place.result ≡ get_or c.args.nodes.now o.slot no_process = get_or_read _ _ _ there c.index-nodes-place.is no_process in

@@ -2,7 +2,7 @@ use Rattle.std.proofs.Common.{◌≡◌, ◌<◌, length, List, [], ◌++◌, ma
 use Rattle.std.specs.Prelude.{All}
 use Rattle.std.proofs.lemmas.List.{get_or_read, length-map, length-replicate, get_or-replicate, take_all, take_at}
 use Rattle.std.proofs.lemmas.List.FromFn.{fill_by_all}
-use Rattle.cmb_core_cluster.specs.declared.process.Operand.{Operand}
+use Rattle.cmb_core_cluster.specs.declared.process.ProcessPin.{ProcessPin}
 use Rattle.cmb_core_cluster.specs.declared.process.ProcessRule.TheVariants.{Given}
 use Rattle.cmb_core_cluster.specs.declared.directory.Reader.{Reader}
 use Rattle.cmb_core_cluster.specs.Rows.{Process}
@@ -20,7 +20,7 @@ pub push_readers-requires : goal.push_readers-requires
 push_readers-requires c =
     let none : Process = record { rule = Given; operands = []; stimulus = [] } in
     let read : c.index-nodes-slot.result ≡ get_or c.args.nodes.now c.loop-slot.slot none = get_or_read _ _ _ c.loop-slot-test.true c.index-nodes-slot.is none in
-    let P : List Operand → Type 0 = λ os. All (λ o. o.slot < length c.args.nodes.now) os in
+    let P : List ProcessPin → Type 0 = λ os. All (λ o. o.slot < length c.args.nodes.now) os in
     record {
       within = subst P (sym (c.operands.ensures ∙ ap (λ p. p.operands) read)) (c.requires.within c.loop-slot.slot none c.loop-slot-test.true);
       paired = ap length c.deref_mut.ensures.value ∙ c.loop-slot.invariant.count;

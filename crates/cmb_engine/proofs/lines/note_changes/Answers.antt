@@ -49,7 +49,7 @@ loop-place-preserved c =
     record {
       within = All-rest (λ (place : ℕ). (c.args.first ≤ place) × (place < 64)) c.in-Some.place c.next.new.self c.loop-place.place-iterator c.in-Some.ensures.steps c.loop-place.invariant.within;
       notes = notes-more
-          (IsOfPlaces c.args.word c.args.slot c.args.delay c.args.to c.loop-place.yielded) (λ tell. tell ≡ one)
+          (IsOfPlaces c.args.word c.args.slot c.args.delay c.args.to c.loop-place.yielded) (λ event. event ≡ one)
           (IsOfPlaces c.args.word c.args.slot c.args.delay c.args.to (c.loop-place.yielded ++ c.in-Some.place ∷ []))
           c.args.calendar.now c.loop-place.calendar c.note.new.self c.loop-place.invariant.ticks.horizon
           (place-parts c.args.word c.args.slot c.args.delay c.args.to c.loop-place.yielded c.in-Some.place one is)

@@ -24,7 +24,7 @@ x-where X e = refl
 
 -- a tell is of the start of a line below one
 abbrev IsBelow : (ℕ → ℕ → Level) → List Pin → ℕ → ℕ → LevelEvent → Type 0
-IsBelow words lines nets number tell = (start : IsOfStart words lines nets tell) × (start.number < number)
+IsBelow words lines nets number event = (start : IsOfStart words lines nets event) × (start.number < number)
 
 abbrev start_to : Pin → ℕ → ℕ → Level → LevelEvent
 start_to line nets number level = record { tick = line.delay; slot = nets + number; level = level }
@@ -39,37 +39,37 @@ module _ (words : ℕ → ℕ → Level) (lines : List Pin) (nets number : ℕ) 
   here = slice_get-get_or lines number d inside
 
   -- the line of a start that isn't one below
-  line-is : (tell : LevelEvent) (h : IsBelow words lines nets (number + 1) tell) → number ≤ h.0.number → (h.0.number ≡ number) × (h.0.line ≡ get_or lines number d)
-  line-is tell h l =
+  line-is : (event : LevelEvent) (h : IsBelow words lines nets (number + 1) event) → number ≤ h.0.number → (h.0.number ≡ number) × (h.0.line ≡ get_or lines number d)
+  line-is event h l =
       let e : h.0.number ≡ number = omega (arith, l, h.1) in
       (e, sym (get_or_from_slice_get lines number h.0.line d (ap (slice_get lines) (sym e) ∙ h.0.has_number)))
 
   starts-noted : words (get_or lines number d).net 63 ≢ X → Notes between new (start_of words (get_or lines number d) nets number)
       → NotesEach (IsBelow words lines nets (number + 1)) old new
   starts-noted known noted =
-      notes-more (IsBelow words lines nets number) (λ tell. tell ≡ start_of words (get_or lines number d) nets number) (IsBelow words lines nets (number + 1)) old between new same
-      (λ tell h. parts tell h (cases_lt h.0.number number)) (λ tell h. (h.0, omega (arith, h.1))) last so_far
+      notes-more (IsBelow words lines nets number) (λ event. event ≡ start_of words (get_or lines number d) nets number) (IsBelow words lines nets (number + 1)) old between new same
+      (λ event h. parts event h (cases_lt h.0.number number)) (λ event h. (h.0, omega (arith, h.1))) last so_far
       (notes-one between new (start_of words (get_or lines number d) nets number) noted)
     where
-      parts : (tell : LevelEvent) (h : IsBelow words lines nets (number + 1) tell) → (h.0.number < number) ⊎ (number ≤ h.0.number)
-          → IsBelow words lines nets number tell ⊎ (tell ≡ start_of words (get_or lines number d) nets number)
-      parts tell h (inl l) = inl (h.0, l)
-      parts tell h (inr l) =
-          let e = line-is tell h l in
+      parts : (event : LevelEvent) (h : IsBelow words lines nets (number + 1) event) → (h.0.number < number) ⊎ (number ≤ h.0.number)
+          → IsBelow words lines nets number event ⊎ (event ≡ start_of words (get_or lines number d) nets number)
+      parts event h (inl l) = inl (h.0, l)
+      parts event h (inr l) =
+          let e = line-is event h l in
           inr (h.0.is ∙ ap (λ (n : ℕ). start_of words h.0.line nets n) e.0 ∙ ap (λ (line : Pin). start_of words line nets number) e.1)
 
-      last : (tell : LevelEvent) → tell ≡ start_of words (get_or lines number d) nets number → IsBelow words lines nets (number + 1) tell
-      last tell is = (record { number = number; line = get_or lines number d; has_number = here; known = known; is = is }, omega arith)
+      last : (event : LevelEvent) → event ≡ start_of words (get_or lines number d) nets number → IsBelow words lines nets (number + 1) event
+      last event is = (record { number = number; line = get_or lines number d; has_number = here; known = known; is = is }, omega arith)
 
   starts-passed : words (get_or lines number d).net 63 ≡ X → NotesEach (IsBelow words lines nets (number + 1)) old between
   starts-passed unknown =
       notes-as (IsBelow words lines nets number) (IsBelow words lines nets (number + 1)) old between
-      (λ tell h. (h.0, omega (arith, h.1))) (λ tell h. kept tell h (cases_lt h.0.number number)) so_far
+      (λ event h. (h.0, omega (arith, h.1))) (λ event h. kept event h (cases_lt h.0.number number)) so_far
     where
-      kept : (tell : LevelEvent) (h : IsBelow words lines nets (number + 1) tell) → (h.0.number < number) ⊎ (number ≤ h.0.number) → IsBelow words lines nets number tell
-      kept tell h (inl l) = (h.0, l)
-      kept tell h (inr l) =
-          let e = line-is tell h l in
+      kept : (event : LevelEvent) (h : IsBelow words lines nets (number + 1) event) → (h.0.number < number) ⊎ (number ≤ h.0.number) → IsBelow words lines nets number event
+      kept event h (inl l) = (h.0, l)
+      kept event h (inr l) =
+          let e = line-is event h l in
           absurd (h.0.known (ap (λ (line : Pin). words line.net 63) e.1 ∙ unknown))
 
 none : Pin
@@ -110,4 +110,4 @@ returns-clause-notes c =
     let words : ℕ → ℕ → Level = levels_of c.args.words.now in
     let lines : List Pin = c.args.lines.now in
     notes-as (IsBelow words lines c.args.nets c.loop-number.number) (IsOfStart words lines c.args.nets) c.args.calendar.now c.loop-number.calendar
-    (λ tell h. h.0) (λ tell h. (h, omega (arith, slice_get_within lines h.number h.line h.has_number, c.loop-number-test.false))) c.loop-number.invariant.notes
+    (λ event h. h.0) (λ event h. (h, omega (arith, slice_get_within lines h.number h.line h.has_number, c.loop-number-test.false))) c.loop-number.invariant.notes

@@ -7,6 +7,6 @@ use Rattle.cmb_engine.proofs.stimuli.note_starts.Given as goal
 
 abbrev pub invariant-loop-number : goal.invariant-loop-number
 invariant-loop-number l = record {
-  notes : NotesEach (λ tell. (start : IsOfStart (levels_of l.words) l.lines l.nets tell) × (start.number < l.number)) l.initial.calendar l.calendar;
+  notes : NotesEach (λ event. (start : IsOfStart (levels_of l.words) l.lines l.nets event) × (start.number < l.number)) l.initial.calendar l.calendar;
   ticks : SameTicks l.initial.calendar l.calendar;
 }

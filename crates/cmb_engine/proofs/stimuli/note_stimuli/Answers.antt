@@ -21,13 +21,13 @@ loop-net-preserved c =
     omega (arith, ap (λ (netlist : Netlist). length netlist.names) c.netlist.ensures, c.loop-net-test.true, c.len-net-end.ensures.value) in
     elim c.if-is_driven_input.branch [
       | then-is_driven_input+in_ok-note_stimulus w ↦ record {
-        notes = subst (λ (calendar : Calendar). NotesEach (λ tell. IsOfInput design roles tell × (tell.slot < c.loop-net.net + 1)) old calendar) (sym w.calendar-is)
+        notes = subst (λ (calendar : Calendar). NotesEach (λ event. IsOfInput design roles event × (event.slot < c.loop-net.net + 1)) old calendar) (sym w.calendar-is)
             (inputs-noted design roles c.loop-net.net old c.loop-net.calendar w.note_stimulus.new.calendar c.loop-net.invariant.ticks.horizon c.loop-net.invariant.notes inside
             (c.is_driven_input.ensures.so w.if-is_driven_input.true) w.in_ok-note_stimulus.ensures.notes);
         ticks = subst (λ (calendar : Calendar). SameTicks old calendar) (sym w.calendar-is) (ticks-on old c.loop-net.calendar w.note_stimulus.new.calendar c.loop-net.invariant.ticks w.note_stimulus.ensures.ticks);
       }
       | else-is_driven_input w ↦ record {
-        notes = subst (λ (calendar : Calendar). NotesEach (λ tell. IsOfInput design roles tell × (tell.slot < c.loop-net.net + 1)) old calendar) (sym w.calendar-is)
+        notes = subst (λ (calendar : Calendar). NotesEach (λ event. IsOfInput design roles event × (event.slot < c.loop-net.net + 1)) old calendar) (sym w.calendar-is)
             (inputs-passed design roles c.loop-net.net old c.loop-net.calendar c.loop-net.calendar c.loop-net.invariant.ticks.horizon c.loop-net.invariant.notes
             (λ is driven. false≢true (sym w.if-is_driven_input.false ∙ c.is_driven_input.ensures.all is driven)));
         ticks = subst (λ (calendar : Calendar). SameTicks old calendar) (sym w.calendar-is) c.loop-net.invariant.ticks;

@@ -6,6 +6,6 @@ use Rattle.cmb_engine.proofs.stimuli.note_stimuli.Given as goal
 
 abbrev pub invariant-loop-net : goal.invariant-loop-net
 invariant-loop-net l = record {
-  notes : NotesEach (λ tell. IsOfInput l.design l.roles tell × (tell.slot < l.net)) l.initial.calendar l.calendar;
+  notes : NotesEach (λ event. IsOfInput l.design l.roles event × (event.slot < l.net)) l.initial.calendar l.calendar;
   ticks : SameTicks l.initial.calendar l.calendar;
 }

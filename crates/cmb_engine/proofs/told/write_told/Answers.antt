@@ -20,71 +20,71 @@ abbrev none : LevelEvent
 none = record { tick = 0; slot = 0; level = Zero }
 
 -- what is required of each tell that is listed
-listed : (P : LevelEvent → Type 0) (tells : List LevelEvent) (i : ℕ) → ((tell : LevelEvent) → Contains tells tell → P tell) → i < length tells → P (get_or tells i none)
+listed : (P : LevelEvent → Type 0) (tells : List LevelEvent) (i : ℕ) → ((event : LevelEvent) → Contains tells event → P event) → i < length tells → P (get_or tells i none)
 listed P tells i all below = all (get_or tells i none) (Contains-get_or tells i none below)
 
 pub bounds-words-slot : goal.bounds-words-slot
 bounds-words-slot c =
-    let facts = listed _ _ _ c.requires.slots c.loop-tell-test.true in
-    omega (arith, facts.0, c.loop-tell.invariant.writes.len)
+    let facts = listed _ _ _ c.requires.slots c.loop-event-test.true in
+    omega (arith, facts.0, c.loop-event.invariant.writes.len)
 
-pub overflow_add-tell : goal.overflow_add-tell
-overflow_add-tell c =
-    let facts = listed _ _ _ c.requires.slots c.loop-tell-test.true in
+pub overflow_add-event : goal.overflow_add-event
+overflow_add-event c =
+    let facts = listed _ _ _ c.requires.slots c.loop-event-test.true in
     omega (arith, facts.3, c.requires.to)
 
-pub overflow_sub-tell : goal.overflow_sub-tell
-overflow_sub-tell c =
-    let facts = listed _ _ _ c.requires.slots c.loop-tell-test.true in
+pub overflow_sub-event : goal.overflow_sub-event
+overflow_sub-event c =
+    let facts = listed _ _ _ c.requires.slots c.loop-event-test.true in
     omega (arith, facts.2)
 
 pub with_from-word-requires : goal.with_from-word-requires
 with_from-word-requires c =
-    let facts = listed _ _ _ c.requires.slots c.loop-tell-test.true in
+    let facts = listed _ _ _ c.requires.slots c.loop-event-test.true in
     omega (arith, facts.2, facts.3)
 
 pub of-requires : goal.of-requires
 of-requires c =
-    let facts = listed _ _ _ c.requires.slots c.loop-tell-test.true in
+    let facts = listed _ _ _ c.requires.slots c.loop-event-test.true in
     omega (arith, facts.0, c.requires.lists)
 
 pub put_word-requires : goal.put_word-requires
 put_word-requires c =
-    let facts = listed _ _ _ c.requires.slots c.loop-tell-test.true in
-    let place : ℕ = (get_or c.args.tells.now c.loop-tell.tell-index none).slot in
+    let facts = listed _ _ _ c.requires.slots c.loop-event-test.true in
+    let place : ℕ = (get_or c.args.tells.now c.loop-event.event-index none).slot in
     record {
-      slot = omega (arith, facts.0, c.loop-tell.invariant.writes.len);
+      slot = omega (arith, facts.0, c.loop-event.invariant.writes.len);
       within = λ k d small.
           let below : get_or c.of.result.now k d < 64 * length c.args.marks.now =
           subst (λ (readers : List ℕ). get_or readers k d < 64 * length c.args.marks.now) (sym c.of.ensures)
           (c.requires.within place k d (subst (λ (readers : List ℕ). k < length readers) c.of.ensures small)) in
-          omega (arith, below, c.loop-tell.invariant.writes.room);
-      live = omega (arith, c.requires.live, c.loop-tell.invariant.writes.len, c.loop-tell.invariant.writes.live_room);
+          omega (arith, below, c.loop-event.invariant.writes.room);
+      live = omega (arith, c.requires.live, c.loop-event.invariant.writes.len, c.loop-event.invariant.writes.live_room);
     }
 
-pub loop-tell-preserved : goal.loop-tell-preserved
-loop-tell-preserved c =
-    let tell : LevelEvent = get_or c.args.tells.now c.loop-tell.tell-index none in
+pub loop-event-preserved : goal.loop-event-preserved
+loop-event-preserved c =
+    let event : LevelEvent = get_or c.args.tells.now c.loop-event.event-index none in
     let lists : List (List ℕ) = c.args.readers.now in
-    let facts = listed _ _ _ c.requires.slots c.loop-tell-test.true in
-    let inside : tell.slot < length c.loop-tell.words = omega (arith, facts.0, c.loop-tell.invariant.writes.len) in
+    let facts = listed _ _ _ c.requires.slots c.loop-event-test.true in
+    let inside : event.slot < length c.loop-event.words = omega (arith, facts.0, c.loop-event.invariant.writes.len) in
     record {
-      writes = writes-on c.args.words.now c.loop-tell.words c.put_word.new.words c.args.live.now c.loop-tell.live c.put_word.new.live c.args.marks.now c.loop-tell.marks c.put_word.new.marks
-          c.loop-tell.invariant.writes c.put_word.ensures.writes;
+      writes = writes-on c.args.words.now c.loop-event.words c.put_word.new.words c.args.live.now c.loop-event.live c.put_word.new.live c.args.marks.now c.loop-event.marks c.put_word.new.marks
+          c.loop-event.invariant.writes c.put_word.ensures.writes;
       words = λ slot place small.
           ap (λ (words : List Word). levels_of words slot place) c.put_word.ensures.words
-          ∙ told-written c.loop-tell.words tell c.with_from-word.result c.args.to slot place inside facts.1 facts.2
-          (λ i l. c.with_from-word.ensures.below i l ∙ sym (levels_of-read c.loop-tell.words tell.slot c.index-words-slot.result i inside c.index-words-slot.is))
+          ∙ told-written c.loop-event.words event c.with_from-word.result c.args.to slot place inside facts.1 facts.2
+          (λ i l. c.with_from-word.ensures.below i l ∙ sym (levels_of-read c.loop-event.words event.slot c.index-words-slot.result i inside c.index-words-slot.is))
           c.with_from-word.ensures.from small
-          ∙ ap (λ (held : Level). told_level (tell ∷ []) slot held (c.args.to + place - 64)) (c.loop-tell.invariant.words slot place small)
-          ∙ sym (told-more c.args.tells.now c.loop-tell.tell-index none slot (levels_of c.args.words.now slot place) (c.args.to + place - 64) c.loop-tell-test.true);
+          ∙ ap (λ (held : Level). told_level (event ∷ []) slot held (c.args.to + place - 64)) (c.loop-event.invariant.words slot place small)
+          ∙ sym (told-more c.args.tells.now c.loop-event.event-index none slot (levels_of c.args.words.now slot place) (c.args.to + place - 64) c.loop-event-test.true);
       news = λ k d l.
-          elim (cases_lt k c.loop-tell.tell-index) [
-            | inl before ↦ λ j small. c.put_word.ensures.writes.marks _ (c.loop-tell.invariant.news k d before j small)
+          elim (cases_lt k c.loop-event.event-index) [
+            | inl before ↦ λ j small. c.put_word.ensures.writes.marks _ (c.loop-event.invariant.news k d before j small)
             | inr now ↦
-                let e : c.loop-tell.tell-index ≡ k = omega (arith, l, now) in
-                let here : tell ≡ get_or c.args.tells.now k d =
-                get_or_default c.args.tells.now c.loop-tell.tell-index none d c.loop-tell-test.true ∙ ap (λ (n : ℕ). get_or c.args.tells.now n d) e in
+                let e : c.loop-event.event-index ≡ k = omega (arith, l, now) in
+                let here : event ≡ get_or c.args.tells.now k d =
+                get_or_default c.args.tells.now c.loop-event.event-index none d c.loop-event-test.true ∙ ap (λ (n : ℕ). get_or c.args.tells.now n d) e in
                 subst (λ (t : LevelEvent). AreMarked (has c.put_word.new.marks) (get_or lists t.slot [])) here
                 (subst (λ (readers : List ℕ). AreMarked (has c.put_word.new.marks) readers) c.of.ensures c.put_word.ensures.news)
           ];
@@ -92,10 +92,10 @@ loop-tell-preserved c =
 
 pub returns-clause-words : goal.returns-clause-words
 returns-clause-words c = λ slot place inside small.
-    c.loop-tell.invariant.words slot place small
-    ∙ ap (λ (tells : List LevelEvent). told_level tells slot (levels_of c.args.words.now slot place) (c.args.to + place - 64)) (take_all c.loop-tell.tell-index c.args.tells.now c.loop-tell-test.false)
+    c.loop-event.invariant.words slot place small
+    ∙ ap (λ (tells : List LevelEvent). told_level tells slot (levels_of c.args.words.now slot place) (c.args.to + place - 64)) (take_all c.loop-event.event-index c.args.tells.now c.loop-event-test.false)
 
 pub returns-clause-news : goal.returns-clause-news
-returns-clause-news c = λ tell among.
-    subst (λ (t : LevelEvent). AreMarked (has c.loop-tell.marks) (get_or c.args.readers.now t.slot [])) among.2
-    (c.loop-tell.invariant.news among.0 tell (omega (arith, among.1, c.loop-tell-test.false)))
+returns-clause-news c = λ event among.
+    subst (λ (t : LevelEvent). AreMarked (has c.loop-event.marks) (get_or c.args.readers.now t.slot [])) among.2
+    (c.loop-event.invariant.news among.0 event (omega (arith, among.1, c.loop-event-test.false)))

@@ -6,10 +6,10 @@ use Rattle.cmb_engine.specs.Inner.Tells.{told_level}
 use Rattle.cmb_engine.specs.Inner.Words.{levels_of, Writes}
 use Rattle.cmb_engine.proofs.told.write_told.Given as goal
 
-abbrev pub invariant-loop-tell : goal.invariant-loop-tell
-invariant-loop-tell l = record {
+abbrev pub invariant-loop-event : goal.invariant-loop-event
+invariant-loop-event l = record {
   writes : Writes l.initial.words l.words l.initial.live l.live l.initial.marks l.marks;
   words : (slot place : ℕ) → place < 64
-      → levels_of l.words slot place ≡ told_level (take l.tell-index l.tells) slot (levels_of l.initial.words slot place) (l.to + place - 64);
-  news : (k : ℕ) (d : LevelEvent) → k < l.tell-index → AreMarked (has l.marks) (get_or l.readers (get_or l.tells k d).slot []);
+      → levels_of l.words slot place ≡ told_level (take l.event-index l.tells) slot (levels_of l.initial.words slot place) (l.to + place - 64);
+  news : (k : ℕ) (d : LevelEvent) → k < l.event-index → AreMarked (has l.marks) (get_or l.readers (get_or l.tells k d).slot []);
 }

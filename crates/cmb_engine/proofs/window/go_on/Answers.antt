@@ -16,8 +16,8 @@ use Rattle.cmb_engine.proofs.WindowFacts.{IsBegun, IsWindow, marked-kept, window
 use Rattle.cmb_engine.proofs.window.go_on.Goals as goal
 
 pub write_told-requires-clause-slots : goal.write_told-requires-clause-slots
-write_told-requires-clause-slots c = λ tell among.
-    let told = c.requires.told tell among in
+write_told-requires-clause-slots c = λ event among.
+    let told = c.requires.told event among in
     (omega (arith, told.0, c.move_on.ensures.len), omega (arith, told.2, c.requires.later), omega (arith, told.2, c.requires.fits), told.3)
 
 pub settle-requires : goal.settle-requires
@@ -89,7 +89,7 @@ returns-clause-shows c = λ trace meets shows right given slot place inside smal
           unmarked-kept trace cells roles (c.args.to - c.args.ticks) c.args.ticks c.args.to (64 - c.args.ticks) c.args.wiring.now.most window
           (levels_of c.args.words.now) (levels_of c.move_on.new.words) (levels_of c.write_told.new.words) (levels_of c.write_given.new.words)
           shown_before c.move_on.ensures.moved c.args.tells.now tells c.args.given.now given c.requires.gives told_words writes lists c.mark_arrivals-opened.new.marks
-          (λ tell among k l. c.mark_arrivals-opened.ensures.kept _ (c.write_given.ensures.writes.marks _ (c.write_told.ensures.news tell among k l)))
+          (λ event among k l. c.mark_arrivals-opened.ensures.kept _ (c.write_given.ensures.writes.marks _ (c.write_told.ensures.news event among k l)))
           (λ s h k l. c.mark_arrivals-opened.ensures.kept _ (given_news s h k l));
       made = λ s p m l.
           made-kept trace cells roles (c.args.to - c.args.ticks) c.args.ticks c.args.to (64 - c.args.ticks) c.args.wiring.now.most window

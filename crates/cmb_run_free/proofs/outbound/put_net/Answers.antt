@@ -9,17 +9,17 @@ use Rattle.cmb_run_free.proofs.outbound.put_net.Goals as goal
 
 pub returns-in-Some-clause-outlet : goal.returns-in-Some-clause-outlet
 returns-in-Some-clause-outlet g c =
-    let cut : IsCut g.T.Terms.design.horizon c.args.outlet.now c.cut.new.self (Some c.in-Some.posted) = rw c.in-Some.is at c.in_ok-posted.ensures.cut in
-    subst (λ (pass : PutData). IsOutlet g.T.Terms.design.horizon pass c.cut.new.self) (sym c.put_or_keep.ensures.due)
-    (IsOutlet-put g.T.Terms.design.horizon c.args.end.now c.args.outlet.now c.cut.new.self c.in-Some.posted c.requires.outlet c.cut.ensures.net cut)
+    let cut : IsCut g.T.ClusterRun.design.horizon c.args.outlet.now c.cut.new.self (Some c.in-Some.posted) = rw c.in-Some.is at c.in_ok-posted.ensures.cut in
+    subst (λ (pass : PutData). IsOutlet g.T.ClusterRun.design.horizon pass c.cut.new.self) (sym c.put_or_keep.ensures.due)
+    (IsOutlet-put g.T.ClusterRun.design.horizon c.args.end.now c.args.outlet.now c.cut.new.self c.in-Some.posted c.requires.outlet c.cut.ensures.net cut)
 
 pub returns-in-Some-clause-further : goal.returns-in-Some-clause-further
 returns-in-Some-clause-further g c = subst (IsFurther c.args.end.now) (sym c.put_or_keep.ensures.due) (IsFurther-put c.args.end.now c.in-Some.posted)
 
 pub returns-in-Some-clause-goes : goal.returns-in-Some-clause-goes
 returns-in-Some-clause-goes g c =
-    let design = g.T.Terms.design in
-    let clustering = g.T.Terms.clustering in
+    let design = g.T.ClusterRun.design in
+    let clustering = g.T.ClusterRun.clustering in
     let cluster = c.args.cluster.now in
     let pass = c.args.end.now in
     let piece = c.in-Some.posted in

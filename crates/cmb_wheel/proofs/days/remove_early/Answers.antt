@@ -16,7 +16,7 @@ loop-day-preserved c =
     let list : (get_or days day c.index-days-day.result).items ≡ get_or (lists_of days) day [] =
     sym (get_or-map (λ list. list.items) days day c.index-days-day.result [] (omega (arith, c.loop-day-test.true, c.requires.within, c.loop-day.auto.days))) in
     let left : c.retain.new.self.items ≡ late_of c.args.upto (get_or (lists_of days) day []) =
-    filter_same _ (λ tell. nat_le c.args.upto tell.tick) _ (λ a r q k. search rules) _ _ c.retain.ensures.filtered ∙ ap (λ (list : List LevelEvent). late_of c.args.upto list) list in
+    filter_same _ (λ event. nat_le c.args.upto event.tick) _ (λ a r q k. search rules) _ _ c.retain.ensures.filtered ∙ ap (λ (list : List LevelEvent). late_of c.args.upto list) list in
     clears-more before c.args.first c.args.upto day (lists_of days) _ (omega (arith, c.loop-day.auto.day)) inside c.loop-day.invariant
     (map-set (λ list. list.items) days day c.retain.new.self ∙ ap (λ (list : List LevelEvent). set (lists_of days) day list) left)
 

@@ -20,10 +20,10 @@ use Rattle.cmb_engine.proofs.state.State.advance.Goals as goal
 use Rattle.cmb_engine.proofs.state.State.advance.Goals.{After-note_lines}
 
 pub go_on-requires-clause-told : goal.go_on-requires-clause-told
-go_on-requires-clause-told c = λ tell h.
+go_on-requires-clause-told c = λ event h.
     let told = told-slots c.args.design.now c.args.circuit.now c.args.self.now c.requires.circuit c.requires.state c.take.new.self c.take.new.taken.items
-    c.args.upto c.requires.later c.requires.short c.requires.within c.in_ok-take.ensures.takes c.in_ok-take.ensures.order tell
-    (subst (λ (xs : List LevelEvent). Contains xs tell) c.deref.ensures.value h) in
+    c.args.upto c.requires.later c.requires.short c.requires.within c.in_ok-take.ensures.takes c.in_ok-take.ensures.order event
+    (subst (λ (xs : List LevelEvent). Contains xs event) c.deref.ensures.value h) in
     (omega (arith, told.0, c.requires.state.slots, ap length c.deref_mut.ensures.value), told.1, told.2, told.3)
 
 pub go_on-requires-clause-gives : goal.go_on-requires-clause-gives

@@ -2,9 +2,9 @@ use Rattle.std.proofs.Common.{◌≡◌, ◌+◌, ◌<◌, ◌≤◌, ◌++◌, 
 use Rattle.std.proofs.lemmas.List.FromFn.{map-range_with_len_more}
 use Rattle.std.specs.List.{range_with_len}
 use Rattle.cmb_design_model.specs.Exact.{nets_of}
-use Rattle.cmb_links.specs.Seats.{new_view, new_seat, new_seats, terms}
+use Rattle.cmb_links.specs.Seats.{new_view, new_seat, new_seats, board_run}
 use Rattle.cmb_links.specs.Inner.BoardSteps.{cut_left, cut_right, only}
-use Rattle.cmb_links.specs.declared.view.BoardTerms.{BoardTerms}
+use Rattle.cmb_links.specs.declared.view.BoardRun.{BoardRun}
 use Rattle.cmb_links.specs.declared.view.View.{View}
 use Rattle.cmb_links.proofs.Seats.{opens, cuts, all_seats}
 use Rattle.cmb_links.proofs.board.Board.open.Goals as goal
@@ -24,15 +24,15 @@ split_seat-next-requires c =
     let one = ap (λ m. m.0) kept.me in
     let v = only c.loop-place.last.me.0 in
     let wide = kept.words in
-    let is : v ≡ new_view (terms c.args.design.now c.args.clustering.now c.args.workers) c.loop-place._place true = ap only one in
-    let room : v.place < v.terms.workers = rw is (omega arith) in
+    let is : v ≡ new_view (board_run c.args.design.now c.args.clustering.now c.args.workers) c.loop-place._place true = ap only one in
+    let room : v.place < v.board_run.workers = rw is (omega arith) in
     (kept.board, omega arith, cuts _ _ _ (one ∙ ap (λ u. u ∷ []) (sym is)) (ap (λ (u : View). u.is_last) is) room)
 
 pub loop-place-preserved : goal.loop-place-preserved
 loop-place-preserved c =
     let kept = c.loop-place.invariant in
     let place = c.loop-place._place in
-    let t : BoardTerms = terms c.args.design.now c.args.clustering.now c.args.workers in
+    let t : BoardRun = board_run c.args.design.now c.args.clustering.now c.args.workers in
     let board = c.in_ok-table.table.shared.table_id in
     let cut = c.split_seat-next.ensures in
     let b : c.replace.result.table_id ≡ board = ap (λ s. s.table_id) c.replace.ensures.value ∙ cut.0 ∙ kept.board in
@@ -48,10 +48,10 @@ loop-place-preserved c =
     }
 
 -- the seats of the workers, and the last one
-opened : (c : goal.After-drop-words-2) → c.push_reserved-2.new.self.items ≡ new_seats c.in_ok-table.table.shared.table_id (terms c.args.design.now c.args.clustering.now c.args.workers)
+opened : (c : goal.After-drop-words-2) → c.push_reserved-2.new.self.items ≡ new_seats c.in_ok-table.table.shared.table_id (board_run c.args.design.now c.args.clustering.now c.args.workers)
 opened c =
     let kept = c.loop-place.invariant in
-    let t : BoardTerms = terms c.args.design.now c.args.clustering.now c.args.workers in
+    let t : BoardRun = board_run c.args.design.now c.args.clustering.now c.args.workers in
     let board = c.in_ok-table.table.shared.table_id in
     let all : c.loop-place._place ≡ c.args.workers = omega (arith, c.loop-place-test.false, c.count-count.ensures.count) in
     c.push_reserved-2.ensures.items ∙ (λ i. kept.seats i ++ record { board = kept.board i; view = only (kept.me i).0 } ∷ [])
@@ -61,4 +61,4 @@ pub returns-clause-seats : goal.returns-clause-seats
 returns-clause-seats c = opened c
 
 pub returns-clause-board : goal.returns-clause-board
-returns-clause-board c = rw (opened c) (all_seats c.in_ok-table.table.shared.table_id (terms c.args.design.now c.args.clustering.now c.args.workers))
+returns-clause-board c = rw (opened c) (all_seats c.in_ok-table.table.shared.table_id (board_run c.args.design.now c.args.clustering.now c.args.workers))

@@ -3,7 +3,7 @@ use Rattle.std.specs.Arc.{arc_value}
 use Rattle.std.specs.Prelude.{All}
 use Rattle.std.proofs.lemmas.List.{get_or-drop}
 use Rattle.std.proofs.lemmas.List.Elements.{All-get_or}
-use Rattle.cmb_links.specs.Seats.{IsSeatOf, terms}
+use Rattle.cmb_links.specs.Seats.{IsSeatOf, board_run}
 use Rattle.cmb_run_free.proofs.crew.Crew.open.Goals as goal
 
 -- one is left
@@ -37,6 +37,6 @@ invariant_of-result g c =
     let all = c.in_ok-board.seats.items in
     let count : length all ≡ c.args.workers + 1 = omega (arith, opened.count) in
     record {
-      same = (left_has (IsSeatOf (arc_value c.in_ok-board.board) (terms c.args.design.now c.args.clustering.now c.args.workers)) all c.add_workers.new.seats.items c.args.workers
+      same = (left_has (IsSeatOf (arc_value c.in_ok-board.board) (board_run c.args.design.now c.args.clustering.now c.args.workers)) all c.add_workers.new.seats.items c.args.workers
           c.remove-seat.result opened.board count (rw (← opened.seats) at c.in_ok-add_workers.ensures) c.remove-seat.ensures.value).0;
     }

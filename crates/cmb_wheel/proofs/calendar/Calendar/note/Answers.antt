@@ -7,27 +7,27 @@ use Rattle.cmb_wheel.specs.declared.event.LevelEvent.{LevelEvent}
 use Rattle.cmb_wheel.proofs.DayFacts.{lists_of, days-more, tells-more}
 use Rattle.cmb_wheel.proofs.calendar.Calendar.note.Goals as goal
 
-module _ (c : goal.In_ok-push_tell) where
-  written : lists_of (with_items c.self.inside.days c.push_tell.new.days).items
-      ≡ set (lists_of c.self.inside.days.items) (c.args.tell.tick / 64)
-      (get_or (lists_of c.self.inside.days.items) (c.args.tell.tick / 64) [] ++ c.args.tell ∷ [])
+module _ (c : goal.In_ok-push_event) where
+  written : lists_of (with_items c.self.inside.days c.push_event.new.days).items
+      ≡ set (lists_of c.self.inside.days.items) (c.args.event.tick / 64)
+      (get_or (lists_of c.self.inside.days.items) (c.args.event.tick / 64) [] ++ c.args.event ∷ [])
   written =
-      ap lists_of (with_items_is c.self.inside.days c.push_tell.new.days (omega (arith, ap length c.deref_mut.ensures.value)))
-      ∙ c.in_ok-push_tell.ensures.added
-      ∙ ap (λ (days : List (Vec LevelEvent Global)). set (lists_of days) (c.args.tell.tick / 64)
-      (get_or (lists_of days) (c.args.tell.tick / 64) [] ++ c.args.tell ∷ [])) c.deref_mut.ensures.value
+      ap lists_of (with_items_is c.self.inside.days c.push_event.new.days (omega (arith, ap length c.deref_mut.ensures.value)))
+      ∙ c.in_ok-push_event.ensures.added
+      ∙ ap (λ (days : List (Vec LevelEvent Global)). set (lists_of days) (c.args.event.tick / 64)
+      (get_or (lists_of days) (c.args.event.tick / 64) [] ++ c.args.event ∷ [])) c.deref_mut.ensures.value
 
-  later : c.self.inside.clock ≤ c.args.tell.tick
-  later = subst (λ (calendar : Calendar). calendar.clock ≤ c.args.tell.tick) (sym c.self.view_is) c.requires.later
+  later : c.self.inside.clock ≤ c.args.event.tick
+  later = subst (λ (calendar : Calendar). calendar.clock ≤ c.args.event.tick) (sym c.self.view_is) c.requires.later
 
 pub invariant_of-self : goal.invariant_of-self
 invariant_of-self c =
-    days-more c.self.inside.horizon c.self.inside.clock (lists_of c.self.inside.days.items) c.self.invariant c.args.tell (later c) c.if-tell-self.true
-    (lists_of (with_items c.self.inside.days c.push_tell.new.days).items) (written c)
+    days-more c.self.inside.horizon c.self.inside.clock (lists_of c.self.inside.days.items) c.self.invariant c.args.event (later c) c.if-event-self.true
+    (lists_of (with_items c.self.inside.days c.push_event.new.days).items) (written c)
 
-pub returns-in_ok-push_tell-clause-notes : goal.returns-in_ok-push_tell-clause-notes
-returns-in_ok-push_tell-clause-notes c =
-    let lists : List (List LevelEvent) = lists_of (with_items c.self.inside.days c.push_tell.new.days).items in
+pub returns-in_ok-push_event-clause-notes : goal.returns-in_ok-push_event-clause-notes
+returns-in_ok-push_event-clause-notes c =
+    let lists : List (List LevelEvent) = lists_of (with_items c.self.inside.days c.push_event.new.days).items in
     let new : Calendar = record { horizon = c.self.inside.horizon; clock = c.self.inside.clock; tells = tells_of lists } in
-    subst (λ (old : Calendar). Notes old new c.args.tell) c.self.view_is
-    (tells-more c.self.inside.horizon c.self.inside.clock (lists_of c.self.inside.days.items) c.self.invariant c.args.tell (later c) c.if-tell-self.true lists (written c))
+    subst (λ (old : Calendar). Notes old new c.args.event) c.self.view_is
+    (tells-more c.self.inside.horizon c.self.inside.clock (lists_of c.self.inside.days.items) c.self.invariant c.args.event (later c) c.if-event-self.true lists (written c))

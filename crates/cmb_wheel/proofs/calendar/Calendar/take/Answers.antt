@@ -40,18 +40,18 @@ returns-clause-takes c =
     let new : Calendar = record { horizon = horizon; clock = upto; tells = tells_of lists } in
     let clears : Clears (clock / 64) (upto / 64 + 1) upto before lists =
     cleared c.self.inside.days c.deref_mut.result.now c.remove_early.new.days _ _ upto c.deref_mut.ensures.value c.remove_early.ensures in
-    let collected : (tell : LevelEvent) → Contains c.collect_early.new.taken.items tell ↔ IsEarly before (clock / 64) (upto / 64 + 1) upto tell =
-    subst (λ (days : List (Vec LevelEvent Global)). (tell : LevelEvent) → Contains c.collect_early.new.taken.items tell ↔ IsEarly (lists_of days) (clock / 64) (upto / 64 + 1) upto tell)
+    let collected : (event : LevelEvent) → Contains c.collect_early.new.taken.items event ↔ IsEarly before (clock / 64) (upto / 64 + 1) upto event =
+    subst (λ (days : List (Vec LevelEvent Global)). (event : LevelEvent) → Contains c.collect_early.new.taken.items event ↔ IsEarly (lists_of days) (clock / 64) (upto / 64 + 1) upto event)
     c.deref.ensures.value c.in_ok-collect_early.ensures in
-    let early : (tell : LevelEvent) → IsEarly before (clock / 64) (upto / 64 + 1) upto tell ↔ (Contains (tells_of before) tell × (tell.tick < upto)) =
-    λ tell. tells-early horizon clock before c.self.invariant upto later within tell in
+    let early : (event : LevelEvent) → IsEarly before (clock / 64) (upto / 64 + 1) upto event ↔ (Contains (tells_of before) event × (event.tick < upto)) =
+    λ event. tells-early horizon clock before c.self.invariant upto later within event in
     subst (λ (old : Calendar). Takes upto old new c.put_in_order.new.tells.items) c.self.view_is
     (record {
-      early = λ tell. (
-        λ has. (early tell).0 ((collected tell).0 ((c.put_in_order.ensures.same tell).0 has)),
-        λ both. (c.put_in_order.ensures.same tell).1 ((collected tell).1 ((early tell).1 both)),
+      early = λ event. (
+        λ has. (early event).0 ((collected event).0 ((c.put_in_order.ensures.same event).0 has)),
+        λ both. (c.put_in_order.ensures.same event).1 ((collected event).1 ((early event).1 both)),
       );
-      late = λ tell. tells-late horizon clock before c.self.invariant upto later within lists clears tell;
+      late = λ event. tells-late horizon clock before c.self.invariant upto later within lists clears event;
       clock = refl;
       horizon = refl;
     })

@@ -9,7 +9,7 @@ use std::sync::Wait;
 
 /// The engine, and where batches come from and go.
 #[derive(Drop)]
-pub struct Maker<'a, T: TeamRun> {
+pub struct BatchMaker<'a, T: TeamRun> {
     engine: Engine<'a>,
     horizon: u32,
     ways: Ways<'a, T>,
@@ -43,12 +43,12 @@ fn step<'a, T: TeamRun, R: Wait>(
     }
 }
 
-impl<'a, T: TeamRun> Maker<'a, T> {
+impl<'a, T: TeamRun> BatchMaker<'a, T> {
     /// An engine, and where batches come from and go.
-    pub(crate) fn new(engine: Engine<'a>, horizon: u32, ways: Ways<'a, T>) -> Maker<'a, T>
+    pub(crate) fn new(engine: Engine<'a>, horizon: u32, ways: Ways<'a, T>) -> BatchMaker<'a, T>
         requires { engine.design ≡ T.design }
     {
-        Maker {
+        BatchMaker {
             engine,
             horizon,
             ways,
@@ -57,7 +57,7 @@ impl<'a, T: TeamRun> Maker<'a, T> {
 
     /// Makes windows up to the horizon.
     pub(crate) fn run<R: Wait>(self, rt: &R) {
-        let Maker {
+        let BatchMaker {
             mut engine,
             horizon,
             mut ways,

@@ -69,7 +69,7 @@ pub struct OpenFiles {
 
 /// Opens the files that a line names, in the order of their inputs, and no others. Fault 61, with the input's number,
 /// where one can't be opened, or where standard input, which has the netlist, is closed.
-pub fn open_tables(rt: &HostRuntime, line: &Line) -> Result<OpenFiles, Refusal>
+pub fn open_files(rt: &HostRuntime, line: &Line) -> Result<OpenFiles, Refusal>
     ensures delays { IfOk result (λ tables. (IsSome tables.delays ↔ IsSome line.now.delays)
         × (⟦<Option<FromReader<File>> as Source>⟧.failures tables.delays ≡ 0)) }
     ensures stimuli { IfOk result (λ tables. (IsSome tables.stimuli ↔ IsSome line.now.stimuli)

@@ -6,13 +6,13 @@ use Rattle.cmb_core_cluster.specs.Opened.{IsClusterOf}
 use Rattle.cmb_core_cluster.specs.Step.{wave_at}
 use Rattle.cmb_core_cluster.proofs.Steps.{wave_at-net}
 use Rattle.cmb_run_text.specs.Collector.{wave_of}
-use Rattle.cmb_run_rounds.specs.Inner.Rounds.{Hand}
+use Rattle.cmb_run_rounds.specs.Inner.Rounds.{RoundWorker}
 use Rattle.cmb_run_rounds.proofs.HandFacts.{own_among}
-use Rattle.cmb_run_rounds.proofs.hand.Hand.hand_over.Goals as goal
+use Rattle.cmb_run_rounds.proofs.round_worker.RoundWorker.hand_over.Goals as goal
 
 pub returns-clause-given : goal.returns-clause-given
 returns-clause-given g c = λ worker net of own.
-    let same : c.self.inside.cluster ≡ c.args.self.cluster = ap (λ (h : Hand). h.cluster) c.self.view_is in
+    let same : c.self.inside.cluster ≡ c.args.self.cluster = ap (λ (h : RoundWorker). h.cluster) c.self.view_is in
     let inside : IsClusterOf g.T.ClusterRun.design g.T.ClusterRun.clustering worker c.self.inside.cluster = subst (λ (s : Cluster). IsClusterOf g.T.ClusterRun.design g.T.ClusterRun.clustering worker s) (sym same) of in
     let P : Wave → Type 0 = λ wave. wave.base ≡ 0 → wave.clock ≤ (wave_of c.adopt_all.new.self.waves wave.net).clock in
     let all : AllByRecursion P c.self.inside.cluster.waves = subst (AllByRecursion P) c.into_waves.ensures.waves c.adopt_all.ensures.given in

@@ -21,29 +21,29 @@ use std::marker::Model;
 
 /// A worker's cluster, and how the worker stands.
 #[derive(Drop)]
-pub struct Hand<T: ClusterRun> {
+pub struct RoundWorker<T: ClusterRun> {
     cluster: ExactCluster<T>,
     gauge: Gauge,
     load: usize,
     refused: bool,
 }
 
-impl<T: ClusterRun> Model for Hand<T> {
-    ghost use Rattle.cmb_run_rounds.specs.Inner.Rounds.{Hand};
+impl<T: ClusterRun> Model for RoundWorker<T> {
+    ghost use Rattle.cmb_run_rounds.specs.Inner.Rounds.{RoundWorker};
 
-    ghost Value = { Hand };
+    ghost Value = { RoundWorker };
 
     ghost view = { λ h. record { cluster = h.cluster; refused = h.refused } };
 }
 
-impl<T: ClusterRun> Hand<T> {
+impl<T: ClusterRun> RoundWorker<T> {
     /// The cluster with the worker's number, newly opened.
     pub fn open(
         alloc: Global,
         design: &Design,
         clustering: &Clustering,
         worker: u32,
-    ) -> Result<Hand<T>, AllocError>
+    ) -> Result<RoundWorker<T>, AllocError>
         requires run { IsOfRun T.design T.clustering design.now clustering.now }
         requires worker { worker < clustering.now.clusters }
         ensures of { IfOk result (λ hand. IsClusterOf T.design T.clustering worker hand.cluster) }
@@ -55,7 +55,7 @@ impl<T: ClusterRun> Hand<T> {
             drop(cluster);
             return Err(AllocError);
         };
-        Ok(Hand {
+        Ok(RoundWorker {
             cluster,
             gauge,
             load: usize::MAX,
