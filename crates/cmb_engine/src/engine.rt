@@ -19,7 +19,8 @@ pub const LONGEST_WINDOW: u32 = 63;
 /// Simulates a design, window by window of ticks. It is the engine of the share that is all nets, to which nothing is
 /// given.
 ///
-/// What it needs of memory depends on the nets, their delays and the changes under way, and not on the horizon.
+/// What it needs of memory depends on the nets, their delays and the changes under way. On the horizon it depends by 24
+/// bytes for each 64 ticks alone.
 #[derive(Drop)]
 pub struct Engine<'d> {
     share: ShareEngine<'d>,
