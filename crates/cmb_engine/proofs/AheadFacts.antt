@@ -13,7 +13,7 @@ use Rattle.cmb_words.specs.Changes.{IsStill, TellsNet, is_among}
 use Rattle.cmb_words.specs.Word.{level_at_place}
 use Rattle.cmb_words.specs.Holds.{AreSamples, Holds}
 use Rattle.cmb_words.proofs.StillFacts.{ticks-still}
-use Rattle.cmb_words.proofs.TellsFacts.{levels-event}
+use Rattle.cmb_words.proofs.TellsFacts.{levels-tell}
 use Rattle.cmb_engine.specs.Inner.Cells.{Cell, Told, Gate, Flop, cell_at, is_made, cell_level, IsLawful, IsSteadyFrom}
 use Rattle.cmb_engine.specs.Inner.Circuits.{cell_row, IsFlopOf, MeetsCells, Shows}
 use Rattle.cmb_engine.specs.Inner.Exports.{moved_on, slots_of, AddsSlots, AreTakenBefore, HoldsAhead}
@@ -151,7 +151,7 @@ module _ (trace words : ℕ → ℕ → Level) (cells : List Cell) (count from t
     begins = omega arith
 
     pub slot-told : (word : Word) → ((place : ℕ) → held place ≡ level_at_place word place) → (one : Changed) → one ≡ record { net = slot; word = word } → TellsNet trace from to one
-    slot-told word same one is = rw is (levels-event trace from to (record { net = slot; word = word }) (omega (arith, begins)) (λ tick late below.
+    slot-told word same one is = rw is (levels-tell trace from to (record { net = slot; word = word }) (omega (arith, begins)) (λ tick late below.
         sym (same (tick + 64 - to)) ∙ shown-at (λ other. held) (λ other. trace slot) 1 1 to first [] slot-shows (omega arith) (omega arith) (omega arith) 0 tick (omega arith) (omega (arith, begins, late)) below))
 
     pub slot-still : IsSteadyFrom held first → IsStill (trace slot) from to

@@ -12,7 +12,7 @@ use Rattle.cmb_words.specs.Word.{level_at_place}
 use Rattle.cmb_words.specs.declared.word.Word.{Word}
 use Rattle.cmb_words.proofs.Rising.{rises-push, rises-wider, rises_at}
 use Rattle.cmb_words.proofs.StillFacts.{still-ticks, ticks-still}
-use Rattle.cmb_words.proofs.TellsFacts.{levels-event}
+use Rattle.cmb_words.proofs.TellsFacts.{levels-tell}
 use Rattle.cmb_engine.specs.Inner.Cells.{IsSteadyFrom}
 use Rattle.cmb_engine.specs.Inner.Circuits.{AreQuiet, Shows}
 use Rattle.cmb_engine.specs.Inner.Words.{levels_of}
@@ -123,7 +123,7 @@ module _ (words : ℕ → ℕ → Level) (trace : ℕ → ℕ → Level) (count 
       → Tells trace nets (to + first - 64) to changed
   collected-tells most rises right others = record {
     words = λ k d small.
-        levels-event trace (to + first - 64) to (get_or changed k d) (omega (arith, most))
+        levels-tell trace (to + first - 64) to (get_or changed k d) (omega (arith, most))
         (λ tick from upto.
         right k d small (tick + 64 - to) (omega (arith, upto, from, inside))
         ∙ shown-at (get_or changed k d).net tick (rises_at 0 nets changed k d rises small) from upto);
