@@ -262,10 +262,10 @@ module _ (design : Design) (circuit : Circuit) (is_circuit : IsCircuit design ci
         taken-before_by (driver_of design.netlist slot) slot (cell_at circuit.wiring.cells slot) group.clock group.delay (driven-stands slot is.0 is.1) ((are k d small).each 0 0 (are k d small).some)
         (ahead slot among) (soon slot among)
 
-    pub exports-event : (exports : List Group) → All (IsGroup circuit.wiring.cells) exports → (words : List Word) → Shows (levels_of words) (trace_of design circuit.wiring.roles.items circuit.lines.items) (length words) from
+    pub exports-tell : (exports : List Group) → All (IsGroup circuit.wiring.cells) exports → (words : List Word) → Shows (levels_of words) (trace_of design circuit.wiring.roles.items circuit.lines.items) (length words) from
         → (told : List Changed) → AddsAhead circuit.wiring.cells words (slots_of exports) from to [] told
         → All (λ one. Contains (slots_of exports) one.net) told × TellsThose (Contains (slots_of exports)) (value design) from to told
-    exports-event exports are words shows told adds = (
+    exports-tell exports are words shows told adds = (
       λ k d small. (right (get_or told k d) (all.right (get_or told k d) (Contains-get_or told k d small))).0,
       record {
         words = λ one among exported.

@@ -109,5 +109,5 @@ module _ (design : Design) (own : ℕ → Bool) (trace : ℕ → ℕ → Level) 
       go below (inl earlier) = below net tick o earlier
       go below (inr last) = exact_at tick (omega arith) (λ other t a h. below other t a (omega arith)) net o (cases_lt tick from)
 
-  pub rows-event : (net tick : ℕ) → own net ≡ true → tick < to → trace net tick ≡ value design net tick
-  rows-event net tick o l = exact_below to (omega arith) net tick o l
+  pub rows-tell : (net tick : ℕ) → own net ≡ true → tick < to → trace net tick ≡ value design net tick
+  rows-tell net tick o l = exact_below to (omega arith) net tick o l

@@ -11,7 +11,7 @@ use Rattle.cmb_engine.specs.Inner.Traces.{trace_of}
 use Rattle.cmb_engine.specs.Inner.Words.{levels_of}
 use Rattle.cmb_engine.specs.Shares.{ShareEngine, TellsThose}
 use Rattle.cmb_engine.specs.declared.group.Group.{Group}
-use Rattle.cmb_engine.proofs.ExportFacts.{exports-taken, exports-event}
+use Rattle.cmb_engine.proofs.ExportFacts.{exports-taken, exports-tell}
 use Rattle.cmb_engine.proofs.share.ShareEngine.tell_ahead.Goals as goal
 use Rattle.cmb_engine.proofs.share.ShareEngine.tell_ahead.Goals.{After-tell_groups}
 
@@ -40,7 +40,7 @@ module _ (c : After-tell_groups) where
       × TellsThose (Contains (slots_of c.self.inside.exports.items)) (value c.self.inside.design.now) c.self.inside.state.clock c.args.upto c.tell_groups.new.told.items
   tells adds =
       let back : c.args.upto - (c.args.upto - c.self.inside.state.clock) ≡ c.self.inside.state.clock = omega (arith, later) in
-      exports-event c.self.inside.design.now c.self.inside.circuit c.self.invariant.0 c.self.invariant.2 c.self.inside.state.clock c.args.upto later
+      exports-tell c.self.inside.design.now c.self.inside.circuit c.self.invariant.0 c.self.invariant.2 c.self.inside.state.clock c.args.upto later
       (subst (λ (e : ShareEngine). c.args.upto ≤ e.clock + e.width) (sym c.self.view_is) c.requires.short)
       c.self.inside.exports.items c.self.invariant.3 c.self.inside.state.words.items shows c.tell_groups.new.told.items
       (subst (λ (from : ℕ). AddsAhead c.self.inside.circuit.wiring.cells c.self.inside.state.words.items (slots_of c.self.inside.exports.items) from c.args.upto [] c.tell_groups.new.told.items) back
