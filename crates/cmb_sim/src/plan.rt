@@ -86,15 +86,18 @@ fn way_of<R: Threads + Sync>(
         (CanBeStopped request.mode request.threads All false)) }
     ensures table { request.mode ≡ Mode.Plain → IfOk result (λ way. IsByTable way) }
 {
-    match (request.mode, request.threads) {
-        (Mode::Plain, _) => Ok(Way::Table),
-        (Mode::Rounds { workers, clusters }, None) if workers_pay(workers, clusters, design) => {
+    let mode = request.mode;
+    // Where a number of threads is said, they share the work.
+    let unsaid = request.threads.is_none();
+    match mode {
+        Mode::Plain => Ok(Way::Table),
+        Mode::Rounds { workers, clusters } if unsaid && workers_pay(workers, clusters, design) => {
             Ok(Way::Rounds { workers, clusters })
         }
-        (Mode::Free { workers, clusters }, None) if workers_pay(workers, clusters, design) => {
+        Mode::Free { workers, clusters } if unsaid && workers_pay(workers, clusters, design) => {
             Ok(Way::Free { workers, clusters })
         }
-        (Mode::Rounds { .. } | Mode::Free { .. }, _) => {
+        Mode::Rounds { .. } | Mode::Free { .. } => {
             engine_way(rt, alloc, design, threads_in(request))
         }
     }
