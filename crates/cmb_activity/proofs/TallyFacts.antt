@@ -13,6 +13,8 @@ use Rattle.cmb_words.proofs.StillFacts.{still-level}
 use Rattle.cmb_activity.specs.Activities.{IsActivity, ticks_at}
 use Rattle.cmb_activity.specs.declared.activity.Activity.{Activity}
 use Rattle.cmb_activity.specs.Inner.SetBits.{set_bits}
+use Rattle.cmb_activity.specs.Inner.Tallies.{CanGrow, IsTally, ticks_if_kept}
+use Rattle.cmb_activity.specs.declared.tally.Tally.{Tally}
 use Rattle.cmb_activity.proofs.OnesFacts.{grows}
 
 -- ---- ticks
@@ -122,26 +124,6 @@ pub still_last : (level : ℕ → Level) (from upto : ℕ) → 1 ≤ from → fr
 still_last level from upto some order still =
     ap level (let e : upto - 1 ≡ from - 1 + (upto - from) = omega arith in e) ∙ still_at level from upto (upto - from) some still (omega arith)
 
--- what is counted up to a tick, with the ticks of a still waveform
-pub still_activity : (level : ℕ → Level) (last : Level) (from upto : ℕ) (old new : Activity) → 1 ≤ from → from ≤ upto → IsStill level from upto
-    → last ≡ level (from - 1) → IsActivity level from old → new.changes ≡ old.changes
-    → new.low ≡ old.low + (if same_level last Zero then upto - from else 0) → new.high ≡ old.high + (if same_level last One then upto - from else 0)
-    → new.unknown ≡ old.unknown + (if same_level last X then upto - from else 0) → IsActivity level upto new
-still_activity level last from upto old new some order still at counted changes low high unknown = record {
-  changes = omega (arith, changes, counted.changes, still_count level from upto order still);
-  low = low ∙ ap (λ (n : ℕ). n + (if same_level last Zero then upto - from else 0)) counted.low ∙ sym (each Zero);
-  high = high ∙ ap (λ (n : ℕ). n + (if same_level last One then upto - from else 0)) counted.high ∙ sym (each One);
-  unknown = unknown ∙ ap (λ (n : ℕ). n + (if same_level last X then upto - from else 0)) counted.unknown ∙ sym (each X);
-}
-  where
-    whole : upto ≡ from + (upto - from)
-    whole = omega arith
-
-    each : (wanted : Level) → ticks_at level wanted upto ≡ ticks_at level wanted from + (if same_level last wanted then upto - from else 0)
-    each wanted =
-        ap (ticks_at level wanted) whole ∙ still_ticks level wanted from upto (upto - from) some still (omega arith)
-        ∙ ap (λ (l : Level). ticks_at level wanted from + (if same_level l wanted then upto - from else 0)) (sym at)
-
 -- ---- what a word tells
 
 -- the ticks at 1 and at x, and the changes, in the ticks that a word of a net tells, which ends before a tick
@@ -205,63 +187,229 @@ word_changes level ones unknown mask from upto some order short set tells =
         rw (past, sym told, sym told') (set (64 - (upto - from) + i) (omega arith) (omega arith)) in
         count_next level (from + i) ∙ ap (λ (n : ℕ). count_below level (from + i) + n) (is_bit mask (64 - (upto - from) + i) _ is)
 
--- no more ticks of a word are at 1 or at x than there are
-pub word_few : (ones unknown ticks : ℕ) → ((place : ℕ) → place < 64 → bit_at ones place + bit_at unknown place < 2)
-    → 1 ≤ ticks → ticks ≤ 63 → set_bits ones (64 - ticks) ticks + set_bits unknown (64 - ticks) ticks ≤ ticks
-word_few ones unknown ticks apart some short =
-    omega (arith, high, low, each_tick here ticks, ticks_none here One, ticks_none here X)
+same_one' : (p q : ℕ) → p + q < 2 → same_level (level_of_bits p q) One ≡ (p == 1)
+same_one' zero zero h = refl
+same_one' (suc zero) zero h = refl
+same_one' (suc (suc p)) zero h = absurd (omega arith)
+same_one' zero (suc q) h = refl
+same_one' (suc p) (suc q) h = absurd (omega arith)
+
+pub same_one : (v x i : ℕ) → bit_at v i + bit_at x i < 2 → same_level (level_in v x i) One ≡ is_set_at v i
+unfolding level_in is_set_at
+same_one v x i = same_one' (bit_at v i) (bit_at x i)
+
+same_x' : (p q : ℕ) → p + q < 2 → same_level (level_of_bits p q) X ≡ (q == 1)
+same_x' zero zero h = refl
+same_x' (suc p) zero h = refl
+same_x' zero (suc zero) h = refl
+same_x' p (suc (suc q)) h = absurd (omega arith)
+same_x' (suc p) (suc q) h = absurd (omega arith)
+
+pub same_x : (v x i : ℕ) → bit_at v i + bit_at x i < 2 → same_level (level_in v x i) X ≡ is_set_at x i
+unfolding level_in is_set_at
+same_x v x i = same_x' (bit_at v i) (bit_at x i)
+
+-- ---- a tally
+
+-- a waveform that is still has as many ticks at a level as if it kept the one that it has
+kept_ticks : (level : ℕ → Level) (wanted : Level) (from upto horizon : ℕ) → 1 ≤ from → from ≤ upto → upto ≤ horizon → IsStill level from upto
+    → ticks_if_kept level wanted from horizon ≡ ticks_if_kept level wanted upto horizon
+kept_ticks level wanted from upto horizon some order within still =
+    go (same_level (level (from - 1)) wanted) refl ticks last
   where
-    here : ℕ → Level
-    here tick = level_in ones unknown (tick + 64 - ticks)
+    ticks : ticks_at level wanted upto ≡ ticks_at level wanted from + (if same_level (level (from - 1)) wanted then upto - from else 0)
+    ticks =
+        ap (ticks_at level wanted) (let e : upto ≡ from + (upto - from) = omega arith in e)
+        ∙ still_ticks level wanted from upto (upto - from) some still (omega arith)
 
-    same : (n m bits : ℕ) → n ≡ m + set_bits bits (64 - (ticks - 0)) (ticks - 0) → n ≡ m + set_bits bits (64 - ticks) ticks
-    same n m bits h = subst (λ (k : ℕ). n ≡ m + set_bits bits (64 - k) k) (let e : ticks - 0 ≡ ticks = omega arith in e) h
+    last : same_level (level (upto - 1)) wanted ≡ same_level (level (from - 1)) wanted
+    last = ap (λ (l : Level). same_level l wanted) (still_last level from upto some order still)
 
-    high : ticks_at here One ticks ≡ ticks_at here One 0 + set_bits ones (64 - ticks) ticks
-    high = same _ _ _ (word_ones here ones unknown 0 ticks apart some short (λ tick from below. refl))
+    go : (b : Bool) → same_level (level (from - 1)) wanted ≡ b
+        → ticks_at level wanted upto ≡ ticks_at level wanted from + (if same_level (level (from - 1)) wanted then upto - from else 0)
+        → same_level (level (upto - 1)) wanted ≡ same_level (level (from - 1)) wanted
+        → ticks_if_kept level wanted from horizon ≡ ticks_if_kept level wanted upto horizon
+    go true e ticks last =
+        let ticks' : ticks_at level wanted upto ≡ ticks_at level wanted from + (upto - from) = rw e at ticks in
+        rw (last, e) (omega (arith, ticks', order, within))
+    go false e ticks last =
+        let ticks' : ticks_at level wanted upto ≡ ticks_at level wanted from + 0 = rw e at ticks in
+        rw (last, e) (omega (arith, ticks'))
 
-    low : ticks_at here X ticks ≡ ticks_at here X 0 + set_bits unknown (64 - ticks) ticks
-    low = same _ _ _ (word_unknown here ones unknown 0 ticks apart some short (λ tick from below. refl))
+pub kept : (level : ℕ → Level) (from upto horizon : ℕ) (tally : Tally) → from ≤ upto → upto ≤ horizon → IsStill level from upto
+    → IsTally level from horizon tally → IsTally level upto horizon tally
+kept level from upto horizon tally order within still is = record {
+  begun = omega (arith, is.begun, order);
+  within = within;
+  changes = still_count level from upto order still ∙ is.changes;
+  high = is.high ∙ kept_ticks level One from upto horizon is.begun order within still;
+  unknown = is.unknown ∙ kept_ticks level X from upto horizon is.begun order within still;
+}
 
--- what is counted up to a tick, with the ticks of a word
-pub word_activity : (level : ℕ → Level) (ones unknown mask from upto changed high low : ℕ) (old : Activity)
+-- a count of ticks after a window, where a word's bits say which of its ticks count
+recount : (level : ℕ → Level) (wanted : Level) (bits from upto horizon old new : ℕ) → from < upto → upto ≤ horizon
+    → same_level (level (from - 1)) wanted ≡ is_set_at bits (63 - (upto - from)) → same_level (level (upto - 1)) wanted ≡ is_set_at bits 63
+    → ticks_at level wanted upto ≡ ticks_at level wanted from + set_bits bits (64 - (upto - from)) (upto - from)
+    → old ≡ ticks_if_kept level wanted from horizon
+    → new + (if is_set_at bits (63 - (upto - from)) then upto - from + (horizon - upto) else 0)
+    ≡ old + set_bits bits (64 - (upto - from)) (upto - from) + (if is_set_at bits 63 then horizon - upto else 0)
+    → new ≡ ticks_if_kept level wanted upto horizon
+recount level wanted bits from upto horizon old new order within first last ticks was told =
+    go (same_level (level (from - 1)) wanted) refl was (rw (sym first, sym last) at told)
+  where
+    go : (b : Bool) → same_level (level (from - 1)) wanted ≡ b → old ≡ ticks_if_kept level wanted from horizon
+        → new + (if same_level (level (from - 1)) wanted then upto - from + (horizon - upto) else 0)
+        ≡ old + set_bits bits (64 - (upto - from)) (upto - from) + (if same_level (level (upto - 1)) wanted then horizon - upto else 0)
+        → new ≡ ticks_if_kept level wanted upto horizon
+    go true e was told =
+        let was' : old ≡ ticks_at level wanted from + (horizon - from) = rw e at was in
+        let told' : new + (upto - from + (horizon - upto)) ≡ old + set_bits bits (64 - (upto - from)) (upto - from) + (if same_level (level (upto - 1)) wanted then horizon - upto else 0) = rw e at told in
+        omega (arith, was', told', ticks, order, within)
+    go false e was told =
+        let was' : old ≡ ticks_at level wanted from + 0 = rw e at was in
+        let told' : new + 0 ≡ old + set_bits bits (64 - (upto - from)) (upto - from) + (if same_level (level (upto - 1)) wanted then horizon - upto else 0) = rw e at told in
+        omega (arith, was', told', ticks)
+
+-- what a count of ticks must be after a window, by the bits that say which of its ticks count
+abbrev pub IsRecounted : ℕ → ℕ → ℕ → ℕ → ℕ → Type 0
+IsRecounted old new bits ticks left =
+    new + (if is_set_at bits (63 - ticks) then ticks + left else 0) ≡ old + set_bits bits (64 - ticks) ticks + (if is_set_at bits 63 then left else 0)
+
+pub grown : (level : ℕ → Level) (ones unknown mask from upto horizon : ℕ) (old new : Tally)
     → ((place : ℕ) → place < 64 → bit_at ones place + bit_at unknown place < 2)
-    → 1 ≤ from → from < upto → upto ≤ from + 63
+    → from < upto → upto ≤ from + 63 → upto ≤ horizon
     → ((place : ℕ) → 64 - (upto - from) ≤ place → place < 64 → is_set_at mask place ≡ not (same_level (level_in ones unknown (place - 1)) (level_in ones unknown place)))
     → ((tick : ℕ) → from ≤ tick + 1 → tick < upto → level_in ones unknown (tick + 64 - upto) ≡ level tick)
-    → changed ≡ set_bits mask (64 - (upto - from)) (upto - from) → high ≡ set_bits ones (64 - (upto - from)) (upto - from)
-    → low ≡ set_bits unknown (64 - (upto - from)) (upto - from) → IsActivity level from old
-    → IsActivity level upto (record {
-      changes = old.changes + changed;
-      low = old.low + (upto - from - high - low);
-      high = old.high + high;
-      unknown = old.unknown + low;
-    })
-word_activity level ones unknown mask from upto changed high low old apart some order short set tells c h u counted = record {
-  changes = omega (arith, c, counted.changes, word_changes level ones unknown mask from upto some order short set tells);
-  low = omega (arith, h, u, counted.low, one, other, each_tick level from, each_tick level upto, word_few ones unknown (upto - from) apart (omega arith) (omega arith));
-  high = omega (arith, h, counted.high, one);
-  unknown = omega (arith, u, counted.unknown, other);
+    → new.changes ≡ old.changes + set_bits mask (64 - (upto - from)) (upto - from)
+    → IsRecounted old.high new.high ones (upto - from) (horizon - upto) → IsRecounted old.unknown new.unknown unknown (upto - from) (horizon - upto)
+    → IsTally level from horizon old → IsTally level upto horizon new
+grown level ones unknown mask from upto horizon old new apart order short within set tells c h u is = record {
+  begun = omega (arith, order);
+  within = within;
+  changes = omega (arith, c, is.changes, word_changes level ones unknown mask from upto is.begun order short set tells);
+  high =
+      recount level One ones from upto horizon old.high new.high order within (at One ones (from - 1) (63 - (upto - from)) (same_one ones unknown (63 - (upto - from)) (apart (63 - (upto - from)) (omega arith))) before)
+      (at One ones (upto - 1) 63 (same_one ones unknown 63 (apart 63 (omega arith))) last) (word_ones level ones unknown from upto apart order short tells) is.high h;
+  unknown =
+      recount level X unknown from upto horizon old.unknown new.unknown order within (at X unknown (from - 1) (63 - (upto - from)) (same_x ones unknown (63 - (upto - from)) (apart (63 - (upto - from)) (omega arith))) before)
+      (at X unknown (upto - 1) 63 (same_x ones unknown 63 (apart 63 (omega arith))) last) (word_unknown level ones unknown from upto apart order short tells) is.unknown u;
 }
   where
-    one : ticks_at level One upto ≡ ticks_at level One from + set_bits ones (64 - (upto - from)) (upto - from)
-    one = word_ones level ones unknown from upto apart order short tells
+    before : level_in ones unknown (63 - (upto - from)) ≡ level (from - 1)
+    before =
+        let some : 1 ≤ from = is.begun in
+        let place : from - 1 + 64 - upto ≡ 63 - (upto - from) = omega (arith, some, order, short) in
+        rw place at (tells (from - 1) (omega (arith, some)) (omega (arith, some, order)))
 
-    other : ticks_at level X upto ≡ ticks_at level X from + set_bits unknown (64 - (upto - from)) (upto - from)
-    other = word_unknown level ones unknown from upto apart order short tells
+    last : level_in ones unknown 63 ≡ level (upto - 1)
+    last =
+        let place : upto - 1 + 64 - upto ≡ 63 = omega (arith, order) in
+        rw place at (tells (upto - 1) (omega (arith, order)) (omega (arith, order)))
+
+    at : (wanted : Level) (bits tick place : ℕ) → same_level (level_in ones unknown place) wanted ≡ is_set_at bits place → level_in ones unknown place ≡ level tick
+        → same_level (level tick) wanted ≡ is_set_at bits place
+    at wanted bits tick place same is = ap (λ (l : Level). same_level l wanted) (sym is) ∙ same
+
+-- ---- what a tally is at most and at least
+
+count_few : (level : ℕ → Level) (k : ℕ) → count_below level (1 + k) ≤ count_below level 1 + k
+count_few level zero = omega arith
+count_few level (suc k) =
+    omega (
+      arith,
+      count_few level k,
+      step (same_level (level_before level (1 + k)) (level (1 + k))),
+      count_next level (1 + k),
+      ap (count_below level) (let e : 1 + suc k ≡ suc (1 + k) = omega arith in e),
+    )
+  where
+    step : (b : Bool) → (if b then 0 else 1) ≤ 1
+    step true = omega arith
+    step false = omega arith
+
+if_most : (b : Bool) (n : ℕ) → (if b then n else 0) ≤ n
+if_most true n = omega arith
+if_most false n = omega arith
+
+few_ticks : (level : ℕ → Level) (tick : ℕ) → (ticks_at level One tick ≤ tick) × (ticks_at level X tick ≤ tick)
+few_ticks level tick = (omega (arith, each_tick level tick), omega (arith, each_tick level tick))
+
+pub can_grow : (level : ℕ → Level) (ones unknown from upto horizon : ℕ) (tally : Tally)
+    → ((place : ℕ) → place < 64 → bit_at ones place + bit_at unknown place < 2)
+    → from < upto → upto ≤ from + 63
+    → ((tick : ℕ) → from ≤ tick + 1 → tick < upto → level_in ones unknown (tick + 64 - upto) ≡ level tick)
+    → IsTally level from horizon tally → CanGrow from upto horizon ones unknown tally
+can_grow level ones unknown from upto horizon tally apart order short tells is = record {
+  changes = omega (arith, is.changes, is.begun, few);
+  most_high = omega (arith, is.high, is.within, (few_ticks level from).0, if_most (same_level (level (from - 1)) One) (horizon - from));
+  most_unknown = omega (arith, is.unknown, is.within, (few_ticks level from).1, if_most (same_level (level (from - 1)) X) (horizon - from));
+  least_high = λ set. least One tally.high (ap (λ (l : Level). same_level l One) (sym before) ∙ same_one ones unknown (63 - (upto - from)) (apart (63 - (upto - from)) (omega arith)) ∙ set) is.high;
+  least_unknown = λ set. least X tally.unknown (ap (λ (l : Level). same_level l X) (sym before) ∙ same_x ones unknown (63 - (upto - from)) (apart (63 - (upto - from)) (omega arith)) ∙ set) is.unknown;
+}
+  where
+    few : count_below level from ≤ count_below level 1 + (from - 1)
+    few =
+        let all : 1 + (from - 1) ≡ from = omega (arith, is.begun) in
+        rw all at (count_few level (from - 1))
+
+    before : level_in ones unknown (63 - (upto - from)) ≡ level (from - 1)
+    before =
+        let some : 1 ≤ from = is.begun in
+        let place : from - 1 + 64 - upto ≡ 63 - (upto - from) = omega (arith, some, order, short) in
+        rw place at (tells (from - 1) (omega (arith, some)) (omega (arith, some, order)))
+
+    least : (wanted : Level) (n : ℕ) → same_level (level (from - 1)) wanted ≡ true → n ≡ ticks_if_kept level wanted from horizon → horizon - from ≤ n
+    least wanted n e h =
+        let h' : n ≡ ticks_at level wanted from + (horizon - from) = rw e at h in
+        omega (arith, h')
+
+-- ---- the ends of a run
 
 -- what is counted at tick 0
-pub first_activity : (level : ℕ → Level) (first : Level) (new : Activity) → level 0 ≡ first → new.changes ≡ 0
-    → new.low ≡ 0 + (if same_level first Zero then 1 else 0) → new.high ≡ 0 + (if same_level first One then 1 else 0)
-    → new.unknown ≡ 0 + (if same_level first X then 1 else 0) → IsActivity level 1 new
-first_activity level first new at changes low high unknown = record {
+pub starts : (level : ℕ → Level) (first : Level) (horizon : ℕ) (new : Tally) → 1 ≤ horizon → level 0 ≡ first → new.changes ≡ 0
+    → new.high ≡ (if same_level first One then horizon else 0) → new.unknown ≡ (if same_level first X then horizon else 0) → IsTally level 1 horizon new
+starts level first horizon new some at changes high unknown = record {
+  begun = omega arith;
+  within = some;
   changes = omega (arith, changes);
-  low = low ∙ sym (each Zero);
-  high = high ∙ sym (each One);
-  unknown = unknown ∙ sym (each X);
+  high = high ∙ each One;
+  unknown = unknown ∙ each X;
 }
   where
-    each : (wanted : Level) → ticks_at level wanted 1 ≡ 0 + (if same_level first wanted then 1 else 0)
+    go : (b : Bool) → (if b then horizon else 0) ≡ 0 + (if b then 1 else 0) + (if b then horizon - 1 else 0)
+    go true = omega (arith, some)
+    go false = omega arith
+
+    each : (wanted : Level) → (if same_level first wanted then horizon else 0) ≡ ticks_if_kept level wanted 1 horizon
     each wanted =
-        ticks_next level wanted 0 ∙ ap (λ (n : ℕ). n + (if same_level (level 0) wanted then 1 else 0)) (ticks_none level wanted)
-        ∙ ap (λ (l : Level). 0 + (if same_level l wanted then 1 else 0)) at
+        let one : ticks_at level wanted 1 ≡ 0 + (if same_level (level 0) wanted then 1 else 0) =
+        ticks_next level wanted 0 ∙ ap (λ (n : ℕ). n + (if same_level (level 0) wanted then 1 else 0)) (ticks_none level wanted) in
+        ap (λ (l : Level). if same_level l wanted then horizon else 0) (sym at) ∙ go (same_level (level 0) wanted)
+        ∙ ap (λ (n : ℕ). n + (if same_level (level 0) wanted then horizon - 1 else 0)) (sym one)
+
+-- what is counted at the horizon
+at_end : (level : ℕ → Level) (wanted : Level) (horizon n : ℕ) → n ≡ ticks_if_kept level wanted horizon horizon → n ≡ ticks_at level wanted horizon
+at_end level wanted horizon n h = omega (arith, h, none (same_level (level (horizon - 1)) wanted))
+  where
+    none : (b : Bool) → (if b then horizon - horizon else 0) ≡ 0
+    none true = omega arith
+    none false = refl
+
+pub most_of : (level : ℕ → Level) (horizon : ℕ) (tally : Tally) → IsTally level horizon horizon tally → tally.high + tally.unknown ≤ horizon
+most_of level horizon tally is =
+    omega (arith, at_end level One horizon tally.high is.high, at_end level X horizon tally.unknown is.unknown, each_tick level horizon)
+
+pub ends : (level : ℕ → Level) (horizon : ℕ) (tally : Tally) (all : Activity) → all.changes ≡ tally.changes → all.low ≡ horizon - tally.high - tally.unknown
+    → all.high ≡ tally.high → all.unknown ≡ tally.unknown → IsTally level horizon horizon tally → IsActivity level horizon all
+ends level horizon tally all c l h u is = record {
+  changes = omega (arith, c, is.changes);
+  low = omega (arith, l, high, unknown, each_tick level horizon);
+  high = h ∙ high;
+  unknown = u ∙ unknown;
+}
+  where
+    high : tally.high ≡ ticks_at level One horizon
+    high = at_end level One horizon tally.high is.high
+
+    unknown : tally.unknown ≡ ticks_at level X horizon
+    unknown = at_end level X horizon tally.unknown is.unknown

@@ -1,11 +1,10 @@
 //! How active the nets of a run are.
 
-ghost use Rattle.std.specs.Prelude.{◌≡◌, ◌+◌, ◌<◌, ◌≤◌, ℕ, length, All, IfOk, OnOk};
-ghost use Rattle.cmb_wave.specs.declared.level.Level.{Level};
+ghost use Rattle.std.specs.Prelude.{◌≡◌, length, IfOk, OnOk};
 ghost use Rattle.cmb_design_model.specs.Exact.{nets_of};
 ghost use Rattle.cmb_design_model.specs.Value.{value};
-ghost use Rattle.cmb_words.specs.Changes.{RisesWithin, Tells};
-ghost use Rattle.cmb_activity.specs.Activities.{AreActivities, AreActivitiesOf};
+ghost use Rattle.cmb_words.specs.Changes.{IsWindow, Tells};
+ghost use Rattle.cmb_activity.specs.Activities.{AreActivities};
 ghost use Rattle.cmb_activity.specs.Inner.Tallies.{AreTallies};
 
 use crate::activity::Activity;
@@ -17,30 +16,29 @@ use std::alloc::{AllocError, Global};
 
 // What is counted of each net at tick 0.
 fn first_tallies(alloc: Global, design: &Design) -> Result<Vec<Tally>, AllocError>
-    ensures { IfOk result (λ tallies. AreTallies (value design.now) (nets_of design.now) 1 tallies.items) }
+    ensures { IfOk result (λ tallies.
+        AreTallies (value design.now) (nets_of design.now) 1 design.now.horizon tallies.items) }
 {
+    let horizon = design.horizon();
     let nets = design.netlist().len();
     let mut tallies = Vec::with_capacity(alloc, nets)?;
     for net in 0..nets {
-        tallies.push(Tally::start(start_level(design, net)))?;
+        tallies.push(Tally::start(start_level(design, net), horizon))?;
     }
     Ok(tallies)
 }
 
 // Counts what changed in a window: work goes by the nets that did.
-fn count_window(tallies: &mut [Tally], changed: &[Changed], from: u32, upto: u32)
-    requires nets { RisesWithin 0 (length tallies.old) changed.now }
-    requires before { All (λ tally. tally.upto ≤ from) tallies.old }
-    requires order { from < upto }
-    requires short { upto ≤ from + 63 }
-    requires within { upto ≤ 1000000 }
-    ensures { (level : ℕ → ℕ → Level) → AreTallies level (length tallies.old) from tallies.old
-        → Tells level (length tallies.old) from upto changed.now
-        → AreTallies level (length tallies.old) upto tallies.new }
+fn count_window(design: &Design, tallies: &mut [Tally], changed: &[Changed], from: u32, upto: u32)
+    requires window { IsWindow (nets_of design.now) design.now.horizon from upto changed.now }
+    requires tells { Tells (value design.now) (nets_of design.now) from upto changed.now }
+    requires before { AreTallies (value design.now) (nets_of design.now) from design.now.horizon tallies.old }
+    ensures { AreTallies (value design.now) (nets_of design.now) upto design.now.horizon tallies.new }
 {
+    let horizon = design.horizon();
     for one in changed {
         let net = one.net as usize;
-        tallies[net] = tallies[net].kept(from).grown(one.word, upto);
+        tallies[net] = tallies[net].grown(one.word, from, upto, horizon);
     }
 }
 
@@ -52,8 +50,9 @@ fn count_all(
     tallies: &mut [Tally],
 ) -> Result<(), AllocError>
     requires design { engine.design ≡ design.now }
-    requires tallies { AreTallies (value design.now) (nets_of design.now) engine.clock tallies.old }
-    ensures { OnOk result (AreTallies (value design.now) (nets_of design.now) design.now.horizon tallies.new) }
+    requires tallies { AreTallies (value design.now) (nets_of design.now) engine.clock design.now.horizon tallies.old }
+    ensures { OnOk result (AreTallies (value design.now) (nets_of design.now)
+        design.now.horizon design.now.horizon tallies.new) }
 {
     let mut engine = engine;
     let mut changed = Vec::new(alloc);
@@ -61,21 +60,20 @@ fn count_all(
         let from = engine.clock();
         let upto = engine.next_end();
         engine = engine.advance(upto, &mut changed)?;
-        count_window(tallies, &changed, from, upto);
+        count_window(design, tallies, &changed, from, upto);
     }
     Ok(())
 }
 
 // What was counted at the end of a run.
-fn all_at(alloc: Global, tallies: &[Tally], horizon: u32) -> Result<Vec<Activity>, AllocError>
-    requires before { All (λ tally. tally.upto ≤ horizon) tallies.now }
-    requires within { horizon ≤ 1000000 }
-    ensures { IfOk result (λ all. (level : ℕ → ℕ → Level) → AreTallies level (length tallies.now) horizon tallies.now
-        → AreActivitiesOf level (length tallies.now) horizon all.items) }
+fn all_at(alloc: Global, design: &Design, tallies: &[Tally]) -> Result<Vec<Activity>, AllocError>
+    requires { AreTallies (value design.now) (nets_of design.now) design.now.horizon design.now.horizon tallies.now }
+    ensures { IfOk result (λ all. AreActivities design.now all.items) }
 {
+    let horizon = design.horizon();
     let mut all = Vec::with_capacity(alloc, tallies.len())?;
     for tally in tallies {
-        all.push(tally.kept(horizon).activity)?;
+        all.push(tally.activity(horizon))?;
     }
     Ok(all)
 }
@@ -88,5 +86,5 @@ pub fn activities(alloc: Global, design: &Design) -> Result<Vec<Activity>, Alloc
     let mut tallies = first_tallies(alloc, design)?;
     let engine = Engine::open(alloc, design)?;
     count_all(alloc, design, engine, &mut tallies)?;
-    all_at(alloc, &tallies, design.horizon())
+    all_at(alloc, design, &tallies)
 }

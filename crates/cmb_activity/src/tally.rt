@@ -1,17 +1,12 @@
 //! What is counted of a net while a run goes on.
 
-ghost use Rattle.std.specs.Prelude.{◌≡◌, ◌+◌, ◌<◌, ◌≤◌};
-
-use crate::activity::Activity;
-use cmb_wave::Level;
-
-/// What is counted of a net below a tick, and its level at the tick before that.
+/// What is counted of a net in a run: of the ticks below a clock what it does there, and of those from there on up to
+/// the horizon what it does if it keeps its level. So a net that doesn't change has nothing to be counted.
+///
+/// At which ticks it is 0 isn't counted: those are the others.
 #[derive(Clone, Copy)]
 pub(crate) struct Tally {
-    pub activity: Activity,
-    pub upto: u32,
-    pub level: Level,
-    ghost sum: { activity.low + activity.high + activity.unknown ≡ upto },
-    ghost few: { activity.changes < upto },
-    ghost within: { upto ≤ 1000000 },
+    pub changes: u32,
+    pub high: u32,
+    pub unknown: u32,
 }

@@ -1,23 +1,33 @@
 -- What is counted of a net while a run goes on.
-use Rattle.std.specs.Prelude.{◌≡◌, ◌-◌, ◌<◌, ◌≤◌, ℕ, List, length, slice_index_or}
+use Rattle.std.specs.Prelude.{◌≡◌, ◌+◌, ◌-◌, ◌<◌, ◌≤◌, ℕ, true, List, length, slice_index_or, if◌then◌else◌}
 use Rattle.cmb_wave.specs.declared.level.Level.{Level}
-use Rattle.cmb_words.specs.Changes.{IsStill}
-use Rattle.cmb_activity.specs.Activities.{IsActivity}
+use Rattle.cmb_wave.specs.declared.level.Level.TheVariants.{One, X}
+use Rattle.cmb_wave.specs.Waveform.{count_below, same_level}
+use Rattle.cmb_words.specs.Bits.{is_set_at}
+use Rattle.cmb_activity.specs.Activities.{ticks_at}
 use Rattle.cmb_activity.specs.declared.tally.Tally.{Tally}
 
--- all is counted below a tick, and the level at the tick before it is there
-pub record IsTally (level : ℕ → Level) (tally : Tally) : Type 0 where
-  pub some : 1 ≤ tally.upto
-  pub counted : IsActivity level tally.upto tally.activity
-  pub last : tally.level ≡ level (tally.upto - 1)
+-- at how many ticks below a horizon a waveform has a level, if from a clock on it keeps the level that it has before that
+abbrev pub ticks_if_kept : (ℕ → Level) → Level → ℕ → ℕ → ℕ
+ticks_if_kept level wanted clock horizon = ticks_at level wanted clock + (if same_level (level (clock - 1)) wanted then horizon - clock else 0)
 
--- and from there on nothing changed below a clock
-pub record IsTallyAt (level : ℕ → Level) (clock : ℕ) (tally : Tally) : Type 0 where
-  pub tallied : IsTally level tally
-  pub within : tally.upto ≤ clock
-  pub still : IsStill level tally.upto clock
+-- all is counted below a clock, and from there on up to a horizon the ticks of a waveform that keeps its level
+pub record IsTally (level : ℕ → Level) (clock horizon : ℕ) (tally : Tally) : Type 0 where
+  pub begun : 1 ≤ clock
+  pub within : clock ≤ horizon
+  pub changes : count_below level clock ≡ count_below level 1 + tally.changes
+  pub high : tally.high ≡ ticks_if_kept level One clock horizon
+  pub unknown : tally.unknown ≡ ticks_if_kept level X clock horizon
 
 -- those of so many nets
-pub record AreTallies (level : ℕ → ℕ → Level) (nets clock : ℕ) (tallies : List Tally) : Type 0 where
+pub record AreTallies (level : ℕ → ℕ → Level) (nets clock horizon : ℕ) (tallies : List Tally) : Type 0 where
   pub count : length tallies ≡ nets
-  pub each : (net : ℕ) (d : Tally) → net < nets → IsTallyAt (level net) clock (slice_index_or tallies net d)
+  pub each : (net : ℕ) (d : Tally) → net < nets → IsTally (level net) clock horizon (slice_index_or tallies net d)
+
+-- what was counted up to a clock is no more than it can be, and no less than a word says that ends before a later tick
+pub record CanGrow (from upto horizon ones unknown : ℕ) (tally : Tally) : Type 0 where
+  pub changes : tally.changes < from
+  pub most_high : tally.high ≤ horizon
+  pub most_unknown : tally.unknown ≤ horizon
+  pub least_high : is_set_at ones (63 - (upto - from)) ≡ true → horizon - from ≤ tally.high
+  pub least_unknown : is_set_at unknown (63 - (upto - from)) ≡ true → horizon - from ≤ tally.unknown
