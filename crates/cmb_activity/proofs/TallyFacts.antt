@@ -1,11 +1,10 @@
 -- Counting the ticks at which a waveform has a level, and its changes.
-use Rattle.std.proofs.Common.{◌≡◌, ℕ, zero, suc, ◌+◌, ◌-◌, ◌<◌, ◌≤◌, Bool, true, false, not, length, refl, sym, ap, subst, ◌∙◌, arith, true≢false, ◌==◌, if◌then◌else◌, length-append}
+use Rattle.std.proofs.Common.{◌≡◌, ℕ, zero, suc, ◌+◌, ◌-◌, ◌<◌, ◌≤◌, Bool, true, false, not, length, refl, sym, ap, ◌∙◌, arith, true≢false, ◌==◌, if◌then◌else◌, length-append}
 use Rattle.std.specs.Int.{bit_at}
 use Rattle.std.proofs.lemmas.Nat.Bits.{bit_at-lt}
 use Rattle.cmb_wave.specs.declared.level.Level.{Level}
 use Rattle.cmb_wave.specs.declared.level.Level.TheVariants.{Zero, One, X}
 use Rattle.cmb_wave.specs.Waveform.{change_at, changes_between, count_below, level_before, same_level}
-use Rattle.cmb_wave.proofs.Lists.{same_level-same}
 use Rattle.cmb_words.specs.Changes.{IsStill}
 use Rattle.cmb_wave.proofs.Waveforms.{changes_between-suc, count_below-add}
 use Rattle.cmb_words.specs.Bits.{is_set_at, level_in, level_of_bits}
