@@ -129,7 +129,7 @@ masked_ones bits place small fits =
 
 -- ---- bits that are all 0
 
-none_from : (bits place : ℕ) → bit_and bits ((2 ^ 64 - 1) * 2 ^ place % 2 ^ 64) ≡ 0 → (i : ℕ) → place ≤ i → i < 64 → bit_at bits i ≡ 0
+pub none_from : (bits place : ℕ) → bit_and bits ((2 ^ 64 - 1) * 2 ^ place % 2 ^ 64) ≡ 0 → (i : ℕ) → place ≤ i → i < 64 → bit_at bits i ≡ 0
 none_from bits place none i from small = sym (masked_from bits place i from small) ∙ ap (λ (n : ℕ). bit_at n i) none ∙ bit_at-zero i
 
 not_set : (bits i : ℕ) → bit_at bits i ≡ 0 → is_set_at bits i ≡ false
@@ -144,3 +144,8 @@ nothing_counts count bits ticks left some most none =
     let here : set_bits bits (64 - ticks) ticks ≡ 0 =
     none_of bits (64 - ticks) ticks (λ i from below. none_from bits (63 - ticks) none i (omega (arith, from)) (omega (arith, below, some, most))) in
     rw (before, after) (omega (arith, here))
+
+-- the bits from a place on are the last so many
+pub of_last : (bits ticks n m : ℕ) → ticks ≤ 63 → n ≡ set_bits bits (64 - ticks) (64 - (64 - ticks)) → m + n ≡ m + set_bits bits (64 - ticks) ticks
+of_last bits ticks n m most is =
+    ap (λ (k : ℕ). m + k) (is ∙ ap (set_bits bits (64 - ticks)) (let e : 64 - (64 - ticks) ≡ ticks = omega (arith, most) in e))

@@ -1,7 +1,8 @@
 -- Counting the ticks at which a waveform has a level, and its changes.
-use Rattle.std.proofs.Common.{◌≡◌, ℕ, zero, suc, ◌+◌, ◌-◌, ◌<◌, ◌≤◌, Bool, true, false, not, length, refl, sym, ap, ◌∙◌, arith, true≢false, ◌==◌, if◌then◌else◌, length-append}
+use Rattle.std.proofs.Common.{◌≡◌, ℕ, zero, suc, ◌+◌, ◌-◌, ◌*◌, ◌%◌, ◌^◌, ◌<◌, ◌≤◌, Bool, true, false, not, length, refl, sym, ap, ◌∙◌, arith, true≢false, ◌==◌, if◌then◌else◌, length-append}
 use Rattle.std.specs.Int.{bit_at}
-use Rattle.std.proofs.lemmas.Nat.Bits.{bit_at-lt}
+use Rattle.std.specs.Int.Bits.{bit_and}
+use Rattle.std.proofs.lemmas.Nat.Bits.{bit_at-lt, bit_at-zero}
 use Rattle.cmb_wave.specs.declared.level.Level.{Level}
 use Rattle.cmb_wave.specs.declared.level.Level.TheVariants.{Zero, One, X}
 use Rattle.cmb_wave.specs.Waveform.{change_at, changes_between, count_below, level_before, same_level}
@@ -14,7 +15,7 @@ use Rattle.cmb_activity.specs.declared.activity.Activity.{Activity}
 use Rattle.cmb_activity.specs.Inner.SetBits.{set_bits}
 use Rattle.cmb_activity.specs.Inner.Tallies.{CanGrow, IsTally, ticks_if_kept}
 use Rattle.cmb_activity.specs.declared.tally.Tally.{Tally}
-use Rattle.cmb_activity.proofs.OnesFacts.{grows}
+use Rattle.cmb_activity.proofs.OnesFacts.{grows, none_from}
 
 -- ---- ticks
 
@@ -207,6 +208,21 @@ same_x' (suc p) (suc q) h = absurd (omega arith)
 pub same_x : (v x i : ℕ) → bit_at v i + bit_at x i < 2 → same_level (level_in v x i) X ≡ is_set_at x i
 unfolding level_in is_set_at
 same_x v x i = same_x' (bit_at v i) (bit_at x i)
+
+no_x : (ones unknown place : ℕ) → bit_at unknown place ≡ 0 → level_in ones unknown place ≡ level_in ones 0 place
+unfolding level_in
+no_x ones unknown place none = ap (level_of_bits (bit_at ones place)) (none ∙ sym (bit_at-zero place))
+
+-- where no place is x from the one before a window on, the changes are those of the word without it
+pub known_changes : (ones unknown mask ticks : ℕ) → 1 ≤ ticks → ticks ≤ 63 → bit_and unknown ((2 ^ 64 - 1) * 2 ^ (63 - ticks) % 2 ^ 64) ≡ 0
+    → ((place : ℕ) → 64 - ticks ≤ place → place < 64 → is_set_at mask place ≡ not (same_level (level_in ones 0 (place - 1)) (level_in ones 0 place)))
+    → (place : ℕ) → 64 - ticks ≤ place → place < 64 → is_set_at mask place ≡ not (same_level (level_in ones unknown (place - 1)) (level_in ones unknown place))
+known_changes ones unknown mask ticks some most none set place late small =
+    let past : level_in ones unknown (place - 1) ≡ level_in ones 0 (place - 1) =
+    no_x ones unknown (place - 1) (none_from unknown (63 - ticks) none (place - 1) (omega (arith, late, most)) (omega (arith, small))) in
+    let here : level_in ones unknown place ≡ level_in ones 0 place =
+    no_x ones unknown place (none_from unknown (63 - ticks) none place (omega (arith, late)) small) in
+    rw (past, here) (set place late small)
 
 -- ---- a tally
 

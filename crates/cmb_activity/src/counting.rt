@@ -52,23 +52,6 @@ fn recounted(count: u32, bits: u64, ticks: u32, left: u32) -> u32
     count - before + set_from(bits, 64 - ticks) + after
 }
 
-// The same, where most often none of these bits is set.
-#[inline]
-fn recounted_if_any(count: u32, bits: u64, ticks: u32, left: u32) -> u32
-    requires some { 1 ≤ ticks }
-    requires most { ticks ≤ 63 }
-    requires few { count + left + 64 < 2 ^ 32 }
-    requires before { is_set_at bits (63 - ticks) ≡ true → ticks + left ≤ count }
-    ensures { result + (if is_set_at bits (63 - ticks) then ticks + left else 0)
-        ≡ count + set_bits bits (64 - ticks) ticks + (if is_set_at bits 63 then left else 0) }
-{
-    if bits & (u64::MAX << (63 - ticks)) == 0 {
-        count
-    } else {
-        recounted(count, bits, ticks, left)
-    }
-}
-
 impl Tally {
     /// That of a net whose level at tick 0 is known.
     pub(crate) fn start(first: Level, horizon: u32) -> Tally
@@ -101,11 +84,25 @@ impl Tally {
     {
         let ticks = upto - from;
         let left = horizon - upto;
-        let changes = set_from(word.changes_from(64 - ticks), 64 - ticks);
-        Tally {
-            changes: self.changes + changes,
-            high: recounted(self.high, word.ones, ticks, left),
-            unknown: recounted_if_any(self.unknown, word.unknown, ticks, left),
+        let high = recounted(self.high, word.ones, ticks, left);
+        if word.unknown & (u64::MAX << (63 - ticks)) == 0 {
+            let known = Word {
+                ones: word.ones,
+                unknown: 0,
+            };
+            let changes = set_from(known.changes_from(64 - ticks), 64 - ticks);
+            Tally {
+                changes: self.changes + changes,
+                high,
+                unknown: self.unknown,
+            }
+        } else {
+            let changes = set_from(word.changes_from(64 - ticks), 64 - ticks);
+            Tally {
+                changes: self.changes + changes,
+                high,
+                unknown: recounted(self.unknown, word.unknown, ticks, left),
+            }
         }
     }
 

@@ -29,6 +29,7 @@ fn first_tallies(alloc: Global, design: &Design) -> Result<Vec<Tally>, AllocErro
 }
 
 // Counts what changed in a window: work goes by the nets that did.
+#[inline(never)]
 fn count_window(design: &Design, tallies: &mut [Tally], changed: &[Changed], from: u32, upto: u32)
     requires window { IsWindow (nets_of design.now) design.now.horizon from upto changed.now }
     requires tells { Tells (value design.now) (nets_of design.now) from upto changed.now }
