@@ -1,5 +1,5 @@
 -- Counting the ticks at which a waveform has a level, and its changes.
-use Rattle.std.proofs.Common.{◌≡◌, ℕ, zero, suc, ◌+◌, ◌-◌, ◌*◌, ◌%◌, ◌^◌, ◌<◌, ◌≤◌, Bool, true, false, not, length, refl, sym, ap, ◌∙◌, arith, true≢false, ◌==◌, if◌then◌else◌, length-append}
+use Rattle.std.proofs.Common.{◌≡◌, ℕ, zero, suc, ◌+◌, ◌-◌, ◌*◌, ◌/◌, ◌%◌, ◌^◌, ◌<◌, ◌≤◌, Bool, true, false, not, length, refl, sym, ap, ◌∙◌, arith, true≢false, ◌==◌, if◌then◌else◌, length-append}
 use Rattle.std.specs.Int.{bit_at}
 use Rattle.std.specs.Int.Bits.{bit_and}
 use Rattle.std.proofs.lemmas.Nat.Bits.{bit_at-lt, bit_at-zero}
@@ -13,7 +13,7 @@ use Rattle.cmb_words.proofs.StillFacts.{still-level}
 use Rattle.cmb_activity.specs.Activities.{IsActivity, ticks_at}
 use Rattle.cmb_activity.specs.declared.activity.Activity.{Activity}
 use Rattle.cmb_activity.specs.Inner.SetBits.{set_bits}
-use Rattle.cmb_activity.specs.Inner.Tallies.{CanGrow, IsTally, ticks_if_kept}
+use Rattle.cmb_activity.specs.Inner.Tallies.{CanGrow, IsTally, ticks_before, ticks_if_kept}
 use Rattle.cmb_activity.specs.declared.tally.Tally.{Tally}
 use Rattle.cmb_activity.proofs.OnesFacts.{grows, none_from}
 
@@ -256,74 +256,101 @@ pub kept : (level : ℕ → Level) (from upto horizon : ℕ) (tally : Tally) →
 kept level from upto horizon tally order within still is = record {
   begun = omega (arith, is.begun, order);
   within = within;
-  changes = still_count level from upto order still ∙ is.changes;
-  high = is.high ∙ kept_ticks level One from upto horizon is.begun order within still;
-  unknown = is.unknown ∙ kept_ticks level X from upto horizon is.begun order within still;
+  counts =
+      omega (
+        arith,
+        is.counts,
+        still_count level from upto order still,
+        kept_ticks level One from upto horizon is.begun order within still,
+        kept_ticks level X from upto horizon is.begun order within still,
+      );
 }
 
--- a count of ticks after a window, where a word's bits say which of its ticks count
-recount : (level : ℕ → Level) (wanted : Level) (bits from upto horizon old new : ℕ) → from < upto → upto ≤ horizon
+-- the ticks after a window, where a word's bits say which of its ticks count
+moved : (level : ℕ → Level) (wanted : Level) (bits from upto horizon : ℕ) → from < upto → upto ≤ horizon
     → same_level (level (from - 1)) wanted ≡ is_set_at bits (63 - (upto - from)) → same_level (level (upto - 1)) wanted ≡ is_set_at bits 63
     → ticks_at level wanted upto ≡ ticks_at level wanted from + set_bits bits (64 - (upto - from)) (upto - from)
-    → old ≡ ticks_if_kept level wanted from horizon
-    → new + (if is_set_at bits (63 - (upto - from)) then upto - from + (horizon - upto) else 0)
-    ≡ old + set_bits bits (64 - (upto - from)) (upto - from) + (if is_set_at bits 63 then horizon - upto else 0)
-    → new ≡ ticks_if_kept level wanted upto horizon
-recount level wanted bits from upto horizon old new order within first last ticks was told =
-    go (same_level (level (from - 1)) wanted) refl was (rw (sym first, sym last) at told)
+    → ticks_if_kept level wanted upto horizon + ticks_before bits (upto - from) (horizon - upto)
+    ≡ ticks_if_kept level wanted from horizon + (set_bits bits (64 - (upto - from)) (upto - from) + (if is_set_at bits 63 then horizon - upto else 0))
+moved level wanted bits from upto horizon order within first last ticks = rw (first, last) (go (is_set_at bits (63 - (upto - from))))
   where
-    go : (b : Bool) → same_level (level (from - 1)) wanted ≡ b → old ≡ ticks_if_kept level wanted from horizon
-        → new + (if same_level (level (from - 1)) wanted then upto - from + (horizon - upto) else 0)
-        ≡ old + set_bits bits (64 - (upto - from)) (upto - from) + (if same_level (level (upto - 1)) wanted then horizon - upto else 0)
-        → new ≡ ticks_if_kept level wanted upto horizon
-    go true e was told =
-        let was' : old ≡ ticks_at level wanted from + (horizon - from) = rw e at was in
-        let told' : new + (upto - from + (horizon - upto)) ≡ old + set_bits bits (64 - (upto - from)) (upto - from) + (if same_level (level (upto - 1)) wanted then horizon - upto else 0) = rw e at told in
-        omega (arith, was', told', ticks, order, within)
-    go false e was told =
-        let was' : old ≡ ticks_at level wanted from + 0 = rw e at was in
-        let told' : new + 0 ≡ old + set_bits bits (64 - (upto - from)) (upto - from) + (if same_level (level (upto - 1)) wanted then horizon - upto else 0) = rw e at told in
-        omega (arith, was', told', ticks)
+    go : (b : Bool)
+        → ticks_at level wanted upto + (if is_set_at bits 63 then horizon - upto else 0) + (if b then upto - from + (horizon - upto) else 0)
+        ≡ ticks_at level wanted from + (if b then horizon - from else 0) + (set_bits bits (64 - (upto - from)) (upto - from) + (if is_set_at bits 63 then horizon - upto else 0))
+    go true = omega (arith, ticks, order, within)
+    go false = omega (arith, ticks)
 
--- what a count of ticks must be after a window, by the bits that say which of its ticks count
-abbrev pub IsRecounted : ℕ → ℕ → ℕ → ℕ → ℕ → Type 0
-IsRecounted old new bits ticks left =
-    new + (if is_set_at bits (63 - ticks) then ticks + left else 0) ≡ old + set_bits bits (64 - ticks) ticks + (if is_set_at bits 63 then left else 0)
+-- what a word tells of the ticks before a window and at its end, and of those between
+pub record Moves (level : ℕ → Level) (ones unknown from upto horizon : ℕ) : Type 0 where
+  pub high :
+      ticks_if_kept level One upto horizon + ticks_before ones (upto - from) (horizon - upto)
+      ≡ ticks_if_kept level One from horizon + (set_bits ones (64 - (upto - from)) (upto - from) + (if is_set_at ones 63 then horizon - upto else 0))
+  pub low :
+      ticks_if_kept level X upto horizon + ticks_before unknown (upto - from) (horizon - upto)
+      ≡ ticks_if_kept level X from horizon + (set_bits unknown (64 - (upto - from)) (upto - from) + (if is_set_at unknown 63 then horizon - upto else 0))
+
+before_of_word : (level : ℕ → Level) (ones unknown from upto : ℕ) → 1 ≤ from → from < upto → upto ≤ from + 63
+    → ((tick : ℕ) → from ≤ tick + 1 → tick < upto → level_in ones unknown (tick + 64 - upto) ≡ level tick)
+    → level_in ones unknown (63 - (upto - from)) ≡ level (from - 1)
+before_of_word level ones unknown from upto some order short tells =
+    let place : from - 1 + 64 - upto ≡ 63 - (upto - from) = omega (arith, some, order, short) in
+    rw place at (tells (from - 1) (omega (arith, some)) (omega (arith, some, order)))
+
+last_of_word : (level : ℕ → Level) (ones unknown from upto : ℕ) → from < upto
+    → ((tick : ℕ) → from ≤ tick + 1 → tick < upto → level_in ones unknown (tick + 64 - upto) ≡ level tick)
+    → level_in ones unknown 63 ≡ level (upto - 1)
+last_of_word level ones unknown from upto order tells =
+    let place : upto - 1 + 64 - upto ≡ 63 = omega (arith, order) in
+    rw place at (tells (upto - 1) (omega (arith, order)) (omega (arith, order)))
+
+at_level : (level : ℕ → Level) (ones unknown : ℕ) (wanted : Level) (bits tick place : ℕ) → same_level (level_in ones unknown place) wanted ≡ is_set_at bits place
+    → level_in ones unknown place ≡ level tick → same_level (level tick) wanted ≡ is_set_at bits place
+at_level level ones unknown wanted bits tick place same is = ap (λ (l : Level). same_level l wanted) (sym is) ∙ same
+
+pub moves : (level : ℕ → Level) (ones unknown from upto horizon : ℕ)
+    → ((place : ℕ) → place < 64 → bit_at ones place + bit_at unknown place < 2)
+    → 1 ≤ from → from < upto → upto ≤ from + 63 → upto ≤ horizon
+    → ((tick : ℕ) → from ≤ tick + 1 → tick < upto → level_in ones unknown (tick + 64 - upto) ≡ level tick)
+    → Moves level ones unknown from upto horizon
+moves level ones unknown from upto horizon apart some order short within tells = record {
+  high =
+      moved level One ones from upto horizon order within
+      (at_level level ones unknown One ones (from - 1) (63 - (upto - from)) (same_one ones unknown (63 - (upto - from)) (apart (63 - (upto - from)) (omega arith))) before)
+      (at_level level ones unknown One ones (upto - 1) 63 (same_one ones unknown 63 (apart 63 (omega arith))) last) (word_ones level ones unknown from upto apart order short tells);
+  low =
+      moved level X unknown from upto horizon order within
+      (at_level level ones unknown X unknown (from - 1) (63 - (upto - from)) (same_x ones unknown (63 - (upto - from)) (apart (63 - (upto - from)) (omega arith))) before)
+      (at_level level ones unknown X unknown (upto - 1) 63 (same_x ones unknown 63 (apart 63 (omega arith))) last) (word_unknown level ones unknown from upto apart order short tells);
+}
+  where
+    before : level_in ones unknown (63 - (upto - from)) ≡ level (from - 1)
+    before = before_of_word level ones unknown from upto some order short tells
+
+    last : level_in ones unknown 63 ≡ level (upto - 1)
+    last = last_of_word level ones unknown from upto order tells
+
+-- what a tally must be after a window, by the bits of a word
+abbrev pub IsRecounted : ℕ → ℕ → ℕ → ℕ → ℕ → ℕ → ℕ → Type 0
+IsRecounted old new ones unknown mask ticks left =
+    new + ticks_before ones ticks left * 1048576 + ticks_before unknown ticks left * 1099511627776
+    ≡ old + set_bits mask (64 - ticks) ticks + (set_bits ones (64 - ticks) ticks + (if is_set_at ones 63 then left else 0)) * 1048576
+    + (set_bits unknown (64 - ticks) ticks + (if is_set_at unknown 63 then left else 0)) * 1099511627776
 
 pub grown : (level : ℕ → Level) (ones unknown mask from upto horizon : ℕ) (old new : Tally)
     → ((place : ℕ) → place < 64 → bit_at ones place + bit_at unknown place < 2)
     → from < upto → upto ≤ from + 63 → upto ≤ horizon
     → ((place : ℕ) → 64 - (upto - from) ≤ place → place < 64 → is_set_at mask place ≡ not (same_level (level_in ones unknown (place - 1)) (level_in ones unknown place)))
     → ((tick : ℕ) → from ≤ tick + 1 → tick < upto → level_in ones unknown (tick + 64 - upto) ≡ level tick)
-    → new.changes ≡ old.changes + set_bits mask (64 - (upto - from)) (upto - from)
-    → IsRecounted old.high new.high ones (upto - from) (horizon - upto) → IsRecounted old.unknown new.unknown unknown (upto - from) (horizon - upto)
+    → IsRecounted old.counts new.counts ones unknown mask (upto - from) (horizon - upto)
     → IsTally level from horizon old → IsTally level upto horizon new
-grown level ones unknown mask from upto horizon old new apart order short within set tells c h u is = record {
+grown level ones unknown mask from upto horizon old new apart order short within set tells told is = record {
   begun = omega (arith, order);
   within = within;
-  changes = omega (arith, c, is.changes, word_changes level ones unknown mask from upto is.begun order short set tells);
-  high =
-      recount level One ones from upto horizon old.high new.high order within (at One ones (from - 1) (63 - (upto - from)) (same_one ones unknown (63 - (upto - from)) (apart (63 - (upto - from)) (omega arith))) before)
-      (at One ones (upto - 1) 63 (same_one ones unknown 63 (apart 63 (omega arith))) last) (word_ones level ones unknown from upto apart order short tells) is.high h;
-  unknown =
-      recount level X unknown from upto horizon old.unknown new.unknown order within (at X unknown (from - 1) (63 - (upto - from)) (same_x ones unknown (63 - (upto - from)) (apart (63 - (upto - from)) (omega arith))) before)
-      (at X unknown (upto - 1) 63 (same_x ones unknown 63 (apart 63 (omega arith))) last) (word_unknown level ones unknown from upto apart order short tells) is.unknown u;
+  counts = omega (arith, told, is.counts, word_changes level ones unknown mask from upto is.begun order short set tells, moves'.high, moves'.low);
 }
   where
-    before : level_in ones unknown (63 - (upto - from)) ≡ level (from - 1)
-    before =
-        let some : 1 ≤ from = is.begun in
-        let place : from - 1 + 64 - upto ≡ 63 - (upto - from) = omega (arith, some, order, short) in
-        rw place at (tells (from - 1) (omega (arith, some)) (omega (arith, some, order)))
-
-    last : level_in ones unknown 63 ≡ level (upto - 1)
-    last =
-        let place : upto - 1 + 64 - upto ≡ 63 = omega (arith, order) in
-        rw place at (tells (upto - 1) (omega (arith, order)) (omega (arith, order)))
-
-    at : (wanted : Level) (bits tick place : ℕ) → same_level (level_in ones unknown place) wanted ≡ is_set_at bits place → level_in ones unknown place ≡ level tick
-        → same_level (level tick) wanted ≡ is_set_at bits place
-    at wanted bits tick place same is = ap (λ (l : Level). same_level l wanted) (sym is) ∙ same
+    moves' : Moves level ones unknown from upto horizon
+    moves' = moves level ones unknown from upto horizon apart is.begun order short within tells
 
 -- ---- what a tally is at most and at least
 
@@ -342,53 +369,72 @@ count_few level (suc k) =
     step true = omega arith
     step false = omega arith
 
+few_changes : (level : ℕ → Level) (from : ℕ) → 1 ≤ from → count_below level from ≤ count_below level 1 + (from - 1)
+few_changes level from some =
+    let all : 1 + (from - 1) ≡ from = omega (arith, some) in
+    rw all at (count_few level (from - 1))
+
+-- changes don't go away
+some_changes : (level : ℕ → Level) (k : ℕ) → count_below level 1 ≤ count_below level (1 + k)
+some_changes level zero = omega arith
+some_changes level (suc k) =
+    omega (arith, some_changes level k, count_next level (1 + k), ap (count_below level) (let e : 1 + suc k ≡ suc (1 + k) = omega arith in e))
+
+least_changes : (level : ℕ → Level) (from : ℕ) → 1 ≤ from → count_below level 1 ≤ count_below level from
+least_changes level from some =
+    let all : 1 + (from - 1) ≡ from = omega (arith, some) in
+    rw all at (some_changes level (from - 1))
+
 if_most : (b : Bool) (n : ℕ) → (if b then n else 0) ≤ n
 if_most true n = omega arith
 if_most false n = omega arith
 
-few_ticks : (level : ℕ → Level) (tick : ℕ) → (ticks_at level One tick ≤ tick) × (ticks_at level X tick ≤ tick)
-few_ticks level tick = (omega (arith, each_tick level tick), omega (arith, each_tick level tick))
+few_ticks : (level : ℕ → Level) (wanted : Level) (clock horizon : ℕ) → clock ≤ horizon → ticks_at level wanted clock ≤ clock → ticks_if_kept level wanted clock horizon ≤ horizon
+few_ticks level wanted clock horizon within few = omega (arith, within, few, if_most (same_level (level (clock - 1)) wanted) (horizon - clock))
 
 pub can_grow : (level : ℕ → Level) (ones unknown from upto horizon : ℕ) (tally : Tally)
     → ((place : ℕ) → place < 64 → bit_at ones place + bit_at unknown place < 2)
-    → from < upto → upto ≤ from + 63
+    → from < upto → upto ≤ from + 63 → upto ≤ horizon → horizon ≤ 1000000
     → ((tick : ℕ) → from ≤ tick + 1 → tick < upto → level_in ones unknown (tick + 64 - upto) ≡ level tick)
     → IsTally level from horizon tally → CanGrow from upto horizon ones unknown tally
-can_grow level ones unknown from upto horizon tally apart order short tells is = record {
-  changes = omega (arith, is.changes, is.begun, few);
-  most_high = omega (arith, is.high, is.within, (few_ticks level from).0, if_most (same_level (level (from - 1)) One) (horizon - from));
-  most_unknown = omega (arith, is.unknown, is.within, (few_ticks level from).1, if_most (same_level (level (from - 1)) X) (horizon - from));
-  least_high = λ set. least One tally.high (ap (λ (l : Level). same_level l One) (sym before) ∙ same_one ones unknown (63 - (upto - from)) (apart (63 - (upto - from)) (omega arith)) ∙ set) is.high;
-  least_unknown = λ set. least X tally.unknown (ap (λ (l : Level). same_level l X) (sym before) ∙ same_x ones unknown (63 - (upto - from)) (apart (63 - (upto - from)) (omega arith)) ∙ set) is.unknown;
+can_grow level ones unknown from upto horizon tally apart order short within small tells is = record {
+  most = omega (arith, is.counts, is.within, small, few_changes level from is.begun, high, other);
+  least =
+      omega (
+        arith,
+        is.counts,
+        least_changes level from is.begun,
+        least One ones (at_level level ones unknown One ones (from - 1) (63 - (upto - from)) (same_one ones unknown (63 - (upto - from)) (apart (63 - (upto - from)) (omega arith))) before),
+        least X unknown (at_level level ones unknown X unknown (from - 1) (63 - (upto - from)) (same_x ones unknown (63 - (upto - from)) (apart (63 - (upto - from)) (omega arith))) before),
+      );
 }
   where
-    few : count_below level from ≤ count_below level 1 + (from - 1)
-    few =
-        let all : 1 + (from - 1) ≡ from = omega (arith, is.begun) in
-        rw all at (count_few level (from - 1))
+    high : ticks_if_kept level One from horizon ≤ horizon
+    high = few_ticks level One from horizon is.within (omega (arith, each_tick level from))
+
+    other : ticks_if_kept level X from horizon ≤ horizon
+    other = few_ticks level X from horizon is.within (omega (arith, each_tick level from))
 
     before : level_in ones unknown (63 - (upto - from)) ≡ level (from - 1)
-    before =
-        let some : 1 ≤ from = is.begun in
-        let place : from - 1 + 64 - upto ≡ 63 - (upto - from) = omega (arith, some, order, short) in
-        rw place at (tells (from - 1) (omega (arith, some)) (omega (arith, some, order)))
+    before = before_of_word level ones unknown from upto is.begun order short tells
 
-    least : (wanted : Level) (n : ℕ) → same_level (level (from - 1)) wanted ≡ true → n ≡ ticks_if_kept level wanted from horizon → horizon - from ≤ n
-    least wanted n e h =
-        let h' : n ≡ ticks_at level wanted from + (horizon - from) = rw e at h in
-        omega (arith, h')
+    least : (wanted : Level) (bits : ℕ) → same_level (level (from - 1)) wanted ≡ is_set_at bits (63 - (upto - from))
+        → ticks_before bits (upto - from) (horizon - upto) ≤ ticks_if_kept level wanted from horizon
+    least wanted bits e = rw e (go (is_set_at bits (63 - (upto - from))))
+      where
+        go : (b : Bool) → (if b then upto - from + (horizon - upto) else 0) ≤ ticks_at level wanted from + (if b then horizon - from else 0)
+        go true = omega (arith, order, within)
+        go false = omega arith
 
 -- ---- the ends of a run
 
 -- what is counted at tick 0
-pub starts : (level : ℕ → Level) (first : Level) (horizon : ℕ) (new : Tally) → 1 ≤ horizon → level 0 ≡ first → new.changes ≡ 0
-    → new.high ≡ (if same_level first One then horizon else 0) → new.unknown ≡ (if same_level first X then horizon else 0) → IsTally level 1 horizon new
-starts level first horizon new some at changes high unknown = record {
+pub starts : (level : ℕ → Level) (first : Level) (horizon : ℕ) (new : Tally) → 1 ≤ horizon → level 0 ≡ first
+    → new.counts ≡ (if same_level first One then horizon else 0) * 1048576 + (if same_level first X then horizon else 0) * 1099511627776 → IsTally level 1 horizon new
+starts level first horizon new some at counts = record {
   begun = omega arith;
   within = some;
-  changes = omega (arith, changes);
-  high = high ∙ each One;
-  unknown = unknown ∙ each X;
+  counts = omega (arith, counts, each One, each X);
 }
   where
     go : (b : Bool) → (if b then horizon else 0) ≡ 0 + (if b then 1 else 0) + (if b then horizon - 1 else 0)
@@ -403,28 +449,38 @@ starts level first horizon new some at changes high unknown = record {
         ∙ ap (λ (n : ℕ). n + (if same_level (level 0) wanted then horizon - 1 else 0)) (sym one)
 
 -- what is counted at the horizon
-at_end : (level : ℕ → Level) (wanted : Level) (horizon n : ℕ) → n ≡ ticks_if_kept level wanted horizon horizon → n ≡ ticks_at level wanted horizon
-at_end level wanted horizon n h = omega (arith, h, none (same_level (level (horizon - 1)) wanted))
+at_end : (level : ℕ → Level) (wanted : Level) (horizon : ℕ) → ticks_if_kept level wanted horizon horizon ≡ ticks_at level wanted horizon
+at_end level wanted horizon = omega (arith, none (same_level (level (horizon - 1)) wanted))
   where
     none : (b : Bool) → (if b then horizon - horizon else 0) ≡ 0
     none true = omega arith
     none false = refl
 
-pub most_of : (level : ℕ → Level) (horizon : ℕ) (tally : Tally) → IsTally level horizon horizon tally → tally.high + tally.unknown ≤ horizon
-most_of level horizon tally is =
-    omega (arith, at_end level One horizon tally.high is.high, at_end level X horizon tally.unknown is.unknown, each_tick level horizon)
+-- the three counts of a tally
+parts : (counts changes high unknown : ℕ) → changes < 1048576 → high < 1048576 → counts ≡ changes + high * 1048576 + unknown * 1099511627776
+    → (counts % 1048576 ≡ changes) × (counts / 1048576 % 1048576 ≡ high) × (counts / 1099511627776 ≡ unknown)
+parts counts changes high unknown few fewer is = (omega (arith, is, few, fewer), omega (arith, is, few, fewer), omega (arith, is, few, fewer))
 
-pub ends : (level : ℕ → Level) (horizon : ℕ) (tally : Tally) (all : Activity) → all.changes ≡ tally.changes → all.low ≡ horizon - tally.high - tally.unknown
-    → all.high ≡ tally.high → all.unknown ≡ tally.unknown → IsTally level horizon horizon tally → IsActivity level horizon all
-ends level horizon tally all c l h u is = record {
-  changes = omega (arith, c, is.changes);
-  low = omega (arith, l, high, unknown, each_tick level horizon);
-  high = h ∙ high;
-  unknown = u ∙ unknown;
-}
-  where
-    high : tally.high ≡ ticks_at level One horizon
-    high = at_end level One horizon tally.high is.high
+parts_of : (level : ℕ → Level) (horizon : ℕ) (tally : Tally) → horizon ≤ 1000000 → IsTally level horizon horizon tally
+    → (tally.counts % 1048576 ≡ count_below level horizon - count_below level 1) × (tally.counts / 1048576 % 1048576 ≡ ticks_at level One horizon)
+    × (tally.counts / 1099511627776 ≡ ticks_at level X horizon)
+parts_of level horizon tally small is =
+    parts tally.counts (count_below level horizon - count_below level 1) (ticks_at level One horizon) (ticks_at level X horizon)
+    (omega (arith, small, few_changes level horizon is.begun)) (omega (arith, small, each_tick level horizon))
+    (omega (arith, is.counts, at_end level One horizon, at_end level X horizon, least_changes level horizon is.begun))
 
-    unknown : tally.unknown ≡ ticks_at level X horizon
-    unknown = at_end level X horizon tally.unknown is.unknown
+pub most_of : (level : ℕ → Level) (horizon : ℕ) (tally : Tally) → horizon ≤ 1000000 → IsTally level horizon horizon tally
+    → tally.counts / 1048576 % 1048576 + tally.counts / 1099511627776 ≤ horizon
+most_of level horizon tally small is = let all = parts_of level horizon tally small is in omega (arith, all.1, all.2, each_tick level horizon)
+
+pub ends : (level : ℕ → Level) (horizon : ℕ) (tally : Tally) (all : Activity) → horizon ≤ 1000000 → all.changes ≡ tally.counts % 1048576
+    → all.high ≡ tally.counts / 1048576 % 1048576 → all.unknown ≡ tally.counts / 1099511627776 → all.low ≡ horizon - all.high - all.unknown
+    → IsTally level horizon horizon tally → IsActivity level horizon all
+ends level horizon tally all small c h u l is =
+    let told = parts_of level horizon tally small is in
+    record {
+      changes = omega (arith, c, told.0, least_changes level horizon is.begun);
+      low = omega (arith, l, h, u, told.1, told.2, each_tick level horizon);
+      high = h ∙ told.1;
+      unknown = u ∙ told.2;
+    }

@@ -62,9 +62,10 @@ next_tells level nets from upto horizon c cs tallies amid tick after below =
 
 -- it can be counted on top of what was counted of its net
 pub next_can_grow : (level : ℕ → ℕ → Level) (nets from upto horizon : ℕ) (c : Changed) (cs : List Changed) (tallies : List Tally) (d : Tally) → from < upto → upto ≤ from + 63
+    → upto ≤ horizon → horizon ≤ 1000000
     → AreCounted level nets from upto horizon (c ∷ cs) tallies → CanGrow from upto horizon c.word.ones c.word.unknown (get_or tallies c.net d)
-next_can_grow level nets from upto horizon c cs tallies d order short amid =
-    can_grow (level c.net) c.word.ones c.word.unknown from upto horizon _ c.word.apart order short (next_tells level nets from upto horizon c cs tallies amid)
+next_can_grow level nets from upto horizon c cs tallies d order short within small amid =
+    can_grow (level c.net) c.word.ones c.word.unknown from upto horizon _ c.word.apart order short within small (next_tells level nets from upto horizon c cs tallies amid)
     (amid.left c.net d amid.rises.0 amid.rises.1)
 
 pub next_is : (level : ℕ → ℕ → Level) (nets from upto horizon end : ℕ) (c : Changed) (cs : List Changed) (tallies : List Tally) (d new : Tally) → end ≡ horizon

@@ -13,7 +13,7 @@ grown-requires-clause-fits c =
     subst (λ (h : ℕ). CanGrow c.args.from c.args.upto h c.one-item.result.word.ones c.one-item.result.word.unknown (slice_index_or c.loop-one.tallies c.one-item.result.net _))
     (sym c.horizon-horizon.ensures.value)
     (next_can_grow (value c.args.design.now) (nets_of c.args.design.now) c.args.from c.args.upto c.args.design.now.horizon c.one-item.result
-    (drop (suc c.loop-one.one-index) c.args.changed.now) c.loop-one.tallies _ c.requires.window.order c.requires.window.short
+    (drop (suc c.loop-one.one-index) c.args.changed.now) c.loop-one.tallies _ c.requires.window.order c.requires.window.short c.requires.window.within (omega (arith, c.horizon-horizon.ensures.value, c.horizon-horizon.ensures.small.1))
     (subst (λ (rest : List Changed). AreCounted (value c.args.design.now) (nets_of c.args.design.now) c.args.from c.args.upto c.args.design.now.horizon rest c.loop-one.tallies) here c.loop-one.invariant))
   where
     here : drop c.loop-one.one-index c.args.changed.now ≡ c.one-item.result ∷ drop (suc c.loop-one.one-index) c.args.changed.now
