@@ -113,9 +113,9 @@ impl Clustering {
         nets: u32,
         clusters: PartCount,
     ) -> Result<Clustering, AllocError>
-        ensures { IfOk result (λ spread. spread ≡ round_robin nets clusters) }
+        ensures { IfOk result (λ spread. spread ≡ round_robin nets clusters.count) }
     {
-        let clusters = clusters.get();
+        let clusters = clusters.count;
         Ok(Clustering {
             clusters,
             assign: in_turn(alloc, nets, clusters)?,

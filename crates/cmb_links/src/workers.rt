@@ -25,10 +25,10 @@ impl Model for Workers {
 impl From<PartCount> for Workers {
     ghost use Rattle.std.specs.Prelude.{◌≡◌};
 
-    ghost from_gives = { λ parts workers. workers ≡ parts };
+    ghost from_gives = { λ parts workers. workers ≡ parts.count };
 
     fn from(parts: PartCount) -> Workers {
-        Workers { count: parts.get() }
+        Workers { count: parts.count }
     }
 }
 

@@ -37,10 +37,10 @@ pub(crate) fn check_mode(mode: Mode, design: &Design) -> Result<(), Fault>
 /// By how many threads at most the engine makes the text.
 pub(crate) fn threads_in(request: Request) -> u32 {
     match (request.threads, request.mode) {
-        (Some(threads), _) => threads.get(),
+        (Some(threads), _) => threads.count,
         (None, Mode::Plain) => 1,
         (None, Mode::Rounds { workers, clusters } | Mode::Free { workers, clusters }) => {
-            workers.get().min(clusters.get())
+            workers.count.min(clusters.count)
         }
     }
 }

@@ -39,7 +39,7 @@ pub(crate) fn workers_pay(workers: PartCount, clusters: PartCount, design: &Desi
 {
     let nets = design.netlist().len() as u64;
     let pairs = nets.saturating_mul(u64::from(design.horizon()));
-    2 <= workers.get() && 2 <= clusters.get() && pairs <= MOST_BY_WORKERS
+    2 <= workers.count && 2 <= clusters.count && pairs <= MOST_BY_WORKERS
 }
 
 // About how many samples the flip-flops of a design take in its run.

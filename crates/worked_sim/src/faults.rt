@@ -84,9 +84,9 @@ fn operands(rt: HostRuntime) -> Result<(), Fail> {
 
 #[test]
 fn part_counts(rt: HostRuntime) {
-    same(&rt, PartCount::ONE.get(), 1);
+    same(&rt, PartCount::ONE.count, 1);
     for n in [1, 2, 64] {
-        same(&rt, PartCount::new(n).map(|parts| parts.get()), Some(n));
+        same(&rt, PartCount::new(n).map(|parts| parts.count), Some(n));
     }
     for n in [0, 65, u32::MAX] {
         same(&rt, PartCount::new(n), None);

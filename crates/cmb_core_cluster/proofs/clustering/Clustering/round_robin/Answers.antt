@@ -10,11 +10,9 @@ all_below many nets some = All-map (λ cluster. cluster < many) (λ net. net % m
 
 pub invariant_of-result : goal.invariant_of-result
 invariant_of-result c =
-    let many : ℕ = c.get-clusters.result in
-    let some : 1 ≤ many = omega (arith, c.get-clusters.ensures.count, c.get-clusters.ensures.some) in
-    let few : many ≤ 64 = omega (arith, c.get-clusters.ensures.count, c.get-clusters.ensures.few) in
+    let many : ℕ = c.args.clusters.count in
     record {
-      few = (some, few);
+      few = (c.args.clusters.some, c.args.clusters.few);
       each = omega arith;
-      there = subst (λ assign. All (λ cluster. cluster < many) assign) (sym c.in_ok-in_turn.ensures) (all_below many c.args.nets some);
+      there = subst (λ assign. All (λ cluster. cluster < many) assign) (sym c.in_ok-in_turn.ensures) (all_below many c.args.nets c.args.clusters.some);
     }
