@@ -5,7 +5,7 @@ ghost use Rattle.std.specs.Prelude.{◌≡◌, ◌≤◌, IfErr, IfOk};
 ghost use Rattle.std.specs.Process.{exit_status};
 ghost use Rattle.cmb_host.specs.Statuses.{done_status};
 
-use crate::open_files::Refusal;
+use crate::files::Refusal;
 use cmb_cli::line_message;
 use cmb_cli_line::Line;
 use cmb_design_model::DesignFault;
