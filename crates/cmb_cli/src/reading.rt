@@ -21,11 +21,11 @@ ghost use Rattle.cmb_cli_line.specs.declared.choice.Pick.TheVariants.{Listed};
 use crate::clock::{clock_message, clock_of};
 use crate::explaining::{explain_command, explain_fault, explain_message};
 use crate::help::{
-    ABOUT, ACTIVITY, BEGIN, CHECK, BELOW_EXPECT, EXPECT, BELOW_RUN, NETLIST_HINT, NO_COMMAND, RUN,
-    BELOW_ACTIVITY, USUAL, VERSION,
+    ABOUT, ACTIVITY, BEGIN, BELOW_ACTIVITY, BELOW_EXPECT, BELOW_RUN, CHECK, EXPECT, NETLIST_HINT,
+    NO_COMMAND, RUN, USUAL, VERSION,
 };
 use crate::options::{
-    CHECKING, CHOOSING, EXPECTING, SCOPING, RUNNING, SETTINGS, REPORTING, first_line, with_options,
+    CHECKING, CHOOSING, EXPECTING, REPORTING, RUNNING, SCOPING, SETTINGS, first_line, with_options,
 };
 use crate::reporting::{is_explained, is_quiet};
 use clap::error::ErrorKind;

@@ -171,7 +171,10 @@ fn pass_to<T: ClusterRun>(
 }
 
 // Gives each worker what is new of the nets that it reads.
-fn pass_on<T: ClusterRun>(clustering: &Clustering, hands: &mut [RoundWorker<T>]) -> Result<(), AllocError>
+fn pass_on<T: ClusterRun>(
+    clustering: &Clustering,
+    hands: &mut [RoundWorker<T>],
+) -> Result<(), AllocError>
     requires clustering { clustering.now ≡ T.clustering }
     requires hands { AreHandsOf T.design T.clustering hands.old }
     ensures kept { OnOk result (AreHandsOf T.design T.clustering hands.new) }

@@ -18,6 +18,7 @@ use Rattle.cmb_sim.specs.Simulation.{IsBroken}
 use Rattle.cmb_sim.specs.declared.plan.Plan.{Plan}
 use Rattle.cmb_sim.specs.declared.plan.Way.{Way}
 use Rattle.cmb_sim.specs.declared.plan.Way.TheVariants.{Free}
+use Rattle.cmb_netlist.specs.declared.part_count.PartCount.{PartCount}
 
 -- memory ran out before anything was written
 pub IsPut-memory : (text : List ℕ) (Breaks : Fault → Type 0) (old : Option (List ℕ)) (n : ℕ) → IsPut text Breaks (output old old n n) (Err fault.Memory)
@@ -60,7 +61,7 @@ IsPut-stream design way old new before after (stream.Write n) streams h = record
 IsPut-stream design way old new before after stream.Memory streams h = record { told = tt; taken = tt; fault = inr (streams, h) }
 
 -- the same of workers that run freely, which may be stopped
-pub IsPut-free : (workers clusters : ℕ) (design : Design) (old new : Option (List ℕ)) (before after : ℕ) (f : RunFault)
+pub IsPut-free : (workers clusters : PartCount) (design : Design) (old new : Option (List ℕ)) (before after : ℕ) (f : RunFault)
     → IsCutAt design old new before after f → IsPut (vcd design) (MayBreak (Free workers clusters) design) (output old new before after) (Err (run_as_fault f))
 IsPut-free workers clusters design old new before after (run.Incomplete net upto collector) h = record {
   told = tt;

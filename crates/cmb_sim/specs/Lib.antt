@@ -6,7 +6,6 @@ pub mod Tasks
 -- what the functions inside the crate promise each other
 pub mod Inner
 -- what the public contracts rest on in crates below
-pub use Rattle.cmb_cli_line.specs.Modes
 pub use Rattle.cmb_faults.specs.Numbers
 pub use Rattle.cmb_inputs.specs.Checking
 pub use Rattle.cmb_inputs.specs.Chosen

@@ -1,5 +1,6 @@
 -- What a whole simulation answers, and what it writes.
 use Rattle.std.specs.Prelude.{◌≡◌, ℕ, ◌<◌, ◌≤◌, ◌⊎◌, Bool, false, List, [], ◌∷◌, length, nat_lt, Option, None, Some, Result, IfOk, IfErr, ⊤}
+use Rattle.cmb_netlist.specs.declared.part_count.PartCount.{PartCount}
 use Rattle.cmb_netlist.specs.Netlist.{Netlist}
 use Rattle.cmb_design_model.specs.Checks.{Check, check, first_fault}
 use Rattle.cmb_design_model.specs.Design.{Design}
@@ -47,8 +48,8 @@ IsStreamed (Free workers clusters) All false = ⊤
 IsStreamed _ _ _ = ⊥
 
 -- the run can be stopped: several workers run freely, and write the text meanwhile
-abbrev pub CanBeStopped : Mode → Option ℕ → Choice → Bool → Type 0
-CanBeStopped (Free workers clusters) None All false = (2 ≤ workers) × (2 ≤ clusters)
+abbrev pub CanBeStopped : Mode → Option PartCount → Choice → Bool → Type 0
+CanBeStopped (Free workers clusters) None All false = (2 ≤ workers.count) × (2 ≤ clusters.count)
 CanBeStopped _ _ _ _ = ⊥
 
 -- ---- what is to come of texts

@@ -35,7 +35,7 @@ const PARTS: u32 = 50;
 /// Whether several workers have the nets of a design. Else the engine carries all of them: where one worker has them,
 /// and where several wouldn't pay.
 pub(crate) fn workers_pay(workers: PartCount, clusters: PartCount, design: &Design) -> bool
-    ensures { result ≡ true → (2 ≤ workers) × (2 ≤ clusters) }
+    ensures { result ≡ true → (2 ≤ workers.count) × (2 ≤ clusters.count) }
 {
     let nets = design.netlist().len() as u64;
     let pairs = nets.saturating_mul(u64::from(design.horizon()));

@@ -2,10 +2,10 @@
 
 ghost use Rattle.std.specs.Prelude.{◌≡◌};
 
+use crate::batch_maker::BatchMaker;
 use crate::formatter::Formatter;
 use crate::job::{Inlet, Outlet, TextInlet};
 use crate::lead::Lead;
-use crate::batch_maker::BatchMaker;
 use crate::ports::FormatterPorts;
 use crate::team_run::TeamRun;
 use crate::texts::{Others, Texts};
