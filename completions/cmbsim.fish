@@ -34,7 +34,7 @@ complete -c cmbsim -n '__cmbsim_does run' -l only -rF -d 'Writes only the nets w
 complete -c cmbsim -n '__cmbsim_does run' -l only-outputs -d 'Writes only the nets that OUTPUT statements name'
 complete -c cmbsim -n '__cmbsim_does run' -l scopes -d 'Parts names at dots into modules, and declares led[3] as bit 3 of the bus led'
 complete -c cmbsim -n '__cmbsim_does run' -l progress -d 'Shows meanwhile how far the text is; selects mode free unless --mode is given'
-complete -c cmbsim -n '__cmbsim_does run' -l stats -d 'Tells at the end, on standard error, what the run took'
+complete -c cmbsim -n '__cmbsim_does run' -l stats -d 'Reports at the end, on standard error, what the run took'
 complete -c cmbsim -n '__cmbsim_does run' -s h -l help -d 'Print help (see more with '\''--help'\'')'
 complete -c cmbsim -n '__cmbsim_at 1; or __cmbsim_at 2 help' -a activity -d 'Reads what run would simulate, and writes how active each net is, as comma-separated values'
 complete -c cmbsim -n '__cmbsim_does activity' -l horizon -x -d 'Simulates the ticks 0 to N-1, N from 1 to 1,000,000'

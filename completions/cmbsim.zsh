@@ -77,7 +77,7 @@ _cmbsim() {
                         '--only-outputs[Writes only the nets that OUTPUT statements name]' \
                         '--scopes[Parts names at dots into modules, and declares led\[3\] as bit 3 of the bus led]' \
                         '--progress[Shows meanwhile how far the text is; selects mode free unless --mode is given]' \
-                        '--stats[Tells at the end, on standard error, what the run took]' \
+                        '--stats[Reports at the end, on standard error, what the run took]' \
                         '(- *)'{-h,--help}'[Print help (see more with '\''--help'\'')]'
                     ;;
                 activity)
