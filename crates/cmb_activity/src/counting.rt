@@ -1,6 +1,7 @@
 //! Counting a net's changes and the ticks of each level.
 
-ghost use Rattle.std.specs.Prelude.{◌≡◌, ℕ, ◌+◌, ◌-◌, ◌*◌, ◌/◌, ◌%◌, ◌^◌, ◌<◌, ◌≤◌, if◌then◌else◌};
+ghost use Rattle.std.specs.Prelude.{◌≡◌, ℕ, ◌<◌, ◌≤◌, if◌then◌else◌};
+ghost use Rattle.std.specs.Prelude.{◌+◌, ◌-◌, ◌*◌, ◌/◌, ◌%◌, ◌^◌};
 ghost use Rattle.cmb_wave.specs.declared.level.Level.{Level};
 ghost use Rattle.cmb_words.specs.Bits.{is_set_at};
 ghost use Rattle.cmb_words.specs.Word.{level_at_place};
@@ -32,8 +33,8 @@ fn set_from(bits: u64, place: u32) -> u32
     (bits & (u64::MAX << place)).count_ones()
 }
 
-// The ticks from a window's beginning on up to the horizon, where the bit of the tick before it is set. The last bits are
-// those of the window's ticks, and so many more are left behind it.
+// The ticks from a window's beginning on up to the horizon, where the bit of the tick before it is set. The last bits
+// are those of the window's ticks, and so many more are left behind it.
 #[inline]
 fn lost(bits: u64, ticks: u32, left: u32) -> u64
     requires most { ticks ≤ 63 }
@@ -84,7 +85,8 @@ impl Tally {
         requires small { horizon ≤ 1000000 }
         requires fits { CanGrow from upto horizon word.ones word.unknown self }
         ensures { (level : ℕ → Level) → IsTally level from horizon self
-            → ((tick : ℕ) → from ≤ tick + 1 → tick < upto → level_at_place word (tick + 64 - upto) ≡ level tick)
+            → ((tick : ℕ) → from ≤ tick + 1 → tick < upto
+            → level_at_place word (tick + 64 - upto) ≡ level tick)
             → IsTally level upto horizon result }
     {
         let ticks = upto - from;

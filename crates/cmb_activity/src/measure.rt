@@ -79,7 +79,7 @@ fn all_at(alloc: Global, design: &Design, tallies: &[Tally]) -> Result<Vec<Activ
     Ok(all)
 }
 
-/// How active each net of a design's run is, by the nets' numbers. What it needs of memory doesn't grow with the
+/// How active each net of a design's run is, by the nets' numbers. What it needs of memory hardly grows with the
 /// horizon. Errors: memory was refused.
 pub fn activities(alloc: Global, design: &Design) -> Result<Vec<Activity>, AllocError>
     ensures { IfOk result (λ activities. AreActivities design.now activities.items) }

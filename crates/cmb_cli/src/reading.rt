@@ -1,18 +1,7 @@
 //! The words of the program's command line, and what is said of words that ask for nothing.
 
-ghost use Rattle.std.specs.Prelude.{
-  ◌≡◌,
-  ◌≤◌,
-  ◌↔◌,
-  IfOk,
-  IsSome,
-  Some,
-  codes,
-  false,
-  option_map,
-  string_bytes,
-  true,
-};
+ghost use Rattle.std.specs.Prelude.{◌≡◌, ◌≤◌, ◌↔◌, IfOk, IsSome, Some, false, true};
+ghost use Rattle.std.specs.Prelude.{codes, option_map, string_bytes};
 ghost use Rattle.clap.specs.Matches.{first_value, found_of, one_text};
 ghost use Rattle.cmb_cli.specs.Inner.Clocks.{IsClockIn};
 ghost use Rattle.cmb_cli_line.specs.declared.choice.Choice.TheVariants.{Only};

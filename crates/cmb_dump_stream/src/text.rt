@@ -39,8 +39,8 @@ pub fn write_rest<M: TextMaker, S: Sink>(
     Ok(kept.given())
 }
 
-/// Writes the VCD text of a design's run while it is made, and gives its length. What it needs of memory doesn't
-/// grow with the horizon. Whatever the fault, the sink took a beginning of the text. A failed write is the answer
+/// Writes the VCD text of a design's run while it is made, and gives its length. What it needs of memory hardly
+/// grows with the horizon. Whatever the fault, the sink took a beginning of the text. A failed write is the answer
 /// then and only then; else memory was refused.
 pub fn write_stream<S: Sink>(
     alloc: Global,

@@ -249,7 +249,8 @@ impl Board {
     pub fn raise(&self, seat: &mut Seat)
         requires board { seat.old.board ≡ self.now }
         ensures entry { seat.new ≡ with_view seat.old (after_raise seat.old.view) }
-        ensures moment { Moment seat.new.view (λ s. slice_index s.words (nets_of seat.old.view.board_run.design) ≡ 1) }
+        ensures moment { Moment seat.new.view
+            (λ s. slice_index s.words (nets_of seat.old.view.board_run.design) ≡ 1) }
     {
         self.table
             .shared
@@ -300,7 +301,8 @@ impl Board {
     /// was published by that seat, and isn't above its newest. Where memory is refused, the board is given up.
     pub fn close(self, alloc: Global, seats: Vec<Seat>) -> Result<Ending, AllocError>
         requires seats { AreAllSeats self seats.items }
-        ensures nets { IfOk result (λ end. All (λ s. vec_len end.promises ≡ nets_of s.view.board_run.design) seats.items) }
+        ensures nets { IfOk result (λ end.
+            All (λ s. vec_len end.promises ≡ nets_of s.view.board_run.design) seats.items) }
         ensures words { IfOk result (λ end.
             All (λ s. EndsAs end.promises.items end.is_raised end.finished (map (λ s. s.view) seats.items) s.view)
             seats.items) }

@@ -83,8 +83,8 @@ pub enum Driver {
 impl Driver {
     ghost use Rattle.cmb_netlist.specs.Netlist.{pins_of};
 
-    /// The nets that the driver reads, in the order of its pins: none of an input, the operands of a gate, the data of a
-    /// flip-flop.
+    /// The nets that the driver reads, in the order of its pins: none of an input, the operands of a gate, the data of
+    /// a flip-flop.
     pub fn pins(&self) -> &[u32]
         ensures { result.now ≡ pins_of self.now }
     {

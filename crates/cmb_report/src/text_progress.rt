@@ -1,16 +1,8 @@
 //! What a text of waveforms says as it goes by: how far it is, and how many changes it has.
 
 ghost use Rattle.std.specs.Prelude.{◌≡◌, length};
-ghost use Rattle.cmb_report.specs.Progress.{
-  advanced,
-  begun,
-  counted,
-  lengthened,
-  no_text,
-  place_after,
-  placed,
-  stepped,
-};
+ghost use Rattle.cmb_report.specs.Progress.{advanced, begun, counted, lengthened, no_text};
+ghost use Rattle.cmb_report.specs.Progress.{place_after, placed, stepped};
 
 // Where in a line the next byte stands.
 #[derive(Clone, Copy, Debug, PartialEq, Eq)]

@@ -4,6 +4,7 @@ use crate::checks::{holds, same};
 use crate::toggle::{D, Q, TOGGLE, at, pair, pulse};
 use cmb_core_cluster::{Cluster, Clustering, ClusteringFault, DeliverFault};
 use cmb_design_model::{Design, Settings};
+use cmb_netlist::PartCount;
 use cmb_wave::{Change, Heard, Level, Piece, Promise, Wave};
 use std::alloc::Global;
 use std::process::Abort;
@@ -358,6 +359,13 @@ fn promise_overtakes(rt: HostRuntime) -> Result<(), Fail> {
     let mut input = in_a_row(&rt, rt.alloc(), 0)?;
     let mut flop = in_a_row(&rt, rt.alloc(), 1)?;
     row_with(&rt, rt.alloc(), &mut input, &mut flop)
+}
+
+#[test]
+fn clusters_in_turn(rt: HostRuntime) -> Result<(), Fail> {
+    let one = Clustering::round_robin(rt.alloc(), 3, PartCount::ONE)?;
+    same(&rt, one.clusters(), 1);
+    Ok(())
 }
 
 #[test]

@@ -13,7 +13,7 @@ use crate::exact::ExactCluster;
 use crate::trouble::Trouble;
 use crate::worker::TURNS;
 use cmb_design_model::Design;
-use cmb_links::{Full, Link, LinkFault, PutPass, TakePass, Workers, WorkersFault};
+use cmb_links::{Full, Link, LinkFault, PartCount, PutPass, TakePass, Workers, WorkersFault};
 use cmb_wave::{Piece, Wave};
 use std::alloc::Global;
 use std::sync::Wait;
@@ -255,6 +255,7 @@ fn are_workers_right() -> bool {
     Workers::new(0) == Err(WorkersFault::Workers)
         && Workers::new(65) == Err(WorkersFault::Workers)
         && WorkersFault::Workers.number() == 54
+        && Workers::from(PartCount::ONE).count() == 1
 }
 
 /// Which capacities of a link and which numbers of workers are refused, and by which fault.
