@@ -138,13 +138,43 @@ pub not_apart : (a b i : ℕ) → i < 64 → bit_at a i + bit_at b i < 2
     → bit_at (bit_xor (bit_or a b) (2 ^ 64 - 1)) i + bit_at b i < 2
 not_apart a b i small h = omega (arith, not_bit a b i small)
 
--- ---- masks over levels
+-- ---- gates of levels that are known
 
 -- a bit that is 0 or 1, by cases
 pub by_bit : (P : ℕ → Type 0) → P 0 → P 1 → (k : ℕ) → k < 2 → P k
 by_bit P a b zero h = a
 by_bit P a b (suc zero) h = b
 by_bit P a b (suc (suc k)) h = absurd (omega arith)
+
+-- two such bits
+by_each : (P : ℕ → ℕ → Type 0) → P 0 0 → P 0 1 → P 1 0 → P 1 1 → (p r : ℕ) → p < 2 → r < 2 → P p r
+by_each P a b c d p r h k = by_bit (λ p. P p r) (by_bit (P 0) a b r k) (by_bit (P 1) c d r k) p h
+
+pub and_known : (a c i : ℕ) → level_in (bit_and a c) 0 i ≡ conjunction (level_in a 0 i ∷ level_in c 0 i ∷ [])
+unfolding level_in
+and_known a c i =
+    simp (bit_at_and, bit_at-zero)
+    (by_each (λ p r. level_of_bits (min p r) 0 ≡ conjunction (level_of_bits p 0 ∷ level_of_bits r 0 ∷ [])) refl refl refl refl _ _ (bit_at-lt a i) (bit_at-lt c i))
+
+pub or_known : (a c i : ℕ) → level_in (bit_or a c) 0 i ≡ disjunction (level_in a 0 i ∷ level_in c 0 i ∷ [])
+unfolding level_in
+or_known a c i =
+    simp (bit_at_or, bit_at-zero)
+    (by_each (λ p r. level_of_bits (max p r) 0 ≡ disjunction (level_of_bits p 0 ∷ level_of_bits r 0 ∷ [])) refl refl refl refl _ _ (bit_at-lt a i) (bit_at-lt c i))
+
+pub xor_known : (a c i : ℕ) → level_in (bit_xor a c) 0 i ≡ parity (level_in a 0 i ∷ level_in c 0 i ∷ [])
+unfolding level_in
+xor_known a c i =
+    simp (bit_at_xor, bit_at-zero)
+    (by_each (λ p r. level_of_bits ((p + r) % 2) 0 ≡ parity (level_of_bits p 0 ∷ level_of_bits r 0 ∷ [])) refl refl refl refl _ _ (bit_at-lt a i) (bit_at-lt c i))
+
+pub not_known : (a i : ℕ) → i < 64 → level_in (bit_xor a (2 ^ 64 - 1)) 0 i ≡ inverse_of (level_in a 0 i)
+unfolding level_in
+not_known a i small =
+    simp (bit_at_xor, bit_at-zero, bit_at_ones 64 i small)
+    (by_bit (λ p. level_of_bits ((p + 1) % 2) 0 ≡ inverse_of (level_of_bits p 0)) refl refl _ (bit_at-lt a i))
+
+-- ---- masks over levels
 
 inverse_bits : (p q : ℕ) → p + q < 2 → (k : ℕ) → k < 2
     → level_of_bits (min ((p + k) % 2) ((q + 1) % 2)) q ≡ inverse_if (k == 1) (level_of_bits p q)

@@ -186,6 +186,35 @@ fn gate2_any(kind: Kind, a: Word, b: Word) -> Word
     inverted_where(joined, inverse)
 }
 
+/// As `join`, where no level is x: of the operands and of the result, the places that are 1.
+#[inline]
+pub fn join_known(kind: Kind, joined: u64, operand: u64) -> u64
+    ensures { (i : ℕ) → i < 64 → (first : Level) (others : List Level)
+        → level_in joined 0 i ≡ joint kind (first ∷ others)
+        → level_in result 0 i ≡ joint kind ((first ∷ others) ++ level_in operand 0 i ∷ []) }
+{
+    match kind {
+        Kind::And | Kind::Nand => joined & operand,
+        Kind::Or | Kind::Nor => joined | operand,
+        Kind::Xor | Kind::Xnor => joined ^ operand,
+        Kind::Not | Kind::Buff => joined,
+    }
+}
+
+/// As `completed`, where no level is x: of what is joined and of the result, the places that are 1.
+#[inline]
+#[tactic(auto, using(crate::proofs::LevelFacts::not_known))]
+pub fn completed_known(kind: Kind, joined: u64) -> u64
+    ensures { (i : ℕ) → i < 64 → (levels : List Level)
+        → level_in joined 0 i ≡ joint kind levels
+        → level_in result 0 i ≡ gate kind levels }
+{
+    match kind {
+        Kind::Nand | Kind::Nor | Kind::Xnor | Kind::Not => joined ^ u64::MAX,
+        Kind::And | Kind::Or | Kind::Xor | Kind::Buff => joined,
+    }
+}
+
 /// What a gate with two operands gives that are x nowhere: of them and of the result, the places that are 1.
 #[inline]
 pub fn gate2_known(kind: Kind, a: u64, b: u64) -> u64

@@ -52,9 +52,9 @@ fn held_any(own: Word, input: Word, delay: u32, arrival: u32, period: u32, from:
     }
 }
 
-// What `held` gives where no level is x: the places that are 1.
+/// As `held`, where no level is x: of both words and of the result, the places that are 1.
 #[inline]
-fn held_known(own: u64, input: u64, delay: u32, arrival: u32, period: u32, from: u32) -> u64
+pub fn held_known(own: u64, input: u64, delay: u32, arrival: u32, period: u32, from: u32) -> u64
     requires { AreSamples delay arrival period from }
     ensures { Holds (level_in own 0) (level_in input 0) (level_in result 0) delay arrival period from }
 {

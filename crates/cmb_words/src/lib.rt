@@ -19,8 +19,8 @@ pub mod splice;
 pub mod word;
 
 pub use changed::Changed;
-pub use gates::{completed, gate1, gate2, gate2_known, join};
-pub use hold::held;
+pub use gates::{completed, completed_known, gate1, gate2, gate2_known, join, join_known};
+pub use hold::{held, held_known};
 pub use masks::{every, lowest, without_lowest};
 pub use places::Places;
 pub use splice::spliced;

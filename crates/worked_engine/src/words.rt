@@ -5,7 +5,10 @@ use crate::checks::{holds, same};
 use cmb_netlist::Kind;
 use cmb_wave::Level;
 use cmb_wave::Level::{One, X, Zero};
-use cmb_words::{Word, completed, gate1, gate2, gate2_known, held, join, spliced};
+use cmb_words::{
+    Word, completed, completed_known, gate1, gate2, gate2_known, held, held_known, join,
+    join_known, spliced,
+};
 use std::process::Abort;
 
 // The word that begins with these levels and repeats the last one.
@@ -103,6 +106,20 @@ fn known_operands(rt: HostRuntime) {
     same(&rt, gate2_known(Kind::Xor, 0b1100, 0b1010), 0b0110);
 }
 
+// Three known operands, that have each of the eight rows of a table at a place of its own.
+fn of_three(kind: Kind) -> u64 {
+    let joined = join_known(kind, 0b1111_0000, 0b1100_1100);
+    completed_known(kind, join_known(kind, joined, 0b1010_1010))
+}
+
+#[test]
+fn three_known_operands(rt: HostRuntime) {
+    same(&rt, of_three(Kind::And), 0b1000_0000);
+    same(&rt, of_three(Kind::Nor), u64::MAX - 0b1111_1110);
+    same(&rt, of_three(Kind::Xor), 0b1001_0110);
+    same(&rt, of_three(Kind::Xnor), u64::MAX - 0b1001_0110);
+}
+
 #[test]
 fn later_and_earlier(rt: HostRuntime) {
     let word = word_of(&rt, &[Zero, One, X, One, Zero]);
@@ -152,4 +169,12 @@ fn a_flip_flop_without_a_sample(rt: HostRuntime) {
     let own = word_of(&rt, &[Zero, Zero]);
     let data = word_of(&rt, &[X, One, Zero, Zero, X, One, One, Zero]);
     is_at(&rt, held(own, data, 2, 64, 3, 2), 63, Zero);
+}
+
+// Samples arrive at place 3 and at every third place after it: of the data, places 1, 4, 7 and so on count.
+#[test]
+fn a_known_flip_flop(rt: HostRuntime) {
+    let word = held_known(0b01, 0b1010_0110, 2, 3, 3, 2);
+    same(&rt, word, 0b1110_0011_1001);
+    same(&rt, held_known(0b10, 0, 2, 64, 3, 2), u64::MAX - 1);
 }
