@@ -9,6 +9,7 @@ use Rattle.cmb_wave.specs.declared.level.Level.{Level}
 use Rattle.cmb_design_model.specs.declared.rows.Clock.{Clock}
 use Rattle.cmb_words.specs.declared.changed.Changed.{Changed}
 use Rattle.cmb_words.specs.declared.word.Word.{Word}
+use Rattle.cmb_engine.specs.Inner.Planes.{Planes, planes_of}
 use Rattle.cmb_words.specs.Changes.{IsStill, TellsNet, is_among}
 use Rattle.cmb_words.specs.Word.{level_at_place}
 use Rattle.cmb_words.specs.Holds.{AreSamples, Holds}
@@ -111,8 +112,8 @@ module _ (trace words : ℕ → ℕ → Level) (cells : List Cell) (count from t
   ahead-shows place small = below 64 place small (omega arith)
 
 -- words that moved on hold what the words do that were read
-pub moved-held : (words : List Word) (own input : Word) (slot ticks arrival : ℕ) (clock : Clock) (pin : Pin) (old_own old_input : Word) (held : ℕ → Level) → 1 ≤ ticks → ticks < 64
-    → slot < length words → old_own ≡ get_or words slot old_own → pin.net < length words → old_input ≡ get_or words pin.net old_input
+pub moved-held : (words : List Planes) (own input : Word) (slot ticks arrival : ℕ) (clock : Clock) (pin : Pin) (old_own old_input : Word) (held : ℕ → Level) → 1 ≤ ticks → ticks < 64
+    → slot < length words → planes_of old_own ≡ get_or words slot (planes_of old_own) → pin.net < length words → planes_of old_input ≡ get_or words pin.net (planes_of old_input)
     → ((i : ℕ) → i < 64 → level_at_place own i ≡ level_at_place old_own (min (i + ticks) 63)) → ((i : ℕ) → i < 64 → level_at_place input i ≡ level_at_place old_input (min (i + ticks) 63))
     → Holds (level_at_place own) (level_at_place input) held pin.delay arrival clock.period (64 - ticks) → HoldsAhead (levels_of words) held ticks arrival slot (Flop clock pin)
 moved-held words own input slot ticks arrival clock pin old_own old_input held some fits inside own_is within input_is own_moves input_moves holds = record {

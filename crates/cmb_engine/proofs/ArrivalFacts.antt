@@ -1,5 +1,6 @@
 -- When samples arrive, and what a flip-flop has between them.
-use Rattle.std.proofs.Common.{◌≡◌, ℕ, suc, ◌+◌, ◌-◌, ◌*◌, ◌/◌, ◌%◌, ◌<◌, ◌≤◌, ◌⊎◌, inl, inr, true, false, None, sym, ap, ◌∙◌, arith, ltb, mod-lt, div-add-mod'}
+use Rattle.std.proofs.Common.{◌≡◌, ℕ, suc, ◌+◌, ◌-◌, ◌*◌, ◌/◌, ◌%◌, ◌<◌, ◌≤◌, ◌⊎◌, inl, inr, true, false, None, ◌&&◌, nat_le, sym, ap, subst, ◌∙◌, arith, ltb, mod-lt, div-add-mod'}
+use Rattle.std.specs.Prelude.{◌==◌}
 use Rattle.std.proofs.lemmas.Bool.{lt-ltb, le-ltb, le-leb, leb-true, eqb-true, eq-eqb, and_parts, and_from, cases_lt, false≢true}
 use Rattle.std.proofs.lemmas.Nat.{div-mul-add, mod-mul-add}
 use Rattle.cmb_wave.specs.declared.level.Level.{Level}
@@ -10,6 +11,17 @@ use Rattle.cmb_design_model.specs.Value.{flop_level}
 use Rattle.cmb_design_model.proofs.AskFacts.{clock_of-positive}
 use Rattle.cmb_design_model.proofs.SampleFacts.{delay-positive, last_sample-none, last_sample-some}
 use Rattle.cmb_engine.specs.Rows.{arrives, arrives_by}
+use Rattle.cmb_engine.specs.Inner.Arrivals.{IsArrival}
+use Rattle.cmb_engine.specs.declared.arrivals.Arrival.{Arrival}
+
+-- what an arrival says of flip-flops with its clock and delay
+pub arrives-at : (arrival : Arrival) (to first : ℕ) → IsArrival arrival to first → (clock : Clock) (ticks : ℕ) → arrival.clock ≡ clock → arrival.delay ≡ ticks
+    → (place : ℕ) → first ≤ place → place < 64
+    → arrives_by clock ticks (to + place - 64) ≡ (nat_le arrival.place place && ((place - arrival.place) % clock.period == 0))
+arrives-at arrival to first is clock ticks same late place from small =
+    subst (λ (clock : Clock). arrives_by clock ticks (to + place - 64) ≡ (nat_le arrival.place place && ((place - arrival.place) % clock.period == 0))) same
+    (subst (λ (ticks : ℕ). arrives_by arrival.clock ticks (to + place - 64) ≡ (nat_le arrival.place place && ((place - arrival.place) % arrival.clock.period == 0))) late
+    (is.arrives place from small))
 
 pub arrives_parts : (clock : Clock) (ticks tick : ℕ) → arrives_by clock ticks tick ≡ true
     → (clock.first + ticks ≤ tick) × ((tick - (clock.first + ticks)) % clock.period ≡ 0)

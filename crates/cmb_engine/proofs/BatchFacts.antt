@@ -1,19 +1,26 @@
 -- How the words of a batch of slots are made, one after another, and what they pass on.
-use Rattle.std.proofs.Common.{◌≡◌, ◌≢◌, ℕ, ◌+◌, ◌<◌, ◌≤◌, ◌⊎◌, inl, inr, Bool, true, false, ◌||◌, ◌==◌, List, [], ◌∷◌, length, get_or, refl, sym, ap, subst, ◌∙◌, arith}
-use Rattle.std.specs.Prelude.{Contains}
+use Rattle.std.proofs.Common.{◌≡◌, ◌≢◌, ℕ, ◌+◌, ◌<◌, ◌≤◌, ◌⊎◌, inl, inr, Bool, true, false, ◌||◌, ◌==◌, List, [], ◌∷◌, length, map, get_or, refl, sym, ap, subst, ◌∙◌, arith}
+use Rattle.std.specs.Prelude.{All, Contains}
 use Rattle.std.proofs.lemmas.Bool.{cases_Bool, cases_eq, eq-eqb, or_left, or_right}
-use Rattle.std.proofs.lemmas.List.Elements.{Contains-append_cases, Contains-push_cases}
+use Rattle.std.proofs.lemmas.List.{get_or-map}
+use Rattle.std.proofs.lemmas.List.Elements.{All-same, All-weaker, Contains-append_cases, Contains-push_cases}
 use Rattle.cmb_wave.specs.declared.level.Level.{Level}
 use Rattle.cmb_words.specs.Bits.{is_set_at, places_set}
-use Rattle.cmb_words.proofs.MaskFacts.{places-all}
+use Rattle.cmb_words.proofs.MaskFacts.{places-all, places-each}
 use Rattle.cmb_engine.specs.Inner.Batches.{Makes, Passes}
 use Rattle.cmb_engine.specs.Inner.Bits.{has}
-use Rattle.cmb_engine.specs.Inner.Cells.{Cell, AreClosed, AreMarked, IsMade, IsReady, IsSettled, IsTrueBelow, KeepsTold, Relies, is_made}
+use Rattle.cmb_engine.specs.Inner.Cells.{Cell, Told, AreClosed, AreMarked, IsMade, IsReady, IsSettled, IsTrueBelow, KeepsTold, Relies, cell_at, is_made}
 use Rattle.cmb_engine.specs.Inner.Orders.{Order, IsAmong, IsAt}
 use Rattle.cmb_engine.proofs.SweepFacts.{inserted-keeps, ready-moves, told-visit, visited-true}
-use Rattle.cmb_engine.proofs.VisitFacts.{cell-agrees, visit-settles}
+use Rattle.cmb_engine.proofs.VisitFacts.{cell-agrees, made-same, same-both, visit-settles}
 
 -- ---- the places that are left
+
+-- each of them is one of a word
+pub left-small : (left : List ℕ) (places : ℕ) → left ≡ places_set places → All (λ place. place < 64) left
+left-small left places is =
+    All-same (λ (place : ℕ). place < 64) left (places_set places) is
+    (All-weaker (λ place. (place < 64) × (is_set_at places place ≡ true)) (λ place. place < 64) (λ place h. h.0) (places_set places) (places-each places))
 
 -- a listed place is the first one or one of the others
 among-cases : (order : Order) (base place : ℕ) (rest left : List ℕ) → left ≡ place ∷ rest → (slot : ℕ) → IsAmong order base left slot
@@ -161,6 +168,24 @@ module _ (cells : ℕ → Cell) (order : Order) (to first base places place : �
           (subst (λ (n : ℕ). is_made (cells n) ≡ true) e is_made') upto (omega arith))
       true-at truth upto from little ready below m is_made' was none (inr other) =
           others m upto other ∙ h.truer truth upto from little ready below m is_made' was (less order base place rest left is slot at m none other)
+
+-- what the cell of a rank made is written as the word of its slot
+pub making-writes : (cells nodes : List Cell) (order : Order) → nodes ≡ map (cell_at cells) order.slots
+    → (to first base places place : ℕ) (rest left : List ℕ) → left ≡ place ∷ rest → (news more : ℕ) (old f g : ℕ → ℕ → Level)
+    → (slot : ℕ) → base + place < length order.slots → slot ≡ get_or order.slots (base + place) 0 → place < 64 → 1 ≤ first
+    → (word : ℕ → Level) → ((q : ℕ) → g slot q ≡ word q) → ((m q : ℕ) → m ≢ slot → g m q ≡ f m q)
+    → ((q : ℕ) → q < first → word q ≡ f slot q) → (is_made (cell_at nodes (base + place)) ≡ false → (q : ℕ) → word q ≡ f slot q)
+    → IsMade f word to first (cell_at nodes (base + place)) → (differs : Bool) → (differs ≡ false → (q : ℕ) → first ≤ q → q < 64 → word q ≡ f slot q)
+    → is_set_at more place ≡ (differs || is_set_at news place) → ((i : ℕ) → i ≢ place → is_set_at more i ≡ is_set_at news i)
+    → IsMaking (cell_at cells) order to first base places left news old f → IsMaking (cell_at cells) order to first base places rest more old g
+making-writes cells nodes order in_order to first base places place rest left is news more old f g slot inside at small begun word written others below told made differs kept here there h =
+    let stands : cell_at nodes (base + place) ≡ cell_at cells slot =
+    ap (λ (ns : List Cell). cell_at ns (base + place)) in_order ∙ get_or-map (cell_at cells) order.slots (base + place) 0 Told inside ∙ ap (cell_at cells) (sym at) in
+    making-visits (cell_at cells) order to first base places place rest left is news more old f g slot inside at small begun others
+    (λ q l. written q ∙ below q l)
+    (λ none q. written q ∙ told (ap is_made stands ∙ none) q)
+    (made-same f word (g slot) to first (cell_at cells slot) begun (λ q l. sym (written q)) (subst (λ (cell : Cell). IsMade f word to first cell) stands made))
+    differs (λ same q l. written q ∙ same-both word (f slot) first below (kept same) q l) here there h
 
 -- ---- what is passed on
 

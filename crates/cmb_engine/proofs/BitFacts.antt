@@ -1,5 +1,5 @@
 -- What writes to a word do to a set of numbers by bits.
-use Rattle.std.proofs.Common.{◌≡◌, ℕ, ◌*◌, ◌/◌, ◌%◌, ◌^◌, ◌<◌, ◌≤◌, ◌≢◌, ◌⊎◌, inl, inr, true, false, not, ◌&&◌, ◌||◌, ◌==◌, List, length, get_or, set, replicate, refl, sym, ap, subst, ◌∙◌, arith, w64, ◌+◌, min, ap₂}
+use Rattle.std.proofs.Common.{◌≡◌, ℕ, ◌*◌, ◌/◌, ◌%◌, ◌^◌, ◌<◌, ◌≤◌, ◌≢◌, ◌⊎◌, inl, inr, true, false, not, ◌&&◌, ◌||◌, ◌==◌, List, length, get_or, set, replicate, refl, sym, ap, subst, ◌∙◌, arith, w64, ◌+◌, ◌-◌, min, ap₂, Bool}
 use Rattle.std.proofs.lemmas.Bool.{cases_eq, cases_lt, eq-eqb, eqb-true, false≢true, ne_eqb}
 use Rattle.std.proofs.lemmas.List.{get_or-set_same, get_or-set_other, get_or-replicate, get_or_past, length-replicate, length-set, get_or_read}
 use Rattle.std.proofs.lemmas.Nat.{and_le_l}
@@ -112,6 +112,39 @@ module _ (words set_is : List ℕ) (view : words ≡ set_is) (k word mask : ℕ)
 
   word_is : word ≡ get_or words k 0
   word_is = get_or_read words k word inside read 0
+
+  bit-cleared : (a b : ℕ) → a < 2 → b < 2 → (min a (1 - b) == 1) ≡ (not (b == 1) && (a == 1))
+  bit-cleared a b x y = go (cases_eq a 1) (cases_eq b 1)
+    where
+      go : (a ≡ 1) ⊎ (a ≡ 1 → ⊥) → (b ≡ 1) ⊎ (b ≡ 1 → ⊥) → (min a (1 - b) == 1) ≡ (not (b == 1) && (a == 1))
+      go (inl h) (inl k) = rw (h, k) refl
+      go (inl h) (inr k) = let z : b ≡ 0 = omega (arith, y, k) in rw (h, z) refl
+      go (inr h) (inl k) = let z : a ≡ 0 = omega (arith, x, h) in rw (z, k) refl
+      go (inr h) (inr k) = let z : a ≡ 0 = omega (arith, x, h) in let w : b ≡ 0 = omega (arith, y, k) in rw (z, w) refl
+
+  pub take-members : (m : ℕ) → has (set words k (bit_and word (bit_not w64 mask))) m ≡ (not (m / 64 == k && is_set_at mask (m % 64)) && has set_is m)
+  unfolding has is_set_at
+  take-members m = go (cases_eq (m / 64) k)
+    where
+      same : (bit_at (get_or words (m / 64) 0) (m % 64) == 1) ≡ (bit_at (get_or set_is (m / 64) 0) (m % 64) == 1)
+      same = ap (λ (ws : List ℕ). bit_at (get_or ws (m / 64) 0) (m % 64) == 1) view
+
+      go : (m / 64 ≡ k) ⊎ (m / 64 ≡ k → ⊥)
+          → (bit_at (get_or (set words k (bit_and word (bit_not w64 mask))) (m / 64) 0) (m % 64) == 1) ≡ (not (m / 64 == k && (bit_at mask (m % 64) == 1)) && (bit_at (get_or set_is (m / 64) 0) (m % 64) == 1))
+      go (inl e) =
+          let here : (m / 64 == k) ≡ true = eq-eqb _ _ e in
+          let now : get_or (set words k (bit_and word (bit_not w64 mask))) (m / 64) 0 ≡ bit_and word (bit_not w64 mask) =
+          ap (λ (n : ℕ). get_or (set words k (bit_and word (bit_not w64 mask))) n 0) e ∙ get_or-set_same words k _ 0 inside in
+          let was : bit_at word (m % 64) ≡ bit_at (get_or words (m / 64) 0) (m % 64) =
+          ap (λ (w : ℕ). bit_at w (m % 64)) word_is ∙ ap (λ (n : ℕ). bit_at (get_or words n 0) (m % 64)) (sym e) in
+          let bit : bit_at (bit_and word (bit_not w64 mask)) (m % 64) ≡ min (bit_at word (m % 64)) (1 - bit_at mask (m % 64)) =
+          omega (arith, bit_at_and word (bit_not w64 mask) (m % 64), bit_at_not w64 mask (m % 64) fits (omega arith)) in
+          rw here
+          (ap (λ (w : ℕ). bit_at w (m % 64) == 1) now ∙ ap (λ (b : ℕ). b == 1) bit ∙ bit-cleared (bit_at word (m % 64)) (bit_at mask (m % 64)) (bit_at-lt word (m % 64)) (bit_at-lt mask (m % 64))
+          ∙ ap (λ (b : ℕ). not (bit_at mask (m % 64) == 1) && (b == 1)) was ∙ ap (λ (b : Bool). not (bit_at mask (m % 64) == 1) && b) same)
+      go (inr n) =
+          let here : (m / 64 == k) ≡ false = ne_eqb _ _ n in
+          rw here (ap (λ (w : ℕ). bit_at w (m % 64) == 1) (get_or-set_other words k (m / 64) _ 0 n) ∙ same)
 
   pub take-left : (m : ℕ) → has set_is m ≡ true → has (set words k (bit_and word (bit_not w64 mask))) m ≡ false → IsSetAt (64 * k) (bit_and word mask) m
   unfolding has is_set_at

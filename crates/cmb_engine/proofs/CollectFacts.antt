@@ -1,5 +1,5 @@
 -- Which nets changed in a window, and what their words tell.
-use Rattle.std.proofs.Common.{◌≡◌, ℕ, zero, suc, ◌+◌, ◌-◌, ◌<◌, ◌≤◌, ◌⊎◌, inl, inr, Bool, false, List, [], ◌∷◌, ◌++◌, length, get_or, sym, ap, subst, ◌∙◌, arith}
+use Rattle.std.proofs.Common.{◌≡◌, ℕ, zero, suc, ◌+◌, ◌-◌, ◌*◌, ◌<◌, ◌≤◌, ◌⊎◌, inl, inr, Bool, false, List, [], ◌∷◌, ◌++◌, length, get_or, min, sym, ap, subst, ◌∙◌, arith}
 use Rattle.std.specs.Prelude.{◌==◌}
 use Rattle.std.specs.List.{All}
 use Rattle.std.proofs.lemmas.Bool.{cases_lt, eq-eqb, false≢true, or_parts}
@@ -7,40 +7,36 @@ use Rattle.std.proofs.lemmas.List.Elements.{All-push}
 use Rattle.std.proofs.lemmas.List.Folds.{list_any-append}
 use Rattle.cmb_wave.specs.declared.level.Level.{Level}
 use Rattle.cmb_words.specs.declared.changed.Changed.{Changed}
+use Rattle.cmb_words.specs.Bits.{is_set_at, places_set}
 use Rattle.cmb_words.specs.Changes.{RisesWithin, IsStill, Tells, is_among}
 use Rattle.cmb_words.specs.Word.{level_at_place}
 use Rattle.cmb_words.specs.declared.word.Word.{Word}
 use Rattle.cmb_words.proofs.Rising.{rises-push, rises-wider, rises_at}
 use Rattle.cmb_words.proofs.StillFacts.{still-ticks, ticks-still}
 use Rattle.cmb_words.proofs.TellsFacts.{levels-tell}
+use Rattle.cmb_engine.specs.Inner.Planes.{Planes, planes_of}
+use Rattle.cmb_engine.specs.Inner.Batches.{IsNextWord}
+use Rattle.cmb_engine.specs.Inner.Bits.{has, HasNone}
 use Rattle.cmb_engine.specs.Inner.Cells.{IsSteadyFrom}
 use Rattle.cmb_engine.specs.Inner.Circuits.{AreQuiet, Shows}
+pub use Rattle.cmb_engine.specs.Inner.Collects.{HasWord}
+use Rattle.cmb_engine.specs.Inner.Collects.{IsCollected, IsMoved}
 use Rattle.cmb_engine.specs.Inner.Words.{levels_of}
 use Rattle.cmb_engine.specs.Shares.{EachChanges}
 use Rattle.cmb_engine.proofs.MoveFacts.{quiet-same}
+use Rattle.cmb_engine.proofs.PlaceFacts.{AreLeft, IsNextPlace, left-all, left-behind, left-next, left-none}
 use Rattle.cmb_engine.proofs.TruthFacts.{in_place-tick}
 use Rattle.cmb_engine.proofs.WordFacts.{levels_of-read}
 
--- a net is told with its word
-abbrev pub HasWord : (ℕ → ℕ → Level) → Changed → Type 0
-HasWord words c = (place : ℕ) → place < 64 → level_at_place c.word place ≡ words c.net place
-
--- a net's word has another level somewhere from a place on
-abbrev pub IsMoved : ℕ → Changed → Type 0
-IsMoved first changed = IsSteadyFrom (level_at_place changed.word) first → ⊥
-
--- the nets below one are collected: those that aren't among the collected ones stay as they are
-pub record IsCollected (words : ℕ → ℕ → Level) (first upto : ℕ) (changed : List Changed) : Type 0 where
-  pub rises : RisesWithin 0 upto changed
-  pub right : All (HasWord words) changed
-  pub moved : All (IsMoved first) changed
-  pub others : (net : ℕ) → net < upto → is_among net changed ≡ false → IsSteadyFrom (words net) first
+-- a slot that isn't live stays as it is
+pub quiet-steady : (words : ℕ → ℕ → Level) (live : ℕ → Bool) (count first net : ℕ) → first < 64 → AreQuiet words live count → net < count → live net ≡ false → IsSteadyFrom (words net) first
+quiet-steady words live count first net small quiet inside none place from below = quiet-same words live count net place (first - 1) quiet inside none below (omega (arith, small))
 
 module _ (words : ℕ → ℕ → Level) (first : ℕ) (changed : List Changed) where
-  -- nets that aren't live stay as they are
-  pub collected-passes : (live : ℕ → Bool) (count start next : ℕ) → first < 64 → start ≤ next → next ≤ count → ((net : ℕ) → start ≤ net → net < next → live net ≡ false)
-      → AreQuiet words live count → IsCollected words first start changed → IsCollected words first next changed
-  collected-passes live count start next small later within none quiet h = record {
+  -- nets that stay as they are
+  pub collected-passes : (start next : ℕ) → start ≤ next → ((net : ℕ) → start ≤ net → net < next → IsSteadyFrom (words net) first)
+      → IsCollected words first start changed → IsCollected words first next changed
+  collected-passes start next later steady h = record {
     rises = rises-wider 0 start next changed h.rises later;
     right = h.right;
     moved = h.moved;
@@ -49,8 +45,7 @@ module _ (words : ℕ → ℕ → Level) (first : ℕ) (changed : List Changed) 
     where
       go : (net : ℕ) → net < next → is_among net changed ≡ false → (net < start) ⊎ (start ≤ net) → IsSteadyFrom (words net) first
       go net below other (inl l) = h.others net l other
-      go net below other (inr l) = λ place from inside.
-          quiet-same words live count net place (first - 1) quiet (omega arith) (none net l below) inside (omega arith)
+      go net below other (inr l) = steady net l below
 
   -- the next net stays as it is
   pub collected-steady : (net : ℕ) → IsSteadyFrom (words net) first → IsCollected words first net changed → IsCollected words first (net + 1) changed
@@ -80,23 +75,100 @@ module _ (words : ℕ → ℕ → Level) (first : ℕ) (changed : List Changed) 
       go m below other here (inl l) = h.others m l other
       go m below other here (inr l) = absurd (false≢true (sym here ∙ eq-eqb one.net m (omega arith)))
 
--- a live net more, which stays as it is or is collected
-pub collected-next : (words : List Word) (first start net next : ℕ) (word : Word) (live : ℕ → Bool) (old new : List Changed) → first < 64 → start ≤ net → net < length words → next ≡ net + 1
-    → word ≡ get_or words net word → ((m : ℕ) → start ≤ m → m < net → live m ≡ false) → AreQuiet (levels_of words) live (length words)
-    → ((new ≡ old) × IsSteadyFrom (level_at_place word) first) ⊎ ((new ≡ old ++ record { net = net; word = word } ∷ []) × (IsSteadyFrom (level_at_place word) first → ⊥))
-    → IsCollected (levels_of words) first start old → IsCollected (levels_of words) first next new
-collected-next words first start net next word live old new small later inside end is none quiet told h = by told
+-- a net stays as it is, or is told
+abbrev pub IsJudged : ℕ → ℕ → Word → List Changed → List Changed → Type 0
+IsJudged first net word old new =
+    ((new ≡ old) × IsSteadyFrom (level_at_place word) first) ⊎ ((new ≡ old ++ record { net = net; word = word } ∷ []) × (IsSteadyFrom (level_at_place word) first → ⊥))
+
+-- the next net is judged by its word
+pub collected-next : (words : List Planes) (first net : ℕ) (word : Word) (old new : List Changed) → net < length words → planes_of word ≡ get_or words net (planes_of word) → IsJudged first net word old new
+    → IsCollected (levels_of words) first net old → IsCollected (levels_of words) first (net + 1) new
+collected-next words first net word old new inside is judged so_far = by judged
   where
     at : (place : ℕ) → levels_of words net place ≡ level_at_place word place
     at place = levels_of-read words net word place inside is
 
-    so_far : IsCollected (levels_of words) first net old
-    so_far = collected-passes (levels_of words) first old live (length words) start net small later (omega (arith, inside)) none quiet h
-
-    by : ((new ≡ old) × IsSteadyFrom (level_at_place word) first) ⊎ ((new ≡ old ++ record { net = net; word = word } ∷ []) × (IsSteadyFrom (level_at_place word) first → ⊥)) → IsCollected (levels_of words) first next new
+    by : IsJudged first net word old new → IsCollected (levels_of words) first (net + 1) new
     by (inl steady) =
-        rw (end, steady.0) (collected-steady (levels_of words) first old net (λ place from l. at place ∙ steady.1 place from l ∙ sym (at (first - 1))) so_far)
-    by (inr pushed) = rw (end, pushed.0) (collected-push (levels_of words) first old (record { net = net; word = word }) (λ place l. sym (at place)) pushed.1 so_far)
+        rw steady.0 (collected-steady (levels_of words) first old net (λ place from l. at place ∙ steady.1 place from l ∙ sym (at (first - 1))) so_far)
+    by (inr pushed) = rw pushed.0 (collected-push (levels_of words) first old (record { net = net; word = word }) (λ place l. sym (at place)) pushed.1 so_far)
+
+-- ---- the nets of a word, one after another
+
+-- the nets of a word are collected up to some place, and those behind it are left
+pub record IsCollecting (words : ℕ → ℕ → Level) (first base places nets : ℕ) (left : List ℕ) (changed : List Changed) : Type 0 where
+  pub upto : ℕ
+  pub are_left : AreLeft places upto left
+  pub collected : IsCollected words first (min (base + upto) nets) changed
+
+module _ (words : ℕ → ℕ → Level) (first base places nets : ℕ) (quiet : (place : ℕ) → place < 64 → is_set_at places place ≡ false → base + place < nets → IsSteadyFrom (words (base + place)) first) where
+  pub collecting-none : (left : List ℕ) (changed : List Changed) → base < nets → left ≡ places_set places → IsCollected words first base changed
+      → IsCollecting words first base places nets left changed
+  collecting-none left changed below is h = record {
+    upto = 0;
+    are_left = left-all places left is;
+    collected = subst (λ (n : ℕ). IsCollected words first n changed) (omega (arith, below)) h;
+  }
+
+  -- places that aren't set
+  skips : (from upto : ℕ) (changed : List Changed) → from ≤ upto → upto ≤ 64 → ((q : ℕ) → from ≤ q → q < upto → is_set_at places q ≡ false)
+      → IsCollected words first (min (base + from) nets) changed → IsCollected words first (min (base + upto) nets) changed
+  skips from upto changed later small none h =
+      collected-passes words first changed (min (base + from) nets) (min (base + upto) nets) (omega (arith, later))
+      (λ net late below.
+      let at : base + (net - base) ≡ net = omega (arith, late, below) in
+      subst (λ (n : ℕ). IsSteadyFrom (words n) first) at
+      (quiet (net - base) (omega (arith, late, below, small)) (none (net - base) (omega (arith, late, below)) (omega (arith, late, below))) (omega (arith, late, below)))) h
+
+  -- where no place is left, all nets of the word are collected
+  pub collecting-all : (left : List ℕ) (changed : List Changed) → IsCollecting words first base places nets left changed → left ≡ [] → IsCollected words first (min (base + 64) nets) changed
+  collecting-all left changed h is = skips h.upto 64 changed h.are_left.small (omega arith) (left-none places h.upto left h.are_left is) h.collected
+
+  module _ (left : List ℕ) (old : List Changed) (h : IsCollecting words first base places nets left old) (place : ℕ) (rest : List ℕ) (is : left ≡ place ∷ rest) where
+    next : IsNextPlace places h.upto 64 place rest
+    next = left-next places h.upto left h.are_left place rest is
+
+    so_far : IsCollected words first (min (base + place) nets) old
+    so_far = skips h.upto place old next.later (omega (arith, next.within)) next.none h.collected
+
+    -- the next place is one of a net
+    pub collecting-next : (new : List Changed) → base + place < nets → (IsCollected words first (base + place) old → IsCollected words first (base + place + 1) new)
+        → IsCollecting words first base places nets rest new
+    collecting-next new below judged = record {
+      upto = place + 1;
+      are_left = left-behind places h.upto left h.are_left place rest is;
+      collected = subst (λ (n : ℕ). IsCollected words first n new) (omega (arith, below)) (judged (subst (λ (n : ℕ). IsCollected words first n old) (omega (arith, below)) so_far));
+    }
+
+    -- it is behind the last net
+    pub collecting-past : nets ≤ base + place → IsCollecting words first base places nets rest old
+    collecting-past past = record {
+      upto = place + 1;
+      are_left = left-behind places h.upto left h.are_left place rest is;
+      collected = subst (λ (n : ℕ). IsCollected words first n old) (omega (arith, past)) so_far;
+    }
+
+-- ---- the nets, word by word of the live ones
+
+module _ (words : ℕ → ℕ → Level) (live : List ℕ) (count nets first : ℕ) (small : first < 64) (few : nets ≤ count) (quiet : AreQuiet words (has live) count) (changed : List Changed) where
+  still : (net : ℕ) → net < nets → has live net ≡ false → IsSteadyFrom (words net) first
+  still net below none = quiet-steady words (has live) count first net small quiet (omega (arith, few, below)) none
+
+  -- up to the next word
+  pub collected-word : (from upto base places : ℕ) → IsNextWord live from upto base places → base < nets → IsCollected words first (min (64 * from) nets) changed → IsCollected words first base changed
+  collected-word from upto base places word below h =
+      collected-passes words first changed (min (64 * from) nets) base (omega (arith, word.on, word.ends))
+      (λ net late under. still net (omega (arith, under, below)) (word.none net (omega (arith, late, under, below)) under)) h
+
+  -- and behind the last one
+  pub collected-end : (from : ℕ) → HasNone live (64 * from) nets → IsCollected words first (min (64 * from) nets) changed → IsCollected words first nets changed
+  collected-end from none h =
+      collected-passes words first changed (min (64 * from) nets) nets (omega arith) (λ net late under. still net under (none net (omega (arith, late, under)) under)) h
+
+  -- the places of a word that aren't set stay as they are
+  pub collected-quiet : (from upto base places : ℕ) → IsNextWord live from upto base places → (place : ℕ) → place < 64 → is_set_at places place ≡ false → base + place < nets
+      → IsSteadyFrom (words (base + place)) first
+  collected-quiet from upto base places word place within none below = still (base + place) below (sym (word.members place within) ∙ none)
 
 -- words that show a trace tell its changes, where all nets are collected
 module _ (words : ℕ → ℕ → Level) (trace : ℕ → ℕ → Level) (count nets to first : ℕ) (changed : List Changed) (shows : Shows words trace count to) (few : nets ≤ count) (begun : 1 ≤ first)

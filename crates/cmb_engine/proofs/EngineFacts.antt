@@ -8,7 +8,7 @@ use Rattle.cmb_design_model.specs.Design.{Design}
 use Rattle.cmb_design_model.specs.Exact.{nets_of}
 use Rattle.cmb_design_model.specs.Value.{value}
 use Rattle.cmb_words.specs.declared.changed.Changed.{Changed}
-use Rattle.cmb_words.specs.declared.word.Word.{Word}
+use Rattle.cmb_engine.specs.Inner.Planes.{Planes}
 use Rattle.cmb_words.specs.Changes.{RisesWithin, Tells, is_among}
 use Rattle.cmb_engine.specs.Inner.Ahead.{TellsAhead}
 use Rattle.cmb_engine.specs.Inner.Cells.{cell_at, is_made, IsSteadyFrom}
@@ -56,7 +56,7 @@ module _ (design : Design) (circuit : Circuit) (state : State) (is_circuit : IsC
     back = omega (arith, later)
 
     -- words that went on by the window show what the slots show up to its end
-    pub next-shows : (old new : List Word) (tells : List LevelEvent) (given : List Changed) → AreGiven (value design) circuit.wiring.roles.items state.clock to given → old ≡ state.words.items → tells ≡ taken → AreInOrder taken
+    pub next-shows : (old new : List Planes) (tells : List LevelEvent) (given : List Changed) → AreGiven (value design) circuit.wiring.roles.items state.clock to given → old ≡ state.words → tells ≡ taken → AreInOrder taken
         → ((trace : ℕ → ℕ → Level) → MeetsCells trace (cell_at circuit.wiring.cells) → Shows (levels_of old) trace (length old) (to - (to - state.clock))
         → AreOfWindow trace (cell_at circuit.wiring.cells) (gives circuit.wiring.roles.items) (length old) (to - (to - state.clock)) to tells
         → AreGiven trace circuit.wiring.roles.items (to - (to - state.clock)) to given → Shows (levels_of new) trace (length old) to)
@@ -64,11 +64,11 @@ module _ (design : Design) (circuit : Circuit) (state : State) (is_circuit : IsC
     next-shows old new tells given gifts same those order shows =
         let trace : ℕ → ℕ → Level = trace_of design circuit.wiring.roles.items circuit.lines.items in
         let count : length old ≡ length circuit.wiring.cells = ap length same ∙ is_state.slots in
-        let known : Shows (levels_of state.words.items) trace (length state.words.items) (to - (to - state.clock)) =
-        subst (λ (n : ℕ). Shows (levels_of state.words.items) trace n (to - (to - state.clock))) (sym is_state.slots)
-        (subst (λ (t : ℕ). Shows (levels_of state.words.items) trace (length circuit.wiring.cells) t) (sym back) is_state.shows) in
+        let known : Shows (levels_of state.words) trace (length state.words) (to - (to - state.clock)) =
+        subst (λ (n : ℕ). Shows (levels_of state.words) trace n (to - (to - state.clock))) (sym is_state.slots)
+        (subst (λ (t : ℕ). Shows (levels_of state.words) trace (length circuit.wiring.cells) t) (sym back) is_state.shows) in
         let before : Shows (levels_of old) trace (length old) (to - (to - state.clock)) =
-        subst (λ (ws : List Word). Shows (levels_of ws) trace (length ws) (to - (to - state.clock))) (sym same) known in
+        subst (λ (ws : List Planes). Shows (levels_of ws) trace (length ws) (to - (to - state.clock))) (sym same) known in
         let told : AreOfWindow trace (cell_at circuit.wiring.cells) (gives circuit.wiring.roles.items) (length circuit.wiring.cells) (to - (to - state.clock)) to tells =
         subst (λ (t : ℕ). AreOfWindow trace (cell_at circuit.wiring.cells) (gives circuit.wiring.roles.items) (length circuit.wiring.cells) t to tells) (sym back)
         (subst (λ (xs : List LevelEvent). AreOfWindow trace (cell_at circuit.wiring.cells) (gives circuit.wiring.roles.items) (length circuit.wiring.cells) state.clock to xs) (sym those) (window-tells order)) in
@@ -79,7 +79,7 @@ module _ (design : Design) (circuit : Circuit) (state : State) (is_circuit : IsC
         (given-traced design circuit.wiring.roles.items circuit.lines.items state.clock to given is_circuit.roles gifts)))
 
     -- and of which the words show what the slots show
-    module _ (words : List Word) (shows : Shows (levels_of words) (trace_of design circuit.wiring.roles.items circuit.lines.items) (length circuit.wiring.cells) to) (changed : List Changed)
+    module _ (words : List Planes) (shows : Shows (levels_of words) (trace_of design circuit.wiring.roles.items circuit.lines.items) (length circuit.wiring.cells) to) (changed : List Changed)
         (rises : RisesWithin 0 (nets_of design) changed) (right : All (HasWord (levels_of words)) changed)
         (others : (net : ℕ) → net < nets_of design → is_among net changed ≡ false → IsSteadyFrom (levels_of words net) (64 - (to - state.clock))) where
       pub window-changes : Tells (level_in design circuit.wiring.roles.items) (nets_of design) state.clock to changed

@@ -15,7 +15,7 @@ use Rattle.cmb_design_model.specs.Nets.{is_flop as is_flop_driver}
 use Rattle.cmb_design_model.specs.Timing.{delay}
 use Rattle.cmb_design_model.specs.Value.{value}
 use Rattle.cmb_words.specs.declared.changed.Changed.{Changed}
-use Rattle.cmb_words.specs.declared.word.Word.{Word}
+use Rattle.cmb_engine.specs.Inner.Planes.{Planes}
 use Rattle.cmb_words.specs.Changes.{TellsNet}
 use Rattle.cmb_words.proofs.StillFacts.{still-agrees}
 use Rattle.cmb_words.proofs.TellsFacts.{tells-same}
@@ -262,7 +262,7 @@ module _ (design : Design) (circuit : Circuit) (is_circuit : IsCircuit design ci
         taken-before_by (driver_of design.netlist slot) slot (cell_at circuit.wiring.cells slot) group.clock group.delay (driven-stands slot is.0 is.1) ((are k d small).each 0 0 (are k d small).some)
         (ahead slot among) (soon slot among)
 
-    pub exports-tell : (exports : List Group) → All (IsGroup circuit.wiring.cells) exports → (words : List Word) → Shows (levels_of words) (trace_of design circuit.wiring.roles.items circuit.lines.items) (length words) from
+    pub exports-tell : (exports : List Group) → All (IsGroup circuit.wiring.cells) exports → (words : List Planes) → Shows (levels_of words) (trace_of design circuit.wiring.roles.items circuit.lines.items) (length words) from
         → (told : List Changed) → AddsAhead circuit.wiring.cells words (slots_of exports) from to [] told
         → All (λ one. Contains (slots_of exports) one.net) told × TellsThose (Contains (slots_of exports)) (value design) from to told
     exports-tell exports are words shows told adds = (

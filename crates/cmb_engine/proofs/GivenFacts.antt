@@ -1,5 +1,5 @@
 -- What words show where something is given of their nets.
-use Rattle.std.proofs.Common.{◌≡◌, ℕ, zero, suc, ◌+◌, ◌-◌, ◌<◌, ◌≤◌, ◌⊎◌, inl, inr, min, true, false, ◌||◌, List, [], ◌∷◌, ◌++◌, length, get_or, set, refl, sym, ap, subst, ◌∙◌, arith}
+use Rattle.std.proofs.Common.{◌≡◌, ℕ, ◌+◌, ◌-◌, ◌<◌, ◌≤◌, ◌⊎◌, inl, inr, min, true, false, ◌||◌, List, [], ◌∷◌, ◌++◌, length, get_or, set, refl, sym, ap, subst, ◌∙◌, arith}
 use Rattle.std.specs.Prelude.{◌==◌, Contains}
 use Rattle.std.proofs.lemmas.Bool.{cases_lt, cases_eq, cases_Bool, eq-eqb, ne_eqb, false≢true, and_from, and_left, and_parts, or_parts}
 use Rattle.std.proofs.lemmas.List.Elements.{Contains-append_left, Contains-append_right, Contains-push}
@@ -11,6 +11,7 @@ use Rattle.cmb_design_model.specs.Value.{value}
 use Rattle.cmb_words.specs.declared.changed.Changed.{Changed}
 use Rattle.cmb_words.specs.Changes.{IsStill, is_among}
 use Rattle.cmb_words.specs.declared.word.Word.{Word}
+use Rattle.cmb_engine.specs.Inner.Planes.{Planes, planes_of}
 use Rattle.cmb_words.specs.Word.{level_at_place}
 use Rattle.cmb_words.proofs.StillFacts.{still-agrees, still-level}
 use Rattle.cmb_words.proofs.TellsFacts.{tells-level, tells-same}
@@ -36,13 +37,13 @@ use Rattle.cmb_engine.proofs.WriteFacts.{writes-none}
 -- ---- words
 
 -- a word of which a place stays
-pub word-kept : (words : List Word) (net : ℕ) (word : Word) (slot place : ℕ) → net < length words → level_at_place word place ≡ levels_of words net place
-    → levels_of (set words net word) slot place ≡ levels_of words slot place
+pub word-kept : (words : List Planes) (net : ℕ) (word : Word) (slot place : ℕ) → net < length words → level_at_place word place ≡ levels_of words net place
+    → levels_of (set words net (planes_of word)) slot place ≡ levels_of words slot place
 word-kept words net word slot place inside same = go (cases_eq slot net)
   where
-    go : (slot ≡ net) ⊎ (slot ≡ net → ⊥) → levels_of (set words net word) slot place ≡ levels_of words slot place
+    go : (slot ≡ net) ⊎ (slot ≡ net → ⊥) → levels_of (set words net (planes_of word)) slot place ≡ levels_of words slot place
     go (inl e) =
-        ap (λ (s : ℕ). levels_of (set words net word) s place) e ∙ levels_of-set_same words net word place inside ∙ same ∙ ap (λ (s : ℕ). levels_of words s place) (sym e)
+        ap (λ (s : ℕ). levels_of (set words net (planes_of word)) s place) e ∙ levels_of-set_same words net word place inside ∙ same ∙ ap (λ (s : ℕ). levels_of words s place) (sym e)
     go (inr other) = levels_of-set_other words net slot word place other
 
 -- ---- which nets are written
@@ -113,12 +114,12 @@ written-its roles one old new first gift past others here = record {
 }
 
 -- what is left of one thing that is given: where its net is a given one, the word is written, and who reads the net is marked
-pub record IsTaken (roles : List Role) (readers : List (List ℕ)) (one : Changed) (first : ℕ) (old new : List Word) (live more marks marked : List ℕ) : Type 0 where
+pub record IsTaken (roles : List Role) (readers : List (List ℕ)) (one : Changed) (first : ℕ) (old new : List Planes) (live more marks marked : List ℕ) : Type 0 where
   pub writes : Writes old new live more marks marked
   pub written : AreWritten roles (one ∷ []) (levels_of old) (levels_of new) first
   pub news : (slot : ℕ) → is_written roles (one ∷ []) slot ≡ true → AreMarked (has marked) (get_or readers slot [])
 
-pub taken-not : (roles : List Role) (readers : List (List ℕ)) (one : Changed) (first : ℕ) (words : List Word) (live marks : List ℕ) → gives roles one.net ≡ false
+pub taken-not : (roles : List Role) (readers : List (List ℕ)) (one : Changed) (first : ℕ) (words : List Planes) (live marks : List ℕ) → gives roles one.net ≡ false
     → IsTaken roles readers one first words words live live marks marks
 taken-not roles readers one first words live marks none = record {
   writes = writes-none words live marks;
@@ -126,14 +127,14 @@ taken-not roles readers one first words live marks none = record {
   news = λ slot is. absurd (false≢true (sym none ∙ (written-one roles one slot is).0));
 }
 
-pub taken-put : (roles : List Role) (readers : List (List ℕ)) (one : Changed) (first : ℕ) (old new : List Word) (live more marks marked : List ℕ) (word : Word) → gives roles one.net ≡ true
-    → one.net < length old → new ≡ set old one.net word → ((place : ℕ) → place < first → level_at_place word place ≡ levels_of old one.net place)
+pub taken-put : (roles : List Role) (readers : List (List ℕ)) (one : Changed) (first : ℕ) (old new : List Planes) (live more marks marked : List ℕ) (word : Word) → gives roles one.net ≡ true
+    → one.net < length old → new ≡ set old one.net (planes_of word) → ((place : ℕ) → place < first → level_at_place word place ≡ levels_of old one.net place)
     → ((place : ℕ) → first ≤ place → place < 64 → level_at_place word place ≡ level_at_place one.word place)
     → Writes old new live more marks marked → AreMarked (has marked) (get_or readers one.net []) → IsTaken roles readers one first old new live more marks marked
 taken-put roles readers one first old new live more marks marked word gift inside is below from writes news = record {
   writes = writes;
   written = written-its roles one (levels_of old) (levels_of new) first gift
-      (λ slot place early. ap (λ (words : List Word). levels_of words slot place) is ∙ word-kept old one.net word slot place inside (below place early))
+      (λ slot place early. ap (λ (words : List Planes). levels_of words slot place) is ∙ word-kept old one.net word slot place inside (below place early))
       (λ slot place other. written-other old new one.net slot word place is (λ e. other (sym e)))
       (λ place late small. written-same old new one.net word place is inside ∙ from place late small);
   news = λ slot is. subst (λ (n : ℕ). AreMarked (has marked) (get_or readers n [])) (written-one roles one slot is).1 news;

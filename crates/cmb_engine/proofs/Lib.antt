@@ -1,7 +1,6 @@
 pub mod AheadFacts
 pub mod ArrivalFacts
 pub mod BatchFacts
-pub mod BeginFacts
 pub mod BitFacts
 pub mod CellFacts
 pub mod CollectFacts
@@ -12,11 +11,14 @@ pub mod FollowerFacts
 pub mod GivenFacts
 pub mod GroupFacts
 pub mod JoinFacts
+pub mod KnownFacts
 pub mod LineFacts
 pub mod MarkFacts
 pub mod MoveFacts
 pub mod NoteFacts
 pub mod OpenFacts
+pub mod PlaceFacts
+pub mod PlaneFacts
 pub mod PlanFacts
 pub mod ReaderFacts
 pub mod RoleFacts

@@ -5,7 +5,7 @@ use Rattle.std.proofs.lemmas.List.{get_or_past}
 use Rattle.std.proofs.lemmas.Nat.Bits.{bit_at-zero}
 use Rattle.std.specs.Prelude.{IfNone}
 use Rattle.cmb_words.specs.Bits.{is_set_at}
-use Rattle.cmb_engine.specs.Inner.Batches.{IsSetAt, IsTaken}
+use Rattle.cmb_engine.specs.Inner.Batches.{IsNextWord, IsSetAt, IsTaken}
 use Rattle.cmb_engine.specs.Inner.Bits.{has, HasNone, IsNext, Inserts, Lessens, Removes, IsSummary}
 use Rattle.cmb_engine.specs.declared.walk.Walk.{Walk}
 use Rattle.cmb_engine.specs.Inner.Walks.{walked}
@@ -51,16 +51,16 @@ summary-gone low new high sums k old less above none =
         same ∙ rw (less.others m e) (old.summed m)
 
 -- the marks of a level in a word are taken out
-pub marks-taken : (old new : List ℕ) (from first end places : ℕ) → IsNext old from first → first % 64 < end → end ≤ 64 → Lessens old new (first / 64)
+pub marks-taken : (old new : List ℕ) (from first end places : ℕ) → IsNext old from first → first % 64 < end → end ≤ 64 → length new ≡ length old
     → ((m : ℕ) → has old m ≡ true → has new m ≡ false → IsSetAt (64 * (first / 64)) places m)
     → ((place : ℕ) → place < 64 → first % 64 ≤ place → place < end → has old (64 * (first / 64) + place) ≡ true → is_set_at places place ≡ true)
     → (upto : ℕ) → upto ≡ 64 * (first / 64) + end → IsTaken old new from upto (64 * (first / 64)) places
-marks-taken old new from first end places next late fits less left taken upto is =
+marks-taken old new from first end places next late fits len left taken upto is =
     let inside : first / 64 < length old = has-inside old first next.member in
     record {
       on = omega (arith, next.from, late, is);
       within = omega (arith, inside, fits, is);
-      room = less.len;
+      room = len;
       left = left;
       passed = λ m k l h. at m k l h (cases_lt m first);
     }
@@ -89,33 +89,6 @@ summary-insert low new high sums n old insert above =
         let here : (k == n / 64) ≡ false = ne_eqb _ _ e in
         rw (above.members k, here, insert.others k e) (old.summed k)
 
--- where a word still has numbers its bit stays
-pub summary-stays : (low new high : List ℕ) (n : ℕ) → IsSummary low high → Removes low new n → (get_or new (n / 64) 0 == 0) ≡ false → IsSummary new high
-summary-stays low new high n old remove some =
-    record { room = omega (arith, old.room, remove.len); summed = λ k. at k (cases_eq k (n / 64)) }
-  where
-    at : (k : ℕ) → (k ≡ n / 64) ⊎ (k ≡ n / 64 → ⊥) → has high k ≡ not (get_or new k 0 == 0)
-    at k (inl e) =
-        let left : (get_or low (n / 64) 0 == 0) ≡ false = ne_eqb _ _ (λ z. eqb-false _ _ some (omega (arith, remove.less, z))) in
-        let now : has high k ≡ true = old.summed k ∙ ap (λ i. not (get_or low i 0 == 0)) e ∙ ap not left in
-        now ∙ sym (ap (λ i. not (get_or new i 0 == 0)) e ∙ ap not some)
-    at k (inr e) = rw (remove.others k e) (old.summed k)
-
--- and where it has none left its bit goes
-pub summary-remove : (low new high sums : List ℕ) (n : ℕ) → IsSummary low high → Removes low new n → Removes high sums (n / 64) → (get_or new (n / 64) 0 == 0) ≡ true → IsSummary new sums
-summary-remove low new high sums n old remove above none =
-    record { room = omega (arith, old.room, remove.len, above.len); summed = λ k. at k (cases_eq k (n / 64)) }
-  where
-    at : (k : ℕ) → (k ≡ n / 64) ⊎ (k ≡ n / 64 → ⊥) → has sums k ≡ not (get_or new k 0 == 0)
-    at k (inl e) =
-        let here : (k == n / 64) ≡ true = eq-eqb _ _ e in
-        let gone : has sums k ≡ false = rw here at (above.members k) in
-        gone ∙ sym (ap (λ i. not (get_or new i 0 == 0)) e ∙ ap not none)
-    at k (inr e) =
-        let here : (k == n / 64) ≡ false = ne_eqb _ _ e in
-        let same : has sums k ≡ has high k = rw here at (above.members k) in
-        same ∙ rw (remove.others k e) (old.summed k)
-
 pub summary-new : (low high : List ℕ) → length low ≤ 64 * length high → ((k : ℕ) → get_or low k 0 ≡ 0) → ((m : ℕ) → has high m ≡ false) → IsSummary low high
 summary-new low high room zeros none =
     record { room = room; summed = λ k. none k ∙ sym (ap not (eq-eqb (get_or low k 0) 0 (zeros k))) }
@@ -141,6 +114,18 @@ module _ (low high : List ℕ) (sum : IsSummary low high) where
       go m from below (inr l) (inl j) = no_word m (above.least (m / 64) (omega arith) (omega arith))
       go m from below (inr l) (inr j) = next.least m j below
 
+  -- words up to one whose bits are clear have no number
+  pub marks-empty : (from upto bound : ℕ) → HasNone high from upto → bound ≤ 64 * upto → HasNone low (64 * from) bound
+  marks-empty from upto bound none within m late below = no_word m (none (m / 64) (omega (arith, late)) (omega (arith, below, within)))
+
+  -- nor has any word, where no bit is set from one on
+  pub marks-end : (from bound : ℕ) → HasNone high from (64 * length high) → HasNone low (64 * from) bound
+  marks-end from bound none m late below = go (cases_lt (m / 64) (length low))
+    where
+      go : (m / 64 < length low) ⊎ (length low ≤ m / 64) → has low m ≡ false
+      go (inl l) = no_word m (none (m / 64) (omega (arith, late)) (omega (arith, l, sum.room)))
+      go (inr l) = has-zero_word low m (get_or_past low (m / 64) 0 l)
+
   -- a word whose bit is set isn't zero, and is there
   marks-word : (n k : ℕ) → IsNext high n k → get_or low k 0 ≢ 0
   marks-word n k next none = false≢true (sym (ap not (eq-eqb (get_or low k 0) 0 none)) ∙ sym (sum.summed k) ∙ next.member)
@@ -151,6 +136,20 @@ module _ (low high : List ℕ) (sum : IsSummary low high) where
       go : (k < length low) ⊎ (length low ≤ k) → k < length low
       go (inl l) = l
       go (inr l) = absurd (marks-word n k next (get_or_past low k 0 l))
+
+  -- the numbers of the word whose bit is the next one
+  pub marks-next_word : (from k upto : ℕ) → IsNext high from k → upto ≡ k + 1 → IsNextWord low from upto (64 * k) (get_or low k 0)
+  unfolding has is_set_at
+  marks-next_word from k upto next is = record {
+    on = omega (arith, next.from, is);
+    within = omega (arith, marks-room from k next, is);
+    ends = omega (arith, is);
+    none = marks-empty from k (64 * k) next.least (omega arith);
+    members = λ place small.
+        let at : (64 * k + place) / 64 ≡ k = omega (arith, small) in
+        let rest : (64 * k + place) % 64 ≡ place = omega (arith, small) in
+        rw (at, rest) refl;
+  }
 
   -- what the word tells whose bit is the next one
   pub marks-in_word : (w n k : ℕ) → n ≤ 64 * w + 64 → HasNone low n (64 * w + 64) → IsNext high (w + 1) k → (at after : Walk) → at.word ≡ k → walked at ≡ 64 * k

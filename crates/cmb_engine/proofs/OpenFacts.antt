@@ -6,7 +6,7 @@ use Rattle.cmb_wheel.specs.declared.event.LevelEvent.{LevelEvent}
 use Rattle.cmb_wave.specs.declared.level.Level.{Level}
 use Rattle.cmb_design_model.specs.Design.{Design}
 use Rattle.cmb_design_model.specs.Exact.{nets_of}
-use Rattle.cmb_words.specs.declared.word.Word.{Word}
+use Rattle.cmb_engine.specs.Inner.Planes.{Planes}
 use Rattle.cmb_engine.specs.Inner.Ahead.{TellsAhead}
 use Rattle.cmb_engine.specs.Inner.Cells.{Cell}
 use Rattle.cmb_engine.specs.Inner.Circuits.{Shows}
@@ -21,7 +21,7 @@ use Rattle.cmb_engine.specs.declared.role.Role.{Role}
 use Rattle.cmb_engine.proofs.StartFacts.{starts-told}
 
 -- the words of a circuit's slots
-pub words-show : (design : Design) (circuit : Circuit) (words : List Word) (lines : List Pin) → IsCircuit design circuit → lines ≡ circuit.lines.items
+pub words-show : (design : Design) (circuit : Circuit) (words : List Planes) (lines : List Pin) → IsCircuit design circuit → lines ≡ circuit.lines.items
     → ((roles : List Role) → Shows (levels_of words) (trace_of design roles lines) (nets_of design + length lines) 1)
     → Shows (levels_of words) (trace_of design circuit.wiring.roles.items circuit.lines.items) (length circuit.wiring.cells) 1
 words-show design circuit words lines is same shows =

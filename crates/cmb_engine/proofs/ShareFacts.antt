@@ -1,14 +1,12 @@
 -- The engine of a share that is all nets.
-use Rattle.std.proofs.Common.{◌≡◌, ℕ, ◌<◌, true, false, Bool, List, [], get_or, sym, ap, subst, ◌∙◌, arith}
-use Rattle.std.specs.Prelude.{Contains, replicate}
+use Rattle.std.proofs.Common.{◌≡◌, ℕ, ◌<◌, true, false, Bool, List, [], get_or, sym, ap, ◌∙◌}
+use Rattle.std.specs.Prelude.{replicate}
 use Rattle.std.proofs.lemmas.Bool.{false≢true}
 use Rattle.std.proofs.lemmas.List.{get_or-replicate}
 use Rattle.std.proofs.lemmas.List.Elements.{All-contains, Contains-get_or}
 use Rattle.cmb_wave.specs.declared.level.Level.{Level}
 use Rattle.cmb_netlist.proofs.Wired.{pins-below}
 use Rattle.cmb_netlist.specs.Netlist.{IsNetlist, driver_of, pins_of}
-use Rattle.cmb_netlist.specs.declared.netlist.Driver.{Driver}
-use Rattle.cmb_netlist.specs.declared.netlist.Driver.TheVariants.{Input, Gate, Flop}
 use Rattle.cmb_design_model.specs.Exact.{nets_of}
 use Rattle.cmb_design_model.specs.Value.{value}
 use Rattle.cmb_words.specs.declared.changed.Changed.{Changed}
@@ -16,7 +14,6 @@ use Rattle.cmb_words.specs.Changes.{RisesWithin, Tells}
 use Rattle.cmb_words.proofs.Rising.{rises_at}
 use Rattle.cmb_engine.specs.Shares.{IsDriven, IsGiven, ShareEngine, TellsThose}
 use Rattle.cmb_engine.specs.Inner.States.{DrivesAll}
-use Rattle.cmb_engine.proofs.RoleFacts.{only-among}
 
 pub drives-all : (share : ShareEngine) → IsNetlist share.design.netlist → share.driven ≡ replicate (nets_of share.design) true → DrivesAll share
 drives-all share netlist whole = record {

@@ -5,6 +5,7 @@ use Rattle.std.proofs.lemmas.Bool.{cases_lt, cases_eq, ne_eqb, eq-eqb, le-leb, l
 use Rattle.std.proofs.lemmas.List.{take_more}
 use Rattle.cmb_wave.specs.declared.level.Level.{Level}
 use Rattle.cmb_words.specs.declared.word.Word.{Word}
+use Rattle.cmb_engine.specs.Inner.Planes.{Planes, planes_of}
 use Rattle.cmb_words.specs.Word.{level_at_place}
 use Rattle.cmb_wheel.specs.declared.event.LevelEvent.{LevelEvent}
 use Rattle.cmb_engine.specs.Inner.Tells.{told_level}
@@ -24,17 +25,17 @@ told-more tells k d slot held tick small =
     ∙ told-append (take k tells) (get_or tells k d ∷ []) slot held tick
 
 -- a word that has the tell's level from its place on, and is the slot's own below it, shows what is told
-pub told-written : (words : List Word) (event : LevelEvent) (word : Word) (to slot place : ℕ) → event.slot < length words → 1 ≤ event.tick → to ≤ event.tick + 64
+pub told-written : (words : List Planes) (event : LevelEvent) (word : Word) (to slot place : ℕ) → event.slot < length words → 1 ≤ event.tick → to ≤ event.tick + 64
     → ((i : ℕ) → i < event.tick + 64 - to → level_at_place word i ≡ levels_of words event.slot i)
     → ((i : ℕ) → event.tick + 64 - to ≤ i → i < 64 → level_at_place word i ≡ event.level) → place < 64
-    → levels_of (set words event.slot word) slot place ≡ told_level (event ∷ []) slot (levels_of words slot place) (to + place - 64)
+    → levels_of (set words event.slot (planes_of word)) slot place ≡ told_level (event ∷ []) slot (levels_of words slot place) (to + place - 64)
 told-written words event word to slot place inside begun reaches below from small = go (cases_eq slot event.slot) (cases_lt place (event.tick + 64 - to))
   where
-    at : slot ≡ event.slot → levels_of (set words event.slot word) slot place ≡ level_at_place word place
-    at e = ap (λ (s : ℕ). levels_of (set words event.slot word) s place) e ∙ levels_of-set_same words event.slot word place inside
+    at : slot ≡ event.slot → levels_of (set words event.slot (planes_of word)) slot place ≡ level_at_place word place
+    at e = ap (λ (s : ℕ). levels_of (set words event.slot (planes_of word)) s place) e ∙ levels_of-set_same words event.slot word place inside
 
     go : (slot ≡ event.slot) ⊎ (slot ≡ event.slot → ⊥) → (place < event.tick + 64 - to) ⊎ (event.tick + 64 - to ≤ place)
-        → levels_of (set words event.slot word) slot place ≡ told_level (event ∷ []) slot (levels_of words slot place) (to + place - 64)
+        → levels_of (set words event.slot (planes_of word)) slot place ≡ told_level (event ∷ []) slot (levels_of words slot place) (to + place - 64)
     go (inl e) (inl l) =
         let early : (event.slot == slot && nat_le event.tick (to + place - 64)) ≡ false = and_right (event.slot == slot) _ (lt-leb event.tick (to + place - 64) (omega arith)) in
         rw early (at e ∙ below place l ∙ ap (λ (s : ℕ). levels_of words s place) (sym e))

@@ -1,6 +1,6 @@
 -- What a visit of a net leaves.
-use Rattle.std.proofs.Common.{◌≡◌, ◌≢◌, ℕ, ◌+◌, ◌-◌, ◌<◌, ◌≤◌, ◌⊎◌, inl, inr, Bool, true, false, not, ◌&&◌, ◌==◌, List, [], ◌∷◌, length, get_or, refl, sym, ap, subst, ◌∙◌, arith}
-use Rattle.std.proofs.lemmas.Bool.{ne_eqb, eq-eqb, cases_eq, cases_lt, cases_Bool, false≢true, or_left, or_right}
+use Rattle.std.proofs.Common.{◌≡◌, ◌≢◌, ℕ, ◌+◌, ◌-◌, ◌<◌, ◌≤◌, ◌⊎◌, inl, inr, Bool, true, false, ◌==◌, List, [], ◌∷◌, length, get_or, refl, sym, ap, subst, ◌∙◌, arith}
+use Rattle.std.proofs.lemmas.Bool.{eq-eqb, cases_eq, cases_lt, cases_Bool, false≢true, or_left, or_right}
 use Rattle.std.specs.List.{AllByRecursion, list_any}
 use Rattle.cmb_wave.specs.declared.level.Level.{Level}
 use Rattle.cmb_design_model.specs.declared.rows.Clock.{Clock}
@@ -32,13 +32,7 @@ same-both own other first below from place small = go (cases_lt place first)
     go (inl l) = below place l
     go (inr l) = from place l small
 
--- what isn't in a set without a number wasn't in it before
-pub removed-false : (old new : List ℕ) (n m : ℕ) → has new m ≡ (not (m == n) && has old m) → has new m ≡ false → m ≢ n → has old m ≡ false
-removed-false old new n m is none other =
-    let here : (m == n) ≡ false = ne_eqb m n other in
-    let same : has new m ≡ has old m = is ∙ ap (λ b. not b && has old m) here in
-    sym same ∙ none
-
+-- what isn't in a set that has all that it had wasn't in it before
 pub kept-false : (old new : List ℕ) (m : ℕ) → (has old m ≡ true → has new m ≡ true) → has new m ≡ false → has old m ≡ false
 kept-false old new m kept none = go (cases_Bool (has old m))
   where

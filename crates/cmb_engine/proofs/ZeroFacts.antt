@@ -19,6 +19,7 @@ use Rattle.cmb_design_model.specs.Value.{pin_levels, value}
 use Rattle.cmb_design_model.proofs.SampleFacts.{delay-positive}
 use Rattle.cmb_design_model.proofs.ValueFacts.{value-at_gate, value-at_flop}
 use Rattle.cmb_words.specs.declared.word.Word.{Word}
+use Rattle.cmb_engine.specs.Inner.Planes.{Planes, planes_of}
 use Rattle.cmb_words.specs.Word.{level_at_place}
 use Rattle.cmb_design_model.specs.Exact.{nets_of}
 use Rattle.cmb_engine.specs.Inner.Circuits.{Shows}
@@ -30,7 +31,7 @@ use Rattle.cmb_engine.specs.declared.cell.Pin.{Pin}
 use Rattle.cmb_engine.specs.declared.role.Role.{Role}
 use Rattle.cmb_engine.proofs.ArrivalFacts.{flop_level-start}
 use Rattle.cmb_engine.proofs.RoleFacts.{level-start}
-use Rattle.cmb_engine.proofs.WordFacts.{levels_of-get_or, written-other, written-same}
+use Rattle.cmb_engine.proofs.WordFacts.{level_of_planes, levels_of-get_or, written-other, written-same}
 use Rattle.cmb_engine.proofs.PlanFacts.{wired-gate}
 use Rattle.cmb_engine.proofs.SlotFacts.{trace-behind, trace-net}
 
@@ -101,7 +102,7 @@ start-shows trace word before now place small = go (cases_lt place 63)
     go (inr l) = let e : place ≡ 63 = omega arith in rw e now
 
 -- the words of the first so many nets show their levels at tick 0, and all others x
-pub record AreStarted (design : Design) (upto : ℕ) (words : List Word) : Type 0 where
+pub record AreStarted (design : Design) (upto : ℕ) (words : List Planes) : Type 0 where
   pub begun : (net place : ℕ) → net < upto → place < 64 → levels_of words net place ≡ in_place (value design net) 1 place
   pub others : (slot : ℕ) (trace : ℕ → Level) → upto ≤ slot → slot < length words → trace 0 ≡ X → (place : ℕ) → place < 64 → levels_of words slot place ≡ in_place trace 1 place
 
@@ -109,23 +110,23 @@ pub record AreStarted (design : Design) (upto : ℕ) (words : List Word) : Type 
 abbrev Starts : Level → Word → Type 0
 Starts level word = (trace : ℕ → Level) → trace 0 ≡ level → (place : ℕ) → place < 64 → level_at_place word place ≡ in_place trace 1 place
 
-pub started-none : (design : Design) (count : ℕ) (word : Word) (words : List Word) → words ≡ replicate count word → Starts X word → AreStarted design 0 words
+pub started-none : (design : Design) (count : ℕ) (word : Word) (words : List Planes) → words ≡ replicate count (planes_of word) → Starts X word → AreStarted design 0 words
 started-none design count word words is shows = record {
   begun = λ net place below. absurd (omega arith);
   others = λ slot trace late inside zero place small.
-      let within : slot < count = omega (arith, inside, ap length is, length-replicate count word) in
-      levels_of-get_or words slot word place inside
-      ∙ ap (λ (w : Word). level_at_place w place) (ap (λ (ws : List Word). get_or ws slot word) is ∙ get_or-replicate count slot word word within)
+      let within : slot < count = omega (arith, inside, ap length is, length-replicate count (planes_of word)) in
+      levels_of-get_or words slot (planes_of word) place inside
+      ∙ ap (λ (w : Planes). level_of_planes w place) (ap (λ (ws : List Planes). get_or ws slot (planes_of word)) is ∙ get_or-replicate count slot (planes_of word) (planes_of word) within)
       ∙ shows trace zero place small;
 }
 
-pub started-more : (design : Design) (net : ℕ) (word : Word) (old new : List Word) → net < length old → new ≡ set old net word → Starts (value design net 0) word → AreStarted design net old
+pub started-more : (design : Design) (net : ℕ) (word : Word) (old new : List Planes) → net < length old → new ≡ set old net (planes_of word) → Starts (value design net 0) word → AreStarted design net old
     → AreStarted design (net + 1) new
 started-more design net word old new inside is shows so_far = record {
   begun = λ other place below small. go other place below small (cases_lt other net);
   others = λ slot trace late within zero place small.
       written-other old new net slot word place is (λ e. absurd (omega (arith, e, late)))
-      ∙ so_far.others slot trace (omega (arith, late)) (omega (arith, within, ap length is, length-set old net word)) zero place small;
+      ∙ so_far.others slot trace (omega (arith, late)) (omega (arith, within, ap length is, length-set old net (planes_of word))) zero place small;
 }
   where
     go : (other place : ℕ) → other < net + 1 → place < 64 → (other < net) ⊎ (net ≤ other) → levels_of new other place ≡ in_place (value design other) 1 place
@@ -135,7 +136,7 @@ started-more design net word old new inside is shows so_far = record {
         subst (λ (n : ℕ). levels_of new n place ≡ in_place (value design n) 1 place) e (written-same old new net word place is inside ∙ shows (value design net) refl place small)
 
 -- the words of all nets and lines show what these do: at tick 0 nothing is absent
-pub started-shows : (design : Design) (lines : List Pin) (words : List Word) (roles : List Role) → All (λ line. (line.net < nets_of design) × (1 ≤ line.delay)) lines
+pub started-shows : (design : Design) (lines : List Pin) (words : List Planes) (roles : List Role) → All (λ line. (line.net < nets_of design) × (1 ≤ line.delay)) lines
     → length words ≡ nets_of design + length lines → AreStarted design (nets_of design) words → Shows (levels_of words) (trace_of design roles lines) (nets_of design + length lines) 1
 started-shows design lines words roles lawful len started slot place inside small = go (cases_lt slot (nets_of design))
   where

@@ -5,12 +5,15 @@ pub mod Batches
 pub mod Bits
 pub mod Cells
 pub mod Circuits
+pub mod Collects
 pub mod Ends
 pub mod Exports
 pub mod Gifts
+pub mod Known
 pub mod Lines
 pub mod Lists
 pub mod Orders
+pub mod Planes
 pub mod Plans
 pub mod Roles
 pub mod Starts

@@ -1,5 +1,5 @@
 -- A share of a design's nets, simulated by an engine of its own: it drives them, and what they read of other nets is given to it.
-use Rattle.std.specs.Prelude.{◌≡◌, ℕ, ◌+◌, ◌-◌, All, Bool, true, false, List, Contains, slice_index_or}
+use Rattle.std.specs.Prelude.{◌≡◌, ℕ, All, Bool, true, false, List, Contains, slice_index_or}
 use Rattle.cmb_wave.specs.declared.level.Level.{Level}
 use Rattle.cmb_netlist.specs.Netlist.{driver_of, pins_of}
 use Rattle.cmb_design_model.specs.Design.{Design}

@@ -12,13 +12,14 @@ ghost use Rattle.cmb_engine.specs.Inner.Words.{levels_of};
 use crate::arrivals::first_arrival;
 use crate::cells::Cells;
 use crate::group::Group;
+use crate::words::Words;
 use cmb_netlist::MAX_NETS;
 use cmb_words::{Changed, Word, held};
 use std::alloc::AllocError;
 
 // The word that a flip-flop has so many ticks later, where samples arrive from a place on. There is none where it keeps
 // its level: mostly its data have that level too, as far back as these samples were taken.
-fn word_ahead(cells: &Cells, words: &[Word], slot: usize, arrival: u32, ticks: u32) -> Option<Word>
+fn word_ahead(cells: &Cells, words: &Words, slot: usize, arrival: u32, ticks: u32) -> Option<Word>
     requires nets { length cells.now ≡ length words.now }
     requires slot { slot < length words.now }
     requires lawful { IsLawful (length words.now) (64 - ticks) (cell_at cells.now slot) }
@@ -31,8 +32,8 @@ fn word_ahead(cells: &Cells, words: &[Word], slot: usize, arrival: u32, ticks: u
         (λ word. HoldsAhead (levels_of words.now) (level_at_place word) ticks arrival slot (cell_at cells.now slot)) }
 {
     let (clock, pin) = cells.flop(slot)?;
-    let own = words[slot];
-    let input = words[pin.net as usize];
+    let own = words.get(slot);
+    let input = words.get(pin.net as usize);
     if !input.differs_from(own.everywhere(63), (64 - pin.delay).min(63)) {
         return None;
     }
@@ -50,7 +51,7 @@ fn word_ahead(cells: &Cells, words: &[Word], slot: usize, arrival: u32, ticks: u
 fn tell_group(
     group: &Group,
     cells: &Cells,
-    words: &[Word],
+    words: &Words,
     told: &mut Vec<Changed>,
     ticks: u32,
     to: u32,
@@ -89,7 +90,7 @@ fn tell_group(
 pub(crate) fn tell_groups(
     groups: &[Group],
     cells: &Cells,
-    words: &[Word],
+    words: &Words,
     told: &mut Vec<Changed>,
     ticks: u32,
     to: u32,

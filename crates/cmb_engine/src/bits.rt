@@ -58,16 +58,13 @@ impl Bits {
         self.words[n / 64] |= 1 << (n % 64);
     }
 
-    /// Takes a number out. Whether none is left of those in its word.
+    /// Takes a number out.
     #[inline]
-    pub(crate) fn remove(&mut self, n: usize) -> bool
+    pub(crate) fn remove(&mut self, n: usize)
         requires { n < 64 * length self.old }
-        ensures removes { Removes self.old self.new n }
-        ensures empty { result ≡ (slice_index self.new (n / 64) == 0) }
+        ensures { Removes self.old self.new n }
     {
-        let left = self.words[n / 64] & !(1 << (n % 64));
-        self.words[n / 64] = left;
-        left == 0
+        self.words[n / 64] &= !(1 << (n % 64));
     }
 
     /// A word of the set.
@@ -86,6 +83,7 @@ impl Bits {
     pub(crate) fn take(&mut self, k: usize, mask: u64) -> u64
         requires { k < length self.old }
         ensures less { Lessens self.old self.new k }
+        ensures members { (m : ℕ) → has self.new m ≡ (not (m / 64 == k && is_set_at mask (m % 64)) && has self.old m) }
         ensures left { (m : ℕ) → has self.old m ≡ true → has self.new m ≡ false → IsSetAt (64 * k) result m }
         ensures taken { (place : ℕ) → place < 64 → is_set_at mask place ≡ true → has self.old (64 * k + place) ≡ true
             → is_set_at result place ≡ true }

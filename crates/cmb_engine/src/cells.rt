@@ -2,12 +2,14 @@
 
 ghost use Rattle.std.specs.Prelude.{◌≡◌, ℕ, ◌+◌, ◌^◌, ◌<◌, ◌++◌, ◌∷◌, [], true, false, All, IfOk, OnOk};
 ghost use Rattle.std.specs.Prelude.{MatchOption, length, map, replicate, slice_index_or};
+ghost use Rattle.cmb_words.specs.Bits.{level_in};
 ghost use Rattle.cmb_words.specs.Word.{level_at_place};
 ghost use Rattle.cmb_engine.specs.Inner.Arrivals.{IsArrival};
 ghost use Rattle.cmb_engine.specs.Inner.Cells.{Told, Gate, Flop};
 ghost use Rattle.cmb_engine.specs.Inner.Cells.{cell_at, is_flop, is_gate, is_made, pins_of as pins_of_cell, reads};
 ghost use Rattle.cmb_engine.specs.Inner.Cells.{AreBelow};
 ghost use Rattle.cmb_engine.specs.Inner.Cells.{IsListed, IsMade, IsLawful};
+ghost use Rattle.cmb_engine.specs.Inner.Known.{known_levels};
 ghost use Rattle.cmb_engine.specs.Inner.Tables.{IsInside, cell_of};
 ghost use Rattle.cmb_engine.specs.Inner.Windows.{HasWindow};
 ghost use Rattle.cmb_engine.specs.declared.cells.Rule.{Rule};
@@ -15,8 +17,10 @@ ghost use Rattle.cmb_engine.specs.Inner.Words.{levels_of};
 
 use crate::arrivals::Arrival;
 use crate::cell::Pin;
+use crate::known::{known_double, known_flop, known_gate, known_single, spliced_ones};
 use crate::readers::{Numbers, push_pins};
 use crate::visit::{double_word, flop_word, gate_word, single_word};
+use crate::words::Words;
 use cmb_design_model::Clock;
 use cmb_netlist::Kind;
 use cmb_words::{Word, spliced};
@@ -263,7 +267,7 @@ impl Cells {
         &self,
         number: usize,
         slot: usize,
-        words: &[Word],
+        words: &Words,
         last: &mut Arrival,
         to: u32,
         first: u32,
@@ -280,7 +284,7 @@ impl Cells {
         ensures told { is_made (slice_index_or self.now number Told) ≡ false
             → (place : ℕ) → level_at_place result place ≡ levels_of words.now slot place }
     {
-        let own = words[slot];
+        let own = words.get(slot);
         match self.rules[number] {
             Rule::Told => own,
             Rule::Single(kind, pin) => spliced(own, single_word(kind, pin, words), first),
@@ -293,6 +297,43 @@ impl Cells {
                 spliced(own, gate_word(kind, pins, words, first), first)
             }
             Rule::Flop(clock, pin) => flop_word(clock, pin, own, words, last, to, first),
+        }
+    }
+
+    /// As `word`, where no level is x: of words, the places that are 1.
+    #[inline]
+    pub(crate) fn known_word(
+        &self,
+        number: usize,
+        own: u64,
+        ones: &[u64],
+        last: &mut Arrival,
+        to: u32,
+        first: u32,
+    ) -> u64
+        requires number { number < length self.now }
+        requires last { IsArrival last.old to first }
+        requires cell { IsLawful (length ones.now) first (slice_index_or self.now number Told) }
+        requires window { HasWindow to first }
+        ensures last { IsArrival last.new to first }
+        ensures below { (place : ℕ) → place < first → level_in result 0 place ≡ level_in own 0 place }
+        ensures made { IsMade (known_levels ones.now) (level_in result 0) to first
+            (slice_index_or self.now number Told) }
+        ensures told { is_made (slice_index_or self.now number Told) ≡ false
+            → (place : ℕ) → level_in result 0 place ≡ level_in own 0 place }
+    {
+        match self.rules[number] {
+            Rule::Told => own,
+            Rule::Single(kind, pin) => spliced_ones(own, known_single(kind, pin, ones), first),
+            Rule::Double(kind, pin, other) => {
+                spliced_ones(own, known_double(kind, pin, other, ones), first)
+            }
+            Rule::Gate(kind, part) => {
+                let begin = part.first as usize;
+                let pins = &self.pins[begin..begin + part.count as usize];
+                spliced_ones(own, known_gate(kind, pins, ones, first), first)
+            }
+            Rule::Flop(clock, pin) => known_flop(clock, pin, own, ones, last, to, first),
         }
     }
 }

@@ -1,24 +1,61 @@
 //! Which nets changed in a window.
 
-ghost use Rattle.std.specs.Prelude.{◌≡◌, ℕ, ◌*◌, ◌<◌, ◌≤◌, false, length, All, OnOk};
+ghost use Rattle.std.specs.Prelude.{◌≡◌, ℕ, ◌+◌, ◌*◌, ◌<◌, ◌≤◌, false, length, min, All, OnOk};
+ghost use Rattle.cmb_words.specs.Bits.{is_set_at};
 ghost use Rattle.cmb_words.specs.Changes.{RisesWithin, is_among};
 ghost use Rattle.cmb_words.specs.Word.{level_at_place};
 ghost use Rattle.cmb_engine.specs.Inner.Bits.{has};
 ghost use Rattle.cmb_engine.specs.Inner.Cells.{IsSteadyFrom};
 ghost use Rattle.cmb_engine.specs.Inner.Circuits.{AreQuiet};
+ghost use Rattle.cmb_engine.specs.Inner.Collects.{IsCollected};
 ghost use Rattle.cmb_engine.specs.Inner.Words.{levels_of};
 
-use crate::marks::Marks;
+use crate::marks::{Marked, Marks};
 use crate::walk::Walk;
+use crate::words::Words;
 use cmb_netlist::MAX_NETS;
-use cmb_words::{Changed, Word};
+use cmb_words::{Changed, Places};
 use std::alloc::AllocError;
+
+// Tells those nets of a word, below a count of nets, that changed at a place or after it, behind the ones before them.
+fn collect_word(
+    words: &Words,
+    batch: Marked,
+    nets: usize,
+    first: u32,
+    changed: &mut Vec<Changed>,
+) -> Result<(), AllocError>
+    requires nets { nets ≤ length words.now }
+    requires few { nets ≤ MAX_NETS }
+    requires begun { 1 ≤ first }
+    requires first { first < 64 }
+    requires base { batch.base < nets }
+    requires quiet { (place : ℕ) → place < 64 → is_set_at batch.places place ≡ false → batch.base + place < nets
+        → IsSteadyFrom (levels_of words.now (batch.base + place)) first }
+    requires collected { IsCollected (levels_of words.now) first batch.base changed.old.items }
+    ensures { OnOk result
+        (IsCollected (levels_of words.now) first (min (batch.base + 64) nets) changed.new.items) }
+{
+    for place in Places::of(batch.places) {
+        let net = batch.base + place as usize;
+        if net < nets {
+            let word = words.get(net);
+            if !word.is_steady_from(first) {
+                changed.push(Changed {
+                    net: net as u16,
+                    word,
+                })?;
+            }
+        }
+    }
+    Ok(())
+}
 
 /// Tells which of so many nets changed at a place or after it, each with its word, by rising number. What `changed` had
 /// is forgotten.
 #[inline(never)]
 pub(crate) fn collect(
-    words: &[Word],
+    words: &Words,
     live: &Marks,
     nets: usize,
     first: u32,
@@ -39,14 +76,8 @@ pub(crate) fn collect(
 {
     changed.clear();
     let mut walk = Walk::at(0);
-    'nets: while let Some(net) = live.next_below(&mut walk, nets) {
-        let word = words[net];
-        if !word.is_steady_from(first) {
-            changed.push(Changed {
-                net: net as u16,
-                word,
-            })?;
-        }
+    'words: while let Some(batch) = live.next_word(&mut walk, nets) {
+        collect_word(words, batch, nets, first, changed)?;
     }
     Ok(())
 }

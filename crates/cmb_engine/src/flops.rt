@@ -16,8 +16,8 @@ use crate::cells::Cells;
 use crate::group::{Group, Member};
 use crate::marks::Marks;
 use crate::order::Order;
+use crate::words::Words;
 use cmb_design_model::Clock;
-use cmb_words::Word;
 use std::alloc::{AllocError, Global};
 
 // The flip-flops among cells, those that get their samples at the same ticks side by side.
@@ -90,7 +90,7 @@ pub(crate) fn flops_of(alloc: Global, cells: &Cells) -> Result<Vec<Group>, Alloc
 // Whether a flip-flop may get another level by its samples in a window, from a place on: it gets none where its data
 // have the level that it has, as far back as the samples were taken.
 #[inline]
-fn may_change(cells: &Cells, words: &[Word], slot: usize, first: u32) -> bool
+fn may_change(cells: &Cells, words: &Words, slot: usize, first: u32) -> bool
     requires slot { slot < length cells.now }
     requires nets { length cells.now ≡ length words.now }
     requires lawful { IsLawful (length words.now) first (cell_at cells.now slot) }
@@ -100,8 +100,10 @@ fn may_change(cells: &Cells, words: &[Word], slot: usize, first: u32) -> bool
 {
     match cells.flop(slot) {
         Some((_, pin)) => {
-            let own = words[slot].everywhere(first - 1);
-            words[pin.net as usize].differs_from(own, first - pin.delay)
+            let own = words.get(slot).everywhere(first - 1);
+            words
+                .get(pin.net as usize)
+                .differs_from(own, first - pin.delay)
         }
         None => true,
     }
@@ -111,7 +113,7 @@ fn may_change(cells: &Cells, words: &[Word], slot: usize, first: u32) -> bool
 fn mark_flops(
     cells: &Cells,
     order: &Order,
-    words: &[Word],
+    words: &Words,
     flops: &[u32],
     marks: &mut Marks,
     first: u32,
@@ -159,7 +161,7 @@ fn mark_group(
     group: &Group,
     cells: &Cells,
     order: &Order,
-    words: &[Word],
+    words: &Words,
     marks: &mut Marks,
     to: u32,
     first: u32,
@@ -200,7 +202,7 @@ pub(crate) fn mark_arrivals(
     groups: &[Group],
     cells: &Cells,
     order: &Order,
-    words: &[Word],
+    words: &Words,
     marks: &mut Marks,
     to: u32,
     first: u32,

@@ -12,7 +12,8 @@ use crate::marks::Marks;
 use crate::readers::Readers;
 use crate::role::{Role, is_given};
 use crate::settle::put_word;
-use cmb_words::{Changed, Word, spliced};
+use crate::words::Words;
+use cmb_words::{Changed, spliced};
 
 /// Writes the words of the given nets from a place on, and marks who reads them.
 #[inline(never)]
@@ -20,7 +21,7 @@ pub(crate) fn write_given(
     given: &[Changed],
     roles: &[Role],
     readers: &Readers,
-    words: &mut [Word],
+    words: &mut Words,
     live: &mut Marks,
     marks: &mut Marks,
     first: u32,
@@ -38,7 +39,7 @@ pub(crate) fn write_given(
     for one in given {
         let net = one.net as usize;
         if is_given(roles, net) {
-            let word = spliced(words[net], one.word, first);
+            let word = spliced(words.get(net), one.word, first);
             put_word(net, word, readers.of(net), words, live, marks);
         }
     }

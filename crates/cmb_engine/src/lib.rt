@@ -3,7 +3,6 @@
 
 mod ahead;
 mod arrivals;
-mod begin;
 mod bits;
 mod cell;
 mod cells;
@@ -15,6 +14,7 @@ mod fanout;
 mod flops;
 mod given;
 mod group;
+mod known;
 pub mod laws;
 mod lines;
 mod marks;
@@ -36,6 +36,7 @@ mod walk;
 mod window;
 pub mod windows;
 mod wiring;
+mod words;
 
 pub use engine::Engine;
 pub use share::ShareEngine;

@@ -1,9 +1,9 @@
 //! The nets with news: a set of numbers, of which the next one is found quickly.
 
-ghost use Rattle.std.specs.Prelude.{◌≡◌, ℕ, ◌+◌, ◌*◌, ◌^◌, ◌<◌, ◌≤◌, ◌||◌, ◌&&◌, ◌==◌, false, true, not, length, IfOk};
-ghost use Rattle.std.specs.Prelude.{MatchOption};
+ghost use Rattle.std.specs.Prelude.{◌≡◌, ℕ, ◌+◌, ◌*◌, ◌/◌, ◌%◌, ◌^◌, ◌<◌, ◌≤◌, ◌||◌, ◌&&◌, ◌==◌, false, true, not, length};
+ghost use Rattle.std.specs.Prelude.{IfOk, MatchOption};
 ghost use Rattle.cmb_words.specs.Bits.{is_set_at};
-ghost use Rattle.cmb_engine.specs.Inner.Batches.{IsTaken};
+ghost use Rattle.cmb_engine.specs.Inner.Batches.{IsNextWord, IsSetAt, IsTaken};
 ghost use Rattle.cmb_engine.specs.Inner.Bits.{has, HasNone, IsNext};
 ghost use Rattle.cmb_engine.specs.Inner.Walks.{walked};
 
@@ -84,16 +84,21 @@ impl Marks {
         self.high.insert(n / 64);
     }
 
-    /// Takes a mark away.
+    /// Takes the marks of a word out whose places a mask has, and says which places these are.
     #[inline]
-    pub(crate) fn remove(&mut self, n: usize)
-        requires { n < 64 * length self.old }
+    pub(crate) fn take_places(&mut self, word: usize, mask: u64) -> u64
+        requires { word < length self.old }
         ensures len { length self.new ≡ length self.old }
-        ensures has { (m : ℕ) → has self.new m ≡ (not (m == n) && has self.old m) }
+        ensures has { (m : ℕ) → has self.new m ≡ (not (m / 64 == word && is_set_at mask (m % 64)) && has self.old m) }
+        ensures left { (m : ℕ) → has self.old m ≡ true → has self.new m ≡ false → IsSetAt (64 * word) result m }
+        ensures taken { (place : ℕ) → place < 64 → is_set_at mask place ≡ true
+            → has self.old (64 * word + place) ≡ true → is_set_at result place ≡ true }
     {
-        if self.low.remove(n) {
-            self.high.remove(n / 64);
+        let taken = self.low.take(word, mask);
+        if self.low.word(word) == 0 {
+            self.high.remove(word);
         }
+        taken
     }
 
     /// Takes out those marks of one word of one level that a walk hasn't passed, of the first such word and level with
@@ -110,10 +115,7 @@ impl Marks {
         let word = first / 64;
         let place = (first % 64) as u32;
         let end = level_end(levels.word(word), place);
-        let places = self.low.take(word, between(place, end));
-        if self.low.word(word) == 0 {
-            self.high.remove(word);
-        }
+        let places = self.take_places(word, between(place, end));
         *walk = Walk::behind(word, end - 1);
         Some(Marked {
             base: 64 * word,
@@ -136,14 +138,21 @@ impl Marks {
         self.low.next_at(walk)
     }
 
-    /// The same, where that number is below a bound.
+    /// The next word with marks, where it begins below a bound. The walk goes over the numbers of words.
     #[inline]
-    pub(crate) fn next_below(&self, walk: &mut Walk, bound: usize) -> Option<usize>
-        requires { bound ≤ 64 * length self.now }
-        ensures { MatchOption result (HasNone self.now (walked walk.old) bound)
-            (λ found. IsNext self.now (walked walk.old) found × (walked walk.new ≡ found + 1) × (found < bound)) }
+    pub(crate) fn next_word(&self, walk: &mut Walk, bound: usize) -> Option<Marked>
+        ensures { MatchOption result (HasNone self.now (64 * walked walk.old) bound)
+            (λ batch. IsNextWord self.now (walked walk.old) (walked walk.new) batch.base batch.places
+            × (batch.base < bound)) }
     {
-        let found = self.next(walk)?;
-        if found < bound { Some(found) } else { None }
+        let _words = self.low.len();
+        let word = self.high.next(*walk)?;
+        let base = 64 * word;
+        if base >= bound {
+            return None;
+        }
+        *walk = Walk::behind(word / 64, (word % 64) as u32);
+        let places = self.low.word(word);
+        Some(Marked { base, places })
     }
 }

@@ -20,9 +20,9 @@ use crate::start::start_words;
 use crate::state::State;
 use crate::stimuli::{note_starts, note_stimuli};
 use crate::wiring::Wiring;
+use crate::words::Words;
 use cmb_design_model::Design;
 use cmb_wheel::Calendar;
-use cmb_words::Word;
 use std::alloc::{AllocError, Global};
 
 /// The circuit of a design, of which each net has its role.
@@ -70,7 +70,7 @@ fn open_calendar(
     alloc: Global,
     design: &Design,
     circuit: &Circuit,
-    words: &[Word],
+    words: &Words,
 ) -> Result<Calendar, AllocError>
     requires circuit { IsCircuit design.now circuit.now }
     requires count { length words.now ≡ length circuit.now.wiring.cells }

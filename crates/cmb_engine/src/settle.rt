@@ -11,6 +11,7 @@ ghost use Rattle.cmb_engine.specs.Inner.Batches.{Makes, Passes};
 ghost use Rattle.cmb_engine.specs.Inner.Cells.{Cell, cell_at, AreBelow, AreMarked, AreSettled, IsLawful, IsReady};
 ghost use Rattle.cmb_engine.specs.Inner.Cells.{IsTrueBelow};
 ghost use Rattle.cmb_engine.specs.Inner.Orders.{is_marked, IsOrder};
+ghost use Rattle.cmb_engine.specs.Inner.Planes.{planes_of};
 ghost use Rattle.cmb_engine.specs.Inner.Sweeps.{CanSweep, Sweeps};
 ghost use Rattle.cmb_engine.specs.Inner.Windows.{HasWindow};
 ghost use Rattle.cmb_engine.specs.Inner.Words.{levels_of, Writes};
@@ -23,6 +24,7 @@ use crate::order::Order;
 use crate::readers::Readers;
 use crate::walk::Walk;
 use crate::wiring::Wiring;
+use crate::words::Words;
 use cmb_words::{Places, Word};
 
 /// Marks some nets.
@@ -44,7 +46,7 @@ pub(crate) fn put_word(
     slot: usize,
     word: Word,
     readers: &[u32],
-    words: &mut [Word],
+    words: &mut Words,
     live: &mut Marks,
     marks: &mut Marks,
 )
@@ -52,17 +54,17 @@ pub(crate) fn put_word(
     requires within { All (λ reader. reader < 64 * length marks.old) readers.now }
     requires live { length words.old ≤ 64 * length live.old }
     ensures writes { Writes words.old words.new live.old live.new marks.old marks.new }
-    ensures words { words.new ≡ slice_set words.old slot word }
+    ensures words { words.new ≡ slice_set words.old slot (planes_of word) }
     ensures news { AreMarked (has marks.new) readers.now }
 {
-    words[slot] = word;
+    words.set(slot, word);
     live.insert(slot);
     mark_all(marks, readers);
 }
 
-// The places of a mask, and one more where it is wanted.
+/// The places of a mask, and one more where it is wanted.
 #[inline]
-fn with_place(mask: u64, place: u32, is_wanted: bool) -> u64
+pub(crate) fn with_place(mask: u64, place: u32, is_wanted: bool) -> u64
     requires { place < 64 }
     ensures here { is_set_at result place ≡ (is_wanted || is_set_at mask place) }
     ensures others { (i : ℕ) → i ≢ place → is_set_at result i ≡ is_set_at mask i }
@@ -73,10 +75,10 @@ fn with_place(mask: u64, place: u32, is_wanted: bool) -> u64
 // Makes the words of a batch of slots from a place on, and says at which places there is another word than before.
 //
 // Most slots of a batch are of one level, so none waits for what another one stores.
-fn make_words(
+fn make_any(
     nodes: &Cells,
     order: &Order,
-    words: &mut [Word],
+    words: &mut Words,
     last: &mut Arrival,
     batch: Marked,
     to: u32,
@@ -100,11 +102,40 @@ fn make_words(
         let rank = batch.base + place as usize;
         if let Some(slot) = order.slot(rank) {
             let made = nodes.word(rank, slot, words, last, to, first);
-            news = with_place(news, place, made.differs_from(words[slot], first));
-            words[slot] = made;
+            news = with_place(news, place, made.differs_from(words.get(slot), first));
+            words.set(slot, made);
         }
     }
     news
+}
+
+// The same, by the quicker way where no level is x.
+fn make_words(
+    nodes: &Cells,
+    order: &Order,
+    words: &mut Words,
+    last: &mut Arrival,
+    batch: Marked,
+    to: u32,
+    first: u32,
+) -> u64
+    requires last { IsArrival last.old to first }
+    requires ranked { length order.now.ranks ≡ length words.old }
+    requires ordered { IsOrder order.now }
+    requires nodes { length nodes.now ≡ length order.now.slots }
+    requires lawful { (rank : ℕ) → rank < length nodes.now
+        → IsLawful (length words.old) first (cell_at nodes.now rank) }
+    requires window { HasWindow to first }
+    ensures len { length words.new ≡ length words.old }
+    ensures last { IsArrival last.new to first }
+    ensures makes { (cells : List Cell) → nodes.now ≡ map (cell_at cells) order.now.slots
+        → Makes (cell_at cells) order.now to first batch.base batch.places result
+        (levels_of words.old) (levels_of words.new) }
+{
+    match words.make_known(nodes, order, last, batch, to, first) {
+        Some(news) => news,
+        None => make_any(nodes, order, words, last, batch, to, first),
+    }
 }
 
 // Marks the flip-flops that read a slot, where a window is open.
@@ -148,7 +179,7 @@ fn pass_on(fanout: &Fanout, news: Marked, opened: bool, live: &mut Marks, marks:
 pub(crate) fn sweep(
     wiring: &Wiring,
     opened: bool,
-    words: &mut [Word],
+    words: &mut Words,
     marks: &mut Marks,
     live: &mut Marks,
     to: u32,
@@ -156,6 +187,7 @@ pub(crate) fn sweep(
 )
     requires { CanSweep wiring.now.cells wiring.now.fanout.order wiring.now.fanout.nodes wiring.now.fanout.gates
         wiring.now.fanout.flops opened (length words.old) marks.old live.old to first }
+    ensures len { length words.new ≡ length words.old }
     ensures sweeps { Sweeps (cell_at wiring.now.cells) wiring.now.fanout.order to first (levels_of words.old)
         (levels_of words.new)
         marks.old marks.new live.old live.new }
@@ -193,7 +225,7 @@ pub(crate) fn sweep(
 pub(crate) fn settle(
     wiring: &Wiring,
     opened: bool,
-    words: &mut [Word],
+    words: &mut Words,
     marks: &mut Marks,
     live: &mut Marks,
     to: u32,
@@ -201,6 +233,7 @@ pub(crate) fn settle(
 )
     requires { CanSweep wiring.now.cells wiring.now.fanout.order wiring.now.fanout.nodes wiring.now.fanout.gates
         wiring.now.fanout.flops opened (length words.old) marks.old live.old to first }
+    ensures len { length words.new ≡ length words.old }
     ensures sweeps { Sweeps (cell_at wiring.now.cells) wiring.now.fanout.order to first (levels_of words.old)
         (levels_of words.new)
         marks.old marks.new live.old live.new }

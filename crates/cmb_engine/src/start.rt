@@ -12,6 +12,7 @@ ghost use Rattle.cmb_engine.specs.Inner.Words.{levels_of};
 ghost use Rattle.cmb_engine.specs.declared.role.Role.{Role};
 
 use crate::cell::Pin;
+use crate::words::Words;
 use cmb_design_model::Design;
 use cmb_netlist::Driver;
 use cmb_wave::Level;
@@ -47,17 +48,17 @@ pub(crate) fn start_words(
     alloc: Global,
     design: &Design,
     lines: &[Pin],
-) -> Result<Vec<Word>, AllocError>
+) -> Result<Words, AllocError>
     requires lines { All (λ line. (line.net < nets_of design.now) × (1 ≤ line.delay)) lines.now }
-    ensures len { IfOk result (λ words. length words.items ≡ nets_of design.now + length lines.now) }
+    ensures len { IfOk result (λ words. length words ≡ nets_of design.now + length lines.now) }
     ensures shows { IfOk result (λ words. (roles : List Role)
-        → Shows (levels_of words.items) (trace_of design.now roles lines.now)
+        → Shows (levels_of words) (trace_of design.now roles lines.now)
         (nets_of design.now + length lines.now) 1) }
 {
     let nets = design.netlist().len();
-    let mut words = vec![in alloc; start_word(Level::X); nets + lines.len()]?;
+    let mut words = Words::new(alloc, start_word(Level::X), nets + lines.len())?;
     for net in 0..nets {
-        words[net] = start_word(start_level(design, net));
+        words.set(net, start_word(start_level(design, net)));
     }
     Ok(words)
 }

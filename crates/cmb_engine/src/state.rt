@@ -14,16 +14,17 @@ use crate::collect::collect;
 use crate::lines::note_lines;
 use crate::marks::Marks;
 use crate::window::go_on;
+use crate::words::Words;
 use cmb_design_model::Design;
 use cmb_wheel::{Calendar, LevelEvent};
-use cmb_words::{Changed, Word};
+use cmb_words::Changed;
 use std::alloc::AllocError;
 
 /// What changes while an engine goes on.
 #[derive(Drop)]
 pub(crate) struct State {
     /// The word of each slot, up to the clock.
-    pub words: Vec<Word>,
+    pub words: Words,
     /// The slots whose words aren't constant, and maybe others.
     pub live: Marks,
     /// The slots with news.

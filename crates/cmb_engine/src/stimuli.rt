@@ -12,11 +12,11 @@ ghost use Rattle.cmb_engine.specs.Inner.Words.{levels_of};
 
 use crate::cell::Pin;
 use crate::role::{Role, is_driven};
+use crate::words::Words;
 use cmb_design_model::Design;
 use cmb_netlist::Driver;
 use cmb_wave::Level;
 use cmb_wheel::{Calendar, LevelEvent};
-use cmb_words::Word;
 use std::alloc::AllocError;
 
 // Notes the changes of a net by its stimulus after tick 0.
@@ -72,7 +72,7 @@ pub(crate) fn note_stimuli(
 /// Notes the first change of each line, its delay after tick 0, where the words that end before tick 1 say that its net
 /// isn't x at tick 0. The lines are the slots behind so many nets.
 pub(crate) fn note_starts(
-    words: &[Word],
+    words: &Words,
     lines: &[Pin],
     nets: usize,
     calendar: &mut Calendar,
@@ -84,7 +84,7 @@ pub(crate) fn note_starts(
     ensures ticks { SameTicks calendar.old calendar.new }
 {
     for (number, line) in lines.iter().enumerate() {
-        let level = words[line.net as usize].level(63);
+        let level = words.get(line.net as usize).level(63);
         if level != Level::X {
             calendar.note(LevelEvent {
                 tick: line.delay,

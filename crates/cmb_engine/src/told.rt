@@ -11,15 +11,15 @@ ghost use Rattle.cmb_engine.specs.Inner.Words.{levels_of, Writes};
 use crate::marks::Marks;
 use crate::readers::Readers;
 use crate::settle::put_word;
+use crate::words::Words;
 use cmb_wheel::LevelEvent;
-use cmb_words::Word;
 
 /// Writes events into the words that end before a tick, and marks who reads the slots of these events.
 #[inline(never)]
 pub(crate) fn write_told(
     tells: &[LevelEvent],
     readers: &Readers,
-    words: &mut [Word],
+    words: &mut Words,
     live: &mut Marks,
     marks: &mut Marks,
     to: u32,
@@ -38,7 +38,7 @@ pub(crate) fn write_told(
 {
     for event in tells {
         let slot = event.slot as usize;
-        let word = words[slot].with_from(event.tick + 64 - to, event.level);
+        let word = words.get(slot).with_from(event.tick + 64 - to, event.level);
         put_word(slot, word, readers.of(slot), words, live, marks);
     }
 }

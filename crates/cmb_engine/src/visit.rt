@@ -11,24 +11,25 @@ ghost use Rattle.cmb_engine.specs.Inner.Words.{levels_of};
 
 use crate::arrivals::{Arrival, arrival_of};
 use crate::cell::Pin;
+use crate::words::Words;
 use cmb_design_model::Clock;
 use cmb_netlist::Kind;
 use cmb_words::{Word, completed, gate1, gate2, held, join};
 
 // What a pin sees.
 #[inline]
-fn seen_word(words: &[Word], pin: Pin) -> Word
+fn seen_word(words: &Words, pin: Pin) -> Word
     requires net { pin.net < length words.now }
     requires delay { pin.delay < 64 }
     ensures { (place : ℕ) → pin.delay ≤ place → place < 64
         → level_at_place result place ≡ seen (levels_of words.now) place pin }
 {
-    words[pin.net as usize].delayed(pin.delay)
+    words.get(pin.net as usize).delayed(pin.delay)
 }
 
 /// What a gate with one pin makes from the pin's delay on.
 #[inline]
-pub(crate) fn single_word(kind: Kind, pin: Pin, words: &[Word]) -> Word
+pub(crate) fn single_word(kind: Kind, pin: Pin, words: &Words) -> Word
     requires net { pin.net < length words.now }
     requires delay { pin.delay < 64 }
     ensures { (place : ℕ) → pin.delay ≤ place → place < 64
@@ -39,7 +40,7 @@ pub(crate) fn single_word(kind: Kind, pin: Pin, words: &[Word]) -> Word
 
 /// What a gate with two pins makes from the longer of their delays on.
 #[inline]
-pub(crate) fn double_word(kind: Kind, pin: Pin, other: Pin, words: &[Word]) -> Word
+pub(crate) fn double_word(kind: Kind, pin: Pin, other: Pin, words: &Words) -> Word
     requires net { pin.net < length words.now }
     requires delay { pin.delay < 64 }
     requires other_net { other.net < length words.now }
@@ -51,7 +52,7 @@ pub(crate) fn double_word(kind: Kind, pin: Pin, other: Pin, words: &[Word]) -> W
 }
 
 /// What a gate makes from a place on.
-pub(crate) fn gate_word(kind: Kind, pins: &[Pin], words: &[Word], first: u32) -> Word
+pub(crate) fn gate_word(kind: Kind, pins: &[Pin], words: &Words, first: u32) -> Word
     requires some { 1 ≤ length pins.now }
     requires nets { All (λ pin. pin.net < length words.now) pins.now }
     requires within { All (λ pin. pin.delay ≤ first) pins.now }
@@ -71,7 +72,7 @@ pub(crate) fn flop_word(
     clock: Clock,
     pin: Pin,
     own: Word,
-    words: &[Word],
+    words: &Words,
     last: &mut Arrival,
     to: u32,
     first: u32,
@@ -93,7 +94,7 @@ pub(crate) fn flop_word(
     *last = arrival;
     held(
         own,
-        words[pin.net as usize],
+        words.get(pin.net as usize),
         pin.delay,
         arrival.place,
         clock.period,

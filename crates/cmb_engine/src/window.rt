@@ -11,7 +11,6 @@ ghost use Rattle.cmb_engine.specs.Inner.Roles.{AreToldNets, gives};
 ghost use Rattle.cmb_engine.specs.Inner.Tells.{AreOfWindow};
 ghost use Rattle.cmb_engine.specs.Inner.Words.{levels_of};
 
-use crate::begin::mark_news;
 use crate::flops::mark_arrivals;
 use crate::given::write_given;
 use crate::marks::Marks;
@@ -20,8 +19,9 @@ use crate::role::Role;
 use crate::settle::settle;
 use crate::told::write_told;
 use crate::wiring::Wiring;
+use crate::words::Words;
 use cmb_wheel::LevelEvent;
-use cmb_words::{Changed, Word};
+use cmb_words::Changed;
 
 /// Goes on by a window of so many ticks, up to the clock `to`, where the events are those of its ticks, and what others
 /// drive is given: words that show what the slots do up to the clock before show it up to this one then.
@@ -29,7 +29,7 @@ pub(crate) fn go_on(
     wiring: &Wiring,
     tells: &[LevelEvent],
     given: &[Changed],
-    words: &mut [Word],
+    words: &mut Words,
     live: &mut Marks,
     marks: &mut Marks,
     ticks: u32,
@@ -62,8 +62,7 @@ pub(crate) fn go_on(
 {
     let first = 64 - ticks;
     let readers = &wiring.fanout.gates;
-    move_on(words, live, ticks);
-    mark_news(readers, words, live, marks, first - wiring.most);
+    move_on(words, live, readers, marks, ticks, first - wiring.most);
     write_told(tells, readers, words, live, marks, to);
     write_given(given, &wiring.roles, readers, words, live, marks, first);
     let opened = mark_arrivals(

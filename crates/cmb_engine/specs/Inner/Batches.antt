@@ -2,7 +2,7 @@
 use Rattle.std.specs.Prelude.{◌≡◌, ◌*◌, ℕ, ◌+◌, ◌<◌, ◌≤◌, ◌⊎◌, Bool, true, false, List, [], length, slice_index_or}
 use Rattle.cmb_wave.specs.declared.level.Level.{Level}
 use Rattle.cmb_words.specs.Bits.{is_set_at}
-use Rattle.cmb_engine.specs.Inner.Bits.{has}
+use Rattle.cmb_engine.specs.Inner.Bits.{has, HasNone}
 use Rattle.cmb_engine.specs.Inner.Cells.{Cell, AreClosed, AreMarked, IsReady, IsSettled, IsTrueBelow, KeepsTold, Relies, is_made}
 use Rattle.cmb_engine.specs.Inner.Orders.{Order, IsAt}
 
@@ -20,6 +20,14 @@ pub record IsTaken (old new : List ℕ) (from upto base places : ℕ) : Type 0 w
   pub room : length new ≡ length old
   pub left : (m : ℕ) → has old m ≡ true → has new m ≡ false → IsSetAt base places m
   pub passed : (m : ℕ) → from ≤ m → m < upto → has old m ≡ true → IsSetAt base places m
+
+-- the next word of a set with numbers from a word on, as the set places of a machine word: what comes before it has none
+pub record IsNextWord (set : List ℕ) (from upto base places : ℕ) : Type 0 where
+  pub on : from < upto
+  pub within : upto ≤ length set
+  pub ends : base + 64 ≡ 64 * upto
+  pub none : HasNone set (64 * from) base
+  pub members : (place : ℕ) → place < 64 → is_set_at places place ≡ has set (base + place)
 
 -- the words of the slots at some places were made from a place on, one after another, and `news` has the places of those that are
 -- other ones than before

@@ -3,7 +3,7 @@ use Rattle.std.specs.Prelude.{◌≡◌, ℕ, ◌+◌, ◌-◌, ◌<◌, ◌≤�
 use Rattle.cmb_wave.specs.declared.level.Level.{Level}
 use Rattle.cmb_design_model.specs.declared.rows.Clock.{Clock}
 use Rattle.cmb_words.specs.declared.changed.Changed.{Changed}
-use Rattle.cmb_words.specs.declared.word.Word.{Word}
+use Rattle.cmb_engine.specs.Inner.Planes.{Planes}
 use Rattle.cmb_words.specs.Holds.{Holds}
 use Rattle.cmb_words.specs.Changes.{IsStill, TellsNet, is_among}
 use Rattle.cmb_engine.specs.Rows.{arrives_by}
@@ -40,6 +40,6 @@ pub record AddsSlots (trace : ℕ → ℕ → Level) (slots : List ℕ) (from up
   pub others : (slot : ℕ) → Contains slots slot → is_among slot new ≡ false → IsStill (trace slot) from upto
 
 -- the same of whatever trace the cells allow that the words show up to the first of these ticks
-abbrev pub AddsAhead : List Cell → List Word → List ℕ → ℕ → ℕ → List Changed → List Changed → Type 0
+abbrev pub AddsAhead : List Cell → List Planes → List ℕ → ℕ → ℕ → List Changed → List Changed → Type 0
 AddsAhead cells words slots from upto old new =
     (trace : ℕ → ℕ → Level) → MeetsCells trace (cell_at cells) → Shows (levels_of words) trace (length words) from → AddsSlots trace slots from upto old new

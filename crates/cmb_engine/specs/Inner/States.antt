@@ -24,11 +24,11 @@ pub record IsCircuit (design : Design) (circuit : Circuit) : Type 0 where
 
 -- the state of a design's engine: its words show what the slots show up to its clock, and its calendar what is told from there on
 pub record IsState (design : Design) (circuit : Circuit) (state : State) : Type 0 where
-  pub slots : length state.words.items ≡ length circuit.wiring.cells
+  pub slots : length state.words ≡ length circuit.wiring.cells
   pub live_room : length circuit.wiring.cells ≤ 64 * length state.live
   pub marks_room : length circuit.wiring.fanout.order.slots ≤ 64 * length state.marks
-  pub shows : Shows (levels_of state.words.items) (trace_of design circuit.wiring.roles.items circuit.lines.items) (length circuit.wiring.cells) state.clock
-  pub quiet : AreQuiet (levels_of state.words.items) (has state.live) (length circuit.wiring.cells)
+  pub shows : Shows (levels_of state.words) (trace_of design circuit.wiring.roles.items circuit.lines.items) (length circuit.wiring.cells) state.clock
+  pub quiet : AreQuiet (levels_of state.words) (has state.live) (length circuit.wiring.cells)
   pub ahead : TellsAhead design circuit.wiring.roles.items circuit.lines.items circuit.wiring.cells state.clock state.calendar
   pub begun : 1 ≤ state.clock
   pub within : state.clock ≤ design.horizon

@@ -2,19 +2,19 @@
 use Rattle.std.specs.Prelude.{◌≡◌, ℕ, zero, suc, true, false, List, [], ◌∷◌, length}
 use Rattle.cmb_wave.specs.declared.level.Level.{Level}
 use Rattle.cmb_wave.specs.declared.level.Level.TheVariants.{X}
-use Rattle.cmb_words.specs.declared.word.Word.{Word}
-use Rattle.cmb_words.specs.Word.{level_at_place}
+use Rattle.cmb_engine.specs.Inner.Planes.{Planes}
+use Rattle.cmb_words.specs.Bits.{level_in}
 use Rattle.cmb_engine.specs.Inner.Bits.{has}
 
 -- the level of a net in a place, x where there is no such net
-abbrev pub levels_of : List Word → ℕ → ℕ → Level
+abbrev pub levels_of : List Planes → ℕ → ℕ → Level
 levels_of [] net place = X
-levels_of (word ∷ words) zero place = level_at_place word place
+levels_of (word ∷ words) zero place = level_in word.ones word.unknown place
 levels_of (word ∷ words) (suc net) place = levels_of words net place
 
 -- words were written into, and live and marked slots added: there are as many words and as much room as before, and a slot that
 -- isn't live has the word that it had
-pub record Writes (old new : List Word) (old_live new_live old_marks new_marks : List ℕ) : Type 0 where
+pub record Writes (old new : List Planes) (old_live new_live old_marks new_marks : List ℕ) : Type 0 where
   pub len : length new ≡ length old
   pub room : length new_marks ≡ length old_marks
   pub live_room : length new_live ≡ length old_live

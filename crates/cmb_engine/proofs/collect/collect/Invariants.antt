@@ -1,14 +1,11 @@
-use Rattle.std.proofs.Common.{◌-◌, ◌≤◌}
+use Rattle.std.proofs.Common.{◌-◌, ◌*◌, length, min}
+use Rattle.cmb_engine.specs.Inner.Collects.{IsCollected}
 use Rattle.cmb_engine.specs.Inner.Walks.{walked}
 use Rattle.cmb_engine.specs.Inner.Words.{levels_of}
-use Rattle.cmb_engine.proofs.CollectFacts.{IsCollected}
 use Rattle.cmb_engine.proofs.collect.collect.Given as goal
 
-abbrev pub invariant-nets : goal.invariant-nets
-invariant-nets l = record {
-  within : (walked l.walk) ≤ l.nets;
-  collected : IsCollected (levels_of l.words) l.first (walked l.walk) l.changed.items;
-}
+abbrev pub invariant-words : goal.invariant-words
+invariant-words l = IsCollected (levels_of l.words) l.first (min (64 * walked l.walk) l.nets) l.changed.items
 
-abbrev pub decreases-nets : goal.decreases-nets
-decreases-nets l = l.nets - (walked l.walk)
+abbrev pub decreases-words : goal.decreases-words
+decreases-words l = length l.live - walked l.walk

@@ -2,6 +2,7 @@ use Rattle.std.proofs.Common.{◌≡◌, ◌+◌, ◌<◌, inl, inr, ℕ, true, 
 use Rattle.std.proofs.lemmas.Bool.{cases_Bool}
 use Rattle.std.proofs.lemmas.List.{take_all, take_more}
 use Rattle.cmb_words.specs.declared.changed.Changed.{Changed}
+use Rattle.cmb_engine.specs.Inner.Planes.{planes_of}
 use Rattle.cmb_engine.specs.Inner.Bits.{has}
 use Rattle.cmb_engine.specs.Inner.Cells.{AreMarked}
 use Rattle.cmb_engine.specs.Inner.Gifts.{is_written, AreWritten}
@@ -30,7 +31,7 @@ loop-one-preserved c =
           rw (w.words-is, w.live-is, w.marks-is)
           (taken-put roles c.args.readers.now one c.args.first c.loop-one.words w.put_word.new.words c.loop-one.live w.put_word.new.live c.loop-one.marks w.put_word.new.marks w.spliced-word.result
           gift inside w.put_word.ensures.words
-          (λ place early. w.spliced-word.ensures.below place early ∙ sym (levels_of-read c.loop-one.words one.net w.index-words-net.result place inside w.index-words-net.is))
+          (λ place early. w.spliced-word.ensures.below place early ∙ sym (levels_of-read c.loop-one.words one.net w.get.result place inside (w.get.ensures (planes_of w.get.result))))
           w.spliced-word.ensures.from w.put_word.ensures.writes
           (subst (λ (readers : List ℕ). AreMarked (has w.put_word.new.marks) readers) w.of.ensures w.put_word.ensures.news))
       | else-is_given w ↦

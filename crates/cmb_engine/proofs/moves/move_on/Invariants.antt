@@ -1,18 +1,21 @@
-use Rattle.std.proofs.Common.{◌≡◌, ◌-◌, ◌≤◌, length}
+use Rattle.std.proofs.Common.{◌≡◌, ◌-◌, ◌*◌, ℕ, true, length}
 use Rattle.cmb_engine.specs.Inner.Bits.{has}
 use Rattle.cmb_engine.specs.Inner.Circuits.{AreQuiet}
 use Rattle.cmb_engine.specs.Inner.Walks.{walked}
 use Rattle.cmb_engine.specs.Inner.Words.{levels_of}
-use Rattle.cmb_engine.proofs.MoveFacts.{AreMoved}
+use Rattle.cmb_engine.proofs.MoveFacts.{AreMoved, AreTold}
 use Rattle.cmb_engine.proofs.moves.move_on.Given as goal
 
-abbrev pub invariant-slots : goal.invariant-slots
-invariant-slots l = record {
-  room : length l.live ≡ length l.initial.live;
-  within : (walked l.walk) ≤ length l.initial.words;
-  moved : AreMoved (levels_of l.initial.words) (levels_of l.words) l.ticks (walked l.walk);
+abbrev pub invariant-words : goal.invariant-words
+invariant-words l = record {
+  len : length l.words ≡ length l.initial.words;
+  live : length l.live ≡ length l.initial.live;
+  room : length l.marks ≡ length l.initial.marks;
+  kept : (m : ℕ) → has l.initial.marks m ≡ true → has l.marks m ≡ true;
+  moved : AreMoved (levels_of l.initial.words) (levels_of l.words) (length l.initial.words) l.ticks (64 * walked l.walk);
   quiet : AreQuiet (levels_of l.words) (has l.live) (length l.initial.words);
+  told : AreTold l.readers (levels_of l.words) (length l.initial.words) l.live l.marks l.first (64 * walked l.walk);
 }
 
-abbrev pub decreases-slots : goal.decreases-slots
-decreases-slots l = length l.initial.words - (walked l.walk)
+abbrev pub decreases-words : goal.decreases-words
+decreases-words l = length l.initial.live - walked l.walk

@@ -1,37 +1,33 @@
-use Rattle.std.proofs.Common.{◌≡◌, ◌+◌, List, length, sym, ap, subst, ◌∙◌, arith}
+use Rattle.std.proofs.Common.{◌≡◌, ◌+◌, List, length, sym, ap, ◌∙◌, arith}
 use Rattle.std.proofs.lemmas.Bool.{false≢true}
 use Rattle.cmb_design_model.specs.Exact.{nets_of}
-use Rattle.cmb_words.specs.declared.word.Word.{Word}
-use Rattle.cmb_engine.specs.Inner.Circuits.{Shows}
-use Rattle.cmb_engine.specs.Inner.Traces.{trace_of}
-use Rattle.cmb_engine.specs.Inner.Words.{levels_of}
+use Rattle.cmb_engine.specs.Inner.Planes.{Planes}
 use Rattle.cmb_engine.specs.declared.cell.Pin.{Pin}
 use Rattle.cmb_engine.proofs.OpenFacts.{words-show}
 use Rattle.cmb_engine.proofs.open.open_state.Goals as goal
 
 pub open_calendar-requires-clause-count : goal.open_calendar-requires-clause-count
 open_calendar-requires-clause-count c =
-    ap length c.deref-2.ensures.value ∙ c.in_ok-words.ensures.len ∙ ap (λ (ls : List Pin). nets_of c.args.design.now + length ls) c.deref.ensures.value ∙ sym c.requires.plan.count
+    c.in_ok-words.ensures.len ∙ ap (λ (ls : List Pin). nets_of c.args.design.now + length ls) c.deref.ensures.value ∙ sym c.requires.plan.count
 
 pub open_calendar-requires-clause-shows : goal.open_calendar-requires-clause-shows
 open_calendar-requires-clause-shows c =
     let circuit = c.args.circuit.now in
-    subst (λ (ws : List Word). Shows (levels_of ws) (trace_of c.args.design.now circuit.wiring.roles.items circuit.lines.items) (length circuit.wiring.cells) 1) (sym c.deref-2.ensures.value)
-    (words-show c.args.design.now circuit c.in_ok-words.words.items c.deref.result.now c.requires c.deref.ensures.value c.in_ok-words.ensures.shows)
+    words-show c.args.design.now circuit c.in_ok-words.words c.deref.result.now c.requires c.deref.ensures.value c.in_ok-words.ensures.shows
 
 pub returns-clause-state : goal.returns-clause-state
 returns-clause-state c =
     let circuit = c.args.circuit.now in
-    let words : List Word = c.in_ok-words.words.items in
+    let words : List Planes = c.in_ok-words.words in
     let slots : length words ≡ length circuit.wiring.cells =
     c.in_ok-words.ensures.len ∙ ap (λ (ls : List Pin). nets_of c.args.design.now + length ls) c.deref.ensures.value ∙ sym c.requires.plan.count in
     record {
       slots = slots;
-      live_room = omega (arith, c.in_ok-live.ensures.room, c.len.ensures, slots, c.in_ok-words.words.ok);
-      marks_room = omega (arith, c.in_ok-marks.ensures.room, c.len-2.ensures, slots, c.in_ok-words.words.ok);
+      live_room = omega (arith, c.in_ok-live.ensures.room, c.len.ensures, slots);
+      marks_room = omega (arith, c.in_ok-marks.ensures.room, c.len-2.ensures, slots);
       shows = words-show c.args.design.now circuit words c.deref.result.now c.requires c.deref.ensures.value c.in_ok-words.ensures.shows;
       quiet = λ slot place small none inside.
-          absurd (false≢true (sym none ∙ c.in_ok-live.ensures.all slot (omega (arith, small, c.len.ensures, slots, c.in_ok-words.words.ok))));
+          absurd (false≢true (sym none ∙ c.in_ok-live.ensures.all slot (omega (arith, small, c.len.ensures, slots))));
       ahead = c.in_ok-calendar.ensures.ahead;
       begun = omega arith;
       within = c.in_ok-calendar.ensures.begun;

@@ -1,18 +1,16 @@
-use Rattle.std.proofs.Common.{◌≡◌, ◌<◌, ℕ, true, List, subst}
-use Rattle.std.proofs.lemmas.List.Elements.{All-rest, All-same, All-weaker}
-use Rattle.cmb_words.specs.Bits.{is_set_at, places_set}
-use Rattle.cmb_words.proofs.MaskFacts.{places-each}
+use Rattle.std.proofs.Common.{◌≡◌, ◌<◌, ℕ, List, subst}
+use Rattle.std.proofs.lemmas.List.Elements.{All-rest}
+use Rattle.cmb_words.specs.Bits.{places_set}
 use Rattle.cmb_engine.specs.Inner.Bits.{has}
 use Rattle.cmb_engine.specs.Inner.Cells.{AreMarked}
-use Rattle.cmb_engine.proofs.BatchFacts.{passing-none, passing-skips, passing-on}
+use Rattle.cmb_engine.proofs.BatchFacts.{left-small, passing-none, passing-skips, passing-on}
 use Rattle.cmb_engine.proofs.settle.pass_on.Goals as goal
 
 pub loop-place-init : goal.loop-place-init
 loop-place-init c =
     let is : c.into_iter-place-iterator.result ≡ places_set c.args.news.places = cc in
     record {
-      small = All-same (λ (place : ℕ). place < 64) c.into_iter-place-iterator.result (places_set c.args.news.places) is
-          (All-weaker (λ place. (place < 64) × (is_set_at c.args.news.places place ≡ true)) (λ place. place < 64) (λ place h. h.0) (places_set c.args.news.places) (places-each c.args.news.places));
+      small = left-small c.into_iter-place-iterator.result c.args.news.places is;
       passing = passing-none c.args.fanout.now.order c.args.news.base c.args.news.places c.into_iter-place-iterator.result c.args.fanout.now.gates c.args.fanout.now.flops c.args.opened
           c.args.marks.now c.args.live.now is;
     }

@@ -16,6 +16,7 @@ returns-in-None-clause-exact c = λ truth ready settled below.
 
 pub loop-preserved : goal.loop-preserved
 loop-preserved c = record {
+  len = c.sweep.ensures.len ∙ c.loop.invariant.len;
   from = omega (arith, c.loop.invariant.from);
   sweeps = sweeps-on (cell_at c.args.wiring.now.cells) c.args.wiring.now.fanout.order c.args.to c.args.first (levels_of c.args.words.now) (levels_of c.loop.words) (levels_of c.sweep.new.words)
       c.args.marks.now c.loop.marks c.sweep.new.marks c.args.live.now c.loop.live c.sweep.new.live c.loop.invariant.sweeps c.sweep.ensures.sweeps;

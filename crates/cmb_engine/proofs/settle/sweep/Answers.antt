@@ -14,6 +14,7 @@ batches-preserved c =
     let base : ℕ = c.in-Some.batch.base in
     let news : ℕ = c.make_words-places.result in
     record {
+      len = c.make_words-places.ensures.len ∙ c.batches.invariant.len;
       last = c.make_words-places.ensures.last;
       sweeps = sweeps-on (cell_at c.args.wiring.now.cells) fanout.order c.args.to c.args.first (levels_of c.args.words.now) (levels_of c.batches.words) (levels_of c.make_words-places.new.words)
           c.args.marks.now c.batches.marks c.pass_on.new.marks c.args.live.now c.batches.live c.pass_on.new.live sweeps
@@ -45,5 +46,5 @@ make_words-places-requires-clause-lawful c = λ rank l.
     let stands : cell_at c.args.wiring.now.fanout.nodes rank ≡ cell_at cells (get_or slots rank 0) =
     ap (λ (ns : List Cell). cell_at ns rank) c.requires.wired.in_order ∙ get_or-map (cell_at cells) slots rank 0 Told inside in
     let small : get_or slots rank 0 < length c.args.words.now = omega (arith, c.requires.wired.ordered.within rank inside, c.requires.wired.ranked) in
-    subst (λ (n : ℕ). IsLawful n c.args.first (cell_at c.args.wiring.now.fanout.nodes rank)) (sym c.batches.auto.words)
+    subst (λ (n : ℕ). IsLawful n c.args.first (cell_at c.args.wiring.now.fanout.nodes rank)) (sym c.batches.invariant.len)
     (subst (λ (cell : Cell). IsLawful (length c.args.words.now) c.args.first cell) (sym stands) (c.requires.wired.lawful (get_or slots rank 0) small))

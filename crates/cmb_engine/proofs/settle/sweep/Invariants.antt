@@ -1,4 +1,4 @@
-use Rattle.std.proofs.Common.{◌*◌, ◌-◌, ℕ, length}
+use Rattle.std.proofs.Common.{◌≡◌, ◌*◌, ◌-◌, ℕ, length}
 use Rattle.cmb_wave.specs.declared.level.Level.{Level}
 use Rattle.cmb_engine.specs.Inner.Arrivals.{IsArrival}
 use Rattle.cmb_engine.specs.Inner.Cells.{cell_at}
@@ -11,6 +11,7 @@ use Rattle.cmb_engine.proofs.settle.sweep.Given as goal
 
 abbrev pub invariant-batches : goal.invariant-batches
 invariant-batches l = record {
+  len : length l.words ≡ length l.initial.words;
   last : IsArrival l.last l.to l.first;
   sweeps : Sweeps (cell_at l.wiring.cells) l.wiring.fanout.order l.to l.first (levels_of l.initial.words) (levels_of l.words) l.initial.marks l.marks l.initial.live l.live;
   truer : (truth : ℕ → ℕ → Level) (upto : ℕ)

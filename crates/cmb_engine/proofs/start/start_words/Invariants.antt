@@ -5,6 +5,6 @@ use Rattle.cmb_engine.proofs.start.start_words.Given as goal
 
 abbrev pub invariant-loop-net : goal.invariant-loop-net
 invariant-loop-net l = record {
-  len : length l.words.items ≡ nets_of l.design + length l.lines;
-  started : AreStarted l.design l.net l.words.items;
+  len : length l.words ≡ nets_of l.design + length l.lines;
+  started : AreStarted l.design l.net l.words;
 }

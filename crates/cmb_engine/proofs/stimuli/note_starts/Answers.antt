@@ -8,6 +8,7 @@ use Rattle.cmb_wave.specs.declared.level.Level.{Level}
 use Rattle.cmb_wave.specs.declared.level.Level.TheVariants.{Zero, One, X}
 use Rattle.cmb_wheel.specs.Calendars.{Calendar, Notes, SameTicks}
 use Rattle.cmb_wheel.specs.declared.event.LevelEvent.{LevelEvent}
+use Rattle.cmb_engine.specs.Inner.Planes.{planes_of}
 use Rattle.cmb_engine.specs.Inner.Lines.{NotesEach}
 use Rattle.cmb_engine.specs.Inner.Starts.{IsOfStart}
 use Rattle.cmb_engine.specs.Inner.Words.{levels_of}
@@ -83,7 +84,7 @@ loop-number-preserved c =
     let old : Calendar = c.args.calendar.now in
     let line : Pin = get_or lines c.loop-number.number none in
     let level : words line.net 63 ≡ c.level-level.result =
-    levels_of-read c.args.words.now line.net c.index-words-line.result 63 (c.requires.lines c.loop-number.number none c.loop-number-test.true) c.index-words-line.is ∙ sym c.level-level.ensures in
+    levels_of-read c.args.words.now line.net c.get.result 63 (c.requires.lines c.loop-number.number none c.loop-number-test.true) (c.get.ensures (planes_of c.get.result)) ∙ sym c.level-level.ensures in
     elim c.if-ne.branch [
       | then-ne+in_ok-note w ↦
           let known : words line.net 63 ≢ X =

@@ -6,7 +6,7 @@ use Rattle.std.specs.Prelude.{Contains}
 use Rattle.cmb_wave.specs.declared.level.Level.{Level}
 use Rattle.cmb_wave.specs.declared.level.Level.TheVariants.{Zero}
 use Rattle.cmb_wheel.specs.declared.event.LevelEvent.{LevelEvent}
-use Rattle.cmb_words.specs.declared.word.Word.{Word}
+use Rattle.cmb_engine.specs.Inner.Planes.{Planes, planes_of}
 use Rattle.cmb_engine.specs.Inner.Bits.{has}
 use Rattle.cmb_engine.specs.Inner.Cells.{AreMarked}
 use Rattle.cmb_engine.specs.Inner.Tells.{told_level}
@@ -23,8 +23,8 @@ none = record { tick = 0; slot = 0; level = Zero }
 listed : (P : LevelEvent → Type 0) (tells : List LevelEvent) (i : ℕ) → ((event : LevelEvent) → Contains tells event → P event) → i < length tells → P (get_or tells i none)
 listed P tells i all below = all (get_or tells i none) (Contains-get_or tells i none below)
 
-pub bounds-words-slot : goal.bounds-words-slot
-bounds-words-slot c =
+pub get-requires : goal.get-requires
+get-requires c =
     let facts = listed _ _ _ c.requires.slots c.loop-event-test.true in
     omega (arith, facts.0, c.loop-event.invariant.writes.len)
 
@@ -72,9 +72,9 @@ loop-event-preserved c =
       writes = writes-on c.args.words.now c.loop-event.words c.put_word.new.words c.args.live.now c.loop-event.live c.put_word.new.live c.args.marks.now c.loop-event.marks c.put_word.new.marks
           c.loop-event.invariant.writes c.put_word.ensures.writes;
       words = λ slot place small.
-          ap (λ (words : List Word). levels_of words slot place) c.put_word.ensures.words
+          ap (λ (words : List Planes). levels_of words slot place) c.put_word.ensures.words
           ∙ told-written c.loop-event.words event c.with_from-word.result c.args.to slot place inside facts.1 facts.2
-          (λ i l. c.with_from-word.ensures.below i l ∙ sym (levels_of-read c.loop-event.words event.slot c.index-words-slot.result i inside c.index-words-slot.is))
+          (λ i l. c.with_from-word.ensures.below i l ∙ sym (levels_of-read c.loop-event.words event.slot c.get.result i inside (c.get.ensures (planes_of c.get.result))))
           c.with_from-word.ensures.from small
           ∙ ap (λ (held : Level). told_level (event ∷ []) slot held (c.args.to + place - 64)) (c.loop-event.invariant.words slot place small)
           ∙ sym (told-more c.args.tells.now c.loop-event.event-index none slot (levels_of c.args.words.now slot place) (c.args.to + place - 64) c.loop-event-test.true);

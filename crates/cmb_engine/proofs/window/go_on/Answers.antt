@@ -30,8 +30,8 @@ settle-requires c = record {
       window-closed c.args.wiring.now.cells c.args.wiring.now.flops.items c.requires.wiring.flip_flops c.args.to (64 - c.args.ticks)
       (λ clock delay slot place among.
       c.mark_arrivals-opened.ensures.closed shut clock delay slot place (subst (λ (groups : List Group). IsInGroup clock delay slot groups) (sym c.as_slice.ensures.value) among));
-  room = omega (arith, c.requires.room, c.mark_news.ensures.room, c.write_told.ensures.writes.room, c.write_given.ensures.writes.room, c.mark_arrivals-opened.ensures.room);
-  live = omega (arith, c.requires.live, c.move_on.ensures.len, c.move_on.ensures.room, c.write_told.ensures.writes.len, c.write_told.ensures.writes.live_room, c.write_given.ensures.writes.len, c.write_given.ensures.writes.live_room);
+  room = omega (arith, c.requires.room, c.move_on.ensures.room, c.write_told.ensures.writes.room, c.write_given.ensures.writes.room, c.mark_arrivals-opened.ensures.room);
+  live = omega (arith, c.requires.live, c.move_on.ensures.len, c.move_on.ensures.live, c.write_told.ensures.writes.len, c.write_told.ensures.writes.live_room, c.write_given.ensures.writes.len, c.write_given.ensures.writes.live_room);
   window = (omega (arith, c.requires.fits), omega (arith, c.requires.some), omega (arith, c.requires.later, c.requires.fits), c.requires.to);
 }
 
@@ -82,9 +82,9 @@ returns-clause-shows c = λ trace meets shows right given slot place inside smal
     record {
       quiet = λ s p l. c.move_on.ensures.quiet s p (omega (arith, l, c.requires.nets));
       news = λ s l is.
-          marked-kept (IsSteadyFrom (levels_of c.move_on.new.words s) (64 - c.args.ticks - c.args.wiring.now.most)) c.mark_news.new.marks c.mark_arrivals-opened.new.marks (get_or lists s [])
+          marked-kept (IsSteadyFrom (levels_of c.move_on.new.words s) (64 - c.args.ticks - c.args.wiring.now.most)) c.move_on.new.marks c.mark_arrivals-opened.new.marks (get_or lists s [])
           (λ m h. c.mark_arrivals-opened.ensures.kept m (c.write_given.ensures.writes.marks m (c.write_told.ensures.writes.marks m h)))
-          (c.mark_news.ensures.news s (omega (arith, l, c.requires.nets, c.move_on.ensures.len)) is);
+          (c.move_on.ensures.news s (omega (arith, l, c.requires.nets)) is);
       kept =
           unmarked-kept trace cells roles (c.args.to - c.args.ticks) c.args.ticks c.args.to (64 - c.args.ticks) c.args.wiring.now.most window
           (levels_of c.args.words.now) (levels_of c.move_on.new.words) (levels_of c.write_told.new.words) (levels_of c.write_given.new.words)
@@ -114,16 +114,11 @@ returns-clause-shows c = λ trace meets shows right given slot place inside smal
     c.move_on.new.live c.mark_arrivals-opened.new.marks begun (levels_of c.settle.new.words) c.settle.ensures.sweeps.told c.settle.ensures.exact
     slot place (omega (arith, inside, c.requires.nets)) small
 
-pub mark_news-requires-clause-lists : goal.mark_news-requires-clause-lists
-mark_news-requires-clause-lists c =
-    let nets : length c.args.wiring.now.cells ≡ length c.move_on.new.words = omega (arith, c.requires.nets, c.move_on.ensures.len) in
-    c.requires.wiring.gates.count ∙ nets
+pub move_on-requires-clause-lists : goal.move_on-requires-clause-lists
+move_on-requires-clause-lists c = c.requires.wiring.gates.count ∙ c.requires.nets
 
-pub mark_news-requires-clause-within : goal.mark_news-requires-clause-within
-mark_news-requires-clause-within c = λ place k d small. omega (arith, c.requires.wiring.gates.within place k d small, c.requires.room)
-
-pub mark_news-requires-clause-live : goal.mark_news-requires-clause-live
-mark_news-requires-clause-live c = omega (arith, c.requires.live, c.move_on.ensures.len, c.move_on.ensures.room)
+pub move_on-requires-clause-within : goal.move_on-requires-clause-within
+move_on-requires-clause-within c = λ place k d small. omega (arith, c.requires.wiring.gates.within place k d small, c.requires.room)
 
 pub write_told-requires-clause-lists : goal.write_told-requires-clause-lists
 write_told-requires-clause-lists c =
@@ -131,10 +126,10 @@ write_told-requires-clause-lists c =
     c.requires.wiring.gates.count ∙ nets
 
 pub write_told-requires-clause-within : goal.write_told-requires-clause-within
-write_told-requires-clause-within c = λ place k d small. omega (arith, c.requires.wiring.gates.within place k d small, c.requires.room, c.mark_news.ensures.room)
+write_told-requires-clause-within c = λ place k d small. omega (arith, c.requires.wiring.gates.within place k d small, c.requires.room, c.move_on.ensures.room)
 
 pub write_told-requires-clause-live : goal.write_told-requires-clause-live
-write_told-requires-clause-live c = omega (arith, c.requires.live, c.move_on.ensures.len, c.move_on.ensures.room)
+write_told-requires-clause-live c = omega (arith, c.requires.live, c.move_on.ensures.len, c.move_on.ensures.live)
 
 pub write_given-requires-clause-lists : goal.write_given-requires-clause-lists
 write_given-requires-clause-lists c =
@@ -142,16 +137,16 @@ write_given-requires-clause-lists c =
     c.requires.wiring.gates.count ∙ nets
 
 pub write_given-requires-clause-within : goal.write_given-requires-clause-within
-write_given-requires-clause-within c = λ place k d small. omega (arith, c.requires.wiring.gates.within place k d small, c.requires.room, c.mark_news.ensures.room, c.write_told.ensures.writes.room)
+write_given-requires-clause-within c = λ place k d small. omega (arith, c.requires.wiring.gates.within place k d small, c.requires.room, c.move_on.ensures.room, c.write_told.ensures.writes.room)
 
 pub write_given-requires-clause-live : goal.write_given-requires-clause-live
-write_given-requires-clause-live c = omega (arith, c.requires.live, c.move_on.ensures.len, c.move_on.ensures.room, c.write_told.ensures.writes.len, c.write_told.ensures.writes.live_room)
+write_given-requires-clause-live c = omega (arith, c.requires.live, c.move_on.ensures.len, c.move_on.ensures.live, c.write_told.ensures.writes.len, c.write_told.ensures.writes.live_room)
 
 pub mark_arrivals-opened-requires-clause-nets : goal.mark_arrivals-opened-requires-clause-nets
 mark_arrivals-opened-requires-clause-nets c = omega (arith, c.requires.nets, c.move_on.ensures.len, c.write_told.ensures.writes.len, c.write_given.ensures.writes.len)
 
 pub mark_arrivals-opened-requires-clause-room : goal.mark_arrivals-opened-requires-clause-room
-mark_arrivals-opened-requires-clause-room c = omega (arith, c.requires.room, c.mark_news.ensures.room, c.write_told.ensures.writes.room, c.write_given.ensures.writes.room)
+mark_arrivals-opened-requires-clause-room c = omega (arith, c.requires.room, c.move_on.ensures.room, c.write_told.ensures.writes.room, c.write_given.ensures.writes.room)
 
 pub mark_arrivals-opened-requires-clause-ranked : goal.mark_arrivals-opened-requires-clause-ranked
 mark_arrivals-opened-requires-clause-ranked c = omega (arith, c.requires.wiring.ranked, c.requires.nets, c.move_on.ensures.len, c.write_told.ensures.writes.len, c.write_given.ensures.writes.len)

@@ -1,5 +1,6 @@
 use Rattle.std.proofs.Common.{◌≡◌, true, false, List, [], ◌∷◌, length, get_or, sym, ap, subst, ◌∙◌, arith}
 use Rattle.cmb_words.specs.Word.{level_at_place}
+use Rattle.cmb_engine.specs.Inner.Planes.{planes_of}
 use Rattle.cmb_engine.specs.Inner.Cells.{Cell, Told, Gate, Flop, IsLawful, cell_level, is_made}
 use Rattle.cmb_engine.specs.Inner.Tables.{cell_of, pins_at}
 use Rattle.cmb_engine.specs.Inner.Words.{levels_of}
@@ -10,27 +11,27 @@ use Rattle.cmb_engine.proofs.cells.Cells.word.Goals as goal
 
 pub returns-in-Told-clause-below : goal.returns-in-Told-clause-below
 returns-in-Told-clause-below c = λ place below.
-    sym (levels_of-read c.args.words.now c.args.slot c.index-words-slot.result place c.requires.slot c.index-words-slot.is)
+    sym (levels_of-read c.args.words.now c.args.slot c.get-own.result place c.requires.slot (c.get-own.ensures (planes_of c.get-own.result)))
 
 pub returns-in-Gate-clause-below : goal.returns-in-Gate-clause-below
 returns-in-Gate-clause-below c = λ place below.
-    c.spliced-in-Gate.ensures.below place below ∙ sym (levels_of-read c.args.words.now c.args.slot c.index-words-slot.result place c.requires.slot c.index-words-slot.is)
+    c.spliced-in-Gate.ensures.below place below ∙ sym (levels_of-read c.args.words.now c.args.slot c.get-own.result place c.requires.slot (c.get-own.ensures (planes_of c.get-own.result)))
 
 pub returns-in-Flop-clause-below : goal.returns-in-Flop-clause-below
 returns-in-Flop-clause-below c = λ place below.
-    c.flop_word.ensures.below place below ∙ sym (levels_of-read c.args.words.now c.args.slot c.index-words-slot.result place c.requires.slot c.index-words-slot.is)
+    c.flop_word.ensures.below place below ∙ sym (levels_of-read c.args.words.now c.args.slot c.get-own.result place c.requires.slot (c.get-own.ensures (planes_of c.get-own.result)))
 
 pub returns-in-Told-clause-told : goal.returns-in-Told-clause-told
 returns-in-Told-clause-told c = λ told place.
-    sym (levels_of-read c.args.words.now c.args.slot c.index-words-slot.result place c.requires.slot c.index-words-slot.is)
+    sym (levels_of-read c.args.words.now c.args.slot c.get-own.result place c.requires.slot (c.get-own.ensures (planes_of c.get-own.result)))
 
 pub returns-in-Single-clause-below : goal.returns-in-Single-clause-below
 returns-in-Single-clause-below c = λ place below.
-    c.spliced.ensures.below place below ∙ sym (levels_of-read c.args.words.now c.args.slot c.index-words-slot.result place c.requires.slot c.index-words-slot.is)
+    c.spliced.ensures.below place below ∙ sym (levels_of-read c.args.words.now c.args.slot c.get-own.result place c.requires.slot (c.get-own.ensures (planes_of c.get-own.result)))
 
 pub returns-in-Double-clause-below : goal.returns-in-Double-clause-below
 returns-in-Double-clause-below c = λ place below.
-    c.spliced-in-Double.ensures.below place below ∙ sym (levels_of-read c.args.words.now c.args.slot c.index-words-slot.result place c.requires.slot c.index-words-slot.is)
+    c.spliced-in-Double.ensures.below place below ∙ sym (levels_of-read c.args.words.now c.args.slot c.get-own.result place c.requires.slot (c.get-own.ensures (planes_of c.get-own.result)))
 
 pub returns-in-Single-clause-made : goal.returns-in-Single-clause-made
 returns-in-Single-clause-made c = λ place from small.
@@ -60,7 +61,7 @@ returns-in-Told-clause-made c = λ place from small.
     let cell : get_or c.args.self.now c.args.number Told ≡ Told =
     read-cell c.self.inside.pins.items c.self.inside.rules.items c.args.self.now c.args.number c.index.result.now c.self.view_is c.requires.number c.index.ensures
     ∙ ap (cell_of c.self.inside.pins.items) c.in-Told.is in
-    ap (λ (cell : Cell). cell_level (levels_of c.args.words.now) (level_at_place c.index-words-slot.result) c.args.to cell place) (sym cell)
+    ap (λ (cell : Cell). cell_level (levels_of c.args.words.now) (level_at_place c.get-own.result) c.args.to cell place) (sym cell)
 
 pub returns-in-Flop-clause-made : goal.returns-in-Flop-clause-made
 returns-in-Flop-clause-made c = λ place from small.

@@ -3,7 +3,6 @@ use Rattle.std.specs.Prelude.{All, Contains}
 use Rattle.std.proofs.lemmas.Result.{on_ok_weaker}
 use Rattle.cmb_design_model.specs.Timing.{delay}
 use Rattle.cmb_design_model.specs.Value.{value}
-use Rattle.cmb_words.specs.declared.word.Word.{Word}
 use Rattle.cmb_engine.specs.Crossings.{IsWithinLookahead}
 use Rattle.cmb_engine.specs.Inner.Circuits.{Shows}
 use Rattle.cmb_engine.specs.Inner.Exports.{slots_of, AddsAhead, AreTakenBefore}
@@ -29,24 +28,23 @@ module _ (c : After-tell_groups) where
   later : c.self.inside.state.clock < c.args.upto
   later = subst (λ (e : ShareEngine). e.clock < c.args.upto) (sym c.self.view_is) c.requires.later
 
-  shows : Shows (levels_of c.self.inside.state.words.items) (trace_of c.self.inside.design.now c.self.inside.circuit.wiring.roles.items c.self.inside.circuit.lines.items)
-      (length c.self.inside.state.words.items) c.self.inside.state.clock
+  shows : Shows (levels_of c.self.inside.state.words) (trace_of c.self.inside.design.now c.self.inside.circuit.wiring.roles.items c.self.inside.circuit.lines.items)
+      (length c.self.inside.state.words) c.self.inside.state.clock
   shows =
-      subst (λ (count : ℕ). Shows (levels_of c.self.inside.state.words.items) (trace_of c.self.inside.design.now c.self.inside.circuit.wiring.roles.items c.self.inside.circuit.lines.items) count c.self.inside.state.clock)
+      subst (λ (count : ℕ). Shows (levels_of c.self.inside.state.words) (trace_of c.self.inside.design.now c.self.inside.circuit.wiring.roles.items c.self.inside.circuit.lines.items) count c.self.inside.state.clock)
       (sym c.self.invariant.1.slots) c.self.invariant.1.shows
 
-  tells : AddsAhead c.self.inside.circuit.wiring.cells c.deref.result.now (slots_of c.as_slice.result.now) (c.args.upto - (c.args.upto - c.self.inside.state.clock)) c.args.upto [] c.tell_groups.new.told.items
+  tells : AddsAhead c.self.inside.circuit.wiring.cells c.self.inside.state.words (slots_of c.as_slice.result.now) (c.args.upto - (c.args.upto - c.self.inside.state.clock)) c.args.upto [] c.tell_groups.new.told.items
       → All (λ one. Contains (slots_of c.self.inside.exports.items) one.net) c.tell_groups.new.told.items
       × TellsThose (Contains (slots_of c.self.inside.exports.items)) (value c.self.inside.design.now) c.self.inside.state.clock c.args.upto c.tell_groups.new.told.items
   tells adds =
       let back : c.args.upto - (c.args.upto - c.self.inside.state.clock) ≡ c.self.inside.state.clock = omega (arith, later) in
       exports-tell c.self.inside.design.now c.self.inside.circuit c.self.invariant.0 c.self.invariant.2 c.self.inside.state.clock c.args.upto later
       (subst (λ (e : ShareEngine). c.args.upto ≤ e.clock + e.width) (sym c.self.view_is) c.requires.short)
-      c.self.inside.exports.items c.self.invariant.3 c.self.inside.state.words.items shows c.tell_groups.new.told.items
-      (subst (λ (from : ℕ). AddsAhead c.self.inside.circuit.wiring.cells c.self.inside.state.words.items (slots_of c.self.inside.exports.items) from c.args.upto [] c.tell_groups.new.told.items) back
-      (subst (λ (words : List Word). AddsAhead c.self.inside.circuit.wiring.cells words (slots_of c.self.inside.exports.items) (c.args.upto - (c.args.upto - c.self.inside.state.clock)) c.args.upto [] c.tell_groups.new.told.items) c.deref.ensures.value
-      (subst (λ (groups : List Group). AddsAhead c.self.inside.circuit.wiring.cells c.deref.result.now (slots_of groups) (c.args.upto - (c.args.upto - c.self.inside.state.clock)) c.args.upto [] c.tell_groups.new.told.items) c.as_slice.ensures.value
-      adds)))
+      c.self.inside.exports.items c.self.invariant.3 c.self.inside.state.words shows c.tell_groups.new.told.items
+      (subst (λ (from : ℕ). AddsAhead c.self.inside.circuit.wiring.cells c.self.inside.state.words (slots_of c.self.inside.exports.items) from c.args.upto [] c.tell_groups.new.told.items) back
+      (subst (λ (groups : List Group). AddsAhead c.self.inside.circuit.wiring.cells c.self.inside.state.words (slots_of groups) (c.args.upto - (c.args.upto - c.self.inside.state.clock)) c.args.upto [] c.tell_groups.new.told.items) c.as_slice.ensures.value
+      adds))
 
 pub returns-clause-only : goal.returns-clause-only
 returns-clause-only c =

@@ -4,7 +4,7 @@ use Rattle.cmb_engine.specs.Inner.Arrivals.{IsArrival}
 use Rattle.cmb_engine.specs.Inner.Cells.{Cell, cell_at}
 use Rattle.cmb_engine.specs.Inner.Words.{levels_of}
 use Rattle.cmb_engine.proofs.BatchFacts.{IsMaking}
-use Rattle.cmb_engine.proofs.settle.make_words.Given as goal
+use Rattle.cmb_engine.proofs.settle.make_any.Given as goal
 
 abbrev pub invariant-loop-place : goal.invariant-loop-place
 invariant-loop-place l = record {

@@ -1,0 +1,30 @@
+-- Words of which none is x anywhere, by the places that are 1.
+use Rattle.std.proofs.Common.{◌≡◌, ℕ, zero, suc, ◌<◌, ◌≢◌, List, [], ◌∷◌, length, get_or, set, refl, ap, ◌∙◌, arith}
+use Rattle.cmb_words.specs.declared.word.Word.{Word}
+use Rattle.cmb_words.specs.Bits.{level_in}
+use Rattle.cmb_words.specs.Word.{level_at_place}
+use Rattle.cmb_words.proofs.GateFacts.{is_known, known-level, level-known}
+use Rattle.cmb_engine.specs.Inner.Known.{known_levels}
+
+-- where a word has a known level, its first plane alone says it
+pub by-ones : (word : Word) (i ones j : ℕ) → i < 64 → level_at_place word i ≡ level_in ones 0 j → level_in word.ones 0 i ≡ level_in ones 0 j
+by-ones word i ones j small is = level-known word.ones word.unknown i (word.apart i small) (ap is_known is ∙ known-level ones j) ∙ is
+
+-- what a read of a word tells
+pub known-read : (words : List ℕ) (net place : ℕ) → net < length words → known_levels words net place ≡ level_in (get_or words net 0) 0 place
+known-read [] net place h = absurd (omega arith)
+known-read (w ∷ words) zero place h = refl
+known-read (w ∷ words) (suc net) place h = known-read words net place (omega arith)
+
+-- a word was written
+pub known-same : (words : List ℕ) (net ones place : ℕ) → net < length words → known_levels (set words net ones) net place ≡ level_in ones 0 place
+known-same [] net ones place h = absurd (omega arith)
+known-same (w ∷ words) zero ones place h = refl
+known-same (w ∷ words) (suc net) ones place h = known-same words net ones place (omega arith)
+
+pub known-other : (words : List ℕ) (net other ones place : ℕ) → other ≢ net → known_levels (set words net ones) other place ≡ known_levels words other place
+known-other [] net other ones place h = refl
+known-other (w ∷ words) zero zero ones place h = absurd (h refl)
+known-other (w ∷ words) zero (suc other) ones place h = refl
+known-other (w ∷ words) (suc net) zero ones place h = refl
+known-other (w ∷ words) (suc net) (suc other) ones place h = known-other words net other ones place (λ e. h (ap suc e))
