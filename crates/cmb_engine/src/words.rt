@@ -19,7 +19,7 @@ use cmb_words::Word;
 use std::alloc::{AllocError, Global};
 use std::marker::Model;
 
-/// After so many batches in which some level may be x it is looked again whether one still is.
+/// The most batches from one look at the plane of x to the next.
 const LONGEST_PAUSE: u32 = 65_536;
 
 /// The words of slots by their numbers, in two planes: the places of each that are 1, and those that are x.
@@ -29,9 +29,10 @@ const LONGEST_PAUSE: u32 = 65_536;
 pub(crate) struct Words {
     ones: Vec<u64>,
     unknown: Vec<u64>,
-    // Whether no level is x for sure.
+    // Whether it is sure that no level is x.
     known: bool,
-    // How many batches pass from one look at the second plane to the next, and how many are left of them.
+    // While it isn't: how many batches pass from one look at the second plane to the next, and how many of them are
+    // left. Each time twice as many pass, so looking takes no more time than what goes on meanwhile.
     pause: u32,
     wait: u32,
 }
@@ -102,7 +103,7 @@ impl Words {
         }
     }
 
-    // Looks once in a while whether no level is x any more.
+    // Looks whether no level is x any more, once the pause is over.
     fn look(&mut self)
         ensures { self.new ≡ self.old }
     {
@@ -121,8 +122,8 @@ impl Words {
         }
     }
 
-    /// Makes the words of a batch of slots where no level is x, and says at which places there is another word than
-    /// before. Where a level may be x nothing is done, and nothing said.
+    /// Makes the words of a batch of slots if no level is x, and says at which places there is another word than
+    /// before. Where a level may be x it does nothing, and there is no answer.
     pub(crate) fn make_known(
         &mut self,
         nodes: &Cells,
