@@ -36,6 +36,7 @@ use Rattle.cmb_engine.specs.declared.circuit.Circuit.{Circuit}
 use Rattle.cmb_engine.specs.declared.group.Group.{Group}
 use Rattle.cmb_engine.specs.declared.role.Role.{Role}
 use Rattle.cmb_engine.proofs.AheadFacts.{slots_of-more, slots_of-push}
+use Rattle.cmb_engine.proofs.GroupFacts.{group-flops}
 use Rattle.cmb_engine.proofs.NoteFacts.{taken-before, taken-cases, taken-last}
 use Rattle.cmb_engine.proofs.RoleFacts.{driven-at, driven-is, driven-known, driven-net, level-present}
 use Rattle.cmb_engine.proofs.SlotFacts.{trace-net}
@@ -93,17 +94,6 @@ module _ (marked : ℕ → Bool) where
       (subst (λ (numbers : List ℕ). AreMarkedOf marked numbers (slots_of old ++ [])) (sym (slots_of-more flops k d small))
       (marked-both (slots_of (take k flops)) (get_or flops k d).flops.items (slots_of old) [] so_far here))
 
--- a part of a group is a group, where some flip-flop is in it
-pub group-part : (cells : List Cell) (group part : Group) (marked : ℕ → Bool) → IsGroup cells group → part.clock ≡ group.clock → part.delay ≡ group.delay
-    → AreMarkedOf marked group.flops.items part.flops.items → 1 ≤ length part.flops.items → IsGroup cells part
-group-part cells group part marked is clocks delays here some = record {
-  some = some;
-  each = λ k d small.
-      rw (clocks, delays)
-      (All-contains (λ (slot : ℕ). IsFlopOf (cell_at cells slot) group.clock group.delay) group.flops.items (get_or part.flops.items k d) is.each
-      ((here (get_or part.flops.items k d)).0 (Contains-get_or part.flops.items k d small)).0);
-}
-
 -- ---- which flip-flops a share has
 
 pub slot-grouped : (groups : List Group) (slot : ℕ) → Contains (slots_of groups) slot → (group : Group) × Contains groups group × Contains group.flops.items slot
@@ -134,7 +124,7 @@ pub slots-flop : (cells : List Cell) (groups : List Group) (slot : ℕ) → All 
 slots-flop cells groups slot are among =
     let found = slot-grouped groups slot among in
     let is = All-contains (IsGroup cells) groups found.0 are found.1 in
-    of (cell_at cells slot) found.0.clock found.0.delay (All-contains (λ (s : ℕ). IsFlopOf (cell_at cells s) found.0.clock found.0.delay) found.0.flops.items slot is.each found.2)
+    of (cell_at cells slot) found.0.clock found.0.delay (All-contains (λ (s : ℕ). IsFlopOf (cell_at cells s) found.0.clock found.0.delay) found.0.flops.items slot (group-flops cells found.0 is) found.2)
   where
     of : (cell : Cell) (clock : Clock) (delay : ℕ) → IsFlopOf cell clock delay → is_flop cell ≡ true
     of Told clock delay flop = absurd flop
@@ -259,7 +249,7 @@ module _ (design : Design) (circuit : Circuit) (is_circuit : IsCircuit design ci
         let slot : ℕ = get_or group.flops.items 0 0 in
         let among = grouped-slot exports group slot (Contains-get_or exports k d small) (Contains-get_or group.flops.items 0 0 (are k d small).some) in
         let is = flop-net slot (slots-flop circuit.wiring.cells exports slot are among) in
-        taken-before_by (driver_of design.netlist slot) slot (cell_at circuit.wiring.cells slot) group.clock group.delay (driven-stands slot is.0 is.1) ((are k d small).each 0 0 (are k d small).some)
+        taken-before_by (driver_of design.netlist slot) slot (cell_at circuit.wiring.cells slot) group.clock group.delay (driven-stands slot is.0 is.1) (group-flops circuit.wiring.cells group (are k d small) 0 0 (are k d small).some)
         (ahead slot among) (soon slot among)
 
     pub exports-tell : (exports : List Group) → All (IsGroup circuit.wiring.cells) exports → (words : List Planes) → Shows (levels_of words) (trace_of design circuit.wiring.roles.items circuit.lines.items) (length words) from

@@ -1,8 +1,9 @@
 //! The flip-flops whose changes a share sends ahead.
 
-ghost use Rattle.std.specs.Prelude.{◌≡◌, ℕ, ◌↔◌, false, true, List, All, Contains, IfOk, slice_index_or};
+ghost use Rattle.std.specs.Prelude.{◌≡◌, ℕ, ◌↔◌, false, true, List, All, Contains, IfOk, length, slice_index_or};
+ghost use Rattle.std.specs.List.{AllZip};
 ghost use Rattle.cmb_engine.specs.Inner.Cells.{Cell};
-ghost use Rattle.cmb_engine.specs.Inner.Circuits.{IsGroup};
+ghost use Rattle.cmb_engine.specs.Inner.Circuits.{IsFlopAt, IsGroup};
 ghost use Rattle.cmb_engine.specs.Inner.Exports.{slots_of};
 
 use crate::group::Group;
@@ -19,15 +20,19 @@ pub(crate) fn is_marked(marks: &[bool], number: usize) -> bool
     }
 }
 
-// Those of some slots that are marked.
-fn marked_of(alloc: Global, slots: &[u32], marks: &[bool]) -> Result<Vec<u32>, AllocError>
-    ensures { IfOk result (λ marked. (slot : ℕ) → Contains marked.items slot
-        ↔ (Contains slots.now slot × (slice_index_or marks.now slot false ≡ true))) }
+// Those flip-flops of a group that are marked.
+fn marked_of(alloc: Global, group: &Group, marks: &[bool]) -> Result<Group, AllocError>
+    requires pairs { length group.now.sources.items ≡ length group.now.flops.items }
+    ensures exact { IfOk result (λ marked. (slot : ℕ) → Contains marked.flops.items slot
+        ↔ (Contains group.now.flops.items slot × (slice_index_or marks.now slot false ≡ true))) }
+    ensures cells { IfOk result (λ marked. (cells : List Cell) → IsGroup cells group.now
+        → AllZip (IsFlopAt cells marked.clock marked.delay) marked.flops.items marked.sources.items) }
 {
-    let mut marked = Vec::new(alloc);
-    for slot in slots {
-        if is_marked(marks, *slot as usize) {
-            marked.push(*slot)?;
+    let mut marked = Group::new(alloc, group.clock, group.delay);
+    for k in 0..group.flops.len() {
+        let slot = group.flops[k];
+        if is_marked(marks, slot as usize) {
+            marked.push(slot, group.sources[k])?;
         }
     }
     Ok(marked)
@@ -39,6 +44,7 @@ pub(crate) fn exports_of(
     flops: &[Group],
     crossing: &[bool],
 ) -> Result<Vec<Group>, AllocError>
+    requires pairs { All (λ group. length group.sources.items ≡ length group.flops.items) flops.now }
     ensures exact { IfOk result (λ exports. (slot : ℕ) → Contains (slots_of exports.items) slot
         ↔ (Contains (slots_of flops.now) slot × (slice_index_or crossing.now slot false ≡ true))) }
     ensures groups { IfOk result (λ exports. (cells : List Cell)
@@ -46,13 +52,9 @@ pub(crate) fn exports_of(
 {
     let mut exports = Vec::new(alloc);
     for group in flops {
-        let marked = marked_of(alloc, group.flops.as_slice(), crossing)?;
-        if !marked.is_empty() {
-            exports.push(Group {
-                clock: group.clock,
-                delay: group.delay,
-                flops: marked,
-            })?;
+        let marked = marked_of(alloc, group, crossing)?;
+        if !marked.flops.is_empty() {
+            exports.push(marked)?;
         }
     }
     Ok(exports)

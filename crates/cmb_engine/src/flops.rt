@@ -4,14 +4,16 @@ ghost use Rattle.std.specs.Prelude.{◌≡◌, ℕ, ◌+◌, ◌-◌, ◌*◌, �
 ghost use Rattle.std.specs.Prelude.{length, slice_index_or};
 ghost use Rattle.cmb_design_model.specs.declared.rows.Clock.{Clock};
 ghost use Rattle.cmb_engine.specs.Inner.Bits.{has};
-ghost use Rattle.cmb_engine.specs.Inner.Cells.{Cell, IsLawful, IsPace, IsSteady, cell_at};
-ghost use Rattle.cmb_engine.specs.Inner.Circuits.{AreFlops, AreMembers, IsFlopOf, IsGroup, IsInGroup, IsMarkedOrRests};
+ghost use Rattle.cmb_engine.specs.Inner.Cells.{Cell, Flop, IsPace, IsSteady, cell_at};
+ghost use Rattle.cmb_engine.specs.Inner.Circuits.{AreFlops, AreMembers, IsGroup, IsGroupWithin, IsInGroup};
+ghost use Rattle.cmb_engine.specs.Inner.Circuits.{IsMarkedOrRests};
 ghost use Rattle.cmb_engine.specs.Rows.{arrives_by};
 ghost use Rattle.cmb_engine.specs.Inner.Orders.{is_marked, IsOrder};
 ghost use Rattle.cmb_engine.specs.Inner.Windows.{HasWindow};
 ghost use Rattle.cmb_engine.specs.Inner.Words.{levels_of};
 
 use crate::arrivals::first_arrival;
+use crate::cell::Pin;
 use crate::cells::Cells;
 use crate::group::{Group, Member};
 use crate::marks::Marks;
@@ -30,12 +32,12 @@ fn members_of(alloc: Global, cells: &Cells) -> Result<Vec<Member>, AllocError>
         if let Some((clock, pin)) = cells.flop(slot) {
             members.push(Member {
                 clock,
-                delay: pin.delay,
+                pin,
                 slot: slot as u32,
             })?;
         }
     }
-    members.sort_by_key(|member| (member.clock.first, member.clock.period, member.delay))?;
+    members.sort_by_key(|member| (member.clock.first, member.clock.period, member.pin.delay))?;
     Ok(members)
 }
 
@@ -44,10 +46,10 @@ fn is_of_last(groups: &[Group], member: Member) -> bool
     ensures some { result ≡ true → 1 ≤ length groups.now }
     ensures same { result ≡ true → (d : Group)
         → ((slice_index_or groups.now (length groups.now - 1) d).clock ≡ member.clock)
-        × ((slice_index_or groups.now (length groups.now - 1) d).delay ≡ member.delay) }
+        × ((slice_index_or groups.now (length groups.now - 1) d).delay ≡ member.pin.delay) }
 {
     match groups.last() {
-        Some(group) => group.clock == member.clock && group.delay == member.delay,
+        Some(group) => group.clock == member.clock && group.delay == member.pin.delay,
         None => false,
     }
 }
@@ -56,20 +58,17 @@ fn is_of_last(groups: &[Group], member: Member) -> bool
 fn push_member(alloc: Global, groups: &mut Vec<Group>, member: Member) -> Result<(), AllocError>
     ensures kept { OnOk result ((clock : Clock) (delay slot : ℕ)
         → IsInGroup clock delay slot groups.old.items → IsInGroup clock delay slot groups.new.items) }
-    ensures listed { OnOk result (IsInGroup member.clock member.delay member.slot groups.new.items) }
-    ensures each { OnOk result ((cells : List Cell) → IsFlopOf (cell_at cells member.slot) member.clock member.delay
+    ensures listed { OnOk result (IsInGroup member.clock member.pin.delay member.slot groups.new.items) }
+    ensures each { OnOk result ((cells : List Cell) → cell_at cells member.slot ≡ Flop member.clock member.pin
         → All (IsGroup cells) groups.old.items → All (IsGroup cells) groups.new.items) }
 {
     if is_of_last(groups.as_slice(), member) {
         let last = groups.len() - 1;
-        groups[last].flops.push(member.slot)?;
+        groups[last].push(member.slot, member.pin.net)?;
     } else {
-        let flops = vec![in alloc; member.slot; 1]?;
-        groups.push(Group {
-            clock: member.clock,
-            delay: member.delay,
-            flops,
-        })?;
+        let mut group = Group::new(alloc, member.clock, member.pin.delay);
+        group.push(member.slot, member.pin.net)?;
+        groups.push(group)?;
     }
     Ok(())
 }
@@ -90,38 +89,24 @@ pub(crate) fn flops_of(alloc: Global, cells: &Cells) -> Result<Vec<Group>, Alloc
 // Whether a flip-flop may get another level by its samples in a window, from a place on: it gets none where its data
 // have the level that it has, as far back as the samples were taken.
 #[inline]
-fn may_change(cells: &Cells, words: &Words, slot: usize, first: u32) -> bool
-    requires slot { slot < length cells.now }
-    requires nets { length cells.now ≡ length words.now }
-    requires lawful { IsLawful (length words.now) first (cell_at cells.now slot) }
+fn may_change(words: &Words, slot: usize, pin: Pin, first: u32) -> bool
+    requires slot { slot < length words.now }
+    requires net { pin.net < length words.now }
+    requires delay { pin.delay ≤ first }
     requires begun { 1 ≤ first }
     requires first { first < 64 }
-    ensures { result ≡ false → (to : ℕ) → IsSteady (levels_of words.now) to first slot (cell_at cells.now slot) }
+    ensures { result ≡ false → (clock : Clock) (to : ℕ)
+        → IsSteady (levels_of words.now) to first slot (Flop clock pin) }
 {
-    match cells.flop(slot) {
-        Some((_, pin)) => {
-            let own = words.get(slot).everywhere(first - 1);
-            words
-                .get(pin.net as usize)
-                .differs_from(own, first - pin.delay)
-        }
-        None => true,
-    }
+    let own = words.get(slot).everywhere(first - 1);
+    words
+        .get(pin.net as usize)
+        .differs_from(own, first - pin.delay)
 }
 
-// Marks those of some flip-flops that may get another level.
-fn mark_flops(
-    cells: &Cells,
-    order: &Order,
-    words: &Words,
-    flops: &[u32],
-    marks: &mut Marks,
-    first: u32,
-)
-    requires slots { All (λ slot. slot < length cells.now) flops.now }
-    requires nets { length cells.now ≡ length words.now }
-    requires lawful { (slot : ℕ) → slot < length words.now
-        → IsLawful (length words.now) first (cell_at cells.now slot) }
+// Marks those flip-flops of a group that may get another level.
+fn mark_flops(group: &Group, order: &Order, words: &Words, marks: &mut Marks, first: u32)
+    requires group { IsGroupWithin (length words.now) first group.now }
     requires ranked { length order.now.ranks ≡ length words.now }
     requires ordered { IsOrder order.now }
     requires room { length order.now.slots ≤ 64 * length marks.old }
@@ -129,12 +114,17 @@ fn mark_flops(
     requires first { first < 64 }
     ensures room { length marks.new ≡ length marks.old }
     ensures kept { (m : ℕ) → has marks.old m ≡ true → has marks.new m ≡ true }
-    ensures marked { All (IsMarkedOrRests (is_marked order.now marks.new) (levels_of words.now) first cells.now)
-        flops.now }
+    ensures marked { (cells : List Cell) → IsGroup cells group.now
+        → All (IsMarkedOrRests (is_marked order.now marks.new) (levels_of words.now) first cells)
+        group.now.flops.items }
 {
-    for slot in flops {
-        let slot = *slot as usize;
-        if may_change(cells, words, slot, first) {
+    for k in 0..group.flops.len() {
+        let slot = group.flops[k] as usize;
+        let pin = Pin {
+            net: group.sources[k],
+            delay: group.delay,
+        };
+        if may_change(words, slot, pin, first) {
             marks.insert(order.rank(slot) as usize);
         }
     }
@@ -159,29 +149,24 @@ fn is_open(clock: Clock, delay: u32, to: u32, first: u32) -> bool
 // in it.
 fn mark_group(
     group: &Group,
-    cells: &Cells,
     order: &Order,
     words: &Words,
     marks: &mut Marks,
     to: u32,
     first: u32,
 ) -> bool
-    requires pace { IsPace group.now.clock }
-    requires delay { group.now.delay ≤ 1000000 }
-    requires slots { All (λ slot. slot < length cells.now) group.now.flops.items }
-    requires nets { length cells.now ≡ length words.now }
-    requires lawful { (slot : ℕ) → slot < length words.now
-        → IsLawful (length words.now) first (cell_at cells.now slot) }
+    requires group { IsGroupWithin (length words.now) first group.now }
     requires ranked { length order.now.ranks ≡ length words.now }
     requires ordered { IsOrder order.now }
     requires room { length order.now.slots ≤ 64 * length marks.old }
     requires window { HasWindow to first }
     ensures room { length marks.new ≡ length marks.old }
     ensures kept { (m : ℕ) → has marks.old m ≡ true → has marks.new m ≡ true }
-    ensures arrivals { (slot place : ℕ) → Contains group.now.flops.items slot
+    ensures arrivals { (cells : List Cell) → IsGroup cells group.now
+        → (slot place : ℕ) → Contains group.now.flops.items slot
         → first ≤ place → place < 64
         → arrives_by group.now.clock group.now.delay (to + place - 64) ≡ true
-        → IsMarkedOrRests (is_marked order.now marks.new) (levels_of words.now) first cells.now slot }
+        → IsMarkedOrRests (is_marked order.now marks.new) (levels_of words.now) first cells slot }
     ensures closed { result ≡ false → (place : ℕ)
         → first ≤ place → place < 64
         → arrives_by group.now.clock group.now.delay (to + place - 64) ≡ true
@@ -191,7 +176,7 @@ fn mark_group(
     if arrival >= 64 {
         return false;
     }
-    mark_flops(cells, order, words, group.flops.as_slice(), marks, first);
+    mark_flops(group, order, words, marks, first);
     is_open(group.clock, group.delay, to, first)
 }
 
@@ -200,29 +185,25 @@ fn mark_group(
 #[inline(never)]
 pub(crate) fn mark_arrivals(
     groups: &[Group],
-    cells: &Cells,
     order: &Order,
     words: &Words,
     marks: &mut Marks,
     to: u32,
     first: u32,
 ) -> bool
-    requires paces { All (λ group. IsPace group.clock × (group.delay ≤ 1000000)) groups.now }
-    requires slots { All (λ group. All (λ slot. slot < length cells.now) group.flops.items) groups.now }
-    requires nets { length cells.now ≡ length words.now }
-    requires lawful { (slot : ℕ) → slot < length words.now
-        → IsLawful (length words.now) first (cell_at cells.now slot) }
+    requires groups { All (IsGroupWithin (length words.now) first) groups.now }
     requires ranked { length order.now.ranks ≡ length words.now }
     requires ordered { IsOrder order.now }
     requires room { length order.now.slots ≤ 64 * length marks.old }
     requires window { HasWindow to first }
     ensures room { length marks.new ≡ length marks.old }
     ensures kept { (m : ℕ) → has marks.old m ≡ true → has marks.new m ≡ true }
-    ensures arrivals { (clock : Clock) (delay slot place : ℕ)
+    ensures arrivals { (cells : List Cell) → All (IsGroup cells) groups.now
+        → (clock : Clock) (delay slot place : ℕ)
         → IsInGroup clock delay slot groups.now
         → first ≤ place → place < 64
         → arrives_by clock delay (to + place - 64) ≡ true
-        → IsMarkedOrRests (is_marked order.now marks.new) (levels_of words.now) first cells.now slot }
+        → IsMarkedOrRests (is_marked order.now marks.new) (levels_of words.now) first cells slot }
     ensures closed { result ≡ false → (clock : Clock) (delay slot place : ℕ)
         → IsInGroup clock delay slot groups.now
         → first ≤ place → place < 64
@@ -231,7 +212,7 @@ pub(crate) fn mark_arrivals(
 {
     let mut opened = false;
     for group in groups {
-        let opens = mark_group(group, cells, order, words, marks, to, first);
+        let opens = mark_group(group, order, words, marks, to, first);
         opened = opens || opened;
     }
     opened

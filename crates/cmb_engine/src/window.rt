@@ -67,7 +67,6 @@ pub(crate) fn go_on(
     write_given(given, &wiring.roles, readers, words, live, marks, first);
     let opened = mark_arrivals(
         wiring.flops.as_slice(),
-        &wiring.cells,
         &wiring.fanout.order,
         words,
         marks,

@@ -1,11 +1,11 @@
 -- Traces: the level of each slot at each tick, and when a circuit of cells allows them.
 use Rattle.std.specs.Prelude.{◌≡◌, ℕ, ◌-◌, ◌<◌, ◌≤◌, ◌⊎◌, Bool, true, false, List, All, Contains, length, map, if◌then◌else◌}
-use Rattle.std.specs.List.{AllByRecursion}
+use Rattle.std.specs.List.{AllByRecursion, AllZip}
 use Rattle.cmb_wave.specs.declared.level.Level.{Level}
 use Rattle.cmb_design_model.specs.declared.rows.Clock.{Clock}
 use Rattle.cmb_design_model.specs.Gate.{gate}
 use Rattle.cmb_design_model.specs.Value.{delayed}
-use Rattle.cmb_engine.specs.Inner.Cells.{Cell, Told, Gate, Flop, is_flop, is_gate, is_made, cell_at, pins_of, AreFanout, IsLawful, IsSteady}
+use Rattle.cmb_engine.specs.Inner.Cells.{Cell, Told, Gate, Flop, is_flop, is_gate, is_made, cell_at, pins_of, AreFanout, IsLawful, IsPace, IsSteady}
 use Rattle.cmb_engine.specs.Inner.Orders.{Order, IsOrder}
 use Rattle.cmb_engine.specs.Rows.{arrives_by}
 use Rattle.cmb_engine.specs.Inner.Windows.{in_place}
@@ -61,10 +61,22 @@ pub record IsInGroup (clock : Clock) (delay slot : ℕ) (groups : List Group) : 
   pub same_delay : group.delay ≡ delay
   pub listed : Contains group.flops.items slot
 
--- a group has some slots, and the cells of all are flip-flops with its clock and delay
+-- the cell of a slot is a flip-flop with this clock and delay that reads a net
+abbrev pub IsFlopAt : List Cell → Clock → ℕ → ℕ → ℕ → Type 0
+IsFlopAt cells clock delay slot net = cell_at cells slot ≡ Flop clock (record { net = net; delay = delay })
+
+-- a group has some slots, and the cells of all are flip-flops with its clock and delay that read the nets beside them
 pub record IsGroup (cells : List Cell) (group : Group) : Type 0 where
   pub some : 1 ≤ length group.flops.items
-  pub each : All (λ slot. IsFlopOf (cell_at cells slot) group.clock group.delay) group.flops.items
+  pub each : AllZip (IsFlopAt cells group.clock group.delay) group.flops.items group.sources.items
+
+-- the flip-flops of a group and the nets beside them are some of so many, and its delay is so many ticks at most
+pub record IsGroupWithin (count most : ℕ) (group : Group) : Type 0 where
+  pub pace : IsPace group.clock
+  pub delay : group.delay ≤ most
+  pub pairs : length group.sources.items ≡ length group.flops.items
+  pub slots : All (λ slot. slot < count) group.flops.items
+  pub nets : All (λ net. net < count) group.sources.items
 
 -- the flip-flops among cells, in groups
 pub record AreFlops (cells : List Cell) (groups : List Group) : Type 0 where
@@ -73,8 +85,8 @@ pub record AreFlops (cells : List Cell) (groups : List Group) : Type 0 where
 
 -- the flip-flops among cells, one by one
 pub record AreMembers (cells : List Cell) (members : List Member) : Type 0 where
-  pub all : (slot : ℕ) (clock : Clock) (delay : ℕ) → IsFlopOf (cell_at cells slot) clock delay → Contains members (record { clock = clock; delay = delay; slot = slot })
-  pub each : All (λ member. IsFlopOf (cell_at cells member.slot) member.clock member.delay) members
+  pub all : (slot : ℕ) (clock : Clock) (pin : Pin) → cell_at cells slot ≡ Flop clock pin → Contains members (record { clock = clock; pin = pin; slot = slot })
+  pub each : All (λ member. cell_at cells member.slot ≡ Flop member.clock member.pin) members
 
 -- what stays as it is while an engine goes on: the cells, who reads each slot, and the flip-flops
 pub record IsWiring (cells : List Cell) (order : Order) (nodes : List Cell) (gate_lists flop_lists : List (List ℕ)) (flops : List Group) (most : ℕ) : Type 0 where

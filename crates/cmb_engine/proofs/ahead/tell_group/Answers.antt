@@ -3,29 +3,24 @@ use Rattle.std.proofs.lemmas.List.{take_all}
 use Rattle.std.proofs.lemmas.List.Elements.{All-contains}
 use Rattle.cmb_words.specs.declared.changed.Changed.{Changed}
 use Rattle.cmb_words.specs.Word.{level_at_place}
-use Rattle.cmb_engine.specs.Inner.Cells.{IsLawful, IsSteadyFrom, cell_at}
+use Rattle.cmb_engine.specs.Inner.Cells.{IsSteadyFrom, cell_at}
 use Rattle.cmb_wave.specs.declared.level.Level.{Level}
 use Rattle.cmb_engine.specs.Inner.Circuits.{IsFlopOf, MeetsCells, Shows}
 use Rattle.cmb_engine.specs.Inner.Exports.{AddsSlots, HoldsAhead, moved_on}
 use Rattle.cmb_engine.specs.Inner.Words.{levels_of}
 use Rattle.cmb_engine.proofs.AheadFacts.{adds-all_still, adds-one, adds-still, moved-steady, slot-keeps, slot-still, slot-told}
-use Rattle.cmb_engine.proofs.GroupFacts.{flop-inside, group-paced, none-arrives}
+use Rattle.cmb_engine.proofs.GroupFacts.{flop-inside, flop-made, group-flops, group-within, none-arrives}
 use Rattle.cmb_engine.proofs.WindowFacts.{IsWindow}
 use Rattle.cmb_engine.proofs.ahead.tell_group.Goals as goal
 use Rattle.cmb_engine.proofs.ahead.tell_group.Goals.{in-Some+then-not-is_steady_from+in_ok-push, in-Some+else-not-is_steady_from, in_default}
 
 pub first_arrival-arrival-requires-clause-clock : goal.first_arrival-arrival-requires-clause-clock
 first_arrival-arrival-requires-clause-clock c =
-    (group-paced c.args.cells.now c.args.group.now (64 - c.args.ticks) c.requires.group
-    (subst (λ (n : ℕ). (slot : ℕ) → slot < n → IsLawful n (64 - c.args.ticks) (cell_at c.args.cells.now slot)) (sym c.requires.nets) c.requires.lawful)).0
+    (group-within c.args.cells.now c.args.group.now c.requires.group (length c.args.words.now) (64 - c.args.ticks) c.requires.nets c.requires.lawful).pace
 
 pub first_arrival-arrival-requires-clause-delay : goal.first_arrival-arrival-requires-clause-delay
 first_arrival-arrival-requires-clause-delay c =
-    omega (
-      arith,
-      (group-paced c.args.cells.now c.args.group.now (64 - c.args.ticks) c.requires.group
-          (subst (λ (n : ℕ). (slot : ℕ) → slot < n → IsLawful n (64 - c.args.ticks) (cell_at c.args.cells.now slot)) (sym c.requires.nets) c.requires.lawful)).1,
-    )
+    omega (arith, (group-within c.args.cells.now c.args.group.now c.requires.group (length c.args.words.now) (64 - c.args.ticks) c.requires.nets c.requires.lawful).delay)
 
 -- where no sample arrives nothing changes
 pub returns-then-arrival-ge64 : goal.returns-then-arrival-ge64
@@ -35,7 +30,7 @@ returns-then-arrival-ge64 c = λ trace meets shows.
     slot-keeps trace (levels_of c.args.words.now) c.args.cells.now (length c.args.words.now) (c.args.to - c.args.ticks) c.args.ticks c.args.to (64 - c.args.ticks) meets shows
     (record { ends = omega (arith, c.requires.later); places = omega (arith, c.requires.window.0); begun = omega (arith, c.requires.later); some = omega (arith, c.requires.window.1); fits = omega (arith, c.requires.window.0) })
     c.args.group.now.clock c.args.group.now.delay c.requires.taken slot
-    (All-contains (λ (s : ℕ). IsFlopOf (cell_at c.args.cells.now s) c.args.group.now.clock c.args.group.now.delay) c.args.group.now.flops.items slot c.requires.group.each among)
+    (All-contains (λ (s : ℕ). IsFlopOf (cell_at c.args.cells.now s) c.args.group.now.clock c.args.group.now.delay) c.args.group.now.flops.items slot (group-flops c.args.cells.now c.args.group.now c.requires.group) among)
     (λ place late small arrives.
     none-arrives c.args.group.now.clock c.args.group.now.delay c.args.to (64 - c.args.ticks) c.first_arrival-arrival.result place
     (λ (p : ℕ). (p - c.first_arrival-arrival.result) % c.args.group.now.clock.period == 0) c.if-arrival-ge64.true small (c.first_arrival-arrival.ensures.arrives place late small) arrives))
@@ -72,7 +67,7 @@ loop-slot-preserved c = λ trace meets shows.
 
     flop : IsFlopOf (cell_at c.args.cells.now slot) c.args.group.now.clock c.args.group.now.delay
     flop = subst (λ (xs : List ℕ). IsFlopOf (cell_at c.args.cells.now (get_or xs c.loop-slot.slot-index 0)) c.args.group.now.clock c.args.group.now.delay) (sym c.deref-slot-items.ensures.value)
-        (c.requires.group.each c.loop-slot.slot-index 0 (omega (arith, c.loop-slot-test.true, ap length c.deref-slot-items.ensures.value)))
+        (group-flops c.args.cells.now c.args.group.now c.requires.group c.loop-slot.slot-index 0 (omega (arith, c.loop-slot-test.true, ap length c.deref-slot-items.ensures.value)))
 
     inside : slot < length c.args.words.now
     inside = omega (arith, flop-inside c.args.cells.now slot c.args.group.now.clock c.args.group.now.delay flop, c.requires.nets)
@@ -95,3 +90,17 @@ returns c = λ trace meets shows.
     let so_far = c.loop-slot.invariant trace meets shows in
     subst (λ (slots : List ℕ). AddsSlots trace slots (c.args.to - c.args.ticks) c.args.to c.args.told.now.items c.loop-slot.told.items)
     (take_all c.loop-slot.slot-index c.deref-slot-items.result.now c.loop-slot-test.false ∙ c.deref-slot-items.ensures.value) so_far
+
+pub word_ahead-requires-clause-slot : goal.word_ahead-requires-clause-slot
+word_ahead-requires-clause-slot c =
+    subst (λ (xs : List ℕ). get_or xs c.loop-slot.slot-index 0 < length c.args.words.now) (sym c.deref-slot-items.ensures.value)
+    ((group-within c.args.cells.now c.args.group.now c.requires.group (length c.args.words.now) (64 - c.args.ticks) c.requires.nets c.requires.lawful).slots c.loop-slot.slot-index 0
+    (omega (arith, c.loop-slot-test.true, ap length c.deref-slot-items.ensures.value)))
+
+pub overflow_cast-slot-then-not-is_steady_from : goal.overflow_cast-slot-then-not-is_steady_from
+overflow_cast-slot-then-not-is_steady_from c =
+    let slots : List ℕ = c.deref-slot-items.result.now in
+    let flop : IsFlopOf (cell_at c.args.cells.now (get_or slots c.loop-slot.slot-index 0)) c.args.group.now.clock c.args.group.now.delay =
+    subst (λ (xs : List ℕ). IsFlopOf (cell_at c.args.cells.now (get_or xs c.loop-slot.slot-index 0)) c.args.group.now.clock c.args.group.now.delay) (sym c.deref-slot-items.ensures.value)
+    (group-flops c.args.cells.now c.args.group.now c.requires.group c.loop-slot.slot-index 0 (omega (arith, c.loop-slot-test.true, ap length c.deref-slot-items.ensures.value))) in
+    omega (arith, c.requires.few (get_or slots c.loop-slot.slot-index 0) (flop-made (cell_at c.args.cells.now (get_or slots c.loop-slot.slot-index 0)) c.args.group.now.clock c.args.group.now.delay flop))

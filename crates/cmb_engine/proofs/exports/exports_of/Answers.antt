@@ -6,7 +6,7 @@ use Rattle.std.proofs.lemmas.List.Elements.{All-push}
 use Rattle.cmb_engine.specs.Inner.Circuits.{IsGroup}
 use Rattle.cmb_engine.specs.Inner.Exports.{slots_of}
 use Rattle.cmb_engine.specs.declared.group.Group.{Group}
-use Rattle.cmb_engine.proofs.ExportFacts.{AreMarkedOf, marked-group, marked-nowhere, group-part}
+use Rattle.cmb_engine.proofs.ExportFacts.{AreMarkedOf, marked-group, marked-nowhere}
 use Rattle.cmb_engine.proofs.exports.exports_of.Goals as goal
 use Rattle.cmb_engine.proofs.exports.exports_of.Goals.{then-not-is_empty+in_ok-push, else-not-is_empty}
 
@@ -15,22 +15,23 @@ loop-group-preserved c =
     elim c.if-not-is_empty.branch [
       | then-not-is_empty+in_ok-push w ↦
           let items = ap (λ (exports : Vec Group Global). exports.items) w.exports-is ∙ w.in_ok-push.ensures.items in
-          let part : Group = record { clock = c.group-item.result.clock; delay = c.group-item.result.delay; flops = c.in_ok-marked.marked } in
           record {
             exact = subst (λ (groups : List Group). AreMarkedOf marked (slots_of (take (k + 1) c.args.flops.now)) (slots_of groups)) (sym items)
-                (marked-group marked c.args.flops.now c.loop-group.exports.items k c.group-item.result part c.loop-group-test.true here c.loop-group.invariant.exact);
+                (marked-group marked c.args.flops.now c.loop-group.exports.items k c.group-item.result c.in_ok-marked.marked c.loop-group-test.true here c.loop-group.invariant.exact);
             groups = λ cells are.
                 subst (λ (groups : List Group). All (IsGroup cells) groups) (sym items)
-                (All-push (IsGroup cells) c.loop-group.exports.items part (c.loop-group.invariant.groups cells are)
-                (group-part cells (get_or c.args.flops.now k c.group-item.result) part marked (are k c.group-item.result c.loop-group-test.true) (ap (λ (g : Group). g.clock) c.group-item.is) (ap (λ (g : Group). g.delay) c.group-item.is) here
-                (omega (arith, eqb-false _ _ (sym c.is_empty.ensures ∙ w.if-not-is_empty.true), c.in_ok-marked.marked.ok))));
+                (All-push (IsGroup cells) c.loop-group.exports.items c.in_ok-marked.marked (c.loop-group.invariant.groups cells are)
+                (record {
+                  some = omega (arith, eqb-false _ _ (sym c.is_empty.ensures ∙ w.if-not-is_empty.true), c.in_ok-marked.marked.flops.ok);
+                  each = c.in_ok-marked.ensures.cells cells (subst (IsGroup cells) (sym c.group-item.is) (are k c.group-item.result c.loop-group-test.true));
+                }));
           }
       | else-not-is_empty w ↦
           let items = ap (λ (exports : Vec Group Global). exports.items) w.exports-is in
           record {
             exact = subst (λ (groups : List Group). AreMarkedOf marked (slots_of (take (k + 1) c.args.flops.now)) (slots_of groups)) (sym items)
                 (marked-nowhere marked c.args.flops.now c.loop-group.exports.items k c.group-item.result c.loop-group-test.true (subst (λ (listed : List ℕ). AreMarkedOf marked (get_or c.args.flops.now k c.group-item.result).flops.items listed)
-                (nil_from_length c.in_ok-marked.marked.items (omega (arith, eqb-true _ _ (sym c.is_empty.ensures ∙ w.if-not-is_empty.false), c.in_ok-marked.marked.ok))) here) c.loop-group.invariant.exact);
+                (nil_from_length c.in_ok-marked.marked.flops.items (omega (arith, eqb-true _ _ (sym c.is_empty.ensures ∙ w.if-not-is_empty.false), c.in_ok-marked.marked.flops.ok))) here) c.loop-group.invariant.exact);
             groups = λ cells are. subst (λ (groups : List Group). All (IsGroup cells) groups) (sym items) (c.loop-group.invariant.groups cells are);
           }
     ]
@@ -41,10 +42,8 @@ loop-group-preserved c =
     marked : ℕ → Bool
     marked n = get_or c.args.crossing.now n false
 
-    here : AreMarkedOf marked (get_or c.args.flops.now k c.group-item.result).flops.items c.in_ok-marked.marked.items
-    here =
-        subst (λ (group : Group). AreMarkedOf marked group.flops.items c.in_ok-marked.marked.items) c.group-item.is
-        (subst (λ (slots : List ℕ). AreMarkedOf marked slots c.in_ok-marked.marked.items) c.as_slice.ensures.value c.in_ok-marked.ensures)
+    here : AreMarkedOf marked (get_or c.args.flops.now k c.group-item.result).flops.items c.in_ok-marked.marked.flops.items
+    here = subst (λ (group : Group). AreMarkedOf marked group.flops.items c.in_ok-marked.marked.flops.items) c.group-item.is c.in_ok-marked.ensures.exact
 
 pub returns-clause-exact : goal.returns-clause-exact
 returns-clause-exact c =

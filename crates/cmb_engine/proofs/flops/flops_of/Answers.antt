@@ -1,7 +1,7 @@
 use Rattle.std.proofs.Common.{◌≡◌, ℕ, List, length, sym, ap, subst, arith}
 use Rattle.std.specs.Prelude.{All}
-use Rattle.cmb_engine.specs.Inner.Circuits.{AreMembers, IsFlopOf}
-use Rattle.cmb_engine.specs.Inner.Cells.{cell_at}
+use Rattle.cmb_engine.specs.Inner.Circuits.{AreMembers}
+use Rattle.cmb_engine.specs.Inner.Cells.{Flop, cell_at}
 use Rattle.cmb_engine.specs.declared.group.Member.{Member}
 use Rattle.cmb_engine.proofs.GroupFacts.{AreGrouped, grouped-more, flops-whole}
 use Rattle.cmb_engine.proofs.flops.flops_of.Goals as goal
@@ -16,9 +16,9 @@ pub loop-member-preserved : goal.loop-member-preserved
 loop-member-preserved c =
     let right : AreMembers c.args.cells.now c.in_ok-members.members.items = c.in_ok-members.ensures in
     let items : c.as_slice-member-items.result.now ≡ c.in_ok-members.members.items = c.as_slice-member-items.ensures.value in
-    let none : Member = record { clock = record { first = 0; period = 0 }; delay = 0; slot = 0 } in
-    let each : All (λ member. IsFlopOf (cell_at c.args.cells.now member.slot) member.clock member.delay) c.as_slice-member-items.result.now =
-    subst (λ (members : List Member). All (λ member. IsFlopOf (cell_at c.args.cells.now member.slot) member.clock member.delay) members) (sym items) right.each in
+    let none : Member = record { clock = record { first = 0; period = 0 }; pin = record { net = 0; delay = 0 }; slot = 0 } in
+    let each : All (λ member. cell_at c.args.cells.now member.slot ≡ Flop member.clock member.pin) c.as_slice-member-items.result.now =
+    subst (λ (members : List Member). All (λ member. cell_at c.args.cells.now member.slot ≡ Flop member.clock member.pin) members) (sym items) right.each in
     record {
       grouped = grouped-more c.as_slice-member-items.result.now c.loop-member.member-index c.loop-member.groups.items c.push_member.new.groups.items none
           c.loop-member-test.true c.in_ok-push_member.ensures.kept c.in_ok-push_member.ensures.listed c.loop-member.invariant.grouped;

@@ -1,8 +1,9 @@
-use Rattle.std.proofs.Common.{◌≡◌, ◌+◌, ◌-◌, ◌<◌, ◌≤◌, ◌⊎◌, inl, inr, ℕ, true, false, length, get_or, sym, ap, subst, ◌∙◌, arith}
-use Rattle.std.specs.Prelude.{Contains}
+use Rattle.std.proofs.Common.{◌≡◌, ◌+◌, ◌-◌, ◌<◌, ◌≤◌, ◌⊎◌, inl, inr, ℕ, true, false, List, length, get_or, sym, ap, subst, ◌∙◌, arith}
+use Rattle.std.specs.Prelude.{All, Contains}
 use Rattle.std.proofs.lemmas.Bool.{cases_lt, false≢true}
 use Rattle.std.proofs.lemmas.List.{get_or_default}
-use Rattle.cmb_engine.specs.Inner.Circuits.{IsMarkedOrRests}
+use Rattle.cmb_engine.specs.Inner.Cells.{Cell}
+use Rattle.cmb_engine.specs.Inner.Circuits.{IsGroup, IsMarkedOrRests}
 use Rattle.cmb_engine.specs.Inner.Orders.{is_marked}
 use Rattle.cmb_engine.specs.Rows.{arrives_by}
 use Rattle.cmb_engine.specs.Inner.Words.{levels_of}
@@ -15,7 +16,7 @@ pub loop-group-preserved : goal.loop-group-preserved
 loop-group-preserved c = record {
   room = c.mark_group-opens.ensures.room ∙ c.loop-group.invariant.room;
   kept = λ m h. c.mark_group-opens.ensures.kept m (c.loop-group.invariant.kept m h);
-  arrivals = λ k d slot place below among from small arrives. go k d slot place below among from small arrives (cases_lt k c.loop-group.group-index);
+  arrivals = λ cells are k d slot place below among from small arrives. go cells are k d slot place below among from small arrives (cases_lt k c.loop-group.group-index);
   closed = λ shut k d place below from small arrives. shut_at (both shut) k d place below from small arrives (cases_lt k c.loop-group.group-index);
 }
   where
@@ -40,14 +41,20 @@ loop-group-preserved c = record {
         (c.mark_group-opens.ensures.closed h.0 place from small
         (subst (λ (group : Group). arrives_by group.clock group.delay (c.args.to + place - 64) ≡ true) (is k d below l) arrives))
 
-    go : (k : ℕ) → (d : Group) → (slot place : ℕ) → k < c.loop-group.group-index + 1 → Contains (get_or c.args.groups.now k d).flops.items slot → c.args.first ≤ place → place < 64
+    go : (cells : List Cell) → All (IsGroup cells) c.args.groups.now → (k : ℕ) → (d : Group) → (slot place : ℕ) → k < c.loop-group.group-index + 1 → Contains (get_or c.args.groups.now k d).flops.items slot → c.args.first ≤ place → place < 64
         → arrives_by (get_or c.args.groups.now k d).clock (get_or c.args.groups.now k d).delay (c.args.to + place - 64) ≡ true
         → (k < c.loop-group.group-index) ⊎ (c.loop-group.group-index ≤ k)
-        → IsMarkedOrRests (is_marked c.args.order.now c.mark_group-opens.new.marks) (levels_of c.args.words.now) c.args.first c.args.cells.now slot
-    go k d slot place below among from small arrives (inl l) =
-        rests-kept c.args.order.now c.loop-group.marks c.mark_group-opens.new.marks (levels_of c.args.words.now) c.args.first c.args.cells.now slot c.mark_group-opens.ensures.kept
-        (c.loop-group.invariant.arrivals k d slot place l among from small arrives)
-    go k d slot place below among from small arrives (inr l) =
-        c.mark_group-opens.ensures.arrivals slot place
+        → IsMarkedOrRests (is_marked c.args.order.now c.mark_group-opens.new.marks) (levels_of c.args.words.now) c.args.first cells slot
+    go cells are k d slot place below among from small arrives (inl l) =
+        rests-kept c.args.order.now c.loop-group.marks c.mark_group-opens.new.marks (levels_of c.args.words.now) c.args.first cells slot c.mark_group-opens.ensures.kept
+        (c.loop-group.invariant.arrivals cells are k d slot place l among from small arrives)
+    go cells are k d slot place below among from small arrives (inr l) =
+        c.mark_group-opens.ensures.arrivals cells (subst (IsGroup cells) (is k d below l) (are k d (omega (arith, below, c.loop-group-test.true)))) slot place
         (subst (λ (group : Group). Contains group.flops.items slot) (is k d below l) among) from small
         (subst (λ (group : Group). arrives_by group.clock group.delay (c.args.to + place - 64) ≡ true) (is k d below l) arrives)
+
+pub returns-clause-arrivals : goal.returns-clause-arrivals
+returns-clause-arrivals c = λ cells are clock delay slot place h from small arrives.
+    c.loop-group.invariant.arrivals cells are h.among.0 h.group slot place (omega (arith, h.among.1, c.loop-group-test.false))
+    (subst (λ (group : Group). Contains group.flops.items slot) (sym h.among.2) h.listed) from small
+    (subst (λ (group : Group). arrives_by group.clock group.delay (c.args.to + place - 64) ≡ true) (sym h.among.2) (rw (h.same_clock, h.same_delay) arrives))

@@ -1,5 +1,4 @@
-use Rattle.std.proofs.Common.{◌-◌, ◌%◌, ◌==◌, ℕ, List, subst}
-use Rattle.std.specs.Prelude.{All}
+use Rattle.std.proofs.Common.{◌-◌, ◌%◌, ◌==◌, ℕ}
 use Rattle.std.proofs.lemmas.List.Elements.{All-contains}
 use Rattle.cmb_engine.specs.Inner.Circuits.{IsMarkedOrRests}
 use Rattle.cmb_engine.specs.Inner.Orders.{is_marked}
@@ -8,7 +7,7 @@ use Rattle.cmb_engine.proofs.GroupFacts.{none-arrives}
 use Rattle.cmb_engine.proofs.flops.mark_group.Goals as goal
 
 pub returns-then-arrival-ge64-clause-arrivals : goal.returns-then-arrival-ge64-clause-arrivals
-returns-then-arrival-ge64-clause-arrivals c = λ slot place among from small arrives.
+returns-then-arrival-ge64-clause-arrivals c = λ cells is slot place among from small arrives.
     absurd (none-arrives c.args.group.now.clock c.args.group.now.delay c.args.to c.args.first c.first_arrival-arrival.result place
     (λ (p : ℕ). (p - c.first_arrival-arrival.result) % c.args.group.now.clock.period == 0) c.if-arrival-ge64.true small (c.first_arrival-arrival.ensures.arrives place from small) arrives)
 
@@ -18,10 +17,9 @@ returns-then-arrival-ge64-clause-closed c = λ shut place from small arrives.
     (λ (p : ℕ). (p - c.first_arrival-arrival.result) % c.args.group.now.clock.period == 0) c.if-arrival-ge64.true small (c.first_arrival-arrival.ensures.arrives place from small) arrives)
 
 pub returns-clause-arrivals : goal.returns-clause-arrivals
-returns-clause-arrivals c = λ slot place among from small arrives.
-    All-contains (IsMarkedOrRests (is_marked c.args.order.now c.mark_flops.new.marks) (levels_of c.args.words.now) c.args.first c.args.cells.now) c.args.group.now.flops.items slot
-    (subst (λ (flops : List ℕ). All (IsMarkedOrRests (is_marked c.args.order.now c.mark_flops.new.marks) (levels_of c.args.words.now) c.args.first c.args.cells.now) flops)
-    c.as_slice.ensures.value c.mark_flops.ensures.marked) among
+returns-clause-arrivals c = λ cells is slot place among from small arrives.
+    All-contains (IsMarkedOrRests (is_marked c.args.order.now c.mark_flops.new.marks) (levels_of c.args.words.now) c.args.first cells) c.args.group.now.flops.items slot
+    (c.mark_flops.ensures.marked cells is) among
 
 pub returns-clause-closed : goal.returns-clause-closed
 returns-clause-closed c = λ shut place from small arrives. c.is_open.ensures shut place from small arrives

@@ -7,7 +7,7 @@ use Rattle.cmb_engine.proofs.flops.members_of.Goals.{in-Some+in_ok-push, in_defa
 pub loop-slot-init : goal.loop-slot-init
 loop-slot-init c =
     subst (λ (members : List Member). AreMembersBelow c.args.cells.now 0 members) (sym c.new-members.ensures.items)
-    (record { all = λ slot clock delay below flop. absurd (omega arith); each = λ k d below. absurd (omega arith) })
+    (record { all = λ slot clock pin below flop. absurd (omega arith); each = λ k d below. absurd (omega arith) })
 
 pub loop-slot-preserved : goal.loop-slot-preserved
 loop-slot-preserved c =

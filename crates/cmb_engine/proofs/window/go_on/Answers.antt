@@ -1,8 +1,8 @@
-use Rattle.std.proofs.Common.{◌≡◌, ◌+◌, ◌-◌, ◌<◌, ◌≤◌, true, ℕ, List, [], length, get_or, sym, subst, ◌∙◌, arith}
+use Rattle.std.proofs.Common.{◌≡◌, ◌+◌, ◌-◌, ◌<◌, true, ℕ, List, [], length, get_or, sym, subst, ◌∙◌, arith}
 use Rattle.std.specs.Prelude.{All}
 use Rattle.cmb_engine.specs.Inner.Bits.{has}
-use Rattle.cmb_engine.specs.Inner.Cells.{Cell, IsPace, IsSteadyFrom, AreMarked, cell_at}
-use Rattle.cmb_engine.specs.Inner.Circuits.{IsInGroup, Shows}
+use Rattle.cmb_engine.specs.Inner.Cells.{Cell, IsSteadyFrom, AreMarked, cell_at}
+use Rattle.cmb_engine.specs.Inner.Circuits.{IsGroup, IsGroupWithin, IsInGroup, Shows}
 use Rattle.cmb_engine.specs.Inner.Gifts.{is_written, AreWritten}
 use Rattle.cmb_engine.specs.Inner.Roles.{AreToldNets, gives}
 use Rattle.cmb_engine.specs.Inner.Tells.{told_level, AreOfWindow}
@@ -10,7 +10,7 @@ use Rattle.cmb_engine.specs.Inner.Words.{levels_of}
 use Rattle.cmb_engine.specs.declared.group.Group.{Group}
 use Rattle.cmb_engine.specs.declared.role.Role.{Role}
 use Rattle.cmb_engine.proofs.GivenFacts.{made-kept, unmarked-kept, written-true}
-use Rattle.cmb_engine.proofs.GroupFacts.{arrives-flop, groups-inside, groups-paced}
+use Rattle.cmb_engine.proofs.GroupFacts.{arrives-flop, groups-within}
 use Rattle.cmb_engine.proofs.TraceFacts.{made-inside}
 use Rattle.cmb_engine.proofs.WindowFacts.{IsBegun, IsWindow, marked-kept, window-closed, window-wired, window-shows}
 use Rattle.cmb_engine.proofs.window.go_on.Goals as goal
@@ -35,23 +35,13 @@ settle-requires c = record {
   window = (omega (arith, c.requires.fits), omega (arith, c.requires.some), omega (arith, c.requires.later, c.requires.fits), c.requires.to);
 }
 
-pub mark_arrivals-opened-requires-clause-paces : goal.mark_arrivals-opened-requires-clause-paces
-mark_arrivals-opened-requires-clause-paces c =
-    let paced : All (λ group. IsPace group.clock × (group.delay ≤ c.args.wiring.now.most)) c.as_slice.result.now =
-    subst (λ (groups : List Group). All (λ group. IsPace group.clock × (group.delay ≤ c.args.wiring.now.most)) groups) (sym c.as_slice.ensures.value)
-    (groups-paced c.args.wiring.now.cells c.args.wiring.now.flops.items c.requires.wiring.flip_flops c.args.wiring.now.most c.requires.wiring.lawful) in
-    λ k d l. ((paced k d l).0, omega (arith, (paced k d l).1, c.requires.fits))
-
-pub mark_arrivals-opened-requires-clause-slots : goal.mark_arrivals-opened-requires-clause-slots
-mark_arrivals-opened-requires-clause-slots c =
-    subst (λ (groups : List Group). All (λ group. All (λ slot. slot < length c.args.wiring.now.cells) group.flops.items) groups) (sym c.as_slice.ensures.value)
-    (groups-inside c.args.wiring.now.cells c.args.wiring.now.flops.items c.requires.wiring.flip_flops)
-
-pub mark_arrivals-opened-requires-clause-lawful : goal.mark_arrivals-opened-requires-clause-lawful
-mark_arrivals-opened-requires-clause-lawful c =
+pub mark_arrivals-opened-requires-clause-groups : goal.mark_arrivals-opened-requires-clause-groups
+mark_arrivals-opened-requires-clause-groups c =
+    let nets : length c.args.wiring.now.cells ≡ length c.write_given.new.words = omega (arith, c.requires.nets, c.move_on.ensures.len, c.write_told.ensures.writes.len, c.write_given.ensures.writes.len) in
+    subst (All (IsGroupWithin (length c.write_given.new.words) (64 - c.args.ticks))) (sym c.as_slice.ensures.value)
+    (groups-within c.args.wiring.now.cells c.args.wiring.now.flops.items (length c.write_given.new.words) (64 - c.args.ticks) c.requires.wiring.flip_flops.each nets
     (window-wired c.args.wiring.now.cells c.args.wiring.now.fanout.order c.args.wiring.now.fanout.nodes c.args.wiring.now.fanout.gates c.args.wiring.now.fanout.flops c.args.wiring.now.flops.items
-    c.args.wiring.now.most c.requires.wiring
-    (length c.write_given.new.words) (64 - c.args.ticks) (omega (arith, c.requires.nets, c.move_on.ensures.len, c.write_told.ensures.writes.len, c.write_given.ensures.writes.len)) (omega (arith, c.requires.fits))).lawful
+    c.args.wiring.now.most c.requires.wiring (length c.write_given.new.words) (64 - c.args.ticks) nets (omega (arith, c.requires.fits))).lawful)
 
 pub write_given-requires-clause-slots : goal.write_given-requires-clause-slots
 write_given-requires-clause-slots c = λ slot gift.
@@ -104,7 +94,7 @@ returns-clause-shows c = λ trace meets shows right given slot place inside smal
           let grouped : IsInGroup arrival.clock arrival.delay s c.as_slice.result.now =
           subst (λ (groups : List Group). IsInGroup arrival.clock arrival.delay s groups) (sym c.as_slice.ensures.value)
           (c.requires.wiring.flip_flops.all s arrival.clock arrival.delay arrival.flop) in
-          c.mark_arrivals-opened.ensures.arrivals arrival.clock arrival.delay s p grouped late small arrival.arrives;
+          c.mark_arrivals-opened.ensures.arrivals cells (subst (All (IsGroup cells)) (sym c.as_slice.ensures.value) c.requires.wiring.flip_flops.each) arrival.clock arrival.delay s p grouped late small arrival.arrives;
     } in
     window-shows trace cells c.args.wiring.now.fanout.order c.args.wiring.now.fanout.nodes lists c.args.wiring.now.fanout.flops c.args.wiring.now.flops.items c.args.wiring.now.most
     c.requires.wiring
@@ -141,9 +131,6 @@ write_given-requires-clause-within c = λ place k d small. omega (arith, c.requi
 
 pub write_given-requires-clause-live : goal.write_given-requires-clause-live
 write_given-requires-clause-live c = omega (arith, c.requires.live, c.move_on.ensures.len, c.move_on.ensures.live, c.write_told.ensures.writes.len, c.write_told.ensures.writes.live_room)
-
-pub mark_arrivals-opened-requires-clause-nets : goal.mark_arrivals-opened-requires-clause-nets
-mark_arrivals-opened-requires-clause-nets c = omega (arith, c.requires.nets, c.move_on.ensures.len, c.write_told.ensures.writes.len, c.write_given.ensures.writes.len)
 
 pub mark_arrivals-opened-requires-clause-room : goal.mark_arrivals-opened-requires-clause-room
 mark_arrivals-opened-requires-clause-room c = omega (arith, c.requires.room, c.move_on.ensures.room, c.write_told.ensures.writes.room, c.write_given.ensures.writes.room)
