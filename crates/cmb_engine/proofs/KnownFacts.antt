@@ -1,10 +1,11 @@
 -- Words of which none is x anywhere, by the places that are 1.
-use Rattle.std.proofs.Common.{◌≡◌, ℕ, zero, suc, ◌<◌, ◌≢◌, List, [], ◌∷◌, length, get_or, set, refl, ap, ◌∙◌, arith}
+use Rattle.std.proofs.Common.{◌≡◌, ℕ, zero, suc, ◌-◌, ◌<◌, ◌≢◌, List, [], ◌∷◌, length, get_or, set, refl, sym, ap, ◌∙◌, arith}
 use Rattle.cmb_words.specs.declared.word.Word.{Word}
 use Rattle.cmb_words.specs.Bits.{level_in}
 use Rattle.cmb_words.specs.Word.{level_at_place}
 use Rattle.cmb_words.proofs.GateFacts.{is_known, known-level, level-known}
-use Rattle.cmb_engine.specs.Inner.Known.{known_levels}
+use Rattle.cmb_engine.specs.Inner.Cells.{IsSteadyFrom}
+use Rattle.cmb_engine.specs.Inner.Known.{known_levels, known_planes}
 
 -- where a word has a known level, its first plane alone says it
 pub by-ones : (word : Word) (i ones j : ℕ) → i < 64 → level_at_place word i ≡ level_in ones 0 j → level_in word.ones 0 i ≡ level_in ones 0 j
@@ -28,3 +29,13 @@ known-other (w ∷ words) zero zero ones place h = absurd (h refl)
 known-other (w ∷ words) zero (suc other) ones place h = refl
 known-other (w ∷ words) (suc net) zero ones place h = refl
 known-other (w ∷ words) (suc net) (suc other) ones place h = known-other words net other ones place (λ e. h (ap suc e))
+
+-- there are as many words as ones
+pub known-length : (words : List ℕ) → length (known_planes words) ≡ length words
+known-length [] = refl
+known-length (w ∷ words) = ap suc (known-length words)
+
+-- a word was written that is as steady as it is
+pub known-steady : (words : List ℕ) (net ones first : ℕ) → net < length words → IsSteadyFrom (level_in ones 0) first → IsSteadyFrom (known_levels (set words net ones) net) first
+known-steady words net ones first inside steady place from small =
+    known-same words net ones place inside ∙ steady place from small ∙ sym (known-same words net ones (first - 1) inside)

@@ -1,5 +1,5 @@
 -- Words that move on to a later window.
-use Rattle.std.proofs.Common.{◌≡◌, ◌≢◌, ℕ, zero, suc, ◌+◌, ◌-◌, ◌*◌, ◌/◌, ◌%◌, ◌^◌, ◌<◌, ◌≤◌, ◌⊎◌, inl, inr, Bool, true, false, not, ◌&&◌, ◌==◌, List, [], ◌∷◌, min, length, get_or, refl, sym, ap, subst, ◌∙◌, arith, w64}
+use Rattle.std.proofs.Common.{◌≡◌, ◌≢◌, ℕ, zero, suc, ◌+◌, ◌-◌, ◌*◌, ◌/◌, ◌%◌, ◌^◌, ◌<◌, ◌≤◌, ◌⊎◌, inl, inr, Bool, true, false, not, ◌&&◌, ◌||◌, ◌==◌, List, [], ◌∷◌, min, length, get_or, refl, sym, ap, subst, ◌∙◌, arith, w64}
 use Rattle.std.proofs.lemmas.Bool.{and_parts, cases_Bool, cases_lt, cases_eq, eqb-true, false≢true}
 use Rattle.std.proofs.lemmas.Nat.Bits.{bit_at-zero, bit_at_set_other}
 use Rattle.std.specs.Prelude.{bit_or}
@@ -8,7 +8,7 @@ use Rattle.cmb_wave.specs.declared.level.Level.{Level}
 use Rattle.cmb_wave.specs.declared.level.Level.TheVariants.{X}
 use Rattle.cmb_words.specs.Bits.{is_set_at, places_set}
 use Rattle.cmb_engine.specs.Inner.Planes.{Planes}
-use Rattle.cmb_engine.specs.Inner.Batches.{IsNextWord, IsSetAt}
+use Rattle.cmb_engine.specs.Inner.Batches.{IsNextWord, IsSetAt, Moves}
 use Rattle.cmb_engine.specs.Inner.Bits.{has}
 use Rattle.cmb_engine.specs.Inner.Cells.{AreMarked, IsSteadyFrom}
 use Rattle.cmb_engine.specs.Inner.Circuits.{AreQuiet}
@@ -153,13 +153,28 @@ module _ (lists : List (List ℕ)) (base places count ticks first : ℕ) (left m
       told m set under inside (inr other) = told-same lists f g marks marked first m (λ q. others m q other) kept (h.moving.news m set (before m set under other) inside)
 
 -- where no place is left, all have moved on
-pub moving-all : (lists : List (List ℕ)) (base places steady count ticks first : ℕ) (left marks : List ℕ) (old now : ℕ → ℕ → Level)
+moving-all : (lists : List (List ℕ)) (base places steady count ticks first : ℕ) (left marks : List ℕ) (old now : ℕ → ℕ → Level)
     → (h : IsMovingOn lists base places steady count ticks first left marks old now) → left ≡ [] → (slot : ℕ) → IsSetAt base places slot → slot < base + h.upto
 moving-all lists base places steady count ticks first left marks old now h is slot set = go (cases_lt set.place h.upto)
   where
     go : (set.place < h.upto) ⊎ (h.upto ≤ set.place) → slot < base + h.upto
     go (inl l) = omega (arith, set.is, l)
     go (inr l) = absurd (false≢true (sym (left-none places h.upto left h.are_left is set.place l set.small) ∙ set.set))
+
+pub moving-moves : (lists : List (List ℕ)) (base places steady count ticks first : ℕ) (left old_marks marks : List ℕ) (old now : ℕ → ℕ → Level) → length marks ≡ length old_marks
+    → ((m : ℕ) → has old_marks m ≡ true → has marks m ≡ true) → IsMovingOn lists base places steady count ticks first left marks old now → left ≡ []
+    → Moves lists base places steady count ticks first old_marks marks old now
+moving-moves lists base places steady count ticks first left old_marks marks old now room kept h is = record {
+  room = room;
+  kept = kept;
+  others = h.moving.others;
+  moved = λ slot place set small. h.moving.moved slot place set (all slot set) small;
+  still = λ slot set. (h.moving.still slot set).1;
+  news = λ slot set inside. h.moving.news slot set (all slot set) inside;
+}
+  where
+    all : (slot : ℕ) → IsSetAt base places slot → slot < base + h.upto
+    all = moving-all lists base places steady count ticks first left marks old now h is
 
 -- one more place of a mask, of which something is so
 pub place-more : (So : Type 0) (mask place i : ℕ) → place < 64 → So → is_set_at (bit_or mask (1 * 2 ^ place % 2 ^ 64)) i ≡ true → (is_set_at mask i ≡ true) ⊎ ((i ≡ place) × So)
@@ -169,6 +184,17 @@ place-more So mask place i small so set = go (cases_eq i place)
     go : (i ≡ place) ⊎ (i ≡ place → ⊥) → ((bit_at mask i == 1) ≡ true) ⊎ ((i ≡ place) × So)
     go (inl e) = inr (e, so)
     go (inr other) = inl (sym (ap (λ (b : ℕ). b == 1) (bit_at_set_other w64 mask place small i other)) ∙ set)
+
+-- the same, where it is wanted
+pub place-wanted : (So : Type 0) (old new : ℕ) (wanted : Bool) (place i : ℕ) → is_set_at new place ≡ (wanted || is_set_at old place)
+    → ((k : ℕ) → k ≢ place → is_set_at new k ≡ is_set_at old k) → (wanted ≡ true → So) → is_set_at new i ≡ true → (is_set_at old i ≡ true) ⊎ ((i ≡ place) × So)
+place-wanted So old new wanted place i here others so set = go (cases_eq i place) (cases_Bool wanted)
+  where
+    go : (i ≡ place) ⊎ (i ≡ place → ⊥) → (wanted ≡ true) ⊎ (wanted ≡ false) → (is_set_at old i ≡ true) ⊎ ((i ≡ place) × So)
+    go (inl e) (inl is) = inr (e, so is)
+    go (inl e) (inr none) =
+        inl (ap (is_set_at old) e ∙ sym (ap (λ (b : Bool). b || is_set_at old place) none) ∙ sym here ∙ ap (is_set_at new) (sym e) ∙ set)
+    go (inr other) w = inl (sym (others i other) ∙ set)
 
 -- ---- the words of the slots, word by word of the live ones
 

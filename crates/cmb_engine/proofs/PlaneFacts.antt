@@ -88,3 +88,7 @@ planes-known [] unknown same clear = refl
 planes-known (mask ∷ ones) [] same clear = absurd (omega (arith, same))
 planes-known (mask ∷ ones) (other ∷ unknown) same clear =
     ap₂ (λ (o : ℕ) (rest : List Planes). record { ones = mask; unknown = o } ∷ rest) (clear 0) (planes-known ones unknown (omega (arith, same)) (λ slot. clear (suc slot)))
+
+-- there are as many ones as words
+pub as-many : (words : List Planes) (ones unknown items : List ℕ) → items ≡ ones → length unknown ≡ length ones → planes_in ones unknown ≡ words → length items ≡ length words
+as-many words ones unknown items value same is = ap length value ∙ sym (planes-length ones unknown same) ∙ ap length is

@@ -23,9 +23,9 @@ use cmb_design_model::Clock;
 use cmb_netlist::Kind;
 use cmb_words::{Places, Word, completed_known, gate2_known, held_known, join_known, spliced};
 
-// The word with these ones, and x nowhere.
+/// The word with these ones, and x nowhere.
 #[inline]
-fn known(ones: u64) -> Word
+pub(crate) fn known(ones: u64) -> Word
     ensures { (i : ℕ) → level_at_place result i ≡ level_in ones 0 i }
 {
     Word { ones, unknown: 0 }

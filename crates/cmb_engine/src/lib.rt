@@ -15,6 +15,7 @@ mod flops;
 mod given;
 mod group;
 mod known;
+mod known_passes;
 pub mod laws;
 mod lines;
 mod marks;

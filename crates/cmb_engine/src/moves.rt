@@ -1,7 +1,7 @@
 //! What stands in words where a window begins, and which slots have news then.
 
 ghost use Rattle.std.specs.Prelude.{◌≡◌, ◌≢◌, ℕ, ◌+◌, ◌*◌, ◌<◌, ◌≤◌, ◌⊎◌, true, [], length, min, slice_index_or};
-ghost use Rattle.cmb_engine.specs.Inner.Batches.{IsSetAt};
+ghost use Rattle.cmb_engine.specs.Inner.Batches.{Moves};
 ghost use Rattle.cmb_engine.specs.Inner.Bits.{has};
 ghost use Rattle.cmb_engine.specs.Inner.Cells.{AreBelow, AreMarked, IsSteadyFrom};
 ghost use Rattle.cmb_engine.specs.Inner.Circuits.{AreQuiet};
@@ -52,6 +52,34 @@ fn move_slot(
 
 // Moves the words of some slots on, and marks what reads those that change at a place or after it. The places of those
 // that have one level in all places then.
+fn move_any(
+    words: &mut Words,
+    batch: Marked,
+    readers: &Readers,
+    marks: &mut Marks,
+    ticks: u32,
+    first: u32,
+) -> u64
+    requires lists { length readers.now ≡ length words.old }
+    requires within { AreBelow (64 * length marks.old) readers.now }
+    requires ticks { ticks < 64 }
+    requires begun { 1 ≤ first }
+    requires first { first < 64 }
+    ensures len { length words.new ≡ length words.old }
+    ensures moves { Moves readers.now batch.base batch.places result (length words.old) ticks first marks.old marks.new
+        (levels_of words.old) (levels_of words.new) }
+{
+    let mut steady = 0;
+    for place in Places::of(batch.places) {
+        let slot = batch.base + place as usize;
+        if slot < words.len() && move_slot(words, slot, readers, marks, ticks, first) {
+            steady |= 1 << place;
+        }
+    }
+    steady
+}
+
+// The same, by the quicker way where no level is x.
 fn move_word(
     words: &mut Words,
     batch: Marked,
@@ -66,25 +94,13 @@ fn move_word(
     requires begun { 1 ≤ first }
     requires first { first < 64 }
     ensures len { length words.new ≡ length words.old }
-    ensures room { length marks.new ≡ length marks.old }
-    ensures kept { (m : ℕ) → has marks.old m ≡ true → has marks.new m ≡ true }
-    ensures others { (slot place : ℕ) → (IsSetAt batch.base batch.places slot → ⊥)
-        → levels_of words.new slot place ≡ levels_of words.old slot place }
-    ensures moved { (slot place : ℕ) → IsSetAt batch.base batch.places slot → place < 64
-        → levels_of words.new slot place ≡ levels_of words.old slot (min (place + ticks) 63) }
-    ensures steady { (slot : ℕ) → IsSetAt batch.base result slot → IsSteadyFrom (levels_of words.new slot) 1 }
-    ensures news { (slot : ℕ) → IsSetAt batch.base batch.places slot → slot < length words.old
-        → IsSteadyFrom (levels_of words.new slot) first
-        ⊎ AreMarked (has marks.new) (slice_index_or readers.now slot []) }
+    ensures moves { Moves readers.now batch.base batch.places result (length words.old) ticks first marks.old marks.new
+        (levels_of words.old) (levels_of words.new) }
 {
-    let mut steady = 0;
-    for place in Places::of(batch.places) {
-        let slot = batch.base + place as usize;
-        if slot < words.len() && move_slot(words, slot, readers, marks, ticks, first) {
-            steady |= 1 << place;
-        }
+    match words.move_known(batch, readers, marks, ticks, first) {
+        Some(steady) => steady,
+        None => move_any(words, batch, readers, marks, ticks, first),
     }
-    steady
 }
 
 /// Moves the words on by so many ticks: the levels of the live slots go to earlier places, and behind them the last one

@@ -1,10 +1,10 @@
 //! The words of slots.
 
-ghost use Rattle.std.specs.Prelude.{◌≡◌, ◌<◌, ℕ, true, List, IfNone, IfOk, IfSome, length, map, replicate};
+ghost use Rattle.std.specs.Prelude.{◌≡◌, ◌*◌, ◌<◌, ◌≤◌, ℕ, true, List, IfNone, IfOk, IfSome, length, map, replicate};
 ghost use Rattle.std.specs.Prelude.{slice_index, slice_index_or, slice_set};
 ghost use Rattle.cmb_engine.specs.Inner.Arrivals.{IsArrival};
-ghost use Rattle.cmb_engine.specs.Inner.Batches.{Makes};
-ghost use Rattle.cmb_engine.specs.Inner.Cells.{Cell, cell_at, IsLawful};
+ghost use Rattle.cmb_engine.specs.Inner.Batches.{Makes, Moves};
+ghost use Rattle.cmb_engine.specs.Inner.Cells.{AreBelow, Cell, cell_at, IsLawful};
 ghost use Rattle.cmb_engine.specs.Inner.Orders.{IsOrder};
 ghost use Rattle.cmb_engine.specs.Inner.Planes.{Planes, planes_of};
 ghost use Rattle.cmb_engine.specs.Inner.Windows.{HasWindow};
@@ -13,8 +13,10 @@ ghost use Rattle.cmb_engine.specs.Inner.Words.{levels_of};
 use crate::arrivals::Arrival;
 use crate::cells::Cells;
 use crate::known::make_known;
-use crate::marks::Marked;
+use crate::known_passes::move_known;
+use crate::marks::{Marked, Marks};
 use crate::order::Order;
+use crate::readers::Readers;
 use cmb_words::Word;
 use std::alloc::{AllocError, Global};
 use std::marker::Model;
@@ -152,5 +154,32 @@ impl Words {
             return None;
         }
         Some(make_known(nodes, order, &mut self.ones, last, batch, to, first))
+    }
+
+    /// Moves the words of some slots on where no level is x, and marks what reads those that change at a place or after
+    /// it. The places of those that have one level in all places then. Where a level may be x nothing is done, and
+    /// nothing said.
+    pub(crate) fn move_known(
+        &mut self,
+        batch: Marked,
+        readers: &Readers,
+        marks: &mut Marks,
+        ticks: u32,
+        first: u32,
+    ) -> Option<u64>
+        requires lists { length readers.now ≡ length self.old }
+        requires within { AreBelow (64 * length marks.old) readers.now }
+        requires ticks { ticks < 64 }
+        requires begun { 1 ≤ first }
+        requires first { first < 64 }
+        ensures len { length self.new ≡ length self.old }
+        ensures none { IfNone result ((self.new ≡ self.old) × (marks.new ≡ marks.old)) }
+        ensures moves { IfSome result (λ steady. Moves readers.now batch.base batch.places steady (length self.old)
+            ticks first marks.old marks.new (levels_of self.old) (levels_of self.new)) }
+    {
+        if !self.known {
+            return None;
+        }
+        Some(move_known(&mut self.ones, batch, readers, marks, ticks, first))
     }
 }

@@ -1,9 +1,9 @@
 -- What visits of a batch of slots leave: those of one level that a word of marks has.
-use Rattle.std.specs.Prelude.{◌≡◌, ◌*◌, ℕ, ◌+◌, ◌<◌, ◌≤◌, ◌⊎◌, Bool, true, false, List, [], length, slice_index_or}
+use Rattle.std.specs.Prelude.{◌≡◌, ◌*◌, ℕ, ◌+◌, ◌<◌, ◌≤◌, ◌⊎◌, Bool, true, false, List, [], length, min, slice_index_or}
 use Rattle.cmb_wave.specs.declared.level.Level.{Level}
 use Rattle.cmb_words.specs.Bits.{is_set_at}
 use Rattle.cmb_engine.specs.Inner.Bits.{has, HasNone}
-use Rattle.cmb_engine.specs.Inner.Cells.{Cell, AreClosed, AreMarked, IsReady, IsSettled, IsTrueBelow, KeepsTold, Relies, is_made}
+use Rattle.cmb_engine.specs.Inner.Cells.{Cell, AreClosed, AreMarked, IsReady, IsSettled, IsSteadyFrom, IsTrueBelow, KeepsTold, Relies, is_made}
 use Rattle.cmb_engine.specs.Inner.Orders.{Order, IsAt}
 
 -- a number is one of the set places of a word, counted from a number on
@@ -53,3 +53,14 @@ pub record Passes (order : Order) (base news : ℕ) (gate_lists flop_lists : Lis
   pub lives : (slot : ℕ) → IsAt order base news slot → has new_live slot ≡ true
   pub gates : (slot : ℕ) → IsAt order base news slot → AreMarked (has new_marks) (slice_index_or gate_lists slot [])
   pub flops : open_window ≡ true → (slot : ℕ) → IsAt order base news slot → AreMarked (has new_marks) (slice_index_or flop_lists slot [])
+
+-- the words of the slots at some places moved on by so many ticks, and `steady` has the places of such as have one level then; what
+-- reads a slot was marked, where its word changes at a place or after it
+pub record Moves (lists : List (List ℕ)) (base places steady count ticks first : ℕ) (old_marks new_marks : List ℕ) (old new : ℕ → ℕ → Level) : Type 0 where
+  pub room : length new_marks ≡ length old_marks
+  pub kept : (m : ℕ) → has old_marks m ≡ true → has new_marks m ≡ true
+  pub others : (slot place : ℕ) → (IsSetAt base places slot → ⊥) → new slot place ≡ old slot place
+  pub moved : (slot place : ℕ) → IsSetAt base places slot → place < 64 → new slot place ≡ old slot (min (place + ticks) 63)
+  pub still : (slot : ℕ) → IsSetAt base steady slot → IsSteadyFrom (new slot) 1
+  pub news : (slot : ℕ) → IsSetAt base places slot → slot < count
+      → IsSteadyFrom (new slot) first ⊎ AreMarked (has new_marks) (slice_index_or lists slot [])

@@ -12,16 +12,16 @@ words-preserved c =
     record {
       len = c.move_word-steady.ensures.len ∙ c.words.invariant.len;
       live = c.take_places.ensures.len ∙ c.words.invariant.live;
-      room = c.move_word-steady.ensures.room ∙ c.words.invariant.room;
-      kept = λ m h. c.move_word-steady.ensures.kept m (c.words.invariant.kept m h);
-      moved = moved-word c.words.live (walked c.words.walk) _ batch.base batch.places word (levels_of c.words.words) (levels_of c.move_word-steady.new.words) c.move_word-steady.ensures.others
-          (levels_of c.args.words.now) (length c.args.words.now) c.args.ticks c.move_word-steady.ensures.moved c.words.invariant.quiet c.words.invariant.moved;
-      quiet = quiet-word c.words.live (walked c.words.walk) _ batch.base batch.places word (levels_of c.words.words) (levels_of c.move_word-steady.new.words) c.move_word-steady.ensures.others
-          c.take_places.new.self c.move_word-steady.result c.take_places.ensures.has c.move_word-steady.ensures.steady (length c.args.words.now) c.words.invariant.quiet;
-      told = told-word c.words.live (walked c.words.walk) _ batch.base batch.places word (levels_of c.words.words) (levels_of c.move_word-steady.new.words) c.move_word-steady.ensures.others
-          c.take_places.new.self c.move_word-steady.result c.take_places.ensures.has c.move_word-steady.ensures.steady c.args.readers.now c.words.marks c.move_word-steady.new.marks
-          (length c.args.words.now) c.args.first c.move_word-steady.ensures.kept
-          (λ slot set inside. c.move_word-steady.ensures.news slot set (omega (arith, inside, c.words.invariant.len))) c.words.invariant.told;
+      room = c.move_word-steady.ensures.moves.room ∙ c.words.invariant.room;
+      kept = λ m h. c.move_word-steady.ensures.moves.kept m (c.words.invariant.kept m h);
+      moved = moved-word c.words.live (walked c.words.walk) _ batch.base batch.places word (levels_of c.words.words) (levels_of c.move_word-steady.new.words) c.move_word-steady.ensures.moves.others
+          (levels_of c.args.words.now) (length c.args.words.now) c.args.ticks c.move_word-steady.ensures.moves.moved c.words.invariant.quiet c.words.invariant.moved;
+      quiet = quiet-word c.words.live (walked c.words.walk) _ batch.base batch.places word (levels_of c.words.words) (levels_of c.move_word-steady.new.words) c.move_word-steady.ensures.moves.others
+          c.take_places.new.self c.move_word-steady.result c.take_places.ensures.has c.move_word-steady.ensures.moves.still (length c.args.words.now) c.words.invariant.quiet;
+      told = told-word c.words.live (walked c.words.walk) _ batch.base batch.places word (levels_of c.words.words) (levels_of c.move_word-steady.new.words) c.move_word-steady.ensures.moves.others
+          c.take_places.new.self c.move_word-steady.result c.take_places.ensures.has c.move_word-steady.ensures.moves.still c.args.readers.now c.words.marks c.move_word-steady.new.marks
+          (length c.args.words.now) c.args.first c.move_word-steady.ensures.moves.kept
+          (λ slot set inside. c.move_word-steady.ensures.moves.news slot set (omega (arith, inside, c.words.invariant.len))) c.words.invariant.told;
     }
 
 pub returns-clause-moved : goal.returns-clause-moved

@@ -6,12 +6,8 @@ use Rattle.cmb_engine.specs.Inner.Cells.{cell_at, IsLawful}
 use Rattle.cmb_engine.specs.Inner.Known.{known_planes}
 use Rattle.cmb_engine.specs.Inner.Planes.{Planes, planes_in}
 use Rattle.cmb_engine.specs.Inner.Words.{levels_of}
-use Rattle.cmb_engine.proofs.PlaneFacts.{planes-known, planes-length}
+use Rattle.cmb_engine.proofs.PlaneFacts.{as-many, planes-known, planes-length}
 use Rattle.cmb_engine.proofs.words.Words.make_known.Goals as goal
-
--- there are as many ones as words
-as-many : (words : List Planes) (ones unknown items : List ℕ) → items ≡ ones → length unknown ≡ length ones → planes_in ones unknown ≡ words → length items ≡ length words
-as-many words ones unknown items value same is = ap length value ∙ sym (planes-length ones unknown same) ∙ ap length is
 
 pub make_known-requires-clause-ranked : goal.make_known-requires-clause-ranked
 make_known-requires-clause-ranked c =

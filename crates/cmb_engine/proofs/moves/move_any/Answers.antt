@@ -2,9 +2,9 @@ use Rattle.std.proofs.Common.{◌≡◌, ◌+◌, ◌∙◌, inl, refl, sym, ari
 use Rattle.cmb_words.specs.Bits.{places_set}
 use Rattle.cmb_engine.specs.Inner.Cells.{IsSteadyFrom}
 use Rattle.cmb_engine.specs.Inner.Words.{levels_of}
-use Rattle.cmb_engine.proofs.MoveFacts.{levels_of-past, moving-all, moving-next, moving-none, moving-small, place-more}
-use Rattle.cmb_engine.proofs.moves.move_word.Goals as goal
-use Rattle.cmb_engine.proofs.moves.move_word.Goals.{else-slot-len-via-then-slot-len+else-move_slot, else-slot-len-via-else-slot-len}
+use Rattle.cmb_engine.proofs.MoveFacts.{levels_of-past, moving-moves, moving-next, moving-none, moving-small, place-more}
+use Rattle.cmb_engine.proofs.moves.move_any.Goals as goal
+use Rattle.cmb_engine.proofs.moves.move_any.Goals.{else-slot-len-via-then-slot-len+else-move_slot, else-slot-len-via-else-slot-len}
 
 pub loop-place-init : goal.loop-place-init
 loop-place-init c =
@@ -68,19 +68,7 @@ loop-place-preserved c =
       })
     ]
 
-pub returns-clause-moved : goal.returns-clause-moved
-returns-clause-moved c = λ slot place set small.
-    let h = c.loop-place.invariant.moving in
-    h.moving.moved slot place set
-    (moving-all c.args.readers.now c.args.batch.base c.args.batch.places c.loop-place.steady (length c.args.words.now) c.args.ticks c.args.first c.loop-place.place-iterator c.loop-place.marks
-    (levels_of c.args.words.now) (levels_of c.loop-place.words) h c.in-None.ensures.steps.0 slot set) small
-
-pub returns-clause-steady : goal.returns-clause-steady
-returns-clause-steady c = λ slot set. (c.loop-place.invariant.moving.moving.still slot set).1
-
-pub returns-clause-news : goal.returns-clause-news
-returns-clause-news c = λ slot set inside.
-    let h = c.loop-place.invariant.moving in
-    h.moving.news slot set
-    (moving-all c.args.readers.now c.args.batch.base c.args.batch.places c.loop-place.steady (length c.args.words.now) c.args.ticks c.args.first c.loop-place.place-iterator c.loop-place.marks
-    (levels_of c.args.words.now) (levels_of c.loop-place.words) h c.in-None.ensures.steps.0 slot set) inside
+pub returns-clause-moves : goal.returns-clause-moves
+returns-clause-moves c =
+    moving-moves c.args.readers.now c.args.batch.base c.args.batch.places c.loop-place.steady (length c.args.words.now) c.args.ticks c.args.first c.loop-place.place-iterator c.args.marks.now c.loop-place.marks
+    (levels_of c.args.words.now) (levels_of c.loop-place.words) c.loop-place.invariant.room c.loop-place.invariant.kept c.loop-place.invariant.moving c.in-None.ensures.steps.0

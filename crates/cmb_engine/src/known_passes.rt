@@ -1,0 +1,99 @@
+//! The passes over live slots where no level is x: of a word, the places that are 1 say all.
+
+ghost use Rattle.std.specs.Prelude.{◌≡◌, ◌≢◌, ℕ, ◌+◌, ◌*◌, ◌<◌, ◌≤◌, ◌⊎◌, true, [], length, min};
+ghost use Rattle.std.specs.Prelude.{slice_index_or};
+ghost use Rattle.cmb_words.specs.Bits.{level_in};
+ghost use Rattle.cmb_engine.specs.Inner.Batches.{Moves};
+ghost use Rattle.cmb_engine.specs.Inner.Bits.{has};
+ghost use Rattle.cmb_engine.specs.Inner.Cells.{AreBelow, AreMarked, IsSteadyFrom};
+ghost use Rattle.cmb_engine.specs.Inner.Known.{known_levels};
+
+use crate::known::known;
+use crate::marks::{Marked, Marks};
+use crate::readers::Readers;
+use crate::settle::{mark_all, with_place};
+use cmb_words::Places;
+
+// The ones of the word that begins so many ticks later.
+#[inline]
+fn advanced_ones(ones: u64, ticks: u32) -> u64
+    requires { ticks < 64 }
+    ensures { (i : ℕ) → i < 64 → level_in result 0 i ≡ level_in ones 0 (min (i + ticks) 63) }
+{
+    known(ones).advanced(ticks).ones
+}
+
+// Whether all places from one on have the level of the place before it.
+#[inline]
+fn are_steady_from(ones: u64, place: u32) -> bool
+    requires least { 1 ≤ place }
+    requires most { place < 64 }
+    ensures { result ≡ true → IsSteadyFrom (level_in ones 0) place }
+{
+    known(ones).is_steady_from(place)
+}
+
+// Moves the word of a slot on, and marks what reads it where it changes at a place or after it. Whether it has one
+// level in all places then.
+#[inline]
+fn move_known_slot(
+    ones: &mut [u64],
+    slot: usize,
+    readers: &Readers,
+    marks: &mut Marks,
+    ticks: u32,
+    first: u32,
+) -> bool
+    requires slot { slot < length ones.old }
+    requires lists { length readers.now ≡ length ones.old }
+    requires within { AreBelow (64 * length marks.old) readers.now }
+    requires ticks { ticks < 64 }
+    requires begun { 1 ≤ first }
+    requires first { first < 64 }
+    ensures len { length ones.new ≡ length ones.old }
+    ensures room { length marks.new ≡ length marks.old }
+    ensures kept { (m : ℕ) → has marks.old m ≡ true → has marks.new m ≡ true }
+    ensures others { (m place : ℕ) → m ≢ slot → known_levels ones.new m place ≡ known_levels ones.old m place }
+    ensures moved { (place : ℕ) → place < 64
+        → known_levels ones.new slot place ≡ known_levels ones.old slot (min (place + ticks) 63) }
+    ensures steady { result ≡ true → IsSteadyFrom (known_levels ones.new slot) 1 }
+    ensures news { IsSteadyFrom (known_levels ones.new slot) first
+        ⊎ AreMarked (has marks.new) (slice_index_or readers.now slot []) }
+{
+    let moved = advanced_ones(ones[slot], ticks);
+    ones[slot] = moved;
+    if !are_steady_from(moved, first) {
+        mark_all(marks, readers.of(slot));
+    }
+    are_steady_from(moved, 1)
+}
+
+/// Moves the words of some slots on, and marks what reads those that change at a place or after it. The places of those
+/// that have one level in all places then.
+pub(crate) fn move_known(
+    ones: &mut [u64],
+    batch: Marked,
+    readers: &Readers,
+    marks: &mut Marks,
+    ticks: u32,
+    first: u32,
+) -> u64
+    requires lists { length readers.now ≡ length ones.old }
+    requires within { AreBelow (64 * length marks.old) readers.now }
+    requires ticks { ticks < 64 }
+    requires begun { 1 ≤ first }
+    requires first { first < 64 }
+    ensures len { length ones.new ≡ length ones.old }
+    ensures moves { Moves readers.now batch.base batch.places result (length ones.old) ticks first marks.old marks.new
+        (known_levels ones.old) (known_levels ones.new) }
+{
+    let mut steady = 0;
+    for place in Places::of(batch.places) {
+        let slot = batch.base + place as usize;
+        if slot < ones.len() {
+            let is_still = move_known_slot(ones, slot, readers, marks, ticks, first);
+            steady = with_place(steady, place, is_still);
+        }
+    }
+    steady
+}
