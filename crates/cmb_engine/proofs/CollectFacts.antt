@@ -1,5 +1,5 @@
 -- Which nets changed in a window, and what their words tell.
-use Rattle.std.proofs.Common.{◌≡◌, ℕ, zero, suc, ◌+◌, ◌-◌, ◌*◌, ◌<◌, ◌≤◌, ◌⊎◌, inl, inr, Bool, false, List, [], ◌∷◌, ◌++◌, length, get_or, min, sym, ap, subst, ◌∙◌, arith}
+use Rattle.std.proofs.Common.{◌≡◌, ℕ, zero, suc, ◌+◌, ◌-◌, ◌*◌, ◌<◌, ◌≤◌, ◌⊎◌, inl, inr, Bool, false, List, [], ◌∷◌, ◌++◌, get_or, min, sym, ap, subst, ◌∙◌, arith}
 use Rattle.std.specs.Prelude.{◌==◌}
 use Rattle.std.specs.List.{All}
 use Rattle.std.proofs.lemmas.Bool.{cases_lt, eq-eqb, false≢true, or_parts}
@@ -14,19 +14,16 @@ use Rattle.cmb_words.specs.declared.word.Word.{Word}
 use Rattle.cmb_words.proofs.Rising.{rises-push, rises-wider, rises_at}
 use Rattle.cmb_words.proofs.StillFacts.{still-ticks, ticks-still}
 use Rattle.cmb_words.proofs.TellsFacts.{levels-tell}
-use Rattle.cmb_engine.specs.Inner.Planes.{Planes, planes_of}
 use Rattle.cmb_engine.specs.Inner.Batches.{IsNextWord}
 use Rattle.cmb_engine.specs.Inner.Bits.{has, HasNone}
 use Rattle.cmb_engine.specs.Inner.Cells.{IsSteadyFrom}
 use Rattle.cmb_engine.specs.Inner.Circuits.{AreQuiet, Shows}
 pub use Rattle.cmb_engine.specs.Inner.Collects.{HasWord}
 use Rattle.cmb_engine.specs.Inner.Collects.{IsCollected, IsMoved}
-use Rattle.cmb_engine.specs.Inner.Words.{levels_of}
 use Rattle.cmb_engine.specs.Shares.{EachChanges}
 use Rattle.cmb_engine.proofs.MoveFacts.{quiet-same}
 use Rattle.cmb_engine.proofs.PlaceFacts.{AreLeft, IsNextPlace, left-all, left-behind, left-next, left-none}
 use Rattle.cmb_engine.proofs.TruthFacts.{in_place-tick}
-use Rattle.cmb_engine.proofs.WordFacts.{levels_of-read}
 
 -- a slot that isn't live stays as it is
 pub quiet-steady : (words : ℕ → ℕ → Level) (live : ℕ → Bool) (count first net : ℕ) → first < 64 → AreQuiet words live count → net < count → live net ≡ false → IsSteadyFrom (words net) first
@@ -81,17 +78,12 @@ IsJudged first net word old new =
     ((new ≡ old) × IsSteadyFrom (level_at_place word) first) ⊎ ((new ≡ old ++ record { net = net; word = word } ∷ []) × (IsSteadyFrom (level_at_place word) first → ⊥))
 
 -- the next net is judged by its word
-pub collected-next : (words : List Planes) (first net : ℕ) (word : Word) (old new : List Changed) → net < length words → planes_of word ≡ get_or words net (planes_of word) → IsJudged first net word old new
-    → IsCollected (levels_of words) first net old → IsCollected (levels_of words) first (net + 1) new
-collected-next words first net word old new inside is judged so_far = by judged
-  where
-    at : (place : ℕ) → levels_of words net place ≡ level_at_place word place
-    at place = levels_of-read words net word place inside is
-
-    by : IsJudged first net word old new → IsCollected (levels_of words) first (net + 1) new
-    by (inl steady) =
-        rw steady.0 (collected-steady (levels_of words) first old net (λ place from l. at place ∙ steady.1 place from l ∙ sym (at (first - 1))) so_far)
-    by (inr pushed) = rw pushed.0 (collected-push (levels_of words) first old (record { net = net; word = word }) (λ place l. sym (at place)) pushed.1 so_far)
+pub collected-next : (words : ℕ → ℕ → Level) (first net : ℕ) (word : Word) (old new : List Changed) → ((place : ℕ) → words net place ≡ level_at_place word place) → IsJudged first net word old new
+    → IsCollected words first net old → IsCollected words first (net + 1) new
+collected-next words first net word old new at (inl steady) so_far =
+    rw steady.0 (collected-steady words first old net (λ place from l. at place ∙ steady.1 place from l ∙ sym (at (first - 1))) so_far)
+collected-next words first net word old new at (inr pushed) so_far =
+    rw pushed.0 (collected-push words first old (record { net = net; word = word }) (λ place l. sym (at place)) pushed.1 so_far)
 
 -- ---- the nets of a word, one after another
 

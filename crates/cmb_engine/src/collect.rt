@@ -10,6 +10,7 @@ ghost use Rattle.cmb_engine.specs.Inner.Circuits.{AreQuiet};
 ghost use Rattle.cmb_engine.specs.Inner.Collects.{IsCollected};
 ghost use Rattle.cmb_engine.specs.Inner.Words.{levels_of};
 
+use crate::known_passes::collect_known;
 use crate::marks::{Marked, Marks};
 use crate::walk::Walk;
 use crate::words::Words;
@@ -18,7 +19,7 @@ use cmb_words::{Changed, Places};
 use std::alloc::AllocError;
 
 // Tells those nets of a word, below a count of nets, that changed at a place or after it, behind the ones before them.
-fn collect_word(
+fn collect_any(
     words: &Words,
     batch: Marked,
     nets: usize,
@@ -49,6 +50,31 @@ fn collect_word(
         }
     }
     Ok(())
+}
+
+// The same, by the quicker way where no level is x.
+fn collect_word(
+    words: &Words,
+    batch: Marked,
+    nets: usize,
+    first: u32,
+    changed: &mut Vec<Changed>,
+) -> Result<(), AllocError>
+    requires nets { nets ≤ length words.now }
+    requires few { nets ≤ MAX_NETS }
+    requires begun { 1 ≤ first }
+    requires first { first < 64 }
+    requires base { batch.base < nets }
+    requires quiet { (place : ℕ) → place < 64 → is_set_at batch.places place ≡ false → batch.base + place < nets
+        → IsSteadyFrom (levels_of words.now (batch.base + place)) first }
+    requires collected { IsCollected (levels_of words.now) first batch.base changed.old.items }
+    ensures { OnOk result
+        (IsCollected (levels_of words.now) first (min (batch.base + 64) nets) changed.new.items) }
+{
+    match words.ones_if_known() {
+        Some(ones) => collect_known(ones, batch, nets, first, changed),
+        None => collect_any(words, batch, nets, first, changed),
+    }
 }
 
 /// Tells which of so many nets changed at a place or after it, each with its word, by rising number. What `changed` had

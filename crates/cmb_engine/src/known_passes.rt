@@ -1,18 +1,21 @@
 //! The passes over live slots where no level is x: of a word, the places that are 1 say all.
 
-ghost use Rattle.std.specs.Prelude.{◌≡◌, ◌≢◌, ℕ, ◌+◌, ◌*◌, ◌<◌, ◌≤◌, ◌⊎◌, true, [], length, min};
+ghost use Rattle.std.specs.Prelude.{◌≡◌, ◌≢◌, ℕ, ◌+◌, ◌*◌, ◌<◌, ◌≤◌, ◌⊎◌, true, false, [], length, min, OnOk};
 ghost use Rattle.std.specs.Prelude.{slice_index_or};
-ghost use Rattle.cmb_words.specs.Bits.{level_in};
+ghost use Rattle.cmb_words.specs.Bits.{is_set_at, level_in};
 ghost use Rattle.cmb_engine.specs.Inner.Batches.{Moves};
 ghost use Rattle.cmb_engine.specs.Inner.Bits.{has};
 ghost use Rattle.cmb_engine.specs.Inner.Cells.{AreBelow, AreMarked, IsSteadyFrom};
+ghost use Rattle.cmb_engine.specs.Inner.Collects.{IsCollected};
 ghost use Rattle.cmb_engine.specs.Inner.Known.{known_levels};
 
 use crate::known::known;
 use crate::marks::{Marked, Marks};
 use crate::readers::Readers;
 use crate::settle::{mark_all, with_place};
-use cmb_words::Places;
+use cmb_netlist::MAX_NETS;
+use cmb_words::{Changed, Places};
+use std::alloc::AllocError;
 
 // The ones of the word that begins so many ticks later.
 #[inline]
@@ -96,4 +99,38 @@ pub(crate) fn move_known(
         }
     }
     steady
+}
+
+/// Tells those nets of a word, below a count of nets, that changed at a place or after it, behind the ones before them.
+pub(crate) fn collect_known(
+    ones: &[u64],
+    batch: Marked,
+    nets: usize,
+    first: u32,
+    changed: &mut Vec<Changed>,
+) -> Result<(), AllocError>
+    requires nets { nets ≤ length ones.now }
+    requires few { nets ≤ MAX_NETS }
+    requires begun { 1 ≤ first }
+    requires first { first < 64 }
+    requires base { batch.base < nets }
+    requires quiet { (place : ℕ) → place < 64 → is_set_at batch.places place ≡ false → batch.base + place < nets
+        → IsSteadyFrom (known_levels ones.now (batch.base + place)) first }
+    requires collected { IsCollected (known_levels ones.now) first batch.base changed.old.items }
+    ensures { OnOk result
+        (IsCollected (known_levels ones.now) first (min (batch.base + 64) nets) changed.new.items) }
+{
+    for place in Places::of(batch.places) {
+        let net = batch.base + place as usize;
+        if net < nets {
+            let word = known(ones[net]);
+            if !word.is_steady_from(first) {
+                changed.push(Changed {
+                    net: net as u16,
+                    word,
+                })?;
+            }
+        }
+    }
+    Ok(())
 }

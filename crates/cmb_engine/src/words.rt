@@ -5,6 +5,7 @@ ghost use Rattle.std.specs.Prelude.{slice_index, slice_index_or, slice_set};
 ghost use Rattle.cmb_engine.specs.Inner.Arrivals.{IsArrival};
 ghost use Rattle.cmb_engine.specs.Inner.Batches.{Makes, Moves};
 ghost use Rattle.cmb_engine.specs.Inner.Cells.{AreBelow, Cell, cell_at, IsLawful};
+ghost use Rattle.cmb_engine.specs.Inner.Known.{known_planes};
 ghost use Rattle.cmb_engine.specs.Inner.Orders.{IsOrder};
 ghost use Rattle.cmb_engine.specs.Inner.Planes.{Planes, planes_of};
 ghost use Rattle.cmb_engine.specs.Inner.Windows.{HasWindow};
@@ -103,6 +104,14 @@ impl Words {
             self.unknown[slot] = word.unknown;
             self.known = false;
         }
+    }
+
+    /// The places of each word that are 1, where no level is x.
+    #[inline]
+    pub(crate) fn ones_if_known(&self) -> Option<&[u64]>
+        ensures { IfSome result (λ ones. self.now ≡ known_planes ones.now) }
+    {
+        if self.known { Some(&self.ones) } else { None }
     }
 
     // Looks whether no level is x any more, once the pause is over.

@@ -1,0 +1,6 @@
+use Rattle.cmb_engine.specs.Inner.Known.{known_levels}
+use Rattle.cmb_engine.proofs.CollectFacts.{IsCollecting}
+use Rattle.cmb_engine.proofs.known_passes.collect_known.Given as goal
+
+abbrev pub invariant-loop-place : goal.invariant-loop-place
+invariant-loop-place l = IsCollecting (known_levels l.ones) l.first l.batch.base l.batch.places l.nets l.place-iterator l.changed.items
