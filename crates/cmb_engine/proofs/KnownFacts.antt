@@ -1,8 +1,11 @@
 -- Words of which none is x anywhere, by the places that are 1.
-use Rattle.std.proofs.Common.{◌≡◌, ℕ, zero, suc, ◌-◌, ◌<◌, ◌≢◌, List, [], ◌∷◌, length, get_or, set, refl, sym, ap, ◌∙◌, arith}
+use Rattle.std.proofs.Common.{◌≡◌, ℕ, zero, suc, ◌+◌, ◌-◌, ◌/◌, ◌^◌, ◌<◌, ◌≤◌, ◌≢◌, List, [], ◌∷◌, length, get_or, set, refl, sym, ap, ap₂, ◌∙◌, arith}
 use Rattle.cmb_words.specs.declared.word.Word.{Word}
-use Rattle.cmb_words.specs.Bits.{level_in}
+use Rattle.std.proofs.lemmas.Nat.Bits.{bit_at-zero}
+use Rattle.std.specs.Int.{bit_at}
+use Rattle.cmb_words.specs.Bits.{level_in, level_of_bits}
 use Rattle.cmb_words.specs.Word.{level_at_place}
+use Rattle.cmb_words.proofs.BitFacts.{shr_bit}
 use Rattle.cmb_words.proofs.GateFacts.{is_known, known-level, level-known}
 use Rattle.cmb_engine.specs.Inner.Cells.{IsSteadyFrom}
 use Rattle.cmb_engine.specs.Inner.Known.{known_levels, known_planes}
@@ -39,3 +42,16 @@ known-length (w ∷ words) = ap suc (known-length words)
 pub known-steady : (words : List ℕ) (net ones first : ℕ) → net < length words → IsSteadyFrom (level_in ones 0) first → IsSteadyFrom (known_levels (set words net ones) net) first
 known-steady words net ones first inside steady place from small =
     known-same words net ones place inside ∙ steady place from small ∙ sym (known-same words net ones (first - 1) inside)
+
+-- a word repeats the level before a place from there on, if it has the bits there of a mask that are all alike
+pub steady-as : (ones mask first : ℕ) → first < 64 → ones / 2 ^ (first - 1) ≡ mask / 2 ^ (first - 1) → ((i : ℕ) → i < 64 → bit_at mask i ≡ bit_at mask 0) → IsSteadyFrom (level_in ones 0) first
+unfolding level_in
+steady-as ones mask first small is alike place from inside =
+    ap₂ level_of_bits (at place (omega (arith, from)) ∙ alike place inside ∙ sym (alike (first - 1) (omega (arith, small))) ∙ sym (at (first - 1) (omega arith)))
+    (bit_at-zero place ∙ sym (bit_at-zero (first - 1)))
+  where
+    at : (i : ℕ) → first - 1 ≤ i → bit_at ones i ≡ bit_at mask i
+    at i late =
+        let e : first - 1 + (i - (first - 1)) ≡ i = omega (arith, late) in
+        ap (bit_at ones) (sym e) ∙ sym (shr_bit ones (first - 1) (i - (first - 1))) ∙ ap (λ (n : ℕ). bit_at n (i - (first - 1))) is
+        ∙ shr_bit mask (first - 1) (i - (first - 1)) ∙ ap (bit_at mask) e

@@ -33,7 +33,20 @@ fn are_steady_from(ones: u64, place: u32) -> bool
     requires most { place < 64 }
     ensures { result ≡ true → IsSteadyFrom (level_in ones 0) place }
 {
-    known(ones).is_steady_from(place)
+    let levels = ones >> (place - 1);
+    levels == 0 || levels == u64::MAX >> (place - 1)
+}
+
+// Marks what reads a slot, out of line, so that what goes over slots keeps its values in registers.
+#[inline(never)]
+fn mark_readers(marks: &mut Marks, readers: &Readers, slot: usize)
+    requires slot { slot < length readers.now }
+    requires within { AreBelow (64 * length marks.old) readers.now }
+    ensures len { length marks.new ≡ length marks.old }
+    ensures kept { (m : ℕ) → has marks.old m ≡ true → has marks.new m ≡ true }
+    ensures marked { AreMarked (has marks.new) (slice_index_or readers.now slot []) }
+{
+    mark_all(marks, readers.of(slot));
 }
 
 // Moves the word of a slot on, and marks what reads it where it changes at a place or after it. Whether it has one
@@ -66,7 +79,7 @@ fn move_known_slot(
     let moved = advanced_ones(ones[slot], ticks);
     ones[slot] = moved;
     if !are_steady_from(moved, first) {
-        mark_all(marks, readers.of(slot));
+        mark_readers(marks, readers, slot);
     }
     are_steady_from(moved, 1)
 }

@@ -1,6 +1,4 @@
-use Rattle.std.proofs.Common.{ℕ, ◌+◌, List, inl, inr, min, subst, sym, ◌∙◌}
-use Rattle.cmb_engine.specs.Inner.Bits.{has}
-use Rattle.cmb_engine.specs.Inner.Cells.{AreMarked}
+use Rattle.std.proofs.Common.{◌+◌, inl, inr, min, sym, ◌∙◌}
 use Rattle.cmb_engine.proofs.KnownFacts.{known-other, known-read, known-same, known-steady}
 use Rattle.cmb_engine.proofs.known_passes.move_known_slot.Goals as goal
 use Rattle.cmb_engine.proofs.known_passes.move_known_slot.Goals.{then-not-are_steady_from, else-not-are_steady_from}
@@ -20,6 +18,6 @@ returns-clause-steady c = λ still. known-steady c.args.ones.now c.args.slot c.a
 pub returns-clause-news : goal.returns-clause-news
 returns-clause-news c =
     elim c.if-not-are_steady_from.branch [
-      | then-not-are_steady_from w ↦ rw w.marks-is (inr (subst (λ (numbers : List ℕ). AreMarked (has w.mark_all.new.marks) numbers) w.of.ensures w.mark_all.ensures.marked))
+      | then-not-are_steady_from w ↦ rw w.marks-is (inr w.mark_readers.ensures.marked)
       | else-not-are_steady_from w ↦ inl (known-steady c.args.ones.now c.args.slot c.advanced_ones-moved.result c.args.first c.requires.slot (c.are_steady_from.ensures w.if-not-are_steady_from.false))
     ]
