@@ -16,7 +16,7 @@ use Rattle.cmb_words.specs.Holds.{AreSamples, Holds}
 use Rattle.cmb_words.proofs.StillFacts.{ticks-still}
 use Rattle.cmb_words.proofs.TellsFacts.{levels-tell}
 use Rattle.cmb_engine.specs.Inner.Cells.{Cell, Told, Gate, Flop, cell_at, is_made, cell_level, IsLawful, IsSteadyFrom}
-use Rattle.cmb_engine.specs.Inner.Circuits.{cell_row, IsFlopOf, MeetsCells, Shows}
+use Rattle.cmb_engine.specs.Inner.Circuits.{cell_row, IsFlopAt, IsFlopOf, MeetsCells, Shows}
 use Rattle.cmb_engine.specs.Inner.Exports.{moved_on, slots_of, AddsSlots, AreTakenBefore, HoldsAhead}
 use Rattle.cmb_engine.specs.Inner.Windows.{in_place}
 use Rattle.cmb_engine.specs.Inner.Words.{levels_of}
@@ -56,7 +56,7 @@ moved-steady words ticks slot some place late small =
 
 -- so does a flip-flop's word, where its data have that level
 pub moved-rests : (words : ℕ → ℕ → Level) (slot ticks arrival : ℕ) (clock : Clock) (pin : Pin) → 1 ≤ ticks → ticks < 64 → pin.delay ≤ 64 - ticks → 64 - ticks ≤ arrival → 1 ≤ clock.period
-    → ((place : ℕ) → min (64 - pin.delay) 63 ≤ place → place < 64 → words pin.net place ≡ words slot 63) → HoldsAhead words (moved_on words ticks slot) ticks arrival slot (Flop clock pin)
+    → ((place : ℕ) → min (64 - pin.delay) 63 ≤ place → place < 64 → words pin.net place ≡ words slot 63) → HoldsAhead words (moved_on words ticks slot) ticks arrival slot clock pin
 moved-rests words slot ticks arrival clock pin some fits near later paced same =
     rests-held (moved_on words ticks slot) (moved_on words ticks pin.net) pin.delay arrival clock.period (64 - ticks)
     (record { least = omega (arith, fits); most = omega (arith, some); near = near; later = later; some = paced })
@@ -115,7 +115,7 @@ module _ (trace words : ℕ → ℕ → Level) (cells : List Cell) (count from t
 pub moved-held : (words : List Planes) (own input : Word) (slot ticks arrival : ℕ) (clock : Clock) (pin : Pin) (old_own old_input : Word) (held : ℕ → Level) → 1 ≤ ticks → ticks < 64
     → slot < length words → planes_of old_own ≡ get_or words slot (planes_of old_own) → pin.net < length words → planes_of old_input ≡ get_or words pin.net (planes_of old_input)
     → ((i : ℕ) → i < 64 → level_at_place own i ≡ level_at_place old_own (min (i + ticks) 63)) → ((i : ℕ) → i < 64 → level_at_place input i ≡ level_at_place old_input (min (i + ticks) 63))
-    → Holds (level_at_place own) (level_at_place input) held pin.delay arrival clock.period (64 - ticks) → HoldsAhead (levels_of words) held ticks arrival slot (Flop clock pin)
+    → Holds (level_at_place own) (level_at_place input) held pin.delay arrival clock.period (64 - ticks) → HoldsAhead (levels_of words) held ticks arrival slot clock pin
 moved-held words own input slot ticks arrival clock pin old_own old_input held some fits inside own_is within input_is own_moves input_moves holds = record {
   below = λ place l. holds.below place l ∙ own_moves place (omega arith) ∙ sym (levels_of-read words slot old_own (min (place + ticks) 63) inside own_is);
   from = λ place late small.
@@ -134,19 +134,12 @@ ArriveFrom clock delay to first arrival =
 module _ (trace words : ℕ → ℕ → Level) (cells : List Cell) (count from ticks to first : ℕ) (meets : MeetsCells trace (cell_at cells)) (shows : Shows words trace count from)
     (window : IsWindow from ticks to first 0) (clock : Clock) (delay : ℕ) (taken : AreTakenBefore clock delay to first) where
   -- the word of a flip-flop shows what it does
-  module _ (slot arrival : ℕ) (flop : IsFlopOf (cell_at cells slot) clock delay) (inside : slot < count) (lawful : IsLawful count first (cell_at cells slot))
-      (arrives : ArriveFrom clock delay to first arrival) (held : ℕ → Level) (holds : HoldsAhead words held ticks arrival slot (cell_at cells slot)) where
-    by_cell : (cell : Cell) → cell_at cells slot ≡ cell → IsFlopOf cell clock delay → IsLawful count first cell → HoldsAhead words held ticks arrival slot cell
-        → (place : ℕ) → place < 64 → held place ≡ in_place (trace slot) to place
-    by_cell Told is flop lawful holds = absurd flop
-    by_cell (Gate kind pins) is flop lawful holds = absurd flop
-    by_cell (Flop own pin) is flop lawful holds =
-        let here : first ≡ 64 - ticks = omega arith in
-        ahead-shows trace words cells count from ticks to first meets shows window slot own pin is inside lawful arrival
-        (λ place late small. rw (flop.0, flop.1) (arrives place late small)) (λ place late small. rw (flop.0, flop.1) (taken place late small)) held (rw here holds)
-
+  module _ (slot arrival net : ℕ) (flop : IsFlopAt cells clock delay slot net) (inside : slot < count) (lawful : IsLawful count first (Flop clock (record { net = net; delay = delay })))
+      (arrives : ArriveFrom clock delay to first arrival) (held : ℕ → Level) (holds : HoldsAhead words held ticks arrival slot clock (record { net = net; delay = delay })) where
     slot-shows : Shows (λ other. held) (λ other. trace slot) 1 to
-    slot-shows other place inside small = by_cell (cell_at cells slot) refl flop lawful holds place small
+    slot-shows other place small below =
+        let here : first ≡ 64 - ticks = omega arith in
+        ahead-shows trace words cells count from ticks to first meets shows window slot clock (record { net = net; delay = delay }) flop inside lawful arrival arrives taken held (rw here holds) place below
 
     begins : to + first - 64 ≡ from
     begins = omega arith

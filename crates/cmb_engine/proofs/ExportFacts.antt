@@ -165,6 +165,13 @@ module _ (design : Design) (circuit : Circuit) (is_circuit : IsCircuit design ci
       driven (inl h) = h
       driven (inr h) = absurd (false≢true (sym (is_circuit.plan.others slot small h) ∙ made))
 
+  -- so the slots of groups are some of the design's nets
+  pub exports-few : (exports : List Group) (bound : ℕ) → nets_of design ≤ bound → All (IsGroup circuit.wiring.cells) exports → All (λ group. All (λ slot. slot < bound) group.flops.items) exports
+  exports-few exports bound few are k d small n e within =
+      let slot : ℕ = get_or (get_or exports k d).flops.items n e in
+      let among = grouped-slot exports (get_or exports k d) slot (Contains-get_or exports k d small) (Contains-get_or (get_or exports k d).flops.items n e within) in
+      omega (arith, few, (flop-net slot (slots-flop circuit.wiring.cells exports slot are among)).0)
+
   -- and stands for what its driver makes
   pub driven-stands : (net : ℕ) → net < nets_of design → drives circuit.wiring.roles.items net ≡ true
       → CellStandsFor (nets_of design) circuit.lines.items circuit.wiring.most (cell_in design net) (cell_at circuit.wiring.cells net)

@@ -179,7 +179,6 @@ impl<'d> ShareEngine<'d> {
         let _nets = self.design.netlist().len();
         tell_groups(
             self.exports.as_slice(),
-            &self.circuit.wiring.cells,
             &self.state.words,
             told,
             upto - self.state.clock,

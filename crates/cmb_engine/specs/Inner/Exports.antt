@@ -7,9 +7,10 @@ use Rattle.cmb_engine.specs.Inner.Planes.{Planes}
 use Rattle.cmb_words.specs.Holds.{Holds}
 use Rattle.cmb_words.specs.Changes.{IsStill, TellsNet, is_among}
 use Rattle.cmb_engine.specs.Rows.{arrives_by}
-use Rattle.cmb_engine.specs.Inner.Cells.{Cell, Told, Gate, Flop, cell_at}
+use Rattle.cmb_engine.specs.Inner.Cells.{Cell, cell_at}
 use Rattle.cmb_engine.specs.Inner.Circuits.{MeetsCells, Shows}
 use Rattle.cmb_engine.specs.Inner.Words.{levels_of}
+use Rattle.cmb_engine.specs.declared.cell.Pin.{Pin}
 use Rattle.cmb_engine.specs.declared.group.Group.{Group}
 
 -- the slots of all groups
@@ -22,10 +23,8 @@ abbrev pub moved_on : (ℕ → ℕ → Level) → ℕ → ℕ → ℕ → Level
 moved_on words ticks slot place = words slot (min (place + ticks) 63)
 
 -- the word of a flip-flop so many ticks later, where samples arrive from a place on
-abbrev pub HoldsAhead : (ℕ → ℕ → Level) → (ℕ → Level) → ℕ → ℕ → ℕ → Cell → Type 0
-HoldsAhead words held ticks arrival slot Told = Unit {0}
-HoldsAhead words held ticks arrival slot (Gate kind pins) = Unit {0}
-HoldsAhead words held ticks arrival slot (Flop clock pin) =
+abbrev pub HoldsAhead : (ℕ → ℕ → Level) → (ℕ → Level) → ℕ → ℕ → ℕ → Clock → Pin → Type 0
+HoldsAhead words held ticks arrival slot clock pin =
     Holds (moved_on words ticks slot) (moved_on words ticks pin.net) held pin.delay arrival clock.period (64 - ticks)
 
 -- each sample that arrives in a window from a place on was taken before it
