@@ -1,6 +1,7 @@
 //! The nets with news: a set of numbers, of which the next one is found quickly.
 
-ghost use Rattle.std.specs.Prelude.{◌≡◌, ℕ, ◌+◌, ◌*◌, ◌/◌, ◌%◌, ◌^◌, ◌<◌, ◌≤◌, ◌||◌, ◌&&◌, ◌==◌, false, true, not, length};
+ghost use Rattle.std.specs.Prelude.{◌≡◌, ℕ, ◌+◌, ◌*◌, ◌/◌, ◌%◌, ◌^◌, ◌<◌, ◌≤◌, ◌||◌, ◌&&◌, ◌==◌, false, true};
+ghost use Rattle.std.specs.Prelude.{not, length};
 ghost use Rattle.std.specs.Prelude.{IfOk, MatchOption};
 ghost use Rattle.cmb_words.specs.Bits.{is_set_at};
 ghost use Rattle.cmb_engine.specs.Inner.Batches.{IsNextWord, IsSetAt, IsTaken};
