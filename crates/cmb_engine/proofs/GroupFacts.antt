@@ -2,7 +2,7 @@
 use Rattle.std.proofs.Common.{◌≡◌, ℕ, ◌+◌, ◌-◌, ◌<◌, ◌≤◌, ◌⊎◌, inl, inr, Bool, true, false, List, [], ◌∷◌, ◌++◌, ◌||◌, ◌&&◌, ◌==◌, length, set, get_or, refl, sym, ap, ap₂, subst, ◌∙◌, arith, length-append, length-set, get_or-set_same, get_or-set_other}
 use Rattle.std.specs.Prelude.{All, Contains, nat_le}
 use Rattle.std.specs.List.Sorted.{IsPermutation}
-use Rattle.std.proofs.lemmas.Bool.{and_left, cases_eq, eq-eqb, false≢true, lt-leb, or_left}
+use Rattle.std.proofs.lemmas.Bool.{and_left, cases_eq, cases_lt, eq-eqb, false≢true, lt-leb, or_left}
 use Rattle.std.proofs.lemmas.List.{get_or_default}
 use Rattle.std.proofs.lemmas.List.Elements.{All-push, AllZip-get_or, AllZip-push, Contains-append_left, Contains-push, length_all_zip}
 use Rattle.std.proofs.lemmas.List.Sorted.{All-permutation, Contains-permutation}
@@ -273,6 +273,34 @@ marks-one order old new words first slot pin rank is room inserted = record {
   kept = λ m. inserted-keeps old new rank m (inserted m);
   here = λ cells clock flop. inl (ap (has new) (sym is) ∙ inserted rank ∙ or_left (rank == rank) (has old rank) (eq-eqb rank rank refl));
 }
+
+-- the marks, while the flip-flops of a group are looked at one by one: so many of them are marked or rest
+pub record AreMarking (order : Order) (words : ℕ → ℕ → Level) (first : ℕ) (group : Group) (upto : ℕ) (old now : List ℕ) : Type 0 where
+  pub room : length now ≡ length old
+  pub kept : (m : ℕ) → has old m ≡ true → has now m ≡ true
+  pub marked : (cells : List Cell) → IsGroup cells group → (k : ℕ) → k < upto → IsMarkedOrRests (is_marked order now) words first cells (get_or group.flops.items k 0)
+
+module _ (order : Order) (words : ℕ → ℕ → Level) (first : ℕ) (group : Group) (k slot net : ℕ) (old now next : List ℕ)
+    (inside : k < length group.flops.items) (slot_is : slot ≡ get_or group.flops.items k slot) (net_is : net ≡ get_or group.sources.items k net)
+    (marking : AreMarking order words first group k old now) (one : MarksOne order now next words first slot (record { net = net; delay = group.delay })) where
+  marked-next : (cells : List Cell) → IsGroup cells group → (j : ℕ) → j < k + 1 → (j < k) ⊎ (k ≤ j) → IsMarkedOrRests (is_marked order next) words first cells (get_or group.flops.items j 0)
+  marked-next cells is j below (inl l) = rests-kept order now next words first cells (get_or group.flops.items j 0) one.kept (marking.marked cells is j l)
+  marked-next cells is j below (inr l) =
+      let at : k ≡ j = omega (arith, l, below) in
+      let here : slot ≡ get_or group.flops.items j 0 = slot_is ∙ get_or_default group.flops.items k slot 0 inside ∙ ap (λ n. get_or group.flops.items n 0) at in
+      subst (IsMarkedOrRests (is_marked order next) words first cells) here (one.here cells group.clock (group-read cells group is k slot net inside slot_is net_is))
+
+  pub marking-more : AreMarking order words first group (k + 1) old next
+  marking-more = record {
+    room = one.room ∙ marking.room;
+    kept = λ m h. one.kept m (marking.kept m h);
+    marked = λ cells is j below. marked-next cells is j below (cases_lt j k);
+  }
+
+pub marking-all : (order : Order) (words : ℕ → ℕ → Level) (first : ℕ) (group : Group) (upto : ℕ) (old now : List ℕ) → length group.flops.items ≤ upto → AreMarking order words first group upto old now
+    → (cells : List Cell) → IsGroup cells group → All (IsMarkedOrRests (is_marked order now) words first cells) group.flops.items
+marking-all order words first group upto old now all marking cells is k d small =
+    subst (λ (slot : ℕ). IsMarkedOrRests (is_marked order now) words first cells slot) (get_or_default group.flops.items k 0 d small) (marking.marked cells is k (omega (arith, all, small)))
 
 -- no place of a window is one at which samples arrive that do so first behind it
 pub none-arrives : (clock : Clock) (delay to first arrival place : ℕ) (others : ℕ → Bool) → 64 ≤ arrival → place < 64

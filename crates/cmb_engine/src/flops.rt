@@ -7,6 +7,7 @@ ghost use Rattle.cmb_engine.specs.Inner.Bits.{has};
 ghost use Rattle.cmb_engine.specs.Inner.Cells.{Cell, Flop, IsPace, IsSteady, cell_at};
 ghost use Rattle.cmb_engine.specs.Inner.Circuits.{AreFlops, AreMembers, IsGroup, IsGroupWithin, IsInGroup};
 ghost use Rattle.cmb_engine.specs.Inner.Circuits.{IsMarkedOrRests};
+ghost use Rattle.cmb_engine.specs.Inner.Known.{known_levels};
 ghost use Rattle.cmb_engine.specs.Rows.{arrives_by};
 ghost use Rattle.cmb_engine.specs.Inner.Orders.{is_marked, IsOrder};
 ghost use Rattle.cmb_engine.specs.Inner.Windows.{HasWindow};
@@ -16,6 +17,7 @@ use crate::arrivals::first_arrival;
 use crate::cell::Pin;
 use crate::cells::Cells;
 use crate::group::{Group, Member};
+use crate::known::known;
 use crate::marks::Marks;
 use crate::order::Order;
 use crate::words::Words;
@@ -105,7 +107,7 @@ fn may_change(words: &Words, slot: usize, pin: Pin, first: u32) -> bool
 }
 
 // Marks those flip-flops of a group that may get another level.
-fn mark_flops(group: &Group, order: &Order, words: &Words, marks: &mut Marks, first: u32)
+fn mark_any(group: &Group, order: &Order, words: &Words, marks: &mut Marks, first: u32)
     requires group { IsGroupWithin (length words.now) first group.now }
     requires ranked { length order.now.ranks ≡ length words.now }
     requires ordered { IsOrder order.now }
@@ -127,6 +129,65 @@ fn mark_flops(group: &Group, order: &Order, words: &Words, marks: &mut Marks, fi
         if may_change(words, slot, pin, first) {
             marks.insert(order.rank(slot) as usize);
         }
+    }
+}
+
+// Whether a flip-flop may get another level, where no level is x.
+#[inline]
+fn may_change_known(ones: &[u64], slot: usize, pin: Pin, first: u32) -> bool
+    requires slot { slot < length ones.now }
+    requires net { pin.net < length ones.now }
+    requires delay { pin.delay ≤ first }
+    requires begun { 1 ≤ first }
+    requires first { first < 64 }
+    ensures { result ≡ false → (clock : Clock) (to : ℕ)
+        → IsSteady (known_levels ones.now) to first slot (Flop clock pin) }
+{
+    let own = known(ones[slot]).everywhere(first - 1);
+    known(ones[pin.net as usize]).differs_from(own, first - pin.delay)
+}
+
+// Marks those flip-flops of a group that may get another level, where no level is x.
+fn mark_known(group: &Group, order: &Order, ones: &[u64], marks: &mut Marks, first: u32)
+    requires group { IsGroupWithin (length ones.now) first group.now }
+    requires ranked { length order.now.ranks ≡ length ones.now }
+    requires ordered { IsOrder order.now }
+    requires room { length order.now.slots ≤ 64 * length marks.old }
+    requires begun { 1 ≤ first }
+    requires first { first < 64 }
+    ensures room { length marks.new ≡ length marks.old }
+    ensures kept { (m : ℕ) → has marks.old m ≡ true → has marks.new m ≡ true }
+    ensures marked { (cells : List Cell) → IsGroup cells group.now
+        → All (IsMarkedOrRests (is_marked order.now marks.new) (known_levels ones.now) first cells)
+        group.now.flops.items }
+{
+    let delay = group.delay;
+    for k in 0..group.flops.len() {
+        let slot = group.flops[k] as usize;
+        let net = group.sources[k];
+        if may_change_known(ones, slot, Pin { net, delay }, first) {
+            marks.insert(order.rank(slot) as usize);
+        }
+    }
+}
+
+// The same, by the quicker way where no level is x.
+fn mark_flops(group: &Group, order: &Order, words: &Words, marks: &mut Marks, first: u32)
+    requires group { IsGroupWithin (length words.now) first group.now }
+    requires ranked { length order.now.ranks ≡ length words.now }
+    requires ordered { IsOrder order.now }
+    requires room { length order.now.slots ≤ 64 * length marks.old }
+    requires begun { 1 ≤ first }
+    requires first { first < 64 }
+    ensures room { length marks.new ≡ length marks.old }
+    ensures kept { (m : ℕ) → has marks.old m ≡ true → has marks.new m ≡ true }
+    ensures marked { (cells : List Cell) → IsGroup cells group.now
+        → All (IsMarkedOrRests (is_marked order.now marks.new) (levels_of words.now) first cells)
+        group.now.flops.items }
+{
+    match words.ones_if_known() {
+        Some(ones) => mark_known(group, order, ones, marks, first),
+        None => mark_any(group, order, words, marks, first),
     }
 }
 
