@@ -8,6 +8,6 @@ pub struct Tail {
     /// Four bytes, so that one store writes them all.
     pub bytes: [u8; 4],
     /// How many of them belong to the line.
-    pub len: usize,
+    pub len: u32,
     ghost short: { len ≤ 4 },
 }
