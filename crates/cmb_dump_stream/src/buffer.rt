@@ -84,6 +84,25 @@ impl<'a> TextBuffer<'a> {
         Ok(())
     }
 
+    /// Adds the text that a dump gave last: that of the ticks from the clock on below `upto`. Where nothing is kept the
+    /// text is taken from the dump, else it is copied.
+    pub fn grow_by(&mut self, dump: &mut Dump<'_>, upto: u32) -> Result<(), AllocError>
+        requires order { self.old.clock ≤ upto }
+        requires within { upto ≤ self.old.design.horizon }
+        requires text { made_text self.old.design upto ≡ made_text self.old.design self.old.clock ++ dump.old.text }
+        ensures clock { OnOk result (self.new.clock ≡ upto) }
+        ensures design { self.new.design ≡ self.old.design }
+        ensures given { self.new.given ≡ self.old.given }
+        ensures dumped { dump.new ≡ record dump.old { text = dump.new.text } }
+    {
+        if self.text.is_empty() {
+            dump.swap_text(&mut self.text);
+            self.clock = upto;
+            return Ok(());
+        }
+        self.grow(dump.text(), upto)
+    }
+
     /// How many bytes are kept: those that were made and not handed on.
     pub fn len(&self) -> usize
         ensures { self.now.given + result ≡ length (made_text self.now.design self.now.clock) }

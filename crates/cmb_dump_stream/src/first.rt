@@ -92,5 +92,5 @@ pub fn keep_window(
     ensures clock { OnOk result (kept.new.clock ≡ upto) }
 {
     format_window(dump, changed, upto)?;
-    kept.grow(dump.text(), upto)
+    kept.grow_by(dump, upto)
 }
