@@ -23,25 +23,35 @@ left-small left places is =
     (All-weaker (λ place. (place < 64) × (is_set_at places place ≡ true)) (λ place. place < 64) (λ place h. h.0) (places_set places) (places-each places))
 
 -- a listed place is the first one or one of the others
+left-cases : (place : ℕ) (rest left : List ℕ) → left ≡ place ∷ rest → (q : ℕ) → Contains left q → (place ≡ q) ⊎ Contains rest q
+left-cases place rest left is q listed = go (Contains-append_cases (place ∷ []) rest q (subst (λ (xs : List ℕ). Contains xs q) is listed))
+  where
+    go : Contains (place ∷ []) q ⊎ Contains rest q → (place ≡ q) ⊎ Contains rest q
+    go (inl one) = at (Contains-push_cases [] place q one)
+      where
+        at : Contains [] q ⊎ (place ≡ q) → (place ≡ q) ⊎ Contains rest q
+        at (inl none) = absurd (omega (arith, none.1))
+        at (inr e) = inl e
+    go (inr more) = inr more
+
+-- so is the place of a listed slot
 among-cases : (order : Order) (base place : ℕ) (rest left : List ℕ) → left ≡ place ∷ rest → (slot : ℕ) → IsAmong order base left slot
     → ((base + place < length order.slots) × (get_or order.slots (base + place) 0 ≡ slot)) ⊎ IsAmong order base rest slot
-among-cases order base place rest left is slot h =
-    go (Contains-append_cases (place ∷ []) rest h.place (subst (λ (xs : List ℕ). Contains xs h.place) is h.listed))
+among-cases order base place rest left is slot h = go (left-cases place rest left is h.place h.listed)
   where
-    go : Contains (place ∷ []) h.place ⊎ Contains rest h.place → ((base + place < length order.slots) × (get_or order.slots (base + place) 0 ≡ slot)) ⊎ IsAmong order base rest slot
-    go (inl one) = at (Contains-push_cases [] place h.place one)
-      where
-        at : Contains [] h.place ⊎ (place ≡ h.place) → ((base + place < length order.slots) × (get_or order.slots (base + place) 0 ≡ slot)) ⊎ IsAmong order base rest slot
-        at (inl none) = absurd (omega (arith, none.1))
-        at (inr e) = inl (omega (arith, h.inside, e), ap (λ (n : ℕ). get_or order.slots (base + n) 0) e ∙ h.stands)
+    go : (place ≡ h.place) ⊎ Contains rest h.place → ((base + place < length order.slots) × (get_or order.slots (base + place) 0 ≡ slot)) ⊎ IsAmong order base rest slot
+    go (inl e) = inl (omega (arith, h.inside, e), ap (λ (n : ℕ). get_or order.slots (base + n) 0) e ∙ h.stands)
     go (inr more) = inr (record { place = h.place; listed = more; inside = h.inside; stands = h.stands })
 
 -- what has a set place has a listed one
 at-among : (order : Order) (base places slot : ℕ) → IsAt order base places slot → IsAmong order base (places_set places) slot
 at-among order base places slot h = record { place = h.place; listed = places-all places h.place h.small h.set; inside = h.inside; stands = h.stands }
 
+none-left : (left : List ℕ) → left ≡ [] → (q : ℕ) → Contains left q → ⊥
+none-left left is q listed = let among : Contains [] q = subst (λ (xs : List ℕ). Contains xs q) is listed in absurd (omega (arith, among.1))
+
 none-among : (order : Order) (base slot : ℕ) (left : List ℕ) → left ≡ [] → IsAmong order base left slot → ⊥
-none-among order base slot left is h = let among : Contains [] h.place = subst (λ (xs : List ℕ). Contains xs h.place) is h.listed in absurd (omega (arith, among.1))
+none-among order base slot left is h = none-left left is h.place h.listed
 
 -- ---- words are made one after another
 
@@ -189,15 +199,20 @@ making-writes cells nodes order in_order to first base places place rest left is
 
 -- ---- what is passed on
 
--- how far a batch is passed on: the slots at the places that are left aren't
+-- the lists at the set places of a word are marked, but at those that are left
+abbrev pub AreReached : Order → ℕ → ℕ → List ℕ → List (List ℕ) → List ℕ → Type 0
+AreReached order base news left lists marks =
+    (place : ℕ) → place < 64 → is_set_at news place ≡ true → base + place < length order.slots → (Contains left place → ⊥) → AreMarked (has marks) (get_or lists (base + place) [])
+
+-- how far a batch is passed on: the places that are left aren't
 pub record IsPassing (order : Order) (base news : ℕ) (left : List ℕ) (gates flops : List (List ℕ)) (opened : Bool) (old_marks now_marks old_live now_live : List ℕ) : Type 0 where
   pub room : length now_marks ≡ length old_marks
   pub live_room : length now_live ≡ length old_live
   pub kept : (m : ℕ) → has old_marks m ≡ true → has now_marks m ≡ true
   pub live : (m : ℕ) → has old_live m ≡ true → has now_live m ≡ true
   pub lives : (slot : ℕ) → IsAt order base news slot → (IsAmong order base left slot → ⊥) → has now_live slot ≡ true
-  pub to_gates : (slot : ℕ) → IsAt order base news slot → (IsAmong order base left slot → ⊥) → AreMarked (has now_marks) (get_or gates slot [])
-  pub to_flops : opened ≡ true → (slot : ℕ) → IsAt order base news slot → (IsAmong order base left slot → ⊥) → AreMarked (has now_marks) (get_or flops slot [])
+  pub to_gates : AreReached order base news left gates now_marks
+  pub to_flops : opened ≡ true → AreReached order base news left flops now_marks
 
 pub passing-none : (order : Order) (base news : ℕ) (left : List ℕ) (gates flops : List (List ℕ)) (opened : Bool) (marks live : List ℕ) → left ≡ places_set news
     → IsPassing order base news left gates flops opened marks marks live live
@@ -207,12 +222,15 @@ passing-none order base news left gates flops opened marks live is = record {
   kept = λ m h. h;
   live = λ m h. h;
   lives = λ slot at none. absurd (none (listed slot at));
-  to_gates = λ slot at none. absurd (none (listed slot at));
-  to_flops = λ o slot at none. absurd (none (listed slot at));
+  to_gates = λ place small set inside none. absurd (none (found place small set));
+  to_flops = λ o place small set inside none. absurd (none (found place small set));
 }
   where
     listed : (slot : ℕ) → IsAt order base news slot → IsAmong order base left slot
     listed slot at = subst (λ (xs : List ℕ). IsAmong order base xs slot) (sym is) (at-among order base news slot at)
+
+    found : (place : ℕ) → place < 64 → is_set_at news place ≡ true → Contains left place
+    found place small set = subst (λ (xs : List ℕ). Contains xs place) (sym is) (places-all news place small set)
 
 pub passing-all : (order : Order) (base news : ℕ) (left : List ℕ) (gates flops : List (List ℕ)) (opened : Bool) (old_marks now_marks old_live now_live : List ℕ) → left ≡ []
     → IsPassing order base news left gates flops opened old_marks now_marks old_live now_live → Passes order base news gates flops opened old_marks now_marks old_live now_live
@@ -222,8 +240,8 @@ passing-all order base news left gates flops opened old_marks now_marks old_live
   kept = h.kept;
   live = h.live;
   lives = λ slot at. h.lives slot at (none-among order base slot left is);
-  gates = λ slot at. h.to_gates slot at (none-among order base slot left is);
-  flops = λ o slot at. h.to_flops o slot at (none-among order base slot left is);
+  gates = λ place small set inside. h.to_gates place small set inside (none-left left is place);
+  flops = λ o place small set inside. h.to_flops o place small set inside (none-left left is place);
 }
 
 pub passing-skips : (order : Order) (base news place : ℕ) (rest left : List ℕ) (gates flops : List (List ℕ)) (opened : Bool) (old_marks now_marks old_live now_live : List ℕ)
@@ -235,8 +253,8 @@ passing-skips order base news place rest left gates flops opened old_marks now_m
   kept = h.kept;
   live = h.live;
   lives = λ slot at none. h.lives slot at (less' slot none);
-  to_gates = λ slot at none. h.to_gates slot at (less' slot none);
-  to_flops = λ o slot at none. h.to_flops o slot at (less' slot none);
+  to_gates = λ q small set inside none. h.to_gates q small set inside (further q inside none);
+  to_flops = λ o q small set inside none. h.to_flops o q small set inside (further q inside none);
 }
   where
     less' : (m : ℕ) → (IsAmong order base rest m → ⊥) → IsAmong order base left m → ⊥
@@ -246,15 +264,35 @@ passing-skips order base news place rest left gates flops opened old_marks now_m
         go (inl k) = absurd (omega (arith, k.0, past))
         go (inr k) = none k
 
+    further : (q : ℕ) → base + q < length order.slots → (Contains rest q → ⊥) → Contains left q → ⊥
+    further q inside none listed = go (left-cases place rest left is q listed)
+      where
+        go : (place ≡ q) ⊎ Contains rest q → ⊥
+        go (inl e) = absurd (omega (arith, e, inside, past))
+        go (inr more) = none more
+
 module _ (order : Order) (base news place : ℕ) (rest left : List ℕ) (is : left ≡ place ∷ rest) (gates flops : List (List ℕ)) (opened : Bool)
     (old_marks marks marked more_marked old_live live more_live : List ℕ) (slot : ℕ) (at : slot ≡ get_or order.slots (base + place) 0)
     (live_len : length more_live ≡ length live) (inserted : (m : ℕ) → has more_live m ≡ (m == slot || has live m))
-    (gates_len : length marked ≡ length marks) (gates_kept : (m : ℕ) → has marks m ≡ true → has marked m ≡ true) (gates_marked : AreMarked (has marked) (get_or gates slot []))
+    (gates_len : length marked ≡ length marks) (gates_kept : (m : ℕ) → has marks m ≡ true → has marked m ≡ true) (gates_marked : AreMarked (has marked) (get_or gates (base + place) []))
     (flops_len : length more_marked ≡ length marked) (flops_kept : (m : ℕ) → has marked m ≡ true → has more_marked m ≡ true)
-    (flops_marked : opened ≡ true → AreMarked (has more_marked) (get_or flops slot []))
+    (flops_marked : opened ≡ true → AreMarked (has more_marked) (get_or flops (base + place) []))
     (h : IsPassing order base news left gates flops opened old_marks marks old_live live) where
   all-kept : (numbers : List ℕ) → AreMarked (has marks) numbers → AreMarked (has more_marked) numbers
   all-kept numbers all k l = flops_kept (get_or numbers k 0) (gates_kept (get_or numbers k 0) (all k l))
+
+  -- the lists of the places that were reached, and that of one more
+  reached : (lists : List (List ℕ)) → AreReached order base news left lists marks → AreMarked (has more_marked) (get_or lists (base + place) [])
+      → AreReached order base news rest lists more_marked
+  reached lists so_far here q small set inside none = go (cases_eq q place)
+    where
+      go : (q ≡ place) ⊎ (q ≡ place → ⊥) → AreMarked (has more_marked) (get_or lists (base + q) [])
+      go (inl e) = subst (λ (i : ℕ). AreMarked (has more_marked) (get_or lists (base + i) [])) (sym e) here
+      go (inr other) = all-kept (get_or lists (base + q) []) (so_far q small set inside (λ listed. further (left-cases place rest left is q listed)))
+        where
+          further : (place ≡ q) ⊎ Contains rest q → ⊥
+          further (inl e) = other (sym e)
+          further (inr more) = none more
 
   pub passing-on : IsPassing order base news rest gates flops opened old_marks more_marked old_live more_live
   passing-on = record {
@@ -263,19 +301,10 @@ module _ (order : Order) (base news place : ℕ) (rest left : List ℕ) (is : le
     kept = λ m k. flops_kept m (gates_kept m (h.kept m k));
     live = λ m k. inserted-keeps live more_live slot m (inserted m) (h.live m k);
     lives = λ m n none. lives m n none (cases_eq m slot);
-    to_gates = λ m n none. to_gates m n none (cases_eq m slot);
-    to_flops = λ o m n none. to_flops o m n none (cases_eq m slot);
+    to_gates = reached gates h.to_gates (λ k l. flops_kept _ (gates_marked k l));
+    to_flops = λ o. reached flops (h.to_flops o) (flops_marked o);
   }
     where
       lives : (m : ℕ) → IsAt order base news m → (IsAmong order base rest m → ⊥) → (m ≡ slot) ⊎ (m ≡ slot → ⊥) → has more_live m ≡ true
       lives m n none (inl e) = inserted m ∙ or_left (m == slot) (has live m) (eq-eqb m slot e)
       lives m n none (inr other) = inserted-keeps live more_live slot m (inserted m) (h.lives m n (less order base place rest left is slot at m none other))
-
-      to_gates : (m : ℕ) → IsAt order base news m → (IsAmong order base rest m → ⊥) → (m ≡ slot) ⊎ (m ≡ slot → ⊥) → AreMarked (has more_marked) (get_or gates m [])
-      to_gates m n none (inl e) =
-          subst (λ (i : ℕ). AreMarked (has more_marked) (get_or gates i [])) (sym e) (λ k l. flops_kept (get_or (get_or gates slot []) k 0) (gates_marked k l))
-      to_gates m n none (inr other) = all-kept (get_or gates m []) (h.to_gates m n (less order base place rest left is slot at m none other))
-
-      to_flops : opened ≡ true → (m : ℕ) → IsAt order base news m → (IsAmong order base rest m → ⊥) → (m ≡ slot) ⊎ (m ≡ slot → ⊥) → AreMarked (has more_marked) (get_or flops m [])
-      to_flops o m n none (inl e) = subst (λ (i : ℕ). AreMarked (has more_marked) (get_or flops i [])) (sym e) (flops_marked o)
-      to_flops o m n none (inr other) = all-kept (get_or flops m []) (h.to_flops o m n (less order base place rest left is slot at m none other))

@@ -1,5 +1,5 @@
 -- What words show where something is given of their nets.
-use Rattle.std.proofs.Common.{◌≡◌, ℕ, ◌+◌, ◌-◌, ◌<◌, ◌≤◌, ◌⊎◌, inl, inr, min, true, false, ◌||◌, List, [], ◌∷◌, ◌++◌, length, get_or, set, refl, sym, ap, subst, ◌∙◌, arith}
+use Rattle.std.proofs.Common.{◌≡◌, ℕ, ◌+◌, ◌-◌, ◌<◌, ◌≤◌, ◌⊎◌, inl, inr, min, true, false, ◌||◌, List, [], ◌∷◌, ◌++◌, length, set, refl, sym, ap, subst, ◌∙◌, arith}
 use Rattle.std.specs.Prelude.{◌==◌, Contains}
 use Rattle.std.proofs.lemmas.Bool.{cases_lt, cases_eq, cases_Bool, eq-eqb, ne_eqb, false≢true, and_from, and_left, and_parts, or_parts}
 use Rattle.std.proofs.lemmas.List.Elements.{Contains-append_left, Contains-append_right, Contains-push}
@@ -114,12 +114,12 @@ written-its roles one old new first gift past others here = record {
 }
 
 -- what is left of one thing that is given: where its net is a given one, the word is written, and who reads the net is marked
-pub record IsTaken (roles : List Role) (readers : List (List ℕ)) (one : Changed) (first : ℕ) (old new : List Planes) (live more marks marked : List ℕ) : Type 0 where
+pub record IsTaken (roles : List Role) (readers : ℕ → List ℕ) (one : Changed) (first : ℕ) (old new : List Planes) (live more marks marked : List ℕ) : Type 0 where
   pub writes : Writes old new live more marks marked
   pub written : AreWritten roles (one ∷ []) (levels_of old) (levels_of new) first
-  pub news : (slot : ℕ) → is_written roles (one ∷ []) slot ≡ true → AreMarked (has marked) (get_or readers slot [])
+  pub news : (slot : ℕ) → is_written roles (one ∷ []) slot ≡ true → AreMarked (has marked) (readers slot)
 
-pub taken-not : (roles : List Role) (readers : List (List ℕ)) (one : Changed) (first : ℕ) (words : List Planes) (live marks : List ℕ) → gives roles one.net ≡ false
+pub taken-not : (roles : List Role) (readers : ℕ → List ℕ) (one : Changed) (first : ℕ) (words : List Planes) (live marks : List ℕ) → gives roles one.net ≡ false
     → IsTaken roles readers one first words words live live marks marks
 taken-not roles readers one first words live marks none = record {
   writes = writes-none words live marks;
@@ -127,17 +127,17 @@ taken-not roles readers one first words live marks none = record {
   news = λ slot is. absurd (false≢true (sym none ∙ (written-one roles one slot is).0));
 }
 
-pub taken-put : (roles : List Role) (readers : List (List ℕ)) (one : Changed) (first : ℕ) (old new : List Planes) (live more marks marked : List ℕ) (word : Word) → gives roles one.net ≡ true
+pub taken-put : (roles : List Role) (readers : ℕ → List ℕ) (one : Changed) (first : ℕ) (old new : List Planes) (live more marks marked : List ℕ) (word : Word) → gives roles one.net ≡ true
     → one.net < length old → new ≡ set old one.net (planes_of word) → ((place : ℕ) → place < first → level_at_place word place ≡ levels_of old one.net place)
     → ((place : ℕ) → first ≤ place → place < 64 → level_at_place word place ≡ level_at_place one.word place)
-    → Writes old new live more marks marked → AreMarked (has marked) (get_or readers one.net []) → IsTaken roles readers one first old new live more marks marked
+    → Writes old new live more marks marked → AreMarked (has marked) (readers one.net) → IsTaken roles readers one first old new live more marks marked
 taken-put roles readers one first old new live more marks marked word gift inside is below from writes news = record {
   writes = writes;
   written = written-its roles one (levels_of old) (levels_of new) first gift
       (λ slot place early. ap (λ (words : List Planes). levels_of words slot place) is ∙ word-kept old one.net word slot place inside (below place early))
       (λ slot place other. written-other old new one.net slot word place is (λ e. other (sym e)))
       (λ place late small. written-same old new one.net word place is inside ∙ from place late small);
-  news = λ slot is. subst (λ (n : ℕ). AreMarked (has marked) (get_or readers n [])) (written-one roles one slot is).1 news;
+  news = λ slot is. subst (λ (n : ℕ). AreMarked (has marked) (readers n)) (written-one roles one slot is).1 news;
 }
 
 -- some words, and then others
@@ -253,13 +253,13 @@ module _ (trace : ℕ → ℕ → Level) (cells : List Cell) (roles : List Role)
       idle (inr other) = other
 
   -- a slot whose readers aren't all marked is as it was
-  pub unmarked-kept : (readers : List (List ℕ)) (marks : List ℕ) → ((event : LevelEvent) → Contains tells event → AreMarked (has marks) (get_or readers event.slot []))
-      → ((slot : ℕ) → is_written roles given slot ≡ true → AreMarked (has marks) (get_or readers slot []))
-      → (slot : ℕ) → slot < length cells → (AreMarked (has marks) (get_or readers slot []) → ⊥) → (place : ℕ) → place < 64 → new slot place ≡ moved slot place
+  pub unmarked-kept : (readers : ℕ → List ℕ) (marks : List ℕ) → ((event : LevelEvent) → Contains tells event → AreMarked (has marks) (readers event.slot))
+      → ((slot : ℕ) → is_written roles given slot ≡ true → AreMarked (has marks) (readers slot))
+      → (slot : ℕ) → slot < length cells → (AreMarked (has marks) (readers slot) → ⊥) → (place : ℕ) → place < 64 → new slot place ≡ moved slot place
   unmarked-kept readers marks told_news given_news slot inside none place small =
       writes.others slot place (idle (cases_Bool (is_written roles given slot)))
       ∙ told_words slot place inside small
-      ∙ told-keeps tells slot (to + place - 64) (moved slot place) (λ event among e l. none (subst (λ (n : ℕ). AreMarked (has marks) (get_or readers n [])) e (told_news event among)))
+      ∙ told-keeps tells slot (to + place - 64) (moved slot place) (λ event among e l. none (subst (λ (n : ℕ). AreMarked (has marks) (readers n)) e (told_news event among)))
     where
       idle : (is_written roles given slot ≡ true) ⊎ (is_written roles given slot ≡ false) → is_written roles given slot ≡ false
       idle (inl h) = absurd (none (given_news slot h))

@@ -1,5 +1,5 @@
 -- Words that move on to a later window.
-use Rattle.std.proofs.Common.{◌≡◌, ◌≢◌, ℕ, zero, suc, ◌+◌, ◌-◌, ◌*◌, ◌/◌, ◌%◌, ◌^◌, ◌<◌, ◌≤◌, ◌⊎◌, inl, inr, Bool, true, false, not, ◌&&◌, ◌||◌, ◌==◌, List, [], ◌∷◌, min, length, get_or, refl, sym, ap, subst, ◌∙◌, arith, w64}
+use Rattle.std.proofs.Common.{◌≡◌, ◌≢◌, ℕ, zero, suc, ◌+◌, ◌-◌, ◌*◌, ◌/◌, ◌%◌, ◌^◌, ◌<◌, ◌≤◌, ◌⊎◌, inl, inr, Bool, true, false, not, ◌&&◌, ◌||◌, ◌==◌, List, [], ◌∷◌, min, length, refl, sym, ap, subst, ◌∙◌, arith, w64}
 use Rattle.std.proofs.lemmas.Bool.{and_parts, cases_Bool, cases_lt, cases_eq, eqb-true, false≢true}
 use Rattle.std.proofs.lemmas.Nat.Bits.{bit_at-zero, bit_at_set_other}
 use Rattle.std.specs.Prelude.{bit_or}
@@ -62,32 +62,32 @@ pub steady-same : (f g : ℕ → ℕ → Level) (slot first : ℕ) → ((place :
 steady-same f g slot first same steady place from inside = same place ∙ steady place from inside ∙ sym (same (first - 1))
 
 -- a slot is steady from a place on, or its readers are marked
-abbrev pub IsTold : List (List ℕ) → (ℕ → ℕ → Level) → List ℕ → ℕ → ℕ → Type 0
-IsTold lists words marks first slot = IsSteadyFrom (words slot) first ⊎ AreMarked (has marks) (get_or lists slot [])
+abbrev pub IsTold : (ℕ → List ℕ) → (ℕ → ℕ → Level) → List ℕ → ℕ → ℕ → Type 0
+IsTold readers words marks first slot = IsSteadyFrom (words slot) first ⊎ AreMarked (has marks) (readers slot)
 
-pub told-same : (lists : List (List ℕ)) (f g : ℕ → ℕ → Level) (old new : List ℕ) (first slot : ℕ) → ((place : ℕ) → g slot place ≡ f slot place)
-    → ((m : ℕ) → has old m ≡ true → has new m ≡ true) → IsTold lists f old first slot → IsTold lists g new first slot
-told-same lists f g old new first slot same kept (inl steady) = inl (steady-same f g slot first same steady)
-told-same lists f g old new first slot same kept (inr marked) = inr (λ k small. kept _ (marked k small))
+pub told-same : (readers : ℕ → List ℕ) (f g : ℕ → ℕ → Level) (old new : List ℕ) (first slot : ℕ) → ((place : ℕ) → g slot place ≡ f slot place)
+    → ((m : ℕ) → has old m ≡ true → has new m ≡ true) → IsTold readers f old first slot → IsTold readers g new first slot
+told-same readers f g old new first slot same kept (inl steady) = inl (steady-same f g slot first same steady)
+told-same readers f g old new first slot same kept (inr marked) = inr (λ k small. kept _ (marked k small))
 
 -- how far the slots of a word have moved on: those below a place
-pub record IsMoving (lists : List (List ℕ)) (base places steady count ticks first upto : ℕ) (marks : List ℕ) (old now : ℕ → ℕ → Level) : Type 0 where
+pub record IsMoving (readers : ℕ → List ℕ) (base places steady count ticks first upto : ℕ) (marks : List ℕ) (old now : ℕ → ℕ → Level) : Type 0 where
   pub above : (slot place : ℕ) → base + upto ≤ slot → now slot place ≡ old slot place
   pub others : (slot place : ℕ) → (IsSetAt base places slot → ⊥) → now slot place ≡ old slot place
   pub moved : (slot place : ℕ) → IsSetAt base places slot → slot < base + upto → place < 64 → now slot place ≡ old slot (min (place + ticks) 63)
   pub still : (slot : ℕ) → IsSetAt base steady slot → (slot < base + upto) × IsSteadyFrom (now slot) 1
-  pub news : (slot : ℕ) → IsSetAt base places slot → slot < base + upto → slot < count → IsTold lists now marks first slot
+  pub news : (slot : ℕ) → IsSetAt base places slot → slot < base + upto → slot < count → IsTold readers now marks first slot
 
 -- the slots of a word have moved on up to some place, and those behind it are left
-pub record IsMovingOn (lists : List (List ℕ)) (base places steady count ticks first : ℕ) (left marks : List ℕ) (old now : ℕ → ℕ → Level) : Type 0 where
+pub record IsMovingOn (readers : ℕ → List ℕ) (base places steady count ticks first : ℕ) (left marks : List ℕ) (old now : ℕ → ℕ → Level) : Type 0 where
   pub upto : ℕ
   pub are_left : AreLeft places upto left
-  pub moving : IsMoving lists base places steady count ticks first upto marks old now
+  pub moving : IsMoving readers base places steady count ticks first upto marks old now
 
-pub moving-none : (lists : List (List ℕ)) (base places count ticks first : ℕ) (left marks : List ℕ) (words : ℕ → ℕ → Level) → left ≡ places_set places
-    → IsMovingOn lists base places 0 count ticks first left marks words words
+pub moving-none : (readers : ℕ → List ℕ) (base places count ticks first : ℕ) (left marks : List ℕ) (words : ℕ → ℕ → Level) → left ≡ places_set places
+    → IsMovingOn readers base places 0 count ticks first left marks words words
 unfolding is_set_at
-moving-none lists base places count ticks first left marks words is = record {
+moving-none readers base places count ticks first left marks words is = record {
   upto = 0;
   are_left = left-all places left is;
   moving = record {
@@ -100,8 +100,8 @@ moving-none lists base places count ticks first left marks words is = record {
 }
 
 -- the slot of the next place moves on
-module _ (lists : List (List ℕ)) (base places count ticks first : ℕ) (left marks : List ℕ) (old f : ℕ → ℕ → Level) (steady : ℕ)
-    (h : IsMovingOn lists base places steady count ticks first left marks old f) (place : ℕ) (rest : List ℕ) (is : left ≡ place ∷ rest) where
+module _ (readers : ℕ → List ℕ) (base places count ticks first : ℕ) (left marks : List ℕ) (old f : ℕ → ℕ → Level) (steady : ℕ)
+    (h : IsMovingOn readers base places steady count ticks first left marks old f) (place : ℕ) (rest : List ℕ) (is : left ≡ place ∷ rest) where
   next : IsNextPlace places h.upto 64 place rest
   next = left-next places h.upto left h.are_left place rest is
 
@@ -119,8 +119,8 @@ module _ (lists : List (List ℕ)) (base places count ticks first : ℕ) (left m
   pub moving-next : (marked : List ℕ) (g : ℕ → ℕ → Level) (now_steady : ℕ) → ((m q : ℕ) → m ≢ base + place → g m q ≡ f m q)
       → ((q : ℕ) → q < 64 → g (base + place) q ≡ f (base + place) (min (q + ticks) 63))
       → ((i : ℕ) → is_set_at now_steady i ≡ true → (is_set_at steady i ≡ true) ⊎ ((i ≡ place) × IsSteadyFrom (g (base + place)) 1))
-      → ((m : ℕ) → has marks m ≡ true → has marked m ≡ true) → (base + place < count → IsTold lists g marked first (base + place))
-      → IsMovingOn lists base places now_steady count ticks first rest marked old g
+      → ((m : ℕ) → has marks m ≡ true → has marked m ≡ true) → (base + place < count → IsTold readers g marked first (base + place))
+      → IsMovingOn readers base places now_steady count ticks first rest marked old g
   moving-next marked g now_steady others here goes kept news = record {
     upto = place + 1;
     are_left = left-behind places h.upto left h.are_left place rest is;
@@ -148,23 +148,23 @@ module _ (lists : List (List ℕ)) (base places count ticks first : ℕ) (left m
           let e : base + place ≡ m = omega (arith, set.is, now.0) in
           (omega (arith, e), subst (λ (n : ℕ). IsSteadyFrom (g n) 1) e now.1)
 
-      told : (m : ℕ) → IsSetAt base places m → m < base + (place + 1) → m < count → (m ≡ base + place) ⊎ (m ≡ base + place → ⊥) → IsTold lists g marked first m
-      told m set under inside (inl e) = subst (λ (n : ℕ). IsTold lists g marked first n) (sym e) (news (omega (arith, inside, e)))
-      told m set under inside (inr other) = told-same lists f g marks marked first m (λ q. others m q other) kept (h.moving.news m set (before m set under other) inside)
+      told : (m : ℕ) → IsSetAt base places m → m < base + (place + 1) → m < count → (m ≡ base + place) ⊎ (m ≡ base + place → ⊥) → IsTold readers g marked first m
+      told m set under inside (inl e) = subst (λ (n : ℕ). IsTold readers g marked first n) (sym e) (news (omega (arith, inside, e)))
+      told m set under inside (inr other) = told-same readers f g marks marked first m (λ q. others m q other) kept (h.moving.news m set (before m set under other) inside)
 
 -- where no place is left, all have moved on
-moving-all : (lists : List (List ℕ)) (base places steady count ticks first : ℕ) (left marks : List ℕ) (old now : ℕ → ℕ → Level)
-    → (h : IsMovingOn lists base places steady count ticks first left marks old now) → left ≡ [] → (slot : ℕ) → IsSetAt base places slot → slot < base + h.upto
-moving-all lists base places steady count ticks first left marks old now h is slot set = go (cases_lt set.place h.upto)
+moving-all : (readers : ℕ → List ℕ) (base places steady count ticks first : ℕ) (left marks : List ℕ) (old now : ℕ → ℕ → Level)
+    → (h : IsMovingOn readers base places steady count ticks first left marks old now) → left ≡ [] → (slot : ℕ) → IsSetAt base places slot → slot < base + h.upto
+moving-all readers base places steady count ticks first left marks old now h is slot set = go (cases_lt set.place h.upto)
   where
     go : (set.place < h.upto) ⊎ (h.upto ≤ set.place) → slot < base + h.upto
     go (inl l) = omega (arith, set.is, l)
     go (inr l) = absurd (false≢true (sym (left-none places h.upto left h.are_left is set.place l set.small) ∙ set.set))
 
-pub moving-moves : (lists : List (List ℕ)) (base places steady count ticks first : ℕ) (left old_marks marks : List ℕ) (old now : ℕ → ℕ → Level) → length marks ≡ length old_marks
-    → ((m : ℕ) → has old_marks m ≡ true → has marks m ≡ true) → IsMovingOn lists base places steady count ticks first left marks old now → left ≡ []
-    → Moves lists base places steady count ticks first old_marks marks old now
-moving-moves lists base places steady count ticks first left old_marks marks old now room kept h is = record {
+pub moving-moves : (readers : ℕ → List ℕ) (base places steady count ticks first : ℕ) (left old_marks marks : List ℕ) (old now : ℕ → ℕ → Level) → length marks ≡ length old_marks
+    → ((m : ℕ) → has old_marks m ≡ true → has marks m ≡ true) → IsMovingOn readers base places steady count ticks first left marks old now → left ≡ []
+    → Moves readers base places steady count ticks first old_marks marks old now
+moving-moves readers base places steady count ticks first left old_marks marks old now room kept h is = record {
   room = room;
   kept = kept;
   others = h.moving.others;
@@ -174,7 +174,7 @@ moving-moves lists base places steady count ticks first left old_marks marks old
 }
   where
     all : (slot : ℕ) → IsSetAt base places slot → slot < base + h.upto
-    all = moving-all lists base places steady count ticks first left marks old now h is
+    all = moving-all readers base places steady count ticks first left marks old now h is
 
 -- one more place of a mask, of which something is so
 pub place-more : (So : Type 0) (mask place i : ℕ) → place < 64 → So → is_set_at (bit_or mask (1 * 2 ^ place % 2 ^ 64)) i ≡ true → (is_set_at mask i ≡ true) ⊎ ((i ≡ place) × So)
@@ -199,8 +199,8 @@ place-wanted So old new wanted place i here others so set = go (cases_eq i place
 -- ---- the words of the slots, word by word of the live ones
 
 -- the live slots below one are steady, or their readers are marked
-abbrev pub AreTold : List (List ℕ) → (ℕ → ℕ → Level) → ℕ → List ℕ → List ℕ → ℕ → ℕ → Type 0
-AreTold lists words count live marks first upto = (slot : ℕ) → slot < upto → slot < count → has live slot ≡ true → IsTold lists words marks first slot
+abbrev pub AreTold : (ℕ → List ℕ) → (ℕ → ℕ → Level) → ℕ → List ℕ → List ℕ → ℕ → ℕ → Type 0
+AreTold readers words count live marks first upto = (slot : ℕ) → slot < upto → slot < count → has live slot ≡ true → IsTold readers words marks first slot
 
 module _ (live : List ℕ) (from upto base places : ℕ) (word : IsNextWord live from upto base places) (now new : ℕ → ℕ → Level)
     (others : (slot place : ℕ) → (IsSetAt base places slot → ⊥) → new slot place ≡ now slot place) where
@@ -264,14 +264,14 @@ module _ (live : List ℕ) (from upto base places : ℕ) (word : IsNextWord live
             steady-first (new slot) all place small (cases_lt place 1) ∙ sym (steady-first (new slot) all 63 (omega arith) (cases_lt 63 1))
         go (inr none) = others slot place (not-set slot none) ∙ quiet slot place inside none small ∙ sym (others slot 63 (not-set slot none))
 
-    pub told-word : (lists : List (List ℕ)) (marks marked : List ℕ) (count first : ℕ) → ((m : ℕ) → has marks m ≡ true → has marked m ≡ true)
-        → ((slot : ℕ) → IsSetAt base places slot → slot < count → IsTold lists new marked first slot)
-        → AreTold lists now count live marks first (64 * from) → AreTold lists new count less marked first (64 * upto)
-    told-word lists marks marked count first kept news told slot under inside is = go (cases_lt slot base) (cases_lt slot (64 * from))
+    pub told-word : (readers : ℕ → List ℕ) (marks marked : List ℕ) (count first : ℕ) → ((m : ℕ) → has marks m ≡ true → has marked m ≡ true)
+        → ((slot : ℕ) → IsSetAt base places slot → slot < count → IsTold readers new marked first slot)
+        → AreTold readers now count live marks first (64 * from) → AreTold readers new count less marked first (64 * upto)
+    told-word readers marks marked count first kept news told slot under inside is = go (cases_lt slot base) (cases_lt slot (64 * from))
       where
-        go : (slot < base) ⊎ (base ≤ slot) → (slot < 64 * from) ⊎ (64 * from ≤ slot) → IsTold lists new marked first slot
+        go : (slot < base) ⊎ (base ≤ slot) → (slot < 64 * from) ⊎ (64 * from ≤ slot) → IsTold readers new marked first slot
         go (inl l) (inl k) =
-            told-same lists now new marks marked first slot (λ q. others slot q (λ set. absurd (omega (arith, l, set.is)))) kept (told slot k inside (stays slot is))
+            told-same readers now new marks marked first slot (λ q. others slot q (λ set. absurd (omega (arith, l, set.is)))) kept (told slot k inside (stays slot is))
         go (inl l) (inr k) = absurd (false≢true (sym (word.none slot k l) ∙ stays slot is))
         go (inr l) k = news slot (live-set slot l (omega (arith, under, word.ends)) (stays slot is)) inside
 
@@ -289,10 +289,10 @@ moved-all old new live ticks upto len none quiet moved slot place small = go (ca
     go (inr l) = levels_of-past new slot place (omega (arith, len, l)) ∙ sym (levels_of-past old slot (min (place + ticks) 63) l)
 
 -- all live slots are told
-pub told-all : (lists : List (List ℕ)) (words : ℕ → ℕ → Level) (count : ℕ) (live marks : List ℕ) (first upto : ℕ) → ((slot : ℕ) → upto ≤ slot → slot < count → has live slot ≡ false)
-    → AreTold lists words count live marks first upto → (slot : ℕ) → slot < count → has live slot ≡ true → IsTold lists words marks first slot
-told-all lists words count live marks first upto none told slot inside is = go (cases_lt slot upto)
+pub told-all : (readers : ℕ → List ℕ) (words : ℕ → ℕ → Level) (count : ℕ) (live marks : List ℕ) (first upto : ℕ) → ((slot : ℕ) → upto ≤ slot → slot < count → has live slot ≡ false)
+    → AreTold readers words count live marks first upto → (slot : ℕ) → slot < count → has live slot ≡ true → IsTold readers words marks first slot
+told-all readers words count live marks first upto none told slot inside is = go (cases_lt slot upto)
   where
-    go : (slot < upto) ⊎ (upto ≤ slot) → IsTold lists words marks first slot
+    go : (slot < upto) ⊎ (upto ≤ slot) → IsTold readers words marks first slot
     go (inl l) = told slot l inside is
     go (inr l) = absurd (false≢true (sym (none slot l inside) ∙ is))

@@ -1,11 +1,10 @@
 -- Numbers in lists.
-use Rattle.std.proofs.Common.{◌≡◌, ◌≢◌, ℕ, zero, suc, ◌+◌, ◌<◌, ◌≤◌, ◌⊎◌, inl, inr, true, false, ◌==◌, ◌||◌, List, [], ◌∷◌, ◌++◌, length, get_or, set, take, sym, ap, subst, ◌∙◌, arith, map, refl, Bool}
+use Rattle.std.proofs.Common.{◌≡◌, ◌≢◌, ℕ, zero, suc, ◌+◌, ◌<◌, ◌≤◌, ◌⊎◌, inl, inr, true, false, ◌==◌, ◌||◌, List, [], ◌∷◌, ◌++◌, length, get_or, set, take, sym, ap, subst, ◌∙◌, arith, map, Bool}
 use Rattle.std.specs.Prelude.{All, replicate}
 use Rattle.std.specs.List.{list_any}
 use Rattle.std.proofs.lemmas.Bool.{cases_eq, cases_Bool, cases_lt, eqb-true, false≢true}
-use Rattle.std.proofs.lemmas.List.{length-append, length-map, get_or-map, get_or_append_left, get_or-append-add, get_or-set_same, get_or-set_other, get_or_past}
+use Rattle.std.proofs.lemmas.List.{length-append, length-map, get_or-map, get_or_append_left, get_or-append-add, get_or-set_same, get_or-set_other, get_or_default, get_or_past}
 use Rattle.std.proofs.lemmas.List.Folds.{list_any_more}
-use Rattle.smallvec.specs.SmallVec.{SmallVec}
 use Rattle.cmb_engine.specs.Inner.Cells.{Cell, Told, AreBelow, AreFanout, AreLists, IsListed, cell_at, reads}
 use Rattle.cmb_engine.specs.Inner.Orders.{Order, IsOrder, rank_in}
 use Rattle.cmb_engine.specs.declared.cell.Pin.{Pin}
@@ -109,47 +108,43 @@ listed-more is_such cells old new net so_far kept listed m place small such read
 
 -- ---- ranks in the place of slots
 
--- the lists of some vectors, each number in it replaced
-replaced : (f : ℕ → ℕ) (lists : List (SmallVec ℕ)) → map (λ (v : SmallVec ℕ). map f v.items) lists ≡ map (map f) (map (λ (v : SmallVec ℕ). v.items) lists)
-replaced f [] = refl
-replaced f (v ∷ lists) = ap (λ ls. map f v.items ∷ ls) (replaced f lists)
+-- each slot of an order is below the count of its ranks
+pub slots-within : (order : Order) (count : ℕ) → IsOrder order → length order.ranks ≡ count → All (λ slot. slot < count) order.slots
+slots-within order count ordered ranked k d inside =
+    subst (λ (slot : ℕ). slot < count) (get_or_default order.slots k 0 d inside) (omega (arith, ordered.within k inside, ranked))
 
-pub ranked-fanout : (is_such : Cell → Bool) (cells : List Cell) (order : Order) (lists : List (SmallVec ℕ)) (ranked : List (List ℕ))
-    → ranked ≡ map (λ (v : SmallVec ℕ). map (rank_in order) v.items) lists → AreLists is_such cells (map (λ (v : SmallVec ℕ). v.items) lists) → IsOrder order
+pub ranked-fanout : (is_such : Cell → Bool) (cells : List Cell) (order : Order) (lists ranked : List (List ℕ))
+    → ranked ≡ map (λ slot. map (rank_in order) (get_or lists slot [])) order.slots → AreLists is_such cells lists → IsOrder order
     → length order.ranks ≡ length cells → AreFanout is_such cells order ranked
 ranked-fanout is_such cells order lists ranked is are ordered count = record {
-  count = ap length all ∙ length-map slots (map rank) ∙ are.count;
-  readers_of = λ slot m such read. go slot m (are.listed m slot such read);
-  within = λ place k d l. below place k d l;
+  count = ap length is ∙ length-map order.slots (λ slot. map rank (get_or lists slot []));
+  readers_of = λ place inside m such read. go place inside m (are.listed m (get_or order.slots place 0) such read);
+  within = λ place. below place (cases_lt place (length order.slots));
 }
   where
     rank : ℕ → ℕ
     rank = rank_in order
 
-    slots : List (List ℕ)
-    slots = map (λ (v : SmallVec ℕ). v.items) lists
+    at : (place : ℕ) → place < length order.slots → get_or ranked place [] ≡ map rank (get_or lists (get_or order.slots place 0) [])
+    at place inside = ap (λ ls. get_or ls place []) is ∙ get_or-map (λ slot. map rank (get_or lists slot [])) order.slots place 0 [] inside
 
-    all : ranked ≡ map (map rank) slots
-    all = is ∙ replaced rank lists
+    go : (place : ℕ) → place < length order.slots → (m : ℕ) → IsListed lists (get_or order.slots place 0) m
+        → (k : ℕ) × (k < length (get_or ranked place [])) × (get_or (get_or ranked place []) k 0 ≡ rank m)
+    go place inside m h =
+        let list : List ℕ = get_or lists (get_or order.slots place 0) [] in
+        subst (λ (xs : List ℕ). (k : ℕ) × (k < length xs) × (get_or xs k 0 ≡ rank m)) (sym (at place inside))
+        (h.0, omega (arith, h.1, length-map list rank), get_or-map rank list h.0 0 0 h.1 ∙ ap rank h.2)
 
-    at : (place : ℕ) → get_or ranked place [] ≡ map rank (get_or slots place [])
-    at place = ap (λ ls. get_or ls place []) all ∙ mapped (cases_lt place (length slots))
+    below : (place : ℕ) → (place < length order.slots) ⊎ (length order.slots ≤ place) → All (λ number. number < length order.slots) (get_or ranked place [])
+    below place (inr past) = λ k d l.
+        absurd (omega (arith, l, ap length (get_or_past ranked place [] (omega (arith, past, ap length is, length-map order.slots (λ slot. map rank (get_or lists slot [])))))))
+    below place (inl inside) = subst (λ (xs : List ℕ). All (λ number. number < length order.slots) xs) (sym (at place inside)) each
       where
-        mapped : (place < length slots) ⊎ (length slots ≤ place) → get_or (map (map rank) slots) place [] ≡ map rank (get_or slots place [])
-        mapped (inl l) = get_or-map (map rank) slots place [] [] l
-        mapped (inr l) =
-            get_or_past (map (map rank) slots) place [] (omega (arith, l, length-map slots (map rank))) ∙ ap (map rank) (sym (get_or_past slots place [] l))
+        list : List ℕ
+        list = get_or lists (get_or order.slots place 0) []
 
-    go : (slot m : ℕ) → IsListed slots slot m → (k : ℕ) × (k < length (get_or ranked slot [])) × (get_or (get_or ranked slot []) k 0 ≡ rank m)
-    go slot m h =
-        subst (λ (xs : List ℕ). (k : ℕ) × (k < length xs) × (get_or xs k 0 ≡ rank m)) (sym (at slot))
-        (h.0, omega (arith, h.1, length-map (get_or slots slot []) rank), get_or-map rank (get_or slots slot []) h.0 0 0 h.1 ∙ ap rank h.2)
-
-    below : (place : ℕ) → All (λ number. number < length order.slots) (get_or ranked place [])
-    below place = subst (λ (xs : List ℕ). All (λ number. number < length order.slots) xs) (sym (at place)) each
-      where
-        each : All (λ number. number < length order.slots) (map rank (get_or slots place []))
+        each : All (λ number. number < length order.slots) (map rank list)
         each k d l =
-            let inside : k < length (get_or slots place []) = omega (arith, l, length-map (get_or slots place []) rank) in
-            let small : get_or (get_or slots place []) k 0 < length order.ranks = omega (arith, are.within place k 0 inside, count) in
-            subst (λ (n : ℕ). n < length order.slots) (sym (get_or-map rank (get_or slots place []) k 0 d inside)) (ordered.stands (get_or (get_or slots place []) k 0) small).below
+            let inside : k < length list = omega (arith, l, length-map list rank) in
+            let small : get_or list k 0 < length order.ranks = omega (arith, are.within (get_or order.slots place 0) k 0 inside, count) in
+            subst (λ (n : ℕ). n < length order.slots) (sym (get_or-map rank list k 0 d inside)) (ordered.stands (get_or list k 0) small).below

@@ -4,7 +4,7 @@ use Rattle.std.proofs.lemmas.Bool.{cases_Bool, cases_lt, cases_eq, eq-eqb, or_le
 use Rattle.cmb_wave.specs.declared.level.Level.{Level}
 use Rattle.cmb_engine.specs.Inner.Bits.{has, HasNone}
 use Rattle.cmb_engine.specs.Inner.Batches.{IsSetAt, IsTaken, Makes, Passes}
-use Rattle.cmb_engine.specs.Inner.Cells.{Cell, is_flop, is_gate, is_made, AreClosed, IsMade, IsReadable, IsReady, IsSettled, IsTrueBelow, IsWired, AreSettled, KeepsTold, Relies, cell_at}
+use Rattle.cmb_engine.specs.Inner.Cells.{Cell, is_flop, is_gate, is_made, AreClosed, AreFanout, AreReaders, IsMade, IsReadable, IsReady, IsSettled, IsTrueBelow, IsWired, AreSettled, KeepsTold, Relies, cell_at}
 use Rattle.cmb_engine.specs.Inner.Orders.{Order, IsAt, IsOrder, IsPlaced, is_marked, rank_in}
 use Rattle.cmb_engine.specs.Inner.Sweeps.{Sweeps}
 use Rattle.cmb_engine.proofs.CellFacts.{each-weaker, made-true, settled-true}
@@ -136,11 +136,15 @@ module _ (cells : List Cell) (order : Order) (nodes : List Cell) (gates flops : 
   relied : (m : ℕ) → is_marked order marked m ≡ false → (slot : ℕ) → IsAt order base news slot → Relies opened (cell_at cells m) slot → ⊥
   relied m none slot is r = go r.1
     where
+      those : (is_such : Cell → Bool) (lists : List (List ℕ)) → AreFanout is_such cells order lists → AreReaders is_such cells (rank_in order) slot (get_or lists (base + is.place) [])
+      those is_such lists fanout =
+          subst (λ (n : ℕ). AreReaders is_such cells (rank_in order) n (get_or lists (base + is.place) [])) is.stands (fanout.readers_of (base + is.place) is.inside)
+
       go : (is_gate (cell_at cells m) ≡ true) ⊎ ((is_flop (cell_at cells m) ≡ true) × (opened ≡ true)) → ⊥
       go (inl gate) =
-          reader-marked is_gate cells (rank_in order) slot (get_or gates slot []) marked (wired.gates.readers_of slot) (passes.gates slot is) m none gate r.0
+          reader-marked is_gate cells (rank_in order) slot (get_or gates (base + is.place) []) marked (those is_gate gates wired.gates) (passes.gates is.place is.small is.set is.inside) m none gate r.0
       go (inr flop) =
-          reader-marked is_flop cells (rank_in order) slot (get_or flops slot []) marked (wired.flops.readers_of slot) (passes.flops flop.1 slot is) m none flop.0 r.0
+          reader-marked is_flop cells (rank_in order) slot (get_or flops (base + is.place) []) marked (those is_flop flops wired.flops) (passes.flops flop.1 is.place is.small is.set is.inside) m none flop.0 r.0
 
   was : (m : ℕ) → is_made (cell_at cells m) ≡ true → is_marked order marked m ≡ false → AreSettled f (is_marked order marks) (cell_at cells) to first
       → (is_marked order marks m ≡ true) ⊎ (is_marked order marks m ≡ false) → IsSettled f to first m (cell_at cells m) ⊎ IsAt order base places m

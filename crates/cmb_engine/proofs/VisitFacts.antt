@@ -6,7 +6,8 @@ use Rattle.cmb_wave.specs.declared.level.Level.{Level}
 use Rattle.cmb_design_model.specs.declared.rows.Clock.{Clock}
 use Rattle.cmb_engine.specs.Inner.Bits.{has}
 use Rattle.cmb_engine.specs.Rows.{arrives_by}
-use Rattle.cmb_engine.specs.Inner.Cells.{Cell, Told, Gate, Flop, is_made, seen, cell_level, EachSeen, IsMade, IsSettled, AreReaders, Relies, cell_at, reads}
+use Rattle.cmb_engine.specs.Inner.Cells.{Cell, Told, Gate, Flop, is_made, seen, cell_level, EachSeen, IsMade, IsSettled, AreFanout, AreReaders, Relies, cell_at, readers_at, reads}
+use Rattle.cmb_engine.specs.Inner.Orders.{Order, IsPlaced, rank_in}
 use Rattle.cmb_engine.specs.declared.cell.Pin.{Pin}
 use Rattle.cmb_engine.proofs.CellFacts.{settled-stays, settled-made}
 
@@ -39,6 +40,12 @@ kept-false old new m kept none = go (cases_Bool (has old m))
     go : (has old m ≡ true) ⊎ (has old m ≡ false) → has old m ≡ false
     go (inl a) = absurd (false≢true (sym none ∙ kept a))
     go (inr a) = a
+
+-- what reads a slot stands in the list of its rank
+pub readers-at : (is_such : Cell → Bool) (cells : List Cell) (order : Order) (lists : List (List ℕ)) → AreFanout is_such cells order lists → (slot : ℕ) → IsPlaced order slot
+    → AreReaders is_such cells (rank_in order) slot (readers_at order lists slot)
+readers-at is_such cells order lists fanout slot placed =
+    subst (λ (n : ℕ). AreReaders is_such cells (rank_in order) n (readers_at order lists slot)) placed.stands (fanout.readers_of (rank_in order slot) placed.below)
 
 -- a reader is marked where all readers are
 pub reader-marked : (is_such : Cell → Bool) (cells : List Cell) (rank : ℕ → ℕ) (slot : ℕ) (readers marks : List ℕ) → AreReaders is_such cells rank slot readers

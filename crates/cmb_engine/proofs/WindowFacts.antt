@@ -1,5 +1,5 @@
 -- Why words show a trace at the end of a window that showed it at its begin.
-use Rattle.std.proofs.Common.{◌≡◌, ℕ, ◌+◌, ◌-◌, ◌<◌, ◌≤◌, ◌⊎◌, inl, inr, min, true, false, List, [], length, get_or, refl, sym, ap, subst, ◌∙◌, arith}
+use Rattle.std.proofs.Common.{◌≡◌, ℕ, ◌+◌, ◌-◌, ◌<◌, ◌≤◌, ◌⊎◌, inl, inr, min, true, false, List, length, get_or, refl, sym, ap, subst, ◌∙◌, arith}
 use Rattle.std.specs.List.{AllByRecursion}
 use Rattle.std.proofs.lemmas.Bool.{cases_lt, cases_Bool, false≢true}
 use Rattle.cmb_wave.specs.declared.level.Level.{Level}
@@ -7,7 +7,7 @@ use Rattle.cmb_design_model.specs.declared.rows.Clock.{Clock}
 use Rattle.cmb_design_model.specs.Gate.{gate}
 use Rattle.cmb_design_model.specs.Value.{delayed}
 use Rattle.cmb_engine.specs.Inner.Bits.{has}
-use Rattle.cmb_engine.specs.Inner.Cells.{Cell, Told, Gate, Flop, is_gate, is_made, seen, AreClosed, IsSteady, IsSteadyFrom, IsReadable, IsReady, IsTrueBelow, IsWired, AreMarked, AreSettled, KeepsTold, cell_at, pins_of, reads}
+use Rattle.cmb_engine.specs.Inner.Cells.{Cell, Told, Gate, Flop, is_gate, is_made, seen, AreClosed, IsSteady, IsSteadyFrom, IsReadable, IsReady, IsTrueBelow, IsWired, AreMarked, AreReaders, AreSettled, HaveReaders, KeepsTold, cell_at, pins_of, readers_at, reads}
 use Rattle.cmb_engine.specs.Inner.Circuits.{cell_row, AreFlops, Arrives, AreQuiet, IsFlopOf, IsInGroup, IsMarkedOrRests, IsWiring, MeetsCells, Shows}
 use Rattle.cmb_engine.specs.Inner.Orders.{Order, is_marked, rank_in}
 use Rattle.cmb_engine.specs.Rows.{arrives_by}
@@ -17,7 +17,7 @@ use Rattle.cmb_engine.specs.declared.group.Group.{Group}
 use Rattle.cmb_engine.proofs.CellFacts.{all-weaker, seen-same, settled-steady}
 use Rattle.cmb_engine.proofs.TraceFacts.{all-both, each-pins, lawful-pins, lawful-later, pins-read, made-inside, shown, pins-shown, shown-settled}
 use Rattle.cmb_engine.proofs.TruthFacts.{in_place-tick}
-use Rattle.cmb_engine.proofs.VisitFacts.{reader-marked}
+use Rattle.cmb_engine.proofs.VisitFacts.{reader-marked, readers-at}
 
 -- a word that is steady has one level from the place before on
 steady-at : (word : ℕ → Level) (first place : ℕ) → IsSteadyFrom word first → first ≤ place + 1 → place < 64 → word place ≡ word (first - 1)
@@ -54,6 +54,12 @@ window-wired cells order nodes gate_lists flop_lists flops most wiring count fir
       lawful = λ slot inside. lawful-later (length cells) most first (cell_at cells slot) later (wiring.lawful slot inside);
     })
 
+-- each slot has a list of the gates that read it
+pub window-lists : (cells : List Cell) (order : Order) (nodes : List Cell) (gate_lists flop_lists : List (List ℕ)) (flops : List Group) (most : ℕ) → IsWiring cells order nodes gate_lists flop_lists flops most
+    → (count : ℕ) → length cells ≡ count → HaveReaders order gate_lists count
+window-lists cells order nodes gate_lists flop_lists flops most wiring count nets slot inside =
+    omega (arith, (wiring.ordered.stands slot (omega (arith, inside, nets, wiring.ranked))).below, wiring.gates.count)
+
 -- a window in which no sample arrives that is taken in it is closed
 pub window-closed : (cells : List Cell) (flops : List Group) → AreFlops cells flops → (to first : ℕ)
     → ((clock : Clock) (delay slot place : ℕ) → IsInGroup clock delay slot flops → first ≤ place → place < 64 → arrives_by clock delay (to + place - 64) ≡ true → place < first + delay)
@@ -86,19 +92,19 @@ module _ (trace : ℕ → ℕ → Level) (from ticks to first most count : ℕ) 
 
 -- what stands before words are settled: those that moved on, with what was told and given written into them, and marks of all that
 -- read something new
-pub record IsBegun (trace : ℕ → ℕ → Level) (cells : List Cell) (order : Order) (readers : List (List ℕ)) (most : ℕ) (moved told : ℕ → ℕ → Level) (live marks : List ℕ) (to first : ℕ) : Type 0 where
+pub record IsBegun (trace : ℕ → ℕ → Level) (cells : List Cell) (order : Order) (readers : ℕ → List ℕ) (most : ℕ) (moved told : ℕ → ℕ → Level) (live marks : List ℕ) (to first : ℕ) : Type 0 where
   pub quiet : AreQuiet moved (has live) (length cells)
-  pub news : (slot : ℕ) → slot < length cells → has live slot ≡ true → IsSteadyFrom (moved slot) (first - most) ⊎ AreMarked (has marks) (get_or readers slot [])
-  pub kept : (slot : ℕ) → slot < length cells → (AreMarked (has marks) (get_or readers slot []) → ⊥) → (place : ℕ) → place < 64 → told slot place ≡ moved slot place
+  pub news : (slot : ℕ) → slot < length cells → has live slot ≡ true → IsSteadyFrom (moved slot) (first - most) ⊎ AreMarked (has marks) (readers slot)
+  pub kept : (slot : ℕ) → slot < length cells → (AreMarked (has marks) (readers slot) → ⊥) → (place : ℕ) → place < 64 → told slot place ≡ moved slot place
   pub made : (slot place : ℕ) → is_made (cell_at cells slot) ≡ true → place < 64 → told slot place ≡ moved slot place
   pub told_true : (slot place : ℕ) → slot < length cells → is_made (cell_at cells slot) ≡ false → place < 64 → told slot place ≡ shown trace to slot place
   pub arrivals : (slot place : ℕ) → first ≤ place → place < 64 → Arrives (cell_at cells slot) (to + place - 64) → IsMarkedOrRests (is_marked order marks) told first cells slot
 
-module _ (trace : ℕ → ℕ → Level) (cells : List Cell) (order : Order) (nodes : List Cell) (readers flop_lists : List (List ℕ)) (flops : List Group) (most : ℕ)
-    (wiring : IsWiring cells order nodes readers flop_lists flops most)
+module _ (trace : ℕ → ℕ → Level) (cells : List Cell) (order : Order) (nodes : List Cell) (gate_lists flop_lists : List (List ℕ)) (flops : List Group) (most : ℕ)
+    (wiring : IsWiring cells order nodes gate_lists flop_lists flops most)
     (meets : MeetsCells trace (cell_at cells)) (from ticks to first : ℕ) (window : IsWindow from ticks to first most) (old moved told : ℕ → ℕ → Level)
     (shows : Shows old trace (length cells) from) (moves : (slot place : ℕ) → place < 64 → moved slot place ≡ old slot (min (place + ticks) 63))
-    (live marks : List ℕ) (begun : IsBegun trace cells order readers most moved told live marks to first) where
+    (live marks : List ℕ) (begun : IsBegun trace cells order (readers_at order gate_lists) most moved told live marks to first) where
   -- a slot of which nothing is new: nothing is told or given of it, and it repeats its level as far back as a pin looks
   abbrev IsCalm : ℕ → Type 0
   IsCalm slot = ((place : ℕ) → place < 64 → told slot place ≡ moved slot place) × IsSteadyFrom (moved slot) (first - most)
@@ -113,10 +119,13 @@ module _ (trace : ℕ → ℕ → Level) (cells : List Cell) (order : Order) (no
     go (cases_Bool (has live slot)),
   )
     where
-      marked : AreMarked (has marks) (get_or readers slot []) → ⊥
-      marked h = reader-marked is_gate cells (rank_in order) slot (get_or readers slot []) marks (wiring.gates.readers_of slot) h reader none gate read
+      readers : AreReaders is_gate cells (rank_in order) slot (readers_at order gate_lists slot)
+      readers = readers-at is_gate cells order gate_lists wiring.gates slot (wiring.ordered.stands slot (omega (arith, inside, wiring.ranked)))
 
-      news : IsSteadyFrom (moved slot) (first - most) ⊎ AreMarked (has marks) (get_or readers slot []) → IsSteadyFrom (moved slot) (first - most)
+      marked : AreMarked (has marks) (readers_at order gate_lists slot) → ⊥
+      marked h = reader-marked is_gate cells (rank_in order) slot (readers_at order gate_lists slot) marks readers h reader none gate read
+
+      news : IsSteadyFrom (moved slot) (first - most) ⊎ AreMarked (has marks) (readers_at order gate_lists slot) → IsSteadyFrom (moved slot) (first - most)
       news (inl steady) = steady
       news (inr h) = absurd (marked h)
 

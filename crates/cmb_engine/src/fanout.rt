@@ -1,22 +1,33 @@
 //! The fanout of slots: who is to be visited where a slot has another word.
 
 ghost use Rattle.std.specs.Prelude.{◌≡◌, ℕ, ◌^◌, ◌<◌, All, IfOk, length, map, slice_index_or};
-ghost use Rattle.cmb_engine.specs.Inner.Cells.{Told, cell_at, is_flop, is_gate, AreFanout, pins_of};
-ghost use Rattle.cmb_engine.specs.Inner.Orders.{IsOrder};
+ghost use Rattle.cmb_engine.specs.Inner.Cells.{Told, cell_at, is_flop, is_gate, AreFanout, pins_of, readers_at};
+ghost use Rattle.cmb_engine.specs.Inner.Orders.{IsOrder, rank_in};
 
 use crate::cells::Cells;
 use crate::order::{Order, order_of};
 use crate::readers::{Readers, flop_readers, gate_readers};
 use std::alloc::{AllocError, Global};
 
-/// In which order slots are visited, the cells in this order, so that those that are visited one after another stand
-/// side by side, and for each slot the ranks of the gates and those of the flip-flops that read it.
+/// In which order slots are visited, and in this order the cells, and for each the ranks of the gates and those of the
+/// flip-flops that read it: so what is visited one after another stands side by side.
 #[derive(Drop)]
 pub(crate) struct Fanout {
     pub order: Order,
     pub nodes: Cells,
     pub gates: Readers,
     pub flops: Readers,
+}
+
+impl Fanout {
+    /// The ranks of the gates that read a slot.
+    #[inline]
+    pub(crate) fn gates_of(&self, slot: usize) -> &[u32]
+        requires { rank_in self.now.order slot < length self.now.gates }
+        ensures { result.now ≡ readers_at self.now.order self.now.gates slot }
+    {
+        self.gates.of(self.order.rank(slot) as usize)
+    }
 }
 
 /// The fanout of the slots of cells.

@@ -1,17 +1,17 @@
 //! The passes over live slots where no level is x: of a word, the places that are 1 say all.
 
-ghost use Rattle.std.specs.Prelude.{◌≡◌, ◌≢◌, ℕ, ◌+◌, ◌*◌, ◌<◌, ◌≤◌, ◌⊎◌, true, false, [], length, min, OnOk};
-ghost use Rattle.std.specs.Prelude.{slice_index_or};
+ghost use Rattle.std.specs.Prelude.{◌≡◌, ◌≢◌, ℕ, ◌+◌, ◌*◌, ◌<◌, ◌≤◌, ◌⊎◌, true, false, length, min, OnOk};
 ghost use Rattle.cmb_words.specs.Bits.{is_set_at, level_in};
 ghost use Rattle.cmb_engine.specs.Inner.Batches.{Moves};
 ghost use Rattle.cmb_engine.specs.Inner.Bits.{has};
-ghost use Rattle.cmb_engine.specs.Inner.Cells.{AreBelow, AreMarked, IsSteadyFrom};
+ghost use Rattle.cmb_engine.specs.Inner.Cells.{AreBelow, AreMarked, HaveReaders, IsSteadyFrom, readers_at};
 ghost use Rattle.cmb_engine.specs.Inner.Collects.{IsCollected};
 ghost use Rattle.cmb_engine.specs.Inner.Known.{known_levels};
+ghost use Rattle.cmb_engine.specs.Inner.Orders.{rank_in};
 
+use crate::fanout::Fanout;
 use crate::known::known;
 use crate::marks::{Marked, Marks};
-use crate::readers::Readers;
 use crate::settle::{mark_all, with_place};
 use cmb_netlist::MAX_NETS;
 use cmb_words::{Changed, Places};
@@ -39,14 +39,14 @@ fn are_steady_from(ones: u64, place: u32) -> bool
 
 // Marks what reads a slot, out of line, so that what goes over slots keeps its values in registers.
 #[inline(never)]
-fn mark_readers(marks: &mut Marks, readers: &Readers, slot: usize)
-    requires slot { slot < length readers.now }
-    requires within { AreBelow (64 * length marks.old) readers.now }
+fn mark_readers(marks: &mut Marks, fanout: &Fanout, slot: usize)
+    requires list { rank_in fanout.now.order slot < length fanout.now.gates }
+    requires within { AreBelow (64 * length marks.old) fanout.now.gates }
     ensures len { length marks.new ≡ length marks.old }
     ensures kept { (m : ℕ) → has marks.old m ≡ true → has marks.new m ≡ true }
-    ensures marked { AreMarked (has marks.new) (slice_index_or readers.now slot []) }
+    ensures marked { AreMarked (has marks.new) (readers_at fanout.now.order fanout.now.gates slot) }
 {
-    mark_all(marks, readers.of(slot));
+    mark_all(marks, fanout.gates_of(slot));
 }
 
 // Moves the word of a slot on, and marks what reads it where it changes at a place or after it. Whether it has one
@@ -55,14 +55,14 @@ fn mark_readers(marks: &mut Marks, readers: &Readers, slot: usize)
 fn move_known_slot(
     ones: &mut [u64],
     slot: usize,
-    readers: &Readers,
+    fanout: &Fanout,
     marks: &mut Marks,
     ticks: u32,
     first: u32,
 ) -> bool
     requires slot { slot < length ones.old }
-    requires lists { length readers.now ≡ length ones.old }
-    requires within { AreBelow (64 * length marks.old) readers.now }
+    requires list { rank_in fanout.now.order slot < length fanout.now.gates }
+    requires within { AreBelow (64 * length marks.old) fanout.now.gates }
     requires ticks { ticks < 64 }
     requires begun { 1 ≤ first }
     requires first { first < 64 }
@@ -74,12 +74,12 @@ fn move_known_slot(
         → known_levels ones.new slot place ≡ known_levels ones.old slot (min (place + ticks) 63) }
     ensures steady { result ≡ true → IsSteadyFrom (known_levels ones.new slot) 1 }
     ensures news { IsSteadyFrom (known_levels ones.new slot) first
-        ⊎ AreMarked (has marks.new) (slice_index_or readers.now slot []) }
+        ⊎ AreMarked (has marks.new) (readers_at fanout.now.order fanout.now.gates slot) }
 {
     let moved = advanced_ones(ones[slot], ticks);
     ones[slot] = moved;
     if !are_steady_from(moved, first) {
-        mark_readers(marks, readers, slot);
+        mark_readers(marks, fanout, slot);
     }
     are_steady_from(moved, 1)
 }
@@ -89,25 +89,25 @@ fn move_known_slot(
 pub(crate) fn move_known(
     ones: &mut [u64],
     batch: Marked,
-    readers: &Readers,
+    fanout: &Fanout,
     marks: &mut Marks,
     ticks: u32,
     first: u32,
 ) -> u64
-    requires lists { length readers.now ≡ length ones.old }
-    requires within { AreBelow (64 * length marks.old) readers.now }
+    requires lists { HaveReaders fanout.now.order fanout.now.gates (length ones.old) }
+    requires within { AreBelow (64 * length marks.old) fanout.now.gates }
     requires ticks { ticks < 64 }
     requires begun { 1 ≤ first }
     requires first { first < 64 }
     ensures len { length ones.new ≡ length ones.old }
-    ensures moves { Moves readers.now batch.base batch.places result (length ones.old) ticks first marks.old marks.new
-        (known_levels ones.old) (known_levels ones.new) }
+    ensures moves { Moves (readers_at fanout.now.order fanout.now.gates) batch.base batch.places result
+        (length ones.old) ticks first marks.old marks.new (known_levels ones.old) (known_levels ones.new) }
 {
     let mut steady = 0;
     for place in Places::of(batch.places) {
         let slot = batch.base + place as usize;
         if slot < ones.len() {
-            let is_still = move_known_slot(ones, slot, readers, marks, ticks, first);
+            let is_still = move_known_slot(ones, slot, fanout, marks, ticks, first);
             steady = with_place(steady, place, is_still);
         }
     }

@@ -1,14 +1,15 @@
 //! What stands in words where a window begins, and which slots have news then.
 
-ghost use Rattle.std.specs.Prelude.{◌≡◌, ◌≢◌, ℕ, ◌+◌, ◌*◌, ◌<◌, ◌≤◌, ◌⊎◌, true, [], length, min, slice_index_or};
+ghost use Rattle.std.specs.Prelude.{◌≡◌, ◌≢◌, ℕ, ◌+◌, ◌*◌, ◌<◌, ◌≤◌, ◌⊎◌, true, length, min};
 ghost use Rattle.cmb_engine.specs.Inner.Batches.{Moves};
 ghost use Rattle.cmb_engine.specs.Inner.Bits.{has};
-ghost use Rattle.cmb_engine.specs.Inner.Cells.{AreBelow, AreMarked, IsSteadyFrom};
+ghost use Rattle.cmb_engine.specs.Inner.Cells.{AreBelow, AreMarked, HaveReaders, IsSteadyFrom, readers_at};
 ghost use Rattle.cmb_engine.specs.Inner.Circuits.{AreQuiet};
+ghost use Rattle.cmb_engine.specs.Inner.Orders.{rank_in};
 ghost use Rattle.cmb_engine.specs.Inner.Words.{levels_of};
 
+use crate::fanout::Fanout;
 use crate::marks::{Marked, Marks};
-use crate::readers::Readers;
 use crate::settle::mark_all;
 use crate::walk::Walk;
 use crate::words::Words;
@@ -20,14 +21,14 @@ use cmb_words::Places;
 fn move_slot(
     words: &mut Words,
     slot: usize,
-    readers: &Readers,
+    fanout: &Fanout,
     marks: &mut Marks,
     ticks: u32,
     first: u32,
 ) -> bool
     requires slot { slot < length words.old }
-    requires lists { length readers.now ≡ length words.old }
-    requires within { AreBelow (64 * length marks.old) readers.now }
+    requires list { rank_in fanout.now.order slot < length fanout.now.gates }
+    requires within { AreBelow (64 * length marks.old) fanout.now.gates }
     requires ticks { ticks < 64 }
     requires begun { 1 ≤ first }
     requires first { first < 64 }
@@ -39,13 +40,13 @@ fn move_slot(
         → levels_of words.new slot place ≡ levels_of words.old slot (min (place + ticks) 63) }
     ensures steady { result ≡ true → IsSteadyFrom (levels_of words.new slot) 1 }
     ensures news { IsSteadyFrom (levels_of words.new slot) first
-        ⊎ AreMarked (has marks.new) (slice_index_or readers.now slot []) }
+        ⊎ AreMarked (has marks.new) (readers_at fanout.now.order fanout.now.gates slot) }
 {
     let word = words.get(slot).advanced(ticks);
     words.set(slot, word);
     let is_still = word.is_steady_from(1);
     if !is_still && !word.is_steady_from(first) {
-        mark_all(marks, readers.of(slot));
+        mark_all(marks, fanout.gates_of(slot));
     }
     is_still
 }
@@ -55,24 +56,24 @@ fn move_slot(
 fn move_any(
     words: &mut Words,
     batch: Marked,
-    readers: &Readers,
+    fanout: &Fanout,
     marks: &mut Marks,
     ticks: u32,
     first: u32,
 ) -> u64
-    requires lists { length readers.now ≡ length words.old }
-    requires within { AreBelow (64 * length marks.old) readers.now }
+    requires lists { HaveReaders fanout.now.order fanout.now.gates (length words.old) }
+    requires within { AreBelow (64 * length marks.old) fanout.now.gates }
     requires ticks { ticks < 64 }
     requires begun { 1 ≤ first }
     requires first { first < 64 }
     ensures len { length words.new ≡ length words.old }
-    ensures moves { Moves readers.now batch.base batch.places result (length words.old) ticks first marks.old marks.new
-        (levels_of words.old) (levels_of words.new) }
+    ensures moves { Moves (readers_at fanout.now.order fanout.now.gates) batch.base batch.places result
+        (length words.old) ticks first marks.old marks.new (levels_of words.old) (levels_of words.new) }
 {
     let mut steady = 0;
     for place in Places::of(batch.places) {
         let slot = batch.base + place as usize;
-        if slot < words.len() && move_slot(words, slot, readers, marks, ticks, first) {
+        if slot < words.len() && move_slot(words, slot, fanout, marks, ticks, first) {
             steady |= 1 << place;
         }
     }
@@ -83,23 +84,23 @@ fn move_any(
 fn move_word(
     words: &mut Words,
     batch: Marked,
-    readers: &Readers,
+    fanout: &Fanout,
     marks: &mut Marks,
     ticks: u32,
     first: u32,
 ) -> u64
-    requires lists { length readers.now ≡ length words.old }
-    requires within { AreBelow (64 * length marks.old) readers.now }
+    requires lists { HaveReaders fanout.now.order fanout.now.gates (length words.old) }
+    requires within { AreBelow (64 * length marks.old) fanout.now.gates }
     requires ticks { ticks < 64 }
     requires begun { 1 ≤ first }
     requires first { first < 64 }
     ensures len { length words.new ≡ length words.old }
-    ensures moves { Moves readers.now batch.base batch.places result (length words.old) ticks first marks.old marks.new
-        (levels_of words.old) (levels_of words.new) }
+    ensures moves { Moves (readers_at fanout.now.order fanout.now.gates) batch.base batch.places result
+        (length words.old) ticks first marks.old marks.new (levels_of words.old) (levels_of words.new) }
 {
-    match words.move_known(batch, readers, marks, ticks, first) {
+    match words.move_known(batch, fanout, marks, ticks, first) {
         Some(steady) => steady,
-        None => move_any(words, batch, readers, marks, ticks, first),
+        None => move_any(words, batch, fanout, marks, ticks, first),
     }
 }
 
@@ -110,7 +111,7 @@ fn move_word(
 pub(crate) fn move_on(
     words: &mut Words,
     live: &mut Marks,
-    readers: &Readers,
+    fanout: &Fanout,
     marks: &mut Marks,
     ticks: u32,
     first: u32,
@@ -120,8 +121,8 @@ pub(crate) fn move_on(
     requires begun { 1 ≤ first }
     requires first { first < 64 }
     requires live { length words.old ≤ 64 * length live.old }
-    requires lists { length readers.now ≡ length words.old }
-    requires within { AreBelow (64 * length marks.old) readers.now }
+    requires lists { HaveReaders fanout.now.order fanout.now.gates (length words.old) }
+    requires within { AreBelow (64 * length marks.old) fanout.now.gates }
     requires quiet { AreQuiet (levels_of words.old) (has live.old) (length words.old) }
     ensures len { length words.new ≡ length words.old }
     ensures live { length live.new ≡ length live.old }
@@ -132,11 +133,11 @@ pub(crate) fn move_on(
     ensures quiet { AreQuiet (levels_of words.new) (has live.new) (length words.old) }
     ensures news { (slot : ℕ) → slot < length words.old → has live.new slot ≡ true
         → IsSteadyFrom (levels_of words.new slot) first
-        ⊎ AreMarked (has marks.new) (slice_index_or readers.now slot []) }
+        ⊎ AreMarked (has marks.new) (readers_at fanout.now.order fanout.now.gates slot) }
 {
     let mut walk = Walk::at(0);
     'words: while let Some(batch) = live.next_word(&mut walk, words.len()) {
-        let steady = move_word(words, batch, readers, marks, ticks, first);
+        let steady = move_word(words, batch, fanout, marks, ticks, first);
         live.take_places(batch.base / 64, steady);
     }
 }

@@ -74,18 +74,20 @@ impl Readers {
         Ok(Readers { starts, nets })
     }
 
-    /// The same lists, with ranks in the place of slots.
+    /// The lists of the slots of an order, by rank, with ranks in the place of slots.
     pub(crate) fn ranked(
         alloc: Global,
         lists: &[Numbers],
         order: &Order,
     ) -> Result<Readers, AllocError>
-        ensures { IfOk result (λ readers. readers ≡ map (λ list. map (rank_in order.now) list.items) lists.now) }
+        requires { All (λ slot. slot < length lists.now) order.now.slots }
+        ensures { IfOk result (λ readers. readers ≡ map (λ slot. map (rank_in order.now)
+            (slice_index_or (map (λ list. list.items) lists.now) slot [])) order.now.slots) }
     {
         let mut starts = vec![in alloc; 0; 1]?;
         let mut nets = Vec::new(alloc);
-        for list in lists {
-            push_ranks(&mut nets, list.as_slice(), order)?;
+        for slot in order.slots() {
+            push_ranks(&mut nets, lists[*slot as usize].as_slice(), order)?;
             let Ok(end) = u32::try_from(nets.len()) else {
                 return Err(AllocError);
             };

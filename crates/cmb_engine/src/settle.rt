@@ -138,17 +138,17 @@ fn make_words(
     }
 }
 
-// Marks the flip-flops that read a slot, where a window is open.
+// Marks the flip-flops that read the slot of a rank, where a window is open.
 #[inline]
-fn mark_flops(marks: &mut Marks, flops: &Readers, slot: usize, opened: bool)
-    requires slot { slot < length flops.now }
+fn mark_flops(marks: &mut Marks, flops: &Readers, rank: usize, opened: bool)
+    requires rank { rank < length flops.now }
     requires within { AreBelow (64 * length marks.old) flops.now }
     ensures len { length marks.new ≡ length marks.old }
     ensures kept { (m : ℕ) → has marks.old m ≡ true → has marks.new m ≡ true }
-    ensures marked { opened ≡ true → AreMarked (has marks.new) (slice_index_or flops.now slot []) }
+    ensures marked { opened ≡ true → AreMarked (has marks.new) (slice_index_or flops.now rank []) }
 {
     if opened {
-        mark_all(marks, flops.of(slot));
+        mark_all(marks, flops.of(rank));
     }
 }
 
@@ -158,18 +158,17 @@ fn pass_on(fanout: &Fanout, news: Marked, opened: bool, live: &mut Marks, marks:
         → slice_index fanout.now.order.slots rank < 64 * length live.old }
     requires gates { AreBelow (64 * length marks.old) fanout.now.gates }
     requires flops { AreBelow (64 * length marks.old) fanout.now.flops }
-    requires gate_lists { (rank : ℕ) → rank < length fanout.now.order.slots
-        → slice_index fanout.now.order.slots rank < length fanout.now.gates }
-    requires flop_lists { (rank : ℕ) → rank < length fanout.now.order.slots
-        → slice_index fanout.now.order.slots rank < length fanout.now.flops }
+    requires gate_lists { length fanout.now.gates ≡ length fanout.now.order.slots }
+    requires flop_lists { length fanout.now.flops ≡ length fanout.now.order.slots }
     ensures { Passes fanout.now.order news.base news.places fanout.now.gates fanout.now.flops opened
         marks.old marks.new live.old live.new }
 {
     for place in Places::of(news.places) {
-        if let Some(changed) = fanout.order.slot(news.base + place as usize) {
+        let rank = news.base + place as usize;
+        if let Some(changed) = fanout.order.slot(rank) {
             live.insert(changed);
-            mark_all(marks, fanout.gates.of(changed));
-            mark_flops(marks, &fanout.flops, changed, opened);
+            mark_all(marks, fanout.gates.of(rank));
+            mark_flops(marks, &fanout.flops, rank, opened);
         }
     }
 }

@@ -61,10 +61,10 @@ pub(crate) fn go_on(
         → Shows (levels_of words.new) trace (length words.old) to }
 {
     let first = 64 - ticks;
-    let readers = &wiring.fanout.gates;
-    move_on(words, live, readers, marks, ticks, first - wiring.most);
-    write_told(tells, readers, words, live, marks, to);
-    write_given(given, &wiring.roles, readers, words, live, marks, first);
+    let fanout = &wiring.fanout;
+    move_on(words, live, fanout, marks, ticks, first - wiring.most);
+    write_told(tells, fanout, words, live, marks, to);
+    write_given(given, &wiring.roles, fanout, words, live, marks, first);
     let opened = mark_arrivals(
         wiring.flops.as_slice(),
         &wiring.fanout.order,

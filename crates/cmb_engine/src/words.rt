@@ -4,7 +4,7 @@ ghost use Rattle.std.specs.Prelude.{◌≡◌, ◌*◌, ◌<◌, ◌≤◌, ℕ,
 ghost use Rattle.std.specs.Prelude.{slice_index, slice_index_or, slice_set};
 ghost use Rattle.cmb_engine.specs.Inner.Arrivals.{IsArrival};
 ghost use Rattle.cmb_engine.specs.Inner.Batches.{Makes, Moves};
-ghost use Rattle.cmb_engine.specs.Inner.Cells.{AreBelow, Cell, cell_at, IsLawful};
+ghost use Rattle.cmb_engine.specs.Inner.Cells.{AreBelow, Cell, HaveReaders, cell_at, IsLawful, readers_at};
 ghost use Rattle.cmb_engine.specs.Inner.Known.{known_planes};
 ghost use Rattle.cmb_engine.specs.Inner.Orders.{IsOrder};
 ghost use Rattle.cmb_engine.specs.Inner.Planes.{Planes, planes_of};
@@ -13,11 +13,11 @@ ghost use Rattle.cmb_engine.specs.Inner.Words.{levels_of};
 
 use crate::arrivals::Arrival;
 use crate::cells::Cells;
+use crate::fanout::Fanout;
 use crate::known::make_known;
 use crate::known_passes::move_known;
 use crate::marks::{Marked, Marks};
 use crate::order::Order;
-use crate::readers::Readers;
 use cmb_words::Word;
 use std::alloc::{AllocError, Global};
 use std::marker::Model;
@@ -171,24 +171,25 @@ impl Words {
     pub(crate) fn move_known(
         &mut self,
         batch: Marked,
-        readers: &Readers,
+        fanout: &Fanout,
         marks: &mut Marks,
         ticks: u32,
         first: u32,
     ) -> Option<u64>
-        requires lists { length readers.now ≡ length self.old }
-        requires within { AreBelow (64 * length marks.old) readers.now }
+        requires lists { HaveReaders fanout.now.order fanout.now.gates (length self.old) }
+        requires within { AreBelow (64 * length marks.old) fanout.now.gates }
         requires ticks { ticks < 64 }
         requires begun { 1 ≤ first }
         requires first { first < 64 }
         ensures len { length self.new ≡ length self.old }
         ensures none { IfNone result ((self.new ≡ self.old) × (marks.new ≡ marks.old)) }
-        ensures moves { IfSome result (λ steady. Moves readers.now batch.base batch.places steady (length self.old)
-            ticks first marks.old marks.new (levels_of self.old) (levels_of self.new)) }
+        ensures moves { IfSome result (λ steady. Moves (readers_at fanout.now.order fanout.now.gates)
+            batch.base batch.places steady (length self.old) ticks first marks.old marks.new
+            (levels_of self.old) (levels_of self.new)) }
     {
         if !self.known {
             return None;
         }
-        Some(move_known(&mut self.ones, batch, readers, marks, ticks, first))
+        Some(move_known(&mut self.ones, batch, fanout, marks, ticks, first))
     }
 }

@@ -51,16 +51,18 @@ pub record Passes (order : Order) (base news : ℕ) (gate_lists flop_lists : Lis
   pub kept : (m : ℕ) → has old_marks m ≡ true → has new_marks m ≡ true
   pub live : (m : ℕ) → has old_live m ≡ true → has new_live m ≡ true
   pub lives : (slot : ℕ) → IsAt order base news slot → has new_live slot ≡ true
-  pub gates : (slot : ℕ) → IsAt order base news slot → AreMarked (has new_marks) (slice_index_or gate_lists slot [])
-  pub flops : open_window ≡ true → (slot : ℕ) → IsAt order base news slot → AreMarked (has new_marks) (slice_index_or flop_lists slot [])
+  pub gates : (place : ℕ) → place < 64 → is_set_at news place ≡ true → base + place < length order.slots
+      → AreMarked (has new_marks) (slice_index_or gate_lists (base + place) [])
+  pub flops : open_window ≡ true → (place : ℕ) → place < 64 → is_set_at news place ≡ true → base + place < length order.slots
+      → AreMarked (has new_marks) (slice_index_or flop_lists (base + place) [])
 
 -- the words of the slots at some places moved on by so many ticks, and `steady` has the places of such as have one level then; what
 -- reads a slot was marked, where its word changes at a place or after it
-pub record Moves (lists : List (List ℕ)) (base places steady count ticks first : ℕ) (old_marks new_marks : List ℕ) (old new : ℕ → ℕ → Level) : Type 0 where
+pub record Moves (readers : ℕ → List ℕ) (base places steady count ticks first : ℕ) (old_marks new_marks : List ℕ) (old new : ℕ → ℕ → Level) : Type 0 where
   pub room : length new_marks ≡ length old_marks
   pub kept : (m : ℕ) → has old_marks m ≡ true → has new_marks m ≡ true
   pub others : (slot place : ℕ) → (IsSetAt base places slot → ⊥) → new slot place ≡ old slot place
   pub moved : (slot place : ℕ) → IsSetAt base places slot → place < 64 → new slot place ≡ old slot (min (place + ticks) 63)
   pub still : (slot : ℕ) → IsSetAt base steady slot → IsSteadyFrom (new slot) 1
   pub news : (slot : ℕ) → IsSetAt base places slot → slot < count
-      → IsSteadyFrom (new slot) first ⊎ AreMarked (has new_marks) (slice_index_or lists slot [])
+      → IsSteadyFrom (new slot) first ⊎ AreMarked (has new_marks) (readers slot)

@@ -134,13 +134,22 @@ pub record AreLists (is_such : Cell → Bool) (cells : List Cell) (lists : List 
   pub listed : (m place : ℕ) → is_such (cell_at cells m) ≡ true → reads (cell_at cells m) place ≡ true → IsListed lists place m
   pub within : AreBelow (length cells) lists
 
--- for each of some slots a list with the ranks of all such cells that read it
+-- for each rank a list with the ranks of all such cells that read its slot
 pub record AreFanout (is_such : Cell → Bool) (cells : List Cell) (order : Order) (lists : List (List ℕ)) : Type 0 where
-  pub count : length lists ≡ length cells
-  pub readers_of : (slot : ℕ) → AreReaders is_such cells (rank_in order) slot (slice_index_or lists slot [])
+  pub count : length lists ≡ length order.slots
+  pub readers_of : (rank : ℕ) → rank < length order.slots
+      → AreReaders is_such cells (rank_in order) (slice_index order.slots rank) (slice_index_or lists rank [])
   pub within : AreBelow (length order.slots) lists
 
--- cells of so many slots, of which none looks back beyond a place, and who reads each slot
+-- the list of a slot's rank
+abbrev pub readers_at : Order → List (List ℕ) → ℕ → List ℕ
+readers_at order lists slot = slice_index_or lists (rank_in order slot) []
+
+-- there is a list for each of so many slots
+abbrev pub HaveReaders : Order → List (List ℕ) → ℕ → Type 0
+HaveReaders order lists count = (slot : ℕ) → slot < count → rank_in order slot < length lists
+
+-- cells of so many slots, of which none looks back beyond a place, and who reads each slot, by its rank
 pub record IsWired (cells : List Cell) (order : Order) (nodes : List Cell) (gate_lists flop_lists : List (List ℕ)) (count first : ℕ) : Type 0 where
   pub nets : length cells ≡ count
   pub ranked : length order.ranks ≡ count

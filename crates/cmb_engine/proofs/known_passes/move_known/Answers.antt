@@ -1,6 +1,6 @@
 use Rattle.std.proofs.Common.{◌≡◌, ◌+◌, ◌∙◌, inl, refl, sym, arith, length}
 use Rattle.cmb_words.specs.Bits.{places_set}
-use Rattle.cmb_engine.specs.Inner.Cells.{IsSteadyFrom}
+use Rattle.cmb_engine.specs.Inner.Cells.{IsSteadyFrom, readers_at}
 use Rattle.cmb_engine.specs.Inner.Known.{known_levels, known_planes}
 use Rattle.cmb_engine.proofs.KnownFacts.{known-length}
 use Rattle.cmb_engine.proofs.MoveFacts.{levels_of-past, moving-moves, moving-next, moving-none, moving-small, place-wanted}
@@ -13,19 +13,19 @@ loop-place-init c =
       len = refl;
       room = refl;
       kept = λ m h. h;
-      moving = moving-none c.args.readers.now c.args.batch.base c.args.batch.places (length c.args.ones.now) c.args.ticks c.args.first c.into_iter-place-iterator.result c.args.marks.now
+      moving = moving-none (readers_at c.args.fanout.now.order c.args.fanout.now.gates) c.args.batch.base c.args.batch.places (length c.args.ones.now) c.args.ticks c.args.first c.into_iter-place-iterator.result c.args.marks.now
           (known_levels c.args.ones.now) is;
     }
 
 pub overflow_add-slot : goal.overflow_add-slot
 overflow_add-slot c =
-    let small = moving-small c.args.readers.now c.args.batch.base c.args.batch.places (length c.args.ones.now) c.args.ticks c.args.first c.loop-place.place-iterator c.loop-place.marks
+    let small = moving-small (readers_at c.args.fanout.now.order c.args.fanout.now.gates) c.args.batch.base c.args.batch.places (length c.args.ones.now) c.args.ticks c.args.first c.loop-place.place-iterator c.loop-place.marks
     (known_levels c.args.ones.now) (known_levels c.loop-place.ones) c.loop-place.steady c.loop-place.invariant.moving c.in-Some.place c.next.new.self c.in-Some.ensures.steps in
     omega (arith, small, c.args.batch.fits)
 
 pub with_place-steady-requires : goal.with_place-steady-requires
 with_place-steady-requires c =
-    moving-small c.args.readers.now c.args.batch.base c.args.batch.places (length c.args.ones.now) c.args.ticks c.args.first c.loop-place.place-iterator c.loop-place.marks
+    moving-small (readers_at c.args.fanout.now.order c.args.fanout.now.gates) c.args.batch.base c.args.batch.places (length c.args.ones.now) c.args.ticks c.args.first c.loop-place.place-iterator c.loop-place.marks
     (known_levels c.args.ones.now) (known_levels c.loop-place.ones) c.loop-place.steady c.loop-place.invariant.moving c.in-Some.place c.next.new.self c.in-Some.ensures.steps
 
 pub loop-place-preserved-then-slot-ones : goal.loop-place-preserved-then-slot-ones
@@ -34,7 +34,7 @@ loop-place-preserved-then-slot-ones c =
       len = c.move_known_slot-is_still.ensures.len ∙ c.loop-place.invariant.len;
       room = c.move_known_slot-is_still.ensures.room ∙ c.loop-place.invariant.room;
       kept = λ m h. c.move_known_slot-is_still.ensures.kept m (c.loop-place.invariant.kept m h);
-      moving = moving-next c.args.readers.now c.args.batch.base c.args.batch.places (length c.args.ones.now) c.args.ticks c.args.first c.loop-place.place-iterator c.loop-place.marks
+      moving = moving-next (readers_at c.args.fanout.now.order c.args.fanout.now.gates) c.args.batch.base c.args.batch.places (length c.args.ones.now) c.args.ticks c.args.first c.loop-place.place-iterator c.loop-place.marks
           (known_levels c.args.ones.now) (known_levels c.loop-place.ones) c.loop-place.steady c.loop-place.invariant.moving c.in-Some.place c.next.new.self c.in-Some.ensures.steps
           c.move_known_slot-is_still.new.marks (known_levels c.move_known_slot-is_still.new.ones) c.with_place-steady.result c.move_known_slot-is_still.ensures.others c.move_known_slot-is_still.ensures.moved
           (λ i set. place-wanted (IsSteadyFrom (known_levels c.move_known_slot-is_still.new.ones (c.args.batch.base + c.in-Some.place)) 1) c.loop-place.steady c.with_place-steady.result
@@ -49,7 +49,7 @@ loop-place-preserved c =
       len = c.loop-place.invariant.len;
       room = c.loop-place.invariant.room;
       kept = c.loop-place.invariant.kept;
-      moving = moving-next c.args.readers.now c.args.batch.base c.args.batch.places (length c.args.ones.now) c.args.ticks c.args.first c.loop-place.place-iterator c.loop-place.marks
+      moving = moving-next (readers_at c.args.fanout.now.order c.args.fanout.now.gates) c.args.batch.base c.args.batch.places (length c.args.ones.now) c.args.ticks c.args.first c.loop-place.place-iterator c.loop-place.marks
           (known_levels c.args.ones.now) (known_levels c.loop-place.ones) c.loop-place.steady c.loop-place.invariant.moving c.in-Some.place c.next.new.self c.in-Some.ensures.steps
           c.loop-place.marks (known_levels c.loop-place.ones) c.loop-place.steady (λ m q other. refl)
           (λ q l. levels_of-past (known_planes c.loop-place.ones) _ q (omega (arith, past, c.if-slot-ones.false))
@@ -59,5 +59,5 @@ loop-place-preserved c =
 
 pub returns-clause-moves : goal.returns-clause-moves
 returns-clause-moves c =
-    moving-moves c.args.readers.now c.args.batch.base c.args.batch.places c.loop-place.steady (length c.args.ones.now) c.args.ticks c.args.first c.loop-place.place-iterator c.args.marks.now c.loop-place.marks
+    moving-moves (readers_at c.args.fanout.now.order c.args.fanout.now.gates) c.args.batch.base c.args.batch.places c.loop-place.steady (length c.args.ones.now) c.args.ticks c.args.first c.loop-place.place-iterator c.args.marks.now c.loop-place.marks
     (known_levels c.args.ones.now) (known_levels c.loop-place.ones) c.loop-place.invariant.room c.loop-place.invariant.kept c.loop-place.invariant.moving c.in-None.ensures.steps.0

@@ -1,5 +1,6 @@
 use Rattle.std.proofs.Common.{◌*◌, ◌∙◌, length, arith}
 use Rattle.cmb_engine.specs.Inner.Bits.{has}
+use Rattle.cmb_engine.specs.Inner.Cells.{readers_at}
 use Rattle.cmb_engine.specs.Inner.Walks.{walked}
 use Rattle.cmb_engine.specs.Inner.Words.{levels_of}
 use Rattle.cmb_engine.proofs.MoveFacts.{moved-all, moved-word, quiet-word, told-all, told-word}
@@ -19,7 +20,7 @@ words-preserved c =
       quiet = quiet-word c.words.live (walked c.words.walk) _ batch.base batch.places word (levels_of c.words.words) (levels_of c.move_word-steady.new.words) c.move_word-steady.ensures.moves.others
           c.take_places.new.self c.move_word-steady.result c.take_places.ensures.has c.move_word-steady.ensures.moves.still (length c.args.words.now) c.words.invariant.quiet;
       told = told-word c.words.live (walked c.words.walk) _ batch.base batch.places word (levels_of c.words.words) (levels_of c.move_word-steady.new.words) c.move_word-steady.ensures.moves.others
-          c.take_places.new.self c.move_word-steady.result c.take_places.ensures.has c.move_word-steady.ensures.moves.still c.args.readers.now c.words.marks c.move_word-steady.new.marks
+          c.take_places.new.self c.move_word-steady.result c.take_places.ensures.has c.move_word-steady.ensures.moves.still (readers_at c.args.fanout.now.order c.args.fanout.now.gates) c.words.marks c.move_word-steady.new.marks
           (length c.args.words.now) c.args.first c.move_word-steady.ensures.moves.kept
           (λ slot set inside. c.move_word-steady.ensures.moves.news slot set (omega (arith, inside, c.words.invariant.len))) c.words.invariant.told;
     }
@@ -31,5 +32,5 @@ returns-clause-moved c =
 
 pub returns-clause-news : goal.returns-clause-news
 returns-clause-news c =
-    told-all c.args.readers.now (levels_of c.words.words) (length c.args.words.now) c.words.live c.words.marks c.args.first (64 * walked c.words.walk)
+    told-all (readers_at c.args.fanout.now.order c.args.fanout.now.gates) (levels_of c.words.words) (length c.args.words.now) c.words.live c.words.marks c.args.first (64 * walked c.words.walk)
     (λ slot late inside. c.in_default.ensures slot late (omega (arith, inside, c.words.invariant.len))) c.words.invariant.told

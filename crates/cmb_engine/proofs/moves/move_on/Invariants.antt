@@ -1,5 +1,6 @@
 use Rattle.std.proofs.Common.{◌≡◌, ◌-◌, ◌*◌, ℕ, true, length}
 use Rattle.cmb_engine.specs.Inner.Bits.{has}
+use Rattle.cmb_engine.specs.Inner.Cells.{readers_at}
 use Rattle.cmb_engine.specs.Inner.Circuits.{AreQuiet}
 use Rattle.cmb_engine.specs.Inner.Walks.{walked}
 use Rattle.cmb_engine.specs.Inner.Words.{levels_of}
@@ -14,7 +15,7 @@ invariant-words l = record {
   kept : (m : ℕ) → has l.initial.marks m ≡ true → has l.marks m ≡ true;
   moved : AreMoved (levels_of l.initial.words) (levels_of l.words) (length l.initial.words) l.ticks (64 * walked l.walk);
   quiet : AreQuiet (levels_of l.words) (has l.live) (length l.initial.words);
-  told : AreTold l.readers (levels_of l.words) (length l.initial.words) l.live l.marks l.first (64 * walked l.walk);
+  told : AreTold (readers_at l.fanout.order l.fanout.gates) (levels_of l.words) (length l.initial.words) l.live l.marks l.first (64 * walked l.walk);
 }
 
 abbrev pub decreases-words : goal.decreases-words

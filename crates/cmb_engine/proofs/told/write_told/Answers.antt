@@ -8,7 +8,8 @@ use Rattle.cmb_wave.specs.declared.level.Level.TheVariants.{Zero}
 use Rattle.cmb_wheel.specs.declared.event.LevelEvent.{LevelEvent}
 use Rattle.cmb_engine.specs.Inner.Planes.{Planes, planes_of}
 use Rattle.cmb_engine.specs.Inner.Bits.{has}
-use Rattle.cmb_engine.specs.Inner.Cells.{AreMarked}
+use Rattle.cmb_engine.specs.Inner.Cells.{AreMarked, readers_at}
+use Rattle.cmb_engine.specs.Inner.Orders.{rank_in}
 use Rattle.cmb_engine.specs.Inner.Tells.{told_level}
 use Rattle.cmb_engine.specs.Inner.Words.{levels_of}
 use Rattle.cmb_engine.proofs.TellFacts.{told-more, told-written}
@@ -43,21 +44,21 @@ with_from-word-requires c =
     let facts = listed _ _ _ c.requires.slots c.loop-event-test.true in
     omega (arith, facts.2, facts.3)
 
-pub of-requires : goal.of-requires
-of-requires c =
+pub gates_of-requires : goal.gates_of-requires
+gates_of-requires c =
     let facts = listed _ _ _ c.requires.slots c.loop-event-test.true in
-    omega (arith, facts.0, c.requires.lists)
+    c.requires.lists _ facts.0
 
 pub put_word-requires : goal.put_word-requires
 put_word-requires c =
     let facts = listed _ _ _ c.requires.slots c.loop-event-test.true in
-    let place : ℕ = (get_or c.args.tells.now c.loop-event.event-index none).slot in
+    let place : ℕ = rank_in c.args.fanout.now.order (get_or c.args.tells.now c.loop-event.event-index none).slot in
     record {
       slot = omega (arith, facts.0, c.loop-event.invariant.writes.len);
       within = λ k d small.
-          let below : get_or c.of.result.now k d < 64 * length c.args.marks.now =
-          subst (λ (readers : List ℕ). get_or readers k d < 64 * length c.args.marks.now) (sym c.of.ensures)
-          (c.requires.within place k d (subst (λ (readers : List ℕ). k < length readers) c.of.ensures small)) in
+          let below : get_or c.gates_of.result.now k d < 64 * length c.args.marks.now =
+          subst (λ (readers : List ℕ). get_or readers k d < 64 * length c.args.marks.now) (sym c.gates_of.ensures)
+          (c.requires.within place k d (subst (λ (readers : List ℕ). k < length readers) c.gates_of.ensures small)) in
           omega (arith, below, c.loop-event.invariant.writes.room);
       live = omega (arith, c.requires.live, c.loop-event.invariant.writes.len, c.loop-event.invariant.writes.live_room);
     }
@@ -65,7 +66,6 @@ put_word-requires c =
 pub loop-event-preserved : goal.loop-event-preserved
 loop-event-preserved c =
     let event : LevelEvent = get_or c.args.tells.now c.loop-event.event-index none in
-    let lists : List (List ℕ) = c.args.readers.now in
     let facts = listed _ _ _ c.requires.slots c.loop-event-test.true in
     let inside : event.slot < length c.loop-event.words = omega (arith, facts.0, c.loop-event.invariant.writes.len) in
     record {
@@ -85,8 +85,8 @@ loop-event-preserved c =
                 let e : c.loop-event.event-index ≡ k = omega (arith, l, now) in
                 let here : event ≡ get_or c.args.tells.now k d =
                 get_or_default c.args.tells.now c.loop-event.event-index none d c.loop-event-test.true ∙ ap (λ (n : ℕ). get_or c.args.tells.now n d) e in
-                subst (λ (t : LevelEvent). AreMarked (has c.put_word.new.marks) (get_or lists t.slot [])) here
-                (subst (λ (readers : List ℕ). AreMarked (has c.put_word.new.marks) readers) c.of.ensures c.put_word.ensures.news)
+                subst (λ (t : LevelEvent). AreMarked (has c.put_word.new.marks) (readers_at c.args.fanout.now.order c.args.fanout.now.gates t.slot)) here
+                (subst (λ (readers : List ℕ). AreMarked (has c.put_word.new.marks) readers) c.gates_of.ensures c.put_word.ensures.news)
           ];
     }
 
@@ -97,5 +97,5 @@ returns-clause-words c = λ slot place inside small.
 
 pub returns-clause-news : goal.returns-clause-news
 returns-clause-news c = λ event among.
-    subst (λ (t : LevelEvent). AreMarked (has c.loop-event.marks) (get_or c.args.readers.now t.slot [])) among.2
+    subst (λ (t : LevelEvent). AreMarked (has c.loop-event.marks) (readers_at c.args.fanout.now.order c.args.fanout.now.gates t.slot)) among.2
     (c.loop-event.invariant.news among.0 event (omega (arith, among.1, c.loop-event-test.false)))

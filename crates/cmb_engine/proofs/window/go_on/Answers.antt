@@ -1,7 +1,7 @@
-use Rattle.std.proofs.Common.{◌≡◌, ◌+◌, ◌-◌, ◌<◌, true, ℕ, List, [], length, get_or, sym, subst, ◌∙◌, arith}
+use Rattle.std.proofs.Common.{◌≡◌, ◌+◌, ◌-◌, ◌<◌, true, ℕ, List, length, sym, subst, arith}
 use Rattle.std.specs.Prelude.{All}
 use Rattle.cmb_engine.specs.Inner.Bits.{has}
-use Rattle.cmb_engine.specs.Inner.Cells.{Cell, IsSteadyFrom, AreMarked, cell_at}
+use Rattle.cmb_engine.specs.Inner.Cells.{Cell, IsSteadyFrom, AreMarked, cell_at, readers_at}
 use Rattle.cmb_engine.specs.Inner.Circuits.{IsGroup, IsGroupWithin, IsInGroup, Shows}
 use Rattle.cmb_engine.specs.Inner.Gifts.{is_written, AreWritten}
 use Rattle.cmb_engine.specs.Inner.Roles.{AreToldNets, gives}
@@ -12,7 +12,7 @@ use Rattle.cmb_engine.specs.declared.role.Role.{Role}
 use Rattle.cmb_engine.proofs.GivenFacts.{made-kept, unmarked-kept, written-true}
 use Rattle.cmb_engine.proofs.GroupFacts.{arrives-flop, groups-within}
 use Rattle.cmb_engine.proofs.TraceFacts.{made-inside}
-use Rattle.cmb_engine.proofs.WindowFacts.{IsBegun, IsWindow, marked-kept, window-closed, window-wired, window-shows}
+use Rattle.cmb_engine.proofs.WindowFacts.{IsBegun, IsWindow, marked-kept, window-closed, window-lists, window-shows, window-wired}
 use Rattle.cmb_engine.proofs.window.go_on.Goals as goal
 
 pub write_told-requires-clause-slots : goal.write_told-requires-clause-slots
@@ -52,6 +52,7 @@ write_given-requires-clause-slots c = λ slot gift.
 pub returns-clause-shows : goal.returns-clause-shows
 returns-clause-shows c = λ trace meets shows right given slot place inside small.
     let lists : List (List ℕ) = c.args.wiring.now.fanout.gates in
+    let readers : ℕ → List ℕ = readers_at c.args.wiring.now.fanout.order lists in
     let cells : List Cell = c.args.wiring.now.cells in
     let roles : List Role = c.args.wiring.now.roles.items in
     let same_roles : roles ≡ c.deref.result.now = sym c.deref.ensures.value in
@@ -65,20 +66,20 @@ returns-clause-shows c = λ trace meets shows right given slot place inside smal
     let writes : AreWritten roles c.args.given.now (levels_of c.write_told.new.words) (levels_of c.write_given.new.words) (64 - c.args.ticks) =
     subst (λ (rs : List Role). AreWritten rs c.args.given.now (levels_of c.write_told.new.words) (levels_of c.write_given.new.words) (64 - c.args.ticks)) (sym same_roles)
     c.write_given.ensures.written in
-    let given_news : (s : ℕ) → is_written roles c.args.given.now s ≡ true → AreMarked (has c.write_given.new.marks) (get_or lists s []) =
-    subst (λ (rs : List Role). (s : ℕ) → is_written rs c.args.given.now s ≡ true → AreMarked (has c.write_given.new.marks) (get_or lists s [])) (sym same_roles) c.write_given.ensures.news in
-    let begun : IsBegun trace cells c.args.wiring.now.fanout.order lists c.args.wiring.now.most (levels_of c.move_on.new.words) (levels_of c.write_given.new.words)
+    let given_news : (s : ℕ) → is_written roles c.args.given.now s ≡ true → AreMarked (has c.write_given.new.marks) (readers s) =
+    subst (λ (rs : List Role). (s : ℕ) → is_written rs c.args.given.now s ≡ true → AreMarked (has c.write_given.new.marks) (readers s)) (sym same_roles) c.write_given.ensures.news in
+    let begun : IsBegun trace cells c.args.wiring.now.fanout.order readers c.args.wiring.now.most (levels_of c.move_on.new.words) (levels_of c.write_given.new.words)
     c.move_on.new.live c.mark_arrivals-opened.new.marks c.args.to (64 - c.args.ticks) =
     record {
       quiet = λ s p l. c.move_on.ensures.quiet s p (omega (arith, l, c.requires.nets));
       news = λ s l is.
-          marked-kept (IsSteadyFrom (levels_of c.move_on.new.words s) (64 - c.args.ticks - c.args.wiring.now.most)) c.move_on.new.marks c.mark_arrivals-opened.new.marks (get_or lists s [])
+          marked-kept (IsSteadyFrom (levels_of c.move_on.new.words s) (64 - c.args.ticks - c.args.wiring.now.most)) c.move_on.new.marks c.mark_arrivals-opened.new.marks (readers s)
           (λ m h. c.mark_arrivals-opened.ensures.kept m (c.write_given.ensures.writes.marks m (c.write_told.ensures.writes.marks m h)))
           (c.move_on.ensures.news s (omega (arith, l, c.requires.nets)) is);
       kept =
           unmarked-kept trace cells roles (c.args.to - c.args.ticks) c.args.ticks c.args.to (64 - c.args.ticks) c.args.wiring.now.most window
           (levels_of c.args.words.now) (levels_of c.move_on.new.words) (levels_of c.write_told.new.words) (levels_of c.write_given.new.words)
-          shown_before c.move_on.ensures.moved c.args.tells.now tells c.args.given.now given c.requires.gives told_words writes lists c.mark_arrivals-opened.new.marks
+          shown_before c.move_on.ensures.moved c.args.tells.now tells c.args.given.now given c.requires.gives told_words writes readers c.mark_arrivals-opened.new.marks
           (λ event among k l. c.mark_arrivals-opened.ensures.kept _ (c.write_given.ensures.writes.marks _ (c.write_told.ensures.news event among k l)))
           (λ s h k l. c.mark_arrivals-opened.ensures.kept _ (given_news s h k l));
       made = λ s p m l.
@@ -105,7 +106,9 @@ returns-clause-shows c = λ trace meets shows right given slot place inside smal
     slot place (omega (arith, inside, c.requires.nets)) small
 
 pub move_on-requires-clause-lists : goal.move_on-requires-clause-lists
-move_on-requires-clause-lists c = c.requires.wiring.gates.count ∙ c.requires.nets
+move_on-requires-clause-lists c =
+    window-lists c.args.wiring.now.cells c.args.wiring.now.fanout.order c.args.wiring.now.fanout.nodes c.args.wiring.now.fanout.gates c.args.wiring.now.fanout.flops c.args.wiring.now.flops.items
+    c.args.wiring.now.most c.requires.wiring _ c.requires.nets
 
 pub move_on-requires-clause-within : goal.move_on-requires-clause-within
 move_on-requires-clause-within c = λ place k d small. omega (arith, c.requires.wiring.gates.within place k d small, c.requires.room)
@@ -113,7 +116,8 @@ move_on-requires-clause-within c = λ place k d small. omega (arith, c.requires.
 pub write_told-requires-clause-lists : goal.write_told-requires-clause-lists
 write_told-requires-clause-lists c =
     let nets : length c.args.wiring.now.cells ≡ length c.move_on.new.words = omega (arith, c.requires.nets, c.move_on.ensures.len) in
-    c.requires.wiring.gates.count ∙ nets
+    window-lists c.args.wiring.now.cells c.args.wiring.now.fanout.order c.args.wiring.now.fanout.nodes c.args.wiring.now.fanout.gates c.args.wiring.now.fanout.flops c.args.wiring.now.flops.items
+    c.args.wiring.now.most c.requires.wiring _ nets
 
 pub write_told-requires-clause-within : goal.write_told-requires-clause-within
 write_told-requires-clause-within c = λ place k d small. omega (arith, c.requires.wiring.gates.within place k d small, c.requires.room, c.move_on.ensures.room)
@@ -124,7 +128,8 @@ write_told-requires-clause-live c = omega (arith, c.requires.live, c.move_on.ens
 pub write_given-requires-clause-lists : goal.write_given-requires-clause-lists
 write_given-requires-clause-lists c =
     let nets : length c.args.wiring.now.cells ≡ length c.write_told.new.words = omega (arith, c.requires.nets, c.move_on.ensures.len, c.write_told.ensures.writes.len) in
-    c.requires.wiring.gates.count ∙ nets
+    window-lists c.args.wiring.now.cells c.args.wiring.now.fanout.order c.args.wiring.now.fanout.nodes c.args.wiring.now.fanout.gates c.args.wiring.now.fanout.flops c.args.wiring.now.flops.items
+    c.args.wiring.now.most c.requires.wiring _ nets
 
 pub write_given-requires-clause-within : goal.write_given-requires-clause-within
 write_given-requires-clause-within c = λ place k d small. omega (arith, c.requires.wiring.gates.within place k d small, c.requires.room, c.move_on.ensures.room, c.write_told.ensures.writes.room)

@@ -2,6 +2,7 @@ use Rattle.std.proofs.Common.{◌≡◌, ℕ, List, length, get_or, sym, ap, sub
 use Rattle.std.proofs.lemmas.List.{with_items_is}
 use Rattle.std.specs.Vec.{with_items}
 use Rattle.cmb_engine.specs.Inner.Batches.{Moves}
+use Rattle.cmb_engine.specs.Inner.Cells.{HaveReaders, readers_at}
 use Rattle.cmb_engine.specs.Inner.Known.{known_planes}
 use Rattle.cmb_engine.specs.Inner.Planes.{Planes, planes_in}
 use Rattle.cmb_engine.specs.Inner.Words.{levels_of}
@@ -10,8 +11,8 @@ use Rattle.cmb_engine.proofs.words.Words.move_known.Goals as goal
 
 pub move_known-requires-clause-lists : goal.move_known-requires-clause-lists
 move_known-requires-clause-lists c =
-    c.requires.lists
-    ∙ sym (as-many c.args.self.now c.self.inside.ones.items c.self.inside.unknown.items c.deref_mut.result.now c.deref_mut.ensures.value c.self.invariant.same c.self.view_is)
+    subst (HaveReaders c.args.fanout.now.order c.args.fanout.now.gates)
+    (sym (as-many c.args.self.now c.self.inside.ones.items c.self.inside.unknown.items c.deref_mut.result.now c.deref_mut.ensures.value c.self.invariant.same c.self.view_is)) c.requires.lists
 
 pub returns-clause-len : goal.returns-clause-len
 returns-clause-len c =
@@ -37,9 +38,9 @@ returns-clause-moves c =
     ap known_planes c.deref_mut.ensures.value ∙ sym (planes-known ones unknown c.self.invariant.same clear) ∙ c.self.view_is in
     let new : known_planes made ≡ planes_in (with_items c.self.inside.ones made).items unknown =
     sym (planes-known made unknown (c.self.invariant.same ∙ sym count) clear) ∙ ap (λ (ms : List ℕ). planes_in ms unknown) (sym items) in
-    subst (λ (n : ℕ). Moves c.args.readers.now c.args.batch.base c.args.batch.places c.move_known.result n c.args.ticks c.args.first c.args.marks.now c.move_known.new.marks
+    subst (λ (n : ℕ). Moves (readers_at c.args.fanout.now.order c.args.fanout.now.gates) c.args.batch.base c.args.batch.places c.move_known.result n c.args.ticks c.args.first c.args.marks.now c.move_known.new.marks
     (levels_of c.args.self.now) (levels_of (planes_in (with_items c.self.inside.ones made).items unknown))) many
-    (subst (λ (ws : List Planes). Moves c.args.readers.now c.args.batch.base c.args.batch.places c.move_known.result (length c.deref_mut.result.now) c.args.ticks c.args.first c.args.marks.now
+    (subst (λ (ws : List Planes). Moves (readers_at c.args.fanout.now.order c.args.fanout.now.gates) c.args.batch.base c.args.batch.places c.move_known.result (length c.deref_mut.result.now) c.args.ticks c.args.first c.args.marks.now
     c.move_known.new.marks (levels_of ws) (levels_of (planes_in (with_items c.self.inside.ones made).items unknown))) old
-    (subst (λ (ws : List Planes). Moves c.args.readers.now c.args.batch.base c.args.batch.places c.move_known.result (length c.deref_mut.result.now) c.args.ticks c.args.first c.args.marks.now
+    (subst (λ (ws : List Planes). Moves (readers_at c.args.fanout.now.order c.args.fanout.now.gates) c.args.batch.base c.args.batch.places c.move_known.result (length c.deref_mut.result.now) c.args.ticks c.args.first c.args.marks.now
     c.move_known.new.marks (levels_of (known_planes c.deref_mut.result.now)) (levels_of ws)) new c.move_known.ensures.moves))
