@@ -16,12 +16,12 @@ use std::marker::Model;
 /// Numbers of slots, or of lines. Up to four of them need no memory of their own.
 pub(crate) type Numbers = SmallVec<u32, 4>;
 
-/// Which nets read each slot, or which lines follow each net, seen as a list for each.
+/// Which ranks read the slot of each rank, or which lines follow each net, seen as a list for each.
 ///
-/// The lists stand one behind the other, so that those of many slots fit into a processor's cache.
+/// The lists stand one behind the other, so that many fit into a processor's cache.
 #[derive(Drop)]
 pub(crate) struct Readers {
-    // Where each slot's list begins, and where the last one ends.
+    // Where each list begins, and where the last one ends.
     starts: Vec<u32>,
     nets: Vec<u32>,
 }
@@ -96,14 +96,14 @@ impl Readers {
         Ok(Readers { starts, nets })
     }
 
-    /// The nets that read a slot.
+    /// The list of a number.
     #[inline]
-    pub(crate) fn of(&self, slot: usize) -> &[u32]
-        requires { slot < length self.now }
-        ensures { result.now ≡ slice_index_or self.now slot [] }
+    pub(crate) fn of(&self, number: usize) -> &[u32]
+        requires { number < length self.now }
+        ensures { result.now ≡ slice_index_or self.now number [] }
     {
-        let begin = self.starts[slot] as usize;
-        let end = self.starts[slot + 1] as usize;
+        let begin = self.starts[number] as usize;
+        let end = self.starts[number + 1] as usize;
         &self.nets[begin..end]
     }
 }
