@@ -9,7 +9,7 @@ use Rattle.cmb_words.specs.Bits.{is_set_at, places_set}
 use Rattle.cmb_words.proofs.MaskFacts.{places-all, places-each}
 use Rattle.cmb_engine.specs.Inner.Batches.{Makes, Passes}
 use Rattle.cmb_engine.specs.Inner.Bits.{has}
-use Rattle.cmb_engine.specs.Inner.Cells.{Cell, Told, AreClosed, AreMarked, IsMade, IsReady, IsSettled, IsTrueBelow, KeepsTold, Relies, cell_at, is_made}
+use Rattle.cmb_engine.specs.Inner.Cells.{Cell, Nodes, Told, AreClosed, AreMarked, IsMade, IsReady, IsSettled, IsTrueBelow, KeepsTold, Relies, cell_at, is_made}
 use Rattle.cmb_engine.specs.Inner.Orders.{Order, IsAmong, IsAt}
 use Rattle.cmb_engine.proofs.SweepFacts.{inserted-keeps, ready-moves, told-visit, visited-true}
 use Rattle.cmb_engine.proofs.VisitFacts.{cell-agrees, made-same, same-both, visit-settles}
@@ -180,16 +180,18 @@ module _ (cells : ℕ → Cell) (order : Order) (to first base places place : �
           others m upto other ∙ h.truer truth upto from little ready below m is_made' was (less order base place rest left is slot at m none other)
 
 -- what the cell of a rank made is written as the word of its slot
-pub making-writes : (cells nodes : List Cell) (order : Order) → nodes ≡ map (cell_at cells) order.slots
+pub making-writes : (cells : List Cell) (nodes : Nodes) (order : Order) → nodes.slots ≡ order.slots → nodes.cells ≡ map (cell_at cells) order.slots
     → (to first base places place : ℕ) (rest left : List ℕ) → left ≡ place ∷ rest → (news more : ℕ) (old f g : ℕ → ℕ → Level)
-    → (slot : ℕ) → base + place < length order.slots → slot ≡ get_or order.slots (base + place) 0 → place < 64 → 1 ≤ first
+    → (slot : ℕ) → base + place < length nodes.slots → slot ≡ get_or nodes.slots (base + place) 0 → place < 64 → 1 ≤ first
     → (word : ℕ → Level) → ((q : ℕ) → g slot q ≡ word q) → ((m q : ℕ) → m ≢ slot → g m q ≡ f m q)
-    → ((q : ℕ) → q < first → word q ≡ f slot q) → (is_made (cell_at nodes (base + place)) ≡ false → (q : ℕ) → word q ≡ f slot q)
-    → IsMade f word to first (cell_at nodes (base + place)) → (differs : Bool) → (differs ≡ false → (q : ℕ) → first ≤ q → q < 64 → word q ≡ f slot q)
+    → ((q : ℕ) → q < first → word q ≡ f slot q) → (is_made (cell_at nodes.cells (base + place)) ≡ false → (q : ℕ) → word q ≡ f slot q)
+    → IsMade f word to first (cell_at nodes.cells (base + place)) → (differs : Bool) → (differs ≡ false → (q : ℕ) → first ≤ q → q < 64 → word q ≡ f slot q)
     → is_set_at more place ≡ (differs || is_set_at news place) → ((i : ℕ) → i ≢ place → is_set_at more i ≡ is_set_at news i)
     → IsMaking (cell_at cells) order to first base places left news old f → IsMaking (cell_at cells) order to first base places rest more old g
-making-writes cells nodes order in_order to first base places place rest left is news more old f g slot inside at small begun word written others below told made differs kept here there h =
-    let stands : cell_at nodes (base + place) ≡ cell_at cells slot =
+making-writes cells nodes order same_slots in_order to first base places place rest left is news more old f g slot within read small begun word written others below told made differs kept here there h =
+    let inside : base + place < length order.slots = subst (λ (slots : List ℕ). base + place < length slots) same_slots within in
+    let at : slot ≡ get_or order.slots (base + place) 0 = read ∙ ap (λ (slots : List ℕ). get_or slots (base + place) 0) same_slots in
+    let stands : cell_at nodes.cells (base + place) ≡ cell_at cells slot =
     ap (λ (ns : List Cell). cell_at ns (base + place)) in_order ∙ get_or-map (cell_at cells) order.slots (base + place) 0 Told inside ∙ ap (cell_at cells) (sym at) in
     making-visits (cell_at cells) order to first base places place rest left is news more old f g slot inside at small begun others
     (λ q l. written q ∙ below q l)

@@ -15,6 +15,7 @@ pub mod KnownFacts
 pub mod LineFacts
 pub mod MarkFacts
 pub mod MoveFacts
+pub mod NodeFacts
 pub mod NoteFacts
 pub mod OpenFacts
 pub mod PlaceFacts

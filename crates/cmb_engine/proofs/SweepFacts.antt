@@ -4,7 +4,7 @@ use Rattle.std.proofs.lemmas.Bool.{cases_Bool, cases_lt, cases_eq, eq-eqb, or_le
 use Rattle.cmb_wave.specs.declared.level.Level.{Level}
 use Rattle.cmb_engine.specs.Inner.Bits.{has, HasNone}
 use Rattle.cmb_engine.specs.Inner.Batches.{IsSetAt, IsTaken, Makes, Passes}
-use Rattle.cmb_engine.specs.Inner.Cells.{Cell, is_flop, is_gate, is_made, AreClosed, AreFanout, AreReaders, IsMade, IsReadable, IsReady, IsSettled, IsTrueBelow, IsWired, AreSettled, KeepsTold, Relies, cell_at}
+use Rattle.cmb_engine.specs.Inner.Cells.{Cell, Nodes, is_flop, is_gate, is_made, AreClosed, AreFanout, AreReaders, IsMade, IsReadable, IsReady, IsSettled, IsTrueBelow, IsWired, AreSettled, KeepsTold, Relies, cell_at}
 use Rattle.cmb_engine.specs.Inner.Orders.{Order, IsAt, IsOrder, IsPlaced, is_marked, rank_in}
 use Rattle.cmb_engine.specs.Inner.Sweeps.{Sweeps}
 use Rattle.cmb_engine.proofs.CellFacts.{each-weaker, made-true, settled-true}
@@ -118,7 +118,7 @@ module _ (cells : List Cell) (order : Order) (ordered : IsOrder order) (ranked :
 
 -- ---- a batch was taken, made and passed on
 
-module _ (cells : List Cell) (order : Order) (nodes : List Cell) (gates flops : List (List ℕ)) (count to first : ℕ) (wired : IsWired cells order nodes gates flops count first) (opened : Bool)
+module _ (cells : List Cell) (order : Order) (nodes : Nodes) (gates flops : List (List ℕ)) (count to first : ℕ) (wired : IsWired cells order nodes gates flops count first) (opened : Bool)
     (closed : opened ≡ false → AreClosed (cell_at cells) to first) (f g : ℕ → ℕ → Level) (marks taken marked live more : List ℕ) (from upto base places news : ℕ)
     (take : IsTaken marks taken from upto base places) (makes : Makes (cell_at cells) order to first base places news f g)
     (passes : Passes order base news gates flops opened taken marked live more) where

@@ -1,12 +1,11 @@
 -- Cells kept in two lists.
-use Rattle.std.proofs.Common.{◌≡◌, ℕ, zero, suc, ◌+◌, ◌<◌, List, [], ◌∷◌, ◌++◌, length, map, take, get_or, refl, ap₂, sym, ◌∙◌, ap, arith}
-use Rattle.std.proofs.lemmas.List.{get_or_default, length-append, length-map, length-take, take_more}
+use Rattle.std.proofs.Common.{◌≡◌, ℕ, zero, suc, ◌+◌, ◌<◌, List, [], ◌∷◌, ◌++◌, length, take, get_or, refl, sym, ◌∙◌, ap, arith}
+use Rattle.std.proofs.lemmas.List.{length-append, length-map, length-take, take_more}
 use Rattle.cmb_netlist.specs.declared.netlist.Kind.{Kind}
 use Rattle.cmb_design_model.specs.Design.{Design}
 use Rattle.cmb_design_model.specs.Timing.{delay}
 use Rattle.cmb_engine.specs.Inner.Plans.{pins_from}
-use Rattle.cmb_engine.specs.Inner.Cells.{Cell, Told, Gate, cell_at}
-use Rattle.std.specs.Prelude.{All}
+use Rattle.cmb_engine.specs.Inner.Cells.{Cell, Told, Gate}
 use Rattle.cmb_engine.specs.Inner.Tables.{cell_of, cells_of, pins_at, IsInside, AreInside}
 use Rattle.cmb_engine.specs.declared.cell.Pin.{Pin}
 use Rattle.cmb_engine.specs.declared.cells.PinRange.{PinRange}
@@ -106,24 +105,3 @@ pins_from-more design net operands i d h =
     let n : length (take i operands) ≡ i = simp length-take (omega arith) in
     let pin : 1 + length (take i operands) ≡ i + 1 = omega arith in
     ap (pins_from design net 1) (take_more operands i d h) ∙ pins_from-append design net 1 (take i operands) (get_or operands i d) ∙ rw pin refl
-
--- ---- the rules of some slots
-
-module _ (pins : List Pin) (rules : List Rule) (cells : List Cell) (is : cells_of pins rules ≡ cells) where
-  pub rules_len : length rules ≡ length cells
-  rules_len = sym (length-map rules (cell_of pins)) ∙ ap length is
-
-  pub picked-cells : (slots : List ℕ) → All (λ slot. slot < length cells) slots → cells_of pins (map (λ slot. get_or rules slot rule.Told) slots) ≡ map (cell_at cells) slots
-  picked-cells [] all = refl
-  picked-cells (slot ∷ slots) all =
-      let inside : slot < length cells = all 0 slot (omega arith) in
-      let r : Rule = get_or rules slot rule.Told in
-      let read : r ≡ get_or rules slot r = get_or_default rules slot rule.Told r (omega (arith, inside, rules_len)) in
-      ap₂ (λ (cell : Cell) (more : List Cell). cell ∷ more) (sym (read-cell pins rules cells slot r is inside read))
-      (picked-cells slots (λ k d l. all (suc k) d (omega (arith, l))))
-
-  pub picked-inside : AreInside pins rules → (slots : List ℕ) → All (λ slot. slot < length cells) slots → AreInside pins (map (λ slot. get_or rules slot rule.Told) slots)
-  picked-inside each [] all = tt
-  picked-inside each (slot ∷ slots) all =
-      let inside : slot < length cells = all 0 slot (omega arith) in
-      (inside-get_or pins rules slot rule.Told each (omega (arith, inside, rules_len)), picked-inside each slots (λ k d l. all (suc k) d (omega (arith, l))))

@@ -7,7 +7,7 @@ use Rattle.cmb_design_model.specs.declared.rows.Clock.{Clock}
 use Rattle.cmb_design_model.specs.Gate.{gate}
 use Rattle.cmb_design_model.specs.Value.{delayed}
 use Rattle.cmb_engine.specs.Inner.Bits.{has}
-use Rattle.cmb_engine.specs.Inner.Cells.{Cell, Told, Gate, Flop, is_gate, is_made, seen, AreClosed, IsSteady, IsSteadyFrom, IsReadable, IsReady, IsTrueBelow, IsWired, AreMarked, AreReaders, AreSettled, HaveReaders, KeepsTold, cell_at, pins_of, readers_at, reads}
+use Rattle.cmb_engine.specs.Inner.Cells.{Cell, Nodes, Told, Gate, Flop, is_gate, is_made, seen, AreClosed, IsSteady, IsSteadyFrom, IsReadable, IsReady, IsTrueBelow, IsWired, AreMarked, AreReaders, AreSettled, HaveReaders, KeepsTold, cell_at, pins_of, readers_at, reads}
 use Rattle.cmb_engine.specs.Inner.Circuits.{cell_row, AreFlops, Arrives, AreQuiet, IsFlopOf, IsInGroup, IsMarkedOrRests, IsWiring, MeetsCells, Shows}
 use Rattle.cmb_engine.specs.Inner.Orders.{Order, is_marked, rank_in}
 use Rattle.cmb_engine.specs.Rows.{arrives_by}
@@ -41,13 +41,14 @@ pub record IsWindow (from ticks to first most : ℕ) : Type 0 where
   pub fits : most < first
 
 -- what settles the words of a window needs
-pub window-wired : (cells : List Cell) (order : Order) (nodes : List Cell) (gate_lists flop_lists : List (List ℕ)) (flops : List Group) (most : ℕ) → IsWiring cells order nodes gate_lists flop_lists flops most
+pub window-wired : (cells : List Cell) (order : Order) (nodes : Nodes) (gate_lists flop_lists : List (List ℕ)) (flops : List Group) (most : ℕ) → IsWiring cells order nodes gate_lists flop_lists flops most
     → (count first : ℕ) → length cells ≡ count → most ≤ first → IsWired cells order nodes gate_lists flop_lists count first
 window-wired cells order nodes gate_lists flop_lists flops most wiring count first nets later =
     subst (λ (n : ℕ). IsWired cells order nodes gate_lists flop_lists n first) nets (record {
       nets = refl;
       ranked = wiring.ranked;
       ordered = wiring.ordered;
+      slots_in_order = wiring.slots_in_order;
       in_order = wiring.in_order;
       gates = wiring.gates;
       flops = wiring.samplers;
@@ -100,7 +101,7 @@ pub record IsBegun (trace : ℕ → ℕ → Level) (cells : List Cell) (order : 
   pub told_true : (slot place : ℕ) → slot < length cells → is_made (cell_at cells slot) ≡ false → place < 64 → told slot place ≡ shown trace to slot place
   pub arrivals : (slot place : ℕ) → first ≤ place → place < 64 → Arrives (cell_at cells slot) (to + place - 64) → IsMarkedOrRests (is_marked order marks) told first cells slot
 
-module _ (trace : ℕ → ℕ → Level) (cells : List Cell) (order : Order) (nodes : List Cell) (gate_lists flop_lists : List (List ℕ)) (flops : List Group) (most : ℕ)
+module _ (trace : ℕ → ℕ → Level) (cells : List Cell) (order : Order) (nodes : Nodes) (gate_lists flop_lists : List (List ℕ)) (flops : List Group) (most : ℕ)
     (wiring : IsWiring cells order nodes gate_lists flop_lists flops most)
     (meets : MeetsCells trace (cell_at cells)) (from ticks to first : ℕ) (window : IsWindow from ticks to first most) (old moved told : ℕ → ℕ → Level)
     (shows : Shows old trace (length cells) from) (moves : (slot place : ℕ) → place < 64 → moved slot place ≡ old slot (min (place + ticks) 63))

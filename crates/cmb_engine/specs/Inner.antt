@@ -12,6 +12,7 @@ pub mod Gifts
 pub mod Known
 pub mod Lines
 pub mod Lists
+pub mod Nodes
 pub mod Orders
 pub mod Planes
 pub mod Plans

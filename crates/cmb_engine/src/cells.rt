@@ -2,28 +2,16 @@
 
 ghost use Rattle.std.specs.Prelude.{◌≡◌, ℕ, ◌+◌, ◌^◌, ◌<◌, ◌++◌, ◌∷◌, [], true, false, All, IfOk, OnOk};
 ghost use Rattle.std.specs.Prelude.{MatchOption, length, map, replicate, slice_index_or};
-ghost use Rattle.cmb_words.specs.Bits.{level_in};
-ghost use Rattle.cmb_words.specs.Word.{level_at_place};
-ghost use Rattle.cmb_engine.specs.Inner.Arrivals.{IsArrival};
 ghost use Rattle.cmb_engine.specs.Inner.Cells.{Told, Gate, Flop};
-ghost use Rattle.cmb_engine.specs.Inner.Cells.{cell_at, is_flop, is_gate, is_made, pins_of as pins_of_cell, reads};
-ghost use Rattle.cmb_engine.specs.Inner.Cells.{AreBelow};
-ghost use Rattle.cmb_engine.specs.Inner.Cells.{IsListed, IsMade, IsLawful};
-ghost use Rattle.cmb_engine.specs.Inner.Known.{known_levels};
+ghost use Rattle.cmb_engine.specs.Inner.Cells.{cell_at, is_flop, is_gate, pins_of as pins_of_cell, reads, with_node};
+ghost use Rattle.cmb_engine.specs.Inner.Cells.{AreBelow, IsListed};
 ghost use Rattle.cmb_engine.specs.Inner.Tables.{IsInside, cell_of};
-ghost use Rattle.cmb_engine.specs.Inner.Windows.{HasWindow};
-ghost use Rattle.cmb_engine.specs.declared.cells.Rule.{Rule};
-ghost use Rattle.cmb_engine.specs.Inner.Words.{levels_of};
 
-use crate::arrivals::Arrival;
 use crate::cell::Pin;
-use crate::known::{known_double, known_flop, known_gate, known_single, spliced_ones};
+use crate::nodes::Nodes;
 use crate::readers::{Numbers, push_pins};
-use crate::visit::{double_word, flop_word, gate_word, single_word};
-use crate::words::Words;
 use cmb_design_model::Clock;
 use cmb_netlist::Kind;
-use cmb_words::{Word, spliced};
 use std::alloc::{AllocError, Global};
 use std::marker::Model;
 
@@ -35,8 +23,8 @@ pub(crate) struct PinRange {
 }
 
 impl PinRange {
-    // The part at the end of a list to which so many items are about to be added.
-    fn behind(length: usize, count: usize) -> Result<PinRange, AllocError>
+    /// The part at the end of a list to which so many items are about to be added.
+    pub(crate) fn behind(length: usize, count: usize) -> Result<PinRange, AllocError>
         ensures { IfOk result (λ part. (part.first ≡ length) × (part.count ≡ count)) }
     {
         match (u32::try_from(length), u32::try_from(count)) {
@@ -55,27 +43,6 @@ pub(crate) enum Rule {
     Double(Kind, Pin, Pin),
     Gate(Kind, PinRange),
     Flop(Clock, Pin),
-}
-
-// The rule of a slot.
-fn rule_of(rules: &[Rule], slot: usize) -> Rule
-    requires { slot < length rules.now }
-    ensures { (d : Rule) → result ≡ slice_index_or rules.now slot d }
-{
-    rules[slot]
-}
-
-// The rules of some slots, one after another.
-fn picked_rules(alloc: Global, rules: &[Rule], slots: &[u32]) -> Result<Vec<Rule>, AllocError>
-    requires { All (λ slot. slot < length rules.now) slots.now }
-    ensures { IfOk result (λ picked. (d : Rule)
-        → picked.items ≡ map (λ slot. slice_index_or rules.now slot d) slots.now) }
-{
-    let mut picked = Vec::with_capacity(alloc, slots.len())?;
-    for slot in slots {
-        picked.push(rule_of(rules, *slot as usize))?;
-    }
-    Ok(picked)
 }
 
 /// The cells of nets, by their numbers.
@@ -249,91 +216,21 @@ impl Cells {
         }
     }
 
-    /// The cells of some slots, one after another.
-    pub(crate) fn picked(&self, alloc: Global, slots: &[u32]) -> Result<Cells, AllocError>
-        requires { All (λ slot. slot < length self.now) slots.now }
-        ensures { IfOk result (λ cells. cells ≡ map (cell_at self.now) slots.now) }
+    /// Adds a slot and its cell to what visits read.
+    pub(crate) fn add_node(&self, slot: u32, nodes: &mut Nodes) -> Result<(), AllocError>
+        requires { slot < length self.now }
+        ensures { OnOk result (nodes.new ≡ with_node nodes.old slot (cell_at self.now slot)) }
     {
-        let rules = picked_rules(alloc, &self.rules, slots)?;
-        let mut pins = Vec::new(alloc);
-        pins.extend_from_slice(&self.pins)?;
-        Ok(Cells { rules, pins })
-    }
-
-    /// What a cell, given by its number, makes of the words from a place on, with what stands below it in a slot's
-    /// word.
-    #[inline]
-    pub(crate) fn word(
-        &self,
-        number: usize,
-        slot: usize,
-        words: &Words,
-        last: &mut Arrival,
-        to: u32,
-        first: u32,
-    ) -> Word
-        requires number { number < length self.now }
-        requires slot { slot < length words.now }
-        requires last { IsArrival last.old to first }
-        requires cell { IsLawful (length words.now) first (slice_index_or self.now number Told) }
-        requires window { HasWindow to first }
-        ensures last { IsArrival last.new to first }
-        ensures below { (place : ℕ) → place < first → level_at_place result place ≡ levels_of words.now slot place }
-        ensures made { IsMade (levels_of words.now) (level_at_place result) to first
-            (slice_index_or self.now number Told) }
-        ensures told { is_made (slice_index_or self.now number Told) ≡ false
-            → (place : ℕ) → level_at_place result place ≡ levels_of words.now slot place }
-    {
-        let own = words.get(slot);
-        match self.rules[number] {
-            Rule::Told => own,
-            Rule::Single(kind, pin) => spliced(own, single_word(kind, pin, words), first),
-            Rule::Double(kind, pin, other) => {
-                spliced(own, double_word(kind, pin, other, words), first)
-            }
+        match self.rules[slot as usize] {
+            Rule::Told => nodes.push_told(slot),
+            Rule::Single(kind, pin) => nodes.push_gate(slot, kind, &[pin]),
+            Rule::Double(kind, pin, other) => nodes.push_gate(slot, kind, &[pin, other]),
             Rule::Gate(kind, part) => {
                 let begin = part.first as usize;
                 let pins = &self.pins[begin..begin + part.count as usize];
-                spliced(own, gate_word(kind, pins, words, first), first)
+                nodes.push_gate(slot, kind, pins)
             }
-            Rule::Flop(clock, pin) => flop_word(clock, pin, own, words, last, to, first),
-        }
-    }
-
-    /// As `word`, where no level is x: of words, the places that are 1.
-    #[inline]
-    pub(crate) fn known_word(
-        &self,
-        number: usize,
-        own: u64,
-        ones: &[u64],
-        last: &mut Arrival,
-        to: u32,
-        first: u32,
-    ) -> u64
-        requires number { number < length self.now }
-        requires last { IsArrival last.old to first }
-        requires cell { IsLawful (length ones.now) first (slice_index_or self.now number Told) }
-        requires window { HasWindow to first }
-        ensures last { IsArrival last.new to first }
-        ensures below { (place : ℕ) → place < first → level_in result 0 place ≡ level_in own 0 place }
-        ensures made { IsMade (known_levels ones.now) (level_in result 0) to first
-            (slice_index_or self.now number Told) }
-        ensures told { is_made (slice_index_or self.now number Told) ≡ false
-            → (place : ℕ) → level_in result 0 place ≡ level_in own 0 place }
-    {
-        match self.rules[number] {
-            Rule::Told => own,
-            Rule::Single(kind, pin) => spliced_ones(own, known_single(kind, pin, ones), first),
-            Rule::Double(kind, pin, other) => {
-                spliced_ones(own, known_double(kind, pin, other, ones), first)
-            }
-            Rule::Gate(kind, part) => {
-                let begin = part.first as usize;
-                let pins = &self.pins[begin..begin + part.count as usize];
-                spliced_ones(own, known_gate(kind, pins, ones, first), first)
-            }
-            Rule::Flop(clock, pin) => known_flop(clock, pin, own, ones, last, to, first),
+            Rule::Flop(clock, pin) => nodes.push_flop(slot, clock, pin),
         }
     }
 }

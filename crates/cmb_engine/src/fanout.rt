@@ -5,6 +5,7 @@ ghost use Rattle.cmb_engine.specs.Inner.Cells.{Told, cell_at, is_flop, is_gate, 
 ghost use Rattle.cmb_engine.specs.Inner.Orders.{IsOrder, rank_in};
 
 use crate::cells::Cells;
+use crate::nodes::Nodes;
 use crate::order::{Order, order_of};
 use crate::readers::{Readers, flop_readers, gate_readers};
 use std::alloc::{AllocError, Global};
@@ -14,7 +15,7 @@ use std::alloc::{AllocError, Global};
 #[derive(Drop)]
 pub(crate) struct Fanout {
     pub order: Order,
-    pub nodes: Cells,
+    pub nodes: Nodes,
     pub gates: Readers,
     pub flops: Readers,
 }
@@ -37,7 +38,8 @@ pub(crate) fn fanout_of(alloc: Global, cells: &Cells) -> Result<Fanout, AllocErr
         → All (λ pin. pin.net < length cells.now) (pins_of (slice_index_or cells.now net Told)) }
     ensures ordered { IfOk result (λ fanout. IsOrder fanout.order) }
     ensures ranked { IfOk result (λ fanout. length fanout.order.ranks ≡ length cells.now) }
-    ensures nodes { IfOk result (λ fanout. fanout.nodes ≡ map (cell_at cells.now) fanout.order.slots) }
+    ensures slots { IfOk result (λ fanout. fanout.nodes.slots ≡ fanout.order.slots) }
+    ensures nodes { IfOk result (λ fanout. fanout.nodes.cells ≡ map (cell_at cells.now) fanout.order.slots) }
     ensures gates { IfOk result (λ fanout. AreFanout is_gate cells.now fanout.order fanout.gates) }
     ensures flops { IfOk result (λ fanout. AreFanout is_flop cells.now fanout.order fanout.flops) }
 {
@@ -45,7 +47,7 @@ pub(crate) fn fanout_of(alloc: Global, cells: &Cells) -> Result<Fanout, AllocErr
     let flops = flop_readers(alloc, cells)?;
     let order = order_of(alloc, cells, &gates, &flops)?;
     Ok(Fanout {
-        nodes: cells.picked(alloc, order.slots())?,
+        nodes: Nodes::of(alloc, cells, order.slots())?,
         gates: Readers::ranked(alloc, &gates, &order)?,
         flops: Readers::ranked(alloc, &flops, &order)?,
         order,

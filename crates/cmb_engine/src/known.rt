@@ -1,6 +1,6 @@
 //! What the cell of a net makes of the words of others where no level is x: of a word, the places that are 1 say all.
 
-ghost use Rattle.std.specs.Prelude.{◌≡◌, ℕ, ◌+◌, ◌-◌, ◌<◌, ◌≤◌, false, List, [], ◌∷◌, All, length, map};
+ghost use Rattle.std.specs.Prelude.{◌≡◌, ℕ, ◌+◌, ◌-◌, ◌<◌, ◌≤◌, false, List, [], ◌∷◌, All, length, map, slice_index};
 ghost use Rattle.std.specs.Prelude.{if◌then◌else◌};
 ghost use Rattle.cmb_design_model.specs.Gate.{gate};
 ghost use Rattle.cmb_words.specs.Bits.{level_in};
@@ -9,15 +9,14 @@ ghost use Rattle.cmb_engine.specs.Inner.Arrivals.{IsArrival};
 ghost use Rattle.cmb_engine.specs.Inner.Batches.{Makes};
 ghost use Rattle.cmb_engine.specs.Inner.Cells.{Cell, cell_at, seen, IsLawful, IsPace};
 ghost use Rattle.cmb_engine.specs.Inner.Known.{known_levels};
-ghost use Rattle.cmb_engine.specs.Inner.Orders.{IsOrder};
+ghost use Rattle.cmb_engine.specs.Inner.Orders.{Order};
 ghost use Rattle.cmb_engine.specs.Inner.Windows.{HasWindow};
 ghost use Rattle.cmb_engine.specs.Rows.{arrives_by};
 
 use crate::arrivals::{Arrival, arrival_of};
 use crate::cell::Pin;
-use crate::cells::Cells;
 use crate::marks::Marked;
-use crate::order::Order;
+use crate::nodes::Nodes;
 use crate::settle::with_place;
 use cmb_design_model::Clock;
 use cmb_netlist::Kind;
@@ -140,8 +139,7 @@ pub(crate) fn known_flop(
 ///
 /// Most slots of a batch are of one level, so none waits for what another one stores.
 pub(crate) fn make_known(
-    nodes: &Cells,
-    order: &Order,
+    nodes: &Nodes,
     ones: &mut [u64],
     last: &mut Arrival,
     batch: Marked,
@@ -149,22 +147,22 @@ pub(crate) fn make_known(
     first: u32,
 ) -> u64
     requires last { IsArrival last.old to first }
-    requires ranked { length order.now.ranks ≡ length ones.old }
-    requires ordered { IsOrder order.now }
-    requires nodes { length nodes.now ≡ length order.now.slots }
-    requires lawful { (rank : ℕ) → rank < length nodes.now
-        → IsLawful (length ones.old) first (cell_at nodes.now rank) }
+    requires within { (rank : ℕ) → rank < length nodes.now.slots
+        → slice_index nodes.now.slots rank < length ones.old }
+    requires lawful { (rank : ℕ) → rank < length nodes.now.slots
+        → IsLawful (length ones.old) first (cell_at nodes.now.cells rank) }
     requires window { HasWindow to first }
     ensures len { length ones.new ≡ length ones.old }
     ensures last { IsArrival last.new to first }
-    ensures makes { (cells : List Cell) → nodes.now ≡ map (cell_at cells) order.now.slots
-        → Makes (cell_at cells) order.now to first batch.base batch.places result
+    ensures makes { (cells : List Cell) (order : Order) → nodes.now.slots ≡ order.slots
+        → nodes.now.cells ≡ map (cell_at cells) order.slots
+        → Makes (cell_at cells) order to first batch.base batch.places result
         (known_levels ones.old) (known_levels ones.new) }
 {
     let mut news = 0;
     for place in Places::of(batch.places) {
         let rank = batch.base + place as usize;
-        if let Some(slot) = order.slot(rank) {
+        if let Some(slot) = nodes.slot(rank) {
             let own = ones[slot];
             let made = nodes.known_word(rank, own, ones, last, to, first);
             news = with_place(news, place, ones_differ(made, own, first));

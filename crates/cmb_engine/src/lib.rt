@@ -20,6 +20,7 @@ pub mod laws;
 mod lines;
 mod marks;
 mod moves;
+mod nodes;
 mod open;
 mod order;
 mod plan;

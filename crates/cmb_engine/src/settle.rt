@@ -10,17 +10,16 @@ ghost use Rattle.cmb_words.specs.Bits.{is_set_at};
 ghost use Rattle.cmb_engine.specs.Inner.Batches.{Makes, Passes};
 ghost use Rattle.cmb_engine.specs.Inner.Cells.{Cell, cell_at, AreBelow, AreMarked, AreSettled, IsLawful, IsReady};
 ghost use Rattle.cmb_engine.specs.Inner.Cells.{IsTrueBelow};
-ghost use Rattle.cmb_engine.specs.Inner.Orders.{is_marked, IsOrder};
+ghost use Rattle.cmb_engine.specs.Inner.Orders.{is_marked, Order};
 ghost use Rattle.cmb_engine.specs.Inner.Planes.{planes_of};
 ghost use Rattle.cmb_engine.specs.Inner.Sweeps.{CanSweep, Sweeps};
 ghost use Rattle.cmb_engine.specs.Inner.Windows.{HasWindow};
 ghost use Rattle.cmb_engine.specs.Inner.Words.{levels_of, Writes};
 
 use crate::arrivals::{Arrival, any_arrival};
-use crate::cells::Cells;
 use crate::fanout::Fanout;
 use crate::marks::{Marked, Marks};
-use crate::order::Order;
+use crate::nodes::Nodes;
 use crate::readers::Readers;
 use crate::walk::Walk;
 use crate::wiring::Wiring;
@@ -76,8 +75,7 @@ pub(crate) fn with_place(mask: u64, place: u32, is_wanted: bool) -> u64
 //
 // Most slots of a batch are of one level, so none waits for what another one stores.
 fn make_any(
-    nodes: &Cells,
-    order: &Order,
+    nodes: &Nodes,
     words: &mut Words,
     last: &mut Arrival,
     batch: Marked,
@@ -85,22 +83,22 @@ fn make_any(
     first: u32,
 ) -> u64
     requires last { IsArrival last.old to first }
-    requires ranked { length order.now.ranks ≡ length words.old }
-    requires ordered { IsOrder order.now }
-    requires nodes { length nodes.now ≡ length order.now.slots }
-    requires lawful { (rank : ℕ) → rank < length nodes.now
-        → IsLawful (length words.old) first (cell_at nodes.now rank) }
+    requires within { (rank : ℕ) → rank < length nodes.now.slots
+        → slice_index nodes.now.slots rank < length words.old }
+    requires lawful { (rank : ℕ) → rank < length nodes.now.slots
+        → IsLawful (length words.old) first (cell_at nodes.now.cells rank) }
     requires window { HasWindow to first }
     ensures len { length words.new ≡ length words.old }
     ensures last { IsArrival last.new to first }
-    ensures makes { (cells : List Cell) → nodes.now ≡ map (cell_at cells) order.now.slots
-        → Makes (cell_at cells) order.now to first batch.base batch.places result
+    ensures makes { (cells : List Cell) (order : Order) → nodes.now.slots ≡ order.slots
+        → nodes.now.cells ≡ map (cell_at cells) order.slots
+        → Makes (cell_at cells) order to first batch.base batch.places result
         (levels_of words.old) (levels_of words.new) }
 {
     let mut news = 0;
     for place in Places::of(batch.places) {
         let rank = batch.base + place as usize;
-        if let Some(slot) = order.slot(rank) {
+        if let Some(slot) = nodes.slot(rank) {
             let made = nodes.word(rank, slot, words, last, to, first);
             news = with_place(news, place, made.differs_from(words.get(slot), first));
             words.set(slot, made);
@@ -111,8 +109,7 @@ fn make_any(
 
 // The same, by the quicker way where no level is x.
 fn make_words(
-    nodes: &Cells,
-    order: &Order,
+    nodes: &Nodes,
     words: &mut Words,
     last: &mut Arrival,
     batch: Marked,
@@ -120,21 +117,21 @@ fn make_words(
     first: u32,
 ) -> u64
     requires last { IsArrival last.old to first }
-    requires ranked { length order.now.ranks ≡ length words.old }
-    requires ordered { IsOrder order.now }
-    requires nodes { length nodes.now ≡ length order.now.slots }
-    requires lawful { (rank : ℕ) → rank < length nodes.now
-        → IsLawful (length words.old) first (cell_at nodes.now rank) }
+    requires within { (rank : ℕ) → rank < length nodes.now.slots
+        → slice_index nodes.now.slots rank < length words.old }
+    requires lawful { (rank : ℕ) → rank < length nodes.now.slots
+        → IsLawful (length words.old) first (cell_at nodes.now.cells rank) }
     requires window { HasWindow to first }
     ensures len { length words.new ≡ length words.old }
     ensures last { IsArrival last.new to first }
-    ensures makes { (cells : List Cell) → nodes.now ≡ map (cell_at cells) order.now.slots
-        → Makes (cell_at cells) order.now to first batch.base batch.places result
+    ensures makes { (cells : List Cell) (order : Order) → nodes.now.slots ≡ order.slots
+        → nodes.now.cells ≡ map (cell_at cells) order.slots
+        → Makes (cell_at cells) order to first batch.base batch.places result
         (levels_of words.old) (levels_of words.new) }
 {
-    match words.make_known(nodes, order, last, batch, to, first) {
+    match words.make_known(nodes, last, batch, to, first) {
         Some(news) => news,
-        None => make_any(nodes, order, words, last, batch, to, first),
+        None => make_any(nodes, words, last, batch, to, first),
     }
 }
 
@@ -156,6 +153,7 @@ fn mark_flops(marks: &mut Marks, flops: &Readers, rank: usize, opened: bool)
 fn pass_on(fanout: &Fanout, news: Marked, opened: bool, live: &mut Marks, marks: &mut Marks)
     requires within { (rank : ℕ) → rank < length fanout.now.order.slots
         → slice_index fanout.now.order.slots rank < 64 * length live.old }
+    requires slots { fanout.now.nodes.slots ≡ fanout.now.order.slots }
     requires gates { AreBelow (64 * length marks.old) fanout.now.gates }
     requires flops { AreBelow (64 * length marks.old) fanout.now.flops }
     requires gate_lists { length fanout.now.gates ≡ length fanout.now.order.slots }
@@ -165,7 +163,7 @@ fn pass_on(fanout: &Fanout, news: Marked, opened: bool, live: &mut Marks, marks:
 {
     for place in Places::of(news.places) {
         let rank = news.base + place as usize;
-        if let Some(changed) = fanout.order.slot(rank) {
+        if let Some(changed) = fanout.nodes.slot(rank) {
             live.insert(changed);
             mark_all(marks, fanout.gates.of(rank));
             mark_flops(marks, &fanout.flops, rank, opened);
@@ -203,15 +201,7 @@ pub(crate) fn sweep(
     let mut last = any_arrival(to, first);
     let mut walk = Walk::at(0);
     'batches: while let Some(batch) = marks.take(&mut walk, fanout.order.levels()) {
-        let places = make_words(
-            &fanout.nodes,
-            &fanout.order,
-            words,
-            &mut last,
-            batch,
-            to,
-            first,
-        );
+        let places = make_words(&fanout.nodes, words, &mut last, batch, to, first);
         let base = batch.base;
         let news = Marked { base, places };
         pass_on(fanout, news, opened, live, marks);

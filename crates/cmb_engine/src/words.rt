@@ -6,18 +6,17 @@ ghost use Rattle.cmb_engine.specs.Inner.Arrivals.{IsArrival};
 ghost use Rattle.cmb_engine.specs.Inner.Batches.{Makes, Moves};
 ghost use Rattle.cmb_engine.specs.Inner.Cells.{AreBelow, Cell, HaveReaders, cell_at, IsLawful, readers_at};
 ghost use Rattle.cmb_engine.specs.Inner.Known.{known_planes};
-ghost use Rattle.cmb_engine.specs.Inner.Orders.{IsOrder};
+ghost use Rattle.cmb_engine.specs.Inner.Orders.{Order};
 ghost use Rattle.cmb_engine.specs.Inner.Planes.{Planes, planes_of};
 ghost use Rattle.cmb_engine.specs.Inner.Windows.{HasWindow};
 ghost use Rattle.cmb_engine.specs.Inner.Words.{levels_of};
 
 use crate::arrivals::Arrival;
-use crate::cells::Cells;
 use crate::fanout::Fanout;
 use crate::known::make_known;
 use crate::known_passes::move_known;
 use crate::marks::{Marked, Marks};
-use crate::order::Order;
+use crate::nodes::Nodes;
 use cmb_words::Word;
 use std::alloc::{AllocError, Global};
 use std::marker::Model;
@@ -137,32 +136,31 @@ impl Words {
     /// before. Where a level may be x it does nothing, and there is no answer.
     pub(crate) fn make_known(
         &mut self,
-        nodes: &Cells,
-        order: &Order,
+        nodes: &Nodes,
         last: &mut Arrival,
         batch: Marked,
         to: u32,
         first: u32,
     ) -> Option<u64>
         requires last { IsArrival last.old to first }
-        requires ranked { length order.now.ranks ≡ length self.old }
-        requires ordered { IsOrder order.now }
-        requires nodes { length nodes.now ≡ length order.now.slots }
-        requires lawful { (rank : ℕ) → rank < length nodes.now
-            → IsLawful (length self.old) first (cell_at nodes.now rank) }
+        requires within { (rank : ℕ) → rank < length nodes.now.slots
+            → slice_index nodes.now.slots rank < length self.old }
+        requires lawful { (rank : ℕ) → rank < length nodes.now.slots
+            → IsLawful (length self.old) first (cell_at nodes.now.cells rank) }
         requires window { HasWindow to first }
         ensures len { length self.new ≡ length self.old }
         ensures last { IsArrival last.new to first }
         ensures none { IfNone result (self.new ≡ self.old) }
-        ensures makes { IfSome result (λ news. (cells : List Cell) → nodes.now ≡ map (cell_at cells) order.now.slots
-            → Makes (cell_at cells) order.now to first batch.base batch.places news
+        ensures makes { IfSome result (λ news. (cells : List Cell) (order : Order) → nodes.now.slots ≡ order.slots
+            → nodes.now.cells ≡ map (cell_at cells) order.slots
+            → Makes (cell_at cells) order to first batch.base batch.places news
             (levels_of self.old) (levels_of self.new)) }
     {
         self.look();
         if !self.known {
             return None;
         }
-        Some(make_known(nodes, order, &mut self.ones, last, batch, to, first))
+        Some(make_known(nodes, &mut self.ones, last, batch, to, first))
     }
 
     /// Moves the words of some slots on where no level is x, and marks what reads those that change at a place or after

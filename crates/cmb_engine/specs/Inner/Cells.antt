@@ -1,5 +1,5 @@
 -- How the word of a net comes about, said in places of words: 64 levels a net, of which place i stands for tick to + i - 64.
-use Rattle.std.specs.Prelude.{◌≡◌, ℕ, ◌+◌, ◌-◌, ◌<◌, ◌≤◌, ◌⊎◌, Bool, true, false, IsTrue, List, [], ◌∷◌, ◌==◌, slice_index, slice_index_or, All, map, length, if◌then◌else◌}
+use Rattle.std.specs.Prelude.{◌≡◌, ℕ, ◌+◌, ◌-◌, ◌<◌, ◌≤◌, ◌⊎◌, Bool, true, false, IsTrue, List, [], ◌∷◌, ◌++◌, ◌==◌, slice_index, slice_index_or, All, map, length, if◌then◌else◌}
 use Rattle.std.specs.List.{AllByRecursion, list_any}
 use Rattle.cmb_wave.specs.declared.level.Level.{Level}
 use Rattle.cmb_netlist.specs.declared.netlist.Kind.{Kind}
@@ -149,12 +149,22 @@ readers_at order lists slot = slice_index_or lists (rank_in order slot) []
 abbrev pub HaveReaders : Order → List (List ℕ) → ℕ → Type 0
 HaveReaders order lists count = (slot : ℕ) → slot < count → rank_in order slot < length lists
 
+-- what visits read: the slot of each rank, and its cell
+pub record Nodes : Type 0 where
+  pub slots : List ℕ
+  pub cells : List Cell
+
+-- one more of both
+abbrev pub with_node : Nodes → ℕ → Cell → Nodes
+with_node nodes slot cell = record { slots = nodes.slots ++ slot ∷ []; cells = nodes.cells ++ cell ∷ [] }
+
 -- cells of so many slots, of which none looks back beyond a place, and who reads each slot, by its rank
-pub record IsWired (cells : List Cell) (order : Order) (nodes : List Cell) (gate_lists flop_lists : List (List ℕ)) (count first : ℕ) : Type 0 where
+pub record IsWired (cells : List Cell) (order : Order) (nodes : Nodes) (gate_lists flop_lists : List (List ℕ)) (count first : ℕ) : Type 0 where
   pub nets : length cells ≡ count
   pub ranked : length order.ranks ≡ count
   pub ordered : IsOrder order
-  pub in_order : nodes ≡ map (cell_at cells) order.slots
+  pub slots_in_order : nodes.slots ≡ order.slots
+  pub in_order : nodes.cells ≡ map (cell_at cells) order.slots
   pub gates : AreFanout is_gate cells order gate_lists
   pub flops : AreFanout is_flop cells order flop_lists
   pub lawful : (net : ℕ) → net < count → IsLawful count first (cell_at cells net)

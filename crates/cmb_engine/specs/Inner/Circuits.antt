@@ -5,7 +5,7 @@ use Rattle.cmb_wave.specs.declared.level.Level.{Level}
 use Rattle.cmb_design_model.specs.declared.rows.Clock.{Clock}
 use Rattle.cmb_design_model.specs.Gate.{gate}
 use Rattle.cmb_design_model.specs.Value.{delayed}
-use Rattle.cmb_engine.specs.Inner.Cells.{Cell, Told, Gate, Flop, is_flop, is_gate, is_made, cell_at, pins_of, AreFanout, IsLawful, IsPace, IsSteady}
+use Rattle.cmb_engine.specs.Inner.Cells.{Cell, Nodes, Told, Gate, Flop, is_flop, is_gate, is_made, cell_at, pins_of, AreFanout, IsLawful, IsPace, IsSteady}
 use Rattle.cmb_engine.specs.Inner.Orders.{Order, IsOrder}
 use Rattle.cmb_engine.specs.Rows.{arrives_by}
 use Rattle.cmb_engine.specs.Inner.Windows.{in_place}
@@ -89,10 +89,11 @@ pub record AreMembers (cells : List Cell) (members : List Member) : Type 0 where
   pub each : All (λ member. cell_at cells member.slot ≡ Flop member.clock member.pin) members
 
 -- what stays as it is while an engine goes on: the cells, who reads each slot, and the flip-flops
-pub record IsWiring (cells : List Cell) (order : Order) (nodes : List Cell) (gate_lists flop_lists : List (List ℕ)) (flops : List Group) (most : ℕ) : Type 0 where
+pub record IsWiring (cells : List Cell) (order : Order) (nodes : Nodes) (gate_lists flop_lists : List (List ℕ)) (flops : List Group) (most : ℕ) : Type 0 where
   pub ranked : length order.ranks ≡ length cells
   pub ordered : IsOrder order
-  pub in_order : nodes ≡ map (cell_at cells) order.slots
+  pub slots_in_order : nodes.slots ≡ order.slots
+  pub in_order : nodes.cells ≡ map (cell_at cells) order.slots
   pub gates : AreFanout is_gate cells order gate_lists
   pub samplers : AreFanout is_flop cells order flop_lists
   pub flip_flops : AreFlops cells flops

@@ -2,13 +2,13 @@
 use Rattle.std.specs.Prelude.{◌≡◌, ◌*◌, ℕ, ◌<◌, ◌≤◌, Bool, true, false, List, length}
 use Rattle.cmb_wave.specs.declared.level.Level.{Level}
 use Rattle.cmb_engine.specs.Inner.Bits.{has}
-use Rattle.cmb_engine.specs.Inner.Cells.{Cell, AreClosed, AreSettled, IsWired, KeepsTold, cell_at}
+use Rattle.cmb_engine.specs.Inner.Cells.{Cell, Nodes, AreClosed, AreSettled, IsWired, KeepsTold, cell_at}
 use Rattle.cmb_engine.specs.Inner.Orders.{Order, is_marked}
 use Rattle.cmb_engine.specs.Inner.Windows.{HasWindow}
 
 -- what a sweep over the marked slots asks for: cells that are wired, a window, which is open where samples may be taken in it that
 -- show in it, and a place for each slot among the marks and the live ones
-pub record CanSweep (cells : List Cell) (order : Order) (nodes : List Cell) (gates flops : List (List ℕ)) (open_window : Bool) (nets : ℕ) (marks' live' : List ℕ) (to first : ℕ) : Type 0 where
+pub record CanSweep (cells : List Cell) (order : Order) (nodes : Nodes) (gates flops : List (List ℕ)) (open_window : Bool) (nets : ℕ) (marks' live' : List ℕ) (to first : ℕ) : Type 0 where
   pub wired : IsWired cells order nodes gates flops nets first
   pub closed : open_window ≡ false → AreClosed (cell_at cells) to first
   pub room : length order.slots ≤ 64 * length marks'

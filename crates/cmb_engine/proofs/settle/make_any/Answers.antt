@@ -18,7 +18,7 @@ loop-place-init c =
       small = left-small c.into_iter-place-iterator.result c.args.batch.places is;
       len = refl;
       last = c.requires.last;
-      making = λ cells nodes. making-none (cell_at cells) c.args.order.now c.args.to c.args.first c.args.batch.base c.args.batch.places c.into_iter-place-iterator.result 0
+      making = λ cells order slots nodes. making-none (cell_at cells) order c.args.to c.args.first c.args.batch.base c.args.batch.places c.into_iter-place-iterator.result 0
           (levels_of c.args.words.now) is;
     }
 
@@ -37,21 +37,20 @@ loop-place-preserved-in-Some-slot c =
     let now = c.loop-place.words in
     let new = c.set.new.self in
     let small = next-of (λ (place : ℕ). place < 64) c.loop-place.place-iterator c.in-Some.place c.next.new.self c.in-Some.ensures.steps c.loop-place.invariant.small in
-    let ranks : slot < length c.args.order.now.ranks = subst (λ (n : ℕ). n < length c.args.order.now.ranks) (sym c.in-Some-slot.ensures.1) (c.requires.ordered.within _ c.in-Some-slot.ensures.0) in
-    let inside : slot < length now = omega (arith, ranks, c.requires.ranked, c.loop-place.invariant.len) in
+    let inside : slot < length now = subst (λ (n : ℕ). n < length now) (sym c.in-Some-slot.ensures.1) (omega (arith, c.requires.within _ c.in-Some-slot.ensures.0, c.loop-place.invariant.len)) in
     let read : (q : ℕ) → level_at_place c.get.result q ≡ levels_of now slot q =
     λ q. sym (levels_of-read now slot c.get.result q inside (c.get.ensures (planes_of c.get.result))) in
     record {
       small = All-rest (λ (place : ℕ). place < 64) c.in-Some.place c.next.new.self c.loop-place.place-iterator c.in-Some.ensures.steps c.loop-place.invariant.small;
       len = ap length c.set.ensures ∙ length-set now slot (planes_of made) ∙ c.loop-place.invariant.len;
       last = c.word-made.ensures.last;
-      making = λ cells nodes. making-writes cells c.args.nodes.now c.args.order.now nodes c.args.to c.args.first c.args.batch.base c.args.batch.places c.in-Some.place c.next.new.self
+      making = λ cells order slots nodes. making-writes cells c.args.nodes.now order slots nodes c.args.to c.args.first c.args.batch.base c.args.batch.places c.in-Some.place c.next.new.self
           c.loop-place.place-iterator c.in-Some.ensures.steps c.loop-place.news c.with_place-news.result (levels_of c.args.words.now) (levels_of now)
           (levels_of new) slot c.in-Some-slot.ensures.0 c.in-Some-slot.ensures.1 small c.requires.window.0
           (level_at_place made) (λ q. written-same now new slot made q c.set.ensures inside) (λ m q other. written-other now new slot m made q c.set.ensures other)
           c.word-made.ensures.below c.word-made.ensures.told c.word-made.ensures.made
           c.differs_from.result (λ equal q from l. c.differs_from.ensures.same equal q from l ∙ read q)
-          c.with_place-news.ensures.here c.with_place-news.ensures.others (c.loop-place.invariant.making cells nodes);
+          c.with_place-news.ensures.here c.with_place-news.ensures.others (c.loop-place.invariant.making cells order slots nodes);
     }
 
 pub loop-place-preserved : goal.loop-place-preserved
@@ -59,11 +58,11 @@ loop-place-preserved c = record {
   small = All-rest (λ (place : ℕ). place < 64) c.in-Some.place c.next.new.self c.loop-place.place-iterator c.in-Some.ensures.steps c.loop-place.invariant.small;
   len = c.loop-place.invariant.len;
   last = c.loop-place.invariant.last;
-  making = λ cells nodes. making-skips (cell_at cells) c.args.order.now c.args.to c.args.first c.args.batch.base c.args.batch.places c.in-Some.place c.next.new.self
-      c.loop-place.place-iterator c.loop-place.news (levels_of c.args.words.now) (levels_of c.loop-place.words) c.in-Some.ensures.steps c.in_default.ensures (c.loop-place.invariant.making cells nodes);
+  making = λ cells order slots nodes. making-skips (cell_at cells) order c.args.to c.args.first c.args.batch.base c.args.batch.places c.in-Some.place c.next.new.self
+      c.loop-place.place-iterator c.loop-place.news (levels_of c.args.words.now) (levels_of c.loop-place.words) c.in-Some.ensures.steps (omega (arith, ap length slots, c.in_default.ensures)) (c.loop-place.invariant.making cells order slots nodes);
 }
 
 pub returns-clause-makes : goal.returns-clause-makes
-returns-clause-makes c = λ cells nodes.
-    making-all (cell_at cells) c.args.order.now c.args.to c.args.first c.args.batch.base c.args.batch.places c.loop-place.place-iterator c.loop-place.news
-    (levels_of c.args.words.now) (levels_of c.loop-place.words) c.in-None.ensures.steps.0 (c.loop-place.invariant.making cells nodes)
+returns-clause-makes c = λ cells order slots nodes.
+    making-all (cell_at cells) order c.args.to c.args.first c.args.batch.base c.args.batch.places c.loop-place.place-iterator c.loop-place.news
+    (levels_of c.args.words.now) (levels_of c.loop-place.words) c.in-None.ensures.steps.0 (c.loop-place.invariant.making cells order slots nodes)

@@ -1,5 +1,5 @@
 use Rattle.std.proofs.Common.{◌<◌, ◌≡◌, ap, get_or, List, ℕ, length, sym, ◌∙◌, arith, subst}
-use Rattle.std.proofs.lemmas.List.{get_or-map, length-map}
+use Rattle.std.proofs.lemmas.List.{get_or-map}
 use Rattle.cmb_engine.specs.Inner.Cells.{Cell, Told, IsLawful, cell_at}
 use Rattle.cmb_engine.specs.Inner.Walks.{walked}
 use Rattle.cmb_engine.specs.Inner.Words.{levels_of}
@@ -20,12 +20,12 @@ batches-preserved c =
           c.args.marks.now c.batches.marks c.pass_on.new.marks c.args.live.now c.batches.live c.pass_on.new.live sweeps
           (batch-sweeps c.args.wiring.now.cells fanout.order fanout.nodes fanout.gates fanout.flops (length c.args.words.now) c.args.to c.args.first c.requires.wired c.args.opened c.requires.closed
           (levels_of c.batches.words) (levels_of c.make_words-places.new.words) c.batches.marks c.take.new.self c.pass_on.new.marks c.batches.live c.pass_on.new.live
-          (walked c.batches.walk) (walked c.take.new.walk) base places news c.in-Some.ensures (c.make_words-places.ensures.makes c.args.wiring.now.cells c.requires.wired.in_order) c.pass_on.ensures);
+          (walked c.batches.walk) (walked c.take.new.walk) base places news c.in-Some.ensures (c.make_words-places.ensures.makes c.args.wiring.now.cells fanout.order c.requires.wired.slots_in_order c.requires.wired.in_order) c.pass_on.ensures);
       truer = λ truth upto b.
           let ready = ready-moves (levels_of c.args.words.now) (levels_of c.batches.words) truth (cell_at c.args.wiring.now.cells) c.args.to c.args.first sweeps.told b.ready in
           batch-further c.args.wiring.now.cells fanout.order fanout.nodes fanout.gates fanout.flops (length c.args.words.now) c.args.to c.args.first c.requires.wired c.args.opened c.requires.closed
           (levels_of c.batches.words) (levels_of c.make_words-places.new.words) c.batches.marks c.take.new.self c.pass_on.new.marks c.batches.live c.pass_on.new.live
-          (walked c.batches.walk) (walked c.take.new.walk) base places news c.in-Some.ensures (c.make_words-places.ensures.makes c.args.wiring.now.cells c.requires.wired.in_order) c.pass_on.ensures
+          (walked c.batches.walk) (walked c.take.new.walk) base places news c.in-Some.ensures (c.make_words-places.ensures.makes c.args.wiring.now.cells fanout.order c.requires.wired.slots_in_order c.requires.wired.in_order) c.pass_on.ensures
           truth upto b.from b.small ready (sweeps.settled b.settled) (c.batches.invariant.truer truth upto b);
     }
 
@@ -42,9 +42,9 @@ pub make_words-places-requires-clause-lawful : goal.make_words-places-requires-c
 make_words-places-requires-clause-lawful c = λ rank l.
     let cells : List Cell = c.args.wiring.now.cells in
     let slots : List ℕ = c.args.wiring.now.fanout.order.slots in
-    let inside : rank < length slots = omega (arith, l, ap length c.requires.wired.in_order, length-map slots (cell_at cells)) in
-    let stands : cell_at c.args.wiring.now.fanout.nodes rank ≡ cell_at cells (get_or slots rank 0) =
+    let inside : rank < length slots = subst (λ (ranked : List ℕ). rank < length ranked) c.requires.wired.slots_in_order l in
+    let stands : cell_at c.args.wiring.now.fanout.nodes.cells rank ≡ cell_at cells (get_or slots rank 0) =
     ap (λ (ns : List Cell). cell_at ns rank) c.requires.wired.in_order ∙ get_or-map (cell_at cells) slots rank 0 Told inside in
     let small : get_or slots rank 0 < length c.args.words.now = omega (arith, c.requires.wired.ordered.within rank inside, c.requires.wired.ranked) in
-    subst (λ (n : ℕ). IsLawful n c.args.first (cell_at c.args.wiring.now.fanout.nodes rank)) (sym c.batches.invariant.len)
+    subst (λ (n : ℕ). IsLawful n c.args.first (cell_at c.args.wiring.now.fanout.nodes.cells rank)) (sym c.batches.invariant.len)
     (subst (λ (cell : Cell). IsLawful (length c.args.words.now) c.args.first cell) (sym stands) (c.requires.wired.lawful (get_or slots rank 0) small))
