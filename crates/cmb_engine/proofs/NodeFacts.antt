@@ -1,5 +1,5 @@
 -- What visits read, kept in three lists.
-use Rattle.std.proofs.Common.{◌≡◌, ℕ, zero, suc, ◌+◌, ◌<◌, List, [], ◌∷◌, ◌++◌, length, map, get_or, refl, ap, ap₂, sym, subst, ◌∙◌, arith}
+use Rattle.std.proofs.Common.{◌≡◌, ℕ, ◌+◌, ◌<◌, List, [], ◌∷◌, ◌++◌, length, map, get_or, refl, ap, ap₂, sym, ◌∙◌, arith}
 use Rattle.std.proofs.lemmas.List.{get_or_append_left, get_or-append-add, get_or-map, length-map, map-append}
 use Rattle.cmb_netlist.specs.declared.netlist.Kind.{Kind}
 use Rattle.cmb_engine.specs.Inner.Cells.{Cell, Told, Gate, Nodes, cell_at, with_node}
@@ -15,21 +15,11 @@ use Rattle.cmb_engine.proofs.TableFacts.{pins_at-behind}
 
 -- ---- reading
 
-pub inside-get_or : (pins : List Pin) (samplers : List Sampler) (nodes : List Node) (rank : ℕ) (d : Node) → AreInside pins samplers nodes → rank < length nodes
-    → IsInside pins samplers (get_or nodes rank d).rule
-inside-get_or pins samplers [] rank d h b = absurd (omega arith)
-inside-get_or pins samplers (n ∷ nodes) zero d h b = h.0
-inside-get_or pins samplers (n ∷ nodes) (suc rank) d h b = inside-get_or pins samplers nodes rank d h.1 (omega arith)
-
 -- the node of a rank was read
 module _ (pins : List Pin) (samplers : List Sampler) (nodes : List Node) (now : Nodes) (is : nodes_of pins samplers nodes ≡ now) (rank : ℕ) (within : rank < length now.slots)
     (node : Node) (read : node ≡ get_or nodes rank node) where
-  pub rank-inside : rank < length nodes
+  rank-inside : rank < length nodes
   rank-inside = omega (arith, within, ap (λ (n : Nodes). length n.slots) is, length-map nodes (λ node. node.slot))
-
-  pub node-inside : (r : NodeRule) → AreInside pins samplers nodes → node.rule ≡ r → IsInside pins samplers r
-  node-inside r all has =
-      subst (IsInside pins samplers) (ap (λ (n : Node). n.rule) (sym read) ∙ has) (inside-get_or pins samplers nodes rank node all rank-inside)
 
   -- its cell is that of its rule
   pub node-read : (r : NodeRule) → node.rule ≡ r → cell_at now.cells rank ≡ node_cell pins samplers r
@@ -46,11 +36,6 @@ module _ (pins : List Pin) (samplers : List Sampler) (nodes : List Node) (now : 
       → cell_at now.cells rank ≡ Gate kind (pin ∷ second ∷ [])
   double-read kind ticks later net other pin second has one two =
       node-read (rule.Double kind ticks later net other) has ∙ ap₂ (λ (p q : Pin). Gate kind (p ∷ q ∷ [])) (sym one) (sym two)
-
-  pub flop-read : (number : ℕ) (sampler : Sampler) → AreInside pins samplers nodes → node.rule ≡ rule.Flop number → sampler ≡ get_or samplers number sampler
-      → cell_at now.cells rank ≡ flop_of sampler
-  flop-read number sampler all has found =
-      node-read (rule.Flop number) has ∙ get_or-map flop_of samplers number sampler Told (node-inside (rule.Flop number) all has) ∙ ap flop_of (sym found)
 
 -- ---- one more node
 
