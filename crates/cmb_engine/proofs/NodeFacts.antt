@@ -13,9 +13,8 @@ use Rattle.cmb_engine.specs.declared.nodes.Sampler.{Sampler}
 use Rattle.cmb_engine.proofs.JoinFacts.{still}
 use Rattle.cmb_engine.proofs.TableFacts.{pins_at-behind}
 
--- ---- reading
+-- ---- the node of a rank was read
 
--- the node of a rank was read
 module _ (pins : List Pin) (samplers : List Sampler) (nodes : List Node) (now : Nodes) (is : nodes_of pins samplers nodes ≡ now) (rank : ℕ) (within : rank < length now.slots)
     (node : Node) (read : node ≡ get_or nodes rank node) where
   rank-inside : rank < length nodes
