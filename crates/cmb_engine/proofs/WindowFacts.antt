@@ -56,7 +56,7 @@ window-wired cells order nodes gate_lists flop_lists flops most wiring count fir
     })
 
 -- each slot has a list of the gates that read it
-pub window-lists : (cells : List Cell) (order : Order) (nodes : List Cell) (gate_lists flop_lists : List (List ℕ)) (flops : List Group) (most : ℕ) → IsWiring cells order nodes gate_lists flop_lists flops most
+pub window-lists : (cells : List Cell) (order : Order) (nodes : Nodes) (gate_lists flop_lists : List (List ℕ)) (flops : List Group) (most : ℕ) → IsWiring cells order nodes gate_lists flop_lists flops most
     → (count : ℕ) → length cells ≡ count → HaveReaders order gate_lists count
 window-lists cells order nodes gate_lists flop_lists flops most wiring count nets slot inside =
     omega (arith, (wiring.ordered.stands slot (omega (arith, inside, nets, wiring.ranked))).below, wiring.gates.count)

@@ -10,8 +10,8 @@ use crate::order::{Order, order_of};
 use crate::readers::{Readers, flop_readers, gate_readers};
 use std::alloc::{AllocError, Global};
 
-/// In which order slots are visited, what visits read, and for each slot the ranks of the gates and those of the flip-flops
-/// that read it. All stand in the order of visits: so what is visited one after another stands side by side.
+/// In which order slots are visited, what visits read, and for each slot the ranks of the gates and those of the
+/// flip-flops that read it. All stand in the order of visits: so what is visited one after another stands side by side.
 #[derive(Drop)]
 pub(crate) struct Fanout {
     pub order: Order,
