@@ -1,7 +1,7 @@
 //! What a visit of a slot reads: the slot and its cell, by rank, side by side in a record of 16 bytes.
 
-ghost use Rattle.std.specs.Prelude.{◌≡◌, ℕ, ◌<◌, ◌≤◌, [], ◌∷◌, false, All, IfOk, IfSome, MatchOption, OnOk, length, map};
-ghost use Rattle.std.specs.Prelude.{slice_index, slice_index_or};
+ghost use Rattle.std.specs.Prelude.{◌≡◌, ℕ, ◌<◌, ◌≤◌, [], ◌∷◌, false, All, IfOk, IfSome, MatchOption, OnOk, length};
+ghost use Rattle.std.specs.Prelude.{map, slice_index, slice_index_or};
 ghost use Rattle.cmb_words.specs.Bits.{level_in};
 ghost use Rattle.cmb_words.specs.Word.{level_at_place};
 ghost use Rattle.cmb_engine.specs.Inner.Arrivals.{IsArrival};
