@@ -1,5 +1,6 @@
-"""cases.py: what the scripts share that run the program on examples and on random circuits: chosen_cases.py, activity_cases.py and
-forced_shares.py. A FOLDER is laid out as those of examples/: netlist.bench, the tables that there are, and the options."""
+"""cases.py: what the scripts share that run the program on examples and on random circuits: chosen_cases.py, activity_cases.py,
+expect_cases.py, window_cases.py and forced_shares.py. A FOLDER is laid out as those of examples/: netlist.bench, the tables that there are,
+and the options."""
 import argparse
 import glob
 import os
@@ -57,6 +58,15 @@ def random_tables(chance, names, inputs, horizon):
     return {"delays": ["by,name,delay", *delays], "stimuli": ["tick,net,value", *stimuli]}
 
 
+def write_files(folder, files):
+    """Files in a folder of their own."""
+    os.mkdir(folder)
+    for name, text in files.items():
+        with open(f"{folder}/{name}", "w", encoding="utf-8") as file:
+            file.write(text)
+    return folder
+
+
 def write_random(chance, folder):
     """A random circuit in a folder of its own."""
     names = random_names(chance, chance.choice([1, 2, 3, 5, 8, 20, 60, 100, 200]))
@@ -65,11 +75,7 @@ def write_random(chance, folder):
     for table, rows in random_tables(chance, names, inputs, horizon).items():
         files[f"{table}.csv"] = "".join(f"{row}\n" for row in rows)
     files["options"] = f"--horizon {horizon} --clock {chance.randint(0, 9)}:{chance.randint(1, 9)} --init {chance.choice('01x')}\n"
-    os.mkdir(folder)
-    for name, text in files.items():
-        with open(f"{folder}/{name}", "w", encoding="utf-8") as file:
-            file.write(text)
-    return folder
+    return write_files(folder, files)
 
 
 # ---- folders and lists
