@@ -1,8 +1,11 @@
 -- What visits read, kept in three lists.
-use Rattle.std.proofs.Common.{◌≡◌, ℕ, ◌+◌, ◌<◌, List, [], ◌∷◌, ◌++◌, length, map, get_or, refl, ap, ap₂, sym, ◌∙◌, arith}
+use Rattle.std.proofs.Common.{◌≡◌, ℕ, ◌+◌, ◌<◌, ◌≤◌, List, [], ◌∷◌, ◌++◌, length, map, get_or, refl, ap, ap₂, sym, subst, ◌∙◌, arith}
 use Rattle.std.proofs.lemmas.List.{get_or_append_left, get_or-append-add, get_or-map, length-map, map-append}
 use Rattle.cmb_netlist.specs.declared.netlist.Kind.{Kind}
-use Rattle.cmb_engine.specs.Inner.Cells.{Cell, Told, Gate, Nodes, cell_at, with_node}
+use Rattle.cmb_design_model.specs.Gate.{gate}
+use Rattle.cmb_words.specs.Bits.{level_in}
+use Rattle.cmb_engine.specs.Inner.Cells.{Cell, Told, Gate, IsLawful, IsMade, Nodes, cell_at, cell_level, seen, with_node}
+use Rattle.cmb_engine.specs.Inner.Known.{known_levels}
 use Rattle.cmb_engine.specs.Inner.Nodes.{flop_of, node_cell, nodes_of, pin_of, AreInside, IsInside}
 use Rattle.cmb_engine.specs.declared.cell.Pin.{Pin}
 use Rattle.cmb_engine.specs.declared.cells.PinRange.{PinRange}
@@ -89,3 +92,15 @@ pub gate_nodes : (xs ys : List Pin) (samplers : List Sampler) (nodes : List Node
 gate_nodes xs ys samplers nodes slot kind part h first count =
     nodes_more xs (xs ++ ys) samplers samplers (pins_more xs ys samplers) nodes (record { slot = slot; rule = rule.Gate kind part }) h
     ∙ ap (λ (pins : List Pin). with_node (nodes_of xs samplers nodes) slot (Gate kind pins)) (pins_at-behind xs ys part first count)
+
+-- what stands from a place on in the word of a gate with two pins is what its cell makes
+pub double-made : (cells : List Cell) (rank : ℕ) (kind : Kind) (pin second : Pin) (ones : List ℕ) (made result to first : ℕ)
+    → cell_at cells rank ≡ Gate kind (pin ∷ second ∷ []) → IsLawful (length ones) first (cell_at cells rank)
+    → ((place : ℕ) → first ≤ place → place < 64 → level_in result 0 place ≡ level_in made 0 place)
+    → ((place : ℕ) → pin.delay ≤ place → second.delay ≤ place → place < 64 → level_in made 0 place ≡ gate kind (map (seen (known_levels ones) place) (pin ∷ second ∷ [])))
+    → IsMade (known_levels ones) (level_in result 0) to first (cell_at cells rank)
+double-made cells rank kind pin second ones made result to first cell lawful spliced is place from small =
+    let both : IsLawful (length ones) first (Gate kind (pin ∷ second ∷ [])) = subst (λ (cell : Cell). IsLawful (length ones) first cell) cell lawful in
+    spliced place from small
+    ∙ is place (omega (arith, both.2 0 pin (omega arith), from)) (omega (arith, both.2 1 pin (omega arith), from)) small
+    ∙ ap (λ (cell : Cell). cell_level (known_levels ones) (level_in result 0) to cell place) (sym cell)

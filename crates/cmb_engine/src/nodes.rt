@@ -245,8 +245,41 @@ impl Nodes {
     }
 
     /// As `word`, where no level is x: of words, the places that are 1.
+    ///
+    /// Mostly it is a gate with two pins.
     #[inline]
     pub(crate) fn known_word(
+        &self,
+        rank: usize,
+        own: u64,
+        ones: &[u64],
+        last: &mut Arrival,
+        to: u32,
+        first: u32,
+    ) -> u64
+        requires rank { rank < length self.now.slots }
+        requires last { IsArrival last.old to first }
+        requires cell { IsLawful (length ones.now) first (slice_index_or self.now.cells rank Told) }
+        requires window { HasWindow to first }
+        ensures last { IsArrival last.new to first }
+        ensures below { (place : ℕ) → place < first → level_in result 0 place ≡ level_in own 0 place }
+        ensures made { IsMade (known_levels ones.now) (level_in result 0) to first
+            (slice_index_or self.now.cells rank Told) }
+        ensures told { is_made (slice_index_or self.now.cells rank Told) ≡ false
+            → (place : ℕ) → level_in result 0 place ≡ level_in own 0 place }
+    {
+        if let NodeRule::Double(kind, delay, later, net, other) = self.nodes[rank].rule {
+            let made = known_double(kind, pin_at(net, delay), pin_at(other, later), ones);
+            spliced_ones(own, made, first)
+        } else {
+            self.any_known_word(rank, own, ones, last, to, first)
+        }
+    }
+
+    // The same for any cell, out of line, so that the other way keeps its values in registers.
+    #[cold]
+    #[inline(never)]
+    fn any_known_word(
         &self,
         rank: usize,
         own: u64,
