@@ -12,13 +12,15 @@ use std::sync::Wait;
 /// taken.
 pub fn taken<T: Drop, P: Protocol<T>, R: Wait>(
     rt: &R,
+    idle: &mut Idle,
     inlet: &mut Consumer<T, Global, P>,
 ) -> Option<T>
     ensures taken { IfSome result (λ it. received inlet.new ≡ received inlet.old ++ it ∷ []) }
     ensures allowed { IfSome result (λ it. P.allows (received inlet.old) it) }
     ensures none { IfNone result (received inlet.new ≡ received inlet.old) }
 {
-    let mut idle = Idle::new();
+    // What was waited for before has come.
+    idle.end();
     for _ in rt.forever() {
         if let Ok(it) = inlet.pop() {
             return Some(it);
@@ -35,6 +37,7 @@ pub fn taken<T: Drop, P: Protocol<T>, R: Wait>(
 /// Hands something on by a ring, once there is room. Says whether it did so: else nobody is there any more to take it.
 pub fn handed<T: Drop, P: Protocol<T>, R: Wait>(
     rt: &R,
+    idle: &mut Idle,
     outlet: &mut Producer<T, Global, P>,
     it: T,
 ) -> bool
@@ -42,7 +45,8 @@ pub fn handed<T: Drop, P: Protocol<T>, R: Wait>(
     ensures handed { IsTrue result → sent outlet.new ≡ sent outlet.old ++ it ∷ [] }
     ensures kept { IsFalse result → sent outlet.new ≡ sent outlet.old }
 {
-    let mut idle = Idle::new();
+    // What was waited for before has come.
+    idle.end();
     let mut it = it;
     for _ in rt.forever() {
         match outlet.push(it) {
