@@ -9,7 +9,7 @@ use crate::job::{Inlet, MadeText};
 use crate::team_run::TeamRun;
 use cmb_dump::Dump;
 use cmb_dump_stream::format_window;
-use cmb_waiting::taken;
+use cmb_waiting::{Idle, taken};
 use std::alloc::AllocError;
 use std::sync::Wait;
 
@@ -18,6 +18,7 @@ use std::sync::Wait;
 pub(crate) struct Formatter<'a, T: TeamRun> {
     dump: Dump<'a>,
     inlet: Inlet<'a, T>,
+    idle: Idle,
     ghost design: { dump.design ≡ T.design },
 }
 
@@ -62,13 +63,17 @@ impl<'a, T: TeamRun> Formatter<'a, T> {
     pub(crate) fn new(dump: Dump<'a>, inlet: Inlet<'a, T>) -> Formatter<'a, T>
         requires { dump.design ≡ T.design }
     {
-        Formatter { dump, inlet }
+        Formatter {
+            dump,
+            inlet,
+            idle: Idle::new(),
+        }
     }
 
     /// The next batch with its text. Errors: nobody passes batches on any more, memory was refused, or the batch has no
     /// windows.
     pub(crate) fn next<R: Wait>(&mut self, rt: &R) -> Result<MadeText<'a, T>, AllocError> {
-        let Some(mut job) = taken(rt, &mut self.inlet) else {
+        let Some(mut job) = taken(rt, &mut self.idle, &mut self.inlet) else {
             return Err(AllocError);
         };
         let untold = &mut job;

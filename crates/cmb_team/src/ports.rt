@@ -7,7 +7,7 @@ use crate::job::{Inlet, TextOutlet};
 use crate::team_run::TeamRun;
 use cmb_design_model::Design;
 use cmb_dump::Dump;
-use cmb_waiting::handed;
+use cmb_waiting::{Idle, handed};
 use std::alloc::Global;
 use std::sync::Wait;
 
@@ -52,9 +52,10 @@ impl<'a, T: TeamRun> FormatterPorts<'a, T> {
             return;
         };
         let mut formatter = Formatter::new(dump, inlet);
+        let mut idle = Idle::new();
         for _ in rt.forever() {
             let is_taken = match formatter.next(rt) {
-                Ok(told) => handed(rt, &mut outlet, told),
+                Ok(told) => handed(rt, &mut idle, &mut outlet, told),
                 Err(_) => false,
             };
             if !is_taken {

@@ -4,7 +4,7 @@ use crate::formatter::Formatter;
 use crate::job::{MadeText, TextInlet};
 use crate::team_run::TeamRun;
 use crate::ways::next_turn;
-use cmb_waiting::taken;
+use cmb_waiting::{Idle, taken};
 use std::alloc::AllocError;
 use std::sync::Wait;
 
@@ -13,6 +13,7 @@ use std::sync::Wait;
 pub(crate) struct Others<'a, T: TeamRun> {
     inlets: Vec<TextInlet<'a, T>>,
     turn: usize,
+    idle: Idle,
 }
 
 /// Who makes the texts that the calling thread takes.
@@ -27,7 +28,11 @@ pub(crate) enum Texts<'a, T: TeamRun> {
 impl<'a, T: TeamRun> Others<'a, T> {
     /// The first text is that of the first ring.
     pub(crate) fn new(inlets: Vec<TextInlet<'a, T>>) -> Others<'a, T> {
-        Others { inlets, turn: 0 }
+        Others {
+            inlets,
+            turn: 0,
+            idle: Idle::new(),
+        }
     }
 }
 
@@ -39,7 +44,7 @@ impl<'a, T: TeamRun> Texts<'a, T> {
             Texts::Others(others) => {
                 let turn = next_turn(&mut others.turn, others.inlets.len());
                 match others.inlets.get_mut(turn) {
-                    Some(inlet) => taken(rt, inlet).ok_or(AllocError),
+                    Some(inlet) => taken(rt, &mut others.idle, inlet).ok_or(AllocError),
                     None => Err(AllocError),
                 }
             }

@@ -6,7 +6,7 @@ use crate::batch::Batch;
 use crate::job::{Inlet, Job, Outlet};
 use crate::team_run::TeamRun;
 use cmb_design_model::Design;
-use cmb_waiting::{handed, taken};
+use cmb_waiting::{Idle, handed, taken};
 use std::alloc::Global;
 use std::sync::Wait;
 
@@ -20,6 +20,7 @@ pub struct Ways<'a, T: TeamRun> {
     back: Inlet<'a, T>,
     outlets: Vec<Outlet<'a, T>>,
     turn: usize,
+    idle: Idle,
     ghost named: { design.now ≡ T.design },
 }
 
@@ -49,6 +50,7 @@ impl<'a, T: TeamRun> Ways<'a, T> {
             back,
             outlets,
             turn: 0,
+            idle: Idle::new(),
         }
     }
 
@@ -59,14 +61,14 @@ impl<'a, T: TeamRun> Ways<'a, T> {
             let batch = Batch::new(self.alloc, self.design);
             return Some(Job::new(batch, Vec::new(self.alloc)));
         }
-        taken(rt, &mut self.back)
+        taken(rt, &mut self.idle, &mut self.back)
     }
 
     /// Hands a batch to the next formatter. Says whether anybody is there to take it.
     pub(crate) fn hand<R: Wait>(&mut self, rt: &R, job: Job<'a, T>) -> bool {
         let turn = next_turn(&mut self.turn, self.outlets.len());
         match self.outlets.get_mut(turn) {
-            Some(outlet) => handed(rt, outlet, job),
+            Some(outlet) => handed(rt, &mut self.idle, outlet, job),
             None => {
                 drop(job);
                 false
