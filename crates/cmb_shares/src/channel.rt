@@ -5,7 +5,7 @@ ghost use Rattle.cmb_shares.specs.Inner.Channels.{Follows, greeting};
 
 use crate::message::{Envelope, InOrder, Message};
 use crate::share_run::ShareRun;
-use cmb_waiting::{handed, taken};
+use cmb_waiting::{Idle, handed, taken};
 use rtrb::{Consumer, Producer, RingBuffer};
 use std::alloc::{AllocError, Global};
 use std::marker::Model;
@@ -15,6 +15,7 @@ use std::sync::Wait;
 #[derive(Drop)]
 pub struct Inlet<T: ShareRun> {
     ring: Consumer<Message<T>, Global, InOrder<T>>,
+    idle: Idle,
 }
 
 impl<T: ShareRun> Model for Inlet<T> {
@@ -35,6 +36,7 @@ impl<T: ShareRun> Model for Inlet<T> {
 #[derive(Drop)]
 pub struct Outlet<T: ShareRun> {
     ring: Producer<Message<T>, Global, InOrder<T>>,
+    idle: Idle,
 }
 
 impl<T: ShareRun> Model for Outlet<T> {
@@ -66,7 +68,16 @@ pub(crate) fn channel<T: ShareRun>(
     outlet.push_reserved(Message::greeting(alloc, sender, reader));
     inlet.slots_beside(&mut outlet);
     drop(inlet.pop_known());
-    Ok((Outlet { ring: outlet }, Inlet { ring: inlet }))
+    Ok((
+        Outlet {
+            ring: outlet,
+            idle: Idle::new(),
+        },
+        Inlet {
+            ring: inlet,
+            idle: Idle::new(),
+        },
+    ))
 }
 
 impl<T: ShareRun> Inlet<T> {
@@ -75,7 +86,7 @@ impl<T: ShareRun> Inlet<T> {
         ensures follows { IfSome result (λ message. Follows T.run.windows self.old message.envelope) }
         ensures last { IfSome result (λ message. self.new ≡ message.envelope) }
     {
-        taken(rt, &mut self.ring)
+        taken(rt, &mut self.idle, &mut self.ring)
     }
 }
 
@@ -86,6 +97,6 @@ impl<T: ShareRun> Outlet<T> {
         ensures sent { IsTrue result → self.new ≡ message.envelope }
         ensures kept { IsFalse result → self.new ≡ self.old }
     {
-        handed(rt, &mut self.ring, message)
+        handed(rt, &mut self.idle, &mut self.ring, message)
     }
 }
