@@ -11,6 +11,7 @@ use Rattle.cmb_shares_protocol.specs.Network.{IsNetwork}
 use Rattle.cmb_shares.specs.declared.message.Envelope.{Envelope}
 use Rattle.cmb_shares.specs.Inner.Channels.{greeting}
 use Rattle.cmb_shares.specs.Inner.Flows.{AreSources}
+use Rattle.cmb_shares.specs.Inner.Opened.{AreStations}
 use Rattle.cmb_shares.specs.Inner.Processes.{AreJoined, AreLone, AreMembers, leads_among, leads_by, member_of, network_of, process_of, upto_by}
 use Rattle.cmb_shares.specs.Inner.Runs.{Run}
 use Rattle.cmb_shares.specs.Inner.Stations.{Standing}
@@ -43,6 +44,13 @@ set-kept field list place one d within same k e = by (cases_eq k place)
         ap (λ n. field (get_or (set list place one) n e)) is ∙ ap field (get_or-set_same list place one e within) ∙ same
         ∙ ap field (get_or_default list place d e within) ∙ ap (λ n. field (get_or list n e)) (sym is)
     by (inr not) = ap field (get_or-set_other list place k one e not)
+
+-- stations stay in order where one of them gets a channel
+pub ordered-set : (list : List Standing) (place : ℕ) (one d : Standing) → place < length list → one.number ≡ (get_or list place d).number → one.clock ≡ (get_or list place d).clock
+    → AreStations list → AreStations (set list place one)
+ordered-set list place one d within number clock ordered k e inside =
+    let was = ordered k e (omega (arith, inside, length-set list place one)) in
+    (set-kept (λ s. s.number) list place one d within number k e ∙ was.0, set-kept (λ s. s.clock) list place one d within clock k e ∙ was.1)
 
 module _ (count : ℕ) (old : List Standing) (sender reader : ℕ) (one other d e : Standing) (there : sender < length old) (here : reader < length old)
     (feeds : one.feeds ≡ (get_or old sender d).feeds ++ greeting sender reader ∷ []) (inlets : one.inlets ≡ (get_or old sender d).inlets) (text : one.text ≡ (get_or old sender d).text)
