@@ -1,6 +1,5 @@
-use Rattle.std.proofs.Common.{◌≡◌, ℕ, List, All, length, sym, ap, subst, ◌∙◌}
-use Rattle.cmb_engine.specs.Inner.Cells.{Cell}
-use Rattle.cmb_engine.specs.Inner.Circuits.{IsGroup, IsGroupWithin, IsMarkedOrRests}
+use Rattle.std.proofs.Common.{ℕ, List, All, length, sym, ap, subst, ◌∙◌}
+use Rattle.cmb_engine.specs.Inner.Circuits.{IsGroupWithin, IsMarkedOrRests}
 use Rattle.cmb_engine.specs.Inner.Orders.{is_marked}
 use Rattle.cmb_engine.specs.Inner.Planes.{Planes}
 use Rattle.cmb_engine.specs.Inner.Words.{levels_of}
