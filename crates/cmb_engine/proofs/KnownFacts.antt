@@ -9,6 +9,7 @@ use Rattle.cmb_words.proofs.BitFacts.{shr_bit}
 use Rattle.cmb_words.proofs.GateFacts.{is_known, known-level, level-known}
 use Rattle.cmb_engine.specs.Inner.Cells.{IsSteadyFrom}
 use Rattle.cmb_engine.specs.Inner.Known.{known_levels, known_planes}
+use Rattle.cmb_engine.specs.Inner.Planes.{Planes}
 
 -- where a word has a known level, its first plane alone says it
 pub by-ones : (word : Word) (i ones j : ℕ) → i < 64 → level_at_place word i ≡ level_in ones 0 j → level_in word.ones 0 i ≡ level_in ones 0 j
@@ -37,6 +38,10 @@ known-other (w ∷ words) (suc net) (suc other) ones place h = known-other words
 pub known-length : (words : List ℕ) → length (known_planes words) ≡ length words
 known-length [] = refl
 known-length (w ∷ words) = ap suc (known-length words)
+
+-- a number below the number of words is one of the ones
+pub known-inside : (words : List Planes) (ones : List ℕ) (slot : ℕ) → words ≡ known_planes ones → slot < length words → slot < length ones
+known-inside words ones slot same inside = omega (arith, ap length same, known-length ones, inside)
 
 -- a word was written that is as steady as it is
 pub known-steady : (words : List ℕ) (net ones first : ℕ) → net < length words → IsSteadyFrom (level_in ones 0) first → IsSteadyFrom (known_levels (set words net ones) net) first

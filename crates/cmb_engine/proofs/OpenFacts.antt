@@ -21,13 +21,13 @@ use Rattle.cmb_engine.specs.declared.role.Role.{Role}
 use Rattle.cmb_engine.proofs.StartFacts.{starts-told}
 
 -- the words of a circuit's slots
-pub words-show : (design : Design) (circuit : Circuit) (words : List Planes) (lines : List Pin) → IsCircuit design circuit → lines ≡ circuit.lines.items
-    → ((roles : List Role) → Shows (levels_of words) (trace_of design roles lines) (nets_of design + length lines) 1)
+pub words-show : (design : Design) (circuit : Circuit) (words : List Planes) (roles : List Role) (lines : List Pin) → IsCircuit design circuit → roles ≡ circuit.wiring.roles.items → lines ≡ circuit.lines.items
+    → Shows (levels_of words) (trace_of design roles lines) (nets_of design + length lines) 1
     → Shows (levels_of words) (trace_of design circuit.wiring.roles.items circuit.lines.items) (length circuit.wiring.cells) 1
-words-show design circuit words lines is same shows =
-    let roles : List Role = circuit.wiring.roles.items in
-    subst (λ (n : ℕ). Shows (levels_of words) (trace_of design roles circuit.lines.items) n 1) (sym is.plan.count)
-    (subst (λ (ls : List Pin). Shows (levels_of words) (trace_of design roles ls) (nets_of design + length ls) 1) same (shows roles))
+words-show design circuit words roles lines is same_roles same_lines shows =
+    subst (λ (n : ℕ). Shows (levels_of words) (trace_of design circuit.wiring.roles.items circuit.lines.items) n 1) (sym is.plan.count)
+    (subst (λ (ls : List Pin). Shows (levels_of words) (trace_of design circuit.wiring.roles.items ls) (nets_of design + length ls) 1) same_lines
+    (subst (λ (rs : List Role). Shows (levels_of words) (trace_of design rs lines) (nets_of design + length lines) 1) same_roles shows))
 
 module _ (design : Design) (roles : List Role) (lines : List Pin) (most width : ℕ) (cells : List Cell) (plan : IsPlan design roles lines most width cells) (words : ℕ → ℕ → Level)
     (shows : Shows words (trace_of design roles lines) (nets_of design + length lines) 1) (empty noted started : Calendar) (none : empty.tells ≡ [])

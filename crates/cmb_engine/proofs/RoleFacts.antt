@@ -1,9 +1,10 @@
 -- Roles of nets, and the levels that an engine has of them.
 use Rattle.std.proofs.Common.{◌≡◌, ℕ, zero, suc, ◌+◌, ◌<◌, ◌≤◌, ◌⊎◌, inl, inr, Bool, true, false, List, [], ◌∷◌, ◌++◌, length, get_or, set, take, refl, sym, ap, subst, ◌∙◌, arith}
 use Rattle.std.specs.Prelude.{Contains}
-use Rattle.std.proofs.lemmas.Bool.{cases_Bool, cases_eq, cases_lt, false≢true}
+use Rattle.std.proofs.lemmas.Bool.{cases_eq, cases_lt, false≢true}
 use Rattle.std.proofs.lemmas.List.{get_or_past, length-map, take_more}
 use Rattle.std.proofs.lemmas.List.Elements.{All-contains, Contains-get_or}
+use Rattle.cmb_wave.specs.declared.level.Level.TheVariants.{Zero}
 use Rattle.cmb_netlist.specs.Netlist.{driver_of, pins_of, IsNetlist}
 use Rattle.cmb_design_model.specs.Design.{Design}
 use Rattle.cmb_design_model.specs.Exact.{nets_of}
@@ -65,16 +66,8 @@ pub level-present : (design : Design) (roles : List Role) (net tick : ℕ) → l
 unfolding value
 level-present design roles net tick known = rw known refl
 
-pub level-absent : (design : Design) (roles : List Role) (net tick : ℕ) → lacks roles net ≡ true → level_in design roles net tick ≡ value design net 0
-unfolding value
+pub level-absent : (design : Design) (roles : List Role) (net tick : ℕ) → lacks roles net ≡ true → level_in design roles net tick ≡ Zero
 level-absent design roles net tick absent = rw absent refl
-
-pub level-start : (design : Design) (roles : List Role) (net : ℕ) → level_in design roles net 0 ≡ value design net 0
-level-start design roles net = go (cases_Bool (lacks roles net))
-  where
-    go : (lacks roles net ≡ true) ⊎ (lacks roles net ≡ false) → level_in design roles net 0 ≡ value design net 0
-    go (inl h) = level-absent design roles net 0 h
-    go (inr h) = level-present design roles net 0 h
 
 -- ---- which nets are driven
 

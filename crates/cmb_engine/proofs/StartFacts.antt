@@ -177,7 +177,7 @@ module _ (design : Design) (roles : List Role) (lines : List Pin) (most width : 
             → tick < design.horizon → IsTold (trace_of design roles lines) started.tells slot tick
         all slot tick inside told other later reach within = go (cases_lt slot (nets_of design))
           where
-            -- an absent net keeps the level of tick 0
+            -- an absent net is 0 for ever
             net : slot < nets_of design → (drives roles slot ≡ true) ⊎ (drives roles slot ≡ false) → IsTold (trace_of design roles lines) started.tells slot tick
             net l (inl driven) = input-told started.tells has-input slot tick l driven told later within
             net l (inr undriven) =

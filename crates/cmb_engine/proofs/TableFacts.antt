@@ -29,8 +29,6 @@ pins_at-behind xs ys part first count = rw (first, count) (behind xs ys)
 
 inside_more : (xs ys : List Pin) (r : Rule) → IsInside xs r → IsInside (xs ++ ys) r
 inside_more xs ys rule.Told h = tt
-inside_more xs ys (rule.Single kind pin) h = tt
-inside_more xs ys (rule.Double kind pin other) h = tt
 inside_more xs ys (rule.Gate kind part) h = omega (arith, h, length-append xs ys)
 inside_more xs ys (rule.Flop clock pin) h = tt
 
@@ -40,8 +38,6 @@ all_inside_more xs ys (r ∷ rules) h = (inside_more xs ys r h.0, all_inside_mor
 
 cell_more : (xs ys : List Pin) (r : Rule) → IsInside xs r → cell_of (xs ++ ys) r ≡ cell_of xs r
 cell_more xs ys rule.Told h = refl
-cell_more xs ys (rule.Single kind pin) h = refl
-cell_more xs ys (rule.Double kind pin other) h = refl
 cell_more xs ys (rule.Gate kind part) h = ap (Gate kind) (still xs ys part.first part.count h)
 cell_more xs ys (rule.Flop clock pin) h = refl
 

@@ -3,7 +3,7 @@ use Rattle.std.proofs.Common.{◌≡◌, ℕ, suc, ◌+◌, ◌-◌, ◌<◌, �
 use Rattle.std.proofs.lemmas.Bool.{lt-ltb, cases_lt}
 use Rattle.std.proofs.lemmas.List.{get_or-replicate, length-replicate, length-set}
 use Rattle.std.proofs.lemmas.Option.{slice_get-get_or}
-use Rattle.std.specs.Prelude.{slice_get, nat_lt, All, if◌then◌else◌}
+use Rattle.std.specs.Prelude.{slice_get, All}
 use Rattle.std.specs.List.{list_any}
 use Rattle.cmb_wave.specs.declared.level.Level.{Level}
 use Rattle.cmb_wave.specs.declared.level.Level.TheVariants.{Zero, One, X}
@@ -30,10 +30,9 @@ use Rattle.cmb_engine.specs.Inner.Words.{levels_of}
 use Rattle.cmb_engine.specs.declared.cell.Pin.{Pin}
 use Rattle.cmb_engine.specs.declared.role.Role.{Role}
 use Rattle.cmb_engine.proofs.ArrivalFacts.{flop_level-start}
-use Rattle.cmb_engine.proofs.RoleFacts.{level-start}
 use Rattle.cmb_engine.proofs.WordFacts.{level_of_planes, levels_of-get_or, written-other, written-same}
 use Rattle.cmb_engine.proofs.PlanFacts.{wired-gate}
-use Rattle.cmb_engine.proofs.SlotFacts.{trace-behind, trace-net}
+use Rattle.cmb_engine.proofs.SlotFacts.{in_place-same, trace-behind, trace-net}
 
 -- ---- gates of which all pins are x
 
@@ -102,16 +101,16 @@ start-shows trace word before now place small = go (cases_lt place 63)
     go (inr l) = let e : place ≡ 63 = omega arith in rw e now
 
 -- the words of the first so many nets show their levels at tick 0, and all others x
-pub record AreStarted (design : Design) (upto : ℕ) (words : List Planes) : Type 0 where
-  pub begun : (net place : ℕ) → net < upto → place < 64 → levels_of words net place ≡ in_place (value design net) 1 place
+pub record AreStarted (design : Design) (roles : List Role) (upto : ℕ) (words : List Planes) : Type 0 where
+  pub begun : (net place : ℕ) → net < upto → place < 64 → levels_of words net place ≡ in_place (level_in design roles net) 1 place
   pub others : (slot : ℕ) (trace : ℕ → Level) → upto ≤ slot → slot < length words → trace 0 ≡ X → (place : ℕ) → place < 64 → levels_of words slot place ≡ in_place trace 1 place
 
 -- a word shows each trace that has its level at tick 0
 abbrev Starts : Level → Word → Type 0
 Starts level word = (trace : ℕ → Level) → trace 0 ≡ level → (place : ℕ) → place < 64 → level_at_place word place ≡ in_place trace 1 place
 
-pub started-none : (design : Design) (count : ℕ) (word : Word) (words : List Planes) → words ≡ replicate count (planes_of word) → Starts X word → AreStarted design 0 words
-started-none design count word words is shows = record {
+pub started-none : (design : Design) (roles : List Role) (count : ℕ) (word : Word) (words : List Planes) → words ≡ replicate count (planes_of word) → Starts X word → AreStarted design roles 0 words
+started-none design roles count word words is shows = record {
   begun = λ net place below. absurd (omega arith);
   others = λ slot trace late inside zero place small.
       let within : slot < count = omega (arith, inside, ap length is, length-replicate count (planes_of word)) in
@@ -120,33 +119,30 @@ started-none design count word words is shows = record {
       ∙ shows trace zero place small;
 }
 
-pub started-more : (design : Design) (net : ℕ) (word : Word) (old new : List Planes) → net < length old → new ≡ set old net (planes_of word) → Starts (value design net 0) word → AreStarted design net old
-    → AreStarted design (net + 1) new
-started-more design net word old new inside is shows so_far = record {
+pub started-more : (design : Design) (roles : List Role) (net : ℕ) (word : Word) (old new : List Planes) → net < length old → new ≡ set old net (planes_of word) → Starts (level_in design roles net 0) word
+    → AreStarted design roles net old → AreStarted design roles (net + 1) new
+started-more design roles net word old new inside is shows so_far = record {
   begun = λ other place below small. go other place below small (cases_lt other net);
   others = λ slot trace late within zero place small.
       written-other old new net slot word place is (λ e. absurd (omega (arith, e, late)))
       ∙ so_far.others slot trace (omega (arith, late)) (omega (arith, within, ap length is, length-set old net (planes_of word))) zero place small;
 }
   where
-    go : (other place : ℕ) → other < net + 1 → place < 64 → (other < net) ⊎ (net ≤ other) → levels_of new other place ≡ in_place (value design other) 1 place
+    go : (other place : ℕ) → other < net + 1 → place < 64 → (other < net) ⊎ (net ≤ other) → levels_of new other place ≡ in_place (level_in design roles other) 1 place
     go other place below small (inl l) = written-other old new net other word place is (λ e. absurd (omega (arith, e, l))) ∙ so_far.begun other place l small
     go other place below small (inr l) =
         let e : net ≡ other = omega (arith, l, below) in
-        subst (λ (n : ℕ). levels_of new n place ≡ in_place (value design n) 1 place) e (written-same old new net word place is inside ∙ shows (value design net) refl place small)
+        subst (λ (n : ℕ). levels_of new n place ≡ in_place (level_in design roles n) 1 place) e (written-same old new net word place is inside ∙ shows (level_in design roles net) refl place small)
 
--- the words of all nets and lines show what these do: at tick 0 nothing is absent
-pub started-shows : (design : Design) (lines : List Pin) (words : List Planes) (roles : List Role) → All (λ line. (line.net < nets_of design) × (1 ≤ line.delay)) lines
-    → length words ≡ nets_of design + length lines → AreStarted design (nets_of design) words → Shows (levels_of words) (trace_of design roles lines) (nets_of design + length lines) 1
-started-shows design lines words roles lawful len started slot place inside small = go (cases_lt slot (nets_of design))
+-- the words of all nets and lines show what these do
+pub started-shows : (design : Design) (roles : List Role) (lines : List Pin) (words : List Planes) → All (λ line. (line.net < nets_of design) × (1 ≤ line.delay)) lines
+    → length words ≡ nets_of design + length lines → AreStarted design roles (nets_of design) words → Shows (levels_of words) (trace_of design roles lines) (nets_of design + length lines) 1
+started-shows design roles lines words lawful len started slot place inside small = go (cases_lt slot (nets_of design))
   where
     go : (slot < nets_of design) ⊎ (nets_of design ≤ slot) → levels_of words slot place ≡ in_place (trace_of design roles lines slot) 1 place
     go (inl l) =
-        let start : 1 + place - 64 ≡ 0 = omega arith in
-        let now : trace_of design roles lines slot (1 + place - 64) ≡ value design slot (1 + place - 64) =
-        trace-net design roles lines slot (1 + place - 64) l
-        ∙ ap (level_in design roles slot) start ∙ level-start design roles slot ∙ ap (value design slot) (sym start) in
-        started.begun slot place l small ∙ sym (ap (λ level. if nat_lt (1 + place) 64 then X else level) now)
+        started.begun slot place l small
+        ∙ sym (in_place-same (trace_of design roles lines slot) (level_in design roles slot) 1 place (λ tick. trace-net design roles lines slot tick l))
     go (inr l) =
         let at : nets_of design + (slot - nets_of design) ≡ slot = omega (arith, l) in
         started.others slot (trace_of design roles lines slot) l (omega (arith, inside, len))

@@ -1,4 +1,4 @@
-//! The cells of a design's nets: a rule of each, and a list of the pins of gates that have more than two.
+//! The cells of a design's nets: a rule of each, and a list of the pins of all gates.
 
 ghost use Rattle.std.specs.Prelude.{◌≡◌, ℕ, ◌+◌, ◌^◌, ◌<◌, ◌++◌, ◌∷◌, [], true, false, All, IfOk, OnOk};
 ghost use Rattle.std.specs.Prelude.{MatchOption, length, map, replicate, slice_index_or};
@@ -34,13 +34,10 @@ impl PinRange {
     }
 }
 
-/// How the word of a net comes about. Most gates have one or two pins, which stand in the rule itself; of the others it
-/// says where their pins stand.
+/// How the word of a net comes about. Of a gate it says where the pins stand.
 #[derive(Clone, Copy)]
 pub(crate) enum Rule {
     Told,
-    Single(Kind, Pin),
-    Double(Kind, Pin, Pin),
     Gate(Kind, PinRange),
     Flop(Clock, Pin),
 }
@@ -99,26 +96,15 @@ impl Cells {
         self.push(Rule::Flop(clock, pin))
     }
 
-    // Adds a gate whose pins stand in the list.
+    /// Adds a gate.
     #[tactic(auto, using(crate::proofs::TableFacts::gate_inside, crate::proofs::TableFacts::gate_cells))]
-    fn push_listed(&mut self, kind: Kind, pins: &[Pin]) -> Result<(), AllocError>
+    pub(crate) fn push_gate(&mut self, kind: Kind, pins: &[Pin]) -> Result<(), AllocError>
         ensures { OnOk result (self.new ≡ self.old ++ Gate kind pins.now ∷ []) }
     {
         let part = PinRange::behind(self.pins.len(), pins.len())?;
         self.pins.extend_from_slice(pins)?;
         self.rules.push(Rule::Gate(kind, part))?;
         Ok(())
-    }
-
-    /// Adds a gate.
-    pub(crate) fn push_gate(&mut self, kind: Kind, pins: &[Pin]) -> Result<(), AllocError>
-        ensures { OnOk result (self.new ≡ self.old ++ Gate kind pins.now ∷ []) }
-    {
-        match pins {
-            [pin] => self.push(Rule::Single(kind, *pin)),
-            [pin, other] => self.push(Rule::Double(kind, *pin, *other)),
-            _ => self.push_listed(kind, pins),
-        }
     }
 
     /// Adds so many nets whose words come of events.
@@ -203,8 +189,6 @@ impl Cells {
     {
         match self.rules[net] {
             Rule::Told | Rule::Flop(..) => Ok(()),
-            Rule::Single(_, pin) => push_pins(readers, &[pin], net as u32),
-            Rule::Double(_, pin, other) => push_pins(readers, &[pin, other], net as u32),
             Rule::Gate(_, part) => {
                 let begin = part.first as usize;
                 push_pins(
@@ -223,8 +207,6 @@ impl Cells {
     {
         match self.rules[slot as usize] {
             Rule::Told => nodes.push_told(slot),
-            Rule::Single(kind, pin) => nodes.push_gate(slot, kind, &[pin]),
-            Rule::Double(kind, pin, other) => nodes.push_gate(slot, kind, &[pin, other]),
             Rule::Gate(kind, part) => {
                 let begin = part.first as usize;
                 let pins = &self.pins[begin..begin + part.count as usize];

@@ -97,7 +97,7 @@ pub(crate) fn open_state(
     ensures state { IfOk result (λ state. IsState design.now circuit.now state) }
     ensures clock { IfOk result (λ state. state.clock ≡ 1) }
 {
-    let words = start_words(alloc, design, &circuit.lines)?;
+    let words = start_words(alloc, design, &circuit.wiring.roles, &circuit.lines)?;
     let calendar = open_calendar(alloc, design, circuit, &words)?;
     let live = all_below(alloc, words.len())?;
     let marks = Marks::new(alloc, circuit.wiring.fanout.order.len())?;

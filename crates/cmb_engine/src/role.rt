@@ -1,7 +1,7 @@
 //! What an engine does with each net.
 
 ghost use Rattle.std.specs.Prelude.{◌≡◌};
-ghost use Rattle.cmb_engine.specs.Inner.Roles.{drives, gives};
+ghost use Rattle.cmb_engine.specs.Inner.Roles.{drives, gives, lacks};
 
 /// What an engine does with a net: it drives it, is given it by others, or has nothing to do with it.
 #[derive(Clone, Copy)]
@@ -30,5 +30,16 @@ pub(crate) fn is_given(roles: &[Role], net: usize) -> bool
     match roles.get(net) {
         Some(Role::Given) => true,
         Some(Role::Driven) | Some(Role::Absent) | None => false,
+    }
+}
+
+/// Whether a net is absent.
+#[inline]
+pub(crate) fn is_absent(roles: &[Role], net: usize) -> bool
+    ensures { result ≡ lacks roles.now net }
+{
+    match roles.get(net) {
+        Some(Role::Absent) => true,
+        Some(Role::Driven) | Some(Role::Given) | None => false,
     }
 }

@@ -1,17 +1,18 @@
 //! What nets show at tick 0, and the slots of a design's engine.
 
-ghost use Rattle.std.specs.Prelude.{◌≡◌, ℕ, ◌+◌, ◌<◌, ◌≤◌, List, All, IfOk, length};
+ghost use Rattle.std.specs.Prelude.{◌≡◌, ℕ, ◌+◌, ◌<◌, ◌≤◌, All, IfOk, length};
 ghost use Rattle.cmb_wave.specs.declared.level.Level.{Level};
 ghost use Rattle.cmb_design_model.specs.Exact.{nets_of};
 ghost use Rattle.cmb_design_model.specs.Value.{value};
 ghost use Rattle.cmb_words.specs.Word.{level_at_place};
 ghost use Rattle.cmb_engine.specs.Inner.Circuits.{Shows};
+ghost use Rattle.cmb_engine.specs.Inner.Roles.{level_in};
 ghost use Rattle.cmb_engine.specs.Inner.Traces.{trace_of};
 ghost use Rattle.cmb_engine.specs.Inner.Windows.{in_place};
 ghost use Rattle.cmb_engine.specs.Inner.Words.{levels_of};
-ghost use Rattle.cmb_engine.specs.declared.role.Role.{Role};
 
 use crate::cell::Pin;
+use crate::role::{Role, is_absent};
 use crate::words::Words;
 use cmb_design_model::Design;
 use cmb_netlist::Driver;
@@ -35,6 +36,19 @@ pub fn start_level(design: &Design, net: usize) -> Level
     }
 }
 
+// The level that an engine has at tick 0 of a net, given by its number. An absent net is 0 for ever, so that it never
+// counts as x.
+fn level_at_start(design: &Design, roles: &[Role], net: usize) -> Level
+    requires { net < nets_of design.now }
+    ensures { result ≡ level_in design.now roles.now net 0 }
+{
+    if is_absent(roles, net) {
+        Level::Zero
+    } else {
+        start_level(design, net)
+    }
+}
+
 // The word of a slot with a level at tick 0, in the words that end before tick 1: it is x before.
 fn start_word(level: Level) -> Word
     ensures { (trace : ℕ → Level) → trace 0 ≡ level
@@ -47,18 +61,18 @@ fn start_word(level: Level) -> Word
 pub(crate) fn start_words(
     alloc: Global,
     design: &Design,
+    roles: &[Role],
     lines: &[Pin],
 ) -> Result<Words, AllocError>
     requires lines { All (λ line. (line.net < nets_of design.now) × (1 ≤ line.delay)) lines.now }
     ensures len { IfOk result (λ words. length words ≡ nets_of design.now + length lines.now) }
-    ensures shows { IfOk result (λ words. (roles : List Role)
-        → Shows (levels_of words) (trace_of design.now roles lines.now)
+    ensures shows { IfOk result (λ words. Shows (levels_of words) (trace_of design.now roles.now lines.now)
         (nets_of design.now + length lines.now) 1) }
 {
     let nets = design.netlist().len();
     let mut words = Words::new(alloc, start_word(Level::X), nets + lines.len())?;
     for net in 0..nets {
-        words.set(net, start_word(start_level(design, net)));
+        words.set(net, start_word(level_at_start(design, roles, net)));
     }
     Ok(words)
 }

@@ -40,19 +40,19 @@ pub(crate) fn shared_classes(alloc: Global, classes: &Classes) -> Result<Vec<Wei
     Ok(shared)
 }
 
-// What each net's class weighs.
+// What each sink's class weighs.
 fn weights_of(alloc: Global, classes: &Classes) -> Result<Vec<u32>, AllocError>
-    requires { All (λ class. class < length classes.now.weights.items) classes.now.of_nets.items }
-    ensures { IfOk result (λ weights. length weights.items ≡ length classes.now.of_nets.items) }
+    requires { All (λ class. class < length classes.now.weights.items) classes.now.of_sinks.items }
+    ensures { IfOk result (λ weights. length weights.items ≡ length classes.now.of_sinks.items) }
 {
-    let mut weights = Vec::with_capacity(alloc, classes.of_nets.len())?;
-    for class in &classes.of_nets {
+    let mut weights = Vec::with_capacity(alloc, classes.of_sinks.len())?;
+    for class in &classes.of_sinks {
         weights.push(classes.weights[*class as usize])?;
     }
     Ok(weights)
 }
 
-/// Clusters that weigh no more than that, as the root of each net: from the heaviest class on, the sinks that need it
+/// Clusters that weigh no more than that, as the root of each sink: from the heaviest class on, the sinks that need it
 /// become one cluster.
 pub(crate) fn clusters_within(
     alloc: Global,
@@ -60,15 +60,14 @@ pub(crate) fn clusters_within(
     shared: &[Weighed],
     most: u32,
 ) -> Result<Vec<u32>, AllocError>
-    requires few { length classes.now.of_nets.items ≤ 65535 }
-    requires classes { AreClasses (length classes.now.of_nets.items) classes.now }
-    ensures long { IfOk result (λ roots. length roots.items ≡ length classes.now.of_nets.items) }
+    requires { AreClasses (length classes.now.of_nets.items) classes.now }
+    ensures long { IfOk result (λ roots. length roots.items ≡ length classes.now.of_sinks.items) }
     ensures forest { IfOk result (λ roots. IsForest roots.items) }
 {
-    let nets = classes.of_nets.len();
-    let mut roots = trees_of_one(alloc, nets)?;
+    let count = classes.of_sinks.len();
+    let mut roots = trees_of_one(alloc, count)?;
     let mut weights = weights_of(alloc, classes)?;
-    let mut seen = SeenSet::new(alloc, nets)?;
+    let mut seen = SeenSet::new(alloc, count)?;
     for class in shared {
         let sinks = classes.needed.of(class.number as usize);
         let sum = weight_within(&mut roots, &weights, &mut seen, sinks, class.weight, most);

@@ -7,11 +7,12 @@ ghost use Rattle.cmb_graph_partition.specs.Inner.Shapes.{AreClasses, IsShaped};
 use crate::check::is_lawful;
 use crate::classes::Classes;
 use crate::clusters::{clusters_within, shared_classes};
-use crate::cones::cones_of;
 use crate::driven::partition_by;
 use crate::forest::trees_of_one;
-use crate::moves::{Assignment, Placement};
-use crate::parts::{PartNumber, Parts};
+use crate::members::{classes_of, members_of};
+use crate::moves::Placement;
+use crate::parts::{PartNumber, Parts, Place};
+use crate::reach::Search;
 use crate::shares::{Partition, Share};
 use crate::structure::Structure;
 use cmb_netlist::Netlist;
@@ -32,6 +33,18 @@ fn total_of(weights: &[u32]) -> u32 {
     sum
 }
 
+// Clusters that are small beside an even share, as the root of each sink.
+fn roots_within(alloc: Global, classes: &Classes, count: u32) -> Result<Vec<u32>, AllocError>
+    requires some { 1 ≤ count }
+    requires classes { AreClasses (length classes.now.of_nets.items) classes.now }
+    ensures long { IfOk result (λ roots. length roots.items ≡ length classes.now.of_sinks.items) }
+    ensures below { IfOk result (λ roots. All (λ root. root < length roots.items) roots.items) }
+{
+    let shared = shared_classes(alloc, classes)?;
+    let even = total_of(&classes.weights) / count;
+    clusters_within(alloc, classes, &shared, even / CLUSTER)
+}
+
 // The sinks that are roots.
 fn roots_of(alloc: Global, roots: &[u32], sinks: &[u32]) -> Result<Vec<u32>, AllocError>
     requires { All (λ sink. sink < length roots.now) sinks.now }
@@ -46,94 +59,80 @@ fn roots_of(alloc: Global, roots: &[u32], sinks: &[u32]) -> Result<Vec<u32>, All
     Ok(found)
 }
 
-// For each net the part of its root.
+// For each sink the part of its root.
 fn spread(
     alloc: Global,
     roots: &[u32],
-    assignment: &[PartNumber],
-) -> Result<Vec<PartNumber>, AllocError>
-    requires { All (λ root. root < length assignment.now) roots.now }
+    places: &[Place],
+) -> Result<Vec<Option<PartNumber>>, AllocError>
+    requires { All (λ root. root < length places.now) roots.now }
     ensures { IfOk result (λ spread. length spread.items ≡ length roots.now) }
 {
     let mut spread = Vec::with_capacity(alloc, roots.len())?;
     for root in roots {
-        spread.push(assignment[*root as usize])?;
+        spread.push(places[*root as usize].part)?;
     }
     Ok(spread)
 }
 
-// No cluster is in any part yet.
-fn nowhere(alloc: Global, classes: usize, nets: usize) -> Result<Assignment, AllocError>
-    ensures parts { IfOk result (λ assignment. length assignment.parts.counts.items ≡ classes) }
-    ensures of { IfOk result (λ assignment. length assignment.of.items ≡ nets) }
-{
-    Ok(Assignment {
-        parts: Parts::empty(alloc, classes)?,
-        of: vec![in alloc; PartNumber::of(0); nets]?,
-    })
-}
-
-// Clusters put into parts and moved.
-fn rough(alloc: Global, classes: &Classes, count: u32) -> Result<Vec<PartNumber>, AllocError>
-    requires some { 1 ≤ count }
+// For each sink the part of its cluster, with clusters put into parts and moved.
+fn rough(
+    alloc: Global,
+    classes: &Classes,
+    roots: &[u32],
+    count: u32,
+) -> Result<Vec<Option<PartNumber>>, AllocError>
     requires few { count ≤ 16 }
-    requires nets { length classes.now.of_nets.items ≤ 65535 }
     requires classes { AreClasses (length classes.now.of_nets.items) classes.now }
-    ensures { IfOk result (λ assignment. length assignment.items ≡ length classes.now.of_nets.items) }
+    requires long { length roots.now ≡ length classes.now.of_sinks.items }
+    requires roots { All (λ root. root < length roots.now) roots.now }
+    ensures { IfOk result (λ found. length found.items ≡ length classes.now.of_sinks.items) }
 {
-    let shared = shared_classes(alloc, classes)?;
-    let even = total_of(&classes.weights) / count;
-    let roots = clusters_within(alloc, classes, &shared, even / CLUSTER)?;
-    let cones = cones_of(alloc, classes, &roots)?;
+    let members = members_of(alloc, classes, roots)?;
+    let starts = classes_of(alloc, classes, roots)?;
     let placement = Placement {
         weights: &classes.weights,
-        cones: &cones,
+        needed: &members,
+        starts: &starts,
+        children: &classes.children,
+        bound: roots.len(),
         count,
     };
-    let clusters = roots_of(alloc, &roots, &classes.sinks)?;
-    let mut assignment = nowhere(alloc, classes.weights.len(), roots.len())?;
-    placement.insert_all(alloc, &mut assignment, &clusters)?;
-    placement.refine(&mut assignment, &clusters);
-    spread(alloc, &roots, &assignment.of)
+    let clusters = roots_of(alloc, roots, &classes.sinks)?;
+    let nowhere = vec![in alloc; None; roots.len()]?;
+    let mut parts = placement.parts_with(alloc, &nowhere)?;
+    let mut search = Search::new(alloc, classes.weights.len())?;
+    placement.insert_all(alloc, &mut search, &mut parts, &clusters)?;
+    placement.refine(&mut search, &mut parts, &clusters);
+    spread(alloc, roots, &parts.places)
 }
 
-// Puts sinks where they were found.
-fn put_all(placement: &Placement, assignment: &mut Assignment, sinks: &[u32], found: &[PartNumber])
-    requires sinks { All (λ sink. sink < length found.now) sinks.now }
-    requires of { length assignment.old.of.items ≡ length found.now }
-    requires long { length assignment.old.parts.counts.items ≡ length placement.now.weights.now }
-    ensures long { length assignment.new.parts.counts.items ≡ length placement.now.weights.now }
-    ensures of { length assignment.new.of.items ≡ length found.now }
-{
-    for sink in sinks {
-        placement.put(assignment, *sink as usize, found[*sink as usize]);
-    }
-}
-
-// The same with single sinks moved.
+// What is in each part, with single sinks moved.
 fn refined(
     alloc: Global,
     classes: &Classes,
     count: u32,
-    found: &[PartNumber],
-) -> Result<Vec<PartNumber>, AllocError>
+    found: &[Option<PartNumber>],
+) -> Result<Parts, AllocError>
     requires few { count ≤ 16 }
-    requires nets { length classes.now.of_nets.items ≤ 65535 }
     requires classes { AreClasses (length classes.now.of_nets.items) classes.now }
-    requires found { length found.now ≡ length classes.now.of_nets.items }
-    ensures { IfOk result (λ assignment. length assignment.items ≡ length classes.now.of_nets.items) }
+    requires found { length found.now ≡ length classes.now.of_sinks.items }
+    ensures { IfOk result (λ parts. length parts.counts.items ≡ length classes.now.weights.items) }
 {
-    let roots = trees_of_one(alloc, found.len())?;
-    let cones = cones_of(alloc, classes, &roots)?;
+    let singles = trees_of_one(alloc, classes.of_sinks.len())?;
+    let starts = classes_of(alloc, classes, &singles)?;
     let placement = Placement {
         weights: &classes.weights,
-        cones: &cones,
+        needed: &classes.needed,
+        starts: &starts,
+        children: &classes.children,
+        bound: classes.of_sinks.len(),
         count,
     };
-    let mut assignment = nowhere(alloc, classes.weights.len(), roots.len())?;
-    put_all(&placement, &mut assignment, &classes.sinks, found);
-    placement.refine(&mut assignment, &classes.sinks);
-    Ok(assignment.of)
+    let mut parts = placement.parts_with(alloc, found)?;
+    let mut search = Search::new(alloc, classes.weights.len())?;
+    placement.refine(&mut search, &mut parts, &classes.sinks);
+    Ok(parts)
 }
 
 // The partition into so many parts, before it is checked.
@@ -145,14 +144,14 @@ fn cut(
 ) -> Result<Partition, AllocError>
     requires some { 1 ≤ count }
     requires few { count ≤ 16 }
-    requires nets { length netlist.now.names ≤ 65535 }
     requires classes { AreClasses (length netlist.now.names) classes.now }
     ensures shaped { IfOk result (IsShaped netlist.now) }
     ensures count { IfOk result (λ partition. length partition.shares.items ≡ count) }
 {
-    let found = rough(alloc, classes, count)?;
-    let assignment = refined(alloc, classes, count, &found)?;
-    partition_by(alloc, netlist, classes, &assignment, count)
+    let roots = roots_within(alloc, classes, count)?;
+    let found = rough(alloc, classes, &roots, count)?;
+    let parts = refined(alloc, classes, count, &found)?;
+    partition_by(alloc, netlist, &classes.of_nets, &parts.counts, count)
 }
 
 // Whether a share has nothing to drive.

@@ -1,7 +1,7 @@
 //! Classes of nets that are read by the same.
 
 ghost use Rattle.std.specs.Prelude.{◌≡◌, ◌<◌, length, All, IfOk, OnOk};
-ghost use Rattle.cmb_graph_partition.specs.Inner.Shapes.{AreFamilies, IsReaderGraph};
+ghost use Rattle.cmb_graph_partition.specs.Inner.Shapes.{IsReaderGraph};
 
 use crate::lists::Lists;
 use crate::reader_graph::ReaderGraph;
@@ -18,8 +18,8 @@ pub(crate) const NO_NET: u32 = u32::MAX;
 pub(crate) struct Families {
     /// For each net its class.
     pub classes: Vec<u32>,
-    /// For each class the net that is its sink, if it has one.
-    pub sinks: Lists,
+    /// For each class the net that is its sink, if it has one; else `NO_NET`.
+    pub sinks: Vec<u32>,
     /// For each class its parents. Their numbers are lower.
     pub parents: Lists,
     /// For each class the flip-flop whose import it is, if it is one; else `NO_NET`.
@@ -29,14 +29,11 @@ pub(crate) struct Families {
 // Begins a class, and answers its number.
 fn begin(
     families: &mut Families,
-    sink: &[u32],
+    sink: u32,
     parents: &[u32],
     import: u32,
 ) -> Result<u32, AllocError>
-    requires families { AreFamilies families.old }
-    requires sink { All (λ net. net < length families.old.classes.items) sink.now }
-    ensures families { OnOk result (AreFamilies families.new) }
-    ensures classes { families.new.classes ≡ families.old.classes }
+    ensures { families.new.classes ≡ families.old.classes }
 {
     let Ok(class) = u32::try_from(families.imports.len()) else {
         return Err(AllocError);
@@ -49,16 +46,22 @@ fn begin(
 
 // Each flip-flop is a class.
 fn add_flops(families: &mut Families, netlist: &Netlist) -> Result<(), AllocError>
-    requires families { AreFamilies families.old }
-    requires long { length families.old.classes.items ≡ length netlist.now.names }
-    ensures families { OnOk result (AreFamilies families.new) }
-    ensures long { OnOk result (length families.new.classes.items ≡ length netlist.now.names) }
+    requires { length families.old.classes.items ≡ length netlist.now.names }
+    ensures { OnOk result (length families.new.classes.items ≡ length netlist.now.names) }
 {
     for net in 0..netlist.len() {
         if matches!(netlist.driver(net), Driver::Flop(_)) {
-            let class = begin(families, &[net as u32], &[], NO_NET)?;
+            let class = begin(families, net as u32, &[], NO_NET)?;
             families.classes[net] = class;
         }
+    }
+    Ok(())
+}
+
+// Adds a class, unless it was the last that was added.
+fn note(found: &mut Vec<u32>, class: u32) -> Result<(), AllocError> {
+    if found.last() != Some(&class) {
+        found.push(class)?;
     }
     Ok(())
 }
@@ -76,42 +79,46 @@ fn note_readers(
     let number = reader_graph.numbers[net];
     for reader in reader_graph.readers.of(net) {
         if reader_graph.numbers[*reader as usize] != number {
-            found.push(classes[*reader as usize])?;
+            note(found, classes[*reader as usize])?;
         }
     }
     Ok(())
 }
 
-// The classes of those that read nets of a component from outside, each once.
-fn parents_of(
-    alloc: Global,
+// Puts classes in order, each once.
+fn put_in_order(found: &mut Vec<u32>) {
+    if found.len() > 1 {
+        found.sort_unstable();
+        found.dedup();
+    }
+}
+
+// Finds the classes of those that read nets of a component from outside, each once.
+fn find_parents(
+    found: &mut Vec<u32>,
     classes: &[u32],
     reader_graph: &ReaderGraph,
     nets: &[u32],
-) -> Result<Vec<u32>, AllocError>
+) -> Result<(), AllocError>
     requires reader_graph { IsReaderGraph (length classes.now) reader_graph.now }
     requires nets { All (λ net. net < length classes.now) nets.now }
 {
-    let mut found = Vec::new(alloc);
+    found.clear();
     for net in nets {
-        note_readers(&mut found, classes, reader_graph, *net as usize)?;
+        note_readers(found, classes, reader_graph, *net as usize)?;
     }
-    found.sort_unstable();
-    found.dedup();
-    Ok(found)
+    put_in_order(found);
+    Ok(())
 }
 
 // The class of a component of gates with these parents.
 fn class_of(families: &mut Families, first: u32, parents: &[u32]) -> Result<u32, AllocError>
-    requires families { AreFamilies families.old }
-    requires first { first < length families.old.classes.items }
-    ensures families { OnOk result (AreFamilies families.new) }
-    ensures classes { families.new.classes ≡ families.old.classes }
+    ensures { families.new.classes ≡ families.old.classes }
 {
     match parents {
-        [] => begin(families, &[first], &[], NO_NET),
+        [] => begin(families, first, &[], NO_NET),
         [parent] => Ok(*parent),
-        several => begin(families, &[], several, NO_NET),
+        several => begin(families, NO_NET, several, NO_NET),
     }
 }
 
@@ -133,24 +140,22 @@ fn is_gate(netlist: &Netlist, net: u32) -> bool
 
 // Finds the class of a component, if it is of gates.
 fn add_component(
-    alloc: Global,
+    found: &mut Vec<u32>,
     families: &mut Families,
     netlist: &Netlist,
     reader_graph: &ReaderGraph,
     nets: &[u32],
 ) -> Result<(), AllocError>
-    requires families { AreFamilies families.old }
     requires long { length families.old.classes.items ≡ length netlist.now.names }
     requires reader_graph { IsReaderGraph (length netlist.now.names) reader_graph.now }
     requires nets { All (λ net. net < length netlist.now.names) nets.now }
-    ensures families { OnOk result (AreFamilies families.new) }
-    ensures long { OnOk result (length families.new.classes.items ≡ length netlist.now.names) }
+    ensures { OnOk result (length families.new.classes.items ≡ length netlist.now.names) }
 {
     if let Some(first) = nets.first()
         && is_gate(netlist, *first)
     {
-        let parents = parents_of(alloc, &families.classes, reader_graph, nets)?;
-        let class = class_of(families, *first, &parents)?;
+        find_parents(found, &families.classes, reader_graph, nets)?;
+        let class = class_of(families, *first, found)?;
         put_all(&mut families.classes, nets, class);
     }
     Ok(())
@@ -163,15 +168,14 @@ fn add_gates(
     netlist: &Netlist,
     reader_graph: &ReaderGraph,
 ) -> Result<(), AllocError>
-    requires families { AreFamilies families.old }
     requires long { length families.old.classes.items ≡ length netlist.now.names }
     requires reader_graph { IsReaderGraph (length netlist.now.names) reader_graph.now }
-    ensures families { OnOk result (AreFamilies families.new) }
-    ensures long { OnOk result (length families.new.classes.items ≡ length netlist.now.names) }
+    ensures { OnOk result (length families.new.classes.items ≡ length netlist.now.names) }
 {
+    let mut found = Vec::new(alloc);
     for number in (0..netlist.len()).rev() {
         add_component(
-            alloc,
+            &mut found,
             families,
             netlist,
             reader_graph,
@@ -181,22 +185,21 @@ fn add_gates(
     Ok(())
 }
 
-// What the import of a flip-flop is for: itself, and all that read it.
-fn importers_of(
-    alloc: Global,
+// Finds what the import of a flip-flop is for: itself, and all that read it.
+fn find_importers(
+    found: &mut Vec<u32>,
     classes: &[u32],
     reader_graph: &ReaderGraph,
     net: usize,
-) -> Result<Vec<u32>, AllocError>
+) -> Result<(), AllocError>
     requires reader_graph { IsReaderGraph (length classes.now) reader_graph.now }
     requires net { net < length classes.now }
 {
-    let mut found = Vec::new(alloc);
+    found.clear();
     found.push(classes[net])?;
-    note_readers(&mut found, classes, reader_graph, net)?;
-    found.sort_unstable();
-    found.dedup();
-    Ok(found)
+    note_readers(found, classes, reader_graph, net)?;
+    put_in_order(found);
+    Ok(())
 }
 
 // A share that reads a flip-flop of another is given it, at about half of what it costs to make it. So each flip-flop
@@ -207,16 +210,15 @@ fn add_imports(
     netlist: &Netlist,
     reader_graph: &ReaderGraph,
 ) -> Result<(), AllocError>
-    requires families { AreFamilies families.old }
     requires long { length families.old.classes.items ≡ length netlist.now.names }
     requires reader_graph { IsReaderGraph (length netlist.now.names) reader_graph.now }
-    ensures families { OnOk result (AreFamilies families.new) }
-    ensures long { OnOk result (length families.new.classes.items ≡ length netlist.now.names) }
+    ensures { OnOk result (length families.new.classes.items ≡ length netlist.now.names) }
 {
+    let mut found = Vec::new(alloc);
     for net in 0..netlist.len() {
         if matches!(netlist.driver(net), Driver::Flop(_)) {
-            let importers = importers_of(alloc, &families.classes, reader_graph, net)?;
-            let _ = begin(families, &[], &importers, net as u32)?;
+            find_importers(&mut found, &families.classes, reader_graph, net)?;
+            let _ = begin(families, NO_NET, &found, net as u32)?;
         }
     }
     Ok(())
@@ -229,16 +231,15 @@ pub(crate) fn families_of(
     reader_graph: &ReaderGraph,
 ) -> Result<Families, AllocError>
     requires reader_graph { IsReaderGraph (length netlist.now.names) reader_graph.now }
-    ensures families { IfOk result AreFamilies }
-    ensures long { IfOk result (λ families. length families.classes.items ≡ length netlist.now.names) }
+    ensures { IfOk result (λ families. length families.classes.items ≡ length netlist.now.names) }
 {
     let mut families = Families {
         classes: vec![in alloc; 0u32; netlist.len()]?,
-        sinks: Lists::new(alloc),
+        sinks: Vec::new(alloc),
         parents: Lists::new(alloc),
         imports: Vec::new(alloc),
     };
-    let _ = begin(&mut families, &[], &[], NO_NET)?;
+    let _ = begin(&mut families, NO_NET, &[], NO_NET)?;
     add_flops(&mut families, netlist)?;
     add_gates(alloc, &mut families, netlist, reader_graph)?;
     add_imports(alloc, &mut families, netlist, reader_graph)?;

@@ -1,4 +1,4 @@
-//! Trees of nets, as a list that has for each net the next one on the way to its root.
+//! Trees of sinks, as a list that has for each sink the next one on the way to its root.
 
 ghost use Rattle.std.specs.Prelude.{◌≡◌, ◌<◌, ◌≤◌, length, All, IfOk};
 ghost use Rattle.cmb_graph_partition.specs.Inner.Shapes.{IsForest};
@@ -6,27 +6,27 @@ ghost use Rattle.cmb_graph_partition.specs.Inner.Shapes.{IsForest};
 use crate::seen_set::SeenSet;
 use std::alloc::{AllocError, Global};
 
-/// Each of so many nets is a tree.
-pub(crate) fn trees_of_one(alloc: Global, nets: usize) -> Result<Vec<u32>, AllocError>
-    requires { nets ≤ 65535 }
-    ensures long { IfOk result (λ parents. length parents.items ≡ nets) }
+/// Each of so many sinks is a tree.
+pub(crate) fn trees_of_one(alloc: Global, sinks: usize) -> Result<Vec<u32>, AllocError>
+    requires { sinks ≤ 65535 }
+    ensures long { IfOk result (λ parents. length parents.items ≡ sinks) }
     ensures forest { IfOk result (λ parents. IsForest parents.items) }
 {
-    let mut parents = Vec::with_capacity(alloc, nets)?;
-    for net in 0..nets {
-        parents.push(net as u32)?;
+    let mut parents = Vec::with_capacity(alloc, sinks)?;
+    for sink in 0..sinks {
+        parents.push(sink as u32)?;
     }
     Ok(parents)
 }
 
-// The root of a net's tree: its least net. The way to it becomes shorter.
-fn root(parents: &mut [u32], net: u32) -> u32
+// The root of a sink's tree: its least sink. The way to it becomes shorter.
+fn root(parents: &mut [u32], sink: u32) -> u32
     requires forest { IsForest parents.old }
-    requires net { net < length parents.old }
+    requires sink { sink < length parents.old }
     ensures forest { IsForest parents.new }
-    ensures below { result ≤ net }
+    ensures below { result ≤ sink }
 {
-    let mut at = net;
+    let mut at = sink;
     while parents[at as usize] != at {
         let above = parents[parents[at as usize] as usize];
         parents[at as usize] = above;
@@ -35,7 +35,7 @@ fn root(parents: &mut [u32], net: u32) -> u32
     at
 }
 
-// Makes one tree of those of two nets, and answers its root.
+// Makes one tree of those of two sinks, and answers its root.
 fn unite(parents: &mut [u32], one: u32, other: u32) -> u32
     requires forest { IsForest parents.old }
     requires one { one < length parents.old }
@@ -51,58 +51,64 @@ fn unite(parents: &mut [u32], one: u32, other: u32) -> u32
     low
 }
 
-/// Makes one tree of those of some nets, and gives its root that weight.
-pub(crate) fn unite_all(parents: &mut [u32], weights: &mut [u32], nets: &[u32], weight: u32)
+/// Makes one tree of those of some sinks, and gives its root that weight.
+pub(crate) fn unite_all(parents: &mut [u32], weights: &mut [u32], sinks: &[u32], weight: u32)
     requires forest { IsForest parents.old }
     requires long { length weights.old ≡ length parents.old }
-    requires nets { All (λ net. net < length parents.old) nets.now }
+    requires sinks { All (λ sink. sink < length parents.old) sinks.now }
     ensures { IsForest parents.new }
 {
-    if let Some(first) = nets.first() {
+    if let Some(first) = sinks.first() {
         let mut root = *first;
-        for net in nets {
-            root = unite(parents, root, *net);
+        for sink in sinks {
+            if parents[*sink as usize] != root {
+                root = unite(parents, root, *sink);
+            }
         }
         weights[root as usize] = weight;
     }
 }
 
-/// What the trees of some nets weigh, with so much besides, unless that is more than `most`.
+/// What the trees of some sinks weigh, with so much besides, unless that is more than `most`.
 pub(crate) fn weight_within(
     parents: &mut [u32],
     weights: &[u32],
     seen: &mut SeenSet,
-    nets: &[u32],
+    sinks: &[u32],
     besides: u32,
     most: u32,
 ) -> Option<u32>
     requires forest { IsForest parents.old }
     requires long { length weights.now ≡ length parents.old }
     requires seen { length seen.old.rounds.items ≡ length parents.old }
-    requires nets { All (λ net. net < length parents.old) nets.now }
+    requires sinks { All (λ sink. sink < length parents.old) sinks.now }
     ensures forest { IsForest parents.new }
     ensures seen { length seen.new.rounds.items ≡ length seen.old.rounds.items }
 {
     let mut sum = besides;
+    let mut last = u32::MAX;
     seen.clear();
-    for net in nets {
-        let root = root(parents, *net) as usize;
-        if seen.is_new(root) {
-            sum = sum.saturating_add(weights[root]);
-        }
-        if sum > most {
-            return None;
+    for sink in sinks {
+        // Mostly sinks are of the same tree as the one before.
+        if parents[*sink as usize] != last {
+            last = root(parents, *sink);
+            if seen.is_new(last as usize) {
+                sum = sum.saturating_add(weights[last as usize]);
+            }
+            if sum > most {
+                return None;
+            }
         }
     }
     Some(sum)
 }
 
-/// Makes all ways one step long: then the list has for each net its root.
+/// Makes all ways one step long: then the list has for each sink its root.
 pub(crate) fn flatten(parents: &mut [u32])
     requires { IsForest parents.old }
     ensures { IsForest parents.new }
 {
-    for net in 0..parents.len() {
-        parents[net] = parents[parents[net] as usize];
+    for sink in 0..parents.len() {
+        parents[sink] = parents[parents[sink] as usize];
     }
 }

@@ -4,18 +4,20 @@
 mod check;
 mod classes;
 mod clusters;
-mod cones;
 pub mod cut;
 mod driven;
 mod families;
 mod forest;
 mod lists;
 pub mod loads;
+mod members;
 mod moves;
 mod parts;
+mod reach;
 mod reader_graph;
 mod seen_set;
 pub mod shares;
+mod sinks;
 pub mod structure;
 
 pub use cut::{MOST_SHARES, partition};

@@ -1,36 +1,71 @@
 //! Clusters put into parts, and moved as long as that pays.
 
-ghost use Rattle.std.specs.Prelude.{◌≡◌, ◌<◌, ◌≤◌, ℕ, length, All, IfOk};
+ghost use Rattle.std.specs.Prelude.{◌≡◌, ◌<◌, ◌≤◌, length, All, IfOk};
+ghost use Rattle.cmb_graph_partition.specs.Inner.Shapes.{AreParts, IsSearch};
 
 use crate::clusters::{Weighed, from_heaviest};
 use crate::lists::Lists;
 use crate::parts::{PartNumber, Parts};
+use crate::reach::Search;
 use std::alloc::{AllocError, Global};
 
 // So often clusters are gone through, at most: an estimate.
 const PASSES: u32 = 2;
 
-/// Clusters for so many parts. A cluster is named by a net, its root.
+/// Clusters for so many parts. A cluster is named by a sink, its root.
 #[derive(Clone, Copy)]
 pub(crate) struct Placement<'a> {
     /// For each class what it weighs.
     pub weights: &'a [u32],
-    /// For each cluster the classes that it needs.
-    pub cones: &'a Lists,
+    /// For each class the clusters that need it.
+    pub needed: &'a Lists,
+    /// For each cluster the classes of its sinks: it needs these, and what is reached from them.
+    pub starts: &'a Lists,
+    /// For each class its children.
+    pub children: &'a Lists,
+    /// The numbers of clusters are below that.
+    pub bound: usize,
+    /// How many parts there are.
     pub count: u32,
-    ghost cones_within: { All (λ class. class < length weights.now) cones.now.items.items },
+    ghost needed_within: { All (λ cluster. cluster < bound) needed.now.items.items },
+    ghost starts_within: { All (λ class. class < length weights.now) starts.now.items.items },
+    ghost children_within: { All (λ class. class < length weights.now) children.now.items.items },
     ghost few: { count ≤ 16 },
 }
 
-/// Where clusters are.
-#[derive(Drop)]
-pub(crate) struct Assignment {
-    pub parts: Parts,
-    /// For each cluster its part.
-    pub of: Vec<PartNumber>,
+// Clusters that are in no part, the heaviest first.
+fn in_order(alloc: Global, parts: &Parts, clusters: &[u32]) -> Result<Vec<Weighed>, AllocError>
+    requires { All (λ cluster. cluster < length parts.now.places.items) clusters.now }
+    ensures { IfOk result (λ order. All (λ weighed. weighed.number < length parts.now.places.items) order.items) }
+{
+    let mut order = Vec::with_capacity(alloc, clusters.len())?;
+    for cluster in clusters {
+        order.push(Weighed {
+            number: *cluster,
+            weight: parts.weight_of(*cluster as usize),
+        })?;
+    }
+    from_heaviest(&mut order)?;
+    Ok(order)
 }
 
 impl<'a> Placement<'a> {
+    /// The parts, with each cluster where it is, if it is anywhere.
+    pub(crate) fn parts_with(
+        &self,
+        alloc: Global,
+        of: &[Option<PartNumber>],
+    ) -> Result<Parts, AllocError>
+        requires { length of.now ≡ self.now.bound }
+        ensures { IfOk result (AreParts (length self.now.weights.now) self.now.bound) }
+    {
+        let mut parts = Parts::new(alloc, of, self.weights.len())?;
+        for class in 0..self.weights.len() {
+            parts.note(self.count, self.needed.of(class), self.weights[class])?;
+        }
+        Ok(parts)
+    }
+
     // The part with which a cluster costs the least, but for one part, if that is less than so much.
     fn cheapest(
         &self,
@@ -39,15 +74,14 @@ impl<'a> Placement<'a> {
         but: Option<u32>,
         most: f64,
     ) -> Option<PartNumber>
-        requires { length parts.now.counts.items ≡ length self.now.weights.now }
+        requires { cluster < length parts.now.places.items }
     {
-        let cone = self.cones.of(cluster);
         let mut best = None;
         let mut least = most;
         for number in 0..self.count {
             if but != Some(number) {
                 let part = PartNumber::of(number);
-                let rise = parts.rise(self.weights, cone, part);
+                let rise = parts.rise(part, cluster);
                 if rise < least {
                     least = rise;
                     best = Some(part);
@@ -57,62 +91,100 @@ impl<'a> Placement<'a> {
         best
     }
 
-    /// Puts a cluster into a part.
-    pub(crate) fn put(&self, assignment: &mut Assignment, cluster: usize, part: PartNumber)
-        requires cluster { cluster < length assignment.old.of.items }
-        requires long { length assignment.old.parts.counts.items ≡ length self.now.weights.now }
-        ensures long { length assignment.new.parts.counts.items ≡ length self.now.weights.now }
-        ensures of { length assignment.new.of.items ≡ length assignment.old.of.items }
+    // Finds the classes that a cluster needs, and answers how many.
+    fn find_cone(&self, search: &mut Search, cluster: usize) -> usize
+        requires { IsSearch (length self.now.weights.now) search.old }
+        ensures count { result ≤ length search.new.found.items }
+        ensures search { IsSearch (length self.now.weights.now) search.new }
     {
-        assignment
-            .parts
-            .put(self.weights, self.cones.of(cluster), part);
-        assignment.of[cluster] = part;
+        search.find(self.children, self.starts.of(cluster))
+    }
+
+    // Puts a cluster that is in no part into one.
+    fn put(&self, parts: &mut Parts, cluster: usize, cone: &[u32], part: PartNumber)
+        requires cluster { cluster < self.now.bound }
+        requires cone { All (λ class. class < length self.now.weights.now) cone.now }
+        requires parts { AreParts (length self.now.weights.now) self.now.bound parts.old }
+        ensures { AreParts (length self.now.weights.now) self.now.bound parts.new }
+    {
+        for class in cone {
+            let class = *class as usize;
+            parts.add(
+                part,
+                cluster,
+                class,
+                self.weights[class],
+                self.needed.of(class),
+            );
+        }
+        parts.places[cluster].part = Some(part);
+    }
+
+    // Takes a cluster out of its part.
+    fn take(&self, parts: &mut Parts, cluster: usize, cone: &[u32], part: PartNumber)
+        requires cluster { cluster < self.now.bound }
+        requires cone { All (λ class. class < length self.now.weights.now) cone.now }
+        requires parts { AreParts (length self.now.weights.now) self.now.bound parts.old }
+        ensures { AreParts (length self.now.weights.now) self.now.bound parts.new }
+    {
+        parts.places[cluster].part = None;
+        parts.places[cluster].alone = 0;
+        for class in cone {
+            let class = *class as usize;
+            parts.remove(part, class, self.weights[class], self.needed.of(class));
+        }
     }
 
     // Puts a cluster where it costs the least.
-    fn insert(&self, assignment: &mut Assignment, cluster: usize)
-        requires cluster { cluster < length assignment.old.of.items }
-        requires long { length assignment.old.parts.counts.items ≡ length self.now.weights.now }
-        ensures long { length assignment.new.parts.counts.items ≡ length self.now.weights.now }
-        ensures of { length assignment.new.of.items ≡ length assignment.old.of.items }
+    fn insert(&self, search: &mut Search, parts: &mut Parts, cluster: usize)
+        requires cluster { cluster < self.now.bound }
+        requires search { IsSearch (length self.now.weights.now) search.old }
+        requires parts { AreParts (length self.now.weights.now) self.now.bound parts.old }
+        ensures search { IsSearch (length self.now.weights.now) search.new }
+        ensures parts { AreParts (length self.now.weights.now) self.now.bound parts.new }
     {
-        if let Some(part) = self.cheapest(&assignment.parts, cluster, None, f64::MAX) {
-            self.put(assignment, cluster, part);
+        if let Some(part) = self.cheapest(parts, cluster, None, f64::MAX) {
+            let count = self.find_cone(search, cluster);
+            self.put(parts, cluster, &search.found[..count], part);
         }
     }
 
     // Moves a cluster to the part with which it costs the least, and answers whether there is a better one than its
     // own.
-    fn shift(&self, assignment: &mut Assignment, cluster: usize) -> bool
-        requires cluster { cluster < length assignment.old.of.items }
-        requires long { length assignment.old.parts.counts.items ≡ length self.now.weights.now }
-        ensures long { length assignment.new.parts.counts.items ≡ length self.now.weights.now }
-        ensures of { length assignment.new.of.items ≡ length assignment.old.of.items }
+    fn shift(&self, search: &mut Search, parts: &mut Parts, cluster: usize) -> bool
+        requires cluster { cluster < self.now.bound }
+        requires search { IsSearch (length self.now.weights.now) search.old }
+        requires parts { AreParts (length self.now.weights.now) self.now.bound parts.old }
+        ensures search { IsSearch (length self.now.weights.now) search.new }
+        ensures parts { AreParts (length self.now.weights.now) self.now.bound parts.new }
     {
-        let own = assignment.of[cluster];
-        let cone = self.cones.of(cluster);
-        let fall = assignment.parts.fall(self.weights, cone, own);
-        match self.cheapest(&assignment.parts, cluster, Some(own.number), fall) {
+        let Some(own) = parts.places[cluster].part else {
+            return false;
+        };
+        let fall = parts.fall(own, cluster);
+        match self.cheapest(parts, cluster, Some(own.number), fall) {
             None => false,
             Some(part) => {
-                assignment.parts.take(self.weights, cone, own);
-                self.put(assignment, cluster, part);
+                let count = self.find_cone(search, cluster);
+                let cone = &search.found[..count];
+                self.take(parts, cluster, cone, own);
+                self.put(parts, cluster, cone, part);
                 true
             }
         }
     }
 
     // Moves each cluster that it pays to move, and answers how many.
-    fn pass(&self, assignment: &mut Assignment, clusters: &[u32]) -> usize
-        requires clusters { All (λ cluster. cluster < length assignment.old.of.items) clusters.now }
-        requires long { length assignment.old.parts.counts.items ≡ length self.now.weights.now }
-        ensures long { length assignment.new.parts.counts.items ≡ length self.now.weights.now }
-        ensures of { length assignment.new.of.items ≡ length assignment.old.of.items }
+    fn pass(&self, search: &mut Search, parts: &mut Parts, clusters: &[u32]) -> usize
+        requires clusters { All (λ cluster. cluster < self.now.bound) clusters.now }
+        requires search { IsSearch (length self.now.weights.now) search.old }
+        requires parts { AreParts (length self.now.weights.now) self.now.bound parts.old }
+        ensures search { IsSearch (length self.now.weights.now) search.new }
+        ensures parts { AreParts (length self.now.weights.now) self.now.bound parts.new }
     {
         let mut moves = 0_usize;
         for cluster in clusters {
-            if self.shift(assignment, *cluster as usize) {
+            if self.shift(search, parts, *cluster as usize) {
                 moves = moves.saturating_add(1);
             }
         }
@@ -120,59 +192,37 @@ impl<'a> Placement<'a> {
     }
 
     /// Moves single clusters, each where that pays at once, as long as it pays to move more than a few of them.
-    pub(crate) fn refine(&self, assignment: &mut Assignment, clusters: &[u32])
-        requires clusters { All (λ cluster. cluster < length assignment.old.of.items) clusters.now }
-        requires long { length assignment.old.parts.counts.items ≡ length self.now.weights.now }
-        ensures long { length assignment.new.parts.counts.items ≡ length self.now.weights.now }
-        ensures of { length assignment.new.of.items ≡ length assignment.old.of.items }
+    pub(crate) fn refine(&self, search: &mut Search, parts: &mut Parts, clusters: &[u32])
+        requires clusters { All (λ cluster. cluster < self.now.bound) clusters.now }
+        requires search { IsSearch (length self.now.weights.now) search.old }
+        requires parts { AreParts (length self.now.weights.now) self.now.bound parts.old }
+        ensures search { IsSearch (length self.now.weights.now) search.new }
+        ensures parts { AreParts (length self.now.weights.now) self.now.bound parts.new }
     {
         for _ in 0..PASSES {
-            if self.pass(assignment, clusters) <= clusters.len() / 256 {
+            if self.pass(search, parts, clusters) <= clusters.len() / 256 {
                 return;
             }
         }
-    }
-
-    // What a cluster weighs alone.
-    fn weight_of(&self, cluster: usize) -> u32 {
-        let mut sum = 0_u32;
-        for class in self.cones.of(cluster) {
-            sum = sum.saturating_add(self.weights[*class as usize]);
-        }
-        sum
-    }
-
-    // The clusters, the heaviest first.
-    fn in_order(&self, alloc: Global, clusters: &[u32]) -> Result<Vec<Weighed>, AllocError>
-        ensures { (bound : ℕ) → All (λ cluster. cluster < bound) clusters.now
-            → IfOk result (λ order. All (λ weighed. weighed.number < bound) order.items) }
-    {
-        let mut order = Vec::with_capacity(alloc, clusters.len())?;
-        for cluster in clusters {
-            order.push(Weighed {
-                number: *cluster,
-                weight: self.weight_of(*cluster as usize),
-            })?;
-        }
-        from_heaviest(&mut order)?;
-        Ok(order)
     }
 
     /// Puts clusters into parts, each where it costs the least, the heaviest first.
     pub(crate) fn insert_all(
         &self,
         alloc: Global,
-        assignment: &mut Assignment,
+        search: &mut Search,
+        parts: &mut Parts,
         clusters: &[u32],
     ) -> Result<(), AllocError>
-        requires clusters { All (λ cluster. cluster < length assignment.old.of.items) clusters.now }
-        requires long { length assignment.old.parts.counts.items ≡ length self.now.weights.now }
-        ensures long { length assignment.new.parts.counts.items ≡ length self.now.weights.now }
-        ensures of { length assignment.new.of.items ≡ length assignment.old.of.items }
+        requires clusters { All (λ cluster. cluster < self.now.bound) clusters.now }
+        requires search { IsSearch (length self.now.weights.now) search.old }
+        requires parts { AreParts (length self.now.weights.now) self.now.bound parts.old }
+        ensures search { IsSearch (length self.now.weights.now) search.new }
+        ensures parts { AreParts (length self.now.weights.now) self.now.bound parts.new }
     {
-        let order = self.in_order(alloc, clusters)?;
+        let order = in_order(alloc, parts, clusters)?;
         for weighed in &order {
-            self.insert(assignment, weighed.number as usize);
+            self.insert(search, parts, weighed.number as usize);
         }
         Ok(())
     }

@@ -47,28 +47,13 @@ fn readers_of(alloc: Global, netlist: &Netlist) -> Result<Lists, AllocError>
     Lists::grouped(alloc, &entries, netlist.len())
 }
 
-fn members_of(alloc: Global, numbers: &[usize]) -> Result<Lists, AllocError>
-    requires few { length numbers.now ≤ 65535 }
-    requires below { All (λ number. number < length numbers.now) numbers.now }
-    ensures { IfOk result (λ members. All (λ net. net < length numbers.now) members.items.items) }
-{
-    let mut entries = Vec::with_capacity(alloc, numbers.len())?;
-    for net in 0..numbers.len() {
-        entries.push(Entry {
-            place: numbers[net] as u32,
-            item: net as u32,
-        })?;
-    }
-    Lists::grouped(alloc, &entries, numbers.len())
-}
-
 /// Which nets each net feeds, with the components, of a netlist.
 pub(crate) fn reader_graph_of(alloc: Global, netlist: &Netlist) -> Result<ReaderGraph, AllocError>
     ensures { IfOk result (IsReaderGraph (length netlist.now.names)) }
 {
     let readers = readers_of(alloc, netlist)?;
     let numbers = strong_components(alloc, netlist, Steps::Gates)?;
-    let members = members_of(alloc, &numbers)?;
+    let members = Lists::by_number(alloc, &numbers)?;
     Ok(ReaderGraph {
         readers,
         numbers,

@@ -1,6 +1,6 @@
 //! Marks that are taken off all at once.
 
-ghost use Rattle.std.specs.Prelude.{◌≡◌, ◌<◌, length, IfOk};
+ghost use Rattle.std.specs.Prelude.{◌≡◌, ◌<◌, ◌≤◌, length, All, IfOk};
 
 use std::alloc::{AllocError, Global};
 
@@ -39,4 +39,32 @@ impl SeenSet {
         self.rounds[number] = self.round;
         is_new
     }
+}
+
+/// Adds those of a list behind so many that weren't seen in this round, and answers how many there are then.
+pub(crate) fn add_new(
+    found: &mut [u32],
+    count: usize,
+    rounds: &mut [u32],
+    round: u32,
+    list: &[u32],
+) -> usize
+    requires count { count ≤ length found.old }
+    requires list { All (λ number. number < length rounds.old) list.now }
+    requires found { All (λ number. number < length rounds.old) found.old }
+    ensures count { result ≤ length found.old }
+    ensures found { All (λ number. number < length rounds.old) found.new }
+{
+    let mut count = count;
+    for number in list {
+        // There is no more room where all have been found.
+        if count == found.len() {
+            return count;
+        }
+        let seen = &mut rounds[*number as usize];
+        found[count] = *number;
+        count += usize::from(*seen != round);
+        *seen = round;
+    }
+    count
 }

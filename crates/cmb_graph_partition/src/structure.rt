@@ -1,12 +1,13 @@
 //! What partitions of a netlist go by, whatever its nets cost.
 
 ghost use Rattle.std.specs.Prelude.{◌≡◌, ◌<◌, ◌≤◌, true, length, All, IfOk, IfSome};
-ghost use Rattle.cmb_graph_partition.specs.Inner.Shapes.{AreClasses, AreFamilies};
+ghost use Rattle.cmb_graph_partition.specs.Inner.Shapes.{AreClasses};
 
 use crate::classes::{Classes, all_needed};
 use crate::families::{Families, families_of};
 use crate::lists::Lists;
 use crate::reader_graph::reader_graph_of;
+use crate::sinks::{Sinks, numbered};
 use cmb_netlist::Netlist;
 use std::alloc::{AllocError, Global};
 use std::marker::Model;
@@ -26,7 +27,11 @@ pub struct Structure {
     imports: Vec<u32>,
     // For each class the sinks that need it.
     needed: Lists,
-    // All sinks.
+    // For each class those whose parent it is.
+    children: Lists,
+    // For each sink its class.
+    of_sinks: Vec<u32>,
+    // All sinks, in the order of their classes.
     sinks: Vec<u32>,
 }
 
@@ -38,7 +43,7 @@ impl Model for Structure {
 
     ghost view = { λ structure. length structure.of_nets.items };
 
-    ghost invariant = { λ s. IsStructure s.of_nets.items s.imports.items s.needed.items.items s.sinks.items };
+    ghost invariant = { λ s. IsStructure s.of_nets.items s.imports.items s.needed.items.items s.children.items.items s.of_sinks.items s.sinks.items };
 }
 
 // Whether all numbers are below that.
@@ -48,28 +53,39 @@ fn are_below(numbers: &[u32], bound: usize) -> bool
     numbers.iter().all(|number| (*number as usize) < bound)
 }
 
-// The structure of families whose classes are needed so, unless there are too many of them.
-fn checked(families: Families, needed: Lists) -> Option<Structure>
-    requires families { AreFamilies families }
+// The structure of families whose classes are needed so by their sinks, unless there are too many of either.
+fn checked(
+    alloc: Global,
+    families: Families,
+    sinks: &Sinks,
+    needed: Lists,
+) -> Result<Option<Structure>, AllocError>
     requires nets { length families.classes.items ≤ 65535 }
-    requires needed { All (λ net. net < length families.classes.items) needed.items.items }
-    ensures { IfSome result (λ structure. structure ≡ length families.classes.items) }
+    requires needed { All (λ sink. sink < sinks.now.count) needed.items.items }
+    ensures { IfOk result (λ found. IfSome found (λ structure. structure ≡ length families.classes.items)) }
 {
     let Families {
         classes,
-        sinks,
-        parents: _,
+        sinks: _,
+        parents,
         imports,
     } = families;
-    if !are_below(&classes, imports.len()) || u32::try_from(imports.len()).is_err() {
-        return None;
+    let count = imports.len();
+    if sinks.count > 65535 || count == 0 || u32::try_from(count).is_err() {
+        return Ok(None);
     }
-    Some(Structure {
+    if !are_below(&classes, count) || !are_below(&parents.items, count) {
+        return Ok(None);
+    }
+    let children = parents.turned(alloc, count, count)?;
+    Ok(Some(Structure {
         of_nets: classes,
         imports,
         needed,
-        sinks: sinks.items,
-    })
+        children,
+        of_sinks: sinks.classes_of(alloc, count)?,
+        sinks: sinks.all(alloc)?,
+    }))
 }
 
 /// The structure of a netlist. The answer is `None` where too many gates are in the cones of too many sinks, so that it
@@ -79,8 +95,10 @@ pub fn structure_of(alloc: Global, netlist: &Netlist) -> Result<Option<Structure
 {
     let reader_graph = reader_graph_of(alloc, netlist)?;
     let families = families_of(alloc, netlist, &reader_graph)?;
-    match all_needed(alloc, &families, netlist.len() * STEPS + FEW_STEPS)? {
-        Some(needed) => Ok(checked(families, needed)),
+    let sinks = numbered(alloc, &families.sinks, netlist.len())?;
+    let most = netlist.len() * STEPS + FEW_STEPS;
+    match all_needed(alloc, &sinks, &families.parents, most)? {
+        Some(needed) => checked(alloc, families, &sinks, needed),
         None => Ok(None),
     }
 }
@@ -143,6 +161,8 @@ impl Structure {
             of_nets,
             imports,
             needed,
+            children,
+            of_sinks,
             sinks,
         } = self;
         let weights = weights_of(alloc, costs, &of_nets, &imports)?;
@@ -150,6 +170,8 @@ impl Structure {
             of_nets,
             weights,
             needed,
+            children,
+            of_sinks,
             sinks,
         })
     }

@@ -12,6 +12,7 @@ use Rattle.cmb_shares.specs.Inner.Flows.{AreMade, IsMade}
 use Rattle.cmb_shares.specs.Inner.Merges.{AreMerged, CanMerge}
 use Rattle.cmb_shares.specs.Inner.Messages.{AreTold}
 use Rattle.cmb_shares.specs.Inner.Runs.{IsRun, IsTurn, Owns, Run}
+use Rattle.cmb_shares.proofs.MergeFacts.{merged-none}
 
 -- a net that isn't among more isn't among fewer
 less-among : (net : ℕ) (few more : List Changed) → All (Contains more) few → is_among net more ≡ false → is_among net few ≡ false
@@ -80,6 +81,19 @@ made-none run from upto = record {
 pub made-as : (run : Run) (made made' from from' upto upto' : ℕ) (changes : List Changed) → made ≡ made' → from ≡ from' → upto ≡ upto' → AreMade run made from upto changes → AreMade run made' from' upto' changes
 made-as run made made' from from' upto upto' changes m f u is =
     subst (λ n. AreMade run n from' upto' changes) m (subst (λ n. AreMade run made n upto' changes) f (subst (λ n. AreMade run made from n changes) u is))
+
+-- ---- the first two shares
+
+pub made-two : (run : Run) (reader other from upto : ℕ) (first second both : List Changed) → length run.driven ≤ reader → length run.driven ≤ other → AreTold run 0 reader from upto first
+    → AreTold run 1 other from upto second → ((nets : ℕ) → CanMerge nets first second → AreMerged nets first second both) → AreMade run 2 from upto both
+made-two run reader other from upto first second both text text' told told' merging =
+    made-more run 1 other from upto first second text'
+    (made-more run 0 reader from upto [] first text (made-none run from upto) told first (λ nets can. merged-none nets first can)) told' both merging
+
+pub told-as : (run : Run) (sender sender' reader from from' upto upto' : ℕ) (changes : List Changed) → sender ≡ sender' → from ≡ from' → upto ≡ upto' → AreTold run sender reader from upto changes
+    → AreTold run sender' reader from' upto' changes
+told-as run sender sender' reader from from' upto upto' changes s f u is =
+    subst (λ n. AreTold run n reader from' upto' changes) s (subst (λ n. AreTold run sender reader n upto' changes) f (subst (λ n. AreTold run sender reader from n changes) u is))
 
 -- ---- all shares made it
 

@@ -2,6 +2,7 @@ pub mod ChannelFacts
 pub mod FlowFacts
 pub mod HeardFacts
 pub mod JoinFacts
+pub mod KeepFacts
 pub mod MergeFacts
 pub mod OpeningFacts
 pub mod PlaceFacts

@@ -190,3 +190,12 @@ merging-all nets i j left right both (inl through) h =
 merging-all nets i j left right both (inr through) h =
     let none : (both ++ drop i left) ++ drop j right ≡ both ++ drop i left = ap (λ l. (both ++ drop i left) ++ l) (drop_all j right through) ∙ append-nil (both ++ drop i left) in
     subst (AreMerged nets left right) (sym none) (merging-rest nets i j left right both through h)
+
+-- nothing and a list
+pub merged-none : (nets : ℕ) (list : List Changed) → CanMerge nets [] list → AreMerged nets [] list list
+merged-none nets list can = record {
+  rises = can.right_rises;
+  from = All-weaker (Contains list) (IsOfEither [] list) (λ one h. inr h) list (All-contains_itself list);
+  lefts = All-nil (Contains list);
+  rights = All-contains_itself list;
+}

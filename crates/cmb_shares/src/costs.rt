@@ -14,6 +14,10 @@ const VISIT: u32 = 10;
 
 const CHANGE: u32 = 12;
 
+// What a flip-flop costs besides in every window: whether it changes is looked at when samples arrive, and before, when
+// it is told ahead. An estimate.
+const LOOK: u32 = 10;
+
 // A net that is looked at in every window costs so many times as much, so that little differences are told too.
 const SCALE: u32 = 64;
 
@@ -78,7 +82,10 @@ impl Profile {
     fn cost_of(&self, driver: &Driver, changes: u32) -> u32 {
         match driver {
             Driver::Input => 0,
-            Driver::Gate(..) | Driver::Flop(_) => self.cost(self.visits(driver.pins()), changes),
+            Driver::Gate(..) => self.cost(self.visits(driver.pins()), changes),
+            Driver::Flop(_) => self
+                .cost(self.visits(driver.pins()), changes)
+                .saturating_add(LOOK * SCALE),
         }
     }
 }

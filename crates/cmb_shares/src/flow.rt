@@ -3,6 +3,7 @@
 ghost use Rattle.std.specs.Prelude.{◌≡◌, ℕ, suc, ◌<◌, ◌≤◌, length, [], IfOk, OnOk};
 ghost use Rattle.cmb_shares.specs.Inner.Channels.{Follows};
 ghost use Rattle.cmb_shares.specs.Inner.Flows.{AreMade, AreSources};
+ghost use Rattle.cmb_shares.specs.Inner.Messages.{AreTold};
 ghost use Rattle.cmb_shares.specs.Inner.Processes.{Turns, text_of};
 ghost use Rattle.cmb_shares.specs.Inner.Runs.{IsRun, IsTurn};
 
@@ -59,6 +60,25 @@ impl<'a, T: ShareRun, R> Model for Flow<'a, T, R> {
 }
 
 impl<T: ShareRun> Inflow<T> {
+    // Receives what the share sent of the next window.
+    fn receive<R: Wait>(&mut self, rt: &R) -> Result<Vec<Changed>, AllocError>
+        ensures follows { OnOk result (Follows T.run.windows self.old self.new) }
+        ensures told { IfOk result (λ changes. AreTold T.run self.new.sender self.new.reader
+            self.new.from self.new.upto changes.items) }
+    {
+        match self.inlet.receive(rt) {
+            Some(message) => Ok(message.changes),
+            None => Err(AllocError),
+        }
+    }
+
+    // Gives room back to the share, which may have ended.
+    fn give_back(&mut self, room: Vec<Changed>)
+        ensures { self.new ≡ self.old }
+    {
+        drop(self.back.push(room));
+    }
+
     // Adds what the share sent of a window to what earlier ones sent.
     fn add<R: Wait>(
         &mut self,
@@ -71,13 +91,10 @@ impl<T: ShareRun> Inflow<T> {
             → AreMade T.run self.new.sender self.new.from self.new.upto all.old.items
             → AreMade T.run (suc self.new.sender) self.new.from self.new.upto all.new.items) }
     {
-        let Some(message) = self.inlet.receive(rt) else {
-            return Err(AllocError);
-        };
-        let changes = message.changes;
+        let changes = self.receive(rt)?;
         merge(all, &changes, room)?;
         swap(all, room);
-        drop(self.back.push(changes));
+        self.give_back(changes);
         Ok(())
     }
 }
@@ -99,7 +116,17 @@ fn gather<T: ShareRun, R: Wait>(
     ensures turns { OnOk result (Turns T.run (text_of T.run from sources.old) (text_of T.run upto sources.new)) }
 {
     all.clear();
-    for place in 0..sources.len() {
+    let mut heard = 0;
+    if sources.len() >= 2 {
+        // Of two lists neither is copied first.
+        let first = sources[0].receive(rt)?;
+        let second = sources[1].receive(rt)?;
+        merge(&first, &second, all)?;
+        sources[0].give_back(first);
+        sources[1].give_back(second);
+        heard = 2;
+    }
+    for place in heard..sources.len() {
         sources[place].add(rt, all, room)?;
     }
     Ok(())

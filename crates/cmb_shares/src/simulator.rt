@@ -42,6 +42,23 @@ fn feeds(owners: &[u32], number: u32, driven: &[bool], one: Changed) -> bool
     }
 }
 
+// Keeps those of some changes that a share owns.
+fn keep_owned(changes: &mut Vec<Changed>, owners: &[u32], number: u32)
+    ensures { changes.new.items ≡ filter (is_owned owners.now number) changes.old.items }
+{
+    let mut kept = 0;
+    for place in 0..changes.len() {
+        if owns(owners, number, changes[place]) {
+            // Up to the first that isn't owned, none is moved.
+            if kept < place {
+                changes[kept] = changes[place];
+            }
+            kept += 1;
+        }
+    }
+    changes.truncate(kept);
+}
+
 /// Those of some changes that a share owns and another one, which drives these nets, doesn't drive, in place of what
 /// `fed` had.
 pub(crate) fn feed_of(
@@ -121,7 +138,7 @@ impl<'a> Simulator<'a> {
             drop(windows);
             return Err(AllocError);
         };
-        changes.retain(|one| owns(owners, number, *one));
+        keep_owned(changes, owners, number);
         Ok(Simulator {
             number,
             shares,

@@ -27,10 +27,23 @@ const LEAST_SAMPLES: u64 = 524_288;
 const LEAST_NETS: usize = 2_048;
 
 // The share with the most to do has so many hundredths of all work at most, where shares pay.
-const MOST_OF_ALL: u64 = 60;
+const MOST_OF_ALL: u64 = 70;
 
-// What nets cost is seen in the first of so many parts of a run.
-const PARTS: u32 = 50;
+// What nets cost is seen in so many cycles, the first ones of a run. In fewer a processor hardly gets to its program.
+const CYCLES: u64 = 160;
+
+// But in no more than the first of so many parts of the run, since shares begin anew behind it.
+const MOST_SEEN: u32 = 25;
+
+// And in no less than the first of so many.
+const LEAST_SEEN: u32 = 50;
+
+/// The flip-flops of a design, and about how many samples they take in its run.
+#[derive(Clone, Copy)]
+struct Sampling {
+    flops: u64,
+    samples: u64,
+}
 
 /// Whether several workers have the nets of a design. Else the engine carries all of them: where one worker has them,
 /// and where several wouldn't pay.
@@ -42,22 +55,32 @@ pub(crate) fn workers_pay(workers: PartCount, clusters: PartCount, design: &Desi
     2 <= workers.count && 2 <= clusters.count && pairs <= MOST_BY_WORKERS
 }
 
-// About how many samples the flip-flops of a design take in its run.
-fn samples_of(design: &Design) -> u64 {
+// The flip-flops of a design, and their samples.
+fn sampling_of(design: &Design) -> Sampling {
     let netlist = design.netlist();
+    let mut flops = 0_u64;
     let mut samples = 0_u64;
     for net in 0..netlist.len() {
         if matches!(netlist.driver(net), Driver::Flop(_)) {
             let cycles = design.horizon() / design.clock(net).period;
+            flops = flops.saturating_add(1);
             samples = samples.saturating_add(u64::from(cycles));
         }
     }
-    samples
+    Sampling { flops, samples }
 }
 
 // Whether a run is so long, by what is known before it, that shares may pay.
-fn is_long(design: &Design) -> bool {
-    design.netlist().len() >= LEAST_NETS && samples_of(design) >= LEAST_SAMPLES
+fn is_long(design: &Design, sampling: &Sampling) -> bool {
+    design.netlist().len() >= LEAST_NETS && sampling.samples >= LEAST_SAMPLES
+}
+
+// The tick up to which a run shows what nets cost.
+fn seen_upto(horizon: u32, sampling: &Sampling) -> u32 {
+    let cycles = (sampling.samples / sampling.flops.max(1)).max(1);
+    let most = horizon / MOST_SEEN;
+    let ticks = u64::from(horizon).saturating_mul(CYCLES) / cycles;
+    (ticks.min(u64::from(most)) as u32).max(horizon / LEAST_SEEN)
 }
 
 // Whether no share has so much to do that the others hardly take anything off it.
@@ -75,11 +98,12 @@ fn is_even(costs: &[u32], partition: &Partition) -> bool
 }
 
 // What a partition goes by: the structure of the netlist, if it isn't too large to be found quickly, and what each net
-// costs. A thread finds the structure beside the calling one, which measures the costs.
+// costs up to a tick. A thread finds the structure beside the calling one, which measures the costs.
 fn measured<R: Threads + Sync>(
     rt: &R,
     alloc: Global,
     design: &Design,
+    upto: u32,
 ) -> Result<(Option<Structure>, Vec<u32>), AllocError>
     ensures structure { IfOk result (λ found. IfSome found.0 (λ structure. structure ≡ nets_of design.now)) }
     ensures costs { IfOk result (λ found. length found.1.items ≡ nets_of design.now) }
@@ -91,7 +115,7 @@ fn measured<R: Threads + Sync>(
         { structure_of(alloc, design.netlist()) },
         move || -> Result<Vec<u32>, AllocError>
             ensures { IfOk result (λ costs. length costs.items ≡ nets_of design.entry.now) }
-        { costs_of(alloc, design, design.horizon() / PARTS) },
+        { costs_of(alloc, design, upto) },
     );
     Ok((structure?, costs?))
 }
@@ -106,10 +130,12 @@ pub(crate) fn partition_that_pays<R: Threads + Sync>(
 ) -> Result<Option<Partition>, AllocError>
     ensures { IfOk result (λ found. IfSome found (IsPartition design.now.netlist)) }
 {
-    if threads < LEAST_THREADS || !is_long(design) {
+    let sampling = sampling_of(design);
+    if threads < LEAST_THREADS || !is_long(design, &sampling) {
         return Ok(None);
     }
-    let (structure, costs) = measured(rt, alloc, design)?;
+    let upto = seen_upto(design.horizon(), &sampling);
+    let (structure, costs) = measured(rt, alloc, design, upto)?;
     let Some(structure) = structure else {
         return Ok(None);
     };

@@ -4,10 +4,12 @@ use Rattle.cmb_wave.specs.declared.level.Level.{Level}
 use Rattle.cmb_design_model.specs.declared.rows.Clock.{Clock}
 use Rattle.cmb_words.specs.declared.changed.Changed.{Changed}
 use Rattle.cmb_engine.specs.Inner.Planes.{Planes}
+use Rattle.cmb_words.specs.declared.word.Word.{Word}
 use Rattle.cmb_words.specs.Holds.{Holds}
+use Rattle.cmb_words.specs.Word.{level_at_place}
 use Rattle.cmb_words.specs.Changes.{IsStill, TellsNet, is_among}
 use Rattle.cmb_engine.specs.Rows.{arrives_by}
-use Rattle.cmb_engine.specs.Inner.Cells.{Cell, cell_at}
+use Rattle.cmb_engine.specs.Inner.Cells.{Cell, cell_at, IsSteadyFrom}
 use Rattle.cmb_engine.specs.Inner.Circuits.{MeetsCells, Shows}
 use Rattle.cmb_engine.specs.Inner.Words.{levels_of}
 use Rattle.cmb_engine.specs.declared.cell.Pin.{Pin}
@@ -26,6 +28,16 @@ moved_on words ticks slot place = words slot (min (place + ticks) 63)
 abbrev pub HoldsAhead : (ℕ → ℕ → Level) → (ℕ → Level) → ℕ → ℕ → ℕ → Clock → Pin → Type 0
 HoldsAhead words held ticks arrival slot clock pin =
     Holds (moved_on words ticks slot) (moved_on words ticks pin.net) held pin.delay arrival clock.period (64 - ticks)
+
+-- the data of a flip-flop have the last level of its word too, in the last place and as far back as samples were taken that arrive after it
+abbrev pub RestsAhead : (ℕ → ℕ → Level) → ℕ → Pin → Type 0
+RestsAhead words slot pin = (place : ℕ) → min (64 - pin.delay) 63 ≤ place → place < 64 → words pin.net place ≡ words slot 63
+
+-- a flip-flop's word so many ticks later was added to others, if it changes from the first new place on
+pub record AddsFlop (words : ℕ → ℕ → Level) (ticks arrival slot : ℕ) (clock : Clock) (pin : Pin) (old new : List Changed) : Type 0 where
+  pub word : Word
+  pub holds : HoldsAhead words (level_at_place word) ticks arrival slot clock pin
+  pub added : (IsSteadyFrom (level_at_place word) (64 - ticks) × (new ≡ old)) ⊎ (new ≡ old ++ record { net = slot; word = word } ∷ [])
 
 -- each sample that arrives in a window from a place on was taken before it
 abbrev pub AreTakenBefore : Clock → ℕ → ℕ → ℕ → Type 0

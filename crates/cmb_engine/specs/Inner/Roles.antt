@@ -1,6 +1,7 @@
 -- What an engine does with each net: it drives it, is given it by others, or has nothing to do with it.
 use Rattle.std.specs.Prelude.{◌≡◌, ℕ, ◌<◌, ◌≤◌, ◌⊎◌, Bool, true, false, List, Contains, length, map, slice_index_or, if◌then◌else◌}
 use Rattle.cmb_wave.specs.declared.level.Level.{Level}
+use Rattle.cmb_wave.specs.declared.level.Level.TheVariants.{Zero}
 use Rattle.cmb_netlist.specs.Netlist.{driver_of, pins_of, IsNetlist}
 use Rattle.cmb_design_model.specs.Design.{Design}
 use Rattle.cmb_design_model.specs.Exact.{nets_of}
@@ -38,9 +39,9 @@ gives roles net = is_given (role_of roles net)
 abbrev pub lacks : List Role → ℕ → Bool
 lacks roles net = is_absent (role_of roles net)
 
--- the level that an engine has of a net: of an absent one that of tick 0, for ever
+-- the level that an engine has of a net: of an absent one 0, for ever: so it never counts as x
 abbrev pub level_in : Design → List Role → ℕ → ℕ → Level
-level_in design roles net tick = if lacks roles net then value design net 0 else value design net tick
+level_in design roles net tick = if lacks roles net then Zero else value design net tick
 
 -- what a driven net reads isn't absent
 pub record AreRoles (design : Design) (roles : List Role) : Type 0 where

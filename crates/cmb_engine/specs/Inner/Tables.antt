@@ -1,5 +1,5 @@
--- Cells kept in two lists: a rule of each net, and the pins of gates that don't stand in their rules.
-use Rattle.std.specs.Prelude.{◌+◌, ◌≤◌, List, [], ◌∷◌, length, map, take, drop}
+-- Cells kept in two lists: a rule of each net, and the pins of gates.
+use Rattle.std.specs.Prelude.{◌+◌, ◌≤◌, List, length, map, take, drop}
 use Rattle.std.specs.List.{AllByRecursion}
 use Rattle.cmb_engine.specs.Inner.Cells.{Cell, Told, Gate, Flop}
 use Rattle.cmb_engine.specs.declared.cell.Pin.{Pin}
@@ -14,8 +14,6 @@ pins_at pins part = take part.count (drop part.first pins)
 -- the cell of a rule
 abbrev pub cell_of : List Pin → Rule → Cell
 cell_of pins rule.Told = Told
-cell_of pins (rule.Single kind pin) = Gate kind (pin ∷ [])
-cell_of pins (rule.Double kind pin other) = Gate kind (pin ∷ other ∷ [])
 cell_of pins (rule.Gate kind part) = Gate kind (pins_at pins part)
 cell_of pins (rule.Flop clock pin) = Flop clock pin
 
@@ -25,8 +23,6 @@ cells_of pins rules = map (cell_of pins) rules
 -- the pins that a rule finds there are among them
 abbrev pub IsInside : List Pin → Rule → Type 0
 IsInside pins rule.Told = Unit {0}
-IsInside pins (rule.Single kind pin) = Unit {0}
-IsInside pins (rule.Double kind pin other) = Unit {0}
 IsInside pins (rule.Gate kind part) = part.first + part.count ≤ length pins
 IsInside pins (rule.Flop clock pin) = Unit {0}
 

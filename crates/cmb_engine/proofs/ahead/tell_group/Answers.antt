@@ -1,4 +1,4 @@
-use Rattle.std.proofs.Common.{ℕ, ◌-◌, ◌+◌, ◌%◌, ◌==◌, ◌<◌, List, length, take, refl, sym, ap, subst, ◌∙◌, arith, Vec, Global}
+use Rattle.std.proofs.Common.{◌≡◌, ℕ, ◌-◌, ◌+◌, ◌%◌, ◌==◌, ◌<◌, ◌⊎◌, inl, inr, List, [], ◌∷◌, ◌++◌, length, take, refl, sym, subst, arith, Vec, Global}
 use Rattle.std.proofs.lemmas.List.{take_all}
 use Rattle.std.proofs.lemmas.List.Elements.{All-contains}
 use Rattle.cmb_words.specs.declared.changed.Changed.{Changed}
@@ -7,13 +7,13 @@ use Rattle.cmb_words.specs.Word.{level_at_place}
 use Rattle.cmb_engine.specs.Inner.Cells.{Cell, Flop, IsLawful, IsSteadyFrom, cell_at}
 use Rattle.cmb_wave.specs.declared.level.Level.{Level}
 use Rattle.cmb_engine.specs.Inner.Circuits.{IsFlopAt, IsFlopOf, IsGroup, MeetsCells, Shows}
-use Rattle.cmb_engine.specs.Inner.Exports.{AddsSlots, HoldsAhead, moved_on}
+use Rattle.cmb_engine.specs.Inner.Exports.{AddsFlop, AddsSlots, HoldsAhead, moved_on}
 use Rattle.cmb_engine.specs.Inner.Words.{levels_of}
-use Rattle.cmb_engine.proofs.AheadFacts.{adds-all_still, adds-one, adds-still, moved-steady, slot-keeps, slot-still, slot-told}
+use Rattle.cmb_engine.proofs.AheadFacts.{adds-all_still, adds-one, adds-still, moved-rests, moved-steady, slot-keeps, slot-still, slot-told}
 use Rattle.cmb_engine.proofs.GroupFacts.{group-flops, group-read, none-arrives}
 use Rattle.cmb_engine.proofs.WindowFacts.{IsWindow}
 use Rattle.cmb_engine.proofs.ahead.tell_group.Goals as goal
-use Rattle.cmb_engine.proofs.ahead.tell_group.Goals.{in-Some+then-not-is_steady_from+in_ok-push, in-Some+else-not-is_steady_from, in_default}
+use Rattle.cmb_engine.proofs.ahead.tell_group.Goals.{then-not-rests+in_ok-tell_flop, else-not-rests}
 
 -- where no sample arrives nothing changes
 pub returns-then-arrival-ge64 : goal.returns-then-arrival-ge64
@@ -30,22 +30,15 @@ returns-then-arrival-ge64 c = λ cells is trace meets shows.
 
 pub loop-k-preserved : goal.loop-k-preserved
 loop-k-preserved c = λ cells is trace meets shows.
-    let so_far : AddsSlots trace (take c.loop-k.k slots) (c.args.to - c.args.ticks) c.args.to c.args.told.now.items c.loop-k.told.items = c.loop-k.invariant cells is trace meets shows in
-    elim c.match-word_ahead.branch [
-      | in-Some+then-not-is_steady_from+in_ok-push w ↦
-          subst (λ (told : List Changed). AddsSlots trace (take (c.loop-k.k + 1) slots) (c.args.to - c.args.ticks) c.args.to c.args.told.now.items told) (sym (ap (λ (told : Vec Changed Global). told.items) w.told-is ∙ w.in_ok-push.ensures.items))
-          (adds-one trace (c.args.to - c.args.ticks) c.args.to slots c.loop-k.k slot c.args.told.now.items c.loop-k.told.items
-          (record { net = slot; word = w.in-Some.word }) within c.index-slot.ensures
-          (slot-told trace (levels_of c.args.words.now) cells (length c.args.words.now) (c.args.to - c.args.ticks) c.args.ticks c.args.to (64 - c.args.ticks) meets shows
-          window c.args.group.now.clock c.args.group.now.delay c.requires.taken slot c.first_arrival-arrival.result net (flop cells is) inside lawful
-          c.first_arrival-arrival.ensures.arrives (level_at_place w.in-Some.word) w.in-Some.ensures w.in-Some.word (λ place. refl) _ refl)
-          so_far)
-      | in-Some+else-not-is_steady_from w ↦
-          subst (λ (told : List Changed). AddsSlots trace (take (c.loop-k.k + 1) slots) (c.args.to - c.args.ticks) c.args.to c.args.told.now.items told) (sym (ap (λ (told : Vec Changed Global). told.items) w.told-is))
-          (stays cells is trace meets shows so_far (level_at_place w.in-Some.word) w.in-Some.ensures (w.is_steady_from.ensures.steady w.if-not-is_steady_from.false))
-      | in_default w ↦
-          subst (λ (told : List Changed). AddsSlots trace (take (c.loop-k.k + 1) slots) (c.args.to - c.args.ticks) c.args.to c.args.told.now.items told) (sym (ap (λ (told : Vec Changed Global). told.items) w.told-is))
-          (stays cells is trace meets shows so_far (moved_on (levels_of c.args.words.now) c.args.ticks slot) w.in_default.ensures
+    elim c.if-not-rests.branch [
+      | then-not-rests+in_ok-tell_flop w ↦
+          subst (λ (told : Vec Changed Global). AddsSlots trace (take (c.loop-k.k + 1) slots) (c.args.to - c.args.ticks) c.args.to c.args.told.now.items told.items) (sym w.told-is)
+          (goes_on cells is trace meets shows w.tell_flop.new.told.items w.in_ok-tell_flop.ensures)
+      | else-not-rests w ↦
+          subst (λ (told : Vec Changed Global). AddsSlots trace (take (c.loop-k.k + 1) slots) (c.args.to - c.args.ticks) c.args.to c.args.told.now.items told.items) (sym w.told-is)
+          (stays cells is trace meets shows (moved_on (levels_of c.args.words.now) c.args.ticks slot)
+          (moved-rests (levels_of c.args.words.now) slot c.args.ticks c.first_arrival-arrival.result c.args.group.now.clock (record { net = net; delay = c.args.group.now.delay })
+          (omega (arith, c.requires.window.1)) (omega (arith, c.requires.window.0)) c.requires.group.delay c.first_arrival-arrival.ensures.reach c.requires.group.pace.1 (c.rests.ensures w.if-not-rests.false))
           (moved-steady (levels_of c.args.words.now) c.args.ticks slot c.requires.window.1))
     ]
   where
@@ -76,17 +69,37 @@ loop-k-preserved c = λ cells is trace meets shows.
     -- a flip-flop that keeps its level tells nothing
     stays : (cells : List Cell) → IsGroup cells c.args.group.now → (trace : ℕ → ℕ → Level) → MeetsCells trace (cell_at cells)
         → Shows (levels_of c.args.words.now) trace (length c.args.words.now) (c.args.to - c.args.ticks)
-        → AddsSlots trace (take c.loop-k.k slots) (c.args.to - c.args.ticks) c.args.to c.args.told.now.items c.loop-k.told.items
         → (held : ℕ → Level) → HoldsAhead (levels_of c.args.words.now) held c.args.ticks c.first_arrival-arrival.result slot c.args.group.now.clock (record { net = net; delay = c.args.group.now.delay })
         → IsSteadyFrom held (64 - c.args.ticks)
         → AddsSlots trace (take (c.loop-k.k + 1) slots) (c.args.to - c.args.ticks) c.args.to c.args.told.now.items c.loop-k.told.items
-    stays cells is trace meets shows so_far held holds steady =
+    stays cells is trace meets shows held holds steady =
         adds-still trace (c.args.to - c.args.ticks) c.args.to slots c.loop-k.k slot c.args.told.now.items c.loop-k.told.items within
         (subst (λ (n : ℕ). IsStill (trace n) (c.args.to - c.args.ticks) c.args.to) c.index-slot.ensures
         (slot-still trace (levels_of c.args.words.now) cells (length c.args.words.now) (c.args.to - c.args.ticks) c.args.ticks c.args.to (64 - c.args.ticks) meets shows
         window c.args.group.now.clock c.args.group.now.delay c.requires.taken slot c.first_arrival-arrival.result net (flop cells is) inside lawful
         c.first_arrival-arrival.ensures.arrives held holds steady))
-        so_far
+        (c.loop-k.invariant cells is trace meets shows)
+
+    -- what is told of a flip-flop that may change
+    goes_on : (cells : List Cell) → IsGroup cells c.args.group.now → (trace : ℕ → ℕ → Level) → MeetsCells trace (cell_at cells)
+        → Shows (levels_of c.args.words.now) trace (length c.args.words.now) (c.args.to - c.args.ticks)
+        → (told : List Changed) → AddsFlop (levels_of c.args.words.now) c.args.ticks c.first_arrival-arrival.result slot c.args.group.now.clock (record { net = net; delay = c.args.group.now.delay }) c.loop-k.told.items told
+        → AddsSlots trace (take (c.loop-k.k + 1) slots) (c.args.to - c.args.ticks) c.args.to c.args.told.now.items told
+    goes_on cells is trace meets shows told adds = by adds.added
+      where
+        by : (IsSteadyFrom (level_at_place adds.word) (64 - c.args.ticks) × (told ≡ c.loop-k.told.items)) ⊎ (told ≡ c.loop-k.told.items ++ record { net = slot; word = adds.word } ∷ [])
+            → AddsSlots trace (take (c.loop-k.k + 1) slots) (c.args.to - c.args.ticks) c.args.to c.args.told.now.items told
+        by (inl h) =
+            subst (λ (changes : List Changed). AddsSlots trace (take (c.loop-k.k + 1) slots) (c.args.to - c.args.ticks) c.args.to c.args.told.now.items changes) (sym h.1)
+            (stays cells is trace meets shows (level_at_place adds.word) adds.holds h.0)
+        by (inr e) =
+            subst (λ (changes : List Changed). AddsSlots trace (take (c.loop-k.k + 1) slots) (c.args.to - c.args.ticks) c.args.to c.args.told.now.items changes) (sym e)
+            (adds-one trace (c.args.to - c.args.ticks) c.args.to slots c.loop-k.k slot c.args.told.now.items c.loop-k.told.items
+            (record { net = slot; word = adds.word }) within c.index-slot.ensures
+            (slot-told trace (levels_of c.args.words.now) cells (length c.args.words.now) (c.args.to - c.args.ticks) c.args.ticks c.args.to (64 - c.args.ticks) meets shows
+            window c.args.group.now.clock c.args.group.now.delay c.requires.taken slot c.first_arrival-arrival.result net (flop cells is) inside lawful
+            c.first_arrival-arrival.ensures.arrives (level_at_place adds.word) adds.holds adds.word (λ place. refl) _ refl)
+            (c.loop-k.invariant cells is trace meets shows))
 
 pub returns : goal.returns
 returns c = λ cells is trace meets shows.

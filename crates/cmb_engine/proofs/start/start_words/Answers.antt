@@ -15,7 +15,7 @@ loop-net-init c =
     let items : c.in_ok-words.words ≡ replicate (c.len-nets.result + length c.args.lines.now) (planes_of c.start_word.result) = c.in_ok-words.ensures in
     record {
       len = ap length items ∙ length-replicate (c.len-nets.result + length c.args.lines.now) (planes_of c.start_word.result) ∙ ap (λ n. n + length c.args.lines.now) (count c.netlist.result.now c.args.design.now c.len-nets.result c.netlist.ensures c.len-nets.ensures.value);
-      started = started-none c.args.design.now (c.len-nets.result + length c.args.lines.now) c.start_word.result c.in_ok-words.words items c.start_word.ensures;
+      started = started-none c.args.design.now c.args.roles.now (c.len-nets.result + length c.args.lines.now) c.start_word.result c.in_ok-words.words items c.start_word.ensures;
     }
 
 pub loop-net-preserved : goal.loop-net-preserved
@@ -24,8 +24,8 @@ loop-net-preserved c =
     omega (arith, c.loop-net-test.true, c.loop-net.invariant.len, count c.netlist.result.now c.args.design.now c.len-nets.result c.netlist.ensures c.len-nets.ensures.value) in
     record {
       len = ap length c.set.ensures ∙ length-set c.loop-net.words c.loop-net.net (planes_of c.start_word-in-loop-net.result) ∙ c.loop-net.invariant.len;
-      started = started-more c.args.design.now c.loop-net.net c.start_word-in-loop-net.result c.loop-net.words c.set.new.self inside c.set.ensures
-          (λ trace at. c.start_word-in-loop-net.ensures trace (at ∙ sym c.start_level.ensures)) c.loop-net.invariant.started;
+      started = started-more c.args.design.now c.args.roles.now c.loop-net.net c.start_word-in-loop-net.result c.loop-net.words c.set.new.self inside c.set.ensures
+          (λ trace at. c.start_word-in-loop-net.ensures trace (at ∙ sym c.level_at_start.ensures)) c.loop-net.invariant.started;
     }
 
 pub returns : goal.returns
@@ -33,7 +33,7 @@ returns c =
     let all : c.loop-net.net ≡ nets_of c.args.design.now = omega (arith, count c.netlist.result.now c.args.design.now c.len-nets.result c.netlist.ensures c.len-nets.ensures.value) in
     record {
       len = c.loop-net.invariant.len;
-      shows = λ roles.
-          started-shows c.args.design.now c.args.lines.now c.loop-net.words roles c.requires.lines c.loop-net.invariant.len
-          (subst (λ n. AreStarted c.args.design.now n c.loop-net.words) all c.loop-net.invariant.started);
+      shows =
+          started-shows c.args.design.now c.args.roles.now c.args.lines.now c.loop-net.words c.requires.lines c.loop-net.invariant.len
+          (subst (λ n. AreStarted c.args.design.now c.args.roles.now n c.loop-net.words) all c.loop-net.invariant.started);
     }

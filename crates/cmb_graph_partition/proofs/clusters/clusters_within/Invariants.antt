@@ -5,7 +5,7 @@ use Rattle.cmb_graph_partition.proofs.clusters.clusters_within.Given as goal
 abbrev pub invariant-loop-class : goal.invariant-loop-class
 invariant-loop-class l = record {
   forest : IsForest l.roots.items;
-  long : length l.roots.items ≡ length l.classes.of_nets.items;
-  weights : length l.weights.items ≡ length l.classes.of_nets.items;
-  seen : length l.seen.rounds.items ≡ length l.classes.of_nets.items;
+  long : length l.roots.items ≡ length l.classes.of_sinks.items;
+  weights : length l.weights.items ≡ length l.classes.of_sinks.items;
+  seen : length l.seen.rounds.items ≡ length l.classes.of_sinks.items;
 }

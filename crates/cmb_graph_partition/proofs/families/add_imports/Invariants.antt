@@ -1,9 +1,5 @@
 use Rattle.std.proofs.Common.{◌≡◌, length}
-use Rattle.cmb_graph_partition.specs.Inner.Shapes.{AreFamilies}
 use Rattle.cmb_graph_partition.proofs.families.add_imports.Given as goal
 
 abbrev pub invariant-loop-net : goal.invariant-loop-net
-invariant-loop-net l = record {
-  families : AreFamilies l.families;
-  long : length l.families.classes.items ≡ length l.netlist.names;
-}
+invariant-loop-net l = length l.families.classes.items ≡ length l.netlist.names

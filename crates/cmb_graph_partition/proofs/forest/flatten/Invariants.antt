@@ -1,5 +1,5 @@
 use Rattle.cmb_graph_partition.specs.Inner.Shapes.{IsForest}
 use Rattle.cmb_graph_partition.proofs.forest.flatten.Given as goal
 
-abbrev pub invariant-loop-net : goal.invariant-loop-net
-invariant-loop-net l = IsForest l.parents
+abbrev pub invariant-loop-sink : goal.invariant-loop-sink
+invariant-loop-sink l = IsForest l.parents

@@ -5,7 +5,7 @@ use Rattle.cmb_graph_partition.proofs.forest.root.Given as goal
 abbrev pub invariant-loop-parents : goal.invariant-loop-parents
 invariant-loop-parents l = record {
   forest : IsForest l.parents;
-  below : l.at ≤ l.net;
+  below : l.at ≤ l.sink;
 }
 
 abbrev pub decreases-loop-parents : goal.decreases-loop-parents

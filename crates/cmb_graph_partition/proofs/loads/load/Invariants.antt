@@ -1,4 +1,4 @@
-use Rattle.std.proofs.Common.{◌≡◌, ◌*◌, ◌≤◌, ◌^◌, false}
+use Rattle.std.proofs.Common.{◌≡◌, ◌*◌, ◌≤◌, false}
 use Rattle.std.specs.Prelude.{if◌then◌else◌, map, slice_index_or, sum}
 use Rattle.std.specs.List.{range_with_len}
 use Rattle.cmb_graph_partition.proofs.loads.load.Given as goal

@@ -1,7 +1,7 @@
 use Rattle.cmb_graph_partition.proofs.reader_graph.reader_graph_of.Goals as goal
 
-pub members_of-requires-clause-few : goal.members_of-requires-clause-few
-members_of-requires-clause-few c = rw (c.deref.ensures.value, c.in_ok-numbers.ensures.nets) c.in_ok-readers.ensures.few
+pub by_number-requires-clause-few : goal.by_number-requires-clause-few
+by_number-requires-clause-few c = rw (c.deref.ensures.value, c.in_ok-numbers.ensures.nets) c.in_ok-readers.ensures.few
 
 pub returns : goal.returns
 returns c = record {

@@ -1,4 +1,4 @@
-use Rattle.std.proofs.Common.{◌≡◌, ◌==◌, ◌<◌, ◌+◌, ◌-◌, ℕ, List, [], ◌∷◌, true, false, length, map, take, drop, get_or, sym, ap, subst, ◌∙◌, arith, ⊎_elim}
+use Rattle.std.proofs.Common.{◌≡◌, ◌==◌, ◌<◌, ◌+◌, ◌-◌, ℕ, List, true, false, length, map, take, drop, get_or, sym, ap, subst, ◌∙◌, arith, ⊎_elim}
 use Rattle.std.specs.Prelude.{All, OnOk, Result}
 use Rattle.std.proofs.lemmas.Bool.{false≢true}
 use Rattle.std.proofs.lemmas.Result.{on_ok_weaker}
@@ -28,40 +28,6 @@ returns-in-Told-clause-listed c = λ place gate read.
 pub push_pins-requires : goal.push_pins-requires
 push_pins-requires c =
     let pins = c.self.inside.pins.items in
-    let those : pins_of (get_or c.args.self.now c.args.net Told) ≡ c.in-Single.pin ∷ [] =
-    ap pins_of (read-cell pins c.self.inside.rules.items c.args.self.now c.args.net c.index.result.now c.self.view_is c.requires.net c.index.ensures)
-    ∙ ap (λ (r : Rule). pins_of (cell_of pins r)) c.in-Single.is in
-    subst (λ (ps : List Pin). All (λ pin. pin.net < length c.args.readers.now) ps) those c.requires.pins
-
-pub returns-in-Single-clause-listed : goal.returns-in-Single-clause-listed
-returns-in-Single-clause-listed c =
-    let pins = c.self.inside.pins.items in
-    let those : pins_of (get_or c.args.self.now c.args.net Told) ≡ c.in-Single.pin ∷ [] =
-    ap pins_of (read-cell pins c.self.inside.rules.items c.args.self.now c.args.net c.index.result.now c.self.view_is c.requires.net c.index.ensures)
-    ∙ ap (λ (r : Rule). pins_of (cell_of pins r)) c.in-Single.is in
-    gate-listed c.push_pins.result (map (λ list. list.items) c.push_pins.new.readers) (get_or c.args.self.now c.args.net Told) c.args.net (c.in-Single.pin ∷ []) those
-    c.push_pins.ensures.listed
-
-pub push_pins-requires-in-Double : goal.push_pins-requires-in-Double
-push_pins-requires-in-Double c =
-    let pins = c.self.inside.pins.items in
-    let those : pins_of (get_or c.args.self.now c.args.net Told) ≡ c.in-Double.pin ∷ c.in-Double.other ∷ [] =
-    ap pins_of (read-cell pins c.self.inside.rules.items c.args.self.now c.args.net c.index.result.now c.self.view_is c.requires.net c.index.ensures)
-    ∙ ap (λ (r : Rule). pins_of (cell_of pins r)) c.in-Double.is in
-    subst (λ (ps : List Pin). All (λ pin. pin.net < length c.args.readers.now) ps) those c.requires.pins
-
-pub returns-in-Double-clause-listed : goal.returns-in-Double-clause-listed
-returns-in-Double-clause-listed c =
-    let pins = c.self.inside.pins.items in
-    let those : pins_of (get_or c.args.self.now c.args.net Told) ≡ c.in-Double.pin ∷ c.in-Double.other ∷ [] =
-    ap pins_of (read-cell pins c.self.inside.rules.items c.args.self.now c.args.net c.index.result.now c.self.view_is c.requires.net c.index.ensures)
-    ∙ ap (λ (r : Rule). pins_of (cell_of pins r)) c.in-Double.is in
-    gate-listed c.push_pins-in-Double.result (map (λ list. list.items) c.push_pins-in-Double.new.readers) (get_or c.args.self.now c.args.net Told) c.args.net (c.in-Double.pin ∷ c.in-Double.other ∷ []) those
-    c.push_pins-in-Double.ensures.listed
-
-pub push_pins-requires-in-Gate : goal.push_pins-requires-in-Gate
-push_pins-requires-in-Gate c =
-    let pins = c.self.inside.pins.items in
     let part = c.in-Gate.part in
     let all = c.deref.result.now in
     let count : part.first + part.count - part.first ≡ part.count = omega arith in
@@ -83,5 +49,5 @@ returns-in-Gate-clause-listed c =
     let those : pins_of (get_or c.args.self.now c.args.net Told) ≡ pins_at pins part =
     ap pins_of (read-cell pins c.self.inside.rules.items c.args.self.now c.args.net c.index.result.now c.self.view_is c.requires.net c.index.ensures)
     ∙ ap (λ (r : Rule). pins_of (cell_of pins r)) c.in-Gate.is in
-    gate-listed c.push_pins-in-Gate.result (map (λ list. list.items) c.push_pins-in-Gate.new.readers) (get_or c.args.self.now c.args.net Told) c.args.net _ (those ∙ sym here)
-    c.push_pins-in-Gate.ensures.listed
+    gate-listed c.push_pins.result (map (λ list. list.items) c.push_pins.new.readers) (get_or c.args.self.now c.args.net Told) c.args.net _ (those ∙ sym here)
+    c.push_pins.ensures.listed

@@ -1,6 +1,5 @@
-use Rattle.std.proofs.Common.{rules, ◌≡◌, ◌∙◌, length, ◌↔◌, ◌≤◌, ℕ, Bool, List, subst, sym}
+use Rattle.std.proofs.Common.{◌≡◌, ◌∙◌, length, ◌↔◌, ◌≤◌, ℕ, Bool, List, subst, sym}
 use Rattle.std.specs.Prelude.{Contains, filter}
-use Rattle.std.proofs.lemmas.Fn.{filter_same}
 use Rattle.cmb_design_model.specs.Design.{Design}
 use Rattle.cmb_design_model.specs.Exact.{nets_of}
 use Rattle.cmb_design_model.specs.Value.{value}
@@ -36,8 +35,8 @@ returns-clause-told g c =
     let went = c.in-Ok.ensures in
     let s = c.args.self in
     let changed = c.advance.new.changed.items in
-    let kept : c.retain.new.self.items ≡ filter (is_owned run.owners s.number) changed =
-    subst (λ (l : List ℕ). c.retain.new.self.items ≡ filter (is_owned l s.number) changed) is.owners (filter_same _ _ _ (λ x b f' k. search rules) _ _ c.retain.ensures.filtered) in
+    let kept : c.keep_owned.new.changes.items ≡ filter (is_owned run.owners s.number) changed =
+    subst (λ (l : List ℕ). c.keep_owned.new.changes.items ≡ filter (is_owned l s.number) changed) is.owners c.keep_owned.ensures in
     subst (AreTold run s.number (length run.driven) s.engine.clock c.args.upto) (sym kept)
     (told-owned run s.number (length run.driven) s.engine.clock c.args.upto changed is.lawful is.number
     (subst (λ (d : Design). RisesWithin 0 (nets_of d) changed) is.design went.window.nets)
