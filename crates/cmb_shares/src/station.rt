@@ -13,6 +13,7 @@ use crate::channel::{Inlet, Outlet};
 use crate::message::{Envelope, Message};
 use crate::share_run::ShareRun;
 use crate::simulator::{Simulator, feed_of};
+use cmb_graph_partition::MOST_SHARES;
 use cmb_words::Changed;
 use rtrb::Consumer;
 use std::alloc::{AllocError, Global};
@@ -40,6 +41,15 @@ impl<'a, T: ShareRun> Model for Feed<'a, T> {
     ghost invariant = { λ feed. (feed.outlet.reader ≡ feed.reader) × LeadsTo T.run feed.outlet feed.driven.now };
 }
 
+/// Room for what is told and given of a window.
+#[derive(Drop)]
+pub struct Rooms {
+    pub told: Vec<Changed>,
+    pub given: Vec<Changed>,
+    /// What came with messages that were taken, for others to go with.
+    pub spare: Vec<Vec<Changed>>,
+}
+
 /// A share's engine, the channels by which it receives changes of others' nets and sends those of its own, and the
 /// channel to the text, from which room comes back.
 #[derive(Drop)]
@@ -50,6 +60,7 @@ pub struct Station<'a, T: ShareRun> {
     pub feeds: Vec<Feed<'a, T>>,
     pub text: Outlet<T>,
     pub back: Consumer<Vec<Changed>>,
+    pub rooms: Rooms,
 }
 
 impl<'a, T: ShareRun> Model for Station<'a, T> {
@@ -93,6 +104,7 @@ impl<'a, T: ShareRun> Feed<'a, T> {
         simulator: &Simulator<'_>,
         upto: u32,
         told: &[Changed],
+        spare: &mut Vec<Vec<Changed>>,
     ) -> bool
         requires simulates { IsSimulator T.run simulator.now }
         requires turn { IsTurn T.run simulator.now.engine.clock upto }
@@ -102,7 +114,7 @@ impl<'a, T: ShareRun> Feed<'a, T> {
         ensures told { result ≡ true → (self.new.sender ≡ simulator.now.number) × (self.new.upto ≡ upto) }
         ensures reader { result ≡ true → self.new.reader ≡ self.old.reader }
     {
-        let mut changes = Vec::new(alloc);
+        let mut changes = spare_room(alloc, spare);
         let owners = simulator.owners;
         if feed_of(told, owners, simulator.number, self.driven, &mut changes).is_err() {
             return false;
@@ -114,6 +126,22 @@ impl<'a, T: ShareRun> Feed<'a, T> {
             upto,
         };
         self.outlet.send(rt, Message::new(envelope, changes))
+    }
+}
+
+// Room that is left, or new room.
+fn spare_room(alloc: Global, spare: &mut Vec<Vec<Changed>>) -> Vec<Changed> {
+    match spare.pop() {
+        Some(room) => room,
+        None => Vec::new(alloc),
+    }
+}
+
+// Keeps room for later, unless there is enough.
+fn keep_room(spare: &mut Vec<Vec<Changed>>, room: Vec<Changed>) {
+    if spare.len() < MOST_SHARES {
+        // Where memory is refused it is given up.
+        drop(spare.push(room));
     }
 }
 
@@ -133,6 +161,7 @@ fn send_all<'a, T: ShareRun, R: Wait>(
     upto: u32,
     told: &[Changed],
     feeds: &mut [Feed<'a, T>],
+    spare: &mut Vec<Vec<Changed>>,
 ) -> bool
     requires simulates { IsSimulator T.run simulator.now }
     requires turn { IsTurn T.run simulator.now.engine.clock upto }
@@ -142,7 +171,7 @@ fn send_all<'a, T: ShareRun, R: Wait>(
     ensures readers { result ≡ true → readers_of feeds.new ≡ readers_of feeds.old }
 {
     for place in 0..feeds.len() {
-        if !feeds[place].send_to(rt, alloc, simulator, upto, told) {
+        if !feeds[place].send_to(rt, alloc, simulator, upto, told, spare) {
             return false;
         }
     }
@@ -158,6 +187,7 @@ fn receive_all<'a, T: ShareRun, R: Wait>(
     feeds: &[Feed<'a, T>],
     inlets: &mut [Inlet<T>],
     given: &mut Vec<Changed>,
+    spare: &mut Vec<Vec<Changed>>,
 ) -> bool
     requires turn { IsTurn T.run simulator.now.engine.clock upto }
     requires fed { AreFed simulator.now.number upto feeds.now }
@@ -172,9 +202,11 @@ fn receive_all<'a, T: ShareRun, R: Wait>(
         let Some(message) = inlets[place].receive(rt) else {
             return false;
         };
-        let Ok(()) = given.extend_from_slice(&message.changes) else {
+        let changes = message.changes;
+        let Ok(()) = given.extend_from_slice(&changes) else {
             return false;
         };
+        keep_room(spare, changes);
     }
     true
 }
@@ -187,8 +219,7 @@ fn talk<'a, T: ShareRun, R: Wait>(
     upto: u32,
     feeds: &mut [Feed<'a, T>],
     inlets: &mut [Inlet<T>],
-    told: &mut Vec<Changed>,
-    given: &mut Vec<Changed>,
+    rooms: &mut Rooms,
 ) -> bool
     requires simulates { IsSimulator T.run simulator.now }
     requires turn { IsTurn T.run simulator.now.engine.clock upto }
@@ -200,15 +231,16 @@ fn talk<'a, T: ShareRun, R: Wait>(
     ensures heard { result ≡ true → AreHeard simulator.now.number upto inlets.new }
     ensures senders { result ≡ true → senders_of inlets.new ≡ senders_of inlets.old }
     ensures given { result ≡ true → TellsThose (IsGiven T.run.design (driven_by T.run simulator.now.number))
-        (value T.run.design) simulator.now.engine.clock upto given.new.items }
+        (value T.run.design) simulator.now.engine.clock upto rooms.new.given.items }
 {
+    let Rooms { told, given, spare } = rooms;
     let Ok(()) = simulator.tell_ahead::<T>(upto, told) else {
         return false;
     };
-    if !send_all(rt, alloc, simulator, upto, told, feeds) {
+    if !send_all(rt, alloc, simulator, upto, told, feeds, spare) {
         return false;
     }
-    receive_all(rt, simulator, upto, feeds, inlets, given)
+    receive_all(rt, simulator, upto, feeds, inlets, given, spare)
 }
 
 impl<'a, T: ShareRun> Station<'a, T> {
@@ -235,6 +267,11 @@ impl<'a, T: ShareRun> Station<'a, T> {
             feeds: Vec::new(alloc),
             text,
             back,
+            rooms: Rooms {
+                told: Vec::new(alloc),
+                given: Vec::new(alloc),
+                spare: Vec::new(alloc),
+            },
         }
     }
 
@@ -270,12 +307,7 @@ impl<'a, T: ShareRun> Station<'a, T> {
 
     // Goes on by a window: a turn of its process. There is no station any more where another one ended early or memory
     // was refused.
-    fn step<R: Wait>(
-        self,
-        rt: &R,
-        told: &mut Vec<Changed>,
-        given: &mut Vec<Changed>,
-    ) -> Option<Station<'a, T>>
+    fn step<R: Wait>(self, rt: &R) -> Option<Station<'a, T>>
         requires covers { Covers T.run self.number self.senders }
         requires early { self.clock < T.run.windows.horizon }
         ensures number { IfSome result (λ next. next.number ≡ self.entry.number) }
@@ -289,6 +321,7 @@ impl<'a, T: ShareRun> Station<'a, T> {
             mut feeds,
             mut text,
             mut back,
+            mut rooms,
         } = self;
         let from = simulator.clock();
         let upto = simulator.next_end::<T>();
@@ -299,15 +332,14 @@ impl<'a, T: ShareRun> Station<'a, T> {
             upto,
             &mut feeds,
             &mut inlets,
-            told,
-            given,
+            &mut rooms,
         ) {
-            drop((simulator, inlets, feeds, text, back));
+            drop((simulator, inlets, feeds, text, back, rooms));
             return None;
         }
         let mut changes = room_of(alloc, &mut back);
-        let Ok(simulator) = simulator.advance::<T>(upto, given, &mut changes) else {
-            drop((inlets, feeds, text, back, changes));
+        let Ok(simulator) = simulator.advance::<T>(upto, &rooms.given, &mut changes) else {
+            drop((inlets, feeds, text, back, rooms, changes));
             return None;
         };
         let envelope = Envelope {
@@ -317,7 +349,7 @@ impl<'a, T: ShareRun> Station<'a, T> {
             upto,
         };
         if !text.send(rt, Message::new(envelope, changes)) {
-            drop((simulator, inlets, feeds, text, back));
+            drop((simulator, inlets, feeds, text, back, rooms));
             return None;
         }
         Some(Station {
@@ -327,6 +359,7 @@ impl<'a, T: ShareRun> Station<'a, T> {
             feeds,
             text,
             back,
+            rooms,
         })
     }
 
@@ -342,13 +375,11 @@ impl<'a, T: ShareRun> Station<'a, T> {
         requires { Covers T.run self.number self.senders }
     {
         let mut station = self;
-        let mut told = Vec::new(station.alloc);
-        let mut given = Vec::new(station.alloc);
         for _ in rt.forever() {
             if station.is_done() {
                 return;
             }
-            match station.step(rt, &mut told, &mut given) {
+            match station.step(rt) {
                 Some(next) => station = next,
                 None => return,
             }

@@ -13,14 +13,18 @@ use std::{hint, thread};
 // How many times a thread looks again at once: some microseconds.
 const SPINS: u32 = 400;
 
+// From then on it gives the processor away at each of so many looks. Between them it looks again at once: a thread that
+// calls the system without end takes from those that share its core.
+const STEP: u32 = 30;
+
 /// How many times a thread looks again, at once or after it gave the processor away, before it sleeps.
-pub const PATIENCE: u32 = 800;
+pub const PATIENCE: u32 = 6_400;
 
 // How long it sleeps at a time, in microseconds. Nobody wakes it, so what comes meanwhile waits for as long.
 const NAP: u64 = 50;
 
-// A wait is crowded if it ends when the processor was given away once: another program may have used its slice of time
-// meanwhile. After so many crowded waits in a row, it sleeps in place of giving the processor away.
+// A wait is crowded if it ends just when the processor was given away once: another program may have used its slice of
+// time meanwhile. After so many crowded waits in a row, it sleeps in place of giving the processor away.
 const CROWDED: u32 = 4;
 
 // After so many it gives the processor away once more. The other program may have ended.
@@ -78,7 +82,8 @@ impl Idle {
         self.turns = 0;
     }
 
-    /// There is nothing to do: returns at once for a while, then gives the processor away, then sleeps for a moment.
+    /// There is nothing to do: returns at once for a while, then gives the processor away at times, then sleeps for a
+    /// moment.
     /// A processor that others keep busy isn't given away: it sleeps instead.
     pub fn rest<R: Wait>(&mut self, rt: &R)
         ensures { self.new ≡ min (self.old + 1) PATIENCE }
@@ -91,8 +96,10 @@ impl Idle {
             hint::spin_loop();
         } else if is_to_sleep {
             self.parker.park_timeout(rt, Duration::from_micros(NAP));
-        } else {
+        } else if (self.turns - SPINS) % STEP == 1 {
             thread::yield_now();
+        } else {
+            hint::spin_loop();
         }
     }
 }
