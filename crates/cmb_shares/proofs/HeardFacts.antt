@@ -23,7 +23,7 @@ set_within marks net is = by (cases_lt net (length marks))
     by (inl l) = l
     by (inr g) = absurd (false≢true (sym (get_or_past marks net false g) ∙ is))
 
-neither : (a b : Bool) → (a || b) ≡ false → (a ≡ false) × (b ≡ false)
+pub neither : (a b : Bool) → (a || b) ≡ false → (a ≡ false) × (b ≡ false)
 neither true b e = absurd (false≢true (sym e))
 neither false b e = (refl, e)
 

@@ -1,9 +1,9 @@
 pub mod ChannelFacts
 pub mod FlowFacts
+pub mod GatherFacts
 pub mod HeardFacts
 pub mod JoinFacts
 pub mod KeepFacts
-pub mod MergeFacts
 pub mod OpeningFacts
 pub mod PlaceFacts
 pub mod ProcessFacts

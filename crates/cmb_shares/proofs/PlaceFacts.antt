@@ -28,19 +28,6 @@ module _ {X : Type 0} (P Q : ℕ → X → Type 0) (list : List X) where
       by k d h within (inl e) = subst (λ n. P n (get_or (set list place x) n d)) (sym e) (subst (P place) (sym (get_or-set_same list place x d less)) is)
       by k d h within (inr n) = subst (P k) (sym (get_or-set_other list place k x d n)) (are.before k d (omega (arith, h, n)) within)
 
-  -- one of the first once more
-  pub written-again : (place at : ℕ) (x : X) → at < place → at < length list → P at x → AreWritten P Q place list → AreWritten P Q place (set list at x)
-  written-again place at x early less is are = record {
-    before = λ k d h within. by k d h (omega (arith, within, length-set list at x)) (cases_eq k at);
-    rest = λ k d h within.
-        let other : get_or (set list at x) k d ≡ get_or list k d = get_or-set_other list at k x d (omega (arith, h, early)) in
-        subst (Q k) (sym other) (are.rest k d h (omega (arith, within, length-set list at x)));
-  }
-    where
-      by : (k : ℕ) (d : X) → k < place → k < length list → (k ≡ at) ⊎ (k ≡ at → ⊥) → P k (get_or (set list at x) k d)
-      by k d h within (inl e) = subst (λ n. P n (get_or (set list at x) n d)) (sym e) (subst (P at) (sym (get_or-set_same list at x d less)) is)
-      by k d h within (inr n) = subst (P k) (sym (get_or-set_other list at k x d n)) (are.before k d h within)
-
 -- of two ways
 pub bool_cases : {P : Type 0} (b : Bool) → (b ≡ true → P) → (b ≡ false → P) → P
 bool_cases {P = P} b first second = by b refl

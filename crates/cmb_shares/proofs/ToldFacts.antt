@@ -1,24 +1,28 @@
 -- What a share owns of what its engine tells.
-use Rattle.std.proofs.Common.{◌≡◌, ◌∙◌, ℕ, suc, ◌<◌, ◌≤◌, ◌==◌, ◌||◌, Bool, true, false, nat_lt, List, [], ◌∷◌, cond, length, get_or, ap, refl, sym, subst, arith}
+use Rattle.std.proofs.Common.{◌≡◌, ◌∙◌, ℕ, ◌<◌, ◌==◌, ◌||◌, Bool, true, false, nat_lt, List, [], ◌∷◌, cond, length, get_or, ap, refl, sym, subst, arith}
+use Rattle.std.specs.Result.{is_err}
 use Rattle.std.specs.Prelude.{All, Contains, OnOk, Result, Ok, Err, filter}
 use Rattle.std.proofs.lemmas.Bool.{and_from, and_parts, eq-eqb, eqb-true, false≢true, lt-ltb, ltb-true, not_from_false}
 use Rattle.std.proofs.lemmas.List.Elements.{All-cons, All-contains, All-filter, All-nil, Contains-get_or}
-use Rattle.cmb_design_model.specs.Exact.{nets_of}
 use Rattle.cmb_design_model.specs.Value.{value}
 use Rattle.cmb_engine.specs.Shares.{IsDriven, TellsThose}
-use Rattle.cmb_words.specs.Changes.{IsStill, RisesWithin, TellsNet, is_among}
+use Rattle.cmb_words.specs.Changes.{IsStill, TellsNet, is_among}
 use Rattle.cmb_words.specs.declared.changed.Changed.{Changed}
 use Rattle.cmb_words.proofs.StillFacts.{still-empty}
 use Rattle.cmb_shares.specs.declared.simulator.Simulator.{Simulator}
 use Rattle.cmb_shares.specs.Inner.Messages.{AreTold}
 use Rattle.cmb_shares.specs.Inner.Runs.{IsRun, Owns, Reads, Run, driven_by}
 use Rattle.cmb_shares.specs.Inner.Simulators.{IsSimulator, is_fed, is_owned}
-use Rattle.cmb_shares.proofs.MergeFacts.{rises-lower}
 
 -- what holds where all went well, of two such facts
 pub on_ok_two : {T E P Q S : Type 0} (r : Result T E) → (P → Q → S) → OnOk r P → OnOk r Q → OnOk r S
 on_ok_two (Ok x) both p q = both p q
 on_ok_two (Err e) both p q = tt
+
+-- where no error came, all went well
+pub on_ok_gives : {T E P : Type 0} (r : Result T E) → is_err r ≡ false → OnOk r P → P
+on_ok_gives (Ok x) fine p = p
+on_ok_gives (Err e) fine p = absurd (false≢true (sym fine))
 
 -- ---- those that pass a test
 
@@ -30,14 +34,6 @@ module _ (p : Changed → Bool) where
       by : (b : Bool) → p x ≡ b → All (λ y. p y ≡ true) (filter p xs) → All (λ y. p y ≡ true) (cond b (x ∷ filter p xs) (filter p xs))
       by true e later = All-cons (λ y. p y ≡ true) x (filter p xs) e later
       by false e later = later
-
-  rises-filter : (low nets : ℕ) (xs : List Changed) → RisesWithin low nets xs → RisesWithin low nets (filter p xs)
-  rises-filter low nets [] rises = tt
-  rises-filter low nets (x ∷ xs) rises = by (p x) (rises-filter (suc x.net) nets xs rises.2)
-    where
-      by : (b : Bool) → RisesWithin (suc x.net) nets (filter p xs) → RisesWithin low nets (cond b (x ∷ filter p xs) (filter p xs))
-      by true later = (rises.0, rises.1, later)
-      by false later = rises-lower low (suc x.net) nets (filter p xs) (omega (arith, rises.0)) later
 
   -- a net all of whose words pass is among them just where it is among all
   among-filter : (net : ℕ) → ((x : Changed) → (x.net == net) ≡ true → p x ≡ true) → (xs : List Changed) → is_among net (filter p xs) ≡ is_among net xs
@@ -67,7 +63,7 @@ module _ (run : Run) (number reader from upto : ℕ) (changed : List Changed) (p
     (whole : (x : Changed) → Owns run number x.net → Reads run reader x.net → p x ≡ true)
     (words : (one : Changed) → Contains changed one → Owns run number one.net → TellsNet (value run.design) from upto one)
     (others : (net : ℕ) → Owns run number net → Reads run reader net → is_among net changed ≡ false → IsStill (value run.design net) from upto)
-    (rises : length run.driven ≤ reader → RisesWithin 0 (nets_of run.design) changed) where
+    (is : IsRun run) where
   abbrev IsTold : Changed → Type 0
   IsTold one = Owns run number one.net → TellsNet (value run.design) from upto one
 
@@ -84,20 +80,20 @@ module _ (run : Run) (number reader from upto : ℕ) (changed : List Changed) (p
 
   told-filter : AreTold run number reader from upto (filter p changed)
   told-filter = record {
-    rises = λ text. rises-filter p 0 (nets_of run.design) changed (rises text);
-    among = λ k d h. mine k d h;
+    within = λ k d h. omega (arith, is.nets, (mine k d h).0);
+    among = λ share k d h. mine k d h;
     words = λ k d h. All-filter p IsTold changed all k d h (mine k d h);
     others = λ net own reads none. others net own reads (sym (among-filter p net (fits net own reads) changed) ∙ none);
   }
 
 -- all that it owns, to any reader
-pub told-owned : (run : Run) (number reader from upto : ℕ) (changed : List Changed) → IsRun run → number < length run.driven → RisesWithin 0 (nets_of run.design) changed
+pub told-owned : (run : Run) (number reader from upto : ℕ) (changed : List Changed) → IsRun run → number < length run.driven
     → TellsThose (IsDriven (driven_by run number)) (value run.design) from upto changed → AreTold run number reader from upto (filter (is_owned run.owners number) changed)
-told-owned run number reader from upto changed is within rises tells =
+told-owned run number reader from upto changed is within tells =
     told-filter run number reader from upto changed (is_owned run.owners number) (owned-owns run number) (λ x own reads. owns-owned run number x own)
     (λ one there own. tells.words one there (is.owned number one.net within own))
     (λ net own reads none. tells.others net (is.owned number net within own) none)
-    (λ text. rises)
+    is
 
 -- what was told ahead of it, to a share
 pub told-fed : (run : Run) (s : Simulator) (reader from upto : ℕ) (told : List Changed) → IsSimulator run s → reader < length run.driven
@@ -109,15 +105,15 @@ told-fed run s reader from upto told is within only tells =
     (λ x own reads. and_from _ _ (owns-owned run s.number x own) (not_from_false _ (reads within).undriven))
     (λ one there own. tells.words one there (All-contains (λ (c : Changed). Contains s.engine.exports c.net) told one only there))
     (λ net own reads none. tells.others net ((is.exports net).1 (is.lawful.owned s.number net is.number own, is.lawful.known reader net within (reads within))) none)
-    (λ text. absurd (omega (arith, text, within)))
+    is.lawful
 
 -- of no tick nothing is told
 pub told-nothing : (run : Run) (sender reader tick : ℕ) (changes : List Changed) → changes ≡ [] → AreTold run sender reader tick tick changes
 told-nothing run sender reader tick changes none =
     subst (AreTold run sender reader tick tick) (sym none)
     (record {
-      rises = λ text. tt;
-      among = λ k d small. absurd (omega (arith, small));
+      within = λ k d small. absurd (omega (arith, small));
+      among = λ share k d small. absurd (omega (arith, small));
       words = λ k d small. absurd (omega (arith, small));
       others = λ net owned read missing. still-empty (value run.design net) tick tick (omega arith);
     })

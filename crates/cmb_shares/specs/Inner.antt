@@ -1,7 +1,7 @@
 -- What the functions inside the crate promise each other. No public contract cites it.
 pub mod Channels
 pub mod Flows
-pub mod Merges
+pub mod Gatherings
 pub mod Messages
 pub mod Opened
 pub mod Processes

@@ -2,13 +2,15 @@
 
 ghost use Rattle.std.specs.Prelude.{◌≡◌, ℕ, suc, ◌<◌, ◌≤◌, length, [], IfOk, OnOk};
 ghost use Rattle.cmb_shares.specs.Inner.Channels.{Follows};
-ghost use Rattle.cmb_shares.specs.Inner.Flows.{AreMade, AreSources};
+ghost use Rattle.cmb_design_model.specs.Exact.{nets_of};
+ghost use Rattle.cmb_shares.specs.Inner.Flows.{AreGathered, AreMade, AreSources};
+ghost use Rattle.cmb_shares.specs.Inner.Gatherings.{IsBlank};
 ghost use Rattle.cmb_shares.specs.Inner.Messages.{AreTold};
 ghost use Rattle.cmb_shares.specs.Inner.Processes.{Turns, text_of};
 ghost use Rattle.cmb_shares.specs.Inner.Runs.{IsRun, IsTurn};
 
 use crate::channel::Inlet;
-use crate::merge::merge;
+use crate::gathered::Gathered;
 use crate::share_run::ShareRun;
 use cmb_dump::Dump;
 use cmb_dump_stream::{TextBuffer, TextMaker, keep_window};
@@ -17,7 +19,6 @@ use cmb_words::Changed;
 use rtrb::Producer;
 use std::alloc::AllocError;
 use std::marker::Model;
-use std::mem::swap;
 use std::sync::Wait;
 
 /// The channel by which a share sends changes for the text, and by which their buffers go back to it.
@@ -43,9 +44,10 @@ pub(crate) struct Flow<'a, T: ShareRun, R> {
     pub windows: Windows,
     pub sources: Vec<Inflow<T>>,
     pub dump: Dump<'a>,
-    /// A buffer for what all shares sent of a window.
+    /// For what all shares send of a window.
+    pub gathered: Gathered,
+    /// A buffer for the same by rising number.
     pub all: Vec<Changed>,
-    pub room: Vec<Changed>,
 }
 
 impl<'a, T: ShareRun, R> Model for Flow<'a, T, R> {
@@ -56,7 +58,7 @@ impl<'a, T: ShareRun, R> Model for Flow<'a, T, R> {
 
     ghost view = { λ f. record { design = f.dump.design; clock = f.dump.clock } };
 
-    ghost invariant = { λ f. IsFlow T.run f.windows f.sources.items f.dump };
+    ghost invariant = { λ f. IsFlow T.run f.windows f.sources.items f.dump f.gathered };
 }
 
 impl<T: ShareRun> Inflow<T> {
@@ -79,21 +81,16 @@ impl<T: ShareRun> Inflow<T> {
         drop(self.back.push(room));
     }
 
-    // Adds what the share sent of a window to what earlier ones sent.
-    fn add<R: Wait>(
-        &mut self,
-        rt: &R,
-        all: &mut Vec<Changed>,
-        room: &mut Vec<Changed>,
-    ) -> Result<(), AllocError>
+    // Adds what the share sent of the next window to what earlier ones sent.
+    fn add<R: Wait>(&mut self, rt: &R, gathered: &mut Gathered) -> Result<(), AllocError>
+        requires { length gathered.old.words ≡ nets_of T.run.design }
         ensures follows { OnOk result (Follows T.run.windows self.old self.new) }
         ensures made { OnOk result (self.new.reader ≡ length T.run.driven
-            → AreMade T.run self.new.sender self.new.from self.new.upto all.old.items
-            → AreMade T.run (suc self.new.sender) self.new.from self.new.upto all.new.items) }
+            → AreGathered T.run self.new.sender self.new.from self.new.upto gathered.old
+            → AreGathered T.run (suc self.new.sender) self.new.from self.new.upto gathered.new) }
     {
         let changes = self.receive(rt)?;
-        merge(all, &changes, room)?;
-        swap(all, room);
+        gathered.add(&changes);
         self.give_back(changes);
         Ok(())
     }
@@ -105,31 +102,23 @@ fn gather<T: ShareRun, R: Wait>(
     sources: &mut [Inflow<T>],
     from: u32,
     upto: u32,
+    gathered: &mut Gathered,
     all: &mut Vec<Changed>,
-    room: &mut Vec<Changed>,
 ) -> Result<(), AllocError>
+    requires lawful { IsRun T.run }
     requires turn { IsTurn T.run from upto }
     requires sources { AreSources T.run from sources.old }
+    requires blank { IsBlank (nets_of T.run.design) gathered.old }
     ensures len { length sources.new ≡ length sources.old }
     ensures sources { OnOk result (AreSources T.run upto sources.new) }
     ensures made { OnOk result (AreMade T.run (length sources.old) from upto all.new.items) }
+    ensures blank { OnOk result (IsBlank (nets_of T.run.design) gathered.new) }
     ensures turns { OnOk result (Turns T.run (text_of T.run from sources.old) (text_of T.run upto sources.new)) }
 {
-    all.clear();
-    let mut heard = 0;
-    if sources.len() >= 2 {
-        // Of two lists neither is copied first.
-        let first = sources[0].receive(rt)?;
-        let second = sources[1].receive(rt)?;
-        merge(&first, &second, all)?;
-        sources[0].give_back(first);
-        sources[1].give_back(second);
-        heard = 2;
+    for place in 0..sources.len() {
+        sources[place].add(rt, gathered)?;
     }
-    for place in heard..sources.len() {
-        sources[place].add(rt, all, room)?;
-    }
-    Ok(())
+    gathered.take(all)
 }
 
 impl<'a, T: ShareRun, R: Wait> TextMaker for Flow<'a, T, R> {
@@ -142,17 +131,17 @@ impl<'a, T: ShareRun, R: Wait> TextMaker for Flow<'a, T, R> {
             windows,
             mut sources,
             mut dump,
+            mut gathered,
             mut all,
-            mut room,
         } = self;
         let from = kept.clock();
         let upto = windows.end(from);
-        let Ok(()) = gather(rt, &mut sources, from, upto, &mut all, &mut room) else {
-            drop((windows, sources, dump, all, room));
+        let Ok(()) = gather(rt, &mut sources, from, upto, &mut gathered, &mut all) else {
+            drop((windows, sources, dump, gathered, all));
             return Err(AllocError);
         };
         let Ok(()) = keep_window(&mut dump, &all, upto, kept) else {
-            drop((windows, sources, dump, all, room));
+            drop((windows, sources, dump, gathered, all));
             return Err(AllocError);
         };
         Ok(Flow {
@@ -160,8 +149,8 @@ impl<'a, T: ShareRun, R: Wait> TextMaker for Flow<'a, T, R> {
             windows,
             sources,
             dump,
+            gathered,
             all,
-            room,
         })
     }
 }

@@ -3,7 +3,7 @@
 ghost use Rattle.std.specs.Prelude.{◌≡◌, map};
 ghost use Rattle.std.proofs.Props.{props};
 ghost use Rattle.cmb_shares.specs.Inner.Channels.{MayGo, greeting};
-ghost use Rattle.cmb_shares.specs.Inner.Messages.{IsMessage, rises_prop};
+ghost use Rattle.cmb_shares.specs.Inner.Messages.{IsMessage};
 
 use crate::share_run::ShareRun;
 use cmb_words::Changed;
@@ -27,7 +27,7 @@ pub struct Message<T: ShareRun> {
     pub envelope: Envelope,
     pub changes: Vec<Changed>,
     run: PhantomData<T>,
-    ghost tells: { IsMessage T.run envelope changes.items } by { Prim.hlevel (props, rises_prop) },
+    ghost tells: { IsMessage T.run envelope changes.items } by { Prim.hlevel props },
 }
 
 impl<T: ShareRun> Message<T> {

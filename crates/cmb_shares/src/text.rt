@@ -7,6 +7,7 @@ ghost use Rattle.cmb_dump_stream.specs.Parts.{IsAtEndOf};
 ghost use Rattle.cmb_dump_stream.specs.Streams.{IsWrittenTo};
 
 use crate::flow::Flow;
+use crate::gathered::Gathered;
 use crate::opening::Shares;
 use crate::share_run::ShareRun;
 use crate::station::Station;
@@ -67,8 +68,12 @@ fn begin<'s, 'a: 's, E, T: ShareRun + Send + Sync + 's, R: Threads + Wait + Sync
         return Err(AllocError);
     };
     start(rt, scope, stations);
-    let Ok((dump, kept)) = first_text(alloc, design) else {
+    let Ok(gathered) = Gathered::new(alloc, design.netlist().len()) else {
         drop((windows, sources));
+        return Err(AllocError);
+    };
+    let Ok((dump, kept)) = first_text(alloc, design) else {
+        drop((windows, sources, gathered));
         return Err(AllocError);
     };
     let flow = Flow {
@@ -76,8 +81,8 @@ fn begin<'s, 'a: 's, E, T: ShareRun + Send + Sync + 's, R: Threads + Wait + Sync
         windows,
         sources,
         dump,
+        gathered,
         all: Vec::new(alloc),
-        room: Vec::new(alloc),
     };
     Ok((flow, kept))
 }

@@ -1,5 +1,13 @@
+use Rattle.std.proofs.Common.{List, subst, sym}
+use Rattle.cmb_words.specs.declared.changed.Changed.{Changed}
+use Rattle.cmb_shares.specs.Inner.Simulators.{IsToldAhead}
 use Rattle.cmb_shares.proofs.HeardFacts.{heard-given}
 use Rattle.cmb_shares.proofs.station.talk.Goals as goal
+
+pub send_all-requires-clause-told : goal.send_all-requires-clause-told
+send_all-requires-clause-told g c =
+    let s = c.args.simulator.now in
+    subst (λ (l : List Changed). IsToldAhead g.T.ShareRun.run s.number s.engine.clock c.args.upto l) (sym c.deref.ensures.value) c.in-Ok.ensures
 
 pub returns-clause-given : goal.returns-clause-given
 returns-clause-given g c = λ h.

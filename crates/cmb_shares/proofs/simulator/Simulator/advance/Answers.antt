@@ -1,11 +1,9 @@
 use Rattle.std.proofs.Common.{◌≡◌, ◌∙◌, length, ◌↔◌, ◌≤◌, ℕ, Bool, List, subst, sym}
 use Rattle.std.specs.Prelude.{Contains, filter}
 use Rattle.cmb_design_model.specs.Design.{Design}
-use Rattle.cmb_design_model.specs.Exact.{nets_of}
 use Rattle.cmb_design_model.specs.Value.{value}
 use Rattle.cmb_engine.specs.Crossings.{IsCrossing}
 use Rattle.cmb_engine.specs.Shares.{IsDriven, TellsThose}
-use Rattle.cmb_words.specs.Changes.{RisesWithin}
 use Rattle.cmb_shares.specs.Inner.Runs.{driven_by}
 use Rattle.cmb_shares.specs.Inner.Simulators.{is_owned}
 use Rattle.cmb_shares.specs.Inner.Messages.{AreTold}
@@ -39,7 +37,6 @@ returns-clause-told g c =
     subst (λ (l : List ℕ). c.keep_owned.new.changes.items ≡ filter (is_owned l s.number) changed) is.owners c.keep_owned.ensures in
     subst (AreTold run s.number (length run.driven) s.engine.clock c.args.upto) (sym kept)
     (told-owned run s.number (length run.driven) s.engine.clock c.args.upto changed is.lawful is.number
-    (subst (λ (d : Design). RisesWithin 0 (nets_of d) changed) is.design went.window.nets)
     (subst (λ (d : Design). TellsThose (IsDriven (driven_by run s.number)) (value d) s.engine.clock c.args.upto changed) is.design
     (subst (λ (l : List Bool). TellsThose (IsDriven l) (value s.engine.design) s.engine.clock c.args.upto changed) is.driven
     (subst (λ n. TellsThose (IsDriven s.engine.driven) (value s.engine.design) s.engine.clock n changed) went.clock went.tells))))

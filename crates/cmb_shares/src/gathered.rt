@@ -1,0 +1,108 @@
+//! Changes that many shares send, gathered by the nets' numbers.
+
+ghost use Rattle.std.specs.Prelude.{◌≡◌, ℕ, ◌+◌, ◌*◌, ◌^◌, ◌<◌, ◌≤◌, [], ◌∷◌, All, length, IfOk, OnOk};
+ghost use Rattle.cmb_shares.specs.Inner.Gatherings.{Adds, AreTaken, IsBlank, IsTable, table_of};
+
+use cmb_wave::Level;
+use cmb_words::{Changed, Places, Word};
+use std::alloc::{AllocError, Global};
+use std::marker::Model;
+
+/// The words of nets that changed in a window, by the nets' numbers.
+#[derive(Drop)]
+pub(crate) struct Gathered {
+    /// For each net a word, which counts where the net is marked.
+    words: Vec<Word>,
+    /// Which nets are marked, 64 of them in each number.
+    marks: Vec<u64>,
+}
+
+impl Model for Gathered {
+    ghost use Rattle.cmb_shares.specs.Inner.Gatherings.{IsTable, Table, table_of};
+
+    ghost Value = { Table };
+
+    ghost view = { λ gathered. table_of gathered.words.items gathered.marks.items };
+
+    ghost invariant = { λ gathered. IsTable (table_of gathered.words.items gathered.marks.items) };
+}
+
+// Tells the nets that are marked in a number, behind those before them.
+#[inline]
+fn tell_number(
+    words: &[Word],
+    marks: &[u64],
+    k: usize,
+    all: &mut Vec<Changed>,
+) -> Result<(), AllocError>
+    requires table { IsTable (table_of words.now marks.now) }
+    requires within { k < length marks.now }
+    requires before { AreTaken (table_of words.now marks.now) (64 * k) all.old.items }
+    ensures { OnOk result (AreTaken (table_of words.now marks.now) (64 * k + 64) all.new.items) }
+{
+    let places = marks[k];
+    for place in Places::of(places) {
+        let net = 64 * k + place as usize;
+        all.push(Changed {
+            net: net as u16,
+            word: words[net],
+        })?;
+    }
+    Ok(())
+}
+
+// Tells all marked nets by rising number, in place of what `all` had.
+fn tell_all(words: &[Word], marks: &[u64], all: &mut Vec<Changed>) -> Result<(), AllocError>
+    requires { IsTable (table_of words.now marks.now) }
+    ensures { OnOk result (AreTaken (table_of words.now marks.now) (length words.now) all.new.items) }
+{
+    all.clear();
+    for k in 0..marks.len() {
+        tell_number(words, marks, k, all)?;
+    }
+    Ok(())
+}
+
+impl Gathered {
+    /// None yet, with room for so many nets.
+    pub(crate) fn new(alloc: Global, nets: usize) -> Result<Gathered, AllocError>
+        requires { nets ≤ 2 ^ 16 }
+        ensures { IfOk result (IsBlank nets) }
+    {
+        Ok(Gathered {
+            words: vec![in alloc; Word::constant(Level::Zero); nets]?,
+            marks: vec![in alloc; 0; nets / 64 + 1]?,
+        })
+    }
+
+    // Adds a change.
+    #[inline]
+    fn put(&mut self, one: Changed)
+        requires { one.net < length self.old.words }
+        ensures { Adds (one ∷ []) self.old self.new }
+    {
+        let net = one.net as usize;
+        self.words[net] = one.word;
+        self.marks[net / 64] |= 1 << (net % 64);
+    }
+
+    /// Adds the changes that a share sent. Of a net that is there already the new word is kept.
+    pub(crate) fn add(&mut self, changes: &[Changed])
+        requires { All (λ one. one.net < length self.old.words) changes.now }
+        ensures { Adds changes.now self.old self.new }
+    {
+        for one in changes {
+            self.put(*one);
+        }
+    }
+
+    /// Takes all changes out, by rising number, in place of what `all` had.
+    pub(crate) fn take(&mut self, all: &mut Vec<Changed>) -> Result<(), AllocError>
+        ensures taken { OnOk result (AreTaken self.old (length self.old.words) all.new.items) }
+        ensures none { OnOk result (IsBlank (length self.old.words) self.new) }
+    {
+        tell_all(&self.words, &self.marks, all)?;
+        self.marks.fill(0);
+        Ok(())
+    }
+}
