@@ -1,5 +1,5 @@
 -- Which nets changed in a window, and what their words tell.
-use Rattle.std.proofs.Common.{◌≡◌, ℕ, zero, suc, ◌+◌, ◌-◌, ◌*◌, ◌<◌, ◌≤◌, ◌⊎◌, inl, inr, Bool, false, List, [], ◌∷◌, ◌++◌, get_or, min, sym, ap, subst, ◌∙◌, arith}
+use Rattle.std.proofs.Common.{◌≡◌, ℕ, zero, suc, ◌+◌, ◌-◌, ◌*◌, ◌<◌, ◌≤◌, ◌⊎◌, inl, inr, Bool, false, true, List, [], ◌∷◌, ◌++◌, get_or, min, sym, ap, subst, ◌∙◌, arith}
 use Rattle.std.specs.Prelude.{◌==◌}
 use Rattle.std.specs.List.{All}
 use Rattle.std.proofs.lemmas.Bool.{cases_lt, eq-eqb, false≢true, or_parts}
@@ -119,6 +119,12 @@ module _ (words : ℕ → ℕ → Level) (first base places nets : ℕ) (quiet :
   module _ (left : List ℕ) (old : List Changed) (h : IsCollecting words first base places nets left old) (place : ℕ) (rest : List ℕ) (is : left ≡ place ∷ rest) where
     next : IsNextPlace places h.upto 64 place rest
     next = left-next places h.upto left h.are_left place rest is
+
+    pub collecting-small : place < 64
+    collecting-small = next.within
+
+    pub collecting-set : is_set_at places place ≡ true
+    collecting-set = next.set
 
     so_far : IsCollected words first (min (base + place) nets) old
     so_far = skips h.upto place old next.later (omega (arith, next.within)) next.none h.collected

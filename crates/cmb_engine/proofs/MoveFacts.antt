@@ -108,6 +108,9 @@ module _ (readers : ℕ → List ℕ) (base places count ticks first : ℕ) (lef
   pub moving-small : place < 64
   moving-small = next.within
 
+  pub moving-set : is_set_at places place ≡ true
+  moving-set = next.set
+
   -- a set place before it, or it itself
   before : (slot : ℕ) → IsSetAt base places slot → slot < base + (place + 1) → slot ≢ base + place → slot < base + h.upto
   before slot set under other = go (cases_lt set.place h.upto)
@@ -175,6 +178,32 @@ moving-moves readers base places steady count ticks first left old_marks marks o
   where
     all : (slot : ℕ) → IsSetAt base places slot → slot < base + h.upto
     all = moving-all readers base places steady count ticks first left marks old now h is
+
+-- places of slots that there aren't may be left out
+module _ (readers : ℕ → List ℕ) (base places within steady count ticks first : ℕ) (old_marks marks : List ℕ) (old now : ℕ → ℕ → Level)
+    (below : (place : ℕ) → place < 64 → is_set_at within place ≡ true → (is_set_at places place ≡ true) × (base + place < count))
+    (all : (place : ℕ) → place < 64 → is_set_at within place ≡ false → base + place < count → is_set_at places place ≡ false)
+    (outside : (slot p q : ℕ) → count ≤ slot → now slot p ≡ old slot q) (moves : Moves readers base within steady count ticks first old_marks marks old now) where
+  one-within : (slot : ℕ) → IsSetAt base places slot → slot < count → IsSetAt base within slot
+  one-within slot set inside = go (cases_Bool (is_set_at within set.place))
+    where
+      go : (is_set_at within set.place ≡ true) ⊎ (is_set_at within set.place ≡ false) → IsSetAt base within slot
+      go (inl one) = record { place = set.place; small = set.small; set = one; is = set.is }
+      go (inr none) = absurd (false≢true (sym (all set.place set.small none (omega (arith, set.is, inside))) ∙ set.set))
+
+  pub moves-within : Moves readers base places steady count ticks first old_marks marks old now
+  moves-within = record {
+    room = moves.room;
+    kept = moves.kept;
+    others = λ slot place other. moves.others slot place (λ set. other (record { place = set.place; small = set.small; set = (below set.place set.small set.set).0; is = set.is }));
+    moved = λ slot place set small. moved slot place set small (cases_lt slot count);
+    still = moves.still;
+    news = λ slot set inside. moves.news slot (one-within slot set inside) inside;
+  }
+    where
+      moved : (slot place : ℕ) → IsSetAt base places slot → place < 64 → (slot < count) ⊎ (count ≤ slot) → now slot place ≡ old slot (min (place + ticks) 63)
+      moved slot place set small (inl l) = moves.moved slot place (one-within slot set l) small
+      moved slot place set small (inr l) = outside slot place (min (place + ticks) 63) l
 
 -- one more place of a mask, of which something is so
 pub place-more : (So : Type 0) (mask place i : ℕ) → place < 64 → So → is_set_at (bit_or mask (1 * 2 ^ place % 2 ^ 64)) i ≡ true → (is_set_at mask i ≡ true) ⊎ ((i ≡ place) × So)

@@ -1,7 +1,11 @@
 -- The set places of a mask, one after another.
-use Rattle.std.proofs.Common.{◌≡◌, ℕ, zero, suc, ◌+◌, ◌-◌, ◌<◌, ◌≤◌, ◌⊎◌, inl, inr, true, false, List, [], ◌∷◌, length, drop, get_or, sym, ap, subst, ◌∙◌, arith}
-use Rattle.std.proofs.lemmas.Bool.{cases_Bool, cases_lt}
+use Rattle.std.proofs.Common.{◌≡◌, ℕ, zero, suc, ◌+◌, ◌-◌, ◌*◌, ◌%◌, ◌^◌, ◌==◌, min, w64, ◌<◌, ◌≤◌, ◌⊎◌, inl, inr, true, false, List, [], ◌∷◌, length, drop, get_or, sym, ap, subst, ◌∙◌, arith}
+use Rattle.std.proofs.lemmas.Bool.{cases_Bool, cases_lt, eq-eqb, eqb-true}
+use Rattle.std.proofs.lemmas.Nat.Bits.{bit_at-lt, bit_at_and, bit_at_not}
+use Rattle.std.specs.Prelude.{bit_and, if◌then◌else◌}
+use Rattle.std.specs.Int.{bit_at}
 use Rattle.cmb_words.specs.Bits.{is_set_at, places_in, places_set}
+use Rattle.cmb_words.proofs.BitFacts.{mask_below, mask_from}
 
 -- the next set place from one on, and those behind it
 pub record IsNextPlace (mask from upto place : ℕ) (rest : List ℕ) : Type 0 where
@@ -78,3 +82,40 @@ module _ (mask upto : ℕ) (left : List ℕ) (h : AreLeft mask upto left) where
 
   pub left-none : left ≡ [] → (q : ℕ) → upto ≤ q → q < 64 → is_set_at mask q ≡ false
   left-none is q late below = no-place mask upto (64 - upto) (sym h.is ∙ is) q late (omega (arith, below))
+
+-- there are no more set places than places
+places-few : (mask from count : ℕ) → length (places_in mask from count) ≤ count
+unfolding places_in
+places-few mask from zero = omega arith
+places-few mask from (suc count) = go (places-few mask (suc from) count) (cases_Bool (is_set_at mask from))
+  where
+    go : length (places_in mask (suc from) count) ≤ count → (is_set_at mask from ≡ true) ⊎ (is_set_at mask from ≡ false)
+        → length (if is_set_at mask from then from ∷ places_in mask (suc from) count else places_in mask (suc from) count) ≤ suc count
+    go few (inl one) = rw one (omega (arith, few))
+    go few (inr none) = rw none (omega (arith, few))
+
+pub left-few : (mask : ℕ) (left : List ℕ) → left ≡ places_set mask → length left ≤ 64
+unfolding places_set
+left-few mask left is = let few = places-few mask 0 64 in omega (arith, few, ap length is)
+
+-- ---- the set places of a mask below one
+
+abbrev cut_at : ℕ → ℕ → ℕ
+cut_at mask room = bit_and mask (2 ^ 64 - 1 - (2 ^ 64 - 1) * 2 ^ room % 2 ^ 64)
+
+cut-bit : (mask room place : ℕ) → place < 64 → bit_at (cut_at mask room) place ≡ min (bit_at mask place) (1 - bit_at ((2 ^ 64 - 1) * 2 ^ room % 2 ^ 64) place)
+cut-bit mask room place small =
+    bit_at_and mask (2 ^ 64 - 1 - (2 ^ 64 - 1) * 2 ^ room % 2 ^ 64) place ∙ ap (min (bit_at mask place)) (bit_at_not w64 ((2 ^ 64 - 1) * 2 ^ room % 2 ^ 64) place (omega arith) small)
+
+pub cut-set : (mask room place : ℕ) → room < 64 → place < 64 → is_set_at (cut_at mask room) place ≡ true → (is_set_at mask place ≡ true) × (place < room)
+unfolding is_set_at
+cut-set mask room place fits small set = go (cases_lt place room)
+  where
+    go : (place < room) ⊎ (room ≤ place) → ((bit_at mask place == 1) ≡ true) × (place < room)
+    go (inl l) = (eq-eqb _ _ (omega (arith, eqb-true _ _ set, cut-bit mask room place small, bit_at-lt mask place)), l)
+    go (inr l) = absurd (omega (arith, eqb-true _ _ set, cut-bit mask room place small, mask_from room place l small))
+
+pub cut-unset : (mask room place : ℕ) → room < 64 → place < room → is_set_at (cut_at mask room) place ≡ false → is_set_at mask place ≡ false
+unfolding is_set_at
+cut-unset mask room place fits below unset =
+    ap (λ (b : ℕ). b == 1) (let e : bit_at mask place ≡ bit_at (cut_at mask room) place = omega (arith, cut-bit mask room place (omega (arith, fits, below)), mask_below room place below (omega (arith, fits)), bit_at-lt mask place) in e) ∙ unset

@@ -1,15 +1,16 @@
 //! The flip-flops among cells, in groups, and which of them get a sample in a window.
 
-ghost use Rattle.std.specs.Prelude.{◌≡◌, ℕ, ◌+◌, ◌-◌, ◌*◌, ◌^◌, ◌<◌, ◌≤◌, List, false, true, All, Contains, IfOk, OnOk};
-ghost use Rattle.std.specs.Prelude.{length, slice_index_or};
+ghost use Rattle.std.specs.Prelude.{◌≡◌, ℕ, ◌+◌, ◌-◌, ◌*◌, ◌^◌, ◌<◌, ◌≤◌, ◌||◌, ◌==◌, List, false, true, All, Contains};
+ghost use Rattle.std.specs.Prelude.{IfOk, OnOk, length, slice_index_or};
 ghost use Rattle.cmb_design_model.specs.declared.rows.Clock.{Clock};
+ghost use Rattle.cmb_words.specs.Bits.{is_set_at};
 ghost use Rattle.cmb_engine.specs.Inner.Bits.{has};
 ghost use Rattle.cmb_engine.specs.Inner.Cells.{Cell, Flop, IsPace, IsSteady, cell_at};
 ghost use Rattle.cmb_engine.specs.Inner.Circuits.{AreFlops, AreMembers, IsGroup, IsGroupWithin, IsInGroup};
 ghost use Rattle.cmb_engine.specs.Inner.Circuits.{IsMarkedOrRests};
 ghost use Rattle.cmb_engine.specs.Inner.Known.{known_levels};
 ghost use Rattle.cmb_engine.specs.Rows.{arrives_by};
-ghost use Rattle.cmb_engine.specs.Inner.Orders.{is_marked, IsOrder};
+ghost use Rattle.cmb_engine.specs.Inner.Orders.{is_marked, rank_in, IsOrder};
 ghost use Rattle.cmb_engine.specs.Inner.Windows.{HasWindow};
 ghost use Rattle.cmb_engine.specs.Inner.Words.{levels_of};
 
@@ -17,7 +18,7 @@ use crate::arrivals::first_arrival;
 use crate::cell::Pin;
 use crate::cells::Cells;
 use crate::group::{Group, Member};
-use crate::known::known;
+use crate::known::{known, places_from};
 use crate::marks::Marks;
 use crate::order::Order;
 use crate::words::Words;
@@ -132,22 +133,36 @@ fn mark_any(group: &Group, order: &Order, words: &Words, marks: &mut Marks, firs
     }
 }
 
-// Whether a flip-flop may get another level, where no level is x.
+// Whether a flip-flop may get another level, where no level is x. The places at which its data count are given.
 #[inline]
-fn may_change_known(ones: &[u64], slot: usize, pin: Pin, first: u32) -> bool
+fn may_change_known(ones: &[u64], slot: usize, pin: Pin, first: u32, late: u64) -> bool
     requires slot { slot < length ones.now }
     requires net { pin.net < length ones.now }
     requires delay { pin.delay ≤ first }
     requires begun { 1 ≤ first }
     requires first { first < 64 }
+    requires late { (i : ℕ) → first ≤ i + pin.delay → i < 64 → is_set_at late i ≡ true }
     ensures { result ≡ false → (clock : Clock) (to : ℕ)
         → IsSteady (known_levels ones.now) to first slot (Flop clock pin) }
 {
-    let own = known(ones[slot]).everywhere(first - 1);
-    known(ones[pin.net as usize]).differs_from(own, first - pin.delay)
+    let own = known(ones[slot]).delayed(64 - first).everywhere(63).ones;
+    (ones[pin.net as usize] ^ own) & late != 0
+}
+
+// Marks a flip-flop. Few are marked: this stands out of line, so that what goes over flip-flops keeps its values in
+// registers.
+#[cold]
+#[inline(never)]
+fn mark_flop(marks: &mut Marks, order: &Order, slot: usize)
+    requires { rank_in order.now slot < 64 * length marks.old }
+    ensures len { length marks.new ≡ length marks.old }
+    ensures has { (m : ℕ) → has marks.new m ≡ (m == rank_in order.now slot || has marks.old m) }
+{
+    marks.insert(order.rank(slot) as usize);
 }
 
 // Marks those flip-flops of a group that may get another level, where no level is x.
+#[inline(never)]
 fn mark_known(group: &Group, order: &Order, ones: &[u64], marks: &mut Marks, first: u32)
     requires group { IsGroupWithin (length ones.now) first group.now }
     requires ranked { length order.now.ranks ≡ length ones.now }
@@ -162,11 +177,14 @@ fn mark_known(group: &Group, order: &Order, ones: &[u64], marks: &mut Marks, fir
         group.now.flops.items }
 {
     let delay = group.delay;
-    for k in 0..group.flops.len() {
-        let slot = group.flops[k] as usize;
-        let net = group.sources[k];
-        if may_change_known(ones, slot, Pin { net, delay }, first) {
-            marks.insert(order.rank(slot) as usize);
+    let late = places_from(first - delay);
+    let flops = group.flops.as_slice();
+    let sources = group.sources.as_slice();
+    for k in 0..flops.len() {
+        let slot = flops[k] as usize;
+        let net = sources[k];
+        if may_change_known(ones, slot, Pin { net, delay }, first, late) {
+            mark_flop(marks, order, slot);
         }
     }
 }

@@ -1,9 +1,9 @@
 //! What the cell of a net makes of the words of others where no level is x: of a word, the places that are 1 say all.
 
-ghost use Rattle.std.specs.Prelude.{◌≡◌, ℕ, ◌+◌, ◌-◌, ◌<◌, ◌≤◌, false, List, [], ◌∷◌, All, length, map, slice_index};
-ghost use Rattle.std.specs.Prelude.{if◌then◌else◌};
+ghost use Rattle.std.specs.Prelude.{◌≡◌, ℕ, ◌+◌, ◌-◌, ◌<◌, ◌≤◌, List, [], ◌∷◌, All, length, map, slice_index};
+ghost use Rattle.std.specs.Prelude.{false, true, if◌then◌else◌};
 ghost use Rattle.cmb_design_model.specs.Gate.{gate};
-ghost use Rattle.cmb_words.specs.Bits.{level_in};
+ghost use Rattle.cmb_words.specs.Bits.{is_set_at, level_in};
 ghost use Rattle.cmb_words.specs.Word.{level_at_place};
 ghost use Rattle.cmb_engine.specs.Inner.Arrivals.{IsArrival};
 ghost use Rattle.cmb_engine.specs.Inner.Batches.{Makes};
@@ -40,13 +40,15 @@ pub(crate) fn spliced_ones(below: u64, above: u64, place: u32) -> u64
     spliced(known(below), known(above), place).ones
 }
 
-// Whether some place from one on has another level than in the other word.
-#[inline]
-fn ones_differ(own: u64, other: u64, place: u32) -> bool
+/// The places from one on. This stands out of line, so that loops test by the mask: where a compiler sees how it is
+/// made, it makes a shift of each such test.
+#[inline(never)]
+pub(crate) fn places_from(place: u32) -> u64
     requires { place < 64 }
-    ensures { result ≡ false → (i : ℕ) → place ≤ i → i < 64 → level_in own 0 i ≡ level_in other 0 i }
+    ensures below { (i : ℕ) → i < place → is_set_at result i ≡ false }
+    ensures from { (i : ℕ) → place ≤ i → i < 64 → is_set_at result i ≡ true }
 {
-    known(own).differs_from(known(other), place)
+    u64::MAX << place
 }
 
 // What a pin sees.
@@ -165,7 +167,7 @@ pub(crate) fn make_known(
         if let Some(slot) = nodes.slot(rank) {
             let own = ones[slot];
             let made = nodes.known_word(rank, own, ones, last, to, first);
-            news = with_place(news, place, ones_differ(made, own, first));
+            news = with_place(news, place, made != own);
             ones[slot] = made;
         }
     }

@@ -68,7 +68,7 @@ pub(crate) fn with_place(mask: u64, place: u32, is_wanted: bool) -> u64
     ensures here { is_set_at result place ≡ (is_wanted || is_set_at mask place) }
     ensures others { (i : ℕ) → i ≢ place → is_set_at result i ≡ is_set_at mask i }
 {
-    if is_wanted { mask | (1 << place) } else { mask }
+    mask | (u64::from(is_wanted) << place)
 }
 
 // Makes the words of a batch of slots from a place on, and says at which places there is another word than before.

@@ -1,4 +1,5 @@
-use Rattle.std.proofs.Common.{List, ◌≡◌, ◌<◌, ℕ, length, get_or, set, ap, refl, sym, subst, ◌∙◌, arith}
+use Rattle.std.proofs.Common.{List, not, ◌==◌, ◌≡◌, ◌<◌, ℕ, length, get_or, set, ap, refl, sym, subst, ◌∙◌, arith}
+use Rattle.std.proofs.lemmas.Bool.{eqb-true, not-false}
 use Rattle.std.proofs.lemmas.List.{length-set}
 use Rattle.std.proofs.lemmas.List.Elements.{All-rest}
 use Rattle.cmb_words.specs.Bits.{level_in, places_set}
@@ -32,6 +33,7 @@ pub loop-place-preserved-in-Some-slot : goal.loop-place-preserved-in-Some-slot
 loop-place-preserved-in-Some-slot c =
     let slot : ℕ = c.in-Some-slot.slot in
     let made : ℕ = c.known_word-made.result in
+    let own : ℕ = get_or c.loop-place.ones c.in-Some-slot.slot 0 in
     let now : List ℕ = c.loop-place.ones in
     let small = next-of (λ (place : ℕ). place < 64) c.loop-place.place-iterator c.in-Some.place c.next.new.self c.in-Some.ensures.steps c.loop-place.invariant.small in
     let inside : slot < length now = subst (λ (n : ℕ). n < length now) (sym c.in-Some-slot.ensures.1) (omega (arith, c.requires.within _ c.in-Some-slot.ensures.0, c.loop-place.invariant.len)) in
@@ -45,7 +47,7 @@ loop-place-preserved-in-Some-slot c =
           (known_levels (set now slot made)) slot c.in-Some-slot.ensures.0 c.in-Some-slot.ensures.1 small c.requires.window.0
           (level_in made 0) (λ q. known-same now slot made q inside) (λ m q other. known-other now slot m made q other)
           (λ q l. c.known_word-made.ensures.below q l ∙ read q) (λ told q. c.known_word-made.ensures.told told q ∙ read q) c.known_word-made.ensures.made
-          c.ones_differ.result (λ equal q from l. c.ones_differ.ensures equal q from l ∙ read q)
+          (not (made == own)) (λ equal q from l. ap (λ (n : ℕ). level_in n 0 q) (eqb-true made own (not-false _ equal)) ∙ read q)
           c.with_place-news.ensures.here c.with_place-news.ensures.others (c.loop-place.invariant.making cells order slots nodes);
     }
 

@@ -1,7 +1,5 @@
-use Rattle.std.proofs.Common.{◌+◌, min, ◌∙◌}
-use Rattle.cmb_engine.proofs.KnownFacts.{by-ones}
+use Rattle.cmb_engine.proofs.KnownFacts.{shifted-level}
 use Rattle.cmb_engine.proofs.known_passes.advanced_ones.Goals as goal
 
 pub returns : goal.returns
-returns c = λ i small.
-    by-ones c.advanced.result i c.args.ones (min (i + c.args.ticks) 63) small (c.advanced.ensures i small ∙ c.known.ensures (min (i + c.args.ticks) 63))
+returns c = λ i small. shifted-level c.args.ones c.args.ticks i c.cast_unsigned.result c.cast_signed.result c.ranges.ones.fits small c.cast_signed.ensures c.cast_unsigned.ensures

@@ -1,36 +1,66 @@
-use Rattle.std.proofs.Common.{◌≡◌, ◌+◌, inl, inr, refl, sym, ◌∙◌, arith}
-use Rattle.std.proofs.lemmas.Bool.{false≢true}
+use Rattle.std.proofs.Common.{◌≡◌, ◌+◌, ◌-◌, ◌<◌, inr, length, sym, ap, ◌∙◌, arith}
 use Rattle.cmb_words.specs.Bits.{places_set}
 use Rattle.cmb_engine.specs.Inner.Known.{known_levels}
-use Rattle.cmb_engine.proofs.CollectFacts.{collected-next, collecting-all, collecting-next, collecting-none, collecting-past}
+use Rattle.cmb_engine.proofs.CollectFacts.{collected-next, collected-steady, collecting-all, collecting-next, collecting-none, collecting-set, collecting-small}
 use Rattle.cmb_engine.proofs.KnownFacts.{known-read}
+use Rattle.cmb_engine.proofs.PlaceFacts.{left-few}
 use Rattle.cmb_engine.proofs.known_passes.collect_known.Goals as goal
 
 pub loop-place-init : goal.loop-place-init
 loop-place-init c =
-    let is : c.into_iter-place-iterator.result ≡ places_set c.args.batch.places = cc in
-    collecting-none (known_levels c.args.ones.now) c.args.first c.args.batch.base c.args.batch.places c.args.nets c.requires.quiet c.into_iter-place-iterator.result c.args.changed.now.items c.requires.base is c.requires.collected
+    let is : c.into_iter-place-iterator.result ≡ places_set c.places_below-places.result = cc in
+    let few = left-few c.places_below-places.result c.into_iter-place-iterator.result is in
+    record {
+      collecting = rw c.reserve.ensures.items (collecting-none (known_levels c.args.ones.now) c.args.first c.args.batch.base c.places_below-places.result c.args.nets (λ place small unset below. c.requires.quiet place small (c.places_below-places.ensures.all place small unset below) below) c.into_iter-place-iterator.result c.args.changed.now.items c.requires.base is c.requires.collected);
+      room = omega (arith, few, c.in_ok-reserve.ensures.ok);
+    }
 
-pub loop-place-preserved-in-Continue-1 : goal.loop-place-preserved-in-Continue-1
-loop-place-preserved-in-Continue-1 c =
-    collecting-next (known_levels c.args.ones.now) c.args.first c.args.batch.base c.args.batch.places c.args.nets c.requires.quiet
-    c.loop-place.place-iterator c.loop-place.changed.items c.loop-place.invariant c.in-Some.place c.next.new.self c.in-Some.ensures.steps c.push.new.self.items c.if-net-nets.true
-    (collected-next (known_levels c.args.ones.now) c.args.first (c.args.batch.base + c.in-Some.place) c.known-word.result c.loop-place.changed.items c.push.new.self.items
-    (λ place. known-read c.args.ones.now (c.args.batch.base + c.in-Some.place) place (omega (arith, c.requires.nets, c.if-net-nets.true)) ∙ sym (c.known-word.ensures place))
-    (inr (c.in_ok-push.ensures.items, λ steady. false≢true (sym c.if-not-is_steady_from.true ∙ c.is_steady_from.ensures.changes steady))))
+pub bounds-ones-net : goal.bounds-ones-net
+bounds-ones-net c =
+    let small : c.in-Some.place < 64 = collecting-small (known_levels c.args.ones.now) c.args.first c.args.batch.base c.places_below-places.result c.args.nets (λ place small unset below. c.requires.quiet place small (c.places_below-places.ensures.all place small unset below) below) c.loop-place.place-iterator c.loop-place.changed.items c.loop-place.invariant.collecting c.in-Some.place c.next.new.self c.in-Some.ensures.steps in
+    let set = collecting-set (known_levels c.args.ones.now) c.args.first c.args.batch.base c.places_below-places.result c.args.nets (λ place small unset below. c.requires.quiet place small (c.places_below-places.ensures.all place small unset below) below) c.loop-place.place-iterator c.loop-place.changed.items c.loop-place.invariant.collecting c.in-Some.place c.next.new.self c.in-Some.ensures.steps in
+    let below = (c.places_below-places.ensures.below c.in-Some.place small set).1 in
+    omega (arith, below, c.requires.nets)
 
-pub loop-place-preserved-else-not-is_steady_from : goal.loop-place-preserved-else-not-is_steady_from
-loop-place-preserved-else-not-is_steady_from c =
-    collecting-next (known_levels c.args.ones.now) c.args.first c.args.batch.base c.args.batch.places c.args.nets c.requires.quiet
-    c.loop-place.place-iterator c.loop-place.changed.items c.loop-place.invariant c.in-Some.place c.next.new.self c.in-Some.ensures.steps c.loop-place.changed.items c.if-net-nets.true
-    (collected-next (known_levels c.args.ones.now) c.args.first (c.args.batch.base + c.in-Some.place) c.known-word.result c.loop-place.changed.items c.loop-place.changed.items
-    (λ place. known-read c.args.ones.now (c.args.batch.base + c.in-Some.place) place (omega (arith, c.requires.nets, c.if-net-nets.true)) ∙ sym (c.known-word.ensures place))
-    (inl (refl, c.is_steady_from.ensures.steady c.if-not-is_steady_from.false)))
+pub overflow_cast-net-then-not-are_steady_at : goal.overflow_cast-net-then-not-are_steady_at
+overflow_cast-net-then-not-are_steady_at c =
+    let small : c.in-Some.place < 64 = collecting-small (known_levels c.args.ones.now) c.args.first c.args.batch.base c.places_below-places.result c.args.nets (λ place small unset below. c.requires.quiet place small (c.places_below-places.ensures.all place small unset below) below) c.loop-place.place-iterator c.loop-place.changed.items c.loop-place.invariant.collecting c.in-Some.place c.next.new.self c.in-Some.ensures.steps in
+    let set = collecting-set (known_levels c.args.ones.now) c.args.first c.args.batch.base c.places_below-places.result c.args.nets (λ place small unset below. c.requires.quiet place small (c.places_below-places.ensures.all place small unset below) below) c.loop-place.place-iterator c.loop-place.changed.items c.loop-place.invariant.collecting c.in-Some.place c.next.new.self c.in-Some.ensures.steps in
+    let below = (c.places_below-places.ensures.below c.in-Some.place small set).1 in
+    record { fits = omega (arith, below, c.requires.few) }
+
+pub loop-place-preserved-then-not-are_steady_at : goal.loop-place-preserved-then-not-are_steady_at
+loop-place-preserved-then-not-are_steady_at c =
+    let small : c.in-Some.place < 64 = collecting-small (known_levels c.args.ones.now) c.args.first c.args.batch.base c.places_below-places.result c.args.nets (λ place small unset below. c.requires.quiet place small (c.places_below-places.ensures.all place small unset below) below) c.loop-place.place-iterator c.loop-place.changed.items c.loop-place.invariant.collecting c.in-Some.place c.next.new.self c.in-Some.ensures.steps in
+    let set = collecting-set (known_levels c.args.ones.now) c.args.first c.args.batch.base c.places_below-places.result c.args.nets (λ place small unset below. c.requires.quiet place small (c.places_below-places.ensures.all place small unset below) below) c.loop-place.place-iterator c.loop-place.changed.items c.loop-place.invariant.collecting c.in-Some.place c.next.new.self c.in-Some.ensures.steps in
+    let below = (c.places_below-places.ensures.below c.in-Some.place small set).1 in
+    let fewer : length c.loop-place.place-iterator ≡ length c.next.new.self + 1 = ap length c.in-Some.ensures.steps ∙ omega arith in
+    record {
+      collecting = collecting-next (known_levels c.args.ones.now) c.args.first c.args.batch.base c.places_below-places.result c.args.nets (λ place small unset below. c.requires.quiet place small (c.places_below-places.ensures.all place small unset below) below) c.loop-place.place-iterator c.loop-place.changed.items c.loop-place.invariant.collecting c.in-Some.place c.next.new.self c.in-Some.ensures.steps c.push_reserved.new.self.items below
+          (collected-next (known_levels c.args.ones.now) c.args.first (c.args.batch.base + c.in-Some.place) c.known.result c.loop-place.changed.items c.push_reserved.new.self.items
+          (λ place. known-read c.args.ones.now (c.args.batch.base + c.in-Some.place) place (omega (arith, c.requires.nets, below)) ∙ sym (c.known.ensures place))
+          (inr (
+            c.push_reserved.ensures.items,
+            λ steady. c.are_steady_at.ensures.moves c.if-not-are_steady_at.true c.args.first c.requires.begun c.requires.first c.places_from-late.ensures.below
+                (λ place from l. sym (c.known.ensures place) ∙ steady place from l ∙ c.known.ensures (c.args.first - 1)),
+          )));
+      room = omega (arith, fewer, c.loop-place.invariant.room, c.push_reserved.ensures.len, c.push_reserved.ensures.capacity);
+    }
 
 pub loop-place-preserved : goal.loop-place-preserved
 loop-place-preserved c =
-    collecting-past (known_levels c.args.ones.now) c.args.first c.args.batch.base c.args.batch.places c.args.nets c.requires.quiet
-    c.loop-place.place-iterator c.loop-place.changed.items c.loop-place.invariant c.in-Some.place c.next.new.self c.in-Some.ensures.steps c.if-net-nets.false
+    let small : c.in-Some.place < 64 = collecting-small (known_levels c.args.ones.now) c.args.first c.args.batch.base c.places_below-places.result c.args.nets (λ place small unset below. c.requires.quiet place small (c.places_below-places.ensures.all place small unset below) below) c.loop-place.place-iterator c.loop-place.changed.items c.loop-place.invariant.collecting c.in-Some.place c.next.new.self c.in-Some.ensures.steps in
+    let set = collecting-set (known_levels c.args.ones.now) c.args.first c.args.batch.base c.places_below-places.result c.args.nets (λ place small unset below. c.requires.quiet place small (c.places_below-places.ensures.all place small unset below) below) c.loop-place.place-iterator c.loop-place.changed.items c.loop-place.invariant.collecting c.in-Some.place c.next.new.self c.in-Some.ensures.steps in
+    let below = (c.places_below-places.ensures.below c.in-Some.place small set).1 in
+    let inside : c.args.batch.base + c.in-Some.place < length c.args.ones.now = omega (arith, c.requires.nets, below) in
+    let fewer : length c.loop-place.place-iterator ≡ length c.next.new.self + 1 = ap length c.in-Some.ensures.steps ∙ omega arith in
+    let still = c.are_steady_at.ensures.steady c.if-not-are_steady_at.false c.args.first c.requires.begun c.places_from-late.ensures.from in
+    record {
+      collecting = collecting-next (known_levels c.args.ones.now) c.args.first c.args.batch.base c.places_below-places.result c.args.nets (λ place small unset below. c.requires.quiet place small (c.places_below-places.ensures.all place small unset below) below) c.loop-place.place-iterator c.loop-place.changed.items c.loop-place.invariant.collecting c.in-Some.place c.next.new.self c.in-Some.ensures.steps c.loop-place.changed.items below
+          (collected-steady (known_levels c.args.ones.now) c.args.first c.loop-place.changed.items (c.args.batch.base + c.in-Some.place)
+          (λ place from l. known-read c.args.ones.now (c.args.batch.base + c.in-Some.place) place inside ∙ still place from l ∙ sym (known-read c.args.ones.now (c.args.batch.base + c.in-Some.place) (c.args.first - 1) inside)));
+      room = omega (arith, fewer, c.loop-place.invariant.room);
+    }
 
 pub returns : goal.returns
-returns c = collecting-all (known_levels c.args.ones.now) c.args.first c.args.batch.base c.args.batch.places c.args.nets c.requires.quiet c.loop-place.place-iterator c.loop-place.changed.items c.loop-place.invariant c.in-None.ensures.steps.0
+returns c = collecting-all (known_levels c.args.ones.now) c.args.first c.args.batch.base c.places_below-places.result c.args.nets (λ place small unset below. c.requires.quiet place small (c.places_below-places.ensures.all place small unset below) below) c.loop-place.place-iterator c.loop-place.changed.items c.loop-place.invariant.collecting c.in-None.ensures.steps.0

@@ -10,5 +10,5 @@ invariant-loop-place l = record {
   len : length l.ones ≡ length l.initial.ones;
   room : length l.marks ≡ length l.initial.marks;
   kept : (m : ℕ) → has l.initial.marks m ≡ true → has l.marks m ≡ true;
-  moving : IsMovingOn (readers_at l.fanout.order l.fanout.gates) l.batch.base l.batch.places l.steady (length l.initial.ones) l.ticks l.first l.place-iterator l.marks (known_levels l.initial.ones) (known_levels l.ones);
+  moving : IsMovingOn (readers_at l.fanout.order l.fanout.gates) l.batch.base l.places l.steady (length l.initial.ones) l.ticks l.first l.place-iterator l.marks (known_levels l.initial.ones) (known_levels l.ones);
 }
