@@ -41,8 +41,8 @@ impl Iterator for Places {
 
     #[inline]
     fn next(&mut self) -> Option<u32> {
-        let place = lowest(self.left);
+        let place = lowest(self.left)?;
         self.left = without_lowest(self.left);
-        place
+        Some(place)
     }
 }
