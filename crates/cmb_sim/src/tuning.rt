@@ -38,6 +38,10 @@ const MOST_SEEN: u32 = 25;
 // And in no less than the first of so many.
 const LEAST_SEEN: u32 = 50;
 
+// So many threads of a run by shares can have one processor. Shares wait for one another in each window, so a share that
+// waits for a processor holds up all.
+const PER_PROCESSOR: usize = 1;
+
 /// The flip-flops of a design, and about how many samples they take in its run.
 #[derive(Clone, Copy)]
 struct Sampling {
@@ -120,6 +124,17 @@ fn measured<R: Threads + Sync>(
     Ok((structure?, costs?))
 }
 
+// So many of some threads as can be at work at once, where the system tells how many processors there are.
+fn at_once<R: Threads>(rt: &R, threads: u32) -> u32 {
+    match thread::available_parallelism(rt) {
+        Ok(processors) => {
+            let most = processors.get().saturating_mul(PER_PROCESSOR);
+            most.min(threads as usize) as u32
+        }
+        Err(_) => threads,
+    }
+}
+
 /// The shares of a design's nets, where a thread for each pays beside the one that makes the text. Errors: memory was
 /// refused.
 pub(crate) fn partition_that_pays<R: Threads + Sync>(
@@ -132,6 +147,10 @@ pub(crate) fn partition_that_pays<R: Threads + Sync>(
 {
     let sampling = sampling_of(design);
     if threads < LEAST_THREADS || !is_long(design, &sampling) {
+        return Ok(None);
+    }
+    let threads = at_once(rt, threads);
+    if threads < LEAST_THREADS {
         return Ok(None);
     }
     let upto = seen_upto(design.horizon(), &sampling);
