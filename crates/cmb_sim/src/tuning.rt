@@ -38,8 +38,8 @@ const MOST_SEEN: u32 = 25;
 // And in no less than the first of so many.
 const LEAST_SEEN: u32 = 50;
 
-// So many threads of a run by shares can have one processor. Shares wait for one another in each window, so a share that
-// waits for a processor holds up all.
+// A run by shares has so many threads for each processor at most. Shares wait for one another in each window, so one
+// that waits for a processor holds up all.
 const PER_PROCESSOR: usize = 1;
 
 /// The flip-flops of a design, and about how many samples they take in its run.
