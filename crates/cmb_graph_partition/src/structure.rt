@@ -43,7 +43,8 @@ impl Model for Structure {
 
     ghost view = { λ structure. length structure.of_nets.items };
 
-    ghost invariant = { λ s. IsStructure s.of_nets.items s.imports.items s.needed.items.items s.children.items.items s.of_sinks.items s.sinks.items };
+    ghost invariant = { λ s. IsStructure s.of_nets.items s.imports.items s.needed.items.items
+        s.children.items.items s.of_sinks.items s.sinks.items };
 }
 
 // Whether all numbers are below that.
