@@ -1,8 +1,8 @@
 #!/usr/bin/env python3
 """circuits.py: the circuits that are measured, made from nothing but their sizes and a seed.
 
-  circuits.py list
-  circuits.py write NAME FOLDER [--quick]
+  circuits.py list [--short]
+  circuits.py write NAME FOLDER [--quick | --short]
 
 A folder gets netlist.bench, delays.csv, stimuli.csv, clocks.csv (each table only where it has rows),
 options (the words for the horizon, the clock and the level before the first sample), nets (how many
@@ -239,8 +239,9 @@ def pipelines(bits, stages, cycles, banks, seed=1):
     return c
 
 
-def adder(bits, count, seed=1):
-    """A ripple-carry adder with delays; the first pair makes the carry run through all bits."""
+def adder(bits, count, carries=1, apart=500, seed=1):
+    """A ripple-carry adder with delays. The first pair makes a carry run through all bits; if there are more carries, they
+    follow it before the next pair comes."""
     c, r = Circuit(), random.Random(f"adder {seed}")
     a = [c.input(f"a{i}") for i in range(bits)]
     b = [c.input(f"b{i}") for i in range(bits)]
@@ -252,17 +253,21 @@ def adder(bits, count, seed=1):
     c.kind_delays = dict(SLOW)
     gap, last = 4 * (2 * bits + 4), {}
     c.drive(0, bus, (1 << bits) - 1 | 1 << 2 * bits, last)
+    for k in range(1, carries):
+        c.drive(k * apart, bus[-1:], (k + 1) % 2, last)
+    begin = (carries - 1) * apart
     for k in range(1, count):
-        c.drive(k * gap, bus, r.getrandbits(2 * bits + 1), last)
-    c.horizon = count * gap
+        c.drive(begin + k * gap, bus, r.getrandbits(2 * bits + 1), last)
+    c.horizon = begin + count * gap
     return c
 
 
-def ring(horizon, idle):
-    """A ring of one gate that changes at each tick, beside a tree of gates that stand still after some ticks."""
+def rings(count, horizon, idle):
+    """Rings of one gate that change at each tick, beside a tree of gates that stand still after some ticks."""
     c = Circuit(horizon)
     enable = c.input("e")
-    c.gate("NAND", enable, "y", name="y")
+    for k in range(count):
+        c.gate("NAND", enable, f"y{k}", name=f"y{k}")
     c.stimuli = [(0, enable, 0), (1, enable, 1)]
     nodes = [enable]
     for k in range(idle):
@@ -403,20 +408,46 @@ def processors(cores, cycles, period=50):
     return c
 
 
-# Each with its measured and its quick size.
+def reading(name, quick=False):
+    """The files of a circuit with a horizon of one tick: it takes little but to read them."""
+    c = make(name, quick)
+    c.horizon = 1
+    return c
+
+
+# Each with its measured and its quick size. The C simulator takes half a second or more for a measured one, which is
+# mostly simulation; the last ones are for reading.
 ALL = {
-    "multiplier 64": (lambda: multiplier(64, 6, UNIT), lambda: multiplier(16, 6, UNIT)),
-    "multiplier 104": (lambda: multiplier(104, 4, UNIT), lambda: multiplier(24, 4, UNIT)),
-    "multiplier 64, delays": (lambda: multiplier(64, 4, SLOW), lambda: multiplier(16, 4, SLOW)),
-    "600 LFSRs of 16": (lambda: lfsrs(16, 600, 600), lambda: lfsrs(16, 60, 60)),
-    "1900 LFSRs of 32": (lambda: lfsrs(32, 120, 1900), lambda: lfsrs(32, 12, 190)),
-    "random, s38417": (lambda: random_sequential(22179, 1636, 28, 300), lambda: random_sequential(2217, 163, 28, 30)),
-    "clocked, local": (lambda: local(30_000, 300), lambda: local(3_000, 30)),
-    "4 processors": (lambda: processors(4, 4_000), lambda: processors(1, 100)),
-    "40 pipelines": (lambda: pipelines(16, 8, 60, 40), lambda: pipelines(16, 8, 10, 4)),
-    "adder 4000": (lambda: adder(4000, 4), lambda: adder(200, 4)),
-    "ring": (lambda: ring(1_000_000, 0), lambda: ring(2_000, 0)),
-    "ring, 20000 idle": (lambda: ring(1_000_000, 20_000), lambda: ring(1_000, 2_000)),
+    "multiplier 64": (lambda: multiplier(64, 40, UNIT), lambda: multiplier(16, 6, UNIT)),
+    "multiplier 104": (lambda: multiplier(104, 10, UNIT), lambda: multiplier(24, 4, UNIT)),
+    "multiplier 64, delays": (lambda: multiplier(64, 25, SLOW), lambda: multiplier(16, 4, SLOW)),
+    "600 LFSRs of 16": (lambda: lfsrs(16, 10_000, 600), lambda: lfsrs(16, 60, 60)),
+    "1900 LFSRs of 32": (lambda: lfsrs(32, 1_200, 1900), lambda: lfsrs(32, 12, 190)),
+    "random, s38417": (lambda: random_sequential(22179, 1636, 28, 3_000), lambda: random_sequential(2217, 163, 28, 30)),
+    "clocked, local": (lambda: local(30_000, 3_000), lambda: local(3_000, 30)),
+    "1 processor": (lambda: processors(1, 5_000), lambda: processors(1, 100)),
+    "4 processors": (lambda: processors(4, 4_000), lambda: processors(2, 50)),
+    "40 pipelines": (lambda: pipelines(16, 8, 1_000, 40), lambda: pipelines(16, 8, 10, 4)),
+    "adder 4000": (lambda: adder(4000, 4, 1_600), lambda: adder(200, 4, 20)),
+    "50 rings": (lambda: rings(50, 1_000_000, 0), lambda: rings(4, 2_000, 0)),
+    "50 rings, 20000 idle": (lambda: rings(50, 1_000_000, 20_000), lambda: rings(4, 1_000, 2_000)),
+    "reading multiplier 104": (lambda: reading("multiplier 104"), lambda: reading("multiplier 104", True)),
+    "reading clocked, local": (lambda: reading("clocked, local"), lambda: reading("clocked, local", True)),
+}
+
+# The sizes that older figures have, of which reading is a large part.
+SHORT = {
+    "multiplier 64": lambda: multiplier(64, 6, UNIT),
+    "multiplier 104": lambda: multiplier(104, 4, UNIT),
+    "multiplier 64, delays": lambda: multiplier(64, 4, SLOW),
+    "600 LFSRs of 16": lambda: lfsrs(16, 600, 600),
+    "1900 LFSRs of 32": lambda: lfsrs(32, 120, 1900),
+    "random, s38417": lambda: random_sequential(22179, 1636, 28, 300),
+    "clocked, local": lambda: local(30_000, 300),
+    "40 pipelines": lambda: pipelines(16, 8, 60, 40),
+    "adder 4000": lambda: adder(4000, 4),
+    "ring": lambda: rings(1, 1_000_000, 0),
+    "ring, 20000 idle": lambda: rings(1, 1_000_000, 20_000),
 }
 
 
@@ -436,17 +467,23 @@ def copy(source, folder):
         file.write(f"{nets}\n")
 
 
-def make(name, quick=False):
-    return ALL[name][1 if quick else 0]()
+def names(short=False):
+    """The circuits of a size, and those of one's own."""
+    return [*(SHORT if short else ALL), *given()]
+
+
+def make(name, quick=False, short=False):
+    return SHORT[name]() if short else ALL[name][1 if quick else 0]()
 
 
 def main(words):
-    quick = "--quick" in words
-    words = [word for word in words if word != "--quick"]
+    quick, short = "--quick" in words, "--short" in words
+    words = [word for word in words if word not in ("--quick", "--short")]
+    made = SHORT if short else ALL
     if words == ["list"]:
-        print("\n".join(ALL))
-    elif len(words) == 3 and words[0] == "write" and words[1] in ALL:
-        make(words[1], quick).write(words[2])
+        print("\n".join(made))
+    elif len(words) == 3 and words[0] == "write" and words[1] in made and not (quick and short):
+        make(words[1], quick, short).write(words[2])
     else:
         print(__doc__, file=sys.stderr)
         return 2

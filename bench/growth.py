@@ -18,7 +18,7 @@ import plots
 
 def ring_beside(changes, nets):
     """A ring that makes so many changes, beside so many gates that stand still."""
-    return circuits.ring(changes, nets)
+    return circuits.rings(1, changes, nets)
 
 
 def banks_of(nets, changes, period=4):

@@ -107,18 +107,26 @@ def parser(text, limit, quick):
     words.add_argument("--times", type=int, default=3, help="how often each command is timed")
     words.add_argument("--limit", type=float, help=f"seconds after which a run is ended; {limit:.0f}, or {quick:.0f} with --quick")
     words.add_argument("--no-build", action="store_true")
-    words.add_argument("--record", action="store_true", help="write the table to bench/FIGURES.md too; not of small sizes or single circuits")
+    words.add_argument("--record", action="store_true", help="write the table to bench/FIGURES.md too; only of all circuits in full size")
     words.add_argument("--out", default=os.path.join(TOP, "bench", "out"))
-    words.set_defaults(limits=(limit, quick))
+    words.set_defaults(limits=(limit, quick), short=False, only=None)
     return words
+
+
+def add_choice(words, names):
+    """Adds the words that choose circuits; `names` has those of the full size or of the short one."""
+    words.add_argument("--short", action="store_true", help="the short runs that older figures have")
+    words.add_argument("--only", action="append", choices=names("--short" in sys.argv), help="this circuit; may be given more than once")
 
 
 def begin(words):
     """Reads the words, makes the folder for what is written, and builds the program."""
     options = words.parse_args()
-    if options.record and (options.quick or getattr(options, "only", None)):
+    if options.quick and options.short:
+        words.error("--quick and --short are two sizes")
+    if options.record and (options.quick or options.short or options.only):
         words.error("--record is for all circuits in full size")
-    options.machine = machine()
+    options.machine = machine() + [f"{size} sizes" for size in ("quick", "short") if getattr(options, size)]
     options.limit = options.limit or options.limits[options.quick]
     os.makedirs(options.out, exist_ok=True)
     if not options.no_build:

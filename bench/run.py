@@ -1,10 +1,11 @@
 #!/usr/bin/env python3
-"""run.py [--quick] [--times N] [--limit SECONDS] [--only NAME]... [--no-build] [--no-icarus] [--record] [--out FOLDER]
+"""run.py [--quick | --short] [--times N] [--limit SECONDS] [--only NAME]... [--no-build] [--no-icarus] [--record] [--out FOLDER]
 
 Measures the program on the circuits of circuits.py and those in the folders that CIRCUITS names (with a colon
 between them), each in each mode, and beside it the C simulator that CREF names and Icarus Verilog, where they are there.
 Prints a table, and writes it and a plot to FOLDER, bench/out if not given. With --record it writes how one thread and four
-compare with the C simulator to bench/FIGURES.md and README.md. Ends with status 1 if two ways gave different texts.
+compare with the C simulator to bench/FIGURES.md, and some of it to README.md. Ends with status 1 if two ways gave
+different texts.
 """
 import hashlib
 import os
@@ -93,7 +94,7 @@ def measure_circuit(name, options, reference, folder):
     if name in circuits.given():
         circuits.copy(circuits.given()[name], folder)
     else:
-        measuring.apart(lambda: circuits.make(name, options.quick).write(folder))
+        measuring.apart(lambda: circuits.make(name, options.quick, options.short).write(folder))
     words, netlist = measuring.words_of(folder)
     with open(os.path.join(folder, "nets")) as file:
         nets = int(file.read())
@@ -140,17 +141,18 @@ def row_of(result, results):
 HEADER = ["circuit", "way", "best", "median", "processor", "memory", "changes a second", "bytes a second", "to cref", "processor to cref", "note"]
 
 
-# What README.md shows: ways in mode free, each by the C simulator's time.
-SHORT = {"one thread": "free 1", "4 threads": "threads 4"}
+# What --record writes: ways in mode free, each by the C simulator's time, and that time.
+RECORDED = {"one thread": "free 1", "4 threads": "threads 4"}
 
 
-def short_rows(results):
-    """A line for each circuit with the wall times of the ways in SHORT, each by that of the C simulator."""
+def recorded_rows(results):
+    """A line for each circuit with the wall times of the ways in RECORDED, each by that of the C simulator, and the last."""
     best = {(it.circuit, it.way): it.sample.best for it in results if it.sample}
-    rows = [["circuit", *SHORT]]
+    rows = [["circuit", *RECORDED, "C simulator"]]
     for circuit in dict.fromkeys(it.circuit for it in results):
-        ratios = [best[circuit, way] / best[circuit, "cref"] if {(circuit, way), (circuit, "cref")} <= set(best) else None for way in SHORT.values()]
-        rows.append([circuit] + ["" if it is None else f"{it:.2f}" for it in ratios])
+        beside = best.get((circuit, "cref"))
+        ratios = [best[circuit, way] / beside if beside and (circuit, way) in best else None for way in RECORDED.values()]
+        rows.append([circuit] + ["" if it is None else f"{it:.2f}" for it in ratios] + [measuring.short(beside) if beside else ""])
     return rows
 
 
@@ -167,7 +169,7 @@ def write_all(results, options):
     """The table and the plot."""
     measuring.write_report(options, "run", [], [HEADER] + [row_of(result, results) for result in results])
     if options.record:
-        measuring.record(options, "run", [f"best of {options.times}"], short_rows(results))
+        measuring.record(options, "run", [f"best of {options.times}"], recorded_rows(results))
         figures.copy()
     groups = {}
     for result in results:
@@ -178,7 +180,7 @@ def write_all(results, options):
 
 def read_words():
     words = measuring.parser(__doc__, 120.0, 20.0)
-    words.add_argument("--only", action="append", choices=[*circuits.ALL, *circuits.given()], help="this circuit; may be given more than once")
+    measuring.add_choice(words, circuits.names)
     words.add_argument("--no-icarus", action="store_true")
     if "--record" in sys.argv and not os.environ.get("CREF"):
         words.error("--record needs the C simulator, and CREF names none")
@@ -193,7 +195,7 @@ def main():
     results = []
     with tempfile.TemporaryDirectory() as top:
         reference = measuring.reference(top)
-        for number, name in enumerate(options.only or [*circuits.ALL, *circuits.given()]):
+        for number, name in enumerate(options.only or circuits.names(options.short)):
             folder = os.path.join(top, str(number))
             results += measure_circuit(name, options, reference, folder)
             shutil.rmtree(folder)

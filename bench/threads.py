@@ -1,5 +1,5 @@
 #!/usr/bin/env python3
-"""threads.py [--quick] [--times N] [--only NAME]... [--no-build] [--record] [--out FOLDER]
+"""threads.py [--quick | --short] [--times N] [--only NAME]... [--no-build] [--record] [--out FOLDER]
 
 Measures what several threads bring: the program on the circuits of circuits.py and those in the folders that CIRCUITS
 names, by one thread and by several, and the C simulator that CREF names where it is there. All ways of a circuit are
@@ -61,7 +61,7 @@ def measure(name, reference, options):
         if name in circuits.given():
             circuits.copy(circuits.given()[name], folder)
         else:
-            measuring.apart(lambda: circuits.make(name, options.quick).write(folder))
+            measuring.apart(lambda: circuits.make(name, options.quick, options.short).write(folder))
         best = times_of(folder, reference, options)
     row = [name] + [cell(way, best) for way in best]
     print(", ".join(row), file=sys.stderr, flush=True)
@@ -70,7 +70,7 @@ def measure(name, reference, options):
 
 def read_words():
     words = measuring.parser(__doc__, 120.0, 20.0)
-    words.add_argument("--only", action="append", choices=[*circuits.ALL, *circuits.given()], help="this circuit; may be given more than once")
+    measuring.add_choice(words, circuits.names)
     return measuring.begin(words)
 
 
@@ -79,7 +79,7 @@ def main():
     with tempfile.TemporaryDirectory() as top:
         reference = measuring.reference(top)
         header = ["circuit", *WAYS] + (["C simulator"] if reference else [])
-        rows = [measure(name, reference, options) for name in options.only or [*circuits.ALL, *circuits.given()]]
+        rows = [measure(name, reference, options) for name in options.only or circuits.names(options.short)]
     lines = [f"best of {options.times}, in turn"]
     measuring.write_report(options, "threads", lines, [header] + rows)
     if options.record:
