@@ -3,8 +3,8 @@
 figures.py --readme
 
 The first writes a text into the section of bench/FIGURES.md that has this name in its marks; a section that isn't there is
-added. The second copies the table of the section `run` into README.md, as run.py does. run.py, threads.py and growth.py
-call this with --record.
+added. The second copies the table of the section `run` into README.md, as run.py does, without the rows in ALIKE. run.py,
+threads.py and growth.py call this with --record.
 """
 import os
 import re
@@ -12,6 +12,9 @@ import sys
 
 TOP = os.path.dirname(os.path.dirname(os.path.abspath(__file__)))
 FIGURES, README = os.path.join(TOP, "bench", "FIGURES.md"), os.path.join(TOP, "README.md")
+
+# Circuits that README.md leaves out: it shows another of their kind.
+ALIKE = ("multiplier 64", "multiplier 64, delays", "600 LFSRs of 16", "50 rings, 20000 idle", "reading clocked, local")
 
 
 def marks(name):
@@ -42,11 +45,13 @@ def record(name, text):
 
 
 def table_of(text):
-    return "".join(line + "\n" for line in text.split("\n") if line.startswith("|"))
+    """The table in a text, without the rows in ALIKE."""
+    rows = [line for line in text.split("\n") if line.startswith("|")]
+    return "".join(row + "\n" for row in rows if row.split("|")[1].strip() not in ALIKE)
 
 
 def copy():
-    """README.md gets the table of the section `run`."""
+    """README.md gets that of the section `run`."""
     put(README, "figures", table_of(read(FIGURES, "run")))
 
 
