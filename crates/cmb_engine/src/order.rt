@@ -17,6 +17,23 @@ use std::marker::Model;
 /// The rank of a slot that has none yet.
 const UNPLACED: u32 = u32::MAX;
 
+/// What a slot waits for before it gets a rank: all that it reads, or those of lower numbers.
+#[derive(Clone, Copy)]
+enum Reads {
+    All,
+    Lower,
+}
+
+impl Reads {
+    // The least slot that waits for one that it reads.
+    fn least(self, slot: usize) -> usize {
+        match self {
+            Reads::All => 0,
+            Reads::Lower => slot.saturating_add(1),
+        }
+    }
+}
+
 /// Slots by rank.
 #[derive(Drop)]
 pub(crate) struct Order {
@@ -143,8 +160,26 @@ impl Order {
         Ok(())
     }
 
-    // Gives ranks to those of some slots that wait for nothing any more, now that one slot that they read has a rank.
-    fn release(&mut self, waits: &mut [u32], readers: &[u32]) -> Result<(), AllocError>
+    // Counts for each slot how many it waits for: those that have no rank, in whose lists it stands.
+    fn count_waits(&self, reads: Reads, lists: &[Numbers], waits: &mut [u32])
+        requires lists { length lists.now ≡ length self.now.ranks }
+        ensures { length waits.new ≡ length waits.old }
+    {
+        for slot in 0..lists.len() {
+            if self.ranks[slot] == UNPLACED {
+                count_numbers(lists[slot].as_slice(), reads.least(slot), waits);
+            }
+        }
+    }
+
+    // Gives ranks to those of some slots, from one on, that wait for nothing any more, now that one slot that they read
+    // has a rank.
+    fn release(
+        &mut self,
+        waits: &mut [u32],
+        readers: &[u32],
+        least: usize,
+    ) -> Result<(), AllocError>
         requires count { length waits.old ≡ length self.old.ranks }
         requires few { length self.old.ranks < 2 ^ 32 }
         requires placed { ArePlaced self.old }
@@ -154,7 +189,7 @@ impl Order {
     {
         for reader in readers {
             let reader = *reader as usize;
-            if reader < waits.len() {
+            if least <= reader && reader < waits.len() {
                 let left = waits[reader].saturating_sub(1);
                 waits[reader] = left;
                 if left == 0 {
@@ -165,9 +200,59 @@ impl Order {
         Ok(())
     }
 
-    // Gives ranks by levels, in the order of the slots that have ranks: to each slot once all that it reads have
-    // theirs.
+    // Gives ranks by levels, in the order of the slots that have ranks, from a rank on: to each slot once all that it
+    // waits for have theirs.
     fn place_readers(
+        &mut self,
+        begin: usize,
+        reads: Reads,
+        waits: &mut [u32],
+        gates: &[Numbers],
+        flops: &[Numbers],
+    ) -> Result<(), AllocError>
+        requires count { length waits.old ≡ length self.old.ranks }
+        requires gates { length gates.now ≡ length self.old.ranks }
+        requires flops { length flops.now ≡ length self.old.ranks }
+        requires few { length self.old.ranks < 2 ^ 32 }
+        requires placed { ArePlaced self.old }
+        ensures ranked { length self.new.ranks ≡ length self.old.ranks }
+        ensures placed { OnOk result (ArePlaced self.new) }
+    {
+        let mut end = begin;
+        for rank in begin..gates.len() {
+            let Some(slot) = self.slot(rank) else {
+                return Ok(());
+            };
+            if rank == end {
+                end = self.len();
+                self.begin_level();
+            }
+            let least = reads.least(slot);
+            self.release(waits, gates[slot].as_slice(), least)?;
+            self.release(waits, flops[slot].as_slice(), least)?;
+        }
+        Ok(())
+    }
+
+    // Gives ranks to the slots without one that wait for nothing.
+    fn place_ready(&mut self, waits: &[u32]) -> Result<(), AllocError>
+        requires count { length waits.now ≡ length self.old.ranks }
+        requires few { length self.old.ranks < 2 ^ 32 }
+        requires placed { ArePlaced self.old }
+        ensures ranked { length self.new.ranks ≡ length self.old.ranks }
+        ensures placed { OnOk result (ArePlaced self.new) }
+    {
+        for slot in 0..waits.len() {
+            if waits[slot] == 0 {
+                self.place(slot)?;
+            }
+        }
+        Ok(())
+    }
+
+    // Gives ranks to slots in loops and behind them, by levels too. Where a slot reads a higher one, the order passes
+    // that over: so a loop is cut where its numbers fall.
+    fn place_loops(
         &mut self,
         waits: &mut [u32],
         gates: &[Numbers],
@@ -181,22 +266,16 @@ impl Order {
         ensures ranked { length self.new.ranks ≡ length self.old.ranks }
         ensures placed { OnOk result (ArePlaced self.new) }
     {
-        let mut end = 0;
-        for rank in 0..gates.len() {
-            let Some(slot) = self.slot(rank) else {
-                return Ok(());
-            };
-            if rank == end {
-                end = self.len();
-                self.begin_level();
-            }
-            self.release(waits, gates[slot].as_slice())?;
-            self.release(waits, flops[slot].as_slice())?;
-        }
-        Ok(())
+        waits.fill(0);
+        self.count_waits(Reads::Lower, gates, waits);
+        self.count_waits(Reads::Lower, flops, waits);
+        let begin = self.len();
+        self.begin_level();
+        self.place_ready(waits)?;
+        self.place_readers(begin, Reads::Lower, waits, gates, flops)
     }
 
-    // Gives ranks to all that have none, those in loops and behind them, each as a level of its own.
+    // Gives ranks to all that have none.
     fn place_rest(&mut self) -> Result<(), AllocError>
         requires few { length self.old.ranks < 2 ^ 32 }
         requires placed { ArePlaced self.old }
@@ -204,31 +283,19 @@ impl Order {
         ensures ordered { OnOk result (IsOrder self.new) }
     {
         for slot in 0..self.ranks.len() {
-            if self.ranks[slot] == UNPLACED {
-                self.begin_level();
-            }
             self.place(slot)?;
         }
         Ok(())
     }
 }
 
-// Counts for each slot how often it stands in some lists.
-fn count_listed(lists: &[Numbers], waits: &mut [u32])
-    ensures { length waits.new ≡ length waits.old }
-{
-    for list in lists {
-        count_numbers(list.as_slice(), waits);
-    }
-}
-
-// Adds one to the count of each of some slots.
-fn count_numbers(numbers: &[u32], counts: &mut [u32])
+// Adds one to the count of each of some slots, from one on.
+fn count_numbers(numbers: &[u32], least: usize, counts: &mut [u32])
     ensures { length counts.new ≡ length counts.old }
 {
     for number in numbers {
         let number = *number as usize;
-        if number < counts.len() {
+        if least <= number && number < counts.len() {
             counts[number] = counts[number].saturating_add(1);
         }
     }
@@ -249,10 +316,11 @@ pub(crate) fn order_of(
 {
     let mut order = Order::unplaced(alloc, cells.len())?;
     let mut waits = vec![in alloc; 0; cells.len()]?;
-    count_listed(gates, &mut waits);
-    count_listed(flops, &mut waits);
+    order.count_waits(Reads::All, gates, &mut waits);
+    order.count_waits(Reads::All, flops, &mut waits);
     order.place_sources(cells)?;
-    order.place_readers(&mut waits, gates, flops)?;
+    order.place_readers(0, Reads::All, &mut waits, gates, flops)?;
+    order.place_loops(&mut waits, gates, flops)?;
     order.place_rest()?;
     Ok(order)
 }
