@@ -1,9 +1,9 @@
 //! The tokens of a netlist's text.
-ghost use Rattle.std.specs.Prelude.{◌≡◌, ℕ, ◌+◌, ◌^◌, ◌<◌, ◌≤◌, ◌≢◌, [], ◌∷◌, length, slice_index, true, false};
+ghost use Rattle.std.specs.Prelude.{◌≡◌, ℕ, ◌+◌, ◌<◌, ◌≤◌, ◌≢◌, [], ◌∷◌, length, slice_index, take, drop, true, false};
 ghost use Rattle.std.specs.Prelude.{MatchOption, IfSome};
 ghost use Rattle.cmb_bench.specs.declared.text.Class.TheVariants.{End};
-ghost use Rattle.cmb_bench.specs.Text.{class_of, continues, is_token, line_feeds};
-ghost use Rattle.cmb_bench.specs.Inner.Snippet.{snippets_of};
+ghost use Rattle.cmb_bench.specs.Text.{class_of, continues, tokens_from, word_of};
+ghost use Rattle.cmb_bench.specs.Inner.Snippet.{BeginsToken, snippets_of};
 
 /// What a byte is at the front of a snippet of the text. A token has the class of its first byte, and `End` stands at
 /// the end of input.
@@ -72,6 +72,7 @@ fn continues(class: Class, byte: u8) -> bool
 }
 
 /// With how many bytes from the front a snippet of this class goes on.
+#[inline(always)]
 fn run_len(bytes: &[u8], class: Class) -> usize
     ensures within { result ≤ length bytes.now }
     ensures before { (k : ℕ) → k < result → continues class (slice_index bytes.now k) ≡ true }
@@ -86,44 +87,38 @@ fn run_len(bytes: &[u8], class: Class) -> usize
     bytes.len()
 }
 
-fn is_token(class: Class) -> bool
-    ensures { result ≡ is_token class }
+/// What follows the white byte or the comment at the front of a text, and how many line feeds are before it.
+#[inline(always)]
+fn behind_blank(bytes: &[u8]) -> Option<(&[u8], u32)>
+    ensures tokens { MatchOption result (BeginsToken bytes.now) (λ p. (line last : ℕ)
+        → tokens_from line last (snippets_of bytes.now) ≡ tokens_from (line + p.1) last (snippets_of p.0.now)) }
+    ensures shorter { IfSome result (λ p. length p.0.now < length bytes.now) }
+    ensures fits { IfSome result (λ p. p.1 + length p.0.now ≤ length bytes.now) }
 {
-    match class {
-        Class::White | Class::Comment => false,
-        _ => true,
+    let (first, after) = bytes.split_first()?;
+    match class_of(*first) {
+        Class::White => Some((after, u32::from(*first == b'\n'))),
+        Class::Comment => Some((&after[run_len(after, Class::Comment)..], 0)),
+        _ => None,
     }
 }
 
-/// The snippet of a text that comes first, and what follows it.
-#[derive(Clone, Copy)]
-struct Snippet<'a> {
-    class: Class,
-    text: &'a [u8],
-    line_feeds: u32,
-    rest: &'a [u8],
-}
-
-/// The first snippet of a text.
-fn first_snippet(bytes: &[u8]) -> Option<Snippet<'_>>
-    ensures snippet { MatchOption result (bytes.now ≡ []) (λ p.
-        snippets_of bytes.now ≡ record { class = p.class; bytes = p.text.now } ∷ snippets_of p.rest.now) }
-    ensures line_feeds { IfSome result (λ p. p.line_feeds ≡ line_feeds p.text.now) }
-    ensures shorter { IfSome result (λ p. length p.rest.now < length bytes.now) }
-    ensures fits { IfSome result (λ p. p.line_feeds + length p.rest.now ≤ length bytes.now) }
-    ensures class { IfSome result (λ p. p.class ≢ End) }
+/// The class of the token at the front of a text, and its length.
+#[inline(always)]
+fn first_token(bytes: &[u8]) -> Option<(Class, usize)>
+    requires { BeginsToken bytes.now }
+    ensures within { IfSome result (λ t. (0 < t.1) × (t.1 ≤ length bytes.now)) }
+    ensures class { IfSome result (λ t. t.0 ≢ End) }
+    ensures tokens { MatchOption result (bytes.now ≡ []) (λ t. (line last : ℕ)
+        → tokens_from line last (snippets_of bytes.now)
+        ≡ record { word = word_of t.0 (take t.1 bytes.now); line = line }
+        ∷ tokens_from line line (snippets_of (drop t.1 bytes.now))) }
 {
     let (first, after) = bytes.split_first()?;
-    let class = class_of(*first);
-    let len = run_len(after, class);
-    let (text, rest) = bytes.split_at(1 + len);
-    let line_feeds = if *first == b'\n' { 1 } else { 0 };
-    Some(Snippet {
-        class,
-        text,
-        line_feeds,
-        rest,
-    })
+    match class_of(*first) {
+        Class::Name => Some((Class::Name, 1 + run_len(after, Class::Name))),
+        class => Some((class, 1)),
+    }
 }
 
 impl<'a> Token<'a> {
@@ -157,7 +152,7 @@ impl<'a> Cursor<'a> {
     ghost use Rattle.cmb_bench.specs.declared.text.Class.TheVariants.{End};
     ghost use Rattle.cmb_bench.specs.Text.{tokens_of};
     ghost use Rattle.cmb_bench.specs.Inner.Word.{is_end};
-    ghost use Rattle.cmb_bench.specs.Inner.Snippet.{snippets_of};
+    ghost use Rattle.cmb_bench.specs.Inner.Snippet.{BeginsToken, snippets_of};
     ghost use Rattle.cmb_bench.specs.Inner.Scan.{scan, lexeme, behind};
 
     #[tactic(auto, unfolding(crate::specs::Inner::Scan::scan))]
@@ -173,7 +168,24 @@ impl<'a> Cursor<'a> {
         }
     }
 
+    /// Goes on to the next token, or to the end of input.
+    #[inline(always)]
+    #[tactic(auto, unfolding(crate::specs::Inner::Scan::scan))]
+    fn skip_blanks(&mut self)
+        requires { self.old.line + length self.old.rest.now < 2 ^ 32 }
+        ensures token { BeginsToken self.new.rest.now }
+        ensures scan { scan self.old ≡ scan self.new }
+        ensures fits { self.new.line + length self.new.rest.now ≤ self.old.line + length self.old.rest.now }
+        ensures shorter { length self.new.rest.now ≤ length self.old.rest.now }
+    {
+        while let Some((rest, line_feeds)) = behind_blank(self.rest) {
+            self.line += line_feeds;
+            self.rest = rest;
+        }
+    }
+
     /// The next token. After the end of input comes the end of input.
+    #[inline(always)]
     #[tactic(auto, unfolding(crate::specs::Inner::Scan::scan))]
     pub fn next(&mut self) -> Token<'a>
         requires { self.old.line + length self.old.rest.now < 2 ^ 32 }
@@ -182,23 +194,21 @@ impl<'a> Cursor<'a> {
         ensures shorter { length self.new.rest.now ≤ length self.old.rest.now }
         ensures goes { is_end (lexeme result).word ≡ false → length self.new.rest.now < length self.old.rest.now }
     {
-        while let Some(snippet) = first_snippet(self.rest) {
-            let line = self.line;
-            self.line += snippet.line_feeds;
-            self.rest = snippet.rest;
-            if is_token(snippet.class) {
-                self.last = line;
-                return Token {
-                    class: snippet.class,
-                    text: snippet.text,
-                    line,
-                };
-            }
-        }
+        self.skip_blanks();
+        let Some((class, len)) = first_token(self.rest) else {
+            return Token {
+                class: Class::End,
+                text: self.rest,
+                line: self.last,
+            };
+        };
+        let (text, rest) = self.rest.split_at(len);
+        self.last = self.line;
+        self.rest = rest;
         Token {
-            class: Class::End,
-            text: self.rest,
-            line: self.last,
+            class,
+            text,
+            line: self.line,
         }
     }
 }

@@ -1,8 +1,8 @@
 -- The cutting of a text, computed.
-use Rattle.std.specs.Prelude.{ℕ, List, [], ◌∷◌, if◌then◌else◌}
+use Rattle.std.specs.Prelude.{◌≡◌, ℕ, List, [], ◌∷◌, true, if◌then◌else◌}
 use Rattle.cmb_bench.specs.declared.text.Class.{Class}
 use Rattle.cmb_bench.specs.declared.text.Class.TheVariants.{White}
-use Rattle.cmb_bench.specs.Text.{class_of, continues, Snippet}
+use Rattle.cmb_bench.specs.Text.{class_of, continues, is_token, Snippet}
 
 -- the bytes at the front that go on a snippet of this class
 abbrev pub front : Class → List ℕ → List ℕ
@@ -18,3 +18,8 @@ snippets_after class (b ∷ bs) =
 
 abbrev pub snippets_of : List ℕ → List Snippet
 snippets_of bytes = snippets_after White bytes
+
+-- the first snippet is a token, if there is one
+abbrev pub BeginsToken : List ℕ → Type 0
+BeginsToken [] = Unit {0}
+BeginsToken (b ∷ bs) = is_token (class_of b) ≡ true
