@@ -5,7 +5,8 @@ use Rattle.std.proofs.lemmas.Bool.{cases_eq, cases_lt, eq-eqb, false≢true, ne_
 use Rattle.std.proofs.lemmas.List.{get_or-set_other, get_or-set_same, length-set}
 use Rattle.std.proofs.lemmas.List.Elements.{All-push, Contains-append_left, Contains-append_right, Contains-push}
 use Rattle.std.proofs.lemmas.List.Folds.{list_any-append}
-use Rattle.cmb_words.specs.Bits.{is_set_at, places_set}
+use native.Mathlib.Bridge.{le_prop}
+use Rattle.cmb_words.specs.Bits.{Apart, is_set_at, places_set}
 use Rattle.cmb_words.specs.Changes.{RisesWithin, is_among}
 use Rattle.cmb_words.specs.declared.changed.Changed.{Changed}
 use Rattle.cmb_words.specs.declared.word.Word.{Word}
@@ -115,6 +116,10 @@ adds-more changes one first old new before now = record {
     from : (other : Changed) → Holds old other ⊎ Contains (one ∷ []) other → Holds first other ⊎ Contains (changes ++ one ∷ []) other
     from other (inl h) = earlier other (before.each other h)
     from other (inr h) = inr (Contains-append_right changes (one ∷ []) other h)
+
+-- a word with the planes of another one is that one
+pub same-word : (word : Word) (apart : Apart word.ones word.unknown) → record { ones = word.ones; unknown = word.unknown; apart = apart } ≡ word
+same-word word apart = λ i. record { ones = word.ones; unknown = word.unknown; apart = λ place small. le_prop (apart place small) (word.apart place small) i }
 
 -- ---- the marked nets are taken, one after another
 

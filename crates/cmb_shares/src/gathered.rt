@@ -40,13 +40,20 @@ fn tell_number(
     requires before { AreTaken (table_of words.now marks.now) (64 * k) all.old.items }
     ensures { OnOk result (AreTaken (table_of words.now marks.now) (64 * k + 64) all.new.items) }
 {
+    // All nets of the number find room then.
+    all.reserve(64)?;
     let places = marks[k];
     for place in Places::of(places) {
         let net = 64 * k + place as usize;
-        all.push(Changed {
+        // Plane by plane, so that the word goes through registers.
+        let word = &words[net];
+        all.push_reserved(Changed {
             net: net as u16,
-            word: words[net],
-        })?;
+            word: Word {
+                ones: word.ones,
+                unknown: word.unknown,
+            },
+        });
     }
     Ok(())
 }
