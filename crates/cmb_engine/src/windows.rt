@@ -55,15 +55,18 @@ impl Pace {
         }
     }
 
-    // The same, where windows have so many ticks at most. Those of several clocks would be cut too short by arrivals
-    // that come soon.
+    // The same, where windows have so many ticks at most. Arrivals that come soon would cut them too short, those of
+    // several clocks above all.
     fn spaced(self, several: bool, width: u32) -> Pace
         requires paced { IsPaced self }
         requires width { width ≤ 63 }
         ensures { IsPaced result }
     {
-        let soon = several || self.period < LONG;
-        let least = if soon { width / 8 + 1 } else { 1 };
+        let least = match (several, self.period < LONG) {
+            (true, _) => width / 2 + 1,
+            (false, true) => width / 8 + 1,
+            (false, false) => 1,
+        };
         Pace {
             lead: self.lead.max(least),
             ..self
