@@ -9,6 +9,12 @@ use Rattle.std.specs.Int.{bit_at, bit_not}
 use Rattle.cmb_words.specs.Bits.{is_set_at}
 use Rattle.cmb_engine.specs.Inner.Batches.{IsSetAt}
 use Rattle.cmb_engine.specs.Inner.Bits.{has, Inserts, Removes}
+use Rattle.cmb_engine.specs.Shares.{is_told}
+
+-- a set of told nets is one of numbers
+pub told-has : (set_is : List ℕ) (n : ℕ) → is_told set_is n ≡ has set_is n
+unfolding is_told has is_set_at
+told-has set_is n = refl
 
 -- two numbers with one word and one bit are one
 same_number : (m n : ℕ) → m / 64 ≡ n / 64 → m % 64 ≡ n % 64 → m ≡ n
@@ -176,3 +182,16 @@ module _ (words set_is : List ℕ) (view : words ≡ set_is) (k word mask : ℕ)
       ∙ ap₂ (λ (a b : ℕ). bit_at (get_or set_is a 0) b) at rest ∙ eqb-true _ _ old in
       let on_bit : bit_at mask place ≡ 1 = eqb-true _ _ on in
       eq-eqb _ _ (bit_at_and word mask place ∙ ap₂ (λ (x y : ℕ). min x y) was on_bit)
+
+-- a set number whose place isn't set in a word's part is unset in the mask
+pub and-unset : (set_is : List ℕ) (k mask word place : ℕ) → place < 64 → word ≡ get_or set_is k 0 → is_set_at (bit_and mask word) place ≡ false → has set_is (64 * k + place) ≡ true → is_set_at mask place ≡ false
+unfolding has is_set_at
+and-unset set_is k mask word place small read unset on =
+    let at : k ≡ (64 * k + place) / 64 = omega (arith, small) in
+    let rest : place ≡ (64 * k + place) % 64 = omega (arith, small) in
+    let bit : bit_at word place ≡ 1 = ap (λ (w : ℕ). bit_at w place) read ∙ ap₂ (λ (a b : ℕ). bit_at (get_or set_is a 0) b) at rest ∙ eqb-true _ _ on in
+    go bit (cases_eq (bit_at mask place) 1)
+  where
+    go : bit_at word place ≡ 1 → (bit_at mask place ≡ 1) ⊎ (bit_at mask place ≡ 1 → ⊥) → (bit_at mask place == 1) ≡ false
+    go bit (inl one) = absurd (false≢true (sym unset ∙ eq-eqb _ _ (bit_at_and mask word place ∙ ap₂ (λ (x y : ℕ). min x y) one bit)))
+    go bit (inr other) = ne_eqb _ _ other

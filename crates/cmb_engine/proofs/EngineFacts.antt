@@ -1,5 +1,5 @@
 -- What an engine's state tells of its design, and how it goes on.
-use Rattle.std.proofs.Common.{◌≡◌, ℕ, ◌+◌, ◌-◌, ◌<◌, ◌≤◌, false, List, length, sym, ap, subst, ◌∙◌, arith}
+use Rattle.std.proofs.Common.{◌≡◌, ℕ, ◌+◌, ◌-◌, ◌<◌, ◌≤◌, false, true, List, length, sym, ap, subst, ◌∙◌, arith}
 use Rattle.std.specs.Prelude.{All, Contains}
 use Rattle.cmb_wheel.specs.Calendars.{Calendar, AreInOrder, Takes}
 use Rattle.cmb_wheel.specs.declared.event.LevelEvent.{LevelEvent}
@@ -9,10 +9,12 @@ use Rattle.cmb_design_model.specs.Exact.{nets_of}
 use Rattle.cmb_design_model.specs.Value.{value}
 use Rattle.cmb_words.specs.declared.changed.Changed.{Changed}
 use Rattle.cmb_engine.specs.Inner.Planes.{Planes}
-use Rattle.cmb_words.specs.Changes.{RisesWithin, Tells, is_among}
+use Rattle.cmb_words.specs.Changes.{RisesWithin, is_among}
 use Rattle.cmb_engine.specs.Inner.Ahead.{TellsAhead}
+use Rattle.cmb_engine.specs.Inner.Bits.{has}
 use Rattle.cmb_engine.specs.Inner.Cells.{cell_at, is_made, IsSteadyFrom}
 use Rattle.cmb_engine.specs.Inner.Circuits.{MeetsCells, Shows}
+use Rattle.cmb_engine.specs.Inner.Collects.{IsWanted}
 use Rattle.cmb_engine.specs.Inner.Gifts.{AreGiven}
 use Rattle.cmb_engine.specs.Inner.Lines.{IsAhead, IsOfLine, NotesEach}
 use Rattle.cmb_engine.specs.Inner.Roles.{AreToldNets, gives, level_in}
@@ -20,6 +22,7 @@ use Rattle.cmb_engine.specs.Inner.States.{IsCircuit, IsState}
 use Rattle.cmb_engine.specs.Inner.Tells.{AreOfWindow}
 use Rattle.cmb_engine.specs.Inner.Traces.{trace_of}
 use Rattle.cmb_engine.specs.Inner.Words.{levels_of}
+use Rattle.cmb_engine.specs.Shares.{TellsAll}
 use Rattle.cmb_engine.specs.declared.circuit.Circuit.{Circuit}
 use Rattle.cmb_engine.specs.declared.state.State.{State}
 use Rattle.cmb_engine.proofs.CollectFacts.{HasWord, collected-tells}
@@ -81,20 +84,20 @@ module _ (design : Design) (circuit : Circuit) (state : State) (is_circuit : IsC
     -- and of which the words show what the slots show
     module _ (words : List Planes) (shows : Shows (levels_of words) (trace_of design circuit.wiring.roles.items circuit.lines.items) (length circuit.wiring.cells) to) (changed : List Changed)
         (rises : RisesWithin 0 (nets_of design) changed) (right : All (HasWord (levels_of words)) changed)
-        (others : (net : ℕ) → net < nets_of design → is_among net changed ≡ false → IsSteadyFrom (levels_of words net) (64 - (to - state.clock))) where
-      pub window-changes : Tells (level_in design circuit.wiring.roles.items) (nets_of design) state.clock to changed
+        (others : (net : ℕ) → net < nets_of design → has circuit.wanted net ≡ true → is_among net changed ≡ false → IsSteadyFrom (levels_of words net) (64 - (to - state.clock))) where
+      pub window-changes : TellsAll (IsWanted circuit.wanted (nets_of design)) (level_in design circuit.wiring.roles.items) state.clock to changed
       window-changes =
           let begins : to + (64 - (to - state.clock)) - 64 ≡ state.clock = omega (arith, place) in
-          subst (λ (from : ℕ). Tells (level_in design circuit.wiring.roles.items) (nets_of design) from to changed) begins
+          subst (λ (from : ℕ). TellsAll (IsWanted circuit.wanted (nets_of design)) (level_in design circuit.wiring.roles.items) from to changed) begins
           (collected-tells (levels_of words) (level_in design circuit.wiring.roles.items) (nets_of design) (nets_of design) to (64 - (to - state.clock)) changed
           (shows-nets (levels_of words) design circuit.wiring.roles.items circuit.lines.items (length circuit.wiring.cells) to (omega (arith, is_circuit.plan.count)) shows)
-          (omega arith) (omega (arith, short, is_circuit.plan.fits)) (omega (arith, place, is_state.begun)) (omega arith) rises right others)
+          (omega arith) (omega (arith, short, is_circuit.plan.fits)) (omega (arith, place, is_state.begun)) circuit.wanted (omega arith) rises right others)
 
       pub next-ahead : (new : Calendar) → NotesEach (IsOfLine changed circuit.lines.items (nets_of design) to (64 - (to - state.clock))) between new
           → new.horizon ≡ between.horizon → new.clock ≡ between.clock → TellsAhead design circuit.wiring.roles.items circuit.lines.items circuit.wiring.cells to new
       next-ahead new noted same_horizon same_clock =
           noted-tells design circuit.wiring.roles.items circuit.lines.items circuit.wiring.most circuit.width circuit.wiring.cells is_circuit.plan state.calendar between taken state.clock to
-          (64 - (to - state.clock)) is_state.ahead is_state.begun later short within place takes new changed noted same_horizon same_clock window-changes
+          (64 - (to - state.clock)) is_state.ahead is_state.begun later short within place takes new changed noted same_horizon same_clock circuit.wanted is_circuit.wanted window-changes
 
     pub lines-ahead : All (IsAhead between to (64 - (to - state.clock))) circuit.lines.items
     lines-ahead =

@@ -1,9 +1,9 @@
 -- Roles of nets, and the levels that an engine has of them.
 use Rattle.std.proofs.Common.{◌≡◌, ℕ, zero, suc, ◌+◌, ◌<◌, ◌≤◌, ◌⊎◌, inl, inr, Bool, true, false, List, [], ◌∷◌, ◌++◌, length, get_or, set, take, refl, sym, ap, subst, ◌∙◌, arith}
 use Rattle.std.specs.Prelude.{Contains}
-use Rattle.std.proofs.lemmas.Bool.{cases_eq, cases_lt, false≢true}
+use Rattle.std.proofs.lemmas.Bool.{cases_Bool, cases_eq, cases_lt, false≢true}
 use Rattle.std.proofs.lemmas.List.{get_or_past, length-map, take_more}
-use Rattle.std.proofs.lemmas.List.Elements.{All-contains, Contains-get_or}
+use Rattle.std.proofs.lemmas.List.Elements.{Contains-get_or}
 use Rattle.cmb_wave.specs.declared.level.Level.TheVariants.{Zero}
 use Rattle.cmb_netlist.specs.Netlist.{driver_of, pins_of, IsNetlist}
 use Rattle.cmb_design_model.specs.Design.{Design}
@@ -11,12 +11,14 @@ use Rattle.cmb_design_model.specs.Exact.{nets_of}
 use Rattle.cmb_design_model.specs.Value.{value}
 use Rattle.cmb_engine.specs.Inner.Roles.{AreOf, Gives, is_driven, is_given, is_absent, driven_of, role_of, drives, gives, lacks, level_in}
 use Rattle.cmb_words.specs.declared.changed.Changed.{Changed}
-use Rattle.cmb_words.specs.Changes.{Tells, TellsNet}
-use Rattle.cmb_words.proofs.StillFacts.{still-agrees}
+use Rattle.cmb_words.specs.Changes.{IsStill, TellsNet, levels_up_to}
+use Rattle.cmb_words.proofs.StillFacts.{still-agrees, ticks-still}
 use Rattle.cmb_words.proofs.TellsFacts.{tells-same}
-use Rattle.cmb_engine.specs.Shares.{IsDriven, IsGiven, TellsThose}
+use Rattle.cmb_engine.specs.Inner.Collects.{IsWanted}
+use Rattle.cmb_engine.specs.Shares.{EachChanges, IsDriven, IsGiven, TellsAll, is_told}
 use Rattle.cmb_engine.specs.declared.role.Role.{Role}
 use Rattle.cmb_engine.specs.declared.role.Role.TheVariants.{Driven, Given, Absent}
+use Rattle.cmb_engine.proofs.BitFacts.{told-has}
 use Rattle.cmb_engine.proofs.NoteFacts.{taken-before, taken-cases, taken-last}
 
 pub driven-is : (role : Role) → is_driven role ≡ true → role ≡ Driven
@@ -284,13 +286,28 @@ pub driven-level : (design : Design) (roles : List Role) → AreOf design (drive
     → level_in design roles net tick ≡ value design net tick
 driven-level design roles are net tick is = level-present design roles net tick (driven-known roles net (driven-net design roles are net is).1)
 
-pub share-tells : (design : Design) (roles : List Role) (from to : ℕ) (changed : List Changed) → AreOf design (driven_of roles) roles
-    → Tells (level_in design roles) (nets_of design) from to changed → TellsThose (IsDriven (driven_of roles)) (value design) from to changed
-share-tells design roles from to changed are tells = record {
-  words = λ one among driven.
-      tells-same (level_in design roles) (value design) from to one one refl (λ tick. driven-level design roles are one.net tick driven)
-      (All-contains (TellsNet (level_in design roles) from to) changed one tells.words among);
-  others = λ net driven none.
-      still-agrees (level_in design roles net) (value design net) from to (λ tick late below. driven-level design roles are net tick driven)
-      (tells.others net (driven-net design roles are net driven).0 none);
+-- an absent net doesn't change
+absent-still : (design : Design) (roles : List Role) (from to : ℕ) (one : Changed) → 1 ≤ from → TellsNet (level_in design roles) from to one → lacks roles one.net ≡ true → IsStill (levels_up_to to one.word) from to
+absent-still design roles from to one begun tells lacking =
+    tells.changes ∙ ticks-still (level_in design roles one.net) from to begun (λ tick late below. rw lacking refl)
+
+-- so a word that changes is of a net that is present
+moved-present : (design : Design) (roles : List Role) (from to : ℕ) (one : Changed) → 1 ≤ from → TellsNet (level_in design roles) from to one → (IsStill (levels_up_to to one.word) from to → ⊥) → lacks roles one.net ≡ false
+moved-present design roles from to one begun tells moves = go (cases_Bool (lacks roles one.net))
+  where
+    go : (lacks roles one.net ≡ true) ⊎ (lacks roles one.net ≡ false) → lacks roles one.net ≡ false
+    go (inl lacking) = absurd (moves (absent-still design roles from to one begun tells lacking))
+    go (inr present) = present
+
+pub share-tells : (design : Design) (roles : List Role) (wanted : List ℕ) (from to : ℕ) (changed : List Changed) → 1 ≤ from → AreOf design (driven_of roles) roles → EachChanges from to changed
+    → TellsAll (IsWanted wanted (nets_of design)) (level_in design roles) from to changed
+    → TellsAll (λ net. IsDriven (driven_of roles) net × (is_told wanted net ≡ true)) (value design) from to changed
+share-tells design roles wanted from to changed begun are moves tells = record {
+  words = λ k d small.
+      let one = get_or changed k d in
+      let present = moved-present design roles from to one begun (tells.words k d small) (moves k d small) in
+      tells-same (level_in design roles) (value design) from to one one refl (λ tick. level-present design roles one.net tick present) (tells.words k d small);
+  others = λ net owed none.
+      still-agrees (level_in design roles net) (value design net) from to (λ tick late below. driven-level design roles are net tick owed.0)
+      (tells.others net ((driven-net design roles are net owed.0).0, sym (told-has wanted net) ∙ owed.1) none);
 }

@@ -15,16 +15,19 @@ use Rattle.cmb_design_model.specs.Design.{Design}
 use Rattle.cmb_design_model.specs.Exact.{nets_of}
 use Rattle.cmb_design_model.specs.Value.{delayed}
 use Rattle.cmb_words.specs.declared.changed.Changed.{Changed}
-use Rattle.cmb_words.specs.Changes.{Tells, TellsNet, is_among}
+use Rattle.cmb_words.specs.Changes.{TellsNet, is_among}
 use Rattle.cmb_words.specs.Word.{level_at_place}
 use Rattle.cmb_words.proofs.StillFacts.{still-ticks}
 use Rattle.cmb_words.proofs.TellsFacts.{tells-level}
 use Rattle.cmb_engine.specs.Inner.Ahead.{TellsAhead}
+use Rattle.cmb_engine.specs.Inner.Bits.{has}
 use Rattle.cmb_engine.specs.Inner.Cells.{Cell, cell_at, is_made}
+use Rattle.cmb_engine.specs.Inner.Collects.{IsWanted}
 use Rattle.cmb_engine.specs.Inner.Lines.{IsAhead, IsOfLine, NotesEach}
 use Rattle.cmb_engine.specs.Inner.Roles.{gives, level_in}
 use Rattle.cmb_engine.specs.Inner.Tells.{AreTold, AreOfWindow, IsRight, IsTold, reach_of}
 use Rattle.cmb_engine.specs.Inner.Traces.{IsPlan, trace_of}
+use Rattle.cmb_engine.specs.Shares.{TellsAll}
 use Rattle.cmb_engine.specs.declared.cell.Pin.{Pin}
 use Rattle.cmb_engine.specs.declared.role.Role.{Role}
 use Rattle.cmb_engine.proofs.SlotFacts.{trace-line, reach-net, reach-line}
@@ -122,7 +125,7 @@ module _ (design : Design) (roles : List Role) (lines : List Pin) (most width ho
 
   -- the calendar then, of which the tells of lines were noted
   module _ (new : Calendar) (changed : List Changed) (noted : NotesEach (IsOfLine changed lines (nets_of design) to first) between new)
-      (tells : Tells (level_in design roles) (nets_of design) from to changed) where
+      (wanted : List ℕ) (followed : All (λ line. has wanted line.net ≡ true) lines) (tells : TellsAll (IsWanted wanted (nets_of design)) (level_in design roles) from to changed) where
     same : between.horizon ≡ horizon
     same = takes.horizon ∙ window.same_horizon
 
@@ -167,10 +170,15 @@ module _ (design : Design) (roles : List Role) (lines : List Pin) (most width ho
     told-still slot tick late near (inl h) = inl h
     told-still slot tick late near (inr h) = inr ((noted _).1 (inl ((takes.late _).1 (h, late))))
 
+    -- a net that a line follows is wanted
+    following : (line : Pin) (number : ℕ) → slice_get lines number ≡ Some line → has wanted line.net ≡ true
+    following line number is =
+        subst (λ (l : Pin). has wanted l.net ≡ true) (get_or_from_slice_get lines number line line is) (followed number line (slice_get_within lines number line is))
+
     -- what a line shows of the window is told
-    told-line : (slot tick past : ℕ) (line : Pin) → nets_of design ≤ slot → slice_get lines (slot - nets_of design) ≡ Some line → line.net < nets_of design
+    told-line : (slot tick past : ℕ) (line : Pin) → nets_of design ≤ slot → slice_get lines (slot - nets_of design) ≡ Some line → IsWanted wanted (nets_of design) line.net
         → tick ≡ past + line.delay → from ≤ past → past < to → tick < horizon → IsTold (trace_of design roles lines) new.tells slot tick
-    told-line slot tick past line late is net at begun ended near = go (cases_Bool (is_among line.net changed))
+    told-line slot tick past line late is want at begun ended near = go (cases_Bool (is_among line.net changed))
       where
         now : trace_of design roles lines slot tick ≡ level_in design roles line.net past
         now = trace-line design roles lines slot tick line late is ∙ delayed-later (level_in design roles line.net) line.delay past tick at
@@ -236,7 +244,7 @@ module _ (design : Design) (roles : List Role) (lines : List Pin) (most width ho
             let one = among-one line.net changed h in
             change one.0 one.1 one.2 (cases_Bool (same_level (level_at_place one.0.word (past + 64 - to - 1)) (level_at_place one.0.word (past + 64 - to))))
         go (inr h) =
-            let still = still-ticks (level_in design roles line.net) from to (tells.others line.net net h) (past - 1) (omega (arith, next, begun)) (omega (arith, next, ended)) in
+            let still = still-ticks (level_in design roles line.net) from to (tells.others line.net want h) (past - 1) (omega (arith, next, begun)) (omega (arith, next, ended)) in
             steady (still ∙ ap (λ n. level_in design roles line.net n) next)
 
     -- the calendar has what is told of the ticks from the window's end on
@@ -264,7 +272,7 @@ module _ (design : Design) (roles : List Role) (lines : List Pin) (most width ho
         split slot tick inside untold other late ahead near (inr far) (inr line) =
             let of = line-of slot inside line in
             let reach = reach-line (nets_of design) lines horizon slot of.0 line of.1 in
-            told-line slot tick (tick - of.0.delay) of.0 line of.1 of.2 (omega (arith, far, reach)) (omega (arith, far, reach)) (omega (arith, ahead, far, reach, window.some)) near
+            told-line slot tick (tick - of.0.delay) of.0 line of.1 (of.2, following of.0 (slot - nets_of design) of.1) (omega (arith, far, reach)) (omega (arith, far, reach)) (omega (arith, ahead, far, reach, window.some)) near
 
 -- ---- the same of an engine's calendar
 
@@ -291,10 +299,11 @@ module _ (design : Design) (roles : List Role) (lines : List Pin) (most width : 
 
   -- and once they are, the calendar has what is told from the window's end on
   pub noted-tells : (new : Calendar) (changed : List Changed) → NotesEach (IsOfLine changed lines (nets_of design) to first) between new
-      → new.horizon ≡ between.horizon → new.clock ≡ between.clock → Tells (level_in design roles) (nets_of design) from to changed → TellsAhead design roles lines cells to new
-  noted-tells new changed noted same_horizon clock tells = record {
+      → new.horizon ≡ between.horizon → new.clock ≡ between.clock → (wanted : List ℕ) → All (λ line. has wanted line.net ≡ true) lines
+      → TellsAll (IsWanted wanted (nets_of design)) (level_in design roles) from to changed → TellsAhead design roles lines cells to new
+  noted-tells new changed noted same_horizon clock wanted followed tells = record {
     same_horizon = same_horizon ∙ takes.horizon ∙ kept.same_horizon;
     before = omega (arith, clock, takes.clock);
-    below = still-below design roles lines most width design.horizon cells plan old between taken from to first window takes kept.below kept.told new changed noted tells;
-    told = told-ahead design roles lines most width design.horizon cells plan old between taken from to first window takes kept.below kept.told new changed noted tells;
+    below = still-below design roles lines most width design.horizon cells plan old between taken from to first window takes kept.below kept.told new changed noted wanted followed tells;
+    told = told-ahead design roles lines most width design.horizon cells plan old between taken from to first window takes kept.below kept.told new changed noted wanted followed tells;
   }

@@ -1,5 +1,6 @@
 //! A design's circuit: what an engine keeps of a design, and never changes.
 
+use crate::bits::Bits;
 use crate::cell::Pin;
 use crate::readers::Readers;
 use crate::wiring::Wiring;
@@ -13,6 +14,8 @@ pub(crate) struct Circuit {
     pub lines: Vec<Pin>,
     /// The numbers of the lines that follow each net.
     pub followers: Readers,
+    /// The nets that are told where they change, and those that lines follow.
+    pub wanted: Bits,
     /// The most ticks of a window.
     pub width: u32,
 }

@@ -1,6 +1,6 @@
 //! The passes over live slots where no level is x: of a word, the places that are 1 say all.
 
-ghost use Rattle.std.specs.Prelude.{◌≡◌, ◌≢◌, ℕ, ◌+◌, ◌*◌, ◌<◌, ◌≤◌, ◌⊎◌, false, true, length, min, OnOk};
+ghost use Rattle.std.specs.Prelude.{◌≡◌, ◌≢◌, ℕ, ◌+◌, ◌*◌, ◌%◌, ◌<◌, ◌≤◌, ◌⊎◌, false, true, length, min, OnOk};
 ghost use Rattle.cmb_words.specs.Bits.{is_set_at, level_in};
 ghost use Rattle.cmb_engine.specs.Inner.Batches.{Moves};
 ghost use Rattle.cmb_engine.specs.Inner.Bits.{has};
@@ -9,10 +9,12 @@ ghost use Rattle.cmb_engine.specs.Inner.Collects.{IsCollected};
 ghost use Rattle.cmb_engine.specs.Inner.Known.{known_levels};
 ghost use Rattle.cmb_engine.specs.Inner.Orders.{rank_in};
 
+use crate::bits::Bits;
 use crate::fanout::Fanout;
 use crate::known::{known, places_from};
 use crate::marks::{Marked, Marks};
 use crate::settle::{mark_all, with_place};
+use crate::wanted::wanted_among;
 use cmb_netlist::MAX_NETS;
 use cmb_words::{Changed, Places};
 use std::alloc::AllocError;
@@ -128,10 +130,12 @@ pub(crate) fn move_known(
     steady
 }
 
-/// Tells those nets of a word, below a count of nets, that changed at a place or after it, behind the ones before them.
+/// Tells those wanted nets of a word, below a count of nets, that changed at a place or after it, behind the ones
+/// before them.
 pub(crate) fn collect_known(
     ones: &[u64],
     batch: Marked,
+    wanted: &Bits,
     nets: usize,
     first: u32,
     changed: &mut Vec<Changed>,
@@ -141,15 +145,17 @@ pub(crate) fn collect_known(
     requires begun { 1 ≤ first }
     requires first { first < 64 }
     requires base { batch.base < nets }
+    requires aligned { batch.base % 64 ≡ 0 }
     requires quiet { (place : ℕ) → place < 64 → is_set_at batch.places place ≡ false → batch.base + place < nets
-        → IsSteadyFrom (known_levels ones.now (batch.base + place)) first }
-    requires collected { IsCollected (known_levels ones.now) first batch.base changed.old.items }
-    ensures { OnOk result
-        (IsCollected (known_levels ones.now) first (min (batch.base + 64) nets) changed.new.items) }
+        → has wanted.now (batch.base + place) ≡ true → IsSteadyFrom (known_levels ones.now (batch.base + place)) first }
+    requires collected { IsCollected (known_levels ones.now) (has wanted.now) first batch.base changed.old.items }
+    ensures { OnOk result (IsCollected (known_levels ones.now) (has wanted.now) first (min (batch.base + 64) nets)
+        changed.new.items) }
 {
     // All nets of the word find room then.
     changed.reserve(64)?;
     let late = places_from(first);
+    let batch = wanted_among(batch, wanted);
     let places = places_below(batch, nets);
     for place in Places::of(places) {
         let net = batch.base + place as usize;

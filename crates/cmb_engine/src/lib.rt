@@ -35,6 +35,7 @@ mod stimuli;
 mod told;
 mod visit;
 mod walk;
+mod wanted;
 mod window;
 pub mod windows;
 mod wiring;

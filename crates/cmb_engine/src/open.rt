@@ -1,6 +1,7 @@
 //! How an engine begins.
 
-ghost use Rattle.std.specs.Prelude.{◌≡◌, ℕ, ◌*◌, ◌^◌, ◌<◌, ◌≤◌, true, length, IfOk};
+ghost use Rattle.std.specs.Prelude.{◌≡◌, ℕ, ◌*◌, ◌^◌, ◌<◌, ◌≤◌, false, true, length, slice_index_or, IfOk};
+ghost use Rattle.cmb_design_model.specs.Exact.{nets_of};
 ghost use Rattle.cmb_engine.specs.Inner.Ahead.{TellsAhead};
 ghost use Rattle.cmb_engine.specs.Inner.Bits.{has};
 ghost use Rattle.cmb_engine.specs.Inner.Circuits.{Shows};
@@ -19,26 +20,32 @@ use crate::role::Role;
 use crate::start::start_words;
 use crate::state::State;
 use crate::stimuli::{note_starts, note_stimuli};
+use crate::wanted::wanted_of;
 use crate::wiring::Wiring;
 use crate::words::Words;
 use cmb_design_model::Design;
 use cmb_wheel::Calendar;
 use std::alloc::{AllocError, Global};
 
-/// The circuit of a design, of which each net has its role.
+/// The circuit of a design, of which each net has its role, with the nets that are to be told.
 pub(crate) fn open_circuit(
     alloc: Global,
     design: &Design,
     roles: Vec<Role>,
+    told: &[bool],
 ) -> Result<Circuit, AllocError>
-    requires { AreRoles design.now roles.items }
+    requires roles { AreRoles design.now roles.items }
+    requires told { length told.now ≡ nets_of design.now }
     ensures circuit { IfOk result (λ circuit. IsCircuit design.now circuit) }
     ensures roles { IfOk result (λ circuit. circuit.wiring.roles.items ≡ roles.items) }
+    ensures wanted { IfOk result (λ circuit. (net : ℕ) → slice_index_or told.now net false ≡ true
+        → has circuit.wanted net ≡ true) }
 {
     let plan = plan_of(alloc, design, roles.as_slice())?;
     let fanout = fanout_of(alloc, &plan.cells)?;
     let flops = flops_of(alloc, &plan.cells)?;
     let followers = followers_of(alloc, &plan.lines, design.netlist().len())?;
+    let wanted = wanted_of(alloc, told, &plan.lines)?;
     Ok(Circuit {
         wiring: Wiring {
             roles,
@@ -49,6 +56,7 @@ pub(crate) fn open_circuit(
         },
         lines: plan.lines,
         followers,
+        wanted,
         width: plan.width,
     })
 }

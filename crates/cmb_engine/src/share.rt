@@ -1,12 +1,13 @@
 //! The engine of a share of a design's nets.
 
-ghost use Rattle.std.specs.Prelude.{◌≡◌, ℕ, ◌+◌, ◌<◌, ◌≤◌, ◌↔◌, All, Contains, IfOk, OnOk, [], length};
+ghost use Rattle.std.specs.Prelude.{◌≡◌, ℕ, ◌+◌, ◌<◌, ◌≤◌, ◌↔◌, All, Contains, IfOk, OnOk, [], false};
+ghost use Rattle.std.specs.Prelude.{true, length, slice_index_or};
 ghost use Rattle.cmb_design_model.specs.Exact.{nets_of};
 ghost use Rattle.cmb_design_model.specs.Timing.{delay};
 ghost use Rattle.cmb_design_model.specs.Value.{value};
 ghost use Rattle.cmb_engine.specs.Crossings.{IsCrossing, IsWithinLookahead};
 ghost use Rattle.cmb_engine.specs.Inner.Roles.{driven_of, AreOf};
-ghost use Rattle.cmb_engine.specs.Shares.{IsDriven, IsGiven, EachChanges, TellsThose};
+ghost use Rattle.cmb_engine.specs.Shares.{IsDriven, IsGiven, IsOwed, EachChanges, TellsAll, TellsThose, is_told};
 ghost use Rattle.cmb_engine.specs.Inner.States.{IsCircuit};
 ghost use Rattle.cmb_words.specs.Changes.{IsWindow};
 
@@ -53,6 +54,7 @@ impl<'d> Model for ShareEngine<'d> {
       design = engine.design.now;
       driven = driven_of engine.circuit.wiring.roles.items;
       exports = slots_of engine.exports.items;
+      told = engine.circuit.wanted;
       width = engine.circuit.width;
       clock = engine.state.clock;
     } };
@@ -75,6 +77,7 @@ impl<'d> ShareEngine<'d> {
         ensures design { IfOk result (λ engine. engine.design ≡ design.entry.now) }
         ensures driven { IfOk result (λ engine. engine.driven ≡ driven_of circuit.wiring.roles.items) }
         ensures exports { IfOk result (λ engine. engine.exports ≡ []) }
+        ensures told { IfOk result (λ engine. engine.told ≡ circuit.wanted) }
         ensures width { IfOk result (λ engine. engine.width ≡ circuit.width) }
         ensures clock { IfOk result (λ engine. engine.clock ≡ 1) }
     {
@@ -92,20 +95,25 @@ impl<'d> ShareEngine<'d> {
         }
     }
 
-    /// The engine of the nets that `driven` marks, of which tick 0 is known. Inputs among them have their stimuli.
+    /// The engine of the nets that `driven` marks, of which tick 0 is known. Inputs among them have their stimuli. It
+    /// tells changes of the nets that `told` marks.
     pub fn open(
         alloc: Global,
         design: &'d Design,
         driven: &[bool],
+        told: &[bool],
     ) -> Result<ShareEngine<'d>, AllocError>
-        requires { length driven.now ≡ nets_of design.now }
+        requires driven { length driven.now ≡ nets_of design.now }
+        requires told { length told.now ≡ nets_of design.now }
         ensures design { IfOk result (λ engine. engine.design ≡ design.entry.now) }
         ensures driven { IfOk result (λ engine. engine.driven ≡ driven.now) }
         ensures exports { IfOk result (λ engine. engine.exports ≡ []) }
+        ensures told { IfOk result (λ engine. (net : ℕ) → slice_index_or told.now net false ≡ true
+            → is_told engine.told net ≡ true) }
         ensures clock { IfOk result (λ engine. engine.clock ≡ 1) }
     {
         let roles = roles_of(alloc, design, driven)?;
-        let circuit = open_circuit(alloc, design, roles)?;
+        let circuit = open_circuit(alloc, design, roles, told)?;
         ShareEngine::begin(alloc, design, circuit)
     }
 
@@ -113,6 +121,7 @@ impl<'d> ShareEngine<'d> {
     pub fn exporting(self, alloc: Global, crossing: &[bool]) -> Result<ShareEngine<'d>, AllocError>
         ensures design { IfOk result (λ engine. engine.design ≡ self.entry.design) }
         ensures driven { IfOk result (λ engine. engine.driven ≡ self.entry.driven) }
+        ensures told { IfOk result (λ engine. engine.told ≡ self.entry.told) }
         ensures width { IfOk result (λ engine. engine.width ≡ self.entry.width) }
         ensures clock { IfOk result (λ engine. engine.clock ≡ self.entry.clock) }
         ensures exports { IfOk result (λ engine. (net : ℕ) → Contains engine.exports net
@@ -188,8 +197,8 @@ impl<'d> ShareEngine<'d> {
 
     /// Goes on by a window up to the tick `upto`. `given` has the changes in it of the nets that driven nets read and
     /// this engine doesn't drive, in any order; what else it has is passed over. `changed` gets the driven nets that
-    /// changed, by rising number, each with its levels up to the window's end, in place of what it had; given nets that
-    /// changed stand among them.
+    /// changed and are to be told, by rising number, each with its levels up to the window's end, in place of what it
+    /// had. Other nets may stand among them, as they are.
     pub fn advance(
         self,
         upto: u32,
@@ -204,11 +213,12 @@ impl<'d> ShareEngine<'d> {
         ensures design { IfOk result (λ engine. engine.design ≡ self.entry.design) }
         ensures driven { IfOk result (λ engine. engine.driven ≡ self.entry.driven) }
         ensures exports { IfOk result (λ engine. engine.exports ≡ self.entry.exports) }
+        ensures told { IfOk result (λ engine. engine.told ≡ self.entry.told) }
         ensures width { IfOk result (λ engine. engine.width ≡ self.entry.width) }
         ensures clock { IfOk result (λ engine. engine.clock ≡ upto) }
         ensures window { IfOk result (λ engine. IsWindow (nets_of self.entry.design) self.entry.design.horizon
             self.entry.clock engine.clock changed.new.items) }
-        ensures tells { IfOk result (λ engine. TellsThose (IsDriven self.entry.driven) (value self.entry.design)
+        ensures tells { IfOk result (λ engine. TellsAll (IsOwed self.entry) (value self.entry.design)
             self.entry.clock engine.clock changed.new.items) }
         ensures changes { IfOk result (λ engine. EachChanges self.entry.clock engine.clock changed.new.items) }
     {

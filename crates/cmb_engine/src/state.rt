@@ -3,11 +3,12 @@
 ghost use Rattle.std.specs.Prelude.{◌≡◌, ◌+◌, ◌<◌, ◌≤◌, OnOk};
 ghost use Rattle.cmb_design_model.specs.Exact.{nets_of};
 ghost use Rattle.cmb_design_model.specs.Value.{value};
-ghost use Rattle.cmb_words.specs.Changes.{IsWindow, Tells};
+ghost use Rattle.cmb_words.specs.Changes.{IsWindow};
+ghost use Rattle.cmb_engine.specs.Inner.Collects.{IsWanted};
 ghost use Rattle.cmb_engine.specs.Inner.Gifts.{AreGiven};
 ghost use Rattle.cmb_engine.specs.Inner.Roles.{level_in};
 ghost use Rattle.cmb_engine.specs.Inner.States.{IsCircuit, IsState};
-ghost use Rattle.cmb_engine.specs.Shares.{EachChanges};
+ghost use Rattle.cmb_engine.specs.Shares.{EachChanges, TellsAll};
 
 use crate::circuit::Circuit;
 use crate::collect::collect;
@@ -38,8 +39,8 @@ pub(crate) struct State {
 }
 
 impl State {
-    /// Goes on by a window up to a tick, with the changes of given nets, and says which nets changed in it. After an
-    /// Err it isn't to be used again.
+    /// Goes on by a window up to a tick, with the changes of given nets, and says which wanted nets changed in it.
+    /// After an Err it isn't to be used again.
     pub(crate) fn advance(
         &mut self,
         design: &Design,
@@ -58,9 +59,8 @@ impl State {
         ensures clock { OnOk result (self.new.clock ≡ upto) }
         ensures window { OnOk result (IsWindow (nets_of design.now) design.now.horizon
             self.old.clock self.new.clock changed.new.items) }
-        ensures tells { OnOk result (Tells
-            (level_in design.now circuit.now.wiring.roles.items) (nets_of design.now)
-            self.old.clock self.new.clock changed.new.items) }
+        ensures tells { OnOk result (TellsAll (IsWanted circuit.now.wanted (nets_of design.now))
+            (level_in design.now circuit.now.wiring.roles.items) self.old.clock self.new.clock changed.new.items) }
         ensures changes { OnOk result (EachChanges self.old.clock self.new.clock changed.new.items) }
     {
         // The proof learns here how late the horizon is at most.
@@ -80,6 +80,7 @@ impl State {
         collect(
             &self.words,
             &self.live,
+            &circuit.wanted,
             design.netlist().len(),
             64 - ticks,
             changed,

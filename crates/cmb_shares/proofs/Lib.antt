@@ -3,7 +3,6 @@ pub mod FlowFacts
 pub mod GatherFacts
 pub mod HeardFacts
 pub mod JoinFacts
-pub mod KeepFacts
 pub mod OpeningFacts
 pub mod PlaceFacts
 pub mod ProcessFacts

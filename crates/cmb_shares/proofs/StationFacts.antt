@@ -23,7 +23,7 @@ pub engines-rest : (run : Run) (first : ℕ) (engines : List ShareEngine) → 0 
 engines-rest run first [] some each = absurd (omega (arith, some))
 engines-rest run first (e ∷ es) some each = λ k d h.
     let here : first + suc k ≡ (first + 1) + k = omega arith in
-    subst (λ n. IsEngineOf run.design run.crossing (driven_by run n) (get_or es k d)) here (each (suc k) d (omega (arith, h)))
+    subst (λ n. IsEngineOf run.design run.crossing run.owners n (driven_by run n) (get_or es k d)) here (each (suc k) d (omega (arith, h)))
 
 pub short-rest : (width : ℕ) (engines : List ShareEngine) → 0 < length engines → ((k : ℕ) (d : ShareEngine) → k < length engines → width ≤ (get_or engines k d).width)
     → (k : ℕ) (d : ShareEngine) → k < length (remove engines 0) → width ≤ (get_or (remove engines 0) k d).width

@@ -1,13 +1,15 @@
--- What a share owns of what its engine tells.
+-- What a share tells of its nets.
 use Rattle.std.proofs.Common.{◌≡◌, ◌∙◌, ℕ, ◌<◌, ◌==◌, ◌||◌, Bool, true, false, nat_lt, List, [], ◌∷◌, cond, length, get_or, ap, refl, sym, subst, arith}
 use Rattle.std.specs.Result.{is_err}
 use Rattle.std.specs.Prelude.{All, Contains, OnOk, Result, Ok, Err, filter}
 use Rattle.std.proofs.lemmas.Bool.{and_from, and_parts, eq-eqb, eqb-true, false≢true, lt-ltb, ltb-true, not_from_false}
 use Rattle.std.proofs.lemmas.List.Elements.{All-cons, All-contains, All-filter, All-nil, Contains-get_or}
+use Rattle.cmb_design_model.specs.Exact.{nets_of}
 use Rattle.cmb_design_model.specs.Value.{value}
-use Rattle.cmb_engine.specs.Shares.{IsDriven, TellsThose}
-use Rattle.cmb_words.specs.Changes.{IsStill, TellsNet, is_among}
+use Rattle.cmb_engine.specs.Shares.{IsDriven, IsOwed, TellsAll, TellsThose}
+use Rattle.cmb_words.specs.Changes.{IsStill, RisesWithin, TellsNet, is_among}
 use Rattle.cmb_words.specs.declared.changed.Changed.{Changed}
+use Rattle.cmb_words.proofs.Rising.{rises_at}
 use Rattle.cmb_words.proofs.StillFacts.{still-empty}
 use Rattle.cmb_shares.specs.declared.simulator.Simulator.{Simulator}
 use Rattle.cmb_shares.specs.Inner.Messages.{AreTold}
@@ -86,14 +88,15 @@ module _ (run : Run) (number reader from upto : ℕ) (changed : List Changed) (p
     others = λ net own reads none. others net own reads (sym (among-filter p net (fits net own reads) changed) ∙ none);
   }
 
--- all that it owns, to any reader
-pub told-owned : (run : Run) (number reader from upto : ℕ) (changed : List Changed) → IsRun run → number < length run.driven
-    → TellsThose (IsDriven (driven_by run number)) (value run.design) from upto changed → AreTold run number reader from upto (filter (is_owned run.owners number) changed)
-told-owned run number reader from upto changed is within tells =
-    told-filter run number reader from upto changed (is_owned run.owners number) (owned-owns run number) (λ x own reads. owns-owned run number x own)
-    (λ one there own. tells.words one there (is.owned number one.net within own))
-    (λ net own reads none. tells.others net (is.owned number net within own) none)
-    is
+-- what its engine tells, to the text
+pub told-owned : (run : Run) (s : Simulator) (changed : List Changed) (upto : ℕ) → IsSimulator run s → TellsAll (IsOwed s.engine) (value run.design) s.engine.clock upto changed
+    → RisesWithin 0 (nets_of run.design) changed → AreTold run s.number (length run.driven) s.engine.clock upto changed
+told-owned run s changed upto is tells rises = record {
+  within = λ k d small. rises_at 0 (nets_of run.design) changed k d rises small;
+  among = λ share. absurd (omega (arith, share));
+  words = tells.words;
+  others = λ net own reads none. tells.others net (subst (λ (driven : List Bool). IsDriven driven net) (sym is.driven) (is.lawful.owned s.number net is.number own), is.told net own) none;
+}
 
 -- what was told ahead of it, to a share
 pub told-fed : (run : Run) (s : Simulator) (reader from upto : ℕ) (told : List Changed) → IsSimulator run s → reader < length run.driven

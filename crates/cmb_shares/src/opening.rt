@@ -1,6 +1,7 @@
 //! How a run begins.
 
-ghost use Rattle.std.specs.Prelude.{◌≡◌, ℕ, [], ◌+◌, ◌<◌, ◌≤◌, length, map, slice_index_or, All, IfOk, IfSome, Ok};
+ghost use Rattle.std.specs.Prelude.{◌≡◌, ℕ, [], ◌+◌, ◌<◌, ◌≤◌, ◌==◌, length, map, slice_index_or, All};
+ghost use Rattle.std.specs.Prelude.{IfOk, IfSome, Ok};
 ghost use Rattle.cmb_engine.specs.Shares.{ShareEngine};
 ghost use Rattle.cmb_graph_partition.specs.Partitions.{IsPartition};
 ghost use Rattle.cmb_shares.specs.Inner.Opened.{IsEngineOf};
@@ -45,7 +46,18 @@ fn all_of<T: Drop>(alloc: Global, made: Vec<Result<T, AllocError>>) -> Result<Ve
     Ok(all)
 }
 
-// The engine of the share of a number.
+// Which nets the share of a number owns.
+fn owned_by(alloc: Global, owners: &[u32], number: usize) -> Result<Vec<bool>, AllocError>
+    ensures { IfOk result (λ owned. owned.items ≡ map (λ owner. owner == number) owners.now) }
+{
+    let mut owned = Vec::new(alloc);
+    for owner in owners {
+        owned.push(*owner as usize == number)?;
+    }
+    Ok(owned)
+}
+
+// The engine of the share of a number, which tells what the share owns.
 fn open_engine<'a>(
     alloc: Global,
     design: &'a Design,
@@ -54,11 +66,12 @@ fn open_engine<'a>(
 ) -> Result<ShareEngine<'a>, AllocError>
     requires partition { IsPartition design.now.netlist partition.now }
     requires number { number < length partition.now.shares.items }
-    ensures { IfOk result (IsEngineOf design.entry.now partition.now.crossing.items
+    ensures { IfOk result (IsEngineOf design.entry.now partition.now.crossing.items partition.now.owners.items number
         (slice_index_or (map (λ s. s.driven.items) partition.now.shares.items) number [])) }
 {
     let driven = &partition.shares[number].driven;
-    let engine = ShareEngine::open(alloc, design, driven)?;
+    let told = owned_by(alloc, &partition.owners, number)?;
+    let engine = ShareEngine::open(alloc, design, driven, &told)?;
     let engine = engine.exporting(alloc, &partition.crossing)?;
     // Its contract tells how wide windows are.
     let _width = engine.width();
@@ -75,7 +88,7 @@ fn engines_of<'a, R: Threads + Sync>(
     requires { IsPartition design.now.netlist partition.now }
     ensures count { IfOk result (λ engines. length engines.items ≡ length partition.now.shares.items) }
     ensures each { IfOk result (λ engines. (k : ℕ) (d : ShareEngine) → k < length engines.items
-        → IsEngineOf design.entry.now partition.now.crossing.items
+        → IsEngineOf design.entry.now partition.now.crossing.items partition.now.owners.items k
         (slice_index_or (map (λ s. s.driven.items) partition.now.shares.items) k [])
         (slice_index_or engines.items k d)) }
 {
@@ -87,6 +100,7 @@ fn engines_of<'a, R: Threads + Sync>(
             requires place { place < length partition.now.shares.items }
             requires partition { IsPartition design.now.netlist partition.now }
             ensures { IfOk result (IsEngineOf design.entry.now partition.entry.now.crossing.items
+                partition.entry.now.owners.items place
                 (slice_index_or (map (λ s. s.driven.items) partition.entry.now.shares.items) place [])) }
         { open_engine(alloc, design, partition, place) },
     )?;

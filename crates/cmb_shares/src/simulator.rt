@@ -42,23 +42,6 @@ fn feeds(owners: &[u32], number: u32, driven: &[bool], one: Changed) -> bool
     }
 }
 
-// Keeps those of some changes that a share owns.
-fn keep_owned(changes: &mut Vec<Changed>, owners: &[u32], number: u32)
-    ensures { changes.new.items ≡ filter (is_owned owners.now number) changes.old.items }
-{
-    let mut kept = 0;
-    for place in 0..changes.len() {
-        if owns(owners, number, changes[place]) {
-            // Up to the first that isn't owned, none is moved.
-            if kept < place {
-                changes[kept] = changes[place];
-            }
-            kept += 1;
-        }
-    }
-    changes.truncate(kept);
-}
-
 /// Those of some changes that a share owns and another one, which drives these nets, doesn't drive, in place of what
 /// `fed` had.
 pub(crate) fn feed_of(
@@ -110,7 +93,7 @@ impl<'a> Simulator<'a> {
     }
 
     /// Goes on by the next window. `given` has what the share is given of it, and `changes` gets what it owns of what
-    /// changed there, in place of what it had. Errors: memory was refused.
+    /// changed there, and maybe others' changes, in place of what it had. Errors: memory was refused.
     pub(crate) fn advance<T: ShareRun>(
         self,
         upto: u32,
@@ -138,7 +121,6 @@ impl<'a> Simulator<'a> {
             drop(windows);
             return Err(AllocError);
         };
-        keep_owned(changes, owners, number);
         Ok(Simulator {
             number,
             shares,

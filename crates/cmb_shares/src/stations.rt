@@ -38,7 +38,7 @@ fn station_of<'a, T: ShareRun>(
     windows: &Windows,
 ) -> Result<(Station<'a, T>, Inflow<T>), AllocError>
     requires lawful { IsRun T.run }
-    requires engine { IsEngineOf T.run.design T.run.crossing (driven_by T.run number) engine }
+    requires engine { IsEngineOf T.run.design T.run.crossing T.run.owners number (driven_by T.run number) engine }
     requires short { T.run.windows.width ≤ engine.width }
     requires number { number < length T.run.driven }
     requires shares { shares ≡ length T.run.driven }

@@ -56,7 +56,7 @@ fn engine_of(alloc: Global, design: &Design) -> Result<ShareEngine<'_>, AllocErr
     ensures exports { IfOk result (λ engine. (net : ℕ) → Contains engine.exports net
         → IsCrossing engine.design (true ∷ false ∷ true ∷ []) net) }
 {
-    let engine = ShareEngine::open(alloc, design, &[true, true, true])?;
+    let engine = ShareEngine::open(alloc, design, &[true, true, true], &[true, true, true])?;
     engine.exporting(alloc, &CROSSING)
 }
 

@@ -2,7 +2,7 @@
 use Rattle.std.specs.Prelude.{◌≡◌, ◌↔◌, ℕ, ◌+◌, ◌<◌, ◌≤◌, ◌^◌, true, false, Bool, List, Contains, length, map, slice_index, slice_index_or}
 use Rattle.cmb_design_model.specs.Design.{Design}
 use Rattle.cmb_engine.specs.Crossings.{IsCrossing}
-use Rattle.cmb_engine.specs.Shares.{IsDriven, IsGiven, ShareEngine}
+use Rattle.cmb_engine.specs.Shares.{IsDriven, IsGiven, ShareEngine, is_told}
 use Rattle.cmb_engine.specs.Windows.{Windows}
 use Rattle.cmb_graph_partition.specs.declared.shares.Partition.{Partition}
 use Rattle.cmb_graph_partition.specs.declared.shares.Share.{Share}
@@ -19,11 +19,12 @@ run_of design partition windows = record {
   windows = windows;
 }
 
--- an engine of the share of a number, which made nothing yet
-pub record IsEngineOf (design : Design) (crossing : List Bool) (driven : List Bool) (engine : ShareEngine) : Type 0 where
+-- an engine of the share of a number, which made nothing yet and tells what the share owns
+pub record IsEngineOf (design : Design) (crossing : List Bool) (owners : List ℕ) (number : ℕ) (driven : List Bool) (engine : ShareEngine) : Type 0 where
   pub engaged : engine.design ≡ design
   pub drives : engine.driven ≡ driven
   pub exports : (net : ℕ) → Contains engine.exports net ↔ (IsDriven driven net × IsCrossing design crossing net)
+  pub told : (net : ℕ) → net < length owners → slice_index owners net ≡ number → is_told engine.told net ≡ true
   pub begun : engine.clock ≡ 1
   pub some : 2 ≤ engine.width
   pub most : engine.width < 63
@@ -31,7 +32,7 @@ pub record IsEngineOf (design : Design) (crossing : List Bool) (driven : List Bo
 -- engines of all shares of a run, from the share of a number on
 abbrev pub AreEngines : Run → ℕ → List ShareEngine → Type 0
 AreEngines run first engines =
-    (k : ℕ) (d : ShareEngine) → k < length engines → IsEngineOf run.design run.crossing (driven_by run (first + k)) (slice_index_or engines k d)
+    (k : ℕ) (d : ShareEngine) → k < length engines → IsEngineOf run.design run.crossing run.owners (first + k) (driven_by run (first + k)) (slice_index_or engines k d)
 
 -- the shares of a run are opened
 pub record AreOpened (run : Run) (engines : List ShareEngine) : Type 0 where

@@ -1,11 +1,11 @@
 -- A share's engine.
-use Rattle.std.specs.Prelude.{◌≡◌, ◌↔◌, ℕ, ◌<◌, ◌≤◌, ◌==◌, ◌&&◌, nat_lt, Bool, false, not, List, Contains, length, filter, slice_index, slice_index_or}
+use Rattle.std.specs.Prelude.{◌≡◌, ◌↔◌, ℕ, ◌<◌, ◌≤◌, ◌==◌, ◌&&◌, nat_lt, Bool, false, true, not, List, Contains, length, filter, slice_index, slice_index_or}
 use Rattle.cmb_engine.specs.Crossings.{IsCrossing}
-use Rattle.cmb_engine.specs.Shares.{IsDriven}
+use Rattle.cmb_engine.specs.Shares.{IsDriven, is_told}
 use Rattle.cmb_words.specs.declared.changed.Changed.{Changed}
 use Rattle.cmb_shares.specs.declared.simulator.Simulator.{Simulator}
 use Rattle.cmb_shares.specs.Inner.Messages.{AreTold}
-use Rattle.cmb_shares.specs.Inner.Runs.{IsRun, Run, driven_by}
+use Rattle.cmb_shares.specs.Inner.Runs.{IsRun, Owns, Run, driven_by}
 
 -- a simulator of a share of a run
 pub record IsSimulator (run : Run) (s : Simulator) : Type 0 where
@@ -17,6 +17,7 @@ pub record IsSimulator (run : Run) (s : Simulator) : Type 0 where
   pub design : s.engine.design ≡ run.design
   pub driven : s.engine.driven ≡ driven_by run s.number
   pub width : run.windows.width ≤ s.engine.width
+  pub told : (net : ℕ) → Owns run s.number net → is_told s.engine.told net ≡ true
   pub exports : (net : ℕ) → Contains s.engine.exports net ↔ (IsDriven (driven_by run s.number) net × IsCrossing run.design run.crossing net)
 
 -- whether a change is of a net that a share owns

@@ -20,6 +20,6 @@ returns-clause-each g c =
     let partition = c.args.partition.now in
     IfOk-weaker c.all_of.result _ _
     (λ engines are.
-    each-ok (λ k e. IsEngineOf c.args.design.now partition.crossing.items (get_or (map (λ (s : Share). s.driven.items) partition.shares.items) k []) e) c.in_ok-made.made.items engines.items are
+    each-ok (λ k e. IsEngineOf c.args.design.now partition.crossing.items partition.owners.items k (get_or (map (λ (s : Share). s.driven.items) partition.shares.items) k []) e) c.in_ok-made.made.items engines.items are
     (λ k d h. (each k d (omega (arith, h, c.in_ok-made.ensures.len, c.in_ok-made.made.ok))).1.met))
     c.all_of.ensures

@@ -19,8 +19,8 @@ station_of-requires-clause-engine g c =
     let engine : ShareEngine = c.remove-engine.result in
     let engines = c.loop-number.engines.items in
     let some : 0 < length engines = omega (arith, was.rest, c.loop-number-test.true) in
-    subst (λ (e : ShareEngine). IsEngineOf run.design run.crossing (driven_by run c.loop-number.number) e) (sym c.remove-engine.ensures.value)
-    (subst (λ n. IsEngineOf run.design run.crossing (driven_by run n) (get_or engines 0 engine)) (omega arith) (was.each 0 engine some))
+    subst (λ (e : ShareEngine). IsEngineOf run.design run.crossing run.owners c.loop-number.number (driven_by run c.loop-number.number) e) (sym c.remove-engine.ensures.value)
+    (subst (λ n. IsEngineOf run.design run.crossing run.owners n (driven_by run n) (get_or engines 0 engine)) (omega arith) (was.each 0 engine some))
 
 pub loop-number-preserved : goal.loop-number-preserved
 loop-number-preserved g c =

@@ -13,7 +13,7 @@ advance-requires-clause-given c = none-given c.self.inside.share (value c.self.i
 
 pub invariant_of-result : goal.invariant_of-result
 invariant_of-result c = record {
-  drives = drives-on c.self.inside.share c.in-Ok.share c.in-Ok.ensures.design c.in-Ok.ensures.driven c.self.invariant.drives;
+  drives = drives-on c.self.inside.share c.in-Ok.share c.in-Ok.ensures.design c.in-Ok.ensures.driven c.in-Ok.ensures.told c.self.invariant.drives;
   width = c.self.invariant.width ∙ sym c.in-Ok.ensures.width;
   horizon = c.self.invariant.horizon ∙ ap (λ (design : Design). design.horizon) (sym c.in-Ok.ensures.design);
 }
@@ -21,7 +21,7 @@ invariant_of-result c = record {
 pub returns-in-Ok-clause-tells : goal.returns-in-Ok-clause-tells
 returns-in-Ok-clause-tells c =
     subst (λ (e : Engine). Tells (value e.design) (nets_of e.design) e.clock c.in-Ok.share.clock c.advance.new.changed.items) c.self.view_is
-    (all-told c.self.inside.share c.self.inside.share.clock c.in-Ok.share.clock c.advance.new.changed.items c.self.invariant.drives c.in-Ok.ensures.window.nets c.in-Ok.ensures.tells)
+    (all-told c.self.inside.share c.self.inside.share.clock c.in-Ok.share.clock c.advance.new.changed.items c.self.invariant.drives c.in-Ok.ensures.tells)
 
 pub returns-in-Ok-clause-changes : goal.returns-in-Ok-clause-changes
 returns-in-Ok-clause-changes c = subst (λ (e : Engine). EachChanges e.clock c.in-Ok.share.clock c.advance.new.changed.items) c.self.view_is c.in-Ok.ensures.changes

@@ -2,15 +2,18 @@ use Rattle.std.proofs.Common.{◌+◌, ◌<◌, ◌≤◌, ap, subst, sym}
 use Rattle.cmb_design_model.specs.Exact.{nets_of}
 use Rattle.cmb_words.specs.Changes.{IsWindow}
 use Rattle.cmb_design_model.specs.Value.{value}
-use Rattle.cmb_engine.specs.Shares.{IsDriven, IsGiven, EachChanges, ShareEngine, TellsThose}
+use Rattle.cmb_engine.specs.Shares.{IsGiven, IsOwed, EachChanges, ShareEngine, TellsAll, TellsThose}
 use Rattle.cmb_engine.proofs.RoleFacts.{share-tells}
 use Rattle.cmb_engine.proofs.share.ShareEngine.advance.Goals as goal
 
 pub returns-in-Ok-clause-tells : goal.returns-in-Ok-clause-tells
 returns-in-Ok-clause-tells c =
-    subst (λ (e : ShareEngine). TellsThose (IsDriven e.driven) (value e.design) e.clock c.advance.new.self.clock c.advance.new.changed.items) c.self.view_is
-    (share-tells c.self.inside.design.now c.self.inside.circuit.wiring.roles.items c.self.inside.state.clock c.advance.new.self.clock c.advance.new.changed.items
-    c.self.invariant.2 c.in-Ok.ensures.tells)
+    subst (λ (e : ShareEngine). TellsAll (IsOwed e) (value e.design) e.clock c.advance.new.self.clock c.advance.new.changed.items) c.self.view_is
+    (share-tells c.self.inside.design.now c.self.inside.circuit.wiring.roles.items c.self.inside.circuit.wanted c.self.inside.state.clock c.advance.new.self.clock c.advance.new.changed.items
+    c.self.invariant.1.begun c.self.invariant.2 c.in-Ok.ensures.changes c.in-Ok.ensures.tells)
+
+pub returns-in-Ok-clause-told : goal.returns-in-Ok-clause-told
+returns-in-Ok-clause-told c = ap (λ (e : ShareEngine). e.told) c.self.view_is
 
 pub advance-requires-clause-given : goal.advance-requires-clause-given
 advance-requires-clause-given c =

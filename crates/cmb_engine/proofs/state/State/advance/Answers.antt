@@ -1,5 +1,5 @@
 use Rattle.std.proofs.Common.{◌≡◌, ◌<◌, ℕ, ◌-◌, List, length, refl, sym, ap, subst, ◌∙◌, arith}
-use Rattle.std.specs.Prelude.{All, Contains, false}
+use Rattle.std.specs.Prelude.{All, Contains, false, true}
 use Rattle.std.proofs.lemmas.Result.{on_ok_weaker}
 use Rattle.cmb_wheel.specs.declared.event.LevelEvent.{LevelEvent}
 use Rattle.cmb_design_model.specs.Exact.{nets_of}
@@ -80,9 +80,9 @@ module _ (c : After-note_lines) where
   right : All (HasWord (levels_of c.go_on.new.words)) c.collect.new.changed.items
   right = c.in_ok-collect.ensures.words
 
-  others : (net : ℕ) → net < nets_of c.args.design.now → is_among net c.collect.new.changed.items ≡ false
+  others : (net : ℕ) → net < nets_of c.args.design.now → has c.args.circuit.now.wanted net ≡ true → is_among net c.collect.new.changed.items ≡ false
       → IsSteadyFrom (levels_of c.go_on.new.words net) (64 - (c.args.upto - c.args.self.now.clock))
-  others net small none = c.in_ok-collect.ensures.others net (omega (arith, small, nets)) none
+  others net small want none = c.in_ok-collect.ensures.others net (omega (arith, small, nets)) want none
 
   noted : NotesEach (IsOfLine c.deref-2.result.now c.deref-3.result.now (length c.args.circuit.now.followers) c.args.upto (64 - (c.args.upto - c.args.self.now.clock)))
       c.take.new.self c.note_lines.new.calendar

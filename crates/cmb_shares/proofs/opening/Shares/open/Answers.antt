@@ -33,7 +33,7 @@ invariant_of-result g c =
       few = subst (λ n. n < 2 ^ 32) (sym count) c.requires.few;
       count = c.in_ok-engines.ensures.count ∙ sym count;
       each = λ k d h.
-          subst (λ n. IsEngineOf design partition.crossing.items (driven_by (run_of design partition windows) n) (get_or engines k d)) (omega arith) (c.in_ok-engines.ensures.each k d h);
+          subst (λ n. IsEngineOf design partition.crossing.items partition.owners.items n (driven_by (run_of design partition windows) n) (get_or engines k d)) (omega arith) (c.in_ok-engines.ensures.each k d h);
       short = λ k d h.
           subst (λ n. n ≤ (get_or engines k d).width) (sym width)
           (subst (λ (l : List ShareEngine). c.least_width-width.result ≤ (get_or l k d).width) c.deref.ensures.value (c.least_width-width.ensures.least k d (subst (λ (l : List ShareEngine). k < length l) (sym c.deref.ensures.value) h)));
