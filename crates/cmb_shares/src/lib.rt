@@ -16,6 +16,6 @@ mod station;
 mod stations;
 pub mod text;
 
-pub use costs::costs_of;
+pub use costs::{Costs, costs_of};
 pub use opening::Shares;
 pub use text::write_shares;

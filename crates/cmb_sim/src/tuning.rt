@@ -7,7 +7,7 @@ ghost use Rattle.cmb_graph_partition.specs.Partitions.{IsPartition};
 use cmb_design_model::Design;
 use cmb_graph_partition::{Partition, Structure, load, partition, structure_of, total};
 use cmb_netlist::{Driver, PartCount};
-use cmb_shares::costs_of;
+use cmb_shares::{Costs, costs_of};
 use std::alloc::{AllocError, Global};
 use std::thread;
 use std::thread::Threads;
@@ -28,6 +28,10 @@ const LEAST_NETS: usize = 2_048;
 
 // The share with the most to do has so many hundredths of all work at most, where shares pay.
 const MOST_OF_ALL: u64 = 70;
+
+// A share has at least so many hundredths of what the thread has to do that makes the text. More shares would wait for
+// it.
+const LEAST_OF_TEXT: u64 = 150;
 
 // What nets cost is seen in so many cycles, the first ones of a run. In fewer a processor hardly gets to its program.
 const CYCLES: u64 = 160;
@@ -101,24 +105,24 @@ fn is_even(costs: &[u32], partition: &Partition) -> bool
     true
 }
 
-// What a partition goes by: the structure of the netlist, if it isn't too large to be found quickly, and what each net
+// What a partition goes by: the structure of the netlist, if it isn't too large to be found quickly, and what the run
 // costs up to a tick. A thread finds the structure beside the calling one, which measures the costs.
 fn measured<R: Threads + Sync>(
     rt: &R,
     alloc: Global,
     design: &Design,
     upto: u32,
-) -> Result<(Option<Structure>, Vec<u32>), AllocError>
+) -> Result<(Option<Structure>, Costs), AllocError>
     ensures structure { IfOk result (λ found. IfSome found.0 (λ structure. structure ≡ nets_of design.now)) }
-    ensures costs { IfOk result (λ found. length found.1.items ≡ nets_of design.now) }
+    ensures costs { IfOk result (λ found. length found.1.nets.items ≡ nets_of design.now) }
 {
     let (structure, costs) = thread::join(
         rt,
         move || -> Result<Option<Structure>, AllocError>
             ensures { IfOk result (λ found. IfSome found (λ structure. structure ≡ nets_of design.entry.now)) }
         { structure_of(alloc, design.netlist()) },
-        move || -> Result<Vec<u32>, AllocError>
-            ensures { IfOk result (λ costs. length costs.items ≡ nets_of design.entry.now) }
+        move || -> Result<Costs, AllocError>
+            ensures { IfOk result (λ costs. length costs.nets.items ≡ nets_of design.entry.now) }
         { costs_of(alloc, design, upto) },
     );
     Ok((structure?, costs?))
@@ -133,6 +137,16 @@ fn at_once<R: Threads>(rt: &R, threads: u32) -> u32 {
         }
         Err(_) => threads,
     }
+}
+
+// How many shares there are at most, beside the thread that makes the text.
+fn most_shares(costs: &Costs, threads: u32) -> u32
+    requires { length costs.now.nets.items ≤ 65535 }
+{
+    let least = costs.text.saturating_mul(LEAST_OF_TEXT) / 100;
+    let busy = total(&costs.nets) / least.max(1);
+    let most = u64::from(threads.saturating_sub(1));
+    busy.saturating_add(1).max(2).min(most) as u32
 }
 
 /// The shares of a design's nets, where a thread for each pays beside the one that makes the text. Errors: memory was
@@ -158,8 +172,9 @@ pub(crate) fn partition_that_pays<R: Threads + Sync>(
     let Some(structure) = structure else {
         return Ok(None);
     };
-    match partition(alloc, design.netlist(), structure, &costs, threads - 1)? {
-        Some(partition) if is_even(&costs, &partition) => Ok(Some(partition)),
+    let most = most_shares(&costs, threads);
+    match partition(alloc, design.netlist(), structure, &costs.nets, most)? {
+        Some(partition) if is_even(&costs.nets, &partition) => Ok(Some(partition)),
         _ => Ok(None),
     }
 }

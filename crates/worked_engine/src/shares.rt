@@ -8,7 +8,7 @@ use cmb_design_model::{Design, Settings};
 use cmb_dump_stream::write_stream;
 use cmb_graph_partition::{Partition, partition, structure_of};
 use cmb_io::{Limited, Room, WriteFault};
-use cmb_shares::{Shares, costs_of, write_shares};
+use cmb_shares::{Costs, Shares, costs_of, write_shares};
 use cmb_wave::Level;
 use std::alloc::{AllocError, Global};
 use std::sync::Wait;
@@ -92,9 +92,9 @@ fn is_text<R: Threads + Wait + Sync>(
     )
 }
 
-/// What the nets of a design cost, which has these four: the input `i`, the flip-flop `s`, which reads itself and so
+/// What the run of a design costs, which has these four nets: the input `i`, the flip-flop `s`, which reads itself and so
 /// never changes, and the flip-flop `t`, which the inverter `n` turns at each sample.
-fn costs_of_four(alloc: Global) -> Result<Vec<u32>, Fail> {
+fn costs_of_four(alloc: Global) -> Result<Costs, Fail> {
     let inputs = Inputs {
         netlist: b"INPUT(i)\ns = DFF(s)\nt = DFF(n)\nn = NOT(t)\n",
         delays: b"",
@@ -118,12 +118,12 @@ fn costs(rt: HostRuntime) -> Result<(), Fail> {
     let costs = costs_of_four(rt.alloc())?;
     holds(
         &rt,
-        match costs.as_slice() {
+        match costs.nets.as_slice() {
             [0, still, turned, inverted] => {
                 0 < *still && *still < *turned && 0 < *inverted && *inverted < *turned
             }
             _ => false,
-        },
+        } && 0 < costs.text,
     );
     Ok(())
 }
@@ -134,7 +134,7 @@ fn halves(alloc: Global, design: &Design) -> Result<Option<Partition>, AllocErro
 {
     let costs = costs_of(alloc, design, design.horizon())?;
     match structure_of(alloc, design.netlist())? {
-        Some(structure) => partition(alloc, design.netlist(), structure, &costs, 2),
+        Some(structure) => partition(alloc, design.netlist(), structure, &costs.nets, 2),
         None => Ok(None),
     }
 }
