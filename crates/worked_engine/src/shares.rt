@@ -92,7 +92,7 @@ fn is_text<R: Threads + Wait + Sync>(
     )
 }
 
-/// What the run of a design costs, which has these four nets: the input `i`, the flip-flop `s`, which reads itself and so
+/// What the run of a design costs that has these four nets: the input `i`, the flip-flop `s`, which reads itself and so
 /// never changes, and the flip-flop `t`, which the inverter `n` turns at each sample.
 fn costs_of_four(alloc: Global) -> Result<Costs, Fail> {
     let inputs = Inputs {
