@@ -1,6 +1,6 @@
 //! The thresholds by which a run is planned: each is an estimate, and none changes a text.
 
-ghost use Rattle.std.specs.Prelude.{◌≡◌, ◌≤◌, true, length, All, IfOk, IfSome};
+ghost use Rattle.std.specs.Prelude.{◌≡◌, ◌-◌, ◌<◌, ◌≤◌, true, length, All, IfOk, IfSome};
 ghost use Rattle.cmb_design_model.specs.Exact.{nets_of};
 ghost use Rattle.cmb_graph_partition.specs.Partitions.{IsPartition};
 
@@ -129,7 +129,9 @@ fn measured<R: Threads + Sync>(
 }
 
 // So many of some threads as can be at work at once, where the system tells how many processors there are.
-fn at_once<R: Threads>(rt: &R, threads: u32) -> u32 {
+fn at_once<R: Threads>(rt: &R, threads: u32) -> u32
+    ensures { result ≤ threads }
+{
     match thread::available_parallelism(rt) {
         Ok(processors) => {
             let most = processors.get().saturating_mul(PER_PROCESSOR);
@@ -142,6 +144,7 @@ fn at_once<R: Threads>(rt: &R, threads: u32) -> u32 {
 // How many shares there are at most, beside the thread that makes the text.
 fn most_shares(costs: &Costs, threads: u32) -> u32
     requires { length costs.now.nets.items ≤ 65535 }
+    ensures { result ≤ threads - 1 }
 {
     let least = costs.text.saturating_mul(LEAST_OF_TEXT) / 100;
     let busy = total(&costs.nets) / least.max(1);
@@ -149,15 +152,16 @@ fn most_shares(costs: &Costs, threads: u32) -> u32
     busy.saturating_add(1).max(2).min(most) as u32
 }
 
-/// The shares of a design's nets, where a thread for each pays beside the one that makes the text. Errors: memory was
-/// refused.
+/// The shares of a design's nets, where a thread for each pays beside the one that makes the text: they are so many
+/// threads at most. Errors: memory was refused.
 pub(crate) fn partition_that_pays<R: Threads + Sync>(
     rt: &R,
     alloc: Global,
     design: &Design,
     threads: u32,
 ) -> Result<Option<Partition>, AllocError>
-    ensures { IfOk result (λ found. IfSome found (IsPartition design.now.netlist)) }
+    ensures partition { IfOk result (λ found. IfSome found (IsPartition design.now.netlist)) }
+    ensures few { IfOk result (λ found. IfSome found (λ partition. length partition.shares.items < threads)) }
 {
     let sampling = sampling_of(design);
     if threads < LEAST_THREADS || !is_long(design, &sampling) {
