@@ -1,8 +1,10 @@
 #!/usr/bin/env python3
-"""run.py [--quick | --short] [--times N] [--limit SECONDS] [--only NAME]... [--no-build] [--no-icarus] [--record] [--out FOLDER]
+"""run.py [--quick | --short] [--brief] [--times N] [--limit SECONDS] [--only NAME]... [--no-build] [--no-icarus] [--record] [--out FOLDER]
 
 Measures the program on the circuits of circuits.py and those in the folders that CIRCUITS names (with a colon
 between them), each in each mode, and beside it the C simulator that CREF names and Icarus Verilog, where they are there.
+The timed runs of a circuit are made in turn, so that other load falls on all alike. With --brief only those ways are
+measured that --record writes.
 Prints a table, and writes it and a plot to FOLDER, bench/out if not given. With --record it writes how one thread and four
 compare with the C simulator to bench/FIGURES.md, and some of it to README.md. Ends with status 1 if two ways gave
 different texts.
@@ -55,14 +57,15 @@ class Text:
 
 
 class Result:
-    """A way's times on a circuit, or a note in their place."""
+    """A way's times on a circuit, or a note in their place, and the command to be timed where it is to be timed yet."""
 
-    def __init__(self, circuit, way, sample=None, text=None, memory=0, note=""):
+    def __init__(self, circuit, way, sample=None, text=None, memory=0, note="", command=None):
         self.circuit, self.way, self.sample, self.text, self.memory, self.note = circuit, way, sample, text, memory, note
+        self.command = command
 
 
 def measure(circuit, way, command, netlist, nets, options, folder):
-    """A first run writes a file, whose text is compared; those that are timed write to nothing. A slow way is run once."""
+    """A first run, which writes a file, whose text is compared. A slow way is run once."""
     path = os.path.join(folder, "text.vcd")
     first = measuring.once_with_peak(command, netlist, path, options.limit, None, folder)
     if first.late:
@@ -73,7 +76,18 @@ def measure(circuit, way, command, netlist, nets, options, folder):
     os.remove(path)
     if first.wall > SLOW or options.times == 0:
         return Result(circuit, way, measuring.Sample([first]), text, first.memory)
-    return Result(circuit, way, measuring.sample(command, netlist, options.times, options.limit), text, first.memory)
+    return Result(circuit, way, None, text, first.memory, command=command)
+
+
+def time_in_turn(results, netlist, options):
+    """The runs that are timed. They write to nothing."""
+    timed = [result for result in results if result.command]
+    runs = [[] for _ in timed]
+    for _ in range(options.times):
+        for result, own in zip(timed, runs):
+            own.append(measuring.once(result.command, netlist, None, options.limit))
+    for result, own in zip(timed, runs):
+        result.sample = measuring.Sample(own)
 
 
 def icarus(circuit, text, options, folder):
@@ -101,6 +115,8 @@ def measure_circuit(name, options, reference, folder):
     horizon = int(words[words.index("--horizon") + 1])
     results = []
     for way, more in WAYS.items():
+        if options.brief and way not in RECORDED.values():
+            continue
         if way == "plain" and nets * horizon > PLAIN_CELLS:
             results.append(Result(name, way, note="more cells than mode plain may have"))
         elif way.startswith("free") and options.no_free:
@@ -110,14 +126,14 @@ def measure_circuit(name, options, reference, folder):
             if way == "free 2" and results[-1].note == "status 2":
                 options.no_free = True
                 results[-1].note = "the program has no such mode"
-        tell(results[-1])
     if reference:
         results.append(measure(name, "cref", [reference] + words, netlist, nets, options, folder))
-        tell(results[-1])
+    time_in_turn(results, netlist, options)
     text = next((result.text for result in results if result.text), None)
     if text and options.icarus and os.path.exists(os.path.join(folder, "netlist.v")):
         results.append(icarus(name, text, options, folder))
-        tell(results[-1])
+    for result in results:
+        tell(result)
     return results
 
 
@@ -182,6 +198,7 @@ def read_words():
     words = measuring.parser(__doc__, 120.0, 20.0)
     measuring.add_choice(words, circuits.names)
     words.add_argument("--no-icarus", action="store_true")
+    words.add_argument("--brief", action="store_true", help="only the ways that --record writes")
     if "--record" in sys.argv and not os.environ.get("CREF"):
         words.error("--record needs the C simulator, and CREF names none")
     options = measuring.begin(words)
