@@ -7,6 +7,7 @@ ghost use Rattle.cmb_shares.specs.Inner.Messages.{AreTold};
 ghost use Rattle.cmb_shares.specs.Inner.Runs.{IsTurn, Run, driven_by};
 ghost use Rattle.cmb_shares.specs.Inner.Simulators.{IsSimulator, IsToldAhead, is_fed, is_owned};
 
+use crate::message::Envelope;
 use crate::share_run::ShareRun;
 use cmb_engine::{ShareEngine, Windows};
 use cmb_words::Changed;
@@ -77,6 +78,18 @@ impl<'a> Simulator<'a> {
         ensures { IsTurn T.run self.now.engine.clock result }
     {
         self.windows.end(self.engine.clock())
+    }
+
+    /// The envelope of what the share tells a reader of the ticks from `from` on below `upto`.
+    pub(crate) fn envelope(&self, reader: u32, from: u32, upto: u32) -> Envelope
+        ensures { result ≡ record { sender = self.now.number; reader = reader; from = from; upto = upto } }
+    {
+        Envelope {
+            sender: self.number,
+            reader,
+            from,
+            upto,
+        }
     }
 
     /// Says ahead which of the share's crossing flip-flops change in the next window, in place of what `told` had.

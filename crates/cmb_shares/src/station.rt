@@ -10,7 +10,7 @@ ghost use Rattle.cmb_shares.specs.Inner.Simulators.{IsSimulator, IsToldAhead};
 ghost use Rattle.cmb_shares.specs.Inner.Stations.{AreFed, AreHeard, AreHeardOf, Covers, readers_of, senders_of};
 
 use crate::channel::{Inlet, Outlet};
-use crate::message::{Envelope, Message};
+use crate::message::Message;
 use crate::share_run::ShareRun;
 use crate::simulator::{Simulator, feed_of};
 use cmb_graph_partition::MOST_SHARES;
@@ -119,12 +119,7 @@ impl<'a, T: ShareRun> Feed<'a, T> {
         if feed_of(told, owners, simulator.number, self.driven, &mut changes).is_err() {
             return false;
         }
-        let envelope = Envelope {
-            sender: simulator.number,
-            reader: self.reader,
-            from: simulator.clock(),
-            upto,
-        };
+        let envelope = simulator.envelope(self.reader, simulator.clock(), upto);
         self.outlet.send(rt, Message::new(envelope, changes))
     }
 }
@@ -342,12 +337,7 @@ impl<'a, T: ShareRun> Station<'a, T> {
             drop((inlets, feeds, text, back, rooms, changes));
             return None;
         };
-        let envelope = Envelope {
-            sender: simulator.number,
-            reader: simulator.shares,
-            from,
-            upto,
-        };
+        let envelope = simulator.envelope(simulator.shares, from, upto);
         if !text.send(rt, Message::new(envelope, changes)) {
             drop((simulator, inlets, feeds, text, back, rooms));
             return None;

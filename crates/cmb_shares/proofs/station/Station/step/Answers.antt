@@ -24,7 +24,7 @@ invariant_of-result g c =
     let upto = c.next_end-upto.result in
     let here : take was.inlets.len (inlets ++ drop (length inlets) was.inlets.items) ≡ inlets = take_at inlets (drop (length inlets) was.inlets.items) was.inlets.len (omega (arith, c.talk.auto.inlets, c.deref_mut-2.ensures.len)) in
     let there : take was.feeds.len (feeds ++ drop (length feeds) was.feeds.items) ≡ feeds = take_at feeds (drop (length feeds) was.feeds.items) was.feeds.len (omega (arith, c.talk.auto.feeds, c.deref_mut.ensures.len)) in
-    let text = c.send.ensures.sent c.if-not-send.false ∙ c.new.ensures in
+    let text = c.send.ensures.sent c.if-not-send.false ∙ c.new.ensures ∙ c.envelope-envelope.ensures in
     record {
       simulates = went.simulates;
       heard =
@@ -56,7 +56,7 @@ returns-clause-turns g c =
     let new : Member = record { number = next.number; clock = next.engine.clock; outs = sent ∷ feeds; ins = inlets } in
     let here : take was.inlets.len (inlets ++ drop (length inlets) was.inlets.items) ≡ inlets = take_at inlets (drop (length inlets) was.inlets.items) was.inlets.len (omega (arith, c.talk.auto.inlets, c.deref_mut-2.ensures.len)) in
     let there : take was.feeds.len (feeds ++ drop (length feeds) was.feeds.items) ≡ feeds = take_at feeds (drop (length feeds) was.feeds.items) was.feeds.len (omega (arith, c.talk.auto.feeds, c.deref_mut.ensures.len)) in
-    let text = c.send.ensures.sent c.if-not-send.false ∙ c.new.ensures in
+    let text = c.send.ensures.sent c.if-not-send.false ∙ c.new.ensures ∙ c.envelope-envelope.ensures in
     let reader : sent.reader ≡ was.text.reader = ap (λ (e : Envelope). e.reader) text ∙ went.simulates.shares ∙ sym held.reader in
     let readers : readers_of (sent ∷ feeds) ≡ readers_of (was.text ∷ was.feeds.items) =
     ap (λ (n : ℕ). n ∷ readers_of feeds) reader ∙ ap (λ (l : List ℕ). was.text.reader ∷ l) (c.talk.ensures.readers talked ∙ ap readers_of c.deref_mut.ensures.value) in
