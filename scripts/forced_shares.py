@@ -1,12 +1,13 @@
 #!/usr/bin/env -S python3 -B
-"""forced_shares.py [--random N] [--seed S] [FOLDER..]: runs by shares where the program itself would not choose them.
+"""forced_shares.py [--random N] [--seed S] [--program PROGRAM] [FOLDER..]: runs by shares where the program itself would not choose them.
 
 The thresholds in cmb_sim/src/tuning.rt change no text. Here the program is built, and proved, with others, and put at
 out/forced_shares: in a run by three threads or more each netlist with two flip-flops or nets that nothing reads is cut into
-shares, however small it is and however short the run. The libraries have to be built already (make build).
+shares, however small it is and however short the run. The libraries have to be built already (make build). With --program
+nothing is built, and PROGRAM is run, which was made so.
 
 Then it runs N random circuits, 300 if not given, and the FOLDERs, which are laid out as those of examples/, in both modes by 3 to
-64 threads. Each has to write what one thread writes. The last line is 'N passed, M failed', over all runs.
+64 threads, of all nets and of the outputs. Each has to write what one thread writes. The last line is 'N passed, M failed', over all runs.
 """
 import argparse
 import os
@@ -52,31 +53,34 @@ def build():
         shutil.copy2(f"{room}/crates/cmbsim/out/cmbsim", MADE)
 
 
-def check(tally, name):
-    """One circuit, by each number of threads in each mode, against one thread's text."""
+def check(tally, name, program):
+    """One circuit, of all nets and of the outputs, by each number of threads in each mode, against one thread's text."""
     folder = Folder(name)
-    words = lambda mode, threads: [MADE, "run", *folder.options, "--mode", mode, "--threads", str(threads)]
-    wanted = run(words("rounds", 1), folder.netlist, 60)
-    for mode in ("rounds", "free"):
-        for threads, answer in each(lambda it: run(words(mode, it), folder.netlist, 60), THREADS):
-            tally.check(answer == wanted, lambda: f"{folder.name}, {mode} by {threads}: {answer}")
+    words = lambda mode, threads, nets: [program, "run", *folder.options, *nets, "--mode", mode, "--threads", str(threads)]
+    for nets in ([], ["--only-outputs"]):
+        wanted = run(words("rounds", 1, nets), folder.netlist, 60)
+        for mode in ("rounds", "free"):
+            for threads, answer in each(lambda it: run(words(mode, it, nets), folder.netlist, 60), THREADS):
+                tally.check(answer == wanted, lambda: f"{folder.name} {nets}, {mode} by {threads}: {answer}")
 
 
 def main():
     parser = argparse.ArgumentParser()
     parser.add_argument("--random", type=int, default=300)
     parser.add_argument("--seed", type=int, default=1)
+    parser.add_argument("--program")
     parser.add_argument("folders", nargs="*")
     options = parser.parse_args()
-    build()
+    if not options.program:
+        build()
     tally = Tally()
     with tempfile.TemporaryDirectory(prefix="forced-") as room:
         for i in range(options.random):
             name = write_random(random.Random(f"{options.seed}/{i}"), f"{room}/{i}")
-            check(tally, name)
+            check(tally, name, options.program or MADE)
             shutil.rmtree(name)
     for name in options.folders:
-        check(tally, name)
+        check(tally, name, options.program or MADE)
     tally.end()
 
 

@@ -3,8 +3,8 @@
 
 Each request is refused alone, and with all that follow it, until a run meets none that is refused. The answer has to
 be fault 70, or what it is with ample memory where the refused request wasn't needed; what was written has to be a
-beginning of the whole text, and nothing in the modes that write at the end, nor where nets are chosen or activities are asked
-for, since that text is made whole before any of it is written. Where all later requests are refused too, the line of fault 70 may be
+beginning of the whole text, and nothing in the modes that write at the end, nor where scopes or activities are asked for,
+since that text is made whole before any of it is written. Where all later requests are refused too, the line of fault 70 may be
 missing, since it needs memory itself. No run may last longer than 20 seconds.
 
 Then the programs run under rising limits of their address space, where the C library itself finds no memory, for a

@@ -47,8 +47,8 @@ class Case:
         return Answer(self.status, self.expected, self.err)
 
     def is_whole_first(self):
-        """Whether the text is made whole before any of it is written, in each mode: that of some nets alone, one with scopes, and a table."""
-        return self.task != "run" or "only" in self.tables or "--only-outputs" in self.words or "--scopes" in self.words
+        """Whether the text is made whole before any of it is written, in each mode: one with scopes, and a table."""
+        return self.task != "run" or "--scopes" in self.words
 
 
 class Answer:

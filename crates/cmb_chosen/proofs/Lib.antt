@@ -1,3 +1,3 @@
 mod LevelFacts
 pub mod PruneFacts
-pub mod RunFacts
+pub mod PartFacts

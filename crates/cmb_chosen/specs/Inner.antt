@@ -1,3 +1,2 @@
 -- What the functions inside the crate promise each other. No public contract cites it.
 pub mod Levels
-pub mod Runs

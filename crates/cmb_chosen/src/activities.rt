@@ -3,7 +3,7 @@
 ghost use Rattle.std.specs.Prelude.{◌≡◌, IfOk};
 ghost use Rattle.cmb_activity.specs.Texts.{activity_table};
 ghost use Rattle.cmb_design_model.specs.Exact.{nets_of};
-ghost use Rattle.cmb_dump.specs.Excerpts.{AreAmong};
+ghost use Rattle.cmb_dump.specs.Shown.{AreAmong};
 
 use crate::part::part_of;
 use cmb_activity::activity_text;

@@ -5,7 +5,7 @@ ghost use Rattle.cmb_activity.specs.Texts.{activity_table};
 ghost use Rattle.cmb_chosen.specs.Parts.{IsPartOf};
 ghost use Rattle.cmb_design_model.specs.Exact.{nets_of};
 ghost use Rattle.cmb_design_model.specs.Value.{value};
-ghost use Rattle.cmb_dump.specs.Excerpts.{AreAmong};
+ghost use Rattle.cmb_dump.specs.Shown.{AreAmong};
 ghost use Rattle.cmb_run_text.specs.Chosen.{vcd_of};
 
 use cmb_cone::{closure, places_in, restrict};

@@ -126,8 +126,7 @@ Writes only the nets whose names are in this file, one a line
 
 In the file # begins a comment, and a repeated name counts once. A name that no net has
 stands for the bits of the bus that has it. Nets on which none of
-them depends aren't simulated, except in mode plain. One thread makes the whole text
-before any of it is written, in each mode.";
+them depends aren't simulated, except in mode plain.";
 
 pub const ONLY_OUTPUTS: &str = "\
 Writes only the nets that OUTPUT statements name

@@ -2,3 +2,4 @@ pub mod FillFacts
 pub mod WindowFacts
 pub mod PickFacts
 pub mod ReadyFacts
+pub mod ShownFacts

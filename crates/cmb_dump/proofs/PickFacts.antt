@@ -1,18 +1,18 @@
 -- Changes of chosen nets, picked out of those of all nets, tell the levels of the chosen ones.
-use Rattle.std.proofs.Common.{◌≡◌, ◌≢◌, ℕ, suc, ◌+◌, ◌<◌, ◌≤◌, ◌⊎◌, inl, inr, Bool, true, false, cond, nat_lt, List, [], ◌∷◌, ◌++◌, length, get_or, set, drop, drop-cons, add-one, refl, sym, ap, ◌∙◌, arith}
+use Rattle.std.proofs.Common.{◌≡◌, ◌≢◌, ℕ, suc, ◌+◌, ◌<◌, ◌≤◌, ◌⊎◌, inl, inr, Bool, true, false, cond, nat_lt, List, [], ◌∷◌, ◌++◌, Some, length, get_or, set, drop, drop-cons, add-one, refl, sym, ap, ◌∙◌, arith}
 use Rattle.std.specs.Prelude.{All, ◌==◌, ◌||◌}
 use Rattle.std.proofs.lemmas.Bool.{cases_eq, cases_lt, le-ltb, lt-ltb, ltb-true, ltb-false}
 use Rattle.std.proofs.lemmas.Bool.Decides.{nat_tests}
 use Rattle.std.proofs.lemmas.List.{get_or-set_same, get_or-set_other, length-set}
-use Rattle.std.proofs.lemmas.List.Elements.{All-cons, All-head, All-nil, All-tail}
+use Rattle.std.proofs.lemmas.List.Elements.{All-cons, All-head, All-nil, All-tail, Contains-get_or}
 use Rattle.std.proofs.lemmas.List.Kept.{AllPairs-from_increasing}
 use Rattle.cmb_wave.specs.declared.level.Level.{Level}
 use Rattle.cmb_design_model.proofs.LevelFacts.{push-rest}
 use Rattle.cmb_words.specs.declared.changed.Changed.{Changed}
-use Rattle.cmb_words.specs.Changes.{IsWindow, RisesWithin, Tells, TellsNet, is_among}
+use Rattle.cmb_words.specs.Changes.{RisesWithin, Tells, TellsNet, is_among}
 use Rattle.cmb_words.proofs.TellsFacts.{tells-same}
-use Rattle.cmb_dump.specs.Excerpts.{AreAmong, levels_at}
-use Rattle.cmb_dump.specs.Inner.Picks.{ArePlaces, picked_of}
+use Rattle.cmb_dump.specs.Shown.{AreAmong, TellsShown}
+use Rattle.cmb_dump.specs.Inner.Picks.{ArePlaces, IsTaken, levels_at, picked_of}
 
 -- ---- places
 
@@ -160,24 +160,25 @@ module _ (count : ℕ) (nets places : List ℕ) (among : AreAmong count nets) (a
           let past : length nets ≤ get_or places c.net 0 = ltb-false _ _ e in
           other (λ same. let placed : get_or places c.net 0 ≡ p = ap (λ n. get_or places n 0) same ∙ back in absurd (omega arith)) (more h)
 
-  pub picked_tells : (level : ℕ → ℕ → Level) (from upto : ℕ) (changed : List Changed) → RisesWithin 0 count changed → Tells level count from upto changed
+  pub picked_tells : (level : ℕ → ℕ → Level) (from upto : ℕ) (changed : List Changed) → RisesWithin 0 count changed → TellsShown (Some nets) level count from upto changed
       → Tells (levels_at level nets) (length nets) from upto (picked_of places (length nets) changed)
   picked_tells level from upto changed rises told = record {
     words = picked_words level from upto 0 changed rises told.words;
-    others = λ p within none. told.others (get_or nets p 0) (among.within p 0 within) (picked_others p changed within none);
+    others = λ p within none. told.others (get_or nets p 0) (among.within p 0 within) (Contains-get_or nets p 0 within) (picked_others p changed within none);
   }
 
   -- as they are handed on
-  pub picked_window : (read : List ℕ) (n tails horizon end from upto : ℕ) (changed picked last : List Changed) → read ≡ places → n ≡ length nets → tails ≡ length nets → picked ≡ picked_of read n changed → last ≡ picked
-      → end ≡ horizon → IsWindow count horizon from upto changed → IsWindow tails end from upto last
-  picked_window read n tails horizon end from upto changed picked last r m t p l h window = record {
-    late = window.late;
-    order = window.order;
-    short = window.short;
-    within = omega (arith, window.within, h);
-    nets = rw (t, l, p, r, m) (picked_rises 0 0 changed window.nets (λ q w a. omega arith));
-  }
-
-  pub picked_told : (read : List ℕ) (n tails : ℕ) (changed picked last : List Changed) → read ≡ places → n ≡ length nets → tails ≡ length nets → picked ≡ picked_of read n changed → last ≡ picked
-      → (level : ℕ → ℕ → Level) (from upto : ℕ) → RisesWithin 0 count changed → Tells level count from upto changed → Tells (levels_at level nets) tails from upto last
-  picked_told read n tails changed picked last r m t p l level from upto rises told = rw (t, l, p, r, m) (picked_tells level from upto changed rises told)
+  pub picked_taken : (read : List ℕ) (n : ℕ) (changed picked : List Changed) → read ≡ places → n ≡ length nets → RisesWithin 0 count changed → picked ≡ picked_of read n changed
+      → IsTaken changed (record { count = count; nets = nets; changes = picked })
+  picked_taken read n changed picked r m rises p =
+      let is : picked ≡ picked_of places (length nets) changed = rw (r, m) at p in
+      record {
+        window = λ horizon from upto window. record {
+          late = window.late;
+          order = window.order;
+          short = window.short;
+          within = window.within;
+          nets = rw is (picked_rises 0 0 changed window.nets (λ q w a. omega arith));
+        };
+        tells = λ level from upto told. rw is (picked_tells level from upto changed rises told);
+      }

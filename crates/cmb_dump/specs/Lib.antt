@@ -1,5 +1,5 @@
 -- what the public contracts rest on
 pub mod Dumps
-pub mod Excerpts
+pub mod Shown
 -- what the functions inside the crate promise each other
 pub mod Inner

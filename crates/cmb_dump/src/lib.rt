@@ -3,13 +3,13 @@
 
 mod bucket;
 pub mod dump;
-pub mod excerpt;
 mod fill;
 mod pick;
 mod room;
+pub mod shown;
 mod tail;
 mod tails;
 mod text;
 
 pub use dump::Dump;
-pub use excerpt::Excerpt;
+pub use shown::Shown;

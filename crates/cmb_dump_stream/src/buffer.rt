@@ -1,22 +1,24 @@
-//! What was made of a design's text and not handed on.
+//! What was made of a run's text and not handed on.
 
 ghost use Rattle.std.specs.Prelude.{◌≡◌, ℕ, ◌+◌, ◌-◌, ◌^◌, ◌<◌, ◌≤◌, ◌++◌, List, Option, false, true, length, take};
 ghost use Rattle.std.specs.Prelude.{IfErr, IfOk, OnOk};
 ghost use Rattle.std.specs.Io.KnownBytes.{Appends};
+ghost use Rattle.cmb_design_model.specs.Exact.{nets_of};
+ghost use Rattle.cmb_dump.specs.Shown.{CanShow, shown_by, subject_of, whole_text};
 ghost use Rattle.cmb_dump_stream.specs.Parts.{made_text};
 ghost use Rattle.cmb_dump_stream.specs.Streams.{IsBrokenOff};
-ghost use Rattle.cmb_run_text.specs.Vcd.{vcd};
 
 use cmb_design_model::Design;
-use cmb_dump::Dump;
+use cmb_dump::{Dump, Shown};
 use cmb_io::{Sink, WriteFault, write_whole};
 use std::alloc::{AllocError, Global};
 use std::marker::Model;
 
-/// The text of a design, as far as it was made. Of that a front was handed on, and the rest is kept.
+/// The text of a design's run, of all nets or of chosen ones, as far as it was made. Of that a front was handed on, and the rest is kept.
 #[derive(Drop)]
 pub struct TextBuffer<'a> {
     design: &'a Design,
+    shown: Shown<'a>,
     clock: u32,
     text: Vec<u8>,
     given: u64,
@@ -27,20 +29,24 @@ impl<'a> Model for TextBuffer<'a> {
 
     ghost Value = { TextBuffer };
 
-    ghost view = { λ k. record { design = k.design.now; clock = k.clock; given = k.given } };
+    ghost use Rattle.cmb_dump.specs.Shown.{subject_of};
 
-    ghost invariant = { λ k. IsKept k.design.now k.clock k.given k.text.items };
+    ghost view = { λ k. record { subject = subject_of k.design.now k.shown; clock = k.clock; given = k.given } };
+
+    ghost invariant = { λ k. IsKept (subject_of k.design.now k.shown) k.clock k.given k.text.items };
 }
 
 impl<'a> TextBuffer<'a> {
-    /// The text up to tick 1, which the design's dump begins with.
+    /// The text up to tick 1, which the dump begins with.
     pub fn open(
         alloc: Global,
         design: &'a Design,
+        shown: Shown<'a>,
         dump: &Dump<'_>,
     ) -> Result<TextBuffer<'a>, AllocError>
-        requires { dump.now.text ≡ made_text design.now 1 }
-        ensures design { IfOk result (λ kept. kept.design ≡ design.entry.now) }
+        requires shown { CanShow (nets_of design.now) (shown_by shown) }
+        requires text { dump.now.text ≡ made_text (subject_of design.now shown) 1 }
+        ensures subject { IfOk result (λ kept. kept.subject ≡ subject_of design.entry.now shown.entry) }
         ensures clock { IfOk result (λ kept. kept.clock ≡ 1) }
         ensures given { IfOk result (λ kept. kept.given ≡ 0) }
     {
@@ -48,6 +54,7 @@ impl<'a> TextBuffer<'a> {
         let _horizon = design.horizon();
         Ok(TextBuffer {
             design,
+            shown,
             clock: 1,
             text: dump.text().to_vec(alloc)?,
             given: 0,
@@ -56,8 +63,8 @@ impl<'a> TextBuffer<'a> {
 
     /// Whether the whole text was made.
     pub fn is_done(&self) -> bool
-        ensures done { result ≡ true → self.now.clock ≡ self.now.design.horizon }
-        ensures open { result ≡ false → self.now.clock < self.now.design.horizon }
+        ensures done { result ≡ true → self.now.clock ≡ self.now.subject.design.horizon }
+        ensures open { result ≡ false → self.now.clock < self.now.subject.design.horizon }
     {
         self.clock >= self.design.horizon()
     }
@@ -73,10 +80,10 @@ impl<'a> TextBuffer<'a> {
     /// Adds the text of the ticks from the clock on below `upto`. Where memory runs out nothing changes.
     pub fn grow(&mut self, text: &[u8], upto: u32) -> Result<(), AllocError>
         requires order { self.old.clock ≤ upto }
-        requires within { upto ≤ self.old.design.horizon }
-        requires text { made_text self.old.design upto ≡ made_text self.old.design self.old.clock ++ text.now }
+        requires within { upto ≤ self.old.subject.design.horizon }
+        requires text { made_text self.old.subject upto ≡ made_text self.old.subject self.old.clock ++ text.now }
         ensures clock { OnOk result (self.new.clock ≡ upto) }
-        ensures design { self.new.design ≡ self.old.design }
+        ensures subject { self.new.subject ≡ self.old.subject }
         ensures given { self.new.given ≡ self.old.given }
     {
         self.text.extend_from_slice(text)?;
@@ -88,10 +95,10 @@ impl<'a> TextBuffer<'a> {
     /// text is taken from the dump, else it is copied.
     pub fn grow_by(&mut self, dump: &mut Dump<'_>, upto: u32) -> Result<(), AllocError>
         requires order { self.old.clock ≤ upto }
-        requires within { upto ≤ self.old.design.horizon }
-        requires text { made_text self.old.design upto ≡ made_text self.old.design self.old.clock ++ dump.old.text }
+        requires within { upto ≤ self.old.subject.design.horizon }
+        requires text { made_text self.old.subject upto ≡ made_text self.old.subject self.old.clock ++ dump.old.text }
         ensures clock { OnOk result (self.new.clock ≡ upto) }
-        ensures design { self.new.design ≡ self.old.design }
+        ensures subject { self.new.subject ≡ self.old.subject }
         ensures given { self.new.given ≡ self.old.given }
         ensures dumped { dump.new ≡ record dump.old { text = dump.new.text } }
     {
@@ -105,7 +112,7 @@ impl<'a> TextBuffer<'a> {
 
     /// How many bytes are kept: those that were made and not handed on.
     pub fn len(&self) -> usize
-        ensures { self.now.given + result ≡ length (made_text self.now.design self.now.clock) }
+        ensures { self.now.given + result ≡ length (made_text self.now.subject self.now.clock) }
     {
         self.text.len()
     }
@@ -121,15 +128,15 @@ impl<'a> TextBuffer<'a> {
     pub fn give<S: Sink>(&mut self, sink: &mut S) -> Result<(), WriteFault>
         requires room { S.failures sink.old < 2 ^ 64 - 1 }
         ensures text { (start : Option (List ℕ))
-            → Appends start (S.taken sink.old) (take self.old.given (vcd self.old.design))
-            → OnOk result (Appends start (S.taken sink.new) (take self.new.given (vcd self.old.design))) }
-        ensures given { OnOk result (self.new.given ≡ length (made_text self.old.design self.old.clock)) }
-        ensures design { self.new.design ≡ self.old.design }
+            → Appends start (S.taken sink.old) (take self.old.given (whole_text self.old.subject))
+            → OnOk result (Appends start (S.taken sink.new) (take self.new.given (whole_text self.old.subject))) }
+        ensures given { OnOk result (self.new.given ≡ length (made_text self.old.subject self.old.clock)) }
+        ensures subject { self.new.subject ≡ self.old.subject }
         ensures clock { self.new.clock ≡ self.old.clock }
         ensures no_failure { OnOk result (S.failures sink.new ≡ S.failures sink.old) }
         ensures fault { (start : Option (List ℕ))
-            → Appends start (S.taken sink.old) (take self.old.given (vcd self.old.design))
-            → IfErr result (IsBrokenOff self.old.design start (S.taken sink.new) (S.failures sink.old)
+            → Appends start (S.taken sink.old) (take self.old.given (whole_text self.old.subject))
+            → IfErr result (IsBrokenOff (whole_text self.old.subject) start (S.taken sink.new) (S.failures sink.old)
             (S.failures sink.new)) }
     {
         match write_whole(sink, &self.text) {

@@ -1,4 +1,4 @@
-//! The text of a whole design, made window by window by the engine of words.
+//! The text of a run, made window by window by the engine of words.
 #![tactic(auto)]
 
 pub mod buffer;

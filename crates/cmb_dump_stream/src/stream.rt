@@ -1,9 +1,9 @@
-//! The text of a design as the engine goes on.
+//! The text of a run as the engine goes on.
 
 ghost use Rattle.std.specs.Prelude.{◌≡◌, ℕ, ◌+◌, ◌<◌, ◌≤◌, ◌++◌, IfOk, OnOk};
 ghost use Rattle.cmb_design_model.specs.Exact.{nets_of};
 ghost use Rattle.cmb_design_model.specs.Value.{value};
-ghost use Rattle.cmb_dump.specs.Dumps.{text_upto};
+ghost use Rattle.cmb_dump.specs.Shown.{CanShow, shown_by, subject_of, text_upto};
 ghost use Rattle.cmb_dump_stream.specs.Parts.{IsAtEndOf, IsStream, made_text};
 ghost use Rattle.cmb_words.specs.Changes.{RisesWithin, Tells};
 
@@ -11,13 +11,13 @@ use crate::buffer::TextBuffer;
 use crate::first::{first_text, keep_window};
 use crate::text_maker::TextMaker;
 use cmb_design_model::Design;
-use cmb_dump::Dump;
+use cmb_dump::{Dump, Shown};
 use cmb_engine::Engine;
 use cmb_words::Changed;
 use std::alloc::{AllocError, Global};
 use std::marker::Model;
 
-/// Makes the text of a design in one thread: an engine makes windows, and a dump their text.
+/// Makes the text of a run in one thread: an engine makes windows, and a dump their text.
 #[derive(Drop)]
 pub struct Stream<'a> {
     engine: Engine<'a>,
@@ -30,24 +30,27 @@ impl<'a> Model for Stream<'a> {
 
     ghost Value = { Made };
 
-    ghost view = { λ s. record { design = s.engine.design; clock = s.engine.clock } };
+    ghost view = { λ s. record { subject = s.dump.subject; clock = s.engine.clock } };
 
     ghost invariant = { λ s. IsStream s.engine s.dump };
 }
 
 impl<'a> Stream<'a> {
-    /// The text up to tick 1: the declarations, and all levels at tick 0. What goes on from there is beside it.
+    /// The text up to tick 1: the declarations of the nets that are shown, and their levels at tick 0. What goes on from
+    /// there is beside it.
     pub fn open(
         alloc: Global,
         design: &'a Design,
+        shown: Shown<'a>,
     ) -> Result<(Stream<'a>, TextBuffer<'a>), AllocError>
+        requires { CanShow (nets_of design.now) (shown_by shown) }
         ensures here { IfOk result (λ begun. IsAtEndOf begun.1 begun.0) }
-        ensures design { IfOk result (λ begun. begun.1.design ≡ design.entry.now) }
+        ensures subject { IfOk result (λ begun. begun.1.subject ≡ subject_of design.entry.now shown.entry) }
         ensures given { IfOk result (λ begun. begun.1.given ≡ 0) }
     {
         let changed = Vec::with_capacity(alloc, design.netlist().len())?;
         let engine = Engine::open(alloc, design)?;
-        let Ok((dump, kept)) = first_text(alloc, design) else {
+        let Ok((dump, kept)) = first_text(alloc, design, shown) else {
             drop((engine, changed));
             return Err(AllocError);
         };
@@ -64,7 +67,7 @@ impl<'a> Stream<'a> {
     /// The engine and the dump, for one who goes on with them otherwise.
     pub fn into_parts(self) -> (Engine<'a>, Dump<'a>)
         ensures parts { IsStream result.0 result.1 }
-        ensures design { result.0.design ≡ self.entry.design }
+        ensures subject { result.1.subject ≡ self.entry.subject }
         ensures clock { result.0.clock ≡ self.entry.clock }
     {
         let Stream { engine, dump, .. } = self;

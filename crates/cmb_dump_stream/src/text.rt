@@ -1,6 +1,8 @@
-//! The whole text of a design.
+//! The whole text of a run.
 
 ghost use Rattle.std.specs.Prelude.{◌≡◌, ◌-◌, ◌^◌, ◌<◌};
+ghost use Rattle.cmb_design_model.specs.Exact.{nets_of};
+ghost use Rattle.cmb_dump.specs.Shown.{CanShow, shown_by, vcd_shown, whole_text};
 ghost use Rattle.cmb_dump_stream.specs.Parts.{IsAtEndOf};
 ghost use Rattle.cmb_dump_stream.specs.Streams.{IsWrittenTo};
 
@@ -8,6 +10,7 @@ use crate::buffer::TextBuffer;
 use crate::stream::Stream;
 use crate::text_maker::TextMaker;
 use cmb_design_model::Design;
+use cmb_dump::Shown;
 use cmb_io::{Sink, WriteFault};
 use std::alloc::Global;
 
@@ -25,7 +28,7 @@ pub fn write_rest<M: TextMaker, S: Sink>(
     requires room { S.failures sink.old < 2 ^ 64 - 1 }
     requires here { IsAtEndOf kept (M.made maker) }
     requires all { kept.given ≡ 0 }
-    ensures { IsWrittenTo S.Sink kept.entry.design sink.old sink.new result }
+    ensures { IsWrittenTo S.Sink (whole_text kept.entry.subject) sink.old sink.new result }
 {
     let mut maker = maker;
     let mut kept = kept;
@@ -39,17 +42,19 @@ pub fn write_rest<M: TextMaker, S: Sink>(
     Ok(kept.given())
 }
 
-/// Writes the VCD text of a design's run while it is made, and gives its length. What it needs of memory hardly
-/// grows with the horizon. Whatever the fault, the sink took a beginning of the text. A failed write is the answer
-/// then and only then; else memory was refused.
+/// Writes the VCD text of a design's run while it is made, of the nets that are shown, and gives its length. What it
+/// needs of memory hardly grows with the horizon. Whatever the fault, the sink took a beginning of the text. A failed
+/// write is the answer then and only then; else memory was refused.
 pub fn write_stream<S: Sink>(
     alloc: Global,
     design: &Design,
+    shown: Shown<'_>,
     sink: &mut S,
 ) -> Result<u64, WriteFault>
-    requires { S.failures sink.old < 2 ^ 64 - 1 }
-    ensures { IsWrittenTo S.Sink design.now sink.old sink.new result }
+    requires shown { CanShow (nets_of design.now) (shown_by shown) }
+    requires room { S.failures sink.old < 2 ^ 64 - 1 }
+    ensures { IsWrittenTo S.Sink (vcd_shown design.now (shown_by shown.entry)) sink.old sink.new result }
 {
-    let (stream, kept) = Stream::open(alloc, design)?;
+    let (stream, kept) = Stream::open(alloc, design, shown)?;
     write_rest(stream, kept, sink)
 }

@@ -12,7 +12,7 @@ use Rattle.cmb_run_exact.specs.declared.run_fault.RunFault.{RunFault}
 use Rattle.cmb_run_exact.specs.declared.run_fault.RunFault.TheVariants.{Incomplete, Write, Memory}
 use Rattle.cmb_run_free.proofs.TextWriterFacts.{HasBegun-told, told-whole as told-all}
 
-HasBegun-given : (design : Design) (old new : Option (List ℕ)) (before after : ℕ) (backlog : Backlog) (given : ℕ) → IsGiven design old new before after backlog given → HasBegun design old new
+HasBegun-given : (design : Design) (old new : Option (List ℕ)) (before after : ℕ) (backlog : Backlog) (given : ℕ) → IsGiven design old new before after backlog given → HasBegun (vcd design) old new
 HasBegun-given design old new before after backlog given h = HasBegun-told design (Some h.done) old new h.within h.text
 
 -- the run ended before all was known

@@ -9,7 +9,7 @@ use Rattle.cmb_run_text.specs.Beginnings.{HasBegun, IsCutOff}
 use Rattle.cmb_run_text.specs.Collector.{Collector, IsExactFrom, forgot, least}
 use Rattle.cmb_run_text.specs.Vcd.{vcd}
 use Rattle.cmb_run_text.specs.Writer.{IsNotBefore, Writer, done_text}
-use Rattle.cmb_run_text.proofs.BeginFacts.{HasBegun-front, IsCutOff-front, part_text-begins, part_text-whole}
+use Rattle.cmb_run_text.proofs.BeginFacts.{HasBegun-front, IsCutOff-front, vcd-begins, vcd-whole}
 use Rattle.cmb_run_text.proofs.CollectorFacts.{least_clock_bound}
 use Rattle.cmb_run_text.proofs.ForgetFacts.{forgot_least}
 use Rattle.cmb_run_text.proofs.TextSizes.{part_text-fits}
@@ -27,20 +27,20 @@ later-from (Some done) upto later = later
 
 told-fits : (design : Design) (done : Option ℕ) → IsDesign design → IsWithin design done → length (told design done) < 2 ^ 64
 told-fits design None lawful within = omega arith
-told-fits design (Some done) lawful within = part_text-fits design.netlist design.horizon (value design) done lawful.netlist lawful.horizon.1 within
+told-fits design (Some done) lawful within = part_text-fits design.netlist.names design.horizon (value design) done lawful.netlist.few lawful.netlist.short_names lawful.horizon.1 within
 
 -- what was told, and the rest of the design's text
 told-begins : (design : Design) (done : Option ℕ) → IsWithin design done → (rest : List ℕ) × (vcd design ≡ told design done ++ rest)
 told-begins design None within = (vcd design, refl)
-told-begins design (Some done) within = part_text-begins design done within
+told-begins design (Some done) within = vcd-begins design done within
 
 pub told-whole : (design : Design) (done : ℕ) → done ≡ design.horizon → told design (Some done) ≡ vcd design
-told-whole design done e = part_text-whole design done e
+told-whole design done e = vcd-whole design done e
 
-pub HasBegun-told : (design : Design) (done : Option ℕ) (old new : Option (List ℕ)) → IsWithin design done → Appends old new (told design done) → HasBegun design old new
+pub HasBegun-told : (design : Design) (done : Option ℕ) (old new : Option (List ℕ)) → IsWithin design done → Appends old new (told design done) → HasBegun (vcd design) old new
 HasBegun-told design done old new within h =
     let whole = told-begins design done within in
-    HasBegun-front design (told design done) whole.0 old new whole.1 h
+    HasBegun-front (vcd design) (told design done) whole.0 old new whole.1 h
 
 -- ---- a text writer that gave the next part
 
@@ -77,12 +77,12 @@ module _ (design : Design) (backlog : Backlog) (writer : Writer) (given : ℕ) (
 
   -- a sink that took the part's front and failed
   pub IsCutOff-told : (start old new : Option (List ℕ)) (before later n : ℕ) → n < length part → Appends start old (told design backlog.written) → Appends old new (take n part) → later ≡ before + 1
-      → IsCutOff design start new before later (given + n)
+      → IsCutOff (vcd design) start new before later (given + n)
   IsCutOff-told start old new before later n short a b failed =
       let whole = told-begins design (Some (least collector)) within in
       let text = told design backlog.written in
       let all : vcd design ≡ text ++ (part ++ whole.0) = whole.1 ∙ ap (λ l. l ++ whole.0) told-more ∙ append_assoc text part whole.0 in
-      IsCutOff-front design text part whole.0 start old new before later given n all text_writer.count short a b failed
+      IsCutOff-front (vcd design) text part whole.0 start old new before later given n all text_writer.count short a b failed
 
 -- all that is known was given, and is forgotten
 pub told-to : (design : Design) (backlog after : Backlog) (upto : ℕ) → IsExactFrom design (unwrap_or backlog.written 0) backlog.collector → upto ≡ least backlog.collector

@@ -38,9 +38,9 @@ pub record IsWrittenAndKept (design : Design) (old new : Option (List ℕ)) (col
 
 -- why a text isn't written whole, and that a beginning of it is; where the sink failed that is the answer, before all else
 abbrev pub IsCutAt : Design → Option (List ℕ) → Option (List ℕ) → ℕ → ℕ → RunFault → Type 0
-IsCutAt design old new before after (Incomplete net upto collector) = HasBegun design old new × (after ≡ before) × IsWrittenAndKept design old new collector × IsLeastBehind collector net upto
-IsCutAt design old new before after (Write written) = IsCutOff design old new before after written
-IsCutAt design old new before after Memory = HasBegun design old new × (after ≡ before)
+IsCutAt design old new before after (Incomplete net upto collector) = HasBegun (vcd design) old new × (after ≡ before) × IsWrittenAndKept design old new collector × IsLeastBehind collector net upto
+IsCutAt design old new before after (Write written) = IsCutOff (vcd design) old new before after written
+IsCutAt design old new before after Memory = HasBegun (vcd design) old new × (after ≡ before)
 
 -- A sink, as a free run found it and left it, and the text of a design. Where the answer is Ok the sink took the text and nothing
 -- else, no write failed, and the text's length is told. Else the sink took a beginning of it, and the answer is why.

@@ -4,7 +4,6 @@ use Rattle.std.specs.Prelude.{nat_lt}
 use Rattle.std.proofs.lemmas.Fmt.{length-decimal-le}
 use Rattle.cmb_wave.specs.declared.level.Level.{Level}
 use Rattle.cmb_wave.specs.Waveform.{same_level}
-use Rattle.cmb_netlist.specs.Netlist.{Netlist, IsNetlist}
 use Rattle.cmb_run_text.specs.Vcd.{change_lines, code, code_within, header, is_identifier, level_byte, level_line, level_lines, line, part_text, reference, tick_line, tick_text, ticks_text, under_tick, var_line, var_lines}
 
 cond-short : (b : Bool) (xs ys : List ℕ) (most : ℕ) → length xs ≤ most → length ys ≤ most → length (cond b xs ys) ≤ most
@@ -47,11 +46,10 @@ var_lines-short net (name ∷ names) few short =
     let rest = var_lines-short (suc net) names (omega arith) (λ k d below. short (suc k) d (omega arith)) in
     omega (arith, length-append (var_line net name) (var_lines (suc net) names))
 
-header-short : (netlist : Netlist) → IsNetlist netlist → length (header netlist.names) ≤ 65535 * 66000 + 200
+header-short : (names : List (List ℕ)) → length names ≤ 65535 → All (λ name. length name ≤ 255) names → length (header names) ≤ 65535 * 66000 + 200
 unfolding header
-header-short netlist lawful =
-    let few = lawful.few in
-    let vars = var_lines-short 0 netlist.names (omega arith) lawful.short_names in
+header-short names few short =
+    let vars = var_lines-short 0 names (omega arith) short in
     simp (length-append) (omega arith)
 
 -- ---- ticks
@@ -104,11 +102,11 @@ ticks_text-short nets level (suc tick) few small =
     let rest = ticks_text-short nets level tick few (omega arith) in
     omega (arith, length-append (ticks_text nets level tick) (tick_text nets level tick))
 
--- a text up to any tick that a design has
-pub part_text-fits : (netlist : Netlist) (horizon : ℕ) (level : ℕ → ℕ → Level) (upto : ℕ) → IsNetlist netlist → horizon ≤ 1000000 → upto ≤ horizon → length (part_text netlist.names horizon level upto) < 2 ^ 64
+-- a text up to any tick, of nets whose names are as those of a netlist
+pub part_text-fits : (names : List (List ℕ)) (horizon : ℕ) (level : ℕ → ℕ → Level) (upto : ℕ) → length names ≤ 65535 → All (λ name. length name ≤ 255) names → horizon ≤ 1000000 → upto ≤ horizon → length (part_text names horizon level upto) < 2 ^ 64
 unfolding part_text
-part_text-fits netlist horizon level upto lawful small within =
-    let head = header-short netlist lawful in
-    let ticks = ticks_text-short (length netlist.names) level upto lawful.few (omega arith) in
+part_text-fits names horizon level upto few short small within =
+    let head = header-short names few short in
+    let ticks = ticks_text-short (length names) level upto few (omega arith) in
     let end = cond-short (nat_lt upto horizon) [] (tick_line horizon) 9 (omega arith) (tick_line-short horizon small) in
     simp (length-append) (omega arith)

@@ -5,6 +5,7 @@ use Rattle.std.proofs.lemmas.Bool.{cases_Bool, cases_eq, false≢true}
 use Rattle.std.proofs.lemmas.List.Elements.{All-contains}
 use Rattle.cmb_design_model.specs.Exact.{nets_of}
 use Rattle.cmb_design_model.specs.Value.{value}
+use Rattle.cmb_dump.specs.Shown.{IsShown}
 use Rattle.cmb_words.specs.Changes.{IsStill, RisesWithin, TellsNet, is_among}
 use Rattle.cmb_words.specs.declared.changed.Changed.{Changed}
 use Rattle.cmb_shares.specs.Inner.Flows.{AreGathered, AreMade, IsMade}
@@ -19,7 +20,7 @@ pub made-none : (run : Run) (from upto : ℕ) (table : Table) → IsBlank (nets_
 made-none run from upto table is = record {
   nets = is.nets;
   words = λ one holds. absurd (false≢true (sym (is.none one.net) ∙ holds.marked));
-  others = λ net made none. absurd (omega (arith, made.1));
+  others = λ net made shown none. absurd (omega (arith, made.1));
 }
 
 -- ---- one share more, which tells the text
@@ -29,16 +30,16 @@ pub made-more : (run : Run) (made reader from upto : ℕ) (own : List Changed) (
 made-more run made reader from upto own old new text before told added = record {
   nets = added.len ∙ before.nets;
   words = λ one holds. word one (added.each one holds);
-  others = λ net is none. let both = neither (is_among net own) (has old net) (sym (added.marked net) ∙ none) in still net is both.0 both.1 (cases_eq (get_or run.owners net 0) made);
+  others = λ net is shown none. let both = neither (is_among net own) (has old net) (sym (added.marked net) ∙ none) in still net is shown both.0 both.1 (cases_eq (get_or run.owners net 0) made);
 }
   where
     word : (one : Changed) → Holds old one ⊎ Contains own one → TellsNet (value run.design) from upto one
     word one (inl h) = before.words one h
     word one (inr h) = All-contains (TellsNet (value run.design) from upto) own one told.words h
 
-    still : (net : ℕ) → IsMade run (suc made) net → is_among net own ≡ false → has old net ≡ false → (get_or run.owners net 0 ≡ made) ⊎ (get_or run.owners net 0 ≡ made → ⊥) → IsStill (value run.design net) from upto
-    still net is here there (inl e) = told.others net (is.0, e) (λ share. absurd (omega (arith, share, text))) here
-    still net is here there (inr n) = before.others net (is.0, omega (arith, is.1, n)) there
+    still : (net : ℕ) → IsMade run (suc made) net → IsShown run.shown net → is_among net own ≡ false → has old net ≡ false → (get_or run.owners net 0 ≡ made) ⊎ (get_or run.owners net 0 ≡ made → ⊥) → IsStill (value run.design net) from upto
+    still net is shown here there (inl e) = told.others net (is.0, e) ((λ share. absurd (omega (arith, share, text))), (λ _. shown)) here
+    still net is shown here there (inr n) = before.others net (is.0, omega (arith, is.1, n)) shown there
 
 pub made-as : (run : Run) (made made' from from' upto upto' : ℕ) (table : Table) → made ≡ made' → from ≡ from' → upto ≡ upto' → AreGathered run made from upto table → AreGathered run made' from' upto' table
 made-as run made made' from from' upto upto' table m f u is =
@@ -50,7 +51,7 @@ pub made-taken : (run : Run) (made from upto : ℕ) (table : Table) (changes : L
 made-taken run made from upto table changes is are taken = record {
   rises = subst (λ n. RisesWithin 0 n changes) are.nets taken.rises;
   words = λ k d h. are.words (get_or changes k d) (taken.each k d h);
-  others = λ net mine none. are.others net mine (unmarked net mine none (cases_Bool (has table net)));
+  others = λ net mine shown none. are.others net mine shown (unmarked net mine none (cases_Bool (has table net)));
 }
   where
     unmarked : (net : ℕ) → IsMade run made net → is_among net changes ≡ false → (has table net ≡ true) ⊎ (has table net ≡ false) → has table net ≡ false

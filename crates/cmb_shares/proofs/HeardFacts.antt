@@ -66,7 +66,7 @@ heard-given run number from upto senders given is within covers heard = record {
   others = λ net asked none.
       let crosses = is.known number net within asked in
       let inside = set_within run.crossing net crosses.0 in
-      heard.others (get_or run.owners net 0) net (covers net asked) (omega (arith, inside, is.crossed), refl) (λ _. asked) none;
+      heard.others (get_or run.owners net 0) net (covers net asked) (omega (arith, inside, is.crossed), refl) ((λ _. asked), (λ text. absurd (omega (arith, within, text)))) none;
 }
 
 -- ---- who tells

@@ -10,6 +10,7 @@ use Rattle.cmb_design_model.specs.Design.{Design}
 use Rattle.cmb_design_model.specs.Exact.{nets_of}
 use Rattle.cmb_design_model.specs.Nets.{is_flop}
 use Rattle.cmb_design_model.specs.Timing.{delay}
+use Rattle.cmb_dump.specs.Shown.{Shown}
 use Rattle.cmb_engine.specs.Crossings.{AreWithinLookahead, IsCrossing}
 use Rattle.cmb_engine.specs.Shares.{IsDriven, IsGiven}
 use Rattle.cmb_engine.specs.Windows.{HaveTicks, Windows}
@@ -48,7 +49,7 @@ some-at [] number within = absurd (omega (arith, within))
 some-at (s ∷ more) zero within = (s, refl)
 some-at (s ∷ more) (suc number) within = some-at more number (omega (arith, within))
 
-module _ (design : Design) (partition : Partition) (windows : Windows) (is : IsPartition design.netlist partition) (ahead : AreWithinLookahead design partition.crossing.items windows)
+module _ (design : Design) (shown : Shown) (partition : Partition) (windows : Windows) (is : IsPartition design.netlist partition) (ahead : AreWithinLookahead design partition.crossing.items windows)
     (soon : (net : ℕ) → IsCrossing design partition.crossing.items net → delay design net 1 < windows.width) (horizon : windows.horizon ≡ design.horizon) (narrow : windows.width < 63) (ticks : HaveTicks windows) where
   count : length (map marks partition.shares.items) ≡ length partition.shares.items
   count = length-map partition.shares.items marks
@@ -74,7 +75,7 @@ module _ (design : Design) (partition : Partition) (windows : Windows) (is : IsP
         ap length at ∙ subst P (get_or_from_slice_get partition.shares.items number found.0 found.0 found.1) (is.marks number found.0 (omega (arith, within, count)))
 
     -- it drives what it owns
-    drives : (net : ℕ) → Owns (run_of design partition windows) number net → IsDriven (get_or (map marks partition.shares.items) number []) net
+    drives : (net : ℕ) → Owns (run_of (record { design = design; shown = shown }) partition windows) number net → IsDriven (get_or (map marks partition.shares.items) number []) net
     drives net owns =
         let owned = is.owned net (omega (arith, owns.0, is.nets)) in
         let Q : ℕ → Type 0 = λ n. slice_get partition.shares.items n ≡ Some owned.0 in
@@ -104,7 +105,7 @@ module _ (design : Design) (partition : Partition) (windows : Windows) (is : IsP
             absurd (false≢true (sym given.undriven ∙ ap (λ l. get_or l net false) at ∙ marked))
         by (inr crosses) = (crosses, flop crosses)
 
-  pub is-run : IsRun (run_of design partition windows)
+  pub is-run : IsRun (run_of (record { design = design; shown = shown }) partition windows)
   is-run = record {
     nets = is.nets;
     crossed = is.crossed ∙ sym is.nets;

@@ -95,7 +95,7 @@ told-owned run s changed upto is tells rises = record {
   within = λ k d small. rises_at 0 (nets_of run.design) changed k d rises small;
   among = λ share. absurd (omega (arith, share));
   words = tells.words;
-  others = λ net own reads none. tells.others net (subst (λ (driven : List Bool). IsDriven driven net) (sym is.driven) (is.lawful.owned s.number net is.number own), is.told net own) none;
+  others = λ net own reads none. tells.others net (subst (λ (driven : List Bool). IsDriven driven net) (sym is.driven) (is.lawful.owned s.number net is.number own), is.told net own (reads.1 (omega arith))) none;
 }
 
 -- what was told ahead of it, to a share
@@ -105,9 +105,9 @@ pub told-fed : (run : Run) (s : Simulator) (reader from upto : ℕ) (told : List
 told-fed run s reader from upto told is within only tells =
     told-filter run s.number reader from upto told (is_fed run.owners s.number (driven_by run reader))
     (λ x e. owned-owns run s.number x (and_parts _ _ e).0)
-    (λ x own reads. and_from _ _ (owns-owned run s.number x own) (not_from_false _ (reads within).undriven))
+    (λ x own reads. and_from _ _ (owns-owned run s.number x own) (not_from_false _ (reads.0 within).undriven))
     (λ one there own. tells.words one there (All-contains (λ (c : Changed). Contains s.engine.exports c.net) told one only there))
-    (λ net own reads none. tells.others net ((is.exports net).1 (is.lawful.owned s.number net is.number own, is.lawful.known reader net within (reads within))) none)
+    (λ net own reads none. tells.others net ((is.exports net).1 (is.lawful.owned s.number net is.number own, is.lawful.known reader net within (reads.0 within))) none)
     is.lawful
 
 -- of no tick nothing is told

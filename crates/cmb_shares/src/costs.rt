@@ -29,8 +29,8 @@ const SCALE: u32 = 64;
 pub struct Costs {
     /// What is to be done for each net.
     pub nets: Vec<u32>,
-    /// What the text costs.
-    pub text: u64,
+    /// What the text of each net costs.
+    pub texts: Vec<u32>,
 }
 
 /// In which windows nets changed. There are 64 windows, each with a bit: one of them stands for the first window, the
@@ -111,28 +111,27 @@ impl Profile {
         }
     }
 
-    // What the text of all changes costs.
-    fn text_cost(&self) -> u64 {
-        let mut changes = 0_u64;
-        for of_net in &self.changes {
-            changes = changes.saturating_add(u64::from(of_net.count_ones()));
-        }
-        let windows = u64::from(self.windows.count_ones().max(1));
-        changes.saturating_mul(u64::from(TEXT * SCALE)) / windows
+    // What the text of a net costs that changes in these windows.
+    fn text_cost(&self, changes: u64) -> u32 {
+        let windows = self.windows.count_ones().max(1);
+        changes.count_ones().saturating_mul(TEXT * SCALE) / windows
     }
 }
 
 /// What a run costs, by its windows up to a tick: a gate is looked at in those in which a net changes that it reads. No
 /// text depends on it. Errors: memory was refused.
 pub fn costs_of(alloc: Global, design: &Design, upto: u32) -> Result<Costs, AllocError>
-    ensures { IfOk result (λ costs. length costs.nets.items ≡ nets_of design.now) }
+    ensures nets { IfOk result (λ costs. length costs.nets.items ≡ nets_of design.now) }
+    ensures texts { IfOk result (λ costs. length costs.texts.items ≡ nets_of design.now) }
 {
     let profile = profile_of(alloc, design, upto)?;
     let netlist = design.netlist();
     let mut nets = Vec::with_capacity(alloc, netlist.len())?;
+    let mut texts = Vec::with_capacity(alloc, netlist.len())?;
     for net in 0..netlist.len() {
-        nets.push(profile.cost_of(netlist.driver(net), profile.changes[net]))?;
+        let changes = profile.changes[net];
+        nets.push(profile.cost_of(netlist.driver(net), changes))?;
+        texts.push(profile.text_cost(changes))?;
     }
-    let text = profile.text_cost();
-    Ok(Costs { nets, text })
+    Ok(Costs { nets, texts })
 }

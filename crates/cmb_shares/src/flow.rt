@@ -56,7 +56,7 @@ impl<'a, T: ShareRun, R> Model for Flow<'a, T, R> {
 
     ghost Value = { Made };
 
-    ghost view = { λ f. record { design = f.dump.design; clock = f.dump.clock } };
+    ghost view = { λ f. record { subject = f.dump.subject; clock = f.dump.clock } };
 
     ghost invariant = { λ f. IsFlow T.run f.windows f.sources.items f.dump f.gathered };
 }

@@ -1,5 +1,5 @@
-//! The whole text of a design by threads of which each simulates a share of its nets, with feedback among them: each
-//! share is a logical process, and a channel leads from each to each that it feeds.
+//! The text of a run by threads of which each simulates a share of the nets, with feedback among them: each share is a
+//! logical process, and a channel leads from each to each that it feeds.
 #![tactic(auto)]
 
 mod channel;

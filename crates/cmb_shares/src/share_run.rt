@@ -2,7 +2,7 @@
 
 use std::marker::Brand;
 
-/// Names the design of a run, how its nets are partitioned, and where windows end. `Brand` stands for any that a call
+/// Names the design of a run, the nets that are shown, how all nets are partitioned, and where windows end. `Brand` stands for any that a call
 /// picks.
 pub trait ShareRun {
     ghost use Rattle.cmb_shares.specs.Inner.Runs.{Run};
@@ -11,11 +11,12 @@ pub trait ShareRun {
 }
 
 impl ShareRun for Brand {
-    ghost use Rattle.std.specs.Prelude.{[]};
+    ghost use Rattle.std.specs.Prelude.{[], None};
     ghost use Rattle.cmb_run_text.specs.Examples.{nothing};
 
     ghost run = { record {
       design = nothing;
+      shown = None;
       owners = [];
       crossing = [];
       driven = [];

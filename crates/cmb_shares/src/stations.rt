@@ -6,7 +6,7 @@ ghost use Rattle.cmb_shares.specs.Inner.Channels.{greeting};
 ghost use Rattle.cmb_shares.specs.Inner.Flows.{AreSources};
 ghost use Rattle.cmb_shares.specs.Inner.Opened.{AreCovered, AreOpened, AreStations, IsEngineOf};
 ghost use Rattle.cmb_shares.specs.Inner.Processes.{AreJoined, AreLone, AreMembers};
-ghost use Rattle.cmb_shares.specs.Inner.Runs.{IsRun, driven_by};
+ghost use Rattle.cmb_shares.specs.Inner.Runs.{IsRun, driven_by, subject_in};
 ghost use Rattle.cmb_shares.specs.Inner.Stations.{Standing};
 
 use crate::channel::channel;
@@ -38,7 +38,7 @@ fn station_of<'a, T: ShareRun>(
     windows: &Windows,
 ) -> Result<(Station<'a, T>, Inflow<T>), AllocError>
     requires lawful { IsRun T.run }
-    requires engine { IsEngineOf T.run.design T.run.crossing T.run.owners number (driven_by T.run number) engine }
+    requires engine { IsEngineOf (subject_in T.run) T.run.crossing T.run.owners number (driven_by T.run number) engine }
     requires short { T.run.windows.width ≤ engine.width }
     requires number { number < length T.run.driven }
     requires shares { shares ≡ length T.run.driven }

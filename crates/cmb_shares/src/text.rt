@@ -1,6 +1,8 @@
-//! The whole text of a design, by threads of which each simulates a share of the nets.
+//! The whole text of a run, by threads of which each simulates a share of the nets.
 
 ghost use Rattle.std.specs.Prelude.{◌≡◌, ◌-◌, ◌^◌, ◌<◌, All, length, IfOk};
+ghost use Rattle.cmb_design_model.specs.Exact.{nets_of};
+ghost use Rattle.cmb_dump.specs.Shown.{CanShow, shown_by, subject_of, vcd_shown, whole_text};
 ghost use Rattle.cmb_shares.specs.Inner.Opened.{AreOpened, run_of};
 ghost use Rattle.cmb_shares.specs.Inner.Stations.{Covers};
 ghost use Rattle.cmb_dump_stream.specs.Parts.{IsAtEndOf};
@@ -13,6 +15,7 @@ use crate::share_run::ShareRun;
 use crate::station::Station;
 use crate::stations::{connect_all, stations_of};
 use cmb_design_model::Design;
+use cmb_dump::Shown;
 use cmb_dump_stream::{TextBuffer, first_text, write_rest};
 use cmb_engine::{ShareEngine, Windows};
 use cmb_graph_partition::Partition;
@@ -48,14 +51,16 @@ fn begin<'s, 'a: 's, E, T: ShareRun + Send + Sync + 's, R: Threads + Wait + Sync
     alloc: Global,
     scope: &Scope<'s, E>,
     design: &'a Design,
+    shown: Shown<'a>,
     partition: &'a Partition,
     engines: Vec<ShareEngine<'a>>,
     windows: Windows,
 ) -> Result<(Flow<'a, T, R>, TextBuffer<'a>), AllocError>
     requires opened { AreOpened T.run engines.items }
-    requires run { run_of design.now partition.now windows ≡ T.run }
+    requires run { run_of (subject_of design.now shown) partition.now windows ≡ T.run }
+    requires shown { CanShow (nets_of design.now) (shown_by shown) }
     ensures here { IfOk result (λ begun. IsAtEndOf begun.1 begun.0) }
-    ensures design { IfOk result (λ begun. begun.1.design ≡ design.entry.now) }
+    ensures subject { IfOk result (λ begun. begun.1.subject ≡ subject_of design.entry.now shown.entry) }
     ensures all { IfOk result (λ begun. begun.1.given ≡ 0) }
 {
     let Ok((mut stations, sources)) = stations_of::<T>(alloc, engines, &partition.owners, &windows)
@@ -72,7 +77,7 @@ fn begin<'s, 'a: 's, E, T: ShareRun + Send + Sync + 's, R: Threads + Wait + Sync
         drop((windows, sources));
         return Err(AllocError);
     };
-    let Ok((dump, kept)) = first_text(alloc, design) else {
+    let Ok((dump, kept)) = first_text(alloc, design, shown) else {
         drop((windows, sources, gathered));
         return Err(AllocError);
     };
@@ -93,6 +98,7 @@ fn write_run<'s, 'a: 's, E, T: ShareRun + Send + Sync + 's, R: Threads + Wait + 
     alloc: Global,
     scope: &Scope<'s, E>,
     design: &'a Design,
+    shown: Shown<'a>,
     partition: &'a Partition,
     engines: Vec<ShareEngine<'a>>,
     windows: Windows,
@@ -100,11 +106,13 @@ fn write_run<'s, 'a: 's, E, T: ShareRun + Send + Sync + 's, R: Threads + Wait + 
 ) -> Result<u64, WriteFault>
     requires room { S.failures sink.old < 2 ^ 64 - 1 }
     requires opened { AreOpened T.run engines.items }
-    requires named { run_of design.now partition.now windows ≡ T.run }
-    ensures { IsWrittenTo S.Sink design.now sink.old sink.new result }
+    requires named { run_of (subject_of design.now shown) partition.now windows ≡ T.run }
+    requires shown { CanShow (nets_of design.now) (shown_by shown) }
+    ensures { IsWrittenTo S.Sink (vcd_shown design.now (shown_by shown.entry)) sink.old sink.new result }
 {
-    let Ok((flow, kept)) = begin::<_, T, R>(rt, alloc, scope, design, partition, engines, windows)
-    else {
+    let Ok((flow, kept)) = begin::<_, T, R>(
+        rt, alloc, scope, design, shown, partition, engines, windows,
+    ) else {
         return Err(WriteFault::Memory);
     };
     write_rest(flow, kept, sink)
@@ -115,6 +123,7 @@ fn write_named<'a, T: ShareRun + Send + Sync, R: Threads + Wait + Sync, S: Sink>
     rt: &'a R,
     alloc: Global,
     design: &'a Design,
+    shown: Shown<'a>,
     partition: &'a Partition,
     engines: Vec<ShareEngine<'a>>,
     windows: Windows,
@@ -122,8 +131,9 @@ fn write_named<'a, T: ShareRun + Send + Sync, R: Threads + Wait + Sync, S: Sink>
 ) -> Result<u64, WriteFault>
     requires room { S.failures sink.old < 2 ^ 64 - 1 }
     requires opened { AreOpened T.run engines.items }
-    requires named { run_of design.now partition.now windows ≡ T.run }
-    ensures { IsWrittenTo S.Sink design.now sink.old sink.new result }
+    requires named { run_of (subject_of design.now shown) partition.now windows ≡ T.run }
+    requires shown { CanShow (nets_of design.now) (shown_by shown) }
+    ensures { IsWrittenTo S.Sink (vcd_shown design.now (shown_by shown.entry)) sink.old sink.new result }
 {
     let (back, answer) = thread::scope(
         thread::scope_env(),
@@ -131,12 +141,14 @@ fn write_named<'a, T: ShareRun + Send + Sync, R: Threads + Wait + Sync, S: Sink>
         move |scope| -> (&mut S, Result<u64, WriteFault>)
             requires room { S.failures sink.now < 2 ^ 64 - 1 }
             requires opened { AreOpened T.run engines.items }
-            requires named { run_of design.now partition.now windows ≡ T.run }
+            requires named { run_of (subject_of design.now shown) partition.now windows ≡ T.run }
+            requires shown { CanShow (nets_of design.now) (shown_by shown) }
             ensures name { result.0.ghost_name ≡ sink.entry.ghost_name }
-            ensures told { IsWrittenTo S.Sink design.entry.now sink.entry.now result.0.now result.1 }
+            ensures told { IsWrittenTo S.Sink (vcd_shown design.entry.now (shown_by shown.entry)) sink.entry.now
+                result.0.now result.1 }
         {
             let answer = write_run::<_, T, R, S>(
-                rt, alloc, scope, design, partition, engines, windows, sink,
+                rt, alloc, scope, design, shown, partition, engines, windows, sink,
             );
             (sink, answer)
         },
@@ -146,10 +158,10 @@ fn write_named<'a, T: ShareRun + Send + Sync, R: Threads + Wait + Sync, S: Sink>
     answer
 }
 
-/// Writes the VCD text of a design's run while it is made, by a thread for each share of its nets and the calling one,
-/// which makes the text, and gives its length. The text is the same however the nets were partitioned. What it needs of
-/// memory hardly grows with the horizon. Whatever the fault, the sink took a beginning of the text. A failed write is
-/// the answer then and only then; else memory or a thread was refused.
+/// Writes the VCD text of a design's run while it is made, of the nets that are shown, by a thread for each share of its
+/// nets and the calling one, which makes the text, and gives its length. The text is the same however the nets were
+/// partitioned. What it needs of memory hardly grows with the horizon. Whatever the fault, the sink took a beginning of
+/// the text. A failed write is the answer then and only then; else memory or a thread was refused.
 pub fn write_shares<'a, R: Threads + Wait + Sync, S: Sink>(
     rt: &'a R,
     alloc: Global,
@@ -157,13 +169,14 @@ pub fn write_shares<'a, R: Threads + Wait + Sync, S: Sink>(
     sink: &mut S,
 ) -> Result<u64, WriteFault>
     requires { S.failures sink.old < 2 ^ 64 - 1 }
-    ensures { IsWrittenTo S.Sink shares.entry sink.old sink.new result }
+    ensures { IsWrittenTo S.Sink (whole_text shares.entry) sink.old sink.new result }
 {
     let Shares {
         design,
+        shown,
         partition,
         engines,
         windows,
     } = shares;
-    write_named::<Brand, R, S>(rt, alloc, design, partition, engines, windows, sink)
+    write_named::<Brand, R, S>(rt, alloc, design, shown, partition, engines, windows, sink)
 }

@@ -25,7 +25,7 @@ whole-headers netlist nets (Err e) all lines plain = tt
 -- a way's text begins with its header
 pub way-header : (way : Way) (design : Design) → length (header (way_names way design)) ≤ length (way_text way design)
 way-header (Picked nets) design = vcd_of-header design nets.items
-way-header (Chosen nets) design = vcd_of-header design nets.items
+way-header (Chosen nets threads) design = vcd_of-header design nets.items
 way-header way design = vcd-header design
 
 -- so does what was made of it

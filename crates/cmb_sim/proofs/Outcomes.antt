@@ -66,7 +66,7 @@ Breaks-form request design names text plan is (fault.Incomplete net upto) h =
     let MayStop : Bool → Type 0 = λ scopes. CanBeStopped request.mode request.threads request.choice scopes in
     (subst MayStop (sym h.0) (is.stops h.1.1.0), h.1.1.1, h.1.1.2)
 Breaks-form request design names text plan is fault.Memory h =
-    let MayStream : Bool → Type 0 = λ scopes. IsStreamed request.mode request.choice scopes in
+    let MayStream : Bool → Type 0 = λ scopes. IsStreamed request.mode scopes in
     subst MayStream (sym h.0) (is.streams h.1.0 h.1.1)
 Breaks-form request design names text plan is f h = absurd h.1.1
 

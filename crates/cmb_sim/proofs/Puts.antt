@@ -13,7 +13,7 @@ use Rattle.cmb_faults.specs.Numbers.{run_as_fault, write_as_fault}
 use Rattle.cmb_faults.specs.declared.fault.Fault.{Fault}
 use Rattle.cmb_faults.specs.declared.fault.Fault.TheVariants as fault
 use Rattle.cmb_sim.proofs.Outcomes.{IsBroken-more, untouched}
-use Rattle.cmb_sim.specs.Inner.Plans.{FormMayBreak, IsPut, MayBreak, Streams, form_text}
+use Rattle.cmb_sim.specs.Inner.Plans.{EngineBreaks, FormMayBreak, IsPut, MayBreak, Streams, form_text}
 use Rattle.cmb_sim.specs.Simulation.{IsBroken}
 use Rattle.cmb_sim.specs.declared.plan.Plan.{Plan}
 use Rattle.cmb_sim.specs.declared.plan.Way.{Way}
@@ -54,11 +54,19 @@ IsPut-scoped false plan design text o answer asked is h = absurd (cc)
 pub IsPut-held : (text : List ℕ) (Breaks : Fault → Type 0) (old new : List ℕ) (before after n : ℕ) → old ≡ [] → IsPut text Breaks (output (Some old) (Some new) before after) (Ok n) → new ≡ text
 IsPut-held text Breaks old new before after n none put = let grown : new ≡ old ++ text = put.taken.0 in rw none at grown
 
--- a text that was written while it was made
-pub IsPut-stream : (design : Design) (way : Way) (old new : Option (List ℕ)) (before after : ℕ) (f : WriteFault) → Streams way
-    → IsBrokenOff design old new before after f → IsPut (vcd design) (MayBreak way design) (output old new before after) (Err (write_as_fault f))
-IsPut-stream design way old new before after (stream.Write n) streams h = record { told = tt; taken = tt; fault = inr (h.short, h.begun, h.failed) }
-IsPut-stream design way old new before after stream.Memory streams h = record { told = tt; taken = tt; fault = inr (streams, h) }
+-- a text that was written while an engine made it
+pub IsPut-stream : (text : List ℕ) (old new : Option (List ℕ)) (before after : ℕ) (f : WriteFault)
+    → IsBrokenOff text old new before after f → IsPut text EngineBreaks (output old new before after) (Err (write_as_fault f))
+IsPut-stream text old new before after (stream.Write n) h = record { told = tt; taken = tt; fault = inr (h.short, h.begun, h.failed) }
+IsPut-stream text old new before after stream.Memory h = record { told = tt; taken = tt; fault = inr (tt, h) }
+
+-- by a way that streams
+pub IsPut-engine : (text : List ℕ) (way : Way) (design : Design) (o : Output) (answer : Result ℕ Fault) → Streams way → IsPut text EngineBreaks o answer → IsPut text (MayBreak way design) o answer
+IsPut-engine text way design o answer streams h = IsPut-more text EngineBreaks (MayBreak way design) o answer by h
+  where
+    by : (f : Fault) → EngineBreaks f → MayBreak way design f
+    by fault.Memory b = streams
+    by f b = absurd b
 
 -- the same of workers that run freely, which may be stopped
 pub IsPut-free : (workers clusters : PartCount) (design : Design) (old new : Option (List ℕ)) (before after : ℕ) (f : RunFault)

@@ -42,10 +42,10 @@ IsUnrun mode design (fault.Design f) = first_fault (mode_checks mode design) ≡
 IsUnrun mode design fault.Memory = ⊤
 IsUnrun mode design _ = ⊥
 
--- the text is written while the run goes on: that of all nets, without scopes
-abbrev pub IsStreamed : Mode → Choice → Bool → Type 0
-IsStreamed (Free workers clusters) All false = ⊤
-IsStreamed _ _ _ = ⊥
+-- the text is written while the run goes on: in mode free, without scopes
+abbrev pub IsStreamed : Mode → Bool → Type 0
+IsStreamed (Free workers clusters) false = ⊤
+IsStreamed _ _ = ⊥
 
 -- the run can be stopped: several workers run freely, and write the text meanwhile
 abbrev pub CanBeStopped : Mode → Option PartCount → Choice → Bool → Type 0
@@ -97,7 +97,7 @@ Refuses request texts f =
 abbrev pub Breaks : Request → Report → Fault → Type 0
 Breaks request report (fault.Incomplete net upto) =
     CanBeStopped request.mode request.threads request.choice request.scopes × (net < report.nets) × (upto < report.horizon)
-Breaks request report fault.Memory = IsStreamed request.mode request.choice request.scopes
+Breaks request report fault.Memory = IsStreamed request.mode request.scopes
 Breaks request report _ = ⊥
 
 -- ---- what comes of them

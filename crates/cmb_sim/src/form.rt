@@ -2,7 +2,7 @@
 
 ghost use Rattle.std.specs.Prelude.{◌-◌, ◌^◌, ◌<◌, ◌≤◌, length, IfOk};
 ghost use Rattle.cmb_design_model.specs.Exact.{nets_of};
-ghost use Rattle.cmb_dump.specs.Excerpts.{AreAmong};
+ghost use Rattle.cmb_dump.specs.Shown.{AreAmong};
 ghost use Rattle.cmb_inputs.specs.Outputs.{written_to};
 ghost use Rattle.cmb_run_scopes.specs.Scopes.{replaced};
 ghost use Rattle.cmb_run_text.specs.Chosen.{names_of};
@@ -43,7 +43,7 @@ fn way_headers(alloc: Global, way: &Way, design: &Design) -> Result<Headers, All
 {
     match way {
         Way::Picked(nets) => chosen_headers(alloc, design, nets),
-        Way::Chosen(nets) => chosen_headers(alloc, design, nets),
+        Way::Chosen { nets, .. } => chosen_headers(alloc, design, nets),
         Way::Table | Way::Engine(_) | Way::Shares { .. } | Way::Rounds { .. } | Way::Free { .. } =>
             whole_headers(alloc, design),
     }

@@ -3,7 +3,7 @@
 ghost use Rattle.std.specs.Prelude.{◌≡◌, ℕ, ◌≤◌, List, None, true, false, length, IfOk, IfErr};
 ghost use Rattle.cmb_design_model.specs.Checks.{first_fault};
 ghost use Rattle.cmb_design_model.specs.Exact.{nets_of};
-ghost use Rattle.cmb_dump.specs.Excerpts.{AreAmong};
+ghost use Rattle.cmb_dump.specs.Shown.{AreAmong};
 ghost use Rattle.cmb_io.specs.Sources.{input_limit};
 ghost use Rattle.cmb_cli_line.specs.declared.choice.Choice.TheVariants.{All};
 ghost use Rattle.cmb_sim.specs.Inner.Plans.{IsByTable, IsPlan, IsWayTo, Streams};
@@ -12,7 +12,7 @@ ghost use Rattle.cmb_run_text.specs.Chosen.{names_of, vcd_of};
 ghost use Rattle.cmb_run_text.specs.Vcd.{vcd};
 
 use crate::modes::{check_mode, threads_in};
-use crate::tuning::{partition_that_pays, workers_pay};
+use crate::tuning::{at_once, partition_that_pays, workers_pay};
 use cmb_cli_line::{Choice, Mode, Request};
 use cmb_design_model::Design;
 use cmb_faults::Fault;
@@ -29,8 +29,12 @@ pub enum Way {
     Table,
     /// That of chosen nets, by such a table of all.
     Picked(Vec<u32>),
-    /// That of chosen nets, by the engine, which has those nets alone on which they depend.
-    Chosen(Vec<u32>),
+    /// That of chosen nets, by the engine or by shares, of those nets alone on which they depend, and by so many threads
+    /// at most.
+    Chosen {
+        nets: Vec<u32>,
+        threads: u32,
+    },
     /// By the engine, and by so many threads at most.
     Engine(u32),
     /// By a thread for each share of the nets, and one that makes the text. Where the shares have no common windows, by
@@ -68,9 +72,9 @@ fn engine_way<R: Threads + Sync>(
 ) -> Result<Way, AllocError>
     ensures { IfOk result (IsWayTo design.now design.now.netlist.names (vcd design.now) ⊥) }
 {
-    match partition_that_pays(rt, alloc, design, threads)? {
+    match partition_that_pays(rt, alloc, design, None, threads)? {
         Some(partition) => Ok(Way::Shares { partition, threads }),
-        None => Ok(Way::Engine(threads)),
+        None => Ok(Way::Engine(at_once(rt, threads))),
     }
 }
 
@@ -104,27 +108,27 @@ fn way_of<R: Threads + Sync>(
 }
 
 // The way to the text of chosen nets: mode plain fills its table for it too.
-fn way_to_chosen(mode: Mode, nets: Vec<u32>, design: &Design) -> Way
+fn way_to_chosen(request: Request, nets: Vec<u32>, design: &Design) -> Way
     requires nets { AreAmong (nets_of design.now) nets.items }
-    requires fits { first_fault (mode_checks mode design.now) ≡ None }
+    requires fits { first_fault (mode_checks request.mode design.now) ≡ None }
     ensures way { IsWayTo design.now (names_of design.now.netlist nets.items) (vcd_of design.now nets.items) ⊥ result }
-    ensures table { mode ≡ Mode.Plain → IsByTable result }
-    ensures whole { Streams result → ⊥ }
+    ensures table { request.mode ≡ Mode.Plain → IsByTable result }
 {
-    match mode {
+    let threads = threads_in(request);
+    match request.mode {
         Mode::Plain => Way::Picked(nets),
-        Mode::Rounds { .. } | Mode::Free { .. } => Way::Chosen(nets),
+        Mode::Rounds { .. } | Mode::Free { .. } => Way::Chosen { nets, threads },
     }
 }
 
 // Whether what a way makes of the text while the run goes on is held: in mode free it isn't.
 fn is_held(mode: Mode, way: &Way) -> bool
-    ensures held { result ≡ true → IsStreamed mode All false → ⊥ }
-    ensures streamed { result ≡ false → Streams way.now → IsStreamed mode All false }
+    ensures held { result ≡ true → IsStreamed mode false → ⊥ }
+    ensures streamed { result ≡ false → Streams way.now → IsStreamed mode false }
 {
     match (mode, way) {
         (Mode::Free { .. }, _) => false,
-        (_, Way::Engine(_) | Way::Shares { .. } | Way::Free { .. }) => true,
+        (_, Way::Chosen { .. } | Way::Engine(_) | Way::Shares { .. } | Way::Free { .. }) => true,
         _ => false,
     }
 }
@@ -164,10 +168,9 @@ pub(crate) fn plan_of<R: Threads + Sync>(
         Choice::Only(pick) => {
             let nets = chosen_nets(alloc, pick, design, names)?;
             check_mode(request.mode, design)?;
-            Ok(Plan {
-                way: way_to_chosen(request.mode, nets, design),
-                held: false,
-            })
+            let way = way_to_chosen(request, nets, design);
+            let held = is_held(request.mode, &way);
+            Ok(Plan { way, held })
         }
     }
 }

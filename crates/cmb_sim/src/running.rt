@@ -3,20 +3,22 @@
 ghost use Rattle.std.specs.Prelude.{◌≡◌, ◌-◌, ◌^◌, ◌<◌, None, List, ℕ, length, IfOk};
 ghost use Rattle.cmb_design_model.specs.Checks.{first_fault};
 ghost use Rattle.cmb_design_model.specs.Exact.{nets_of};
-ghost use Rattle.cmb_dump.specs.Excerpts.{AreAmong};
+ghost use Rattle.cmb_dump.specs.Shown.{AreAmong, CanShow, shown_by, vcd_shown};
 ghost use Rattle.cmb_inputs.specs.Outputs.{written_to};
 ghost use Rattle.cmb_graph_partition.specs.Partitions.{IsPartition};
 ghost use Rattle.cmb_cli_line.specs.declared.mode.Mode.TheVariants.{Plain};
-ghost use Rattle.cmb_sim.specs.Inner.Plans.{CanMake, IsPut, MayBreak, PlanMayBreak, way_text};
+ghost use Rattle.cmb_sim.specs.Inner.Plans.{CanMake, EngineBreaks, IsPut, MayBreak, PlanMayBreak, way_text};
 ghost use Rattle.cmb_sim.specs.Simulation.{mode_checks};
 ghost use Rattle.cmb_run_text.specs.Chosen.{vcd_of};
 ghost use Rattle.cmb_run_text.specs.Collector.{IsComplete, IsExactFor};
 ghost use Rattle.cmb_run_text.specs.Vcd.{vcd};
 
 use crate::plan::{Plan, Way};
-use cmb_chosen::chosen_text;
+use crate::tuning::{at_once, partition_that_pays};
+use cmb_chosen::{Part, part_of};
 use cmb_core_cluster::Clustering;
 use cmb_design_model::{Design, DesignFault, plain_waves};
+use cmb_dump::Shown;
 use cmb_faults::Fault;
 use cmb_graph_partition::Partition;
 use cmb_inputs::write_text;
@@ -119,25 +121,78 @@ fn put<O: Sink>(out: &mut O, made: Result<Vec<u8>, AllocError>) -> Result<u64, F
     Ok(text.len() as u64)
 }
 
-// Writes the text of a design by a thread for each share of its nets, or by a team where the shares have no windows
-// alike, and gives the text's length.
+// Writes the text of the nets that are shown by a thread for each share of the design's nets, or by a team where the
+// shares have no windows alike, and gives the text's length.
 fn write_by_shares<R: AllocGlobal + Threads + Wait + Sync, O: Sink>(
     rt: &R,
     partition: &Partition,
     threads: u32,
     design: &Design,
+    shown: Shown<'_>,
     out: &mut O,
 ) -> Result<u64, Fault>
     requires partition { IsPartition design.now.netlist partition.now }
+    requires shown { CanShow (nets_of design.now) (shown_by shown) }
     requires out { O.failures out.old < 2 ^ 64 - 1 }
-    ensures { IsPut (vcd design.now) (MayBreak (Way.Shares partition.now threads) design.now)
-        (written_to O.Sink out.old out.new) result }
+    ensures { IsPut (vcd_shown design.now (shown_by shown.entry)) EngineBreaks (written_to O.Sink out.old out.new)
+        result }
 {
     let alloc = rt.alloc();
-    match Shares::open(rt, alloc, design, partition)? {
+    match Shares::open(rt, alloc, design, shown, partition)? {
         Some(shares) => Ok(write_shares(rt, alloc, shares, out)?),
-        None => Ok(write_team(rt, alloc, design, threads, out)?),
+        None => Ok(write_team(rt, alloc, design, shown, threads, out)?),
     }
+}
+
+// Writes the text of a design by the engine and so many threads at most, and gives its length.
+fn write_by_engine<R: AllocGlobal + Threads + Wait + Sync, O: Sink>(
+    rt: &R,
+    threads: u32,
+    design: &Design,
+    out: &mut O,
+) -> Result<u64, Fault>
+    requires { O.failures out.old < 2 ^ 64 - 1 }
+    ensures { IsPut (vcd design.now) EngineBreaks (written_to O.Sink out.old out.new) result }
+{
+    Ok(write_team(rt, rt.alloc(), design, None, threads, out)?)
+}
+
+// Writes the text of a part's chosen nets, by shares of its nets where that pays, and gives its length.
+fn write_part<R: AllocGlobal + Threads + Wait + Sync, O: Sink>(
+    rt: &R,
+    part: &Part,
+    threads: u32,
+    out: &mut O,
+) -> Result<u64, Fault>
+    requires nets { AreAmong (nets_of part.now.design) part.now.nets }
+    requires out { O.failures out.old < 2 ^ 64 - 1 }
+    ensures { IsPut (vcd_of part.now.design part.now.nets) EngineBreaks (written_to O.Sink out.old out.new) result }
+{
+    let alloc = rt.alloc();
+    let design = &part.design;
+    let shown: Shown<'_> = Some(&part.nets);
+    match partition_that_pays(rt, alloc, design, shown, threads)? {
+        Some(partition) => write_by_shares(rt, &partition, threads, design, shown, out),
+        None => Ok(write_team(rt, alloc, design, shown, at_once(rt, threads), out)?),
+    }
+}
+
+// Writes the text of chosen nets, by the part of the design on which they depend, and gives its length.
+fn write_chosen<R: AllocGlobal + Threads + Wait + Sync, O: Sink>(
+    rt: &R,
+    nets: &[u32],
+    threads: u32,
+    design: &Design,
+    out: &mut O,
+) -> Result<u64, Fault>
+    requires nets { AreAmong (nets_of design.now) nets.now }
+    requires out { O.failures out.old < 2 ^ 64 - 1 }
+    ensures { IsPut (vcd_of design.now nets.now) EngineBreaks (written_to O.Sink out.old out.new) result }
+{
+    let part = part_of(rt.alloc(), design, nets)?;
+    let written = write_part(rt, &part, threads, out);
+    drop(part);
+    written
 }
 
 /// Writes the text of a design in a way that can make it, and gives its length.
@@ -156,9 +211,11 @@ pub(crate) fn write_by<R: AllocGlobal + Threads + Wait + Sync, O: Sink>(
     match way {
         Way::Table => put(out, table_text(alloc, design)),
         Way::Picked(nets) => put(out, picked_text(alloc, design, nets)),
-        Way::Chosen(nets) => put(out, chosen_text(alloc, design, nets)),
-        Way::Engine(threads) => Ok(write_team(rt, alloc, design, *threads, out)?),
-        Way::Shares { partition, threads } => write_by_shares(rt, partition, *threads, design, out),
+        Way::Chosen { nets, threads } => write_chosen(rt, nets, *threads, design, out),
+        Way::Engine(threads) => write_by_engine(rt, *threads, design, out),
+        Way::Shares { partition, threads } => {
+            write_by_shares(rt, partition, *threads, design, None, out)
+        }
         Way::Rounds { workers, clusters } => put(out, rounds_text(rt, *workers, *clusters, design)),
         Way::Free { workers, clusters } => write_by_workers(rt, *workers, *clusters, design, out),
     }

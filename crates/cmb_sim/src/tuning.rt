@@ -5,6 +5,7 @@ ghost use Rattle.cmb_design_model.specs.Exact.{nets_of};
 ghost use Rattle.cmb_graph_partition.specs.Partitions.{IsPartition};
 
 use cmb_design_model::Design;
+use cmb_dump::Shown;
 use cmb_graph_partition::{Partition, Structure, load, partition, structure_of, total};
 use cmb_netlist::{Driver, PartCount};
 use cmb_shares::{Costs, costs_of};
@@ -42,8 +43,8 @@ const MOST_SEEN: u32 = 25;
 // And in no less than the first of so many.
 const LEAST_SEEN: u32 = 50;
 
-// A run by shares has so many threads for each processor at most. Shares wait for one another in each window, so one
-// that waits for a processor holds up all.
+// A run has so many threads for each processor at most. Shares wait for one another in each window, and the threads of
+// a team for one another's batches, so one that waits for a processor holds up all.
 const PER_PROCESSOR: usize = 1;
 
 /// The flip-flops of a design, and about how many samples they take in its run.
@@ -115,6 +116,7 @@ fn measured<R: Threads + Sync>(
 ) -> Result<(Option<Structure>, Costs), AllocError>
     ensures structure { IfOk result (λ found. IfSome found.0 (λ structure. structure ≡ nets_of design.now)) }
     ensures costs { IfOk result (λ found. length found.1.nets.items ≡ nets_of design.now) }
+    ensures texts { IfOk result (λ found. length found.1.texts.items ≡ nets_of design.now) }
 {
     let (structure, costs) = thread::join(
         rt,
@@ -122,14 +124,15 @@ fn measured<R: Threads + Sync>(
             ensures { IfOk result (λ found. IfSome found (λ structure. structure ≡ nets_of design.entry.now)) }
         { structure_of(alloc, design.netlist()) },
         move || -> Result<Costs, AllocError>
-            ensures { IfOk result (λ costs. length costs.nets.items ≡ nets_of design.entry.now) }
+            ensures nets { IfOk result (λ costs. length costs.nets.items ≡ nets_of design.entry.now) }
+            ensures texts { IfOk result (λ costs. length costs.texts.items ≡ nets_of design.entry.now) }
         { costs_of(alloc, design, upto) },
     );
     Ok((structure?, costs?))
 }
 
-// So many of some threads as can be at work at once, where the system tells how many processors there are.
-fn at_once<R: Threads>(rt: &R, threads: u32) -> u32
+/// So many of some threads as can be at work at once, where the system tells how many processors there are.
+pub(crate) fn at_once<R: Threads>(rt: &R, threads: u32) -> u32
     ensures { result ≤ threads }
 {
     match thread::available_parallelism(rt) {
@@ -141,23 +144,40 @@ fn at_once<R: Threads>(rt: &R, threads: u32) -> u32
     }
 }
 
-// How many shares there are at most, beside the thread that makes the text.
-fn most_shares(costs: &Costs, threads: u32) -> u32
-    requires { length costs.now.nets.items ≤ 65535 }
+// What some of these cost together.
+fn total_of(costs: &[u32], nets: &[u32]) -> u64 {
+    let mut all = 0_u64;
+    for net in nets {
+        if let Some(cost) = costs.get(*net as usize) {
+            all = all.saturating_add(u64::from(*cost));
+        }
+    }
+    all
+}
+
+// How many shares there are at most, beside the thread that makes the text of the nets that are shown.
+fn most_shares(costs: &Costs, shown: Shown<'_>, threads: u32) -> u32
+    requires nets { length costs.now.nets.items ≤ 65535 }
+    requires texts { length costs.now.texts.items ≤ 65535 }
     ensures { result ≤ threads - 1 }
 {
-    let least = costs.text.saturating_mul(LEAST_OF_TEXT) / 100;
+    let text = match shown {
+        None => total(&costs.texts),
+        Some(nets) => total_of(&costs.texts, nets),
+    };
+    let least = text.saturating_mul(LEAST_OF_TEXT) / 100;
     let busy = total(&costs.nets) / least.max(1);
     let most = u64::from(threads.saturating_sub(1));
     busy.saturating_add(1).max(2).min(most) as u32
 }
 
-/// The shares of a design's nets, where a thread for each pays beside the one that makes the text: they are so many
-/// threads at most. Errors: memory was refused.
+/// The shares of a design's nets, where a thread for each pays beside the one that makes the text of the nets that are
+/// shown: they are so many threads at most. Errors: memory was refused.
 pub(crate) fn partition_that_pays<R: Threads + Sync>(
     rt: &R,
     alloc: Global,
     design: &Design,
+    shown: Shown<'_>,
     threads: u32,
 ) -> Result<Option<Partition>, AllocError>
     ensures partition { IfOk result (λ found. IfSome found (IsPartition design.now.netlist)) }
@@ -176,7 +196,7 @@ pub(crate) fn partition_that_pays<R: Threads + Sync>(
     let Some(structure) = structure else {
         return Ok(None);
     };
-    let most = most_shares(&costs, threads);
+    let most = most_shares(&costs, shown, threads);
     match partition(alloc, design.netlist(), structure, &costs.nets, most)? {
         Some(partition) if is_even(&costs.nets, &partition) => Ok(Some(partition)),
         _ => Ok(None),

@@ -13,7 +13,7 @@ pub struct BatchMaker<'a, T: TeamRun> {
     engine: Engine<'a>,
     horizon: u32,
     ways: Ways<'a, T>,
-    ghost design: { engine.design ≡ T.design },
+    ghost design: { engine.design ≡ T.subject.design },
 }
 
 // The next batch, made and handed on. There is no engine any more where the horizon was reached, nobody gives batches
@@ -24,8 +24,8 @@ fn step<'a, T: TeamRun, R: Wait>(
     engine: Engine<'a>,
     horizon: u32,
 ) -> Option<Engine<'a>>
-    requires { engine.design ≡ T.design }
-    ensures { IfSome result (λ it. it.design ≡ T.design) }
+    requires { engine.design ≡ T.subject.design }
+    ensures { IfSome result (λ it. it.design ≡ T.subject.design) }
 {
     let Some(mut job) = ways.take(rt) else {
         drop(engine);
@@ -46,7 +46,7 @@ fn step<'a, T: TeamRun, R: Wait>(
 impl<'a, T: TeamRun> BatchMaker<'a, T> {
     /// An engine, and where batches come from and go.
     pub(crate) fn new(engine: Engine<'a>, horizon: u32, ways: Ways<'a, T>) -> BatchMaker<'a, T>
-        requires { engine.design ≡ T.design }
+        requires { engine.design ≡ T.subject.design }
     {
         BatchMaker {
             engine,

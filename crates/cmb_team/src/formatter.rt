@@ -19,13 +19,13 @@ pub(crate) struct Formatter<'a, T: TeamRun> {
     dump: Dump<'a>,
     inlet: Inlet<'a, T>,
     idle: Idle,
-    ghost design: { dump.design ≡ T.design },
+    ghost subject: { dump.subject ≡ T.subject },
 }
 
 // Adds what a dump told last to a text.
 fn add(text: &mut Vec<u8>, dump: &mut Dump<'_>) -> Result<(), AllocError>
     ensures text { OnOk result (text.new.items ≡ text.old.items ++ dump.old.text) }
-    ensures design { dump.new.design ≡ dump.old.design }
+    ensures subject { dump.new.subject ≡ dump.old.subject }
     ensures clock { dump.new.clock ≡ dump.old.clock }
 {
     if text.is_empty() {
@@ -42,9 +42,9 @@ fn format_batch(
     batch: &Batch<'_>,
     text: &mut Vec<u8>,
 ) -> Result<(), AllocError>
-    requires { dump.old.design ≡ batch.now.design }
-    ensures design { dump.new.design ≡ dump.old.design }
-    ensures told { OnOk result (IsTold batch.now text.new.items) }
+    requires { dump.old.subject.design ≡ batch.now.design }
+    ensures subject { dump.new.subject ≡ dump.old.subject }
+    ensures told { OnOk result (IsTold dump.old.subject batch.now text.new.items) }
 {
     if batch.len() == 0 {
         return Err(AllocError);
@@ -59,9 +59,9 @@ fn format_batch(
 }
 
 impl<'a, T: TeamRun> Formatter<'a, T> {
-    /// A formatter by a dump of a design, of the batches that come by a ring.
+    /// A formatter by a dump, of the batches that come by a ring.
     pub(crate) fn new(dump: Dump<'a>, inlet: Inlet<'a, T>) -> Formatter<'a, T>
-        requires { dump.design ≡ T.design }
+        requires { dump.subject ≡ T.subject }
     {
         Formatter {
             dump,

@@ -14,13 +14,13 @@ pub struct Job<'a, T: TeamRun> {
     pub batch: Batch<'a>,
     pub text: Vec<u8>,
     run: PhantomData<T>,
-    ghost design: { batch.design ≡ T.design },
+    ghost design: { batch.design ≡ T.subject.design },
 }
 
 impl<'a, T: TeamRun> Job<'a, T> {
     /// A batch, and room for its text.
     pub(crate) fn new(batch: Batch<'a>, text: Vec<u8>) -> Job<'a, T>
-        requires { batch.design ≡ T.design }
+        requires { batch.design ≡ T.subject.design }
         ensures { result.batch ≡ batch.entry }
     {
         Job {
@@ -35,7 +35,7 @@ impl<'a, T: TeamRun> Job<'a, T> {
 #[derive(Drop)]
 pub struct MadeText<'a, T: TeamRun> {
     pub job: Job<'a, T>,
-    ghost told: { IsTold job.batch job.text.items },
+    ghost told: { IsTold T.subject job.batch job.text.items },
 }
 
 /// The end of a ring at which batches come.

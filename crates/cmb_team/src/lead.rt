@@ -26,7 +26,7 @@ impl<'a, T: TeamRun, R> Model for Lead<'a, T, R> {
 
     ghost Value = { Made };
 
-    ghost view = { λ lead. record { design = T.design; clock = lead.clock } };
+    ghost view = { λ lead. record { subject = T.subject; clock = lead.clock } };
 }
 
 impl<'a, T: TeamRun, R: Wait> Lead<'a, T, R> {
@@ -37,7 +37,7 @@ impl<'a, T: TeamRun, R: Wait> Lead<'a, T, R> {
         texts: Texts<'a, T>,
         back: Outlet<'a, T>,
     ) -> Lead<'a, T, R>
-        ensures design { result.design ≡ T.design }
+        ensures subject { result.subject ≡ T.subject }
         ensures clock { result.clock ≡ clock }
     {
         Lead {
@@ -51,7 +51,7 @@ impl<'a, T: TeamRun, R: Wait> Lead<'a, T, R> {
     // Takes the text of the next batch, which comes behind what is kept, and gives its room back.
     fn go_on(&mut self, kept: &mut TextBuffer<'_>) -> Result<(), AllocError>
         requires { IsAtEndOf kept.old self.old }
-        ensures design { self.new.design ≡ self.old.design }
+        ensures subject { self.new.subject ≡ self.old.subject }
         ensures here { OnOk result (IsAtEndOf kept.new self.new) }
         ensures given { OnOk result (kept.new.given ≡ kept.old.given) }
         ensures later { OnOk result (kept.old.clock < kept.new.clock) }

@@ -1,6 +1,7 @@
 //! How a run begins: a maker, formatters, and rings between them.
 
 ghost use Rattle.std.specs.Prelude.{◌≡◌};
+ghost use Rattle.cmb_team.specs.Inner.Named.{IsNamed};
 
 use crate::batch_maker::BatchMaker;
 use crate::formatter::Formatter;
@@ -11,7 +12,7 @@ use crate::team_run::TeamRun;
 use crate::texts::{Others, Texts};
 use crate::ways::Ways;
 use cmb_design_model::Design;
-use cmb_dump::Dump;
+use cmb_dump::{Dump, Shown};
 use cmb_engine::Engine;
 use rtrb::RingBuffer;
 use std::alloc::{AllocError, Global};
@@ -61,14 +62,19 @@ fn ring_to<'a, T: TeamRun>(
 
 impl<'a, T: TeamRun> Rings<'a, T> {
     // One more formatter between two rings.
-    fn add_formatter(&mut self, alloc: Global, design: &'a Design) -> Result<(), AllocError>
-        requires { design.now ≡ T.design }
+    fn add_formatter(
+        &mut self,
+        alloc: Global,
+        design: &'a Design,
+        shown: Shown<'a>,
+    ) -> Result<(), AllocError>
+        requires { IsNamed T.subject design.now shown }
     {
         let inlet = ring_to(alloc, &mut self.outlets)?;
         let (outlet, text) = RingBuffer::new(alloc, ROOM)?;
         self.texts.push(text)?;
         self.formatters
-            .push(FormatterPorts::new(alloc, design, inlet, outlet))?;
+            .push(FormatterPorts::new(alloc, design, shown, inlet, outlet))?;
         Ok(())
     }
 
@@ -77,15 +83,16 @@ impl<'a, T: TeamRun> Rings<'a, T> {
         &mut self,
         alloc: Global,
         design: &'a Design,
+        shown: Shown<'a>,
         count: usize,
     ) -> Result<(), AllocError>
-        requires { design.now ≡ T.design }
+        requires { IsNamed T.subject design.now shown }
     {
         if count == 0 {
             self.own = Some(ring_to(alloc, &mut self.outlets)?);
         }
         for _formatter in 0..count {
-            self.add_formatter(alloc, design)?;
+            self.add_formatter(alloc, design, shown)?;
         }
         Ok(())
     }
@@ -96,9 +103,10 @@ impl<'a, T: TeamRun> Rings<'a, T> {
 pub(crate) fn open_rings<'a, T: TeamRun>(
     alloc: Global,
     design: &'a Design,
+    shown: Shown<'a>,
     count: usize,
 ) -> Result<Rings<'a, T>, AllocError>
-    requires { design.now ≡ T.design }
+    requires { IsNamed T.subject design.now shown }
 {
     let most = count.max(1).saturating_add(MORE);
     let (back, spent) = RingBuffer::new(alloc, most)?;
@@ -111,10 +119,12 @@ pub(crate) fn open_rings<'a, T: TeamRun>(
         spent,
         most,
     };
-    rings.add_formatters(alloc, design, count).and(Ok(rings))
+    rings
+        .add_formatters(alloc, design, shown, count)
+        .and(Ok(rings))
 }
 
-/// What the run of the design begins with that `T` names, from where an engine and a dump are on.
+/// What the run begins with that `T` names, from where an engine and a dump are on.
 pub(crate) fn open_run<'a, T: TeamRun, R: Wait>(
     rt: &'a R,
     alloc: Global,
@@ -123,10 +133,10 @@ pub(crate) fn open_run<'a, T: TeamRun, R: Wait>(
     dump: Dump<'a>,
     rings: Rings<'a, T>,
 ) -> Opened<'a, T, R>
-    requires named { design.now ≡ T.design }
-    requires engine { engine.design ≡ T.design }
-    requires dump { dump.design ≡ T.design }
-    ensures design { result.lead.design ≡ T.design }
+    requires named { design.now ≡ T.subject.design }
+    requires engine { engine.design ≡ T.subject.design }
+    requires dump { dump.subject ≡ T.subject }
+    ensures subject { result.lead.subject ≡ T.subject }
     ensures clock { result.lead.clock ≡ engine.entry.clock }
 {
     let Rings {

@@ -1,24 +1,27 @@
 //! A thread's part of a run: it makes the text of the batches that are its, and passes them on.
 
 ghost use Rattle.std.specs.Prelude.{◌≡◌};
+ghost use Rattle.std.proofs.Props.{props};
+ghost use Rattle.cmb_team.specs.Inner.Named.{IsNamed};
 
 use crate::formatter::Formatter;
 use crate::job::{Inlet, TextOutlet};
 use crate::team_run::TeamRun;
 use cmb_design_model::Design;
-use cmb_dump::Dump;
+use cmb_dump::{Dump, Shown};
 use cmb_waiting::{Idle, handed};
 use std::alloc::Global;
 use std::sync::Wait;
 
-/// A design, the ring on which a formatter's batches come and the one on which their texts go on.
+/// Of what the text is, the ring on which a formatter's batches come and the one on which their texts go on.
 #[derive(Drop)]
 pub struct FormatterPorts<'a, T: TeamRun> {
     alloc: Global,
     design: &'a Design,
+    shown: Shown<'a>,
     inlet: Inlet<'a, T>,
     outlet: TextOutlet<'a, T>,
-    ghost named: { design.now ≡ T.design },
+    ghost named: { IsNamed T.subject design.now shown } by { Prim.hlevel props },
 }
 
 impl<'a, T: TeamRun> FormatterPorts<'a, T> {
@@ -26,14 +29,16 @@ impl<'a, T: TeamRun> FormatterPorts<'a, T> {
     pub(crate) fn new(
         alloc: Global,
         design: &'a Design,
+        shown: Shown<'a>,
         inlet: Inlet<'a, T>,
         outlet: TextOutlet<'a, T>,
     ) -> FormatterPorts<'a, T>
-        requires { design.now ≡ T.design }
+        requires { IsNamed T.subject design.now shown }
     {
         FormatterPorts {
             alloc,
             design,
+            shown,
             inlet,
             outlet,
         }
@@ -44,10 +49,11 @@ impl<'a, T: TeamRun> FormatterPorts<'a, T> {
         let FormatterPorts {
             alloc,
             design,
+            shown,
             inlet,
             mut outlet,
         } = self;
-        let Ok(dump) = Dump::at(alloc, design, 1) else {
+        let Ok(dump) = Dump::at(alloc, design, shown, 1) else {
             drop((inlet, outlet));
             return;
         };

@@ -2,15 +2,17 @@
 
 use std::marker::Brand;
 
-/// Names the design of a run. `Brand` stands for any that a call picks.
+/// Names a run by what its text is of. `Brand` stands for any that a call picks.
 pub trait TeamRun {
-    ghost use Rattle.cmb_design_model.specs.Design.{Design};
+    ghost use Rattle.cmb_dump.specs.Shown.{Subject};
 
-    ghost design: { Design };
+    ghost subject: { Subject };
 }
 
 impl TeamRun for Brand {
+    ghost use Rattle.std.specs.Prelude.{None};
+    ghost use Rattle.cmb_dump.specs.Shown.{Subject};
     ghost use Rattle.cmb_run_text.specs.Examples.{nothing};
 
-    ghost design = { nothing };
+    ghost subject = { record { design = nothing; shown = None } };
 }

@@ -1,13 +1,17 @@
-//! The whole text of a design, by one thread as far as that pays and then by a team.
+//! The whole text of a run, by one thread as far as that pays and then by a team.
 
 ghost use Rattle.std.specs.Prelude.{◌≡◌, ◌-◌, ◌^◌, ◌<◌, ◌≤◌, IfOk};
+ghost use Rattle.cmb_design_model.specs.Exact.{nets_of};
+ghost use Rattle.cmb_dump.specs.Shown.{CanShow, shown_by, subject_of, vcd_shown, whole_text};
 ghost use Rattle.cmb_dump_stream.specs.Parts.{IsAtEndOf, IsStream};
 ghost use Rattle.cmb_dump_stream.specs.Streams.{IsWrittenTo};
+ghost use Rattle.cmb_team.specs.Inner.Named.{IsNamed};
 
 use crate::opening::{Opened, open_rings, open_run};
 use crate::team_run::TeamRun;
 use crate::threads::start;
 use cmb_design_model::Design;
+use cmb_dump::Shown;
 use cmb_dump_stream::{Stream, TextBuffer, TextMaker, write_rest, write_stream};
 use cmb_io::{Sink, WriteFault};
 use std::alloc::{AllocError, Global};
@@ -36,12 +40,17 @@ fn pays(told: usize, kept: &TextBuffer<'_>, design: &Design) -> bool {
 }
 
 // The first part of a text, in one thread, who goes on with it, and whether more than one thread pays for that.
-fn begin(alloc: Global, design: &Design) -> Result<(Stream<'_>, TextBuffer<'_>, bool), AllocError>
+fn begin<'a>(
+    alloc: Global,
+    design: &'a Design,
+    shown: Shown<'a>,
+) -> Result<(Stream<'a>, TextBuffer<'a>, bool), AllocError>
+    requires { CanShow (nets_of design.now) (shown_by shown) }
     ensures here { IfOk result (λ begun. IsAtEndOf begun.1 begun.0) }
-    ensures design { IfOk result (λ begun. begun.1.design ≡ design.entry.now) }
+    ensures subject { IfOk result (λ begun. begun.1.subject ≡ subject_of design.entry.now shown.entry) }
     ensures given { IfOk result (λ begun. begun.1.given ≡ 0) }
 {
-    let (mut stream, mut kept) = Stream::open(alloc, design)?;
+    let (mut stream, mut kept) = Stream::open(alloc, design, shown)?;
     let first = kept.len();
     while !kept.is_done() && kept.len() < first.saturating_add(FIRST) {
         let Ok(next) = stream.step(&mut kept) else {
@@ -59,24 +68,25 @@ fn formatters_of(threads: u32) -> usize {
     threads.saturating_sub(2).min(MOST) as usize
 }
 
-// Writes the rest of the text of the design that T names, by a team.
+// Writes the rest of the text that T names, by a team.
 fn write_named<'a, T: TeamRun + Send + Sync, R: Threads + Wait + Sync, S: Sink>(
     rt: &'a R,
     alloc: Global,
     design: &'a Design,
+    shown: Shown<'a>,
     stream: Stream<'a>,
     kept: TextBuffer<'a>,
     threads: u32,
     sink: &mut S,
 ) -> Result<u64, WriteFault>
     requires room { S.failures sink.old < 2 ^ 64 - 1 }
-    requires named { design.now ≡ T.design }
+    requires named { IsNamed T.subject design.now shown }
     requires here { IsAtEndOf kept stream }
-    requires design { kept.design ≡ T.design }
+    requires subject { kept.subject ≡ T.subject }
     requires all { kept.given ≡ 0 }
-    ensures { IsWrittenTo S.Sink design.now sink.old sink.new result }
+    ensures { IsWrittenTo S.Sink (whole_text T.subject) sink.old sink.new result }
 {
-    let Ok(rings) = open_rings::<T>(alloc, design, formatters_of(threads)) else {
+    let Ok(rings) = open_rings::<T>(alloc, design, shown, formatters_of(threads)) else {
         drop((stream, kept));
         return Err(WriteFault::Memory);
     };
@@ -94,7 +104,7 @@ fn write_named<'a, T: TeamRun + Send + Sync, R: Threads + Wait + Sync, S: Sink>(
             requires here { IsAtEndOf kept lead }
             requires all { kept.given ≡ 0 }
             ensures name { result.0.ghost_name ≡ sink.entry.ghost_name }
-            ensures told { IsWrittenTo S.Sink kept.entry.design sink.entry.now result.0.now result.1 }
+            ensures told { IsWrittenTo S.Sink (whole_text kept.entry.subject) sink.entry.now result.0.now result.1 }
         {
             start(rt, scope, maker, formatters);
             let answer = write_rest(lead, kept, sink);
@@ -106,26 +116,28 @@ fn write_named<'a, T: TeamRun + Send + Sync, R: Threads + Wait + Sync, S: Sink>(
     answer
 }
 
-/// Writes the VCD text of a design's run while it is made, by so many threads at most, and gives its length; with one
-/// thread, or none, by `write_stream`. Threads are started only where there is enough to do for them. The text is the
+/// Writes the VCD text of a design's run while it is made, of the nets that are shown, by so many threads at most, and
+/// gives its length; with one thread, or none, by `write_stream`. Threads are started only where there is enough to do for them. The text is the
 /// same for any number. What it needs of memory hardly grows with the horizon. Whatever the fault, the sink took a
 /// beginning of the text. A failed write is the answer then and only then; else memory or a thread was refused.
 pub fn write_team<R: Threads + Wait + Sync, S: Sink>(
     rt: &R,
     alloc: Global,
     design: &Design,
+    shown: Shown<'_>,
     threads: u32,
     sink: &mut S,
 ) -> Result<u64, WriteFault>
-    requires { S.failures sink.old < 2 ^ 64 - 1 }
-    ensures { IsWrittenTo S.Sink design.now sink.old sink.new result }
+    requires shown { CanShow (nets_of design.now) (shown_by shown) }
+    requires room { S.failures sink.old < 2 ^ 64 - 1 }
+    ensures { IsWrittenTo S.Sink (vcd_shown design.now (shown_by shown.entry)) sink.old sink.new result }
 {
     if threads < 2 {
-        return write_stream(alloc, design, sink);
+        return write_stream(alloc, design, shown, sink);
     }
-    let (stream, kept, pays) = begin(alloc, design)?;
+    let (stream, kept, pays) = begin(alloc, design, shown)?;
     if pays {
-        write_named::<Brand, R, S>(rt, alloc, design, stream, kept, threads, sink)
+        write_named::<Brand, R, S>(rt, alloc, design, shown, stream, kept, threads, sink)
     } else {
         write_rest(stream, kept, sink)
     }

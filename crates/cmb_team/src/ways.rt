@@ -21,7 +21,7 @@ pub struct Ways<'a, T: TeamRun> {
     outlets: Vec<Outlet<'a, T>>,
     turn: usize,
     idle: Idle,
-    ghost named: { design.now ≡ T.design },
+    ghost named: { design.now ≡ T.subject.design },
 }
 
 /// Whose turn it is of so many. The next time it is the next one's.
@@ -41,7 +41,7 @@ impl<'a, T: TeamRun> Ways<'a, T> {
         back: Inlet<'a, T>,
         outlets: Vec<Outlet<'a, T>>,
     ) -> Ways<'a, T>
-        requires { design.now ≡ T.design }
+        requires { design.now ≡ T.subject.design }
     {
         Ways {
             alloc,

@@ -10,7 +10,7 @@ use std::test::Fail;
 
 /// Whether the last line of a run up to tick 8 takes the place of what a list had, and the dump is left with nothing.
 fn is_swapped(alloc: Global, design: &Design) -> Result<bool, Fail> {
-    let mut dump = Dump::at(alloc, design, 1)?;
+    let mut dump = Dump::at(alloc, design, None, 1)?;
     dump.pass(design.horizon())?;
     let mut room = Vec::from_slice(alloc, b"a part before")?;
     dump.swap_text(&mut room);

@@ -185,7 +185,7 @@ fn goes_on_narrowly(alloc: Global, design: &Design) -> Result<bool, Fail>
 fn is_written(alloc: Global, design: &Design) -> Result<bool, Fail> {
     let wanted = inverted(alloc)?;
     let mut room = Room::new(alloc, wanted.len())?;
-    let answer = write_stream(alloc, design, &mut room);
+    let answer = write_stream(alloc, design, None, &mut room);
     let is_whole = room.bytes.as_slice() == wanted.as_bytes() && room.failures == 0;
     Ok(is_whole && answer == Ok(wanted.len() as u64))
 }
@@ -194,7 +194,7 @@ fn is_written(alloc: Global, design: &Design) -> Result<bool, Fail> {
 fn is_broken_off(alloc: Global, design: &Design) -> Result<bool, Fail> {
     let wanted = inverted(alloc)?;
     let mut sink = Limited::new(alloc, 17);
-    let answer = write_stream(alloc, design, &mut sink);
+    let answer = write_stream(alloc, design, None, &mut sink);
     let is_begun = wanted.as_bytes().starts_with(&sink.bytes) && sink.bytes.len() == 17;
     Ok(is_begun && answer == Err(WriteFault::Write { written: 17 }))
 }

@@ -1,10 +1,13 @@
 //! The text of a design whose nets are partitioned among logical processes, which read each other's flip-flops.
 
 ghost use Rattle.std.specs.Prelude.{IfOk, IfSome};
+ghost use Rattle.cmb_design_model.specs.Exact.{nets_of};
+ghost use Rattle.cmb_dump.specs.Shown.{CanShow, shown_by};
 ghost use Rattle.cmb_graph_partition.specs.Partitions.{IsPartition};
 
 use crate::checks::holds;
 use cmb_design_model::{Design, Settings};
+use cmb_dump::Shown;
 use cmb_dump_stream::write_stream;
 use cmb_graph_partition::{Partition, partition, structure_of};
 use cmb_io::{Limited, Room, WriteFault};
@@ -60,14 +63,16 @@ fn opens_and_takes<R: Threads + Wait + Sync>(
     rt: &R,
     alloc: Global,
     design: &Design,
+    shown: Shown<'_>,
     partition: &Partition,
     room: usize,
     bytes: &[u8],
     answer: Result<u64, WriteFault>,
 ) -> Result<bool, Fail>
-    requires { IsPartition design.now.netlist partition.now }
+    requires partition { IsPartition design.now.netlist partition.now }
+    requires shown { CanShow (nets_of design.now) (shown_by shown) }
 {
-    match Shares::open(rt, alloc, design, partition)? {
+    match Shares::open(rt, alloc, design, shown, partition)? {
         Some(shares) => Ok(takes(rt, alloc, shares, room, bytes, answer)),
         None => Ok(false),
     }
@@ -78,17 +83,27 @@ fn is_text<R: Threads + Wait + Sync>(
     rt: &R,
     alloc: Global,
     design: &Design,
+    shown: Shown<'_>,
     partition: &Partition,
     text: &[u8],
 ) -> Result<bool, Fail>
-    requires { IsPartition design.now.netlist partition.now }
+    requires partition { IsPartition design.now.netlist partition.now }
+    requires shown { CanShow (nets_of design.now) (shown_by shown) }
 {
     let written = text.len() as u64;
     let begun = &text[..text.len().min(17)];
     let broken_off = Err(WriteFault::Write { written: 17 });
     Ok(
-        opens_and_takes(rt, alloc, design, partition, 100_000, text, Ok(written))?
-            && opens_and_takes(rt, alloc, design, partition, 17, begun, broken_off)?,
+        opens_and_takes(
+            rt,
+            alloc,
+            design,
+            shown,
+            partition,
+            100_000,
+            text,
+            Ok(written),
+        )? && opens_and_takes(rt, alloc, design, shown, partition, 17, begun, broken_off)?,
     )
 }
 
@@ -111,8 +126,17 @@ fn costs_of_four(alloc: Global) -> Result<Costs, Fail> {
     Ok(costs_of(alloc, &design, 100)?)
 }
 
+/// Whether the text of the last two of four nets costs something, and that of the others nothing.
+fn is_text_of_two(texts: &[u32]) -> bool {
+    match texts {
+        [0, 0, turned, inverted] => 0 < *turned && 0 < *inverted,
+        _ => false,
+    }
+}
+
 // Each share has its own inputs, so these cost nothing. Each other net costs something. A flip-flop costs the more the
-// more often it changes, and more than a gate that changes as often, since it is looked at when samples arrive.
+// more often it changes, and more than a gate that changes as often, since it is looked at when samples arrive. The text
+// of what doesn't change costs nothing.
 #[test]
 fn costs(rt: HostRuntime) -> Result<(), Fail> {
     let costs = costs_of_four(rt.alloc())?;
@@ -123,7 +147,7 @@ fn costs(rt: HostRuntime) -> Result<(), Fail> {
                 0 < *still && *still < *turned && 0 < *inverted && *inverted < *turned
             }
             _ => false,
-        } && 0 < costs.text,
+        } && is_text_of_two(&costs.texts),
     );
     Ok(())
 }
@@ -149,7 +173,7 @@ fn are_lines<R: Threads + Wait + Sync>(
     let text = text_of(alloc, "a m b", lines)?;
     let design = counter(alloc, b"", horizon)?;
     match halves(alloc, &design)? {
-        Some(partition) => is_text(rt, alloc, &design, &partition, text.as_bytes()),
+        Some(partition) => is_text(rt, alloc, &design, None, &partition, text.as_bytes()),
         None => Ok(false),
     }
 }
@@ -166,10 +190,47 @@ fn no_window(rt: HostRuntime) -> Result<(), Fail> {
     Ok(())
 }
 
+/// The same of the flip-flops alone.
+const FLIP_FLOPS: &str = "#0 0! 0\" #11 1! #31 1\" #51 0! #71 0\" #91 1! #100";
+
+/// Whether two shares of a design of three nets make the text of its first and its last one of these lines.
+fn are_lines_of_two<R: Threads + Wait + Sync>(
+    rt: &R,
+    alloc: Global,
+    design: &Design,
+) -> Result<bool, Fail> {
+    let text = text_of(alloc, "a b", FLIP_FLOPS)?;
+    match halves(alloc, design)? {
+        Some(partition) if design.netlist().len() == 3 => {
+            is_text(
+                rt,
+                alloc,
+                design,
+                Some(&[0, 2]),
+                &partition,
+                text.as_bytes(),
+            )
+        }
+        _ => Ok(false),
+    }
+}
+
+/// The same of the counter.
+fn shows_flip_flops<R: Threads + Wait + Sync>(rt: &R, alloc: Global) -> Result<bool, Fail> {
+    let design = counter(alloc, b"", 100)?;
+    are_lines_of_two(rt, alloc, &design)
+}
+
+#[test]
+fn chosen_nets(rt: HostRuntime) -> Result<(), Fail> {
+    holds(&rt, shows_flip_flops(&rt, rt.alloc())?);
+    Ok(())
+}
+
 /// The text that one engine makes of a design.
 fn streamed(alloc: Global, design: &Design) -> Result<Vec<u8>, Fail> {
     let mut room = Room::new(alloc, 0)?;
-    write_stream(alloc, design, &mut room)?;
+    write_stream(alloc, design, None, &mut room)?;
     Ok(room.bytes)
 }
 
@@ -178,7 +239,7 @@ fn is_as_of_one<R: Threads + Wait + Sync>(rt: &R, alloc: Global) -> Result<bool,
     let design = counter(alloc, b"", 5_000)?;
     let text = streamed(alloc, &design)?;
     match halves(alloc, &design)? {
-        Some(partition) => is_text(rt, alloc, &design, &partition, &text),
+        Some(partition) => is_text(rt, alloc, &design, None, &partition, &text),
         None => Ok(false),
     }
 }
@@ -196,7 +257,7 @@ fn can_open<R: Threads + Wait + Sync>(
     design: &Design,
 ) -> Result<bool, Fail> {
     match halves(alloc, design)? {
-        Some(partition) => Ok(Shares::open(rt, alloc, design, &partition)?.is_some()),
+        Some(partition) => Ok(Shares::open(rt, alloc, design, None, &partition)?.is_some()),
         None => Ok(false),
     }
 }

@@ -2,22 +2,34 @@
 
 ghost use Rattle.std.specs.Prelude.{◌≡◌};
 ghost use Rattle.cmb_design_model.specs.Exact.{nets_of};
+ghost use Rattle.cmb_dump.specs.Shown.{AreAmong};
 
 use crate::checks::holds;
 use crate::parts::{part_alone, two_parts};
-use cmb_chosen::{chosen_text, part_of};
+use cmb_chosen::part_of;
 use cmb_design_model::Design;
+use cmb_dump_stream::write_stream;
+use cmb_io::Room;
 use std::alloc::Global;
 use std::process::Abort;
 use std::test::Fail;
 use worked_designs::text_of;
+
+/// The text of chosen nets.
+fn shown(alloc: Global, design: &Design, nets: &[u32]) -> Result<Vec<u8>, Fail>
+    requires { AreAmong (nets_of design.now) nets.now }
+{
+    let mut room = Room::new(alloc, 0)?;
+    write_stream(alloc, design, Some(nets), &mut room)?;
+    Ok(room.bytes)
+}
 
 /// Whether the text of `b` and `q` is as it should be. The inverter `z` of `b` is 1 from tick 2 on and 0 from tick 6
 /// on, and `q` shows what was sampled at tick 3 a tick later.
 fn shows_two(alloc: Global, design: &Design) -> Result<bool, Fail>
     requires { nets_of design.now ≡ 5 }
 {
-    let text = chosen_text(alloc, design, &[1, 4])?;
+    let text = shown(alloc, design, &[1, 4])?;
     let wanted = text_of(alloc, "b q", "#0 0! x\" #4 1! 1\" #8")?;
     Ok(text.as_slice() == wanted.as_bytes())
 }
@@ -25,7 +37,7 @@ fn shows_two(alloc: Global, design: &Design) -> Result<bool, Fail>
 /// Whether the text of all nets of a design of three is that of `b`, `z` and `q`.
 fn shows_three(alloc: Global, part: &Design) -> Result<bool, Fail> {
     if part.netlist().len() == 3 {
-        let text = chosen_text(alloc, part, &[0, 1, 2])?;
+        let text = shown(alloc, part, &[0, 1, 2])?;
         let wanted = text_of(alloc, "b z q", "#0 0! x\" x# #2 1\" #4 1! 1# #6 0\" #8")?;
         return Ok(text.as_slice() == wanted.as_bytes());
     }

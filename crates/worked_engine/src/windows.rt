@@ -30,10 +30,10 @@ fn turned(net: u16, before: Level, place: u32, after: Level) -> Changed
 
 fn open<'a>(alloc: Global, design: &'a Design) -> Result<Dump<'a>, AllocError>
     requires { nets_of design.now ≡ 2 }
-    ensures design { IfOk result (λ dump. dump.design ≡ design.entry.now) }
+    ensures design { IfOk result (λ dump. dump.subject.design ≡ design.entry.now) }
     ensures clock { IfOk result (λ dump. dump.clock ≡ 1) }
 {
-    Dump::open(alloc, design, &[Level::Zero, Level::X])
+    Dump::open(alloc, design, None, &[Level::Zero, Level::X])
 }
 
 /// Two windows, one up to tick 5 and one from there on.

@@ -1,9 +1,21 @@
 -- How the changes of some nets are picked out of those of all nets.
-use Rattle.std.specs.Prelude.{◌≡◌, ℕ, ◌<◌, List, [], ◌∷◌, length, nat_lt, slice_index, if◌then◌else◌}
+use Rattle.std.specs.Prelude.{◌≡◌, ℕ, ◌<◌, List, [], ◌∷◌, Option, None, Some, IfSome, length, nat_lt, option_map, slice_index, if◌then◌else◌}
+use Rattle.cmb_wave.specs.declared.level.Level.{Level}
+use Rattle.cmb_words.specs.Changes.{IsWindow, Tells}
 use Rattle.cmb_words.specs.declared.changed.Changed.{Changed}
 use Rattle.cmb_dump.specs.declared.tail.Tail.{Tail}
 use Rattle.cmb_dump.specs.Inner.Ready.{IsReady}
-use Rattle.cmb_dump.specs.Excerpts.{AreAmong}
+use Rattle.cmb_dump.specs.Shown.{AreAmong, CanShow, Shown, TellsShown, count_shown}
+
+-- how many nets there are, those that are chosen of them, and the changes of these, by their places, that were picked last
+pub record Picker : Type 0 where
+  pub count : ℕ
+  pub nets : List ℕ
+  pub changes : List Changed
+
+-- the levels of nets by their places in a list
+abbrev pub levels_at : (ℕ → ℕ → Level) → List ℕ → ℕ → ℕ → Level
+levels_at level nets place = level (slice_index nets place)
 
 -- each net of a list has its place there, and each other net of so many has no place of the list
 pub record ArePlaces (count : ℕ) (nets places : List ℕ) : Type 0 where
@@ -18,8 +30,27 @@ picked_of places count (changed ∷ rest) =
     if nat_lt (slice_index places changed.net) count then record { net = slice_index places changed.net; word = changed.word } ∷ picked_of places count rest
     else picked_of places count rest
 
--- what an excerpt keeps from window to window: the nets' places, and a tail for each
-pub record IsExcerpt (count : ℕ) (nets places : List ℕ) (tails : List Tail) (buckets : List (List ℕ)) : Type 0 where
-  pub among : AreAmong count nets
-  pub placed : ArePlaces count nets places
-  pub ready : IsReady (length nets) tails buckets
+-- the nets of a list are among so many, and have their places
+pub record ArePicked (nets places : List ℕ) : Type 0 where
+  pub among : AreAmong (length places) nets
+  pub placed : ArePlaces (length places) nets places
+
+-- the nets that are shown: those of a list if they are picked, and all nets if there is nothing to pick them by
+abbrev pub shown_of : Option Picker → Shown
+shown_of pick = option_map (λ p. p.nets) pick
+
+-- what is picked of changes
+abbrev pub changes_of : Option Picker → List Changed → List Changed
+changes_of None changed = changed
+changes_of (Some pick) changed = pick.changes
+
+-- what was picked are the changes of its nets among these, whatever the window is
+pub record IsTaken (changed : List Changed) (pick : Picker) : Type 0 where
+  pub window : (horizon from upto : ℕ) → IsWindow pick.count horizon from upto changed → IsWindow (length pick.nets) horizon from upto pick.changes
+  pub tells : (level : ℕ → ℕ → Level) (from upto : ℕ) → TellsShown (Some pick.nets) level pick.count from upto changed → Tells (levels_at level pick.nets) (length pick.nets) from upto pick.changes
+
+-- what a dump keeps from window to window: how it picks, and a tail for each net that is shown
+pub record IsDump (count : ℕ) (pick : Option Picker) (tails : List Tail) (buckets : List (List ℕ)) : Type 0 where
+  pub fits : IfSome pick (λ p. p.count ≡ count)
+  pub shows : CanShow count (shown_of pick)
+  pub ready : IsReady (count_shown count (shown_of pick)) tails buckets

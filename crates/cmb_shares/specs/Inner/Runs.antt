@@ -3,17 +3,23 @@ use Rattle.std.specs.Prelude.{◌≡◌, ℕ, ◌+◌, ◌<◌, ◌≤◌, Bool,
 use Rattle.cmb_design_model.specs.Design.{Design}
 use Rattle.cmb_design_model.specs.Exact.{nets_of}
 use Rattle.cmb_design_model.specs.Timing.{delay}
+use Rattle.cmb_dump.specs.Shown.{IsShown, Shown, Subject}
 use Rattle.cmb_engine.specs.Crossings.{AreWithinLookahead, IsCrossing}
 use Rattle.cmb_engine.specs.Shares.{IsDriven, IsGiven}
 use Rattle.cmb_engine.specs.Windows.{HaveTicks, Windows, end_of}
 
--- a design, the share that owns each net, which nets cross, which each share drives, and where windows end
+-- a design, the nets of it that are shown, the share that owns each net, which nets cross, which each share drives, and where windows end
 pub record Run : Type 0 where
   pub design : Design
+  pub shown : Shown
   pub owners : List ℕ
   pub crossing : List Bool
   pub driven : List (List Bool)
   pub windows : Windows
+
+-- of what its text is
+abbrev pub subject_in : Run → Subject
+subject_in run = record { design = run.design; shown = run.shown }
 
 -- the nets that the share of a number drives
 abbrev pub driven_by : Run → ℕ → List Bool
@@ -23,9 +29,9 @@ driven_by run number = slice_index_or run.driven number []
 abbrev pub Owns : Run → ℕ → ℕ → Type 0
 Owns run number net = (net < length run.owners) × (slice_index run.owners net ≡ number)
 
--- a reader reads a net: a share what it is given, and the text, whose number comes behind theirs, all nets
+-- a reader reads a net: a share what it is given, and the text, whose number comes behind theirs, what is shown
 abbrev pub Reads : Run → ℕ → ℕ → Type 0
-Reads run reader net = reader < length run.driven → IsGiven run.design (driven_by run reader) net
+Reads run reader net = (reader < length run.driven → IsGiven run.design (driven_by run reader) net) × (length run.driven ≤ reader → IsShown run.shown net)
 
 -- each net has an owner, which drives it; what shares are given are crossing flip-flops, and windows lie in the lookahead of these
 pub record IsRun (run : Run) : Type 0 where

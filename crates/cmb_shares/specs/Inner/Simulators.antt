@@ -1,5 +1,6 @@
 -- A share's engine.
 use Rattle.std.specs.Prelude.{◌≡◌, ◌↔◌, ℕ, ◌<◌, ◌≤◌, ◌==◌, ◌&&◌, nat_lt, Bool, false, true, not, List, Contains, length, filter, slice_index, slice_index_or}
+use Rattle.cmb_dump.specs.Shown.{IsShown}
 use Rattle.cmb_engine.specs.Crossings.{IsCrossing}
 use Rattle.cmb_engine.specs.Shares.{IsDriven, is_told}
 use Rattle.cmb_words.specs.declared.changed.Changed.{Changed}
@@ -17,7 +18,7 @@ pub record IsSimulator (run : Run) (s : Simulator) : Type 0 where
   pub design : s.engine.design ≡ run.design
   pub driven : s.engine.driven ≡ driven_by run s.number
   pub width : run.windows.width ≤ s.engine.width
-  pub told : (net : ℕ) → Owns run s.number net → is_told s.engine.told net ≡ true
+  pub told : (net : ℕ) → Owns run s.number net → IsShown run.shown net → is_told s.engine.told net ≡ true
   pub exports : (net : ℕ) → Contains s.engine.exports net ↔ (IsDriven (driven_by run s.number) net × IsCrossing run.design run.crossing net)
 
 -- whether a change is of a net that a share owns

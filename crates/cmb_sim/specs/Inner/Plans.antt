@@ -3,7 +3,7 @@ use Rattle.std.specs.Prelude.{◌≡◌, ℕ, ◌<◌, ◌⊎◌, Bool, List, le
 use Rattle.cmb_design_model.specs.Checks.{first_fault}
 use Rattle.cmb_design_model.specs.Design.{Design}
 use Rattle.cmb_design_model.specs.Exact.{nets_of}
-use Rattle.cmb_dump.specs.Excerpts.{AreAmong}
+use Rattle.cmb_dump.specs.Shown.{AreAmong}
 use Rattle.cmb_run_scopes.specs.Scopes.{in_form, scoped_header}
 use Rattle.cmb_run_scopes.specs.declared.header.Headers.{Headers}
 use Rattle.cmb_run_text.specs.Chosen.{names_of, vcd_of}
@@ -22,13 +22,13 @@ use Rattle.cmb_faults.specs.declared.fault.Fault.TheVariants as fault
 -- the text that a way makes of a design
 abbrev pub way_text : Way → Design → List ℕ
 way_text (Picked nets) design = vcd_of design nets.items
-way_text (Chosen nets) design = vcd_of design nets.items
+way_text (Chosen nets threads) design = vcd_of design nets.items
 way_text _ design = vcd design
 
 -- the names of the nets that this text has
 abbrev pub way_names : Way → Design → List (List ℕ)
 way_names (Picked nets) design = names_of design.netlist nets.items
-way_names (Chosen nets) design = names_of design.netlist nets.items
+way_names (Chosen nets threads) design = names_of design.netlist nets.items
 way_names _ design = design.netlist.names
 
 -- the same text with scopes, where these are asked for
@@ -44,7 +44,7 @@ pub record AreHeaders (names : List (List ℕ)) (headers : Headers) : Type 0 whe
 abbrev pub CanMake : Way → Design → Type 0
 CanMake Table design = first_fault (mode_checks Plain design) ≡ None
 CanMake (Picked nets) design = (first_fault (mode_checks Plain design) ≡ None) × AreAmong (nets_of design) nets.items
-CanMake (Chosen nets) design = AreAmong (nets_of design) nets.items
+CanMake (Chosen nets threads) design = AreAmong (nets_of design) nets.items
 CanMake (Engine threads) design = ⊤
 CanMake (Shares partition threads) design = IsPartition design.netlist partition
 CanMake (Rounds workers clusters) design = ⊤
@@ -60,7 +60,7 @@ IsByTable _ = ⊥
 abbrev pub Streams : Way → Type 0
 Streams Table = ⊥
 Streams (Picked nets) = ⊥
-Streams (Chosen nets) = ⊥
+Streams (Chosen nets threads) = ⊤
 Streams (Engine threads) = ⊤
 Streams (Shares partition threads) = ⊤
 Streams (Rounds workers clusters) = ⊥
@@ -71,7 +71,12 @@ abbrev pub CanStop : Way → Type 0
 CanStop (Free workers clusters) = ⊤
 CanStop _ = ⊥
 
--- by which faults it may break off in the middle of its text
+-- an engine's run breaks off in the middle of its text only where memory runs out
+abbrev pub EngineBreaks : Fault → Type 0
+EngineBreaks fault.Memory = ⊤
+EngineBreaks _ = ⊥
+
+-- by which faults a way may break off in the middle of its text
 abbrev pub MayBreak : Way → Design → Fault → Type 0
 MayBreak way design (fault.Incomplete net upto) = CanStop way × (net < nets_of design) × (upto < design.horizon)
 MayBreak way design fault.Memory = Streams way
@@ -99,8 +104,8 @@ pub record IsPlan (request : Request) (design : Design) (names : List ℕ) (plan
   pub makes : CanMake plan.way design
   pub text : IsTextOf request.choice request.scopes design names (form_text request.scopes plan.way design)
   pub table : request.mode ≡ Plain → IsByTable plan.way
-  pub streams : plan.held ≡ false → Streams plan.way → IsStreamed request.mode request.choice false
-  pub holds : plan.held ≡ true → IsStreamed request.mode request.choice false → ⊥
+  pub streams : plan.held ≡ false → Streams plan.way → IsStreamed request.mode false
+  pub holds : plan.held ≡ true → IsStreamed request.mode false → ⊥
   pub stops : CanStop plan.way → CanBeStopped request.mode request.threads request.choice false
 
 -- what comes of writing a text: it was written, and its length is told; or memory ran out before; or it was begun

@@ -4,6 +4,7 @@ use Rattle.std.specs.Global.{Global}
 use Rattle.cmb_design_model.specs.Design.{Design}
 use Rattle.cmb_design_model.specs.Exact.{nets_of}
 use Rattle.cmb_design_model.specs.Value.{value}
+use Rattle.cmb_dump.specs.Shown.{Subject}
 use Rattle.cmb_dump_stream.specs.Parts.{made_text}
 use Rattle.cmb_words.specs.Changes.{IsWindow, Tells}
 use Rattle.cmb_words.specs.declared.changed.Changed.{Changed}
@@ -31,7 +32,7 @@ pub record AreOf (batch : Batch) (windows : List (Vec Changed Global)) : Type 0 
   pub each : (k : ℕ) (d : Vec Changed Global) → suc k < length batch.clocks → AreIn batch.design (clock_at batch k) (clock_at batch (suc k)) (slice_index_or windows k d).items
 
 -- a text is that of a batch's windows, of which there is one at least
-pub record IsTold (batch : Batch) (text : List ℕ) : Type 0 where
+pub record IsTold (subject : Subject) (batch : Batch) (text : List ℕ) : Type 0 where
   pub order : clock_at batch 0 < last_clock batch
   pub within : last_clock batch ≤ batch.design.horizon
-  pub made : made_text batch.design (last_clock batch) ≡ made_text batch.design (clock_at batch 0) ++ text
+  pub made : made_text subject (last_clock batch) ≡ made_text subject (clock_at batch 0) ++ text

@@ -3,7 +3,7 @@ use Rattle.std.specs.Prelude.{All, Contains}
 use Rattle.cmb_netlist.specs.Netlist.{IsNetlist, Netlist}
 use Rattle.cmb_cone.specs.Closed.{IsClosure}
 use Rattle.cmb_chosen.proofs.PruneFacts.{part-pruned}
-use Rattle.cmb_chosen.proofs.RunFacts.{part-among, part-levels, part-table, part-text, part-within}
+use Rattle.cmb_chosen.proofs.PartFacts.{part-among, part-levels, part-table, part-text, part-within}
 use Rattle.cmb_chosen.proofs.part.part_of.Goals as goal
 
 pub places_in-requires-clause-there : goal.places_in-requires-clause-there

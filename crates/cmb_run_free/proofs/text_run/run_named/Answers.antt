@@ -2,13 +2,14 @@ use Rattle.std.proofs.Common.{refl, subst, ◌∙◌}
 use Rattle.std.proofs.lemmas.Result.{err_from_is_err_and}
 use Rattle.std.specs.Prelude.{unwrap_or}
 use Rattle.cmb_run_text.specs.Collector.{IsComplete, IsExactFrom}
+use Rattle.cmb_run_text.specs.Vcd.{vcd}
 use Rattle.cmb_run_text.proofs.BeginFacts.{HasBegun-none}
 use Rattle.cmb_run_free.specs.Inner.TextWriters.{IsUnfinished}
 use Rattle.cmb_run_free.proofs.TextRuns.{IsCutAt-unfinished, told-whole}
 use Rattle.cmb_run_free.proofs.text_run.run_named.Goals as goal
 
 pub returns-in_default : goal.returns-in_default
-returns-in_default g c = record { told = tt; text = tt; no_failure = tt; fault = (HasBegun-none c.args.design.now (g.S.Sink.taken c.args.sink.now), refl) }
+returns-in_default g c = record { told = tt; text = tt; no_failure = tt; fault = (HasBegun-none (vcd c.args.design.now) (g.S.Sink.taken c.args.sink.now), refl) }
 
 pub returns-in_err-given : goal.returns-in_err-given
 returns-in_err-given g c =

@@ -2,6 +2,7 @@ use Rattle.std.proofs.Common.{[], Result, Ok, length, map, get_or, ap, arith}
 use Rattle.std.proofs.lemmas.List.{length-map}
 use Rattle.std.proofs.lemmas.Result.{IfOk-weaker}
 use Rattle.std.specs.declared.alloc.AllocError.{AllocError}
+use Rattle.cmb_dump.specs.Shown.{subject_of}
 use Rattle.cmb_engine.specs.Shares.{ShareEngine}
 use Rattle.cmb_graph_partition.specs.declared.shares.Share.{Share}
 use Rattle.cmb_shares.specs.Inner.Opened.{IsEngineOf}
@@ -20,6 +21,6 @@ returns-clause-each g c =
     let partition = c.args.partition.now in
     IfOk-weaker c.all_of.result _ _
     (λ engines are.
-    each-ok (λ k e. IsEngineOf c.args.design.now partition.crossing.items partition.owners.items k (get_or (map (λ (s : Share). s.driven.items) partition.shares.items) k []) e) c.in_ok-made.made.items engines.items are
+    each-ok (λ k e. IsEngineOf (subject_of c.args.design.now c.args.shown) partition.crossing.items partition.owners.items k (get_or (map (λ (s : Share). s.driven.items) partition.shares.items) k []) e) c.in_ok-made.made.items engines.items are
     (λ k d h. (each k d (omega (arith, h, c.in_ok-made.ensures.len, c.in_ok-made.made.ok))).1.met))
     c.all_of.ensures

@@ -7,7 +7,7 @@ use Rattle.cmb_shares.specs.Inner.Channels.{greeting}
 use Rattle.cmb_shares.specs.Inner.Flows.{AreSources}
 use Rattle.cmb_shares.specs.Inner.Opened.{AreEngines, AreStations, IsEngineOf}
 use Rattle.cmb_shares.specs.Inner.Processes.{AreLone}
-use Rattle.cmb_shares.specs.Inner.Runs.{driven_by}
+use Rattle.cmb_shares.specs.Inner.Runs.{driven_by, subject_in}
 use Rattle.cmb_shares.specs.Inner.Stations.{Standing}
 use Rattle.cmb_shares.proofs.StationFacts.{each-push, engines-rest, short-rest}
 use Rattle.cmb_shares.proofs.stations.stations_of.Goals as goal
@@ -19,8 +19,8 @@ station_of-requires-clause-engine g c =
     let engine : ShareEngine = c.remove-engine.result in
     let engines = c.loop-number.engines.items in
     let some : 0 < length engines = omega (arith, was.rest, c.loop-number-test.true) in
-    subst (λ (e : ShareEngine). IsEngineOf run.design run.crossing run.owners c.loop-number.number (driven_by run c.loop-number.number) e) (sym c.remove-engine.ensures.value)
-    (subst (λ n. IsEngineOf run.design run.crossing run.owners n (driven_by run n) (get_or engines 0 engine)) (omega arith) (was.each 0 engine some))
+    subst (λ (e : ShareEngine). IsEngineOf (subject_in run) run.crossing run.owners c.loop-number.number (driven_by run c.loop-number.number) e) (sym c.remove-engine.ensures.value)
+    (subst (λ n. IsEngineOf (subject_in run) run.crossing run.owners n (driven_by run n) (get_or engines 0 engine)) (omega arith) (was.each 0 engine some))
 
 pub loop-number-preserved : goal.loop-number-preserved
 loop-number-preserved g c =

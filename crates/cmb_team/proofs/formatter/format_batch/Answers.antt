@@ -1,5 +1,5 @@
 use Rattle.std.proofs.Common.{◌≡◌, ◌∙◌, ◌+◌, ◌++◌, add-one, ap, arith, subst}
-use Rattle.cmb_design_model.specs.Design.{Design}
+use Rattle.cmb_dump.specs.Shown.{Subject}
 use Rattle.cmb_dump_stream.specs.Parts.{made_text}
 use Rattle.cmb_team.specs.Inner.Batches.{clock_at}
 use Rattle.cmb_team.proofs.BatchFacts.{told-more}
@@ -12,11 +12,12 @@ loop-place-preserved c =
     let here = c.loop-place.place in
     let window = c.changes.ensures.window in
     let told = c.in_ok-format_window.ensures in
-    let more : made_text batch.design (clock_at batch (here + 1)) ≡ made_text batch.design (clock_at batch here) ++ c.format_window.new.dump.text =
-    subst (λ (design : Design). made_text design (clock_at batch (here + 1)) ≡ made_text design (clock_at batch here) ++ c.format_window.new.dump.text) (was.design ∙ c.requires)
+    let subject = c.args.dump.now.subject in
+    let more : made_text subject (clock_at batch (here + 1)) ≡ made_text subject (clock_at batch here) ++ c.format_window.new.dump.text =
+    subst (λ (s : Subject). made_text s (clock_at batch (here + 1)) ≡ made_text s (clock_at batch here) ++ c.format_window.new.dump.text) was.subject
     (rw (← was.clock, ← c.clock-in-loop-place.ensures) told.text) in
     record {
-      design = c.add.ensures.design ∙ c.format_window.ensures.design ∙ was.design;
+      subject = c.add.ensures.subject ∙ c.format_window.ensures.subject ∙ was.subject;
       clock = c.add.ensures.clock ∙ told.clock ∙ c.clock-in-loop-place.ensures;
       order = omega (arith, was.order, window.order, ap (clock_at batch) (add-one here));
       within = λ _. rw add-one window.within;

@@ -5,9 +5,9 @@ use Rattle.cmb_team.proofs.formatter.format_batch.Given as goal
 
 abbrev pub invariant-loop-place : goal.invariant-loop-place
 invariant-loop-place l = record {
-  design : l.dump.design ≡ l.fn.dump.design;
+  subject : l.dump.subject ≡ l.fn.dump.subject;
   clock : l.dump.clock ≡ clock_at l.batch l.place;
   order : clock_at l.batch 0 + l.place ≤ clock_at l.batch l.place;
   within : 1 ≤ l.place → clock_at l.batch l.place ≤ l.batch.design.horizon;
-  text : made_text l.batch.design (clock_at l.batch l.place) ≡ made_text l.batch.design (clock_at l.batch 0) ++ l.text.items;
+  text : made_text l.fn.dump.subject (clock_at l.batch l.place) ≡ made_text l.fn.dump.subject (clock_at l.batch 0) ++ l.text.items;
 }

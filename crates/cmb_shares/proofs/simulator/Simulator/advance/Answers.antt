@@ -23,7 +23,7 @@ returns-clause-simulates g c =
       design = went.design ∙ is.design;
       driven = went.driven ∙ is.driven;
       width = subst (λ w. g.T.ShareRun.run.windows.width ≤ w) (sym went.width) is.width;
-      told = λ net own. subst (λ (told : List ℕ). is_told told net ≡ true) (sym went.told) (is.told net own);
+      told = λ net own shown. subst (λ (told : List ℕ). is_told told net ≡ true) (sym went.told) (is.told net own shown);
       exports = subst (λ (l : List ℕ). (net : ℕ) → Contains l net ↔ (IsDriven (driven_by g.T.ShareRun.run c.args.self.number) net × IsCrossing g.T.ShareRun.run.design g.T.ShareRun.run.crossing net)) (sym went.exports) is.exports;
     }
 

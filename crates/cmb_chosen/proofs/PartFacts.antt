@@ -1,8 +1,6 @@
--- The text of chosen nets as it is made, and the part of a design in which they have the text that they have in the whole.
-use Rattle.std.proofs.Common.{◌≡◌, ◌∙◌, Result, Ok, Err, ℕ, ◌<◌, ◌≤◌, List, [], ◌++◌, length, map, get_or, ap, append_assoc, arith, sym, subst}
-use Rattle.std.specs.Prelude.{All, OnOk, is_ok}
-use Rattle.std.specs.Result.{result_and}
-use Rattle.std.proofs.lemmas.Bool.{false≢true}
+-- The part of a design in which chosen nets have the text that they have in the whole.
+use Rattle.std.proofs.Common.{◌≡◌, ◌∙◌, ℕ, ◌<◌, ◌≤◌, List, [], length, map, get_or, ap, arith, sym}
+use Rattle.std.specs.Prelude.{All}
 use Rattle.std.specs.List.Sorted.{IsStrictlyIncreasing}
 use Rattle.std.proofs.lemmas.List.{get_or-map, length-map}
 use Rattle.std.proofs.lemmas.List.Elements.{All-weaker}
@@ -10,31 +8,12 @@ use Rattle.cmb_netlist.specs.Netlist.{name_of}
 use Rattle.cmb_design_model.specs.Design.{Design}
 use Rattle.cmb_design_model.specs.Exact.{nets_of}
 use Rattle.cmb_design_model.specs.Value.{value}
-use Rattle.cmb_dump.specs.Excerpts.{AreAmong}
+use Rattle.cmb_dump.specs.Shown.{AreAmong}
 use Rattle.cmb_cone.specs.Restriction.{IsRestriction}
 use Rattle.cmb_activity.specs.Texts.{activity_table}
 use Rattle.cmb_activity.proofs.PartFacts.{activity_table-part}
 use Rattle.cmb_run_text.specs.Chosen.{vcd_of}
-use Rattle.cmb_words.specs.Changes.{Tells}
-use Rattle.cmb_words.specs.declared.changed.Changed.{Changed}
 use Rattle.cmb_run_text.proofs.ChosenFacts.{vcd_of-part}
-use Rattle.cmb_chosen.specs.Inner.Runs.{shown_text}
-
--- two calls went well
-pub both-ok : {T U E : Type 0} (r : Result T E) (s : Result U E) (y : U) (A : Type 0) → result_and r s ≡ Ok y → OnOk r A → A × (s ≡ Ok y)
-both-ok (Ok x) s y A is a = (a, is)
-both-ok (Err e) s y A is a = absurd (false≢true (ap is_ok is))
-
--- at the horizon the text is whole
-pub shown-whole : (design own : Design) (nets shown : List ℕ) (upto : ℕ) (text : List ℕ) → own ≡ design → shown ≡ nets → upto ≡ design.horizon → text ≡ shown_text design nets upto → text ≡ vcd_of design nets
-unfolding vcd_of
-shown-whole design own nets shown upto text a b done is = is ∙ ap (shown_text design nets) done
-
--- a window more
-pub shown-more : (front text more all old new : List ℕ) → all ≡ text ++ more → new ≡ old ++ more → front ++ text ≡ old → front ++ all ≡ new
-shown-more front text more all old new a b is = ap (λ t. front ++ t) a ∙ sym (append_assoc front text more) ∙ ap (λ t. t ++ more) is ∙ sym b
-
--- ---- chosen nets in a part
 
 part-names : (design part : Design) (nets : List ℕ) → IsRestriction design nets part
     → (net : ℕ) → net < length nets → name_of part.netlist net ≡ name_of design.netlist (get_or nets net 0)
@@ -53,19 +32,6 @@ pub part-table : (design part : Design) (nets chosen places : List ℕ) → IsRe
 part-table design part nets chosen places is values within same =
     activity_table-part design part nets places is.horizon (part-names design part nets is) values within
     ∙ ap (activity_table design) same
-
--- what an engine tells, as an excerpt is told it
-pub tells-as : (own shown design : Design) (from clock upto end : ℕ) (changed read : List Changed) → own ≡ design → shown ≡ design → from ≡ clock → end ≡ upto → read ≡ changed
-    → Tells (value own) (nets_of own) from upto changed → Tells (value shown) (nets_of shown) clock end read
-tells-as own shown design from clock upto end changed read a b f u r told = rw (b, sym f, u, r) (rw a at told)
-
--- a step more, where nothing was handed on
-pub next-text : (design own : Design) (nets shown : List ℕ) (clock later : ℕ) (text more : List ℕ) → own ≡ design → shown ≡ nets → text ≡ shown_text design nets clock
-    → ((front : List ℕ) → front ++ text ≡ shown_text own shown clock → front ++ more ≡ shown_text own shown later) → more ≡ shown_text design nets later
-next-text design own nets shown clock later text more a b is step =
-    let OfDesign : Design → Type 0 = λ d. (front : List ℕ) → front ++ text ≡ shown_text d shown clock → front ++ more ≡ shown_text d shown later in
-    let OfNets : List ℕ → Type 0 = λ n. (front : List ℕ) → front ++ text ≡ shown_text design n clock → front ++ more ≡ shown_text design n later in
-    subst OfNets b (subst OfDesign a step) [] is
 
 -- each has the level that it has in the whole
 pub part-levels : (design part : Design) (nets chosen places : List ℕ) → ((i tick : ℕ) → i < length nets → value part i tick ≡ value design (get_or nets i 0) tick)

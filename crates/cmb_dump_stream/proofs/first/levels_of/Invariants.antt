@@ -1,7 +1,7 @@
 use Rattle.std.proofs.Common.{◌≡◌, ℕ, ◌<◌, get_or, length}
 use Rattle.cmb_wave.specs.declared.level.Level.TheVariants.{X}
 use Rattle.cmb_design_model.specs.Value.{value}
-use Rattle.cmb_chosen.proofs.excerpt_run.first_levels.Given as goal
+use Rattle.cmb_dump_stream.proofs.first.levels_of.Given as goal
 
 abbrev pub invariant-loop-net : goal.invariant-loop-net
 invariant-loop-net l = record {
