@@ -14,7 +14,8 @@ use cmb_io::{Sink, WriteFault, write_whole};
 use std::alloc::{AllocError, Global};
 use std::marker::Model;
 
-/// The text of a design's run, of all nets or of chosen ones, as far as it was made. Of that a front was handed on, and the rest is kept.
+/// The text of a design's run, of all nets or of chosen ones, as far as it was made. Of that a front was handed on, and
+/// the rest is kept.
 #[derive(Drop)]
 pub struct TextBuffer<'a> {
     design: &'a Design,

@@ -36,8 +36,8 @@ impl<'a> Model for Stream<'a> {
 }
 
 impl<'a> Stream<'a> {
-    /// The text up to tick 1: the declarations of the nets that are shown, and their levels at tick 0. What goes on from
-    /// there is beside it.
+    /// The text up to tick 1: the declarations of the nets that are shown, and their levels at tick 0. What goes on
+    /// from there is beside it.
     pub fn open(
         alloc: Global,
         design: &'a Design,

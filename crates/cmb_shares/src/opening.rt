@@ -37,8 +37,8 @@ impl<'a> Model for Shares<'a> {
 
     ghost view = { λ s. subject_of s.design.now s.shown };
 
-    ghost invariant = { λ s. AreOpened (run_of (subject_of s.design.now s.shown) s.partition.now s.windows) s.engines.items
-        × CanShow (nets_of s.design.now) (shown_by s.shown) };
+    ghost invariant = { λ s. AreOpened (run_of (subject_of s.design.now s.shown) s.partition.now s.windows)
+        s.engines.items × CanShow (nets_of s.design.now) (shown_by s.shown) };
 }
 
 // All of them, unless memory was refused for one.
@@ -109,7 +109,8 @@ fn open_engine<'a>(
     requires partition { IsPartition design.now.netlist partition.now }
     requires shown { CanShow (nets_of design.now) (shown_by shown) }
     requires number { number < length partition.now.shares.items }
-    ensures { IfOk result (IsEngineOf (subject_of design.entry.now shown.entry) partition.now.crossing.items partition.now.owners.items number
+    ensures { IfOk result (IsEngineOf (subject_of design.entry.now shown.entry) partition.now.crossing.items
+        partition.now.owners.items number
         (slice_index_or (map (λ s. s.driven.items) partition.now.shares.items) number [])) }
 {
     let driven = &partition.shares[number].driven;
@@ -146,7 +147,8 @@ fn engines_of<'a, R: Threads + Sync>(
             requires place { place < length partition.now.shares.items }
             requires partition { IsPartition design.now.netlist partition.now }
             requires shown { CanShow (nets_of design.now) (shown_by shown) }
-            ensures { IfOk result (IsEngineOf (subject_of design.entry.now shown.entry) partition.entry.now.crossing.items
+            ensures { IfOk result (IsEngineOf (subject_of design.entry.now shown.entry)
+                partition.entry.now.crossing.items
                 partition.entry.now.owners.items place
                 (slice_index_or (map (λ s. s.driven.items) partition.entry.now.shares.items) place [])) }
         { open_engine(alloc, design, shown, partition, place) },
@@ -169,8 +171,8 @@ fn least_width(engines: &[ShareEngine<'_>]) -> u32
 }
 
 impl<'a> Shares<'a> {
-    /// The shares of a design by a partition of its nets, each engine opened in a thread of its own, for the text of the
-    /// nets that are shown. There are none
+    /// The shares of a design by a partition of its nets, each engine opened in a thread of its own, for the text of
+    /// the nets that are shown. There are none
     /// where the crossing flip-flops' clocks and delays leave no windows that all shares can have alike. Errors: memory
     /// was refused.
     pub fn open<R: Threads + Sync>(

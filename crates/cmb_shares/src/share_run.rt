@@ -2,8 +2,8 @@
 
 use std::marker::Brand;
 
-/// Names the design of a run, the nets that are shown, how all nets are partitioned, and where windows end. `Brand` stands for any that a call
-/// picks.
+/// Names the design of a run, the nets that are shown, how all nets are partitioned, and where windows end. `Brand`
+/// stands for any that a call picks.
 pub trait ShareRun {
     ghost use Rattle.cmb_shares.specs.Inner.Runs.{Run};
 

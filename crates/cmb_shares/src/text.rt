@@ -158,8 +158,8 @@ fn write_named<'a, T: ShareRun + Send + Sync, R: Threads + Wait + Sync, S: Sink>
     answer
 }
 
-/// Writes the VCD text of a design's run while it is made, of the nets that are shown, by a thread for each share of its
-/// nets and the calling one, which makes the text, and gives its length. The text is the same however the nets were
+/// Writes the VCD text of a design's run while it is made, of the nets that are shown, by a thread for each share of
+/// its nets and the calling one, which makes the text, and gives its length. The text is the same however the nets were
 /// partitioned. What it needs of memory hardly grows with the horizon. Whatever the fault, the sink took a beginning of
 /// the text. A failed write is the answer then and only then; else memory or a thread was refused.
 pub fn write_shares<'a, R: Threads + Wait + Sync, S: Sink>(

@@ -29,8 +29,8 @@ pub enum Way {
     Table,
     /// That of chosen nets, by such a table of all.
     Picked(Vec<u32>),
-    /// That of chosen nets, by the engine or by shares, of those nets alone on which they depend, and by so many threads
-    /// at most.
+    /// That of chosen nets, by the engine or by shares, of those nets alone on which they depend, and by so many
+    /// threads at most.
     Chosen {
         nets: Vec<u32>,
         threads: u32,

@@ -1,5 +1,5 @@
-//! The text of a run by a team of threads: one makes windows with the engine, others their text, batch by batch in turn,
-//! and the calling thread puts the texts one behind the other.
+//! The text of a run by a team of threads: one makes windows with the engine, others their text, batch by batch in
+//! turn, and the calling thread puts the texts one behind the other.
 #![tactic(auto)]
 
 mod batch;

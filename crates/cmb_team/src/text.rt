@@ -117,7 +117,8 @@ fn write_named<'a, T: TeamRun + Send + Sync, R: Threads + Wait + Sync, S: Sink>(
 }
 
 /// Writes the VCD text of a design's run while it is made, of the nets that are shown, by so many threads at most, and
-/// gives its length; with one thread, or none, by `write_stream`. Threads are started only where there is enough to do for them. The text is the
+/// gives its length; with one thread, or none, by `write_stream`. Threads are started only where there is enough to do
+/// for them. The text is the
 /// same for any number. What it needs of memory hardly grows with the horizon. Whatever the fault, the sink took a
 /// beginning of the text. A failed write is the answer then and only then; else memory or a thread was refused.
 pub fn write_team<R: Threads + Wait + Sync, S: Sink>(

@@ -135,8 +135,8 @@ fn is_text_of_two(texts: &[u32]) -> bool {
 }
 
 // Each share has its own inputs, so these cost nothing. Each other net costs something. A flip-flop costs the more the
-// more often it changes, and more than a gate that changes as often, since it is looked at when samples arrive. The text
-// of what doesn't change costs nothing.
+// more often it changes, and more than a gate that changes as often, since it is looked at when samples arrive. The
+// text of what doesn't change costs nothing.
 #[test]
 fn costs(rt: HostRuntime) -> Result<(), Fail> {
     let costs = costs_of_four(rt.alloc())?;
