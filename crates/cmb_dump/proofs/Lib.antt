@@ -3,3 +3,4 @@ pub mod WindowFacts
 pub mod PickFacts
 pub mod ReadyFacts
 pub mod ShownFacts
+pub mod KeptFacts

@@ -4,6 +4,7 @@
 mod bucket;
 pub mod dump;
 mod fill;
+mod mark;
 mod pick;
 mod room;
 pub mod shown;

@@ -32,6 +32,8 @@ mod parts;
 #[cfg(test)]
 mod paths;
 #[cfg(test)]
+mod pieces;
+#[cfg(test)]
 mod shares;
 #[cfg(test)]
 mod texts;

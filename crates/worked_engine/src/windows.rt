@@ -18,7 +18,7 @@ use std::process::Abort;
 use std::test::Fail;
 
 /// A net whose level is another from a place on.
-fn turned(net: u16, before: Level, place: u32, after: Level) -> Changed
+pub fn turned(net: u16, before: Level, place: u32, after: Level) -> Changed
     requires { place < 64 }
     ensures { result.net ≡ net }
 {

@@ -1,11 +1,9 @@
 -- How the changes of some nets are picked out of those of all nets.
-use Rattle.std.specs.Prelude.{◌≡◌, ℕ, ◌<◌, List, [], ◌∷◌, Option, None, Some, IfSome, length, nat_lt, option_map, slice_index, if◌then◌else◌}
+use Rattle.std.specs.Prelude.{◌≡◌, ℕ, ◌<◌, List, [], ◌∷◌, Option, None, Some, length, nat_lt, option_map, slice_index, if◌then◌else◌}
 use Rattle.cmb_wave.specs.declared.level.Level.{Level}
 use Rattle.cmb_words.specs.Changes.{IsWindow, Tells}
 use Rattle.cmb_words.specs.declared.changed.Changed.{Changed}
-use Rattle.cmb_dump.specs.declared.tail.Tail.{Tail}
-use Rattle.cmb_dump.specs.Inner.Ready.{IsReady}
-use Rattle.cmb_dump.specs.Shown.{AreAmong, CanShow, Shown, TellsShown, count_shown}
+use Rattle.cmb_dump.specs.Shown.{AreAmong, Shown, TellsShown}
 
 -- how many nets there are, those that are chosen of them, and the changes of these, by their places, that were picked last
 pub record Picker : Type 0 where
@@ -48,9 +46,3 @@ changes_of (Some pick) changed = pick.changes
 pub record IsTaken (changed : List Changed) (pick : Picker) : Type 0 where
   pub window : (horizon from upto : ℕ) → IsWindow pick.count horizon from upto changed → IsWindow (length pick.nets) horizon from upto pick.changes
   pub tells : (level : ℕ → ℕ → Level) (from upto : ℕ) → TellsShown (Some pick.nets) level pick.count from upto changed → Tells (levels_at level pick.nets) (length pick.nets) from upto pick.changes
-
--- what a dump keeps from window to window: how it picks, and a tail for each net that is shown
-pub record IsDump (count : ℕ) (pick : Option Picker) (tails : List Tail) (buckets : List (List ℕ)) : Type 0 where
-  pub fits : IfSome pick (λ p. p.count ≡ count)
-  pub shows : CanShow count (shown_of pick)
-  pub ready : IsReady (count_shown count (shown_of pick)) tails buckets

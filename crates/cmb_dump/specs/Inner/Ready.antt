@@ -1,4 +1,4 @@
--- What a dump keeps from window to window.
+-- What a dump needs for each window.
 use Rattle.std.specs.Prelude.{◌≡◌, ℕ, ◌≤◌, List, length}
 use Rattle.cmb_dump.specs.declared.tail.Tail.{Tail}
 use Rattle.cmb_dump.specs.Inner.Tails.{AreTails}
