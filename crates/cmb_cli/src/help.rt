@@ -153,10 +153,10 @@ pub const THREADS: &str = "\
 Threads that share the work as it pays, 1 to 64 [default: 1]
 
 It counts in modes rounds and free, if all nets are written; at most N threads run. A
-large clocked netlist in a long run is cut at flip-flops, into at most N-1 shares of its
-nets: each share has a thread, and one more makes the text. Else, if there is much text,
-one thread simulates and others make the text; and else one does all. It can't be
-combined with --workers and --clusters, which say who has which nets.";
+large clocked netlist in a long run is cut at flip-flops, into a share of its nets for
+each thread; those that wait make the text. Else, if there is much text, one thread
+simulates and others make the text; and else one does all. It can't be combined with
+--workers and --clusters, which say who has which nets.";
 
 pub const WORKERS: &str = "\
 Or, in a short run: workers with nets of their own, 1 to 64 [default: 1]

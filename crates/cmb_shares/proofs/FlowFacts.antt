@@ -1,5 +1,5 @@
 -- What the first shares made of a window, and one share more.
-use Rattle.std.proofs.Common.{◌≡◌, ◌∙◌, ◌⊎◌, inl, inr, ℕ, suc, ◌≤◌, true, false, List, length, get_or, sym, subst, arith}
+use Rattle.std.proofs.Common.{◌≡◌, ◌∙◌, ◌⊎◌, inl, inr, ℕ, suc, ◌*◌, ◌≤◌, true, false, List, [], length, get_or, sym, subst, arith}
 use Rattle.std.specs.Prelude.{Contains}
 use Rattle.std.proofs.lemmas.Bool.{cases_Bool, cases_eq, false≢true}
 use Rattle.std.proofs.lemmas.List.Elements.{All-contains}
@@ -57,3 +57,19 @@ made-taken run made from upto table changes is are taken = record {
     unmarked : (net : ℕ) → IsMade run made net → is_among net changes ≡ false → (has table net ≡ true) ⊎ (has table net ≡ false) → has table net ≡ false
     unmarked net mine none (inl e) = absurd (false≢true (sym none ∙ taken.whole net (omega (arith, mine.0, is.nets, are.nets)) e))
     unmarked net mine none (inr e) = e
+
+-- what some shares made, fewer made
+pub made-fewer : (run : Run) (fewer made from upto : ℕ) (table : Table) → fewer ≤ made → AreGathered run made from upto table → AreGathered run fewer from upto table
+made-fewer run fewer made from upto table less is = record {
+  nets = is.nets;
+  words = is.words;
+  others = λ net mine. is.others net (mine.0, omega (arith, mine.1, less));
+}
+
+-- nothing is taken yet
+pub taken-none : (table : Table) (changes : List Changed) → changes ≡ [] → AreTaken table (64 * 0) changes
+taken-none table changes none = subst (λ (l : List Changed). AreTaken table (64 * 0) l) (sym none) (record {
+  rises = tt;
+  each = λ k d h. absurd (omega (arith, h));
+  whole = λ net below. absurd (omega (arith, below));
+})

@@ -8,3 +8,4 @@ pub mod Processes
 pub mod Runs
 pub mod Simulators
 pub mod Stations
+pub mod Texts

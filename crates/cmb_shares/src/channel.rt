@@ -5,11 +5,19 @@ ghost use Rattle.cmb_shares.specs.Inner.Channels.{Follows, greeting};
 
 use crate::message::{Envelope, InOrder, Message};
 use crate::share_run::ShareRun;
-use cmb_waiting::{Idle, handed, taken};
+use cmb_waiting::{Idle, Pastime, handed_beside, taken_beside};
 use rtrb::{Consumer, Producer, RingBuffer};
 use std::alloc::{AllocError, Global};
 use std::marker::Model;
 use std::sync::Wait;
+
+/// Whether the next message of a channel has come. It never will where the sender ended before.
+#[derive(Clone, Copy)]
+pub enum Next {
+    Come,
+    Awaited,
+    Never,
+}
 
 /// The end of a channel at which messages come.
 #[derive(Drop)]
@@ -81,22 +89,56 @@ pub(crate) fn channel<T: ShareRun>(
 }
 
 impl<T: ShareRun> Inlet<T> {
-    /// Waits for the next message. There is none where the sender ended before.
-    pub(crate) fn receive<R: Wait>(&mut self, rt: &R) -> Option<Message<T>>
+    /// Waits for the next message, and goes on with a pastime meanwhile. There is none where the sender ended before.
+    pub(crate) fn receive<W: Pastime, R: Wait>(
+        &mut self,
+        rt: &R,
+        pastime: &mut W,
+    ) -> Option<Message<T>>
         ensures follows { IfSome result (λ message. Follows T.run.windows self.old message.envelope) }
         ensures last { IfSome result (λ message. self.new ≡ message.envelope) }
     {
-        taken(rt, &mut self.idle, &mut self.ring)
+        taken_beside(rt, &mut self.idle, &mut self.ring, pastime)
+    }
+
+    /// The next message, if it has come.
+    pub(crate) fn take(&mut self) -> Option<Message<T>>
+        ensures follows { IfSome result (λ message. Follows T.run.windows self.old message.envelope) }
+        ensures last { IfSome result (λ message. self.new ≡ message.envelope) }
+    {
+        let Ok(message) = self.ring.pop() else {
+            return None;
+        };
+        Some(message)
+    }
+
+    /// Whether the next message has come.
+    pub(crate) fn look(&mut self) -> Next
+        ensures { self.new ≡ self.old }
+    {
+        if !self.ring.is_empty() {
+            Next::Come
+        } else if self.ring.is_abandoned() && self.ring.is_empty() {
+            Next::Never
+        } else {
+            Next::Awaited
+        }
     }
 }
 
 impl<T: ShareRun> Outlet<T> {
-    /// Sends a message, once there is room. Says whether it did so: else nobody is there any more to take it.
-    pub(crate) fn send<R: Wait>(&mut self, rt: &R, message: Message<T>) -> bool
+    /// Sends a message, once there is room, and goes on with a pastime meanwhile. Says whether it did so: else nobody
+    /// is there any more to take it.
+    pub(crate) fn send<W: Pastime, R: Wait>(
+        &mut self,
+        rt: &R,
+        message: Message<T>,
+        pastime: &mut W,
+    ) -> bool
         requires { Follows T.run.windows self.old message.envelope }
         ensures sent { IsTrue result → self.new ≡ message.envelope }
         ensures kept { IsFalse result → self.new ≡ self.old }
     {
-        handed(rt, &mut self.idle, &mut self.ring, message)
+        handed_beside(rt, &mut self.idle, &mut self.ring, message, pastime)
     }
 }

@@ -1,6 +1,6 @@
 //! What a design's run costs, by its first windows.
 
-ghost use Rattle.std.specs.Prelude.{◌≡◌, length, IfOk, OnOk};
+ghost use Rattle.std.specs.Prelude.{◌≡◌, length, IfOk};
 ghost use Rattle.cmb_design_model.specs.Exact.{nets_of};
 
 use cmb_design_model::Design;
@@ -18,20 +18,8 @@ const CHANGE: u32 = 8;
 // it is told ahead. An estimate.
 const LOOK: u32 = 3;
 
-// What the text of a net's change costs, with what is sent to the thread that makes it. An estimate.
-const TEXT: u32 = 13;
-
 // A net that is looked at in every window costs so many times as much, so that little differences are told too.
 const SCALE: u32 = 64;
-
-/// What a run costs by an estimate, in any unit.
-#[derive(Drop)]
-pub struct Costs {
-    /// What is to be done for each net.
-    pub nets: Vec<u32>,
-    /// What the text of each net costs.
-    pub texts: Vec<u32>,
-}
 
 /// In which windows nets changed. There are 64 windows, each with a bit: one of them stands for the first window, the
 /// 65th and so on.
@@ -110,28 +98,18 @@ impl Profile {
             Driver::Flop(_) => self.cost(changes, changes, LOOK),
         }
     }
-
-    // What the text of a net costs that changes in these windows.
-    fn text_cost(&self, changes: u64) -> u32 {
-        let windows = self.windows.count_ones().max(1);
-        changes.count_ones().saturating_mul(TEXT * SCALE) / windows
-    }
 }
 
-/// What a run costs, by its windows up to a tick: a gate is looked at in those in which a net changes that it reads. No
-/// text depends on it. Errors: memory was refused.
-pub fn costs_of(alloc: Global, design: &Design, upto: u32) -> Result<Costs, AllocError>
-    ensures nets { IfOk result (λ costs. length costs.nets.items ≡ nets_of design.now) }
-    ensures texts { IfOk result (λ costs. length costs.texts.items ≡ nets_of design.now) }
+/// What is to be done for each net, by an estimate in any unit, from the windows up to a tick: a gate is looked at in
+/// those in which a net changes that it reads. No text depends on it. Errors: memory was refused.
+pub fn costs_of(alloc: Global, design: &Design, upto: u32) -> Result<Vec<u32>, AllocError>
+    ensures { IfOk result (λ costs. length costs.items ≡ nets_of design.now) }
 {
     let profile = profile_of(alloc, design, upto)?;
     let netlist = design.netlist();
-    let mut nets = Vec::with_capacity(alloc, netlist.len())?;
-    let mut texts = Vec::with_capacity(alloc, netlist.len())?;
+    let mut costs = Vec::with_capacity(alloc, netlist.len())?;
     for net in 0..netlist.len() {
-        let changes = profile.changes[net];
-        nets.push(profile.cost_of(netlist.driver(net), changes))?;
-        texts.push(profile.text_cost(changes))?;
+        costs.push(profile.cost_of(netlist.driver(net), profile.changes[net]))?;
     }
-    Ok(Costs { nets, texts })
+    Ok(costs)
 }

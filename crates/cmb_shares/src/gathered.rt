@@ -8,6 +8,9 @@ use cmb_words::{Changed, Places, Word};
 use std::alloc::{AllocError, Global};
 use std::marker::Model;
 
+// About how many changes are told at a time: some microseconds. An estimate.
+const PIECE: usize = 256;
+
 /// The words of nets that changed in a window, by the nets' numbers.
 #[derive(Drop)]
 pub(crate) struct Gathered {
@@ -58,18 +61,6 @@ fn tell_number(
     Ok(())
 }
 
-// Tells all marked nets by rising number, in place of what `all` had.
-fn tell_all(words: &[Word], marks: &[u64], all: &mut Vec<Changed>) -> Result<(), AllocError>
-    requires { IsTable (table_of words.now marks.now) }
-    ensures { OnOk result (AreTaken (table_of words.now marks.now) (length words.now) all.new.items) }
-{
-    all.clear();
-    for k in 0..marks.len() {
-        tell_number(words, marks, k, all)?;
-    }
-    Ok(())
-}
-
 impl Gathered {
     /// None yet, with room for so many nets.
     pub(crate) fn new(alloc: Global, nets: usize) -> Result<Gathered, AllocError>
@@ -103,13 +94,36 @@ impl Gathered {
         }
     }
 
-    /// Takes all changes out, by rising number, in place of what `all` had.
-    pub(crate) fn take(&mut self, all: &mut Vec<Changed>) -> Result<(), AllocError>
-        ensures taken { OnOk result (AreTaken self.old (length self.old.words) all.new.items) }
-        ensures none { OnOk result (IsBlank (length self.old.words) self.new) }
+    /// How many numbers of marks there are.
+    pub(crate) fn numbers(&self) -> usize
+        ensures { result ≡ length self.now.marks }
     {
-        tell_all(&self.words, &self.marks, all)?;
+        self.marks.len()
+    }
+
+    /// Tells some marked nets more by rising number, from a number of marks on, behind those before them. Says at which
+    /// number the next ones begin.
+    pub(crate) fn tell(&self, from: usize, all: &mut Vec<Changed>) -> Result<usize, AllocError>
+        requires within { from ≤ length self.now.marks }
+        requires before { AreTaken self.now (64 * from) all.old.items }
+        ensures within { IfOk result (λ next. next ≤ length self.now.marks) }
+        ensures taken { IfOk result (λ next. AreTaken self.now (64 * next) all.new.items) }
+        ensures whole { IfOk result (λ next. length self.now.marks ≤ next
+            → AreTaken self.now (length self.now.words) all.new.items) }
+    {
+        let most = all.len().saturating_add(PIECE);
+        let mut next = from;
+        while next < self.marks.len() && all.len() < most {
+            tell_number(&self.words, &self.marks, next, all)?;
+            next += 1;
+        }
+        Ok(next)
+    }
+
+    /// Forgets all changes.
+    pub(crate) fn clear(&mut self)
+        ensures { IsBlank (length self.old.words) self.new }
+    {
         self.marks.fill(0);
-        Ok(())
     }
 }

@@ -3,19 +3,23 @@
 #![tactic(auto)]
 
 mod channel;
+mod clerk;
 pub mod costs;
+mod desk;
 mod feeders;
 mod flow;
 mod gathered;
 pub mod laws;
 mod message;
 pub mod opening;
+mod part;
 mod share_run;
 mod simulator;
+mod stages;
 mod station;
 mod stations;
 pub mod text;
 
-pub use costs::{Costs, costs_of};
+pub use costs::costs_of;
 pub use opening::Shares;
 pub use text::write_shares;

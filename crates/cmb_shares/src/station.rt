@@ -14,6 +14,7 @@ use crate::message::Message;
 use crate::share_run::ShareRun;
 use crate::simulator::{Simulator, feed_of};
 use cmb_graph_partition::MOST_SHARES;
+use cmb_waiting::Pastime;
 use cmb_words::Changed;
 use rtrb::Consumer;
 use std::alloc::{AllocError, Global};
@@ -97,9 +98,10 @@ impl<'a, T: ShareRun> Feed<'a, T> {
     }
 
     // Sends the share what was told ahead of a window. Says whether it did so.
-    fn send_to<R: Wait>(
+    fn send_to<W: Pastime, R: Wait>(
         &mut self,
         rt: &R,
+        pastime: &mut W,
         alloc: Global,
         simulator: &Simulator<'_>,
         upto: u32,
@@ -120,7 +122,8 @@ impl<'a, T: ShareRun> Feed<'a, T> {
             return false;
         }
         let envelope = simulator.envelope(self.reader, simulator.clock(), upto);
-        self.outlet.send(rt, Message::new(envelope, changes))
+        self.outlet
+            .send(rt, Message::new(envelope, changes), pastime)
     }
 }
 
@@ -149,8 +152,9 @@ fn room_of(alloc: Global, back: &mut Consumer<Vec<Changed>>) -> Vec<Changed> {
 }
 
 // Sends all shares what was told ahead of a window. Says whether it did so.
-fn send_all<'a, T: ShareRun, R: Wait>(
+fn send_all<'a, T: ShareRun, W: Pastime, R: Wait>(
     rt: &R,
+    pastime: &mut W,
     alloc: Global,
     simulator: &Simulator<'_>,
     upto: u32,
@@ -166,7 +170,7 @@ fn send_all<'a, T: ShareRun, R: Wait>(
     ensures readers { result ≡ true → readers_of feeds.new ≡ readers_of feeds.old }
 {
     for place in 0..feeds.len() {
-        if !feeds[place].send_to(rt, alloc, simulator, upto, told, spare) {
+        if !feeds[place].send_to(rt, pastime, alloc, simulator, upto, told, spare) {
             return false;
         }
     }
@@ -175,8 +179,9 @@ fn send_all<'a, T: ShareRun, R: Wait>(
 
 // Receives what others send of a window, in place of what `given` had. Says whether it did so. It has sent before:
 // shares that receive before they send wait for one another.
-fn receive_all<'a, T: ShareRun, R: Wait>(
+fn receive_all<'a, T: ShareRun, W: Pastime, R: Wait>(
     rt: &R,
+    pastime: &mut W,
     simulator: &Simulator<'_>,
     upto: u32,
     feeds: &[Feed<'a, T>],
@@ -194,7 +199,7 @@ fn receive_all<'a, T: ShareRun, R: Wait>(
 {
     given.clear();
     for place in 0..inlets.len() {
-        let Some(message) = inlets[place].receive(rt) else {
+        let Some(message) = inlets[place].receive(rt, pastime) else {
             return false;
         };
         let changes = message.changes;
@@ -207,8 +212,9 @@ fn receive_all<'a, T: ShareRun, R: Wait>(
 }
 
 // Sends to other shares, and receives what they send, of a window. Says whether that was done.
-fn talk<'a, T: ShareRun, R: Wait>(
+fn talk<'a, T: ShareRun, W: Pastime, R: Wait>(
     rt: &R,
+    pastime: &mut W,
     alloc: Global,
     simulator: &Simulator<'_>,
     upto: u32,
@@ -232,10 +238,10 @@ fn talk<'a, T: ShareRun, R: Wait>(
     let Ok(()) = simulator.tell_ahead::<T>(upto, told) else {
         return false;
     };
-    if !send_all(rt, alloc, simulator, upto, told, feeds, spare) {
+    if !send_all(rt, pastime, alloc, simulator, upto, told, feeds, spare) {
         return false;
     }
-    receive_all(rt, simulator, upto, feeds, inlets, given, spare)
+    receive_all(rt, pastime, simulator, upto, feeds, inlets, given, spare)
 }
 
 impl<'a, T: ShareRun> Station<'a, T> {
@@ -300,9 +306,9 @@ impl<'a, T: ShareRun> Station<'a, T> {
         Ok(())
     }
 
-    // Goes on by a window: a turn of its process. There is no station any more where another one ended early or memory
-    // was refused.
-    fn step<R: Wait>(self, rt: &R) -> Option<Station<'a, T>>
+    /// Goes on by a window: a turn of its process. A thread that has to wait goes on with a pastime. There is no station
+    /// any more where another one ended early or memory was refused.
+    pub(crate) fn step<W: Pastime, R: Wait>(self, rt: &R, pastime: &mut W) -> Option<Station<'a, T>>
         requires covers { Covers T.run self.number self.senders }
         requires early { self.clock < T.run.windows.horizon }
         ensures number { IfSome result (λ next. next.number ≡ self.entry.number) }
@@ -322,6 +328,7 @@ impl<'a, T: ShareRun> Station<'a, T> {
         let upto = simulator.next_end::<T>();
         if !talk(
             rt,
+            pastime,
             alloc,
             &simulator,
             upto,
@@ -338,7 +345,7 @@ impl<'a, T: ShareRun> Station<'a, T> {
             return None;
         };
         let envelope = simulator.envelope(simulator.shares, from, upto);
-        if !text.send(rt, Message::new(envelope, changes)) {
+        if !text.send(rt, Message::new(envelope, changes), pastime) {
             drop((simulator, inlets, feeds, text, back, rooms));
             return None;
         }
@@ -353,27 +360,10 @@ impl<'a, T: ShareRun> Station<'a, T> {
         })
     }
 
-    // Whether all windows were made.
-    fn is_done(&self) -> bool
+    /// Whether all windows were made.
+    pub(crate) fn is_done(&self) -> bool
         ensures { result ≡ false → self.now.clock < T.run.windows.horizon }
     {
         self.simulator.clock() >= self.simulator.windows.horizon()
-    }
-
-    /// Makes all windows of the share.
-    pub(crate) fn run<R: Wait>(self, rt: &R)
-        requires { Covers T.run self.number self.senders }
-    {
-        let mut station = self;
-        for _ in rt.forever() {
-            if station.is_done() {
-                return;
-            }
-            match station.step(rt) {
-                Some(next) => station = next,
-                None => return,
-            }
-        }
-        unreachable!()
     }
 }

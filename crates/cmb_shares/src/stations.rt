@@ -10,8 +10,8 @@ ghost use Rattle.cmb_shares.specs.Inner.Runs.{IsRun, driven_by, subject_in};
 ghost use Rattle.cmb_shares.specs.Inner.Stations.{Standing};
 
 use crate::channel::channel;
+use crate::desk::Inflow;
 use crate::feeders::feeders_of;
-use crate::flow::Inflow;
 use crate::share_run::ShareRun;
 use crate::simulator::Simulator;
 use crate::station::{Feed, Station};

@@ -171,7 +171,7 @@ fn write_part<R: AllocGlobal + Threads + Wait + Sync, O: Sink>(
     let alloc = rt.alloc();
     let design = &part.design;
     let shown: Shown<'_> = Some(&part.nets);
-    match partition_that_pays(rt, alloc, design, shown, threads)? {
+    match partition_that_pays(rt, alloc, design, threads)? {
         Some(partition) => write_by_shares(rt, &partition, threads, design, shown, out),
         None => Ok(write_team(rt, alloc, design, shown, at_once(rt, threads), out)?),
     }

@@ -1,14 +1,13 @@
 //! The thresholds by which a run is planned: each is an estimate, and none changes a text.
 
-ghost use Rattle.std.specs.Prelude.{◌≡◌, ◌-◌, ◌<◌, ◌≤◌, true, length, All, IfOk, IfSome};
+ghost use Rattle.std.specs.Prelude.{◌≡◌, ◌≤◌, true, length, All, IfOk, IfSome};
 ghost use Rattle.cmb_design_model.specs.Exact.{nets_of};
 ghost use Rattle.cmb_graph_partition.specs.Partitions.{IsPartition};
 
 use cmb_design_model::Design;
-use cmb_dump::Shown;
 use cmb_graph_partition::{Partition, Structure, load, partition, structure_of, total};
 use cmb_netlist::{Driver, PartCount};
-use cmb_shares::{Costs, costs_of};
+use cmb_shares::costs_of;
 use std::alloc::{AllocError, Global};
 use std::thread;
 use std::thread::Threads;
@@ -17,7 +16,7 @@ use std::thread::Threads;
 // takes longer than the engine takes for all nets.
 const MOST_BY_WORKERS: u64 = 262_144;
 
-// From so many threads on each may simulate a share of the nets: one makes the text.
+// From so many threads on each may simulate a share of the nets.
 const LEAST_THREADS: u32 = 3;
 
 // So many samples the flip-flops take at least, where shares pay: it stands for how much changes in a run, and for how
@@ -29,10 +28,6 @@ const LEAST_NETS: usize = 2_048;
 
 // The share with the most to do has so many hundredths of all work at most, where shares pay.
 const MOST_OF_ALL: u64 = 70;
-
-// A share has at least so many hundredths of what the thread has to do that makes the text. More shares would wait for
-// it.
-const LEAST_OF_TEXT: u64 = 150;
 
 // What nets cost is seen in so many cycles, the first ones of a run. In fewer a processor hardly gets to its program.
 const CYCLES: u64 = 160;
@@ -113,19 +108,17 @@ fn measured<R: Threads + Sync>(
     alloc: Global,
     design: &Design,
     upto: u32,
-) -> Result<(Option<Structure>, Costs), AllocError>
+) -> Result<(Option<Structure>, Vec<u32>), AllocError>
     ensures structure { IfOk result (λ found. IfSome found.0 (λ structure. structure ≡ nets_of design.now)) }
-    ensures costs { IfOk result (λ found. length found.1.nets.items ≡ nets_of design.now) }
-    ensures texts { IfOk result (λ found. length found.1.texts.items ≡ nets_of design.now) }
+    ensures costs { IfOk result (λ found. length found.1.items ≡ nets_of design.now) }
 {
     let (structure, costs) = thread::join(
         rt,
         move || -> Result<Option<Structure>, AllocError>
             ensures { IfOk result (λ found. IfSome found (λ structure. structure ≡ nets_of design.entry.now)) }
         { structure_of(alloc, design.netlist()) },
-        move || -> Result<Costs, AllocError>
-            ensures nets { IfOk result (λ costs. length costs.nets.items ≡ nets_of design.entry.now) }
-            ensures texts { IfOk result (λ costs. length costs.texts.items ≡ nets_of design.entry.now) }
+        move || -> Result<Vec<u32>, AllocError>
+            ensures { IfOk result (λ costs. length costs.items ≡ nets_of design.entry.now) }
         { costs_of(alloc, design, upto) },
     );
     Ok((structure?, costs?))
@@ -144,44 +137,16 @@ pub(crate) fn at_once<R: Threads>(rt: &R, threads: u32) -> u32
     }
 }
 
-// What some of these cost together.
-fn total_of(costs: &[u32], nets: &[u32]) -> u64 {
-    let mut all = 0_u64;
-    for net in nets {
-        if let Some(cost) = costs.get(*net as usize) {
-            all = all.saturating_add(u64::from(*cost));
-        }
-    }
-    all
-}
-
-// How many shares there are at most, beside the thread that makes the text of the nets that are shown.
-fn most_shares(costs: &Costs, shown: Shown<'_>, threads: u32) -> u32
-    requires nets { length costs.now.nets.items ≤ 65535 }
-    requires texts { length costs.now.texts.items ≤ 65535 }
-    ensures { result ≤ threads - 1 }
-{
-    let text = match shown {
-        None => total(&costs.texts),
-        Some(nets) => total_of(&costs.texts, nets),
-    };
-    let least = text.saturating_mul(LEAST_OF_TEXT) / 100;
-    let busy = total(&costs.nets) / least.max(1);
-    let most = u64::from(threads.saturating_sub(1));
-    busy.saturating_add(1).max(2).min(most) as u32
-}
-
-/// The shares of a design's nets, where a thread for each pays beside the one that makes the text of the nets that are
-/// shown: they are so many threads at most. Errors: memory was refused.
+/// The shares of a design's nets, where a thread for each pays: they are so many threads at most. Errors: memory was
+/// refused.
 pub(crate) fn partition_that_pays<R: Threads + Sync>(
     rt: &R,
     alloc: Global,
     design: &Design,
-    shown: Shown<'_>,
     threads: u32,
 ) -> Result<Option<Partition>, AllocError>
     ensures partition { IfOk result (λ found. IfSome found (IsPartition design.now.netlist)) }
-    ensures few { IfOk result (λ found. IfSome found (λ partition. length partition.shares.items < threads)) }
+    ensures few { IfOk result (λ found. IfSome found (λ partition. length partition.shares.items ≤ threads)) }
 {
     let sampling = sampling_of(design);
     if threads < LEAST_THREADS || !is_long(design, &sampling) {
@@ -196,9 +161,8 @@ pub(crate) fn partition_that_pays<R: Threads + Sync>(
     let Some(structure) = structure else {
         return Ok(None);
     };
-    let most = most_shares(&costs, shown, threads);
-    match partition(alloc, design.netlist(), structure, &costs.nets, most)? {
-        Some(partition) if is_even(&costs.nets, &partition) => Ok(Some(partition)),
+    match partition(alloc, design.netlist(), structure, &costs, threads)? {
+        Some(partition) if is_even(&costs, &partition) => Ok(Some(partition)),
         _ => Ok(None),
     }
 }

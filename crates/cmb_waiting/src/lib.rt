@@ -2,7 +2,9 @@
 #![tactic(auto)]
 
 pub mod idle;
+pub mod pastime;
 pub mod ring;
 
 pub use idle::Idle;
-pub use ring::{handed, taken};
+pub use pastime::Pastime;
+pub use ring::{handed, handed_beside, taken, taken_beside};

@@ -11,7 +11,7 @@ use cmb_dump::Shown;
 use cmb_dump_stream::write_stream;
 use cmb_graph_partition::{Partition, partition, structure_of};
 use cmb_io::{Limited, Room, WriteFault};
-use cmb_shares::{Costs, Shares, costs_of, write_shares};
+use cmb_shares::{Shares, costs_of, write_shares};
 use cmb_wave::Level;
 use std::alloc::{AllocError, Global};
 use std::sync::Wait;
@@ -109,7 +109,7 @@ fn is_text<R: Threads + Wait + Sync>(
 
 /// What the run of a design costs that has these four nets: the input `i`, the flip-flop `s`, which reads itself and so
 /// never changes, and the flip-flop `t`, which the inverter `n` turns at each sample.
-fn costs_of_four(alloc: Global) -> Result<Costs, Fail> {
+fn costs_of_four(alloc: Global) -> Result<Vec<u32>, Fail> {
     let inputs = Inputs {
         netlist: b"INPUT(i)\ns = DFF(s)\nt = DFF(n)\nn = NOT(t)\n",
         delays: b"",
@@ -126,28 +126,19 @@ fn costs_of_four(alloc: Global) -> Result<Costs, Fail> {
     Ok(costs_of(alloc, &design, 100)?)
 }
 
-/// Whether the text of the last two of four nets costs something, and that of the others nothing.
-fn is_text_of_two(texts: &[u32]) -> bool {
-    match texts {
-        [0, 0, turned, inverted] => 0 < *turned && 0 < *inverted,
-        _ => false,
-    }
-}
-
 // Each share has its own inputs, so these cost nothing. Each other net costs something. A flip-flop costs the more the
-// more often it changes, and more than a gate that changes as often, since it is looked at when samples arrive. The
-// text of what doesn't change costs nothing.
+// more often it changes, and more than a gate that changes as often, since it is looked at when samples arrive.
 #[test]
 fn costs(rt: HostRuntime) -> Result<(), Fail> {
     let costs = costs_of_four(rt.alloc())?;
     holds(
         &rt,
-        match costs.nets.as_slice() {
+        match costs.as_slice() {
             [0, still, turned, inverted] => {
                 0 < *still && *still < *turned && 0 < *inverted && *inverted < *turned
             }
             _ => false,
-        } && is_text_of_two(&costs.texts),
+        },
     );
     Ok(())
 }
@@ -158,7 +149,7 @@ fn halves(alloc: Global, design: &Design) -> Result<Option<Partition>, AllocErro
 {
     let costs = costs_of(alloc, design, design.horizon())?;
     match structure_of(alloc, design.netlist())? {
-        Some(structure) => partition(alloc, design.netlist(), structure, &costs.nets, 2),
+        Some(structure) => partition(alloc, design.netlist(), structure, &costs, 2),
         None => Ok(None),
     }
 }

@@ -1,15 +1,14 @@
--- The calling thread's part of a run.
+-- What shares send for the text.
 use Rattle.std.specs.Prelude.{◌≡◌, ℕ, ◌<◌, ◌≤◌, false, List, All, length, slice_index, slice_index_or}
 use Rattle.cmb_design_model.specs.Exact.{nets_of}
 use Rattle.cmb_design_model.specs.Value.{value}
-use Rattle.cmb_dump.specs.Dumps.{Dump}
 use Rattle.cmb_dump.specs.Shown.{IsShown}
 use Rattle.cmb_engine.specs.Windows.{Windows}
 use Rattle.cmb_words.specs.Changes.{IsStill, RisesWithin, TellsNet, is_among}
 use Rattle.cmb_words.specs.declared.changed.Changed.{Changed}
 use Rattle.cmb_shares.specs.declared.message.Envelope.{Envelope}
-use Rattle.cmb_shares.specs.Inner.Gatherings.{Holds, IsBlank, Table, has}
-use Rattle.cmb_shares.specs.Inner.Runs.{IsRun, Run, subject_in}
+use Rattle.cmb_shares.specs.Inner.Gatherings.{Holds, Table, has}
+use Rattle.cmb_shares.specs.Inner.Runs.{IsRun, IsTurn, Run}
 
 -- one of the first shares owns a net
 abbrev pub IsMade : Run → ℕ → ℕ → Type 0
@@ -33,12 +32,17 @@ AreSources run clock sources =
     (k : ℕ) (d : Envelope) → k < length sources
     → ((slice_index_or sources k d).sender ≡ k) × ((slice_index_or sources k d).reader ≡ length run.driven) × ((slice_index_or sources k d).upto ≡ clock)
 
--- a text was made up to where the channels of all shares are, and the table is empty
-pub record IsFlow (run : Run) (windows : Windows) (sources : List Envelope) (dump : Dump) (table : Table) : Type 0 where
+-- the channels from all shares, along which the ticks below a clock were taken
+pub record IsInbox (run : Run) (windows : Windows) (clock : ℕ) (sources : List Envelope) : Type 0 where
   pub lawful : IsRun run
   pub ends : windows ≡ run.windows
-  pub dumped : dump.subject ≡ subject_in run
   pub count : length sources ≡ length run.driven
-  pub begun : 1 ≤ dump.clock
-  pub told : AreSources run dump.clock sources
-  pub blank : IsBlank (nets_of run.design) table
+  pub begun : 1 ≤ clock
+  pub told : AreSources run clock sources
+
+-- all shares sent to the text of a window, in the order of their numbers
+pub record IsJob (run : Run) (from upto : ℕ) (parts : List Envelope) : Type 0 where
+  pub lawful : IsRun run
+  pub turn : IsTurn run from upto
+  pub count : length parts ≡ length run.driven
+  pub each : (k : ℕ) (d : Envelope) → k < length parts → slice_index_or parts k d ≡ record { sender = k; reader = length run.driven; from = from; upto = upto }

@@ -2,7 +2,4 @@ use Rattle.std.proofs.Common.{◌≡◌, length}
 use Rattle.cmb_shares.proofs.costs.costs_of.Given as goal
 
 abbrev pub invariant-loop-net : goal.invariant-loop-net
-invariant-loop-net l = record {
-  nets : length l.nets.items ≡ l.net;
-  texts : length l.texts.items ≡ l.net;
-}
+invariant-loop-net l = length l.costs.items ≡ l.net
