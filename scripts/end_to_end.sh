@@ -585,8 +585,8 @@ as_expected processor --mode plain
 turned processor 2
 turned processor 40 --mode plain
 turned processor 80 --mode free
-# Some 60 MB of text. None of the registers reads another.
-shared_out "600 LFSRs of 16" 12000
+# Some 120 MB of text. None of the registers reads another.
+shared_out "600 LFSRs of 16" 24000
 # By one engine, by a team, and by shares.
 for threads in 1 2 4 64; do
     early "$threads"
