@@ -23,7 +23,7 @@ from cases import Folder, write_random
 from hostile.tools import Tally, each, run
 
 FORCED = {"LEAST_THREADS: u32": "2", "LEAST_SAMPLES: u64": "0", "LEAST_NETS: usize": "0", "MOST_OF_ALL: u64": "1_000_000",
-          "PER_PROCESSOR: usize": "64"}
+          "PER_PROCESSOR: usize": "64", "SPARE: u32": "0"}
 THREADS = (3, 4, 5, 9, 64)
 MADE = f"{crates.TOP}/out/forced_shares"
 

@@ -42,6 +42,13 @@ const LEAST_SEEN: u32 = 50;
 // a team for one another's batches, so one that waits for a processor holds up all.
 const PER_PROCESSOR: usize = 1;
 
+// So many processors are left to other programs where nets are shared out: each window waits for the last share, and so
+// for one that has no processor.
+const SPARE: u32 = 1;
+
+// So many shares there are at least.
+const LEAST_SHARES: u32 = 2;
+
 /// The flip-flops of a design, and about how many samples they take in its run.
 #[derive(Clone, Copy)]
 struct Sampling {
@@ -152,8 +159,8 @@ pub(crate) fn partition_that_pays<R: Threads + Sync>(
     if threads < LEAST_THREADS || !is_long(design, &sampling) {
         return Ok(None);
     }
-    let threads = at_once(rt, threads);
-    if threads < LEAST_THREADS {
+    let shares = at_once(rt, threads.saturating_add(SPARE)).saturating_sub(SPARE);
+    if shares < LEAST_SHARES {
         return Ok(None);
     }
     let upto = seen_upto(design.horizon(), &sampling);
@@ -161,7 +168,7 @@ pub(crate) fn partition_that_pays<R: Threads + Sync>(
     let Some(structure) = structure else {
         return Ok(None);
     };
-    match partition(alloc, design.netlist(), structure, &costs, threads)? {
+    match partition(alloc, design.netlist(), structure, &costs, shares)? {
         Some(partition) if is_even(&costs, &partition) => Ok(Some(partition)),
         _ => Ok(None),
     }
