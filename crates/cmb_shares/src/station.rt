@@ -306,8 +306,8 @@ impl<'a, T: ShareRun> Station<'a, T> {
         Ok(())
     }
 
-    /// Goes on by a window: a turn of its process. A thread that has to wait goes on with a pastime. There is no station
-    /// any more where another one ended early or memory was refused.
+    /// Goes on by a window: a turn of its process. A thread that has to wait goes on with a pastime. There is no
+    /// station any more where another one ended early or memory was refused.
     pub(crate) fn step<W: Pastime, R: Wait>(self, rt: &R, pastime: &mut W) -> Option<Station<'a, T>>
         requires covers { Covers T.run self.number self.senders }
         requires early { self.clock < T.run.windows.horizon }
