@@ -2,11 +2,11 @@
 """forced_shares.py [--random N] [--seed S] [--program PROGRAM] [FOLDER..]: runs by shares where the program itself would not choose them.
 
 The thresholds in cmb_sim/src/tuning.rt change no text. Here the program is built, and proved, with others, and put at
-out/forced_shares: in a run by three threads or more each netlist with two flip-flops or nets that nothing reads is cut into
+out/forced_shares: in a run by several threads each netlist with two flip-flops or nets that nothing reads is cut into
 shares, however small it is and however short the run. The libraries have to be built already (make build). With --program
 nothing is built, and PROGRAM is run, which was made so.
 
-Then it runs N random circuits, 300 if not given, and the FOLDERs, which are laid out as those of examples/, in both modes by 3 to
+Then it runs N random circuits, 300 if not given, and the FOLDERs, which are laid out as those of examples/, in both modes by 2 to
 64 threads, of all nets and of the outputs. Each has to write what one thread writes. The last line is 'N passed, M failed', over all runs.
 """
 import argparse
@@ -22,9 +22,9 @@ import crates
 from cases import Folder, write_random
 from hostile.tools import Tally, each, run
 
-FORCED = {"LEAST_THREADS: u32": "2", "LEAST_SAMPLES: u64": "0", "LEAST_NETS: usize": "0", "MOST_OF_ALL: u64": "1_000_000",
-          "PER_PROCESSOR: usize": "64", "SPARE: u32": "0"}
-THREADS = (3, 4, 5, 9, 64)
+FORCED = {"LEAST_SAMPLES: u64": "0", "LEAST_NETS: usize": "0", "MOST_OF_ALL: u64": "1_000_000",
+          "PER_PROCESSOR: usize": "64"}
+THREADS = (2, 3, 4, 5, 9, 64)
 MADE = f"{crates.TOP}/out/forced_shares"
 
 

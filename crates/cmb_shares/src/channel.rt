@@ -5,13 +5,12 @@ ghost use Rattle.cmb_shares.specs.Inner.Channels.{Follows, greeting};
 
 use crate::message::{Envelope, InOrder, Message};
 use crate::share_run::ShareRun;
-use cmb_waiting::{Idle, Pastime, handed_beside, taken_beside};
 use rtrb::{Consumer, Producer, RingBuffer};
 use std::alloc::{AllocError, Global};
 use std::marker::Model;
-use std::sync::Wait;
 
-/// Whether the next message of a channel has come. It never will where the sender ended before.
+/// Whether the next message of a channel has come, or there is room for one. It never will where the other end was
+/// dropped before.
 #[derive(Clone, Copy)]
 pub enum Next {
     Come,
@@ -19,11 +18,30 @@ pub enum Next {
     Never,
 }
 
+/// Where a thread looks whether it can go on.
+pub trait Watched {
+    /// Whether the next message has come, or there is room for one.
+    fn look(&mut self) -> Next
+        ensures { self.new ≡ self.old };
+}
+
+/// Whether that is so of some channels.
+pub(crate) fn look_at<C: Watched>(channels: &mut [C]) -> Next
+    ensures { channels.new ≡ channels.old }
+{
+    for place in 0..channels.len() {
+        match channels[place].look() {
+            Next::Come => {}
+            other => return other,
+        }
+    }
+    Next::Come
+}
+
 /// The end of a channel at which messages come.
 #[derive(Drop)]
 pub struct Inlet<T: ShareRun> {
     ring: Consumer<Message<T>, Global, InOrder<T>>,
-    idle: Idle,
 }
 
 impl<T: ShareRun> Model for Inlet<T> {
@@ -44,7 +62,6 @@ impl<T: ShareRun> Model for Inlet<T> {
 #[derive(Drop)]
 pub struct Outlet<T: ShareRun> {
     ring: Producer<Message<T>, Global, InOrder<T>>,
-    idle: Idle,
 }
 
 impl<T: ShareRun> Model for Outlet<T> {
@@ -76,31 +93,10 @@ pub(crate) fn channel<T: ShareRun>(
     outlet.push_reserved(Message::greeting(alloc, sender, reader));
     inlet.slots_beside(&mut outlet);
     drop(inlet.pop_known());
-    Ok((
-        Outlet {
-            ring: outlet,
-            idle: Idle::new(),
-        },
-        Inlet {
-            ring: inlet,
-            idle: Idle::new(),
-        },
-    ))
+    Ok((Outlet { ring: outlet }, Inlet { ring: inlet }))
 }
 
 impl<T: ShareRun> Inlet<T> {
-    /// Waits for the next message, and goes on with a pastime meanwhile. There is none where the sender ended before.
-    pub(crate) fn receive<W: Pastime, R: Wait>(
-        &mut self,
-        rt: &R,
-        pastime: &mut W,
-    ) -> Option<Message<T>>
-        ensures follows { IfSome result (λ message. Follows T.run.windows self.old message.envelope) }
-        ensures last { IfSome result (λ message. self.new ≡ message.envelope) }
-    {
-        taken_beside(rt, &mut self.idle, &mut self.ring, pastime)
-    }
-
     /// The next message, if it has come.
     pub(crate) fn take(&mut self) -> Option<Message<T>>
         ensures follows { IfSome result (λ message. Follows T.run.windows self.old message.envelope) }
@@ -111,11 +107,10 @@ impl<T: ShareRun> Inlet<T> {
         };
         Some(message)
     }
+}
 
-    /// Whether the next message has come.
-    pub(crate) fn look(&mut self) -> Next
-        ensures { self.new ≡ self.old }
-    {
+impl<T: ShareRun> Watched for Inlet<T> {
+    fn look(&mut self) -> Next {
         if !self.ring.is_empty() {
             Next::Come
         } else if self.ring.is_abandoned() && self.ring.is_empty() {
@@ -127,18 +122,27 @@ impl<T: ShareRun> Inlet<T> {
 }
 
 impl<T: ShareRun> Outlet<T> {
-    /// Sends a message, once there is room, and goes on with a pastime meanwhile. Says whether it did so: else nobody
-    /// is there any more to take it.
-    pub(crate) fn send<W: Pastime, R: Wait>(
-        &mut self,
-        rt: &R,
-        message: Message<T>,
-        pastime: &mut W,
-    ) -> bool
+    /// Sends a message. Says whether there was room for it.
+    pub(crate) fn send(&mut self, message: Message<T>) -> bool
         requires { Follows T.run.windows self.old message.envelope }
         ensures sent { IsTrue result → self.new ≡ message.envelope }
         ensures kept { IsFalse result → self.new ≡ self.old }
     {
-        handed_beside(rt, &mut self.idle, &mut self.ring, message, pastime)
+        let Ok(()) = self.ring.push(message) else {
+            return false;
+        };
+        true
+    }
+}
+
+impl<T: ShareRun> Watched for Outlet<T> {
+    fn look(&mut self) -> Next {
+        if !self.ring.is_full() {
+            Next::Come
+        } else if self.ring.is_abandoned() {
+            Next::Never
+        } else {
+            Next::Awaited
+        }
     }
 }

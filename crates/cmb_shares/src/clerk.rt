@@ -4,7 +4,6 @@ use crate::desk::{Desk, Job};
 use crate::message::Message;
 use crate::share_run::ShareRun;
 use crate::stages::{Free, Stage, Text};
-use cmb_waiting::Pastime;
 use std::alloc::{AllocError, Global};
 use std::sync::{Mutex, Wait};
 
@@ -59,11 +58,14 @@ impl<'a, 'd, T: ShareRun> Clerk<'a, 'd, T> {
         }
     }
 
+    // Whether it has nothing to do, at this call, but to wait until it looks for a window.
+    fn passes(&mut self) -> bool {
+        self.looks = self.looks.wrapping_add(1);
+        self.looks % LOOKS != 0 && !self.is_busy()
+    }
+
     // The next window, if it has come and nobody else is at the desk.
     fn take_job(&mut self) -> Result<Option<Job<T>>, AllocError> {
-        if self.looks % LOOKS != 0 {
-            return Ok(None);
-        }
         match self.desk.try_lock() {
             Some(mut desk) => desk.take(&mut self.spent),
             None => Ok(None),
@@ -72,7 +74,6 @@ impl<'a, 'd, T: ShareRun> Clerk<'a, 'd, T> {
 
     // Takes the next window, if it has come. Says whether it did so.
     fn begin(&mut self, free: Free<'a, T>) -> Result<bool, AllocError> {
-        self.looks = self.looks.wrapping_add(1);
         match self.take_job() {
             Ok(Some(job)) => {
                 self.stage = Some(free.begin(job));
@@ -117,21 +118,12 @@ impl<'a, 'd, T: ShareRun> Clerk<'a, 'd, T> {
         }
     }
 
-    /// Makes the text to its end that it is at.
-    pub(crate) fn finish<R: Wait>(&mut self, rt: &R) {
-        for _ in rt.forever() {
-            if !self.is_busy() {
-                return;
-            }
-            self.go_on(rt);
+    /// Goes on by a piece, if there is one. Says whether there was. Where it can't go on the desk is closed, so that
+    /// all threads end: a text would be missing.
+    pub(crate) fn go_on<R: Wait>(&mut self, rt: &R) -> bool {
+        if self.passes() {
+            return false;
         }
-        unreachable!()
-    }
-}
-
-impl<'a, 'd, T: ShareRun> Pastime for Clerk<'a, 'd, T> {
-    // Where it can't go on the desk is closed, so that all threads end: a text would be missing.
-    fn go_on<R: Wait>(&mut self, rt: &R) -> bool {
         match self.step(rt) {
             Ok(has_worked) => has_worked,
             Err(_) => {

@@ -7,7 +7,7 @@ ghost use Rattle.cmb_shares.specs.Inner.Flows.{AreSources, IsInbox, IsJob};
 ghost use Rattle.cmb_shares.specs.Inner.Processes.{Turns, text_of};
 ghost use Rattle.cmb_shares.specs.Inner.Runs.{IsRun, IsTurn};
 
-use crate::channel::{Inlet, Next};
+use crate::channel::{Inlet, Next, Watched, look_at};
 use crate::message::Message;
 use crate::share_run::ShareRun;
 use cmb_engine::Windows;
@@ -80,13 +80,6 @@ impl<T: ShareRun> Inflow<T> {
         }
     }
 
-    // Whether what the share sent of the next window has come.
-    fn look(&mut self) -> Next
-        ensures { self.new ≡ self.old }
-    {
-        self.inlet.look()
-    }
-
     // Gives room back to the share, which may have ended.
     fn give_back(&mut self, room: Vec<Changed>)
         ensures { self.new ≡ self.old }
@@ -95,17 +88,10 @@ impl<T: ShareRun> Inflow<T> {
     }
 }
 
-// Whether all shares sent of the next window.
-fn look_at<T: ShareRun>(sources: &mut [Inflow<T>]) -> Next
-    ensures { sources.new ≡ sources.old }
-{
-    for place in 0..sources.len() {
-        match sources[place].look() {
-            Next::Come => {}
-            other => return other,
-        }
+impl<T: ShareRun> Watched for Inflow<T> {
+    fn look(&mut self) -> Next {
+        self.inlet.look()
     }
-    Next::Come
 }
 
 // Takes what all shares sent of a window, where it has come: a turn of the text's process.

@@ -2,6 +2,7 @@
 //! logical process, and a channel leads from each to each that it feeds.
 #![tactic(auto)]
 
+mod berth;
 mod channel;
 mod clerk;
 pub mod costs;
@@ -19,6 +20,7 @@ mod stages;
 mod station;
 mod stations;
 pub mod text;
+mod worker;
 
 pub use costs::costs_of;
 pub use opening::Shares;

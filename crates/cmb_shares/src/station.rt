@@ -7,19 +7,18 @@ ghost use Rattle.cmb_shares.specs.Inner.Channels.{greeting};
 ghost use Rattle.cmb_shares.specs.Inner.Processes.{Turns, member_of};
 ghost use Rattle.cmb_shares.specs.Inner.Runs.{IsTurn, driven_by};
 ghost use Rattle.cmb_shares.specs.Inner.Simulators.{IsSimulator, IsToldAhead};
-ghost use Rattle.cmb_shares.specs.Inner.Stations.{AreFed, AreHeard, AreHeardOf, Covers, readers_of, senders_of};
+ghost use Rattle.cmb_shares.specs.Inner.Stations.{AreFed, AreHeard, AreHeardOf, Covers, HasTold, Standing};
+ghost use Rattle.cmb_shares.specs.Inner.Stations.{readers_of, senders_of};
 
-use crate::channel::{Inlet, Outlet};
+use crate::channel::{Inlet, Next, Outlet, Watched, look_at};
 use crate::message::Message;
 use crate::share_run::ShareRun;
 use crate::simulator::{Simulator, feed_of};
 use cmb_graph_partition::MOST_SHARES;
-use cmb_waiting::Pastime;
 use cmb_words::Changed;
 use rtrb::Consumer;
 use std::alloc::{AllocError, Global};
 use std::marker::Model;
-use std::sync::Wait;
 
 /// A channel to a share that drives these nets.
 #[derive(Drop)]
@@ -82,6 +81,36 @@ impl<'a, T: ShareRun> Model for Station<'a, T> {
         station.feeds.items station.text };
 }
 
+/// A station in the midst of a window: it told others what crosses there, and has still to receive what they tell.
+#[derive(Drop)]
+pub struct Told<'a, T: ShareRun> {
+    alloc: Global,
+    simulator: Simulator<'a>,
+    upto: u32,
+    inlets: Vec<Inlet<T>>,
+    feeds: Vec<Feed<'a, T>>,
+    text: Outlet<T>,
+    back: Consumer<Vec<Changed>>,
+    rooms: Rooms,
+}
+
+impl<'a, T: ShareRun> Model for Told<'a, T> {
+    ghost use Rattle.cmb_shares.specs.Inner.Stations.{HasTold, IsTold, Standing, senders_of};
+
+    ghost Value = { Standing };
+
+    ghost view = { λ told. record {
+      number = told.simulator.number;
+      clock = told.simulator.engine.clock;
+      senders = senders_of told.inlets.items;
+      inlets = told.inlets.items;
+      feeds = told.feeds.items;
+      text = told.text;
+    } };
+
+    ghost invariant = { λ told. IsTold T.run told.simulator told.upto told.inlets.items told.feeds.items told.text };
+}
+
 impl<'a, T: ShareRun> Feed<'a, T> {
     /// The channel to the share of a number, which drives these nets.
     pub(crate) fn new(outlet: Outlet<T>, reader: u32, driven: &'a [bool]) -> Feed<'a, T>
@@ -98,10 +127,8 @@ impl<'a, T: ShareRun> Feed<'a, T> {
     }
 
     // Sends the share what was told ahead of a window. Says whether it did so.
-    fn send_to<W: Pastime, R: Wait>(
+    fn send_to(
         &mut self,
-        rt: &R,
-        pastime: &mut W,
         alloc: Global,
         simulator: &Simulator<'_>,
         upto: u32,
@@ -122,8 +149,13 @@ impl<'a, T: ShareRun> Feed<'a, T> {
             return false;
         }
         let envelope = simulator.envelope(self.reader, simulator.clock(), upto);
-        self.outlet
-            .send(rt, Message::new(envelope, changes), pastime)
+        self.outlet.send(Message::new(envelope, changes))
+    }
+}
+
+impl<'a, T: ShareRun> Watched for Feed<'a, T> {
+    fn look(&mut self) -> Next {
+        self.outlet.look()
     }
 }
 
@@ -152,9 +184,7 @@ fn room_of(alloc: Global, back: &mut Consumer<Vec<Changed>>) -> Vec<Changed> {
 }
 
 // Sends all shares what was told ahead of a window. Says whether it did so.
-fn send_all<'a, T: ShareRun, W: Pastime, R: Wait>(
-    rt: &R,
-    pastime: &mut W,
+fn send_all<'a, T: ShareRun>(
     alloc: Global,
     simulator: &Simulator<'_>,
     upto: u32,
@@ -170,18 +200,16 @@ fn send_all<'a, T: ShareRun, W: Pastime, R: Wait>(
     ensures readers { result ≡ true → readers_of feeds.new ≡ readers_of feeds.old }
 {
     for place in 0..feeds.len() {
-        if !feeds[place].send_to(rt, pastime, alloc, simulator, upto, told, spare) {
+        if !feeds[place].send_to(alloc, simulator, upto, told, spare) {
             return false;
         }
     }
     true
 }
 
-// Receives what others send of a window, in place of what `given` had. Says whether it did so. It has sent before:
-// shares that receive before they send wait for one another.
-fn receive_all<'a, T: ShareRun, W: Pastime, R: Wait>(
-    rt: &R,
-    pastime: &mut W,
+// Receives what others sent of a window, in place of what `given` had. Says whether it had come. The share has sent
+// before: shares that receive before they send wait for one another.
+fn receive_all<'a, T: ShareRun>(
     simulator: &Simulator<'_>,
     upto: u32,
     feeds: &[Feed<'a, T>],
@@ -199,7 +227,7 @@ fn receive_all<'a, T: ShareRun, W: Pastime, R: Wait>(
 {
     given.clear();
     for place in 0..inlets.len() {
-        let Some(message) = inlets[place].receive(rt, pastime) else {
+        let Some(message) = inlets[place].take() else {
             return false;
         };
         let changes = message.changes;
@@ -209,39 +237,6 @@ fn receive_all<'a, T: ShareRun, W: Pastime, R: Wait>(
         keep_room(spare, changes);
     }
     true
-}
-
-// Sends to other shares, and receives what they send, of a window. Says whether that was done.
-fn talk<'a, T: ShareRun, W: Pastime, R: Wait>(
-    rt: &R,
-    pastime: &mut W,
-    alloc: Global,
-    simulator: &Simulator<'_>,
-    upto: u32,
-    feeds: &mut [Feed<'a, T>],
-    inlets: &mut [Inlet<T>],
-    rooms: &mut Rooms,
-) -> bool
-    requires simulates { IsSimulator T.run simulator.now }
-    requires turn { IsTurn T.run simulator.now.engine.clock upto }
-    requires fed { AreFed simulator.now.number simulator.now.engine.clock feeds.old }
-    requires heard { AreHeard simulator.now.number simulator.now.engine.clock inlets.old }
-    requires covers { Covers T.run simulator.now.number (senders_of inlets.old) }
-    ensures fed { result ≡ true → AreFed simulator.now.number upto feeds.new }
-    ensures readers { result ≡ true → readers_of feeds.new ≡ readers_of feeds.old }
-    ensures heard { result ≡ true → AreHeard simulator.now.number upto inlets.new }
-    ensures senders { result ≡ true → senders_of inlets.new ≡ senders_of inlets.old }
-    ensures given { result ≡ true → TellsThose (IsGiven T.run.design (driven_by T.run simulator.now.number))
-        (value T.run.design) simulator.now.engine.clock upto rooms.new.given.items }
-{
-    let Rooms { told, given, spare } = rooms;
-    let Ok(()) = simulator.tell_ahead::<T>(upto, told) else {
-        return false;
-    };
-    if !send_all(rt, pastime, alloc, simulator, upto, told, feeds, spare) {
-        return false;
-    }
-    receive_all(rt, pastime, simulator, upto, feeds, inlets, given, spare)
 }
 
 impl<'a, T: ShareRun> Station<'a, T> {
@@ -306,52 +301,36 @@ impl<'a, T: ShareRun> Station<'a, T> {
         Ok(())
     }
 
-    /// Goes on by a window: a turn of its process. A thread that has to wait goes on with a pastime. There is no
-    /// station any more where another one ended early or memory was refused.
-    pub(crate) fn step<W: Pastime, R: Wait>(self, rt: &R, pastime: &mut W) -> Option<Station<'a, T>>
+    /// Tells others ahead what crosses in the next window: the first half of a turn of its process. There is no station
+    /// any more where memory was refused or there was no room.
+    pub(crate) fn tell(self) -> Option<Told<'a, T>>
         requires covers { Covers T.run self.number self.senders }
         requires early { self.clock < T.run.windows.horizon }
-        ensures number { IfSome result (λ next. next.number ≡ self.entry.number) }
-        ensures senders { IfSome result (λ next. next.senders ≡ self.entry.senders) }
-        ensures turns { IfSome result (λ next. Turns T.run (member_of self.entry) (member_of next)) }
+        ensures { IfSome result (λ told. HasTold self.entry told) }
     {
         let Station {
             alloc,
             simulator,
-            mut inlets,
+            inlets,
             mut feeds,
-            mut text,
-            mut back,
+            text,
+            back,
             mut rooms,
         } = self;
-        let from = simulator.clock();
         let upto = simulator.next_end::<T>();
-        if !talk(
-            rt,
-            pastime,
-            alloc,
-            &simulator,
-            upto,
-            &mut feeds,
-            &mut inlets,
-            &mut rooms,
-        ) {
+        let Ok(()) = simulator.tell_ahead::<T>(upto, &mut rooms.told) else {
             drop((simulator, inlets, feeds, text, back, rooms));
-            return None;
-        }
-        let mut changes = room_of(alloc, &mut back);
-        let Ok(simulator) = simulator.advance::<T>(upto, &rooms.given, &mut changes) else {
-            drop((inlets, feeds, text, back, rooms, changes));
             return None;
         };
-        let envelope = simulator.envelope(simulator.shares, from, upto);
-        if !text.send(rt, Message::new(envelope, changes), pastime) {
+        let Rooms { told, spare, .. } = &mut rooms;
+        if !send_all(alloc, &simulator, upto, told, &mut feeds, spare) {
             drop((simulator, inlets, feeds, text, back, rooms));
             return None;
         }
-        Some(Station {
+        Some(Told {
             alloc,
             simulator,
+            upto,
             inlets,
             feeds,
             text,
@@ -365,5 +344,68 @@ impl<'a, T: ShareRun> Station<'a, T> {
         ensures { result ≡ false → self.now.clock < T.run.windows.horizon }
     {
         self.simulator.clock() >= self.simulator.windows.horizon()
+    }
+}
+
+impl<'a, T: ShareRun> Told<'a, T> {
+    /// Receives what others tell, and makes the window: the second half of a turn. There is no station any more where
+    /// a message hasn't come or memory was refused.
+    pub(crate) fn hear(self) -> Option<Station<'a, T>>
+        ensures covers { IfSome result (λ next. Covers T.run next.number next.senders) }
+        ensures turns { (before : Standing) → HasTold before self.entry
+            → IfSome result (λ next. Turns T.run (member_of before) (member_of next)) }
+    {
+        let Told {
+            alloc,
+            simulator,
+            upto,
+            mut inlets,
+            feeds,
+            mut text,
+            mut back,
+            mut rooms,
+        } = self;
+        let from = simulator.clock();
+        let Rooms { given, spare, .. } = &mut rooms;
+        if !receive_all(&simulator, upto, &feeds, &mut inlets, given, spare) {
+            drop((simulator, inlets, feeds, text, back, rooms));
+            return None;
+        }
+        let mut changes = room_of(alloc, &mut back);
+        let Ok(simulator) = simulator.advance::<T>(upto, &rooms.given, &mut changes) else {
+            drop((inlets, feeds, text, back, rooms, changes));
+            return None;
+        };
+        let envelope = simulator.envelope(simulator.shares, from, upto);
+        if !text.send(Message::new(envelope, changes)) {
+            drop((simulator, inlets, feeds, text, back, rooms));
+            return None;
+        }
+        Some(Station {
+            alloc,
+            simulator,
+            inlets,
+            feeds,
+            text,
+            back,
+            rooms,
+        })
+    }
+}
+
+impl<'a, T: ShareRun> Watched for Station<'a, T> {
+    // Whether there is room for what it tells others next.
+    fn look(&mut self) -> Next {
+        look_at(&mut self.feeds)
+    }
+}
+
+impl<'a, T: ShareRun> Watched for Told<'a, T> {
+    // Whether all messages have come that it receives next, and there is room for what it sends to the text.
+    fn look(&mut self) -> Next {
+        match self.text.look() {
+            Next::Come => look_at(&mut self.inlets),
+            other => other,
+        }
     }
 }

@@ -7,6 +7,7 @@ ghost use Rattle.cmb_shares.specs.Inner.Opened.{AreOpened, run_of};
 ghost use Rattle.cmb_shares.specs.Inner.Texts.{IsOf};
 ghost use Rattle.cmb_dump_stream.specs.Streams.{IsWrittenTo};
 
+use crate::berth::berths_of;
 use crate::desk::Desk;
 use crate::opening::Shares;
 use crate::part::{Part, parts_of};
@@ -24,8 +25,8 @@ use std::sync::{Mutex, Wait};
 use std::thread;
 use std::thread::{Scope, Threads};
 
-// Begins each part of a run in a thread of its own, for whose end the scope waits. Where a thread is refused its
-// channels are dropped, so the run ends, as it does where memory is refused.
+// Begins each part of a run in a thread of its own, for whose end the scope waits. Where a thread is refused others go
+// on with its share.
 fn start<'s, 'a: 's, E, T: ShareRun + Send + Sync + 's, R: Threads + Wait + Sync>(
     rt: &'s R,
     scope: &Scope<'s, E>,
@@ -97,9 +98,13 @@ fn write_named<'a, T: ShareRun + Send + Sync, R: Threads + Wait + Sync, S: Sink>
         drop((windows, stations, sources));
         return Err(WriteFault::Memory);
     };
+    let Ok(berths) = berths_of(alloc, stations) else {
+        drop((windows, sources));
+        return Err(WriteFault::Memory);
+    };
     let desk = Mutex::new(Desk::new(alloc, windows, sources));
     let shelf = Mutex::new(Vec::new(alloc));
-    let Ok(parts) = parts_of(alloc, design, shown, stations, &desk, &shelf) else {
+    let Ok(parts) = parts_of(alloc, design, shown, &berths, &desk, &shelf) else {
         return Err(WriteFault::Memory);
     };
     let desk_of_all = &desk;
@@ -126,8 +131,8 @@ fn write_named<'a, T: ShareRun + Send + Sync, R: Threads + Wait + Sync, S: Sink>
 /// Writes the VCD text of a design's run while it is made, of the nets that are shown, by a thread for each share of
 /// its nets, of which the calling one is one, and gives its length. Threads that wait make the text. It is the same
 /// however the nets were partitioned. What it needs of memory hardly grows with the horizon. Whatever the fault, the
-/// sink took a beginning of the text. A failed write is the answer then and only then; else memory or a thread was
-/// refused.
+/// sink took a beginning of the text. A failed write is the answer then and only then; else memory was refused. A
+/// thread that is refused is no fault: others go on with its share.
 pub fn write_shares<'a, R: Threads + Wait + Sync, S: Sink>(
     rt: &'a R,
     alloc: Global,

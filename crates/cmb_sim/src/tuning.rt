@@ -16,12 +16,12 @@ use std::thread::Threads;
 // takes longer than the engine takes for all nets.
 const MOST_BY_WORKERS: u64 = 262_144;
 
-// From so many threads on each may simulate a share of the nets.
-const LEAST_THREADS: u32 = 3;
-
 // So many samples the flip-flops take at least, where shares pay: it stands for how much changes in a run, and for how
 // many batches go through the shares.
 const LEAST_SAMPLES: u64 = 524_288;
+
+// So many times as many where there are two shares, which gain less on a team, and take longer to begin.
+const BY_TWO: u64 = 8;
 
 // So many nets a netlist has at least, where shares pay.
 const LEAST_NETS: usize = 2_048;
@@ -38,13 +38,9 @@ const MOST_SEEN: u32 = 25;
 // And in no less than the first of so many.
 const LEAST_SEEN: u32 = 50;
 
-// A run has so many threads for each processor at most. Shares wait for one another in each window, and the threads of
-// a team for one another's batches, so one that waits for a processor holds up all.
+// A run has so many threads for each processor at most. The threads of a team wait for one another's batches, so one
+// that waits for a processor holds up all; and of more shares than processors some would wait for others' threads.
 const PER_PROCESSOR: usize = 1;
-
-// So many processors are left to other programs where nets are shared out: each window waits for the last share, and so
-// for one that has no processor.
-const SPARE: u32 = 1;
 
 // So many shares there are at least.
 const LEAST_SHARES: u32 = 2;
@@ -81,9 +77,11 @@ fn sampling_of(design: &Design) -> Sampling {
     Sampling { flops, samples }
 }
 
-// Whether a run is so long, by what is known before it, that shares may pay.
-fn is_long(design: &Design, sampling: &Sampling) -> bool {
-    design.netlist().len() >= LEAST_NETS && sampling.samples >= LEAST_SAMPLES
+// Whether a run is so long, by what is known before it, that so many shares may pay.
+fn is_long(design: &Design, sampling: &Sampling, shares: u32) -> bool {
+    let times = if shares > 2 { 1 } else { BY_TWO };
+    let least = LEAST_SAMPLES.saturating_mul(times);
+    design.netlist().len() >= LEAST_NETS && sampling.samples >= least
 }
 
 // The tick up to which a run shows what nets cost.
@@ -155,12 +153,12 @@ pub(crate) fn partition_that_pays<R: Threads + Sync>(
     ensures partition { IfOk result (λ found. IfSome found (IsPartition design.now.netlist)) }
     ensures few { IfOk result (λ found. IfSome found (λ partition. length partition.shares.items ≤ threads)) }
 {
-    let sampling = sampling_of(design);
-    if threads < LEAST_THREADS || !is_long(design, &sampling) {
+    let shares = at_once(rt, threads);
+    if shares < LEAST_SHARES {
         return Ok(None);
     }
-    let shares = at_once(rt, threads.saturating_add(SPARE)).saturating_sub(SPARE);
-    if shares < LEAST_SHARES {
+    let sampling = sampling_of(design);
+    if !is_long(design, &sampling, shares) {
         return Ok(None);
     }
     let upto = seen_upto(design.horizon(), &sampling);

@@ -2,9 +2,7 @@
 #![tactic(auto)]
 
 pub mod idle;
-pub mod pastime;
 pub mod ring;
 
 pub use idle::Idle;
-pub use pastime::Pastime;
-pub use ring::{handed, handed_beside, taken, taken_beside};
+pub use ring::{handed, taken};

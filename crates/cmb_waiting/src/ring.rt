@@ -4,19 +4,9 @@ ghost use Rattle.std.specs.Prelude.{◌≡◌, [], ◌∷◌, ◌++◌, IsFalse,
 ghost use Rattle.rtrb.specs.Ring.{received, sent};
 
 use crate::idle::Idle;
-use crate::pastime::{Nothing, Pastime};
 use rtrb::{Consumer, Producer, Protocol, PushError};
 use std::alloc::Global;
 use std::sync::Wait;
-
-// Goes on with a pastime, or rests where there is nothing to do.
-fn pass_time<W: Pastime, R: Wait>(rt: &R, idle: &mut Idle, pastime: &mut W) {
-    if pastime.go_on(rt) {
-        idle.end();
-    } else {
-        idle.rest(rt);
-    }
-}
 
 /// Waits for what comes next on a ring. There is nothing once nobody passes anything on, and all that was passed on was
 /// taken.
@@ -24,20 +14,6 @@ pub fn taken<T: Drop, P: Protocol<T>, R: Wait>(
     rt: &R,
     idle: &mut Idle,
     inlet: &mut Consumer<T, Global, P>,
-) -> Option<T>
-    ensures taken { IfSome result (λ it. received inlet.new ≡ received inlet.old ++ it ∷ []) }
-    ensures allowed { IfSome result (λ it. P.allows (received inlet.old) it) }
-    ensures none { IfNone result (received inlet.new ≡ received inlet.old) }
-{
-    taken_beside(rt, idle, inlet, &mut Nothing)
-}
-
-/// The same, and goes on with a pastime meanwhile.
-pub fn taken_beside<T: Drop, P: Protocol<T>, W: Pastime, R: Wait>(
-    rt: &R,
-    idle: &mut Idle,
-    inlet: &mut Consumer<T, Global, P>,
-    pastime: &mut W,
 ) -> Option<T>
     ensures taken { IfSome result (λ it. received inlet.new ≡ received inlet.old ++ it ∷ []) }
     ensures allowed { IfSome result (λ it. P.allows (received inlet.old) it) }
@@ -53,7 +29,7 @@ pub fn taken_beside<T: Drop, P: Protocol<T>, W: Pastime, R: Wait>(
             // The last thing may have come just before.
             return inlet.pop().ok();
         }
-        pass_time(rt, idle, pastime);
+        idle.rest(rt);
     }
     unreachable!()
 }
@@ -64,21 +40,6 @@ pub fn handed<T: Drop, P: Protocol<T>, R: Wait>(
     idle: &mut Idle,
     outlet: &mut Producer<T, Global, P>,
     it: T,
-) -> bool
-    requires { P.allows (sent outlet.old) it }
-    ensures handed { IsTrue result → sent outlet.new ≡ sent outlet.old ++ it ∷ [] }
-    ensures kept { IsFalse result → sent outlet.new ≡ sent outlet.old }
-{
-    handed_beside(rt, idle, outlet, it, &mut Nothing)
-}
-
-/// The same, and goes on with a pastime meanwhile.
-pub fn handed_beside<T: Drop, P: Protocol<T>, W: Pastime, R: Wait>(
-    rt: &R,
-    idle: &mut Idle,
-    outlet: &mut Producer<T, Global, P>,
-    it: T,
-    pastime: &mut W,
 ) -> bool
     requires { P.allows (sent outlet.old) it }
     ensures handed { IsTrue result → sent outlet.new ≡ sent outlet.old ++ it ∷ [] }
@@ -95,7 +56,7 @@ pub fn handed_beside<T: Drop, P: Protocol<T>, W: Pastime, R: Wait>(
         if outlet.is_abandoned() {
             return false;
         }
-        pass_time(rt, idle, pastime);
+        idle.rest(rt);
     }
     unreachable!()
 }

@@ -6,7 +6,7 @@ use Rattle.cmb_words.specs.Changes.{IsStill, TellsNet, is_among}
 use Rattle.cmb_words.specs.declared.changed.Changed.{Changed}
 use Rattle.cmb_shares.specs.declared.message.Envelope.{Envelope}
 use Rattle.cmb_shares.specs.declared.simulator.Simulator.{Simulator}
-use Rattle.cmb_shares.specs.Inner.Runs.{Owns, Reads, Run, driven_by}
+use Rattle.cmb_shares.specs.Inner.Runs.{IsTurn, Owns, Reads, Run, driven_by}
 use Rattle.cmb_shares.specs.Inner.Simulators.{IsSimulator}
 
 -- the number of a share, the tick up to which it made windows, the shares that tell it of theirs, and the last messages of its channels
@@ -48,6 +48,27 @@ pub record IsStation (run : Run) (simulator : Simulator) (inlets feeds : List En
 -- the owner of each net that a share is given is among these
 abbrev pub Covers : Run → ℕ → List ℕ → Type 0
 Covers run number senders = (net : ℕ) → IsGiven run.design (driven_by run number) net → Contains senders (slice_index run.owners net)
+
+-- A share's engine in the midst of a window: others were told up to the window's end, and it was told up to the window's beginning by all
+-- owners of what it is given.
+pub record IsTold (run : Run) (simulator : Simulator) (upto : ℕ) (inlets feeds : List Envelope) (text : Envelope) : Type 0 where
+  pub simulates : IsSimulator run simulator
+  pub turn : IsTurn run simulator.engine.clock upto
+  pub heard : AreHeard simulator.number simulator.engine.clock inlets
+  pub covers : Covers run simulator.number (senders_of inlets)
+  pub fed : AreFed simulator.number upto feeds
+  pub sender : text.sender ≡ simulator.number
+  pub reader : text.reader ≡ length run.driven
+  pub told : text.upto ≡ simulator.engine.clock
+
+-- a station told others of its next window, and did nothing else
+pub record HasTold (before now : Standing) : Type 0 where
+  pub number : now.number ≡ before.number
+  pub clock : now.clock ≡ before.clock
+  pub inlets : now.inlets ≡ before.inlets
+  pub text : now.text ≡ before.text
+  pub readers : readers_of now.feeds ≡ readers_of before.feeds
+  pub fed : AreFed before.number before.clock before.feeds
 
 -- what these senders tell a reader of a window
 pub record AreHeardOf (run : Run) (reader from upto : ℕ) (senders : List ℕ) (changes : List Changed) : Type 0 where

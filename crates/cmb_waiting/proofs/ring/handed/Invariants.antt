@@ -1,6 +1,6 @@
 use Rattle.std.proofs.Common.{◌≡◌}
 use Rattle.rtrb.specs.Ring.{sent}
-use Rattle.cmb_waiting.proofs.ring.handed_beside.Given as goal
+use Rattle.cmb_waiting.proofs.ring.handed.Given as goal
 
 abbrev pub invariant-loop : goal.invariant-loop
 invariant-loop g l = record {
