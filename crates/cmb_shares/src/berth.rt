@@ -26,20 +26,35 @@ impl<'a, T: ShareRun> Model for Resting<'a, T> {
     ghost invariant = { λ resting. Covers T.run resting.station.number resting.station.senders };
 }
 
-/// A share between the visits of threads.
+/// Where in its turn a share's logical process is between the visits of threads.
 #[derive(Drop)]
-pub enum Share<'a, T: ShareRun> {
+pub enum Phase<'a, T: ShareRun> {
     /// It has still to tell others of the next window.
     Resting(Resting<'a, T>),
     /// It did so, and has still to make the window.
     Told(Told<'a, T>),
 }
 
+/// A share's logical process between the visits of threads.
+#[derive(Drop)]
+pub struct Process<'a, T: ShareRun> {
+    phase: Phase<'a, T>,
+}
+
+// Clauses see nothing of a process: what it makes stands in its type.
+impl<'a, T: ShareRun> Model for Process<'a, T> {
+    ghost use Rattle.std.specs.Prelude.{⊤, tt};
+
+    ghost Value = { ⊤ };
+
+    ghost view = { λ _. tt };
+}
+
 /// Where a share lies between the visits of threads. It is empty once all windows are made, or where memory was refused
 /// or another share ended early.
 #[derive(Drop)]
 pub struct Berth<'a, T: ShareRun> {
-    share: Option<Share<'a, T>>,
+    process: Option<Process<'a, T>>,
 }
 
 /// A berth for each share. Errors: memory was refused.
@@ -51,8 +66,10 @@ pub(crate) fn berths_of<'a, T: ShareRun>(
 {
     let mut berths = Vec::new(alloc);
     for station in stations {
-        let share = Some(Share::Resting(Resting { station }));
-        berths.push(Mutex::new(Berth { share }))?;
+        let process = Process::resting(station);
+        berths.push(Mutex::new(Berth {
+            process: Some(process),
+        }))?;
     }
     Ok(berths)
 }
@@ -68,7 +85,7 @@ impl<'a, T: ShareRun> Resting<'a, T> {
     }
 
     // Tells others of the next window, if there is one and where there is room.
-    fn go_on(self) -> Option<Share<'a, T>> {
+    fn go_on(self) -> Option<Phase<'a, T>> {
         let Resting { mut station } = self;
         if station.is_done() {
             drop(station);
@@ -76,10 +93,10 @@ impl<'a, T: ShareRun> Resting<'a, T> {
         }
         match station.look() {
             Next::Come => match station.tell() {
-                Some(told) => Some(Share::Told(told)),
+                Some(told) => Some(Phase::Told(told)),
                 None => None,
             },
-            Next::Awaited => Some(Share::Resting(Resting { station })),
+            Next::Awaited => Some(Phase::Resting(Resting { station })),
             Next::Never => {
                 drop(station);
                 None
@@ -88,27 +105,51 @@ impl<'a, T: ShareRun> Resting<'a, T> {
     }
 }
 
-// Makes a window of which others told, and tells of the next one.
-fn make_window<'a, T: ShareRun>(told: Told<'a, T>) -> Option<Share<'a, T>> {
+// Ends a turn: makes a window of which others told. Begins the next one, if there is room: tells others of it.
+fn end_turn<'a, T: ShareRun>(told: Told<'a, T>) -> Option<Phase<'a, T>> {
     let station = told.hear()?;
     Resting { station }.go_on()
 }
 
-impl<'a, T: ShareRun> Share<'a, T> {
+impl<'a, T: ShareRun> Phase<'a, T> {
     // Whether it can go on by a window.
     fn look(&mut self) -> Next {
         match self {
-            Share::Resting(resting) => resting.look(),
-            Share::Told(told) => told.look(),
+            Phase::Resting(resting) => resting.look(),
+            Phase::Told(told) => told.look(),
         }
     }
 
-    // Goes on by a window. There is no share any more once all windows are made, or where memory was refused, another
-    // share ended early, or it would have to wait.
-    fn go_on(self) -> Option<Share<'a, T>> {
+    // Goes on by a window. There is none any more once all windows are made, or where memory was refused, another share
+    // ended early, or it would have to wait.
+    fn go_on(self) -> Option<Phase<'a, T>> {
         match self {
-            Share::Resting(resting) => resting.go_on(),
-            Share::Told(told) => make_window(told),
+            Phase::Resting(resting) => resting.go_on(),
+            Phase::Told(told) => end_turn(told),
+        }
+    }
+}
+
+impl<'a, T: ShareRun> Process<'a, T> {
+    // That of a station that has still to tell others of its next window.
+    fn resting(station: Station<'a, T>) -> Process<'a, T>
+        requires { Covers T.run station.number station.senders }
+    {
+        Process {
+            phase: Phase::Resting(Resting { station }),
+        }
+    }
+
+    // Whether it can go on by a window.
+    fn look(&mut self) -> Next {
+        self.phase.look()
+    }
+
+    // Goes on by a window, as far as it can.
+    fn go_on(self) -> Option<Process<'a, T>> {
+        match self.phase.go_on() {
+            Some(phase) => Some(Process { phase }),
+            None => None,
         }
     }
 }
@@ -116,19 +157,19 @@ impl<'a, T: ShareRun> Share<'a, T> {
 impl<'a, T: ShareRun> Berth<'a, T> {
     // Whether the share that lies here can go on by a window.
     fn look(&mut self) -> Next {
-        match &mut self.share {
-            Some(share) => share.look(),
+        match &mut self.process {
+            Some(process) => process.look(),
             None => Next::Awaited,
         }
     }
 
     // Has the share go on by a window.
     fn make_window(&mut self) {
-        let Some(share) = self.share.take() else {
+        let Some(process) = self.process.take() else {
             return;
         };
-        if let Some(next) = share.go_on() {
-            self.share = Some(next);
+        if let Some(next) = process.go_on() {
+            self.process = Some(next);
         }
     }
 

@@ -6,7 +6,7 @@ ghost use Rattle.cmb_shares.specs.Inner.Runs.{subject_in};
 use crate::clerk::Shelf;
 use crate::share_run::ShareRun;
 use crate::stages::Text;
-use crate::worker::Worker;
+use crate::executor::Executor;
 use cmb_dump_stream::{TextBuffer, TextMaker};
 use std::alloc::AllocError;
 use std::marker::Model;
@@ -17,7 +17,7 @@ use std::sync::Wait;
 pub(crate) struct Flow<'a, 'd, T: ShareRun, R> {
     rt: &'d R,
     shelf: &'d Shelf<T>,
-    worker: Worker<'a, 'd, T>,
+    executor: Executor<'a, 'd, T>,
     /// The tick up to which texts were taken.
     clock: u32,
 }
@@ -48,7 +48,7 @@ impl<'a, 'd, T: ShareRun, R: Wait> Flow<'a, 'd, T, R> {
     pub(crate) fn new(
         rt: &'d R,
         shelf: &'d Shelf<T>,
-        worker: Worker<'a, 'd, T>,
+        executor: Executor<'a, 'd, T>,
     ) -> Flow<'a, 'd, T, R>
         ensures subject { result.subject ≡ subject_in T.run }
         ensures clock { result.clock ≡ 1 }
@@ -56,7 +56,7 @@ impl<'a, 'd, T: ShareRun, R: Wait> Flow<'a, 'd, T, R> {
         Flow {
             rt,
             shelf,
-            worker,
+            executor,
             clock: 1,
         }
     }
@@ -81,7 +81,7 @@ impl<'a, 'd, T: ShareRun, R: Wait> Flow<'a, 'd, T, R> {
             if let Some(text) = self.take_text(from) {
                 return Ok(text);
             }
-            if !self.worker.go_on(self.rt) {
+            if !self.executor.go_on(self.rt) {
                 return Err(AllocError);
             }
         }

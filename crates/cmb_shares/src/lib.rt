@@ -7,6 +7,7 @@ mod channel;
 mod clerk;
 pub mod costs;
 mod desk;
+mod executor;
 mod feeders;
 mod flow;
 mod gathered;
@@ -20,7 +21,6 @@ mod stages;
 mod station;
 mod stations;
 pub mod text;
-mod worker;
 
 pub use costs::costs_of;
 pub use opening::Shares;

@@ -10,7 +10,7 @@ use crate::desk::Desk;
 use crate::flow::Flow;
 use crate::share_run::ShareRun;
 use crate::stages::Free;
-use crate::worker::Worker;
+use crate::executor::Executor;
 use cmb_design_model::Design;
 use cmb_dump::Shown;
 use std::alloc::{AllocError, Global};
@@ -69,8 +69,8 @@ pub(crate) fn parts_of<'a, 'd, T: ShareRun>(
 }
 
 impl<'a, 'd, T: ShareRun> Part<'a, 'd, T> {
-    // Its worker. There is none where memory was refused.
-    fn open(self) -> Option<Worker<'a, 'd, T>> {
+    // Its executor. There is none where memory was refused.
+    fn open(self) -> Option<Executor<'a, 'd, T>> {
         let Part {
             alloc,
             design,
@@ -81,15 +81,15 @@ impl<'a, 'd, T: ShareRun> Part<'a, 'd, T> {
             home,
         } = self;
         match Free::open(alloc, design, shown) {
-            Ok(free) => Some(Worker::new(berths, home, Clerk::new(alloc, free, desk, shelf))),
+            Ok(free) => Some(Executor::new(berths, home, Clerk::new(alloc, free, desk, shelf))),
             Err(_) => None,
         }
     }
 
     /// Is at work until the run ends.
     pub(crate) fn run<R: Wait>(self, rt: &R) {
-        if let Some(mut worker) = self.open() {
-            worker.run(rt);
+        if let Some(mut executor) = self.open() {
+            executor.run(rt);
         }
     }
 
@@ -99,7 +99,7 @@ impl<'a, 'd, T: ShareRun> Part<'a, 'd, T> {
         ensures clock { IfSome result (λ flow. flow.clock ≡ 1) }
     {
         let shelf = self.shelf;
-        let worker = self.open()?;
-        Some(Flow::new(rt, shelf, worker))
+        let executor = self.open()?;
+        Some(Flow::new(rt, shelf, executor))
     }
 }

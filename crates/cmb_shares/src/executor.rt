@@ -8,11 +8,11 @@ use std::sync::{Mutex, Wait};
 
 // After so many looks in a row at which it found nothing to do, it goes on with others' shares: their threads may have
 // lost their processors. Before that it leaves them alone, since a share's words are in its own processor's cache.
-const LOYAL: u32 = 50;
+const LOYAL: u32 = 10;
 
 /// A thread at work.
 #[derive(Drop)]
-pub struct Worker<'a, 'd, T: ShareRun> {
+pub struct Executor<'a, 'd, T: ShareRun> {
     berths: &'d [Mutex<Berth<'a, T>>],
     /// The place of its own share.
     home: usize,
@@ -22,14 +22,14 @@ pub struct Worker<'a, 'd, T: ShareRun> {
     looks: u32,
 }
 
-impl<'a, 'd, T: ShareRun> Worker<'a, 'd, T> {
+impl<'a, 'd, T: ShareRun> Executor<'a, 'd, T> {
     /// One whose own share has this place.
     pub(crate) fn new(
         berths: &'d [Mutex<Berth<'a, T>>],
         home: usize,
         clerk: Clerk<'a, 'd, T>,
-    ) -> Worker<'a, 'd, T> {
-        Worker {
+    ) -> Executor<'a, 'd, T> {
+        Executor {
             berths,
             home,
             clerk,
