@@ -1,12 +1,19 @@
 -- What visits read, kept in three lists.
-use Rattle.std.proofs.Common.{◌≡◌, ℕ, ◌+◌, ◌<◌, ◌≤◌, List, [], ◌∷◌, ◌++◌, length, map, get_or, refl, ap, ap₂, sym, subst, ◌∙◌, arith}
+use Rattle.std.proofs.Common.{◌≡◌, ℕ, ◌+◌, ◌<◌, ◌≤◌, true, false, List, [], ◌∷◌, ◌++◌, length, map, get_or, refl, ap, ap₂, sym, subst, ◌∙◌, arith, if◌then◌else◌}
+use Rattle.std.specs.List.{All}
 use Rattle.std.proofs.lemmas.List.{get_or_append_left, get_or-append-add, get_or-map, length-map, map-append}
+use Rattle.std.proofs.lemmas.List.Elements.{All-cons, All-from_recursion, All-head, All-nil}
+use Rattle.cmb_wave.specs.declared.level.Level.{Level}
+use Rattle.cmb_netlist.specs.Kinds.{takes_one}
+use Rattle.cmb_netlist.specs.declared.netlist.Cell.TheVariants as driver
 use Rattle.cmb_netlist.specs.declared.netlist.Kind.{Kind}
+use Rattle.cmb_netlist.specs.declared.netlist.Kind.TheVariants as kinds
 use Rattle.cmb_design_model.specs.Gate.{gate}
 use Rattle.cmb_words.specs.Bits.{level_in}
 use Rattle.cmb_engine.specs.Inner.Cells.{Cell, Told, Gate, IsLawful, IsMade, Nodes, cell_at, cell_level, seen, with_node}
 use Rattle.cmb_engine.specs.Inner.Known.{known_levels}
-use Rattle.cmb_engine.specs.Inner.Nodes.{flop_of, node_cell, nodes_of, pin_of, AreInside, IsInside}
+use Rattle.cmb_engine.specs.Inner.Nodes.{flop_of, node_cell, nodes_of, pin_of, pins_in, AreInside, IsInside, IsTwice}
+use Rattle.cmb_engine.specs.Inner.Tables.{pins_at}
 use Rattle.cmb_engine.specs.declared.cell.Pin.{Pin}
 use Rattle.cmb_engine.specs.declared.cells.PinRange.{PinRange}
 use Rattle.cmb_engine.specs.declared.nodes.Node.{Node}
@@ -15,6 +22,32 @@ use Rattle.cmb_engine.specs.declared.nodes.NodeRule.TheVariants as rule
 use Rattle.cmb_engine.specs.declared.nodes.Sampler.{Sampler}
 use Rattle.cmb_engine.proofs.JoinFacts.{still}
 use Rattle.cmb_engine.proofs.TableFacts.{pins_at-behind}
+
+-- ---- the two places for pins
+
+-- what the pins of a gate have in common, both places have
+pub both-pins : (kind : Kind) (pin second : Pin) → IsTwice kind pin second → (P : Pin → Type 0) → All P (pins_in kind pin second) → All P (pin ∷ second ∷ [])
+both-pins kind pin second twice P all =
+    elim (takes_one (driver.Gate kind))
+    as (λ v. takes_one (driver.Gate kind) ≡ v → All P (if v then pin ∷ [] else pin ∷ second ∷ []) → All P (pin ∷ second ∷ [])) [
+      | true ↦ λ is one. let here = All-head P pin [] one in All-cons P pin (second ∷ []) here (All-cons P second [] (subst P (sym (twice is)) here) (All-nil P))
+      | false ↦ λ is two. two
+    ] refl all
+
+pub both-lawful : (nets most : ℕ) (kind : Kind) (pin second : Pin) → IsTwice kind pin second → IsLawful nets most (Gate kind (pins_in kind pin second)) → IsLawful nets most (Gate kind (pin ∷ second ∷ []))
+both-lawful nets most kind pin second twice h =
+    (omega arith, both-pins kind pin second twice (λ p. p.net < nets) h.1, both-pins kind pin second twice (λ p. p.delay ≤ most) h.2)
+
+-- a gate that takes one operand looks at the first of two
+pub both-seen : (kind : Kind) (see : Pin → Level) (pin second : Pin) → gate kind (map see (pin ∷ second ∷ [])) ≡ gate kind (map see (pins_in kind pin second))
+both-seen kinds.And see pin second = refl
+both-seen kinds.Nand see pin second = refl
+both-seen kinds.Or see pin second = refl
+both-seen kinds.Nor see pin second = refl
+both-seen kinds.Xor see pin second = refl
+both-seen kinds.Xnor see pin second = refl
+both-seen kinds.Not see pin second = refl
+both-seen kinds.Buff see pin second = refl
 
 -- ---- the node of a rank was read
 
@@ -35,9 +68,29 @@ module _ (pins : List Pin) (samplers : List Sampler) (nodes : List Node) (now : 
   single-read kind ticks net pin has one = node-read (rule.Single kind ticks net) has ∙ ap (λ (p : Pin). Gate kind (p ∷ [])) (sym one)
 
   pub double-read : (kind : Kind) (ticks later net other : ℕ) (pin second : Pin) → node.rule ≡ rule.Double kind ticks later net other → pin ≡ pin_of net ticks → second ≡ pin_of other later
-      → cell_at now.cells rank ≡ Gate kind (pin ∷ second ∷ [])
+      → cell_at now.cells rank ≡ Gate kind (pins_in kind pin second)
   double-read kind ticks later net other pin second has one two =
-      node-read (rule.Double kind ticks later net other) has ∙ ap₂ (λ (p q : Pin). Gate kind (p ∷ q ∷ [])) (sym one) (sym two)
+      node-read (rule.Double kind ticks later net other) has ∙ ap₂ (λ (p q : Pin). Gate kind (pins_in kind p q)) (sym one) (sym two)
+
+  pub double-lawful : AreInside pins samplers nodes → (nets most : ℕ) (kind : Kind) (ticks later net other : ℕ) (pin second : Pin) → node.rule ≡ rule.Double kind ticks later net other → pin ≡ pin_of net ticks → second ≡ pin_of other later
+      → IsLawful nets most (cell_at now.cells rank) → IsLawful nets most (Gate kind (pin ∷ second ∷ []))
+  double-lawful inside nets most kind ticks later net other pin second has one two lawful =
+      both-lawful nets most kind pin second twice (subst (λ (cell : Cell). IsLawful nets most cell) (double-read kind ticks later net other pin second has one two) lawful)
+    where
+      here : IsInside pins samplers node.rule
+      here = subst (λ (n : Node). IsInside pins samplers n.rule) (sym read) (All-from_recursion (λ (n : Node). IsInside pins samplers n.rule) nodes inside rank node rank-inside)
+
+      twice : IsTwice kind pin second
+      twice = subst (λ (p : Pin). IsTwice kind p second) (sym one) (subst (λ (q : Pin). IsTwice kind (pin_of net ticks) q) (sym two) (subst (IsInside pins samplers) has here))
+
+  pub double-within : AreInside pins samplers nodes → (nets most : ℕ) (kind : Kind) (ticks later net other : ℕ) (pin second : Pin) → node.rule ≡ rule.Double kind ticks later net other → pin ≡ pin_of net ticks → second ≡ pin_of other later
+      → IsLawful nets most (cell_at now.cells rank) → most < 64 → (pin.net < nets) × (pin.delay < 64) × (second.net < nets) × (second.delay < 64)
+  double-within inside nets most kind ticks later net other pin second has one two lawful short =
+      let h = double-lawful inside nets most kind ticks later net other pin second has one two lawful in
+      (h.1 0 pin (omega arith), omega (arith, h.2 0 pin (omega arith), short), h.1 1 pin (omega arith), omega (arith, h.2 1 pin (omega arith), short))
+
+  pub gate-lawful : (nets most : ℕ) (kind : Kind) (part : PinRange) → node.rule ≡ rule.Gate kind part → IsLawful nets most (cell_at now.cells rank) → IsLawful nets most (Gate kind (pins_at pins part))
+  gate-lawful nets most kind part has = subst (λ (cell : Cell). IsLawful nets most cell) (node-read (rule.Gate kind part) has)
 
 -- ---- one more node
 
@@ -93,14 +146,14 @@ gate_nodes xs ys samplers nodes slot kind part h first count =
     nodes_more xs (xs ++ ys) samplers samplers (pins_more xs ys samplers) nodes (record { slot = slot; rule = rule.Gate kind part }) h
     ∙ ap (λ (pins : List Pin). with_node (nodes_of xs samplers nodes) slot (Gate kind pins)) (pins_at-behind xs ys part first count)
 
--- what stands from a place on in the word of a gate with two pins is what its cell makes
+-- what stands from a place on in the word of a gate with two places for pins is what its cell makes
 pub double-made : (cells : List Cell) (rank : ℕ) (kind : Kind) (pin second : Pin) (ones : List ℕ) (made result to first : ℕ)
-    → cell_at cells rank ≡ Gate kind (pin ∷ second ∷ []) → IsLawful (length ones) first (cell_at cells rank)
+    → cell_at cells rank ≡ Gate kind (pins_in kind pin second) → IsLawful (length ones) first (Gate kind (pin ∷ second ∷ []))
     → ((place : ℕ) → first ≤ place → place < 64 → level_in result 0 place ≡ level_in made 0 place)
     → ((place : ℕ) → pin.delay ≤ place → second.delay ≤ place → place < 64 → level_in made 0 place ≡ gate kind (map (seen (known_levels ones) place) (pin ∷ second ∷ [])))
     → IsMade (known_levels ones) (level_in result 0) to first (cell_at cells rank)
-double-made cells rank kind pin second ones made result to first cell lawful spliced is place from small =
-    let both : IsLawful (length ones) first (Gate kind (pin ∷ second ∷ [])) = subst (λ (cell : Cell). IsLawful (length ones) first cell) cell lawful in
+double-made cells rank kind pin second ones made result to first cell both spliced is place from small =
     spliced place from small
     ∙ is place (omega (arith, both.2 0 pin (omega arith), from)) (omega (arith, both.2 1 pin (omega arith), from)) small
+    ∙ both-seen kind (seen (known_levels ones) place) pin second
     ∙ ap (λ (cell : Cell). cell_level (known_levels ones) (level_in result 0) to cell place) (sym cell)

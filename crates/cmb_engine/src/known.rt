@@ -139,7 +139,9 @@ pub(crate) fn known_flop(
 
 /// Makes the words of a batch of slots from a place on, and says at which places there is another word than before.
 ///
-/// Most slots of a batch are of one level, so none waits for what another one stores.
+/// Most slots of a batch are of one level, so none waits for what another one stores. This stands out of line, so that
+/// the loop keeps its values in registers.
+#[inline(never)]
 pub(crate) fn make_known(
     nodes: &Nodes,
     ones: &mut [u64],

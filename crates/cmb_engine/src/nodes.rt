@@ -18,7 +18,7 @@ use crate::known::{known_double, known_flop, known_gate, known_single, spliced_o
 use crate::visit::{double_word, flop_word, gate_word, single_word};
 use crate::words::Words;
 use cmb_design_model::Clock;
-use cmb_netlist::Kind;
+use cmb_netlist::{Cell, Kind, takes_one};
 use cmb_words::{Word, spliced};
 use std::alloc::{AllocError, Global};
 use std::marker::Model;
@@ -68,20 +68,40 @@ fn short(pin: Pin) -> Option<u8>
     }
 }
 
+// The rule of a gate that has its one pin in itself, where that is of few ticks. If no gate of its kind has two pins it
+// has it twice: so visits seldom meet another rule than that of two pins.
+fn rule_of_one(kind: Kind, pin: Pin) -> Option<NodeRule>
+    ensures inside { IfSome result (IsInside [] []) }
+    ensures cell { IfSome result (λ rule. node_cell [] [] rule ≡ Gate kind (pin ∷ [])) }
+{
+    let delay = short(pin)?;
+    if takes_one(Cell::Gate(kind)) {
+        Some(NodeRule::Double(kind, delay, delay, pin.net, pin.net))
+    } else {
+        Some(NodeRule::Single(kind, delay, pin.net))
+    }
+}
+
+// The rule of a gate that has its two pins in itself, where they are of few ticks.
+fn rule_of_two(kind: Kind, pin: Pin, other: Pin) -> Option<NodeRule>
+    ensures inside { IfSome result (IsInside [] []) }
+    ensures cell { IfSome result (λ rule. node_cell [] [] rule ≡ Gate kind (pin ∷ other ∷ [])) }
+{
+    if takes_one(Cell::Gate(kind)) {
+        return None;
+    }
+    let (delay, later) = (short(pin)?, short(other)?);
+    Some(NodeRule::Double(kind, delay, later, pin.net, other.net))
+}
+
 // The rule of a gate that has its pins in itself, where there are one or two, of few ticks.
 fn own_rule(kind: Kind, pins: &[Pin]) -> Option<NodeRule>
     ensures inside { IfSome result (IsInside [] []) }
     ensures cell { IfSome result (λ rule. node_cell [] [] rule ≡ Gate kind pins.now) }
 {
     match pins {
-        [pin] => Some(NodeRule::Single(kind, short(*pin)?, pin.net)),
-        [pin, other] => Some(NodeRule::Double(
-            kind,
-            short(*pin)?,
-            short(*other)?,
-            pin.net,
-            other.net,
-        )),
+        [pin] => rule_of_one(kind, *pin),
+        [pin, other] => rule_of_two(kind, *pin, *other),
         _ => None,
     }
 }

@@ -1,8 +1,11 @@
-use Rattle.std.proofs.Common.{◌≡◌, [], ◌∷◌, length, sym, ap, subst, ◌∙◌, arith}
+use Rattle.std.proofs.Common.{◌≡◌, ◌+◌, ◌-◌, ◌<◌, ◌≤◌, List, [], ◌∷◌, drop, length, sym, ap, subst, take, ◌∙◌, arith}
+use Rattle.std.specs.List.{All}
 use Rattle.cmb_words.specs.Bits.{level_in}
 use Rattle.cmb_engine.specs.Inner.Cells.{Cell, Gate, IsLawful, cell_at, cell_level}
 use Rattle.cmb_engine.specs.Inner.Known.{known_levels}
-use Rattle.cmb_engine.proofs.NodeFacts.{double-made, double-read, single-read}
+use Rattle.cmb_engine.specs.Inner.Tables.{pins_at}
+use Rattle.cmb_engine.specs.declared.cell.Pin.{Pin}
+use Rattle.cmb_engine.proofs.NodeFacts.{gate-lawful, double-within, double-lawful, double-made, double-read, single-read}
 use Rattle.cmb_engine.proofs.nodes.Nodes.any_known_word.Goals as goal
 
 pub returns-in-Single-clause-made : goal.returns-in-Single-clause-made
@@ -26,4 +29,60 @@ returns-in-Double-clause-made c =
     double-made c.args.self.now.cells c.args.rank c.in-Double.kind pin second c.args.ones.now c.known_double-made.result c.spliced_ones-in-Double.result c.args.to c.args.first
     (double-read inside.pins.items inside.samplers.items inside.nodes.items c.args.self.now c.self.view_is c.args.rank c.requires.rank c.index.result.now c.index.ensures
     c.in-Double.kind c.in-Double.delay c.in-Double.later c.in-Double.net c.in-Double.other pin second c.in-Double.is c.pin_at-in-Double.ensures c.pin_at-in-Double-2.ensures)
-    c.requires.cell c.spliced_ones-in-Double.ensures.from c.known_double-made.ensures
+    (double-lawful inside.pins.items inside.samplers.items inside.nodes.items c.args.self.now c.self.view_is c.args.rank c.requires.rank c.index.result.now c.index.ensures c.self.invariant
+    (length c.args.ones.now) c.args.first c.in-Double.kind c.in-Double.delay c.in-Double.later c.in-Double.net c.in-Double.other pin second c.in-Double.is c.pin_at-in-Double.ensures c.pin_at-in-Double-2.ensures c.requires.cell)
+    c.spliced_ones-in-Double.ensures.from c.known_double-made.ensures
+
+pub known_double-made-requires-clause-net : goal.known_double-made-requires-clause-net
+known_double-made-requires-clause-net c =
+    let inside = c.self.inside in
+    (double-within inside.pins.items inside.samplers.items inside.nodes.items c.args.self.now c.self.view_is c.args.rank c.requires.rank c.index.result.now c.index.ensures c.self.invariant
+    (length c.args.ones.now) c.args.first c.in-Double.kind c.in-Double.delay c.in-Double.later c.in-Double.net c.in-Double.other c.pin_at-in-Double.result c.pin_at-in-Double-2.result c.in-Double.is c.pin_at-in-Double.ensures
+    c.pin_at-in-Double-2.ensures c.requires.cell c.requires.window.1).0
+
+pub known_double-made-requires-clause-delay : goal.known_double-made-requires-clause-delay
+known_double-made-requires-clause-delay c =
+    let inside = c.self.inside in
+    (double-within inside.pins.items inside.samplers.items inside.nodes.items c.args.self.now c.self.view_is c.args.rank c.requires.rank c.index.result.now c.index.ensures c.self.invariant
+    (length c.args.ones.now) c.args.first c.in-Double.kind c.in-Double.delay c.in-Double.later c.in-Double.net c.in-Double.other c.pin_at-in-Double.result c.pin_at-in-Double-2.result c.in-Double.is c.pin_at-in-Double.ensures
+    c.pin_at-in-Double-2.ensures c.requires.cell c.requires.window.1).1
+
+pub known_double-made-requires-clause-other_net : goal.known_double-made-requires-clause-other_net
+known_double-made-requires-clause-other_net c =
+    let inside = c.self.inside in
+    (double-within inside.pins.items inside.samplers.items inside.nodes.items c.args.self.now c.self.view_is c.args.rank c.requires.rank c.index.result.now c.index.ensures c.self.invariant
+    (length c.args.ones.now) c.args.first c.in-Double.kind c.in-Double.delay c.in-Double.later c.in-Double.net c.in-Double.other c.pin_at-in-Double.result c.pin_at-in-Double-2.result c.in-Double.is c.pin_at-in-Double.ensures
+    c.pin_at-in-Double-2.ensures c.requires.cell c.requires.window.1).2
+
+pub known_double-made-requires-clause-other_delay : goal.known_double-made-requires-clause-other_delay
+known_double-made-requires-clause-other_delay c =
+    let inside = c.self.inside in
+    (double-within inside.pins.items inside.samplers.items inside.nodes.items c.args.self.now c.self.view_is c.args.rank c.requires.rank c.index.result.now c.index.ensures c.self.invariant
+    (length c.args.ones.now) c.args.first c.in-Double.kind c.in-Double.delay c.in-Double.later c.in-Double.net c.in-Double.other c.pin_at-in-Double.result c.pin_at-in-Double-2.result c.in-Double.is c.pin_at-in-Double.ensures
+    c.pin_at-in-Double-2.ensures c.requires.cell c.requires.window.1).3
+
+pub known_gate-requires-clause-nets : goal.known_gate-requires-clause-nets
+known_gate-requires-clause-nets c =
+    let inside = c.self.inside in
+    let part = c.in-Gate.part in
+    let listed = c.deref.result.now in
+    let count : part.first + part.count - part.first ≡ part.count = omega arith in
+    let here : take (part.first + part.count - part.first) (drop part.first listed) ≡ pins_at inside.pins.items part =
+    ap (λ n. take n (drop part.first listed)) count ∙ ap (λ (ps : List Pin). pins_at ps part) c.deref.ensures.value in
+    let lawful : IsLawful (length c.args.ones.now) c.args.first (Gate c.in-Gate.kind (pins_at inside.pins.items part)) =
+    gate-lawful inside.pins.items inside.samplers.items inside.nodes.items c.args.self.now c.self.view_is c.args.rank c.requires.rank c.index.result.now c.index.ensures
+    (length c.args.ones.now) c.args.first c.in-Gate.kind part c.in-Gate.is c.requires.cell in
+    subst (All (λ (p : Pin). p.net < length c.args.ones.now)) (sym here) lawful.1
+
+pub known_gate-requires-clause-within : goal.known_gate-requires-clause-within
+known_gate-requires-clause-within c =
+    let inside = c.self.inside in
+    let part = c.in-Gate.part in
+    let listed = c.deref.result.now in
+    let count : part.first + part.count - part.first ≡ part.count = omega arith in
+    let here : take (part.first + part.count - part.first) (drop part.first listed) ≡ pins_at inside.pins.items part =
+    ap (λ n. take n (drop part.first listed)) count ∙ ap (λ (ps : List Pin). pins_at ps part) c.deref.ensures.value in
+    let lawful : IsLawful (length c.args.ones.now) c.args.first (Gate c.in-Gate.kind (pins_at inside.pins.items part)) =
+    gate-lawful inside.pins.items inside.samplers.items inside.nodes.items c.args.self.now c.self.view_is c.args.rank c.requires.rank c.index.result.now c.index.ensures
+    (length c.args.ones.now) c.args.first c.in-Gate.kind part c.in-Gate.is c.requires.cell in
+    subst (All (λ (p : Pin). p.delay ≤ c.args.first)) (sym here) lawful.2
