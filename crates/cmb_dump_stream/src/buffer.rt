@@ -13,6 +13,7 @@ use cmb_dump::{Dump, Shown};
 use cmb_io::{Sink, WriteFault, write_whole};
 use std::alloc::{AllocError, Global};
 use std::marker::Model;
+use std::mem::swap;
 
 /// The text of a design's run, of all nets or of chosen ones, as far as it was made. Of that a front was handed on, and
 /// the rest is kept.
@@ -109,6 +110,25 @@ impl<'a> TextBuffer<'a> {
             return Ok(());
         }
         self.grow(dump.text(), upto)
+    }
+
+    /// Adds a text of the ticks from the clock on below `upto`. Where nothing is kept the text is taken, and room is left
+    /// in its place; else it is copied.
+    pub fn take_text(&mut self, text: &mut Vec<u8>, upto: u32) -> Result<(), AllocError>
+        requires order { self.old.clock ≤ upto }
+        requires within { upto ≤ self.old.subject.design.horizon }
+        requires text { made_text self.old.subject upto
+            ≡ made_text self.old.subject self.old.clock ++ text.old.items }
+        ensures clock { OnOk result (self.new.clock ≡ upto) }
+        ensures subject { self.new.subject ≡ self.old.subject }
+        ensures given { self.new.given ≡ self.old.given }
+    {
+        if self.text.is_empty() {
+            swap(&mut self.text, text);
+            self.clock = upto;
+            return Ok(());
+        }
+        self.grow(text, upto)
     }
 
     /// How many bytes are kept: those that were made and not handed on.

@@ -4,9 +4,9 @@ ghost use Rattle.std.specs.Prelude.{◌≡◌, IfOk, IfSome};
 ghost use Rattle.cmb_shares.specs.Inner.Runs.{subject_in};
 
 use crate::clerk::Shelf;
+use crate::executor::Executor;
 use crate::share_run::ShareRun;
 use crate::stages::Text;
-use crate::executor::Executor;
 use cmb_dump_stream::{TextBuffer, TextMaker};
 use std::alloc::AllocError;
 use std::marker::Model;
@@ -98,7 +98,8 @@ impl<'a, 'd, T: ShareRun, R: Wait> TextMaker for Flow<'a, 'd, T, R> {
             drop(self);
             return Err(AllocError);
         };
-        self.clock = text.upto;
-        kept.grow(&text.text, text.upto).and(Ok(self))
+        let Text { upto, mut text, .. } = text;
+        self.clock = upto;
+        kept.take_text(&mut text, upto).and(Ok(self))
     }
 }
