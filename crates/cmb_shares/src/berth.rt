@@ -43,7 +43,7 @@ pub struct Process<'a, T: ShareRun> {
 
 // Clauses see nothing of a process: what it makes stands in its type.
 impl<'a, T: ShareRun> Model for Process<'a, T> {
-    ghost use Rattle.std.specs.Prelude.{⊤, tt};
+    ghost use Rattle.std.specs.Prelude.{⊤};
 
     ghost Value = { ⊤ };
 

@@ -3,7 +3,7 @@
 use crate::desk::{Desk, Job};
 use crate::message::Message;
 use crate::share_run::ShareRun;
-use crate::stages::{Free, Stage, Text};
+use crate::stages::{Draft, Free, Text};
 use std::alloc::{AllocError, Global};
 use std::sync::{Mutex, Wait};
 
@@ -20,8 +20,8 @@ pub struct Clerk<'a, 'd, T: ShareRun> {
     alloc: Global,
     desk: &'d Mutex<Desk<T>>,
     shelf: &'d Shelf<T>,
-    /// How far the text is that it makes. There is none once memory was refused or the desk was closed.
-    stage: Option<Stage<'a, T>>,
+    /// The text that it is at. There is none once memory was refused or the desk was closed.
+    draft: Option<Draft<'a, T>>,
     /// Messages whose room goes back.
     spent: Vec<Message<T>>,
     looks: u32,
@@ -39,7 +39,7 @@ impl<'a, 'd, T: ShareRun> Clerk<'a, 'd, T> {
             alloc,
             desk,
             shelf,
-            stage: Some(Stage::Free(free)),
+            draft: Some(Draft::new(free)),
             spent: Vec::new(alloc),
             looks: 0,
         }
@@ -47,14 +47,14 @@ impl<'a, 'd, T: ShareRun> Clerk<'a, 'd, T> {
 
     /// Whether it can make text.
     pub(crate) fn is_able(&self) -> bool {
-        self.stage.is_some()
+        self.draft.is_some()
     }
 
     // Whether it is at the text of a window.
     fn is_busy(&self) -> bool {
-        match &self.stage {
-            None | Some(Stage::Free(_)) => false,
-            Some(_) => true,
+        match &self.draft {
+            Some(draft) => draft.is_begun(),
+            None => false,
         }
     }
 
@@ -72,42 +72,45 @@ impl<'a, 'd, T: ShareRun> Clerk<'a, 'd, T> {
         }
     }
 
-    // Takes the next window, if it has come. Says whether it did so.
-    fn begin(&mut self, free: Free<'a, T>) -> Result<bool, AllocError> {
-        match self.take_job() {
-            Ok(Some(job)) => {
-                self.stage = Some(free.begin(job));
-                Ok(true)
-            }
-            Ok(None) => {
-                self.stage = Some(Stage::Free(free));
-                Ok(false)
-            }
-            Err(error) => {
-                drop(free);
-                Err(error)
-            }
+    // The text that it is at. Errors: memory was refused before, or the desk was closed.
+    fn take_draft(&mut self) -> Result<Draft<'a, T>, AllocError> {
+        match self.draft.take() {
+            Some(draft) => Ok(draft),
+            None => Err(AllocError),
+        }
+    }
+
+    // Takes the next window, if it has come. Says whether it did so. Errors: the desk is closed.
+    fn begin(&mut self) -> Result<bool, AllocError> {
+        let Some(job) = self.take_job()? else {
+            return Ok(false);
+        };
+        let draft = self.take_draft()?;
+        let Some(begun) = draft.begin(job) else {
+            return Err(AllocError);
+        };
+        self.draft = Some(begun);
+        Ok(true)
+    }
+
+    // Goes on by a piece with the text that it is at. Errors: memory was refused.
+    fn write<R: Wait>(&mut self, rt: &R) -> Result<(), AllocError> {
+        let draft = self.take_draft()?;
+        let (draft, text) = draft.go_on(self.alloc, &mut self.spent)?;
+        self.draft = Some(draft);
+        match text {
+            Some(text) => self.shelf.lock(rt).push(text),
+            None => Ok(()),
         }
     }
 
     // Goes on by a piece. Says whether there was one. Errors: the desk is closed, or memory was refused.
     fn step<R: Wait>(&mut self, rt: &R) -> Result<bool, AllocError> {
-        let Some(stage) = self.stage.take() else {
-            return Err(AllocError);
-        };
-        match stage {
-            Stage::Free(free) => return self.begin(free),
-            Stage::Gathering(it) => self.stage = Some(it.go_on(&mut self.spent)),
-            Stage::Taking(it) => self.stage = Some(it.go_on()?),
-            Stage::Writing(it) => {
-                let (stage, text) = it.go_on(self.alloc)?;
-                self.stage = Some(stage);
-                if let Some(text) = text {
-                    self.shelf.lock(rt).push(text)?;
-                }
-            }
+        if self.is_busy() {
+            self.write(rt).and(Ok(true))
+        } else {
+            self.begin()
         }
-        Ok(true)
     }
 
     /// Goes on by a piece with the text that it is at, if any: those behind it wait for it, even if its thread never
@@ -127,7 +130,7 @@ impl<'a, 'd, T: ShareRun> Clerk<'a, 'd, T> {
         match self.step(rt) {
             Ok(has_worked) => has_worked,
             Err(_) => {
-                self.stage = None;
+                self.draft = None;
                 self.desk.lock(rt).close();
                 false
             }

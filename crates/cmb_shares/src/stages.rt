@@ -88,6 +88,21 @@ pub enum Stage<'a, T: ShareRun> {
     Writing(Writing<'a, T>),
 }
 
+/// The text of a window that a thread is at, if any.
+#[derive(Drop)]
+pub struct Draft<'a, T: ShareRun> {
+    stage: Stage<'a, T>,
+}
+
+// Clauses see nothing of a draft: what it has stands in its type.
+impl<'a, T: ShareRun> Model for Draft<'a, T> {
+    ghost use Rattle.std.specs.Prelude.{⊤};
+
+    ghost Value = { ⊤ };
+
+    ghost view = { λ _. tt };
+}
+
 /// The text of a window of the run that `T` names.
 #[derive(Drop)]
 pub struct Text<T: ShareRun> {
@@ -257,5 +272,58 @@ impl<'a, T: ShareRun> Writing<'a, T> {
             run: PhantomData,
         };
         Ok((stage, Some(text)))
+    }
+}
+
+impl<'a, T: ShareRun> Stage<'a, T> {
+    // Goes on by a piece, if a text was begun. Behind the last piece it gives the text. Errors: memory was refused.
+    fn go_on(
+        self,
+        alloc: Global,
+        spent: &mut Vec<Message<T>>,
+    ) -> Result<(Stage<'a, T>, Option<Text<T>>), AllocError> {
+        match self {
+            Stage::Free(it) => Ok((Stage::Free(it), None)),
+            Stage::Gathering(it) => Ok((it.go_on(spent), None)),
+            Stage::Taking(it) => Ok((it.go_on()?, None)),
+            Stage::Writing(it) => it.go_on(alloc),
+        }
+    }
+}
+
+impl<'a, T: ShareRun> Draft<'a, T> {
+    /// None is begun.
+    pub(crate) fn new(free: Free<'a, T>) -> Draft<'a, T> {
+        Draft {
+            stage: Stage::Free(free),
+        }
+    }
+
+    /// Whether one is begun.
+    pub(crate) fn is_begun(&self) -> bool {
+        match &self.stage {
+            Stage::Free(_) => false,
+            Stage::Gathering(_) | Stage::Taking(_) | Stage::Writing(_) => true,
+        }
+    }
+
+    /// Begins the text of a window, unless one is begun.
+    pub(crate) fn begin(self, job: Job<T>) -> Option<Draft<'a, T>> {
+        match self.stage {
+            Stage::Free(free) => Some(Draft {
+                stage: free.begin(job),
+            }),
+            Stage::Gathering(_) | Stage::Taking(_) | Stage::Writing(_) => None,
+        }
+    }
+
+    /// Goes on by a piece, if a text was begun. Behind the last piece it gives the text. Errors: memory was refused.
+    pub(crate) fn go_on(
+        self,
+        alloc: Global,
+        spent: &mut Vec<Message<T>>,
+    ) -> Result<(Draft<'a, T>, Option<Text<T>>), AllocError> {
+        let (stage, text) = self.stage.go_on(alloc, spent)?;
+        Ok((Draft { stage }, text))
     }
 }
