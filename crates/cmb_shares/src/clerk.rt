@@ -98,10 +98,10 @@ impl<'a, 'd, T: ShareRun> Clerk<'a, 'd, T> {
         let draft = self.take_draft()?;
         let (draft, text) = draft.go_on(self.alloc, &mut self.spent)?;
         self.draft = Some(draft);
-        match text {
-            Some(text) => self.shelf.lock(rt).push(text),
-            None => Ok(()),
+        if let Some(text) = text {
+            self.shelf.lock(rt).push(text)?;
         }
+        Ok(())
     }
 
     // Goes on by a piece. Says whether there was one. Errors: the desk is closed, or memory was refused.
