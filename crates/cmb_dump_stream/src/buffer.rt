@@ -79,8 +79,8 @@ impl<'a> TextBuffer<'a> {
         self.clock
     }
 
-    /// Adds the text of the ticks from the clock on below `upto`. Where memory runs out nothing changes.
-    pub fn grow(&mut self, text: &[u8], upto: u32) -> Result<(), AllocError>
+    // Adds a copy of the text of the ticks from the clock on below `upto`. Where memory runs out nothing changes.
+    fn grow(&mut self, text: &[u8], upto: u32) -> Result<(), AllocError>
         requires order { self.old.clock ≤ upto }
         requires within { upto ≤ self.old.subject.design.horizon }
         requires text { made_text self.old.subject upto ≡ made_text self.old.subject self.old.clock ++ text.now }

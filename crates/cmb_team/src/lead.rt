@@ -56,14 +56,14 @@ impl<'a, T: TeamRun, R: Wait> Lead<'a, T, R> {
         ensures given { OnOk result (kept.new.given ≡ kept.old.given) }
         ensures later { OnOk result (kept.old.clock < kept.new.clock) }
     {
-        let MadeText { job, .. } = self.texts.next(self.rt)?;
+        let MadeText { mut job, .. } = self.texts.next(self.rt)?;
         let batch = &job.batch;
         if batch.clock(0) != kept.clock() {
             drop(job);
             return Err(AllocError);
         }
         let upto = batch.clock(batch.len());
-        let grown = kept.grow(&job.text, upto);
+        let grown = kept.take_text(&mut job.text, upto);
         // Where nobody takes it any more it is dropped.
         drop(self.back.push(job));
         grown?;
