@@ -112,23 +112,22 @@ impl<'a> TextBuffer<'a> {
         self.grow(dump.text(), upto)
     }
 
-    /// Adds a text of the ticks from the clock on below `upto`. Where nothing is kept the text is taken, and room is left
-    /// in its place; else it is copied.
-    pub fn take_text(&mut self, text: &mut Vec<u8>, upto: u32) -> Result<(), AllocError>
-        requires order { self.old.clock ≤ upto }
-        requires within { upto ≤ self.old.subject.design.horizon }
-        requires text { made_text self.old.subject upto
-            ≡ made_text self.old.subject self.old.clock ++ text.old.items }
-        ensures clock { OnOk result (self.new.clock ≡ upto) }
+    /// Adds a text of the ticks from the clock on below `end`. Where nothing is kept the text is taken, and room is left in
+    /// its place; else it is copied.
+    pub fn take_text(&mut self, text: &mut Vec<u8>, end: u32) -> Result<(), AllocError>
+        requires order { self.old.clock ≤ end }
+        requires within { end ≤ self.old.subject.design.horizon }
+        requires text { made_text self.old.subject end ≡ made_text self.old.subject self.old.clock ++ text.old.items }
+        ensures clock { OnOk result (self.new.clock ≡ end) }
         ensures subject { self.new.subject ≡ self.old.subject }
         ensures given { self.new.given ≡ self.old.given }
     {
-        if self.text.is_empty() {
-            swap(&mut self.text, text);
-            self.clock = upto;
-            return Ok(());
+        if !self.text.is_empty() {
+            return self.grow(text, end);
         }
-        self.grow(text, upto)
+        swap(&mut self.text, text);
+        self.clock = end;
+        Ok(())
     }
 
     /// How many bytes are kept: those that were made and not handed on.
