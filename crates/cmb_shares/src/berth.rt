@@ -8,6 +8,7 @@ use crate::share_run::ShareRun;
 use crate::station::{Station, Told};
 use std::alloc::{AllocError, Global};
 use std::marker::Model;
+use std::mem::replace;
 use std::sync::Mutex;
 
 /// A share that made its windows up to a tick, and receives from all shares that own what it is given.
@@ -165,11 +166,9 @@ impl<'a, T: ShareRun> Berth<'a, T> {
 
     // Has the share go on by a window.
     fn make_window(&mut self) {
-        let Some(process) = self.process.take() else {
-            return;
-        };
-        if let Some(next) = process.go_on() {
-            self.process = Some(next);
+        if let Some(process) = self.process.take() {
+            let next = process.go_on();
+            drop(replace(&mut self.process, next));
         }
     }
 
