@@ -27,28 +27,13 @@ impl<'a, T: ShareRun> Model for Resting<'a, T> {
     ghost invariant = { λ resting. Covers T.run resting.station.number resting.station.senders };
 }
 
-/// Where in its turn a share's logical process is between the visits of threads.
+/// A share's logical process between the visits of threads.
 #[derive(Drop)]
-pub enum Phase<'a, T: ShareRun> {
+pub enum Process<'a, T: ShareRun> {
     /// It has still to tell others of the next window.
     Resting(Resting<'a, T>),
     /// It did so, and has still to make the window.
     Told(Told<'a, T>),
-}
-
-/// A share's logical process between the visits of threads.
-#[derive(Drop)]
-pub struct Process<'a, T: ShareRun> {
-    phase: Phase<'a, T>,
-}
-
-// Clauses see nothing of a process: what it makes stands in its type.
-impl<'a, T: ShareRun> Model for Process<'a, T> {
-    ghost use Rattle.std.specs.Prelude.{⊤};
-
-    ghost Value = { ⊤ };
-
-    ghost view = { λ _. tt };
 }
 
 /// Where a share lies between the visits of threads. It is empty once all windows are made, or where memory was refused
@@ -67,10 +52,8 @@ pub(crate) fn berths_of<'a, T: ShareRun>(
 {
     let mut berths = Vec::new(alloc);
     for station in stations {
-        let process = Process::resting(station);
-        berths.push(Mutex::new(Berth {
-            process: Some(process),
-        }))?;
+        let process = Some(Process::Resting(Resting { station }));
+        berths.push(Mutex::new(Berth { process }))?;
     }
     Ok(berths)
 }
@@ -86,7 +69,7 @@ impl<'a, T: ShareRun> Resting<'a, T> {
     }
 
     // Tells others of the next window, if there is one and where there is room.
-    fn go_on(self) -> Option<Phase<'a, T>> {
+    fn go_on(self) -> Option<Process<'a, T>> {
         let Resting { mut station } = self;
         if station.is_done() {
             drop(station);
@@ -94,10 +77,10 @@ impl<'a, T: ShareRun> Resting<'a, T> {
         }
         match station.look() {
             Next::Come => match station.tell() {
-                Some(told) => Some(Phase::Told(told)),
+                Some(told) => Some(Process::Told(told)),
                 None => None,
             },
-            Next::Awaited => Some(Phase::Resting(Resting { station })),
+            Next::Awaited => Some(Process::Resting(Resting { station })),
             Next::Never => {
                 drop(station);
                 None
@@ -107,50 +90,26 @@ impl<'a, T: ShareRun> Resting<'a, T> {
 }
 
 // Ends a turn: makes a window of which others told. Begins the next one, if there is room: tells others of it.
-fn end_turn<'a, T: ShareRun>(told: Told<'a, T>) -> Option<Phase<'a, T>> {
+fn end_turn<'a, T: ShareRun>(told: Told<'a, T>) -> Option<Process<'a, T>> {
     let station = told.hear()?;
     Resting { station }.go_on()
 }
 
-impl<'a, T: ShareRun> Phase<'a, T> {
+impl<'a, T: ShareRun> Process<'a, T> {
     // Whether it can go on by a window.
     fn look(&mut self) -> Next {
         match self {
-            Phase::Resting(resting) => resting.look(),
-            Phase::Told(told) => told.look(),
+            Process::Resting(resting) => resting.look(),
+            Process::Told(told) => told.look(),
         }
     }
 
     // Goes on by a window. There is none any more once all windows are made, or where memory was refused, another share
     // ended early, or it would have to wait.
-    fn go_on(self) -> Option<Phase<'a, T>> {
-        match self {
-            Phase::Resting(resting) => resting.go_on(),
-            Phase::Told(told) => end_turn(told),
-        }
-    }
-}
-
-impl<'a, T: ShareRun> Process<'a, T> {
-    // That of a station that has still to tell others of its next window.
-    fn resting(station: Station<'a, T>) -> Process<'a, T>
-        requires { Covers T.run station.number station.senders }
-    {
-        Process {
-            phase: Phase::Resting(Resting { station }),
-        }
-    }
-
-    // Whether it can go on by a window.
-    fn look(&mut self) -> Next {
-        self.phase.look()
-    }
-
-    // Goes on by a window, as far as it can.
     fn go_on(self) -> Option<Process<'a, T>> {
-        match self.phase.go_on() {
-            Some(phase) => Some(Process { phase }),
-            None => None,
+        match self {
+            Process::Resting(resting) => resting.go_on(),
+            Process::Told(told) => end_turn(told),
         }
     }
 }
