@@ -2,13 +2,12 @@
 use Rattle.std.proofs.Common.{◌≡◌, ℕ, ◌*◌, ◌/◌, ◌%◌, ◌^◌, ◌<◌, ◌≤◌, ◌≢◌, ◌⊎◌, inl, inr, true, false, not, ◌&&◌, ◌||◌, ◌==◌, List, length, get_or, set, replicate, refl, sym, ap, subst, ◌∙◌, arith, w64, ◌+◌, ◌-◌, min, ap₂, Bool}
 use Rattle.std.proofs.lemmas.Bool.{cases_eq, cases_lt, eq-eqb, eqb-true, false≢true, ne_eqb}
 use Rattle.std.proofs.lemmas.List.{get_or-set_same, get_or-set_other, get_or-replicate, get_or_past, length-replicate, length-set, get_or_read}
-use Rattle.std.proofs.lemmas.Nat.{and_le_l}
-use Rattle.std.proofs.lemmas.Nat.Bits.{bit_at-lt, bit_at-zero, bit_at_and, bit_at_not, bit_at_set_same, bit_at_set_other, bit_at_clear_same, bit_at_clear_other}
+use Rattle.std.proofs.lemmas.Nat.Bits.{bit_at-lt, bit_at-zero, bit_at_and, bit_at_not, bit_at_set_same, bit_at_set_other}
 use Rattle.std.specs.Prelude.{bit_and, bit_or}
 use Rattle.std.specs.Int.{bit_at, bit_not}
 use Rattle.cmb_words.specs.Bits.{is_set_at}
 use Rattle.cmb_engine.specs.Inner.Batches.{IsSetAt}
-use Rattle.cmb_engine.specs.Inner.Bits.{has, Inserts, Removes}
+use Rattle.cmb_engine.specs.Inner.Bits.{has, Inserts}
 use Rattle.cmb_engine.specs.Shares.{is_told}
 
 -- a set of told nets is one of numbers
@@ -49,25 +48,6 @@ module _ (words : List ℕ) (n : ℕ) (room : n / 64 < length words) where
           let here : (m == n) ≡ false = ne_eqb m n (λ e. h (ap (λ i. i / 64) e)) in
           rw (here, get_or-set_other words (n / 64) (m / 64) (bit_or (get_or words (n / 64) 0) (1 * 2 ^ (n % 64) % 2 ^ 64)) 0 h) refl
 
-  pub has-remove : (m : ℕ) → has (set words (n / 64) (bit_and (get_or words (n / 64) 0) (bit_not w64 (1 * 2 ^ (n % 64) % 2 ^ 64)))) m ≡ (not (m == n) && has words m)
-  unfolding has
-  has-remove m = go (cases_eq (m / 64) (n / 64)) (cases_eq (m % 64) (n % 64))
-    where
-      go : (m / 64 ≡ n / 64) ⊎ (m / 64 ≡ n / 64 → ⊥) → (m % 64 ≡ n % 64) ⊎ (m % 64 ≡ n % 64 → ⊥)
-          → (bit_at (get_or (set words (n / 64) (bit_and (get_or words (n / 64) 0) (bit_not w64 (1 * 2 ^ (n % 64) % 2 ^ 64)))) (m / 64) 0) (m % 64) == 1) ≡ (not (m == n) && (bit_at (get_or words (m / 64) 0) (m % 64) == 1))
-      go (inl h) (inl k) =
-          let here : (m == n) ≡ true = eq-eqb m n (same_number m n h k) in
-          let bit : bit_at (bit_and (get_or words (n / 64) 0) (bit_not w64 (1 * 2 ^ (n % 64) % 2 ^ 64))) (n % 64) ≡ 0 = bit_at_clear_same w64 (get_or words (n / 64) 0) (n % 64) (omega arith) in
-          rw (here, h, k, get_or-set_same words (n / 64) (bit_and (get_or words (n / 64) 0) (bit_not w64 (1 * 2 ^ (n % 64) % 2 ^ 64))) 0 room, bit) refl
-      go (inl h) (inr k) =
-          let here : (m == n) ≡ false = ne_eqb m n (λ e. k (ap (λ i. i % 64) e)) in
-          let bit : bit_at (bit_and (get_or words (n / 64) 0) (bit_not w64 (1 * 2 ^ (n % 64) % 2 ^ 64))) (m % 64) ≡ bit_at (get_or words (n / 64) 0) (m % 64) =
-          bit_at_clear_other w64 (get_or words (n / 64) 0) (n % 64) (omega arith) (m % 64) (omega arith) k in
-          rw (here, h, get_or-set_same words (n / 64) (bit_and (get_or words (n / 64) 0) (bit_not w64 (1 * 2 ^ (n % 64) % 2 ^ 64))) 0 room, bit) refl
-      go (inr h) _ =
-          let here : (m == n) ≡ false = ne_eqb m n (λ e. h (ap (λ i. i / 64) e)) in
-          rw (here, get_or-set_other words (n / 64) (m / 64) (bit_and (get_or words (n / 64) 0) (bit_not w64 (1 * 2 ^ (n % 64) % 2 ^ 64))) 0 h) refl
-
 -- a word with a bit set isn't zero
 pub set-some : (word k : ℕ) → k < 64 → bit_or word (1 * 2 ^ k % 2 ^ 64) ≢ 0
 set-some word k small none = omega (arith, bit_at_set_same w64 word k small, ap (λ w. bit_at w k) none, bit_at-zero k)
@@ -79,16 +59,6 @@ inserts words n room =
       members = has-insert words n room;
       others = λ k other. get_or-set_other words (n / 64) k _ 0 other;
       some = λ none. set-some (get_or words (n / 64) 0) (n % 64) (omega arith) (sym (get_or-set_same words (n / 64) _ 0 room) ∙ none);
-    }
-
-pub removes : (words : List ℕ) (n : ℕ) → n / 64 < length words → Removes words (set words (n / 64) (bit_and (get_or words (n / 64) 0) (bit_not w64 (1 * 2 ^ (n % 64) % 2 ^ 64)))) n
-removes words n room =
-    let at = get_or-set_same words (n / 64) (bit_and (get_or words (n / 64) 0) (bit_not w64 (1 * 2 ^ (n % 64) % 2 ^ 64))) 0 room in
-    record {
-      len = length-set words (n / 64) _;
-      members = has-remove words n room;
-      others = λ k other. get_or-set_other words (n / 64) k _ 0 other;
-      less = omega (arith, at, and_le_l (get_or words (n / 64) 0) (bit_not w64 (1 * 2 ^ (n % 64) % 2 ^ 64)));
     }
 
 -- ---- the same at a word that was read
@@ -104,11 +74,6 @@ module _ (words set_is : List ℕ) (view : words ≡ set_is) (n word : ℕ) (rea
   read-inserts =
       subst (λ (s : List ℕ). Inserts s (set words (n / 64) (bit_or word (1 * 2 ^ (n % 64) % 2 ^ 64))) n) view
       (subst (λ (w : ℕ). Inserts words (set words (n / 64) (bit_or w (1 * 2 ^ (n % 64) % 2 ^ 64))) n) (sym read_is) (inserts words n (omega (arith, room_is))))
-
-  pub read-removes : Removes set_is (set words (n / 64) (bit_and word (bit_not w64 (1 * 2 ^ (n % 64) % 2 ^ 64)))) n
-  read-removes =
-      subst (λ (s : List ℕ). Removes s (set words (n / 64) (bit_and word (bit_not w64 (1 * 2 ^ (n % 64) % 2 ^ 64)))) n) view
-      (subst (λ (w : ℕ). Removes words (set words (n / 64) (bit_and w (bit_not w64 (1 * 2 ^ (n % 64) % 2 ^ 64)))) n) (sym read_is) (removes words n (omega (arith, room_is))))
 
 -- ---- some places of a word are taken out
 

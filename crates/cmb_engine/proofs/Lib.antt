@@ -7,6 +7,7 @@ pub mod CollectFacts
 pub mod EndFacts
 pub mod EngineFacts
 pub mod ExportFacts
+pub mod FlagFacts
 pub mod FollowerFacts
 pub mod GivenFacts
 pub mod GroupFacts

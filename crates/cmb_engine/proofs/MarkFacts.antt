@@ -6,7 +6,8 @@ use Rattle.std.proofs.lemmas.Nat.Bits.{bit_at-zero}
 use Rattle.std.specs.Prelude.{IfNone}
 use Rattle.cmb_words.specs.Bits.{is_set_at}
 use Rattle.cmb_engine.specs.Inner.Batches.{IsNextWord, IsSetAt, IsTaken}
-use Rattle.cmb_engine.specs.Inner.Bits.{has, HasNone, IsNext, Inserts, Lessens, Removes, IsSummary}
+use Rattle.cmb_engine.specs.Inner.Bits.{has, HasNone, IsNext, Inserts, Lessens}
+use Rattle.cmb_engine.specs.Inner.Flags.{is_flagged, Clears, IsNextFlag, IsSummary, NoFlags, Sets}
 use Rattle.cmb_engine.specs.declared.walk.Walk.{Walk}
 use Rattle.cmb_engine.specs.Inner.Walks.{walked}
 
@@ -28,26 +29,26 @@ pub summary-less : (low new high : List ℕ) (k : ℕ) → IsSummary low high �
 summary-less low new high k old less some =
     record { room = omega (arith, old.room, less.len); summed = λ m. at m (cases_eq m k) }
   where
-    at : (m : ℕ) → (m ≡ k) ⊎ (m ≡ k → ⊥) → has high m ≡ not (get_or new m 0 == 0)
+    at : (m : ℕ) → (m ≡ k) ⊎ (m ≡ k → ⊥) → is_flagged high m ≡ not (get_or new m 0 == 0)
     at m (inl e) =
         let left : (get_or low k 0 == 0) ≡ false = ne_eqb _ _ (λ z. eqb-false _ _ some (omega (arith, less.less, z))) in
-        let now : has high m ≡ true = old.summed m ∙ ap (λ i. not (get_or low i 0 == 0)) e ∙ ap not left in
+        let now : is_flagged high m ≡ true = old.summed m ∙ ap (λ i. not (get_or low i 0 == 0)) e ∙ ap not left in
         now ∙ sym (ap (λ i. not (get_or new i 0 == 0)) e ∙ ap not some)
     at m (inr e) = rw (less.others m e) (old.summed m)
 
 -- and where it has none its bit goes
-pub summary-gone : (low new high sums : List ℕ) (k : ℕ) → IsSummary low high → Lessens low new k → Removes high sums k → (get_or new k 0 == 0) ≡ true → IsSummary new sums
+pub summary-gone : (low new high sums : List ℕ) (k : ℕ) → IsSummary low high → Lessens low new k → Clears high sums k → (get_or new k 0 == 0) ≡ true → IsSummary new sums
 summary-gone low new high sums k old less above none =
     record { room = omega (arith, old.room, less.len, above.len); summed = λ m. at m (cases_eq m k) }
   where
-    at : (m : ℕ) → (m ≡ k) ⊎ (m ≡ k → ⊥) → has sums m ≡ not (get_or new m 0 == 0)
+    at : (m : ℕ) → (m ≡ k) ⊎ (m ≡ k → ⊥) → is_flagged sums m ≡ not (get_or new m 0 == 0)
     at m (inl e) =
         let here : (m == k) ≡ true = eq-eqb _ _ e in
-        let gone : has sums m ≡ false = rw here at (above.members m) in
+        let gone : is_flagged sums m ≡ false = rw here at (above.members m) in
         gone ∙ sym (ap (λ i. not (get_or new i 0 == 0)) e ∙ ap not none)
     at m (inr e) =
         let here : (m == k) ≡ false = ne_eqb _ _ e in
-        let same : has sums m ≡ has high m = rw here at (above.members m) in
+        let same : is_flagged sums m ≡ is_flagged high m = rw here at (above.members m) in
         same ∙ rw (less.others m e) (old.summed m)
 
 -- the marks of a level in a word are taken out
@@ -76,11 +77,11 @@ marks-taken old new from first end places next late fits len left taken upto is 
           is = e;
         }
 
-pub summary-insert : (low new high sums : List ℕ) (n : ℕ) → IsSummary low high → Inserts low new n → Inserts high sums (n / 64) → IsSummary new sums
+pub summary-insert : (low new high sums : List ℕ) (n : ℕ) → IsSummary low high → Inserts low new n → Sets high sums (n / 64) → IsSummary new sums
 summary-insert low new high sums n old insert above =
     record { room = omega (arith, old.room, insert.len, above.len); summed = λ k. at k (cases_eq k (n / 64)) }
   where
-    at : (k : ℕ) → (k ≡ n / 64) ⊎ (k ≡ n / 64 → ⊥) → has sums k ≡ not (get_or new k 0 == 0)
+    at : (k : ℕ) → (k ≡ n / 64) ⊎ (k ≡ n / 64 → ⊥) → is_flagged sums k ≡ not (get_or new k 0 == 0)
     at k (inl e) =
         let here : (k == n / 64) ≡ true = eq-eqb _ _ e in
         let some : (get_or new k 0 == 0) ≡ false = ne_eqb _ _ (λ z. insert.some (ap (λ i. get_or new i 0) (sym e) ∙ z)) in
@@ -89,23 +90,23 @@ summary-insert low new high sums n old insert above =
         let here : (k == n / 64) ≡ false = ne_eqb _ _ e in
         rw (above.members k, here, insert.others k e) (old.summed k)
 
-pub summary-new : (low high : List ℕ) → length low ≤ 64 * length high → ((k : ℕ) → get_or low k 0 ≡ 0) → ((m : ℕ) → has high m ≡ false) → IsSummary low high
+pub summary-new : (low high : List ℕ) → length low ≤ length high → ((k : ℕ) → get_or low k 0 ≡ 0) → ((m : ℕ) → is_flagged high m ≡ false) → IsSummary low high
 summary-new low high room zeros none =
     record { room = room; summed = λ k. none k ∙ sym (ap not (eq-eqb (get_or low k 0) 0 (zeros k))) }
 
 module _ (low high : List ℕ) (sum : IsSummary low high) where
   -- a word whose bit is clear has no number
-  no_word : (m : ℕ) → has high (m / 64) ≡ false → has low m ≡ false
+  no_word : (m : ℕ) → is_flagged high (m / 64) ≡ false → has low m ≡ false
   no_word m none = has-zero_word low m (eqb-true _ _ (not-false _ (sym (sum.summed (m / 64)) ∙ none)))
 
-  pub marks-none : (w n : ℕ) → HasNone low n (64 * w + 64) → HasNone high (w + 1) (64 * length high) → HasNone low n (64 * length low)
+  pub marks-none : (w n : ℕ) → HasNone low n (64 * w + 64) → NoFlags high (w + 1) (length high) → HasNone low n (64 * length low)
   marks-none w n here above m from below = go (cases_lt m (64 * w + 64))
     where
       go : (m < 64 * w + 64) ⊎ (64 * w + 64 ≤ m) → has low m ≡ false
       go (inl l) = here m from l
       go (inr l) = no_word m (above (m / 64) (omega arith) (omega (arith, sum.room)))
 
-  marks-next : (w n k found : ℕ) → n ≤ 64 * w + 64 → HasNone low n (64 * w + 64) → IsNext high (w + 1) k → IsNext low (64 * k) found → IsNext low n found
+  marks-next : (w n k found : ℕ) → n ≤ 64 * w + 64 → HasNone low n (64 * w + 64) → IsNextFlag high (w + 1) k → IsNext low (64 * k) found → IsNext low n found
   marks-next w n k found at here above next =
       record { from = omega (arith, at, above.from, next.from); member = next.member; least = λ m from below. go m from below (cases_lt m (64 * w + 64)) (cases_lt m (64 * k)) }
     where
@@ -115,11 +116,11 @@ module _ (low high : List ℕ) (sum : IsSummary low high) where
       go m from below (inr l) (inr j) = next.least m j below
 
   -- words up to one whose bits are clear have no number
-  pub marks-empty : (from upto bound : ℕ) → HasNone high from upto → bound ≤ 64 * upto → HasNone low (64 * from) bound
+  pub marks-empty : (from upto bound : ℕ) → NoFlags high from upto → bound ≤ 64 * upto → HasNone low (64 * from) bound
   marks-empty from upto bound none within m late below = no_word m (none (m / 64) (omega (arith, late)) (omega (arith, below, within)))
 
   -- nor has any word, where no bit is set from one on
-  pub marks-end : (from bound : ℕ) → HasNone high from (64 * length high) → HasNone low (64 * from) bound
+  pub marks-end : (from bound : ℕ) → NoFlags high from (length high) → HasNone low (64 * from) bound
   marks-end from bound none m late below = go (cases_lt (m / 64) (length low))
     where
       go : (m / 64 < length low) ⊎ (length low ≤ m / 64) → has low m ≡ false
@@ -127,10 +128,10 @@ module _ (low high : List ℕ) (sum : IsSummary low high) where
       go (inr l) = has-zero_word low m (get_or_past low (m / 64) 0 l)
 
   -- a word whose bit is set isn't zero, and is there
-  marks-word : (n k : ℕ) → IsNext high n k → get_or low k 0 ≢ 0
+  marks-word : (n k : ℕ) → IsNextFlag high n k → get_or low k 0 ≢ 0
   marks-word n k next none = false≢true (sym (ap not (eq-eqb (get_or low k 0) 0 none)) ∙ sym (sum.summed k) ∙ next.member)
 
-  pub marks-room : (n k : ℕ) → IsNext high n k → k < length low
+  pub marks-room : (n k : ℕ) → IsNextFlag high n k → k < length low
   marks-room n k next = go (cases_lt k (length low))
     where
       go : (k < length low) ⊎ (length low ≤ k) → k < length low
@@ -138,7 +139,7 @@ module _ (low high : List ℕ) (sum : IsSummary low high) where
       go (inr l) = absurd (marks-word n k next (get_or_past low k 0 l))
 
   -- the numbers of the word whose bit is the next one
-  pub marks-next_word : (from k upto : ℕ) → IsNext high from k → upto ≡ k + 1 → IsNextWord low from upto (64 * k) (get_or low k 0)
+  pub marks-next_word : (from k upto : ℕ) → IsNextFlag high from k → upto ≡ k + 1 → IsNextWord low from upto (64 * k) (get_or low k 0)
   unfolding has is_set_at
   marks-next_word from k upto next is = record {
     on = omega (arith, next.from, is);
@@ -152,7 +153,7 @@ module _ (low high : List ℕ) (sum : IsSummary low high) where
   }
 
   -- what the word tells whose bit is the next one
-  pub marks-in_word : (w n k : ℕ) → n ≤ 64 * w + 64 → HasNone low n (64 * w + 64) → IsNext high (w + 1) k → (at after : Walk) → at.word ≡ k → walked at ≡ 64 * k
+  pub marks-in_word : (w n k : ℕ) → n ≤ 64 * w + 64 → HasNone low n (64 * w + 64) → IsNextFlag high (w + 1) k → (at after : Walk) → at.word ≡ k → walked at ≡ 64 * k
       → (found : Option ℕ)
       → MatchOption found (HasNone low (walked at) (64 * at.word + 64) × (after ≡ at)) (λ m. IsNext low (walked at) m × (walked after ≡ m + 1))
       → (walked at ≡ 64 * at.word → IfNone found (get_or low at.word 0 ≡ 0))

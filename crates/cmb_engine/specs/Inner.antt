@@ -8,6 +8,7 @@ pub mod Circuits
 pub mod Collects
 pub mod Ends
 pub mod Exports
+pub mod Flags
 pub mod Gifts
 pub mod Known
 pub mod Lines

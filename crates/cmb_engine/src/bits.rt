@@ -5,7 +5,7 @@ ghost use Rattle.std.specs.Prelude.{true};
 ghost use Rattle.std.specs.Prelude.{slice_index, IfOk, IfNone, MatchOption};
 ghost use Rattle.cmb_words.specs.Bits.{is_set_at};
 ghost use Rattle.cmb_engine.specs.Inner.Batches.{IsSetAt};
-ghost use Rattle.cmb_engine.specs.Inner.Bits.{has, HasNone, IsNext, Inserts, Lessens, Removes};
+ghost use Rattle.cmb_engine.specs.Inner.Bits.{has, HasNone, IsNext, Inserts, Lessens};
 ghost use Rattle.cmb_engine.specs.Inner.Walks.{walked};
 
 use crate::walk::Walk;
@@ -58,15 +58,6 @@ impl Bits {
         self.words[n / 64] |= 1 << (n % 64);
     }
 
-    /// Takes a number out.
-    #[inline]
-    pub(crate) fn remove(&mut self, n: usize)
-        requires { n < 64 * length self.old }
-        ensures { Removes self.old self.new n }
-    {
-        self.words[n / 64] &= !(1 << (n % 64));
-    }
-
     /// A word of the set.
     #[inline]
     pub(crate) fn word(&self, k: usize) -> u64
@@ -110,23 +101,5 @@ impl Bits {
         let place = lowest(self.words[word] & walk.ahead)?;
         *walk = Walk::behind(word, place);
         Some(64 * word + place as usize)
-    }
-
-    /// The least one that a walk hasn't passed.
-    pub(crate) fn next(&self, walk: Walk) -> Option<usize>
-        ensures { MatchOption result
-            (HasNone self.now (walked walk) (64 * length self.now))
-            (IsNext self.now (walked walk)) }
-    {
-        let mut ahead = walk;
-        if let Some(found) = self.next_at(&mut ahead) {
-            return Some(found);
-        }
-        for k in walk.word + 1..self.len() {
-            if let Some(found) = self.next_at(&mut Walk::at(k)) {
-                return Some(found);
-            }
-        }
-        None
     }
 }

@@ -13,7 +13,6 @@ ghost use Rattle.cmb_engine.specs.Inner.Words.{levels_of};
 use crate::bits::Bits;
 use crate::known_passes::collect_known;
 use crate::marks::{Marked, Marks};
-use crate::walk::Walk;
 use crate::wanted::wanted_among;
 use crate::words::Words;
 use cmb_netlist::MAX_NETS;
@@ -110,8 +109,8 @@ pub(crate) fn collect(
         → is_among net changed.new.items ≡ false → IsSteadyFrom (levels_of words.now net) first) }
 {
     changed.clear();
-    let mut walk = Walk::at(0);
-    'words: while let Some(batch) = live.next_word(&mut walk, nets) {
+    let mut from = 0;
+    'words: while let Some(batch) = live.next_word(&mut from, nets) {
         collect_word(words, batch, wanted, nets, first, changed)?;
     }
     Ok(())

@@ -11,6 +11,7 @@ mod collect;
 pub mod engine;
 mod exports;
 mod fanout;
+mod flags;
 mod flops;
 mod given;
 mod group;

@@ -9,21 +9,22 @@ ghost use Rattle.cmb_engine.specs.Inner.Bits.{has, HasNone, IsNext};
 ghost use Rattle.cmb_engine.specs.Inner.Walks.{walked};
 
 use crate::bits::Bits;
+use crate::flags::Flags;
 use crate::walk::Walk;
 use cmb_words::lowest;
 use std::alloc::{AllocError, Global};
 use std::marker::Model;
 
-/// A set of numbers, with the set of those of its words that aren't empty.
+/// A set of numbers, with a flag for each of its words that isn't empty.
 #[derive(Drop)]
 pub(crate) struct Marks {
     low: Bits,
-    high: Bits,
+    high: Flags,
 }
 
 impl Model for Marks {
     ghost use Rattle.std.specs.Prelude.{List, ℕ};
-    ghost use Rattle.cmb_engine.specs.Inner.Bits.{IsSummary};
+    ghost use Rattle.cmb_engine.specs.Inner.Flags.{IsSummary};
 
     ghost Value = { List ℕ };
 
@@ -70,7 +71,7 @@ impl Marks {
         ensures none { IfOk result (λ marks. (m : ℕ) → has marks m ≡ false) }
     {
         let low = Bits::new(alloc, count)?;
-        let high = Bits::new(alloc, low.len())?;
+        let high = Flags::new(alloc, low.len())?;
         Ok(Marks { low, high })
     }
 
@@ -82,7 +83,7 @@ impl Marks {
         ensures has { (m : ℕ) → has self.new m ≡ (m == n || has self.old m) }
     {
         self.low.insert(n);
-        self.high.insert(n / 64);
+        self.high.set(n / 64);
     }
 
     /// Takes the marks of a word out whose places a mask has, and says which places these are.
@@ -97,7 +98,7 @@ impl Marks {
     {
         let taken = self.low.take(word, mask);
         if self.low.word(word) == 0 {
-            self.high.remove(word);
+            self.high.clear(word);
         }
         taken
     }
@@ -133,26 +134,25 @@ impl Marks {
         if let Some(found) = self.low.next_at(walk) {
             return Some(found);
         }
-        let word = Walk::behind(walk.word / 64, (walk.word % 64) as u32);
-        let k = self.high.next(word)?;
+        let k = self.high.next(walk.word + 1)?;
         *walk = Walk::at(k);
         self.low.next_at(walk)
     }
 
-    /// The next word with marks, where it begins below a bound. The walk goes over the numbers of words.
+    /// The next word with marks from one on, where it begins below a bound. The next look is for those behind it.
     #[inline]
-    pub(crate) fn next_word(&self, walk: &mut Walk, bound: usize) -> Option<Marked>
-        ensures { MatchOption result (HasNone self.now (64 * walked walk.old) bound)
-            (λ batch. IsNextWord self.now (walked walk.old) (walked walk.new) batch.base batch.places
+    pub(crate) fn next_word(&self, from: &mut usize, bound: usize) -> Option<Marked>
+        ensures { MatchOption result (HasNone self.now (64 * from.old) bound)
+            (λ batch. IsNextWord self.now from.old from.new batch.base batch.places
             × (batch.base < bound)) }
     {
         let _words = self.low.len();
-        let word = self.high.next(*walk)?;
+        let word = self.high.next(*from)?;
         let base = 64 * word;
         if base >= bound {
             return None;
         }
-        *walk = Walk::behind(word / 64, (word % 64) as u32);
+        *from = word + 1;
         let places = self.low.word(word);
         Some(Marked { base, places })
     }

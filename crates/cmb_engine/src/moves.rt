@@ -11,7 +11,6 @@ ghost use Rattle.cmb_engine.specs.Inner.Words.{levels_of};
 use crate::fanout::Fanout;
 use crate::marks::{Marked, Marks};
 use crate::settle::mark_all;
-use crate::walk::Walk;
 use crate::words::Words;
 use cmb_words::Places;
 
@@ -135,8 +134,8 @@ pub(crate) fn move_on(
         → IsSteadyFrom (levels_of words.new slot) first
         ⊎ AreMarked (has marks.new) (readers_at fanout.now.order fanout.now.gates slot) }
 {
-    let mut walk = Walk::at(0);
-    'words: while let Some(batch) = live.next_word(&mut walk, words.len()) {
+    let mut from = 0;
+    'words: while let Some(batch) = live.next_word(&mut from, words.len()) {
         let steady = move_word(words, batch, fanout, marks, ticks, first);
         live.take_places(batch.base / 64, steady);
     }

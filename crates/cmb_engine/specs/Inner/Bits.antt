@@ -1,5 +1,5 @@
 -- Sets of numbers by bits: number n is bit n % 64 of word n / 64.
-use Rattle.std.specs.Prelude.{◌≡◌, ◌≢◌, ℕ, ◌*◌, ◌/◌, ◌%◌, ◌^◌, ◌<◌, ◌≤◌, Bool, true, false, not, ◌&&◌, ◌||◌, ◌==◌, List, length, slice_index}
+use Rattle.std.specs.Prelude.{◌≡◌, ◌≢◌, ℕ, ◌/◌, ◌%◌, ◌^◌, ◌<◌, ◌≤◌, Bool, true, false, ◌||◌, ◌==◌, List, length, slice_index}
 use Rattle.std.specs.Int.{bit_at}
 
 -- whether a number is in the set
@@ -28,18 +28,6 @@ pub record Lessens (old new : List ℕ) (k : ℕ) : Type 0 where
   pub len : length new ≡ length old
   pub others : (other : ℕ) → other ≢ k → slice_index new other ≡ slice_index old other
   pub less : slice_index new k ≤ slice_index old k
-
--- the new set is the old one without n
-pub record Removes (old new : List ℕ) (n : ℕ) : Type 0 where
-  pub len : length new ≡ length old
-  pub members : (m : ℕ) → has new m ≡ (not (m == n) && has old m)
-  pub others : (k : ℕ) → k ≢ n / 64 → slice_index new k ≡ slice_index old k
-  pub less : slice_index new (n / 64) ≤ slice_index old (n / 64)
-
--- one set says of another which of its words aren't empty
-pub record IsSummary (low high : List ℕ) : Type 0 where
-  pub room : length low ≤ 64 * length high
-  pub summed : (k : ℕ) → has high k ≡ not (slice_index low k == 0)
 
 -- the places of a word from one on, as bits
 pub record IsAhead (place ahead : ℕ) : Type 0 where
