@@ -11,6 +11,10 @@ use std::marker::Model;
 use std::mem::replace;
 use std::sync::Mutex;
 
+// At so many looks of other threads in a row a share could have gone on, and nobody did: its thread may have lost its
+// processor. Before that it is left alone, since a share's words are in its own processor's cache.
+const LOYAL: u32 = 32;
+
 /// A share that made its windows up to a tick, and receives from all shares that own what it is given.
 #[derive(Drop)]
 pub struct Resting<'a, T: ShareRun> {
@@ -41,6 +45,8 @@ pub enum Process<'a, T: ShareRun> {
 #[derive(Drop)]
 pub struct Berth<'a, T: ShareRun> {
     process: Option<Process<'a, T>>,
+    /// At how many looks of other threads in a row nobody went on with it.
+    looks: u32,
 }
 
 /// A berth for each share. Errors: memory was refused.
@@ -53,7 +59,7 @@ pub(crate) fn berths_of<'a, T: ShareRun>(
     let mut berths = Vec::new(alloc);
     for station in stations {
         let process = Some(Process::Resting(Resting { station }));
-        berths.push(Mutex::new(Berth { process }))?;
+        berths.push(Mutex::new(Berth { process, looks: 0 }))?;
     }
     Ok(berths)
 }
@@ -137,7 +143,14 @@ impl<'a, T: ShareRun> Berth<'a, T> {
         if matches!(self.look(), Next::Awaited) {
             return false;
         }
+        self.looks = 0;
         self.make_window();
         true
+    }
+
+    /// The same for another thread than its own, but only where its own seems to be away.
+    pub(crate) fn help(&mut self) -> bool {
+        self.looks = self.looks.saturating_add(1);
+        self.looks > LOYAL && self.go_on()
     }
 }

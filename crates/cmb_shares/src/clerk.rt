@@ -3,15 +3,13 @@
 use crate::desk::{Desk, Job};
 use crate::message::Message;
 use crate::share_run::ShareRun;
-use crate::stages::{Draft, Free, Text};
+use crate::shelf::Shelf;
+use crate::stages::{Draft, Free};
 use std::alloc::{AllocError, Global};
 use std::sync::{Mutex, Wait};
 
 // It looks for a window at one of so many calls alone: all threads that wait look at the same desk.
 const LOOKS: u32 = 8;
-
-/// The texts of windows, in any order, until the calling thread takes them.
-pub type Shelf<T> = Mutex<Vec<Text<T>>>;
 
 /// A thread's part in making the text: it takes a window from the desk, makes its text piece by piece, and puts that on
 /// the shelf.
@@ -19,11 +17,13 @@ pub type Shelf<T> = Mutex<Vec<Text<T>>>;
 pub struct Clerk<'a, 'd, T: ShareRun> {
     alloc: Global,
     desk: &'d Mutex<Desk<T>>,
-    shelf: &'d Shelf<T>,
+    shelf: &'d Mutex<Shelf<T>>,
     /// The text that it is at. There is none once memory was refused or the desk was closed.
     draft: Option<Draft<'a, T>>,
     /// Messages whose room goes back.
     spent: Vec<Message<T>>,
+    /// Room for a text.
+    room: Vec<u8>,
     looks: u32,
 }
 
@@ -33,7 +33,7 @@ impl<'a, 'd, T: ShareRun> Clerk<'a, 'd, T> {
         alloc: Global,
         free: Free<'a, T>,
         desk: &'d Mutex<Desk<T>>,
-        shelf: &'d Shelf<T>,
+        shelf: &'d Mutex<Shelf<T>>,
     ) -> Clerk<'a, 'd, T> {
         Clerk {
             alloc,
@@ -41,6 +41,7 @@ impl<'a, 'd, T: ShareRun> Clerk<'a, 'd, T> {
             shelf,
             draft: Some(Draft::new(free)),
             spent: Vec::new(alloc),
+            room: Vec::new(alloc),
             looks: 0,
         }
     }
@@ -64,8 +65,19 @@ impl<'a, 'd, T: ShareRun> Clerk<'a, 'd, T> {
         self.looks % LOOKS != 0 && !self.is_busy()
     }
 
+    // Whether there are texts enough.
+    fn is_ahead(&self) -> bool {
+        match self.shelf.try_lock() {
+            Some(shelf) => shelf.is_full(),
+            None => false,
+        }
+    }
+
     // The next window, if it has come and nobody else is at the desk.
     fn take_job(&mut self) -> Result<Option<Job<T>>, AllocError> {
+        if self.is_ahead() {
+            return Ok(None);
+        }
         match self.desk.try_lock() {
             Some(mut desk) => desk.take(&mut self.spent),
             None => Ok(None),
@@ -86,20 +98,17 @@ impl<'a, 'd, T: ShareRun> Clerk<'a, 'd, T> {
             return Ok(false);
         };
         let draft = self.take_draft()?;
-        let Some(begun) = draft.begin(job) else {
-            return Err(AllocError);
-        };
-        self.draft = Some(begun);
+        self.draft = Some(draft.begin(job, &mut self.spent)?);
         Ok(true)
     }
 
     // Goes on by a piece with the text that it is at. Errors: memory was refused.
     fn write<R: Wait>(&mut self, rt: &R) -> Result<(), AllocError> {
         let draft = self.take_draft()?;
-        let (draft, text) = draft.go_on(self.alloc, &mut self.spent)?;
+        let (draft, text) = draft.go_on(self.alloc, &mut self.spent, &mut self.room)?;
         self.draft = Some(draft);
         if let Some(text) = text {
-            self.shelf.lock(rt).push(text)?;
+            self.room = self.shelf.lock(rt).put(text)?;
         }
         Ok(())
     }

@@ -6,10 +6,6 @@ use crate::share_run::ShareRun;
 use cmb_waiting::Idle;
 use std::sync::{Mutex, Wait};
 
-// After so many looks in a row at which it found nothing to do, it goes on with others' shares: their threads may have
-// lost their processors. Before that it leaves them alone, since a share's words are in its own processor's cache.
-const LOYAL: u32 = 10;
-
 /// A thread at work.
 #[derive(Drop)]
 pub struct Executor<'a, 'd, T: ShareRun> {
@@ -18,8 +14,8 @@ pub struct Executor<'a, 'd, T: ShareRun> {
     home: usize,
     clerk: Clerk<'a, 'd, T>,
     idle: Idle,
-    /// How many looks in a row found nothing to do.
-    looks: u32,
+    /// The place of the share at which it looked last.
+    other: usize,
 }
 
 impl<'a, 'd, T: ShareRun> Executor<'a, 'd, T> {
@@ -34,14 +30,14 @@ impl<'a, 'd, T: ShareRun> Executor<'a, 'd, T> {
             home,
             clerk,
             idle: Idle::new(),
-            looks: 0,
+            other: home,
         }
     }
 
-    // Goes on with the share of a place by a window, unless it would have to wait or another thread is at it. Says
-    // whether it did so.
-    fn visit(&self, place: usize) -> bool {
-        let Some(berth) = self.berths.get(place) else {
+    // Goes on by a window with its own share, if it has one, unless that would have to wait or another thread is at it.
+    // Says whether it did so.
+    fn visit(&self) -> bool {
+        let Some(berth) = self.berths.get(self.home) else {
             return false;
         };
         match berth.try_lock() {
@@ -50,34 +46,29 @@ impl<'a, 'd, T: ShareRun> Executor<'a, 'd, T> {
         }
     }
 
-    // Goes on with another share than its own, where it found nothing to do for a while.
+    // The same with the next share whose thread seems to be away.
     fn help(&mut self) -> bool {
-        self.looks = self.looks.saturating_add(1);
-        if self.looks < LOYAL {
-            return false;
+        self.other = self.other.wrapping_add(1);
+        if self.other >= self.berths.len() {
+            self.other = 0;
         }
-        let count = self.berths.len();
-        if count == 0 {
+        let Some(berth) = self.berths.get(self.other) else {
             return false;
+        };
+        match berth.try_lock() {
+            Some(mut berth) => berth.help(),
+            None => false,
         }
-        let place = self.home.wrapping_add(self.looks as usize) % count;
-        self.visit(place)
     }
 
     // Goes on by a window of its own share, by a piece of a text or by another's window. Says whether there was
     // anything to do.
     fn work<R: Wait>(&mut self, rt: &R) -> bool {
-        let home = self.home;
-        if self.visit(home) {
-            self.looks = 0;
+        if self.visit() {
             self.clerk.keep_up(rt);
             return true;
         }
-        if self.clerk.go_on(rt) {
-            self.looks = 0;
-            return true;
-        }
-        self.help()
+        self.clerk.go_on(rt) || self.help()
     }
 
     /// Goes on by a little, or rests for a moment where there is nothing to do. Says whether it can go on: not where
