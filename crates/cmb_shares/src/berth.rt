@@ -11,8 +11,8 @@ use std::marker::Model;
 use std::mem::replace;
 use std::sync::Mutex;
 
-// At so many looks of other threads in a row a share could have gone on, and nobody did: its thread may have lost its
-// processor. Before that it is left alone, since a share's words are in its own processor's cache.
+// Where so many looks of other threads in a row found a share as it was, its thread may have lost its processor. Before
+// that it is left alone, since a share's words are in its own processor's cache.
 const LOYAL: u32 = 32;
 
 /// A share that made its windows up to a tick, and receives from all shares that own what it is given.
