@@ -11,9 +11,9 @@ use std::marker::Model;
 use std::mem::replace;
 use std::sync::Mutex;
 
-// Where so many looks of other threads in a row found a share as it was, its thread may have lost its processor. Before
-// that it is left alone, since a share's words are in its own processor's cache.
-const LOYAL: u32 = 32;
+// Where so many looks of other threads in a row found the only share as it was, its thread may have lost its processor.
+// Before that it is left alone: they all make its text, and its words are in its own processor's cache.
+const PATIENCE: u32 = 32;
 
 /// A share that made its windows up to a tick, and receives from all shares that own what it is given.
 #[derive(Drop)]
@@ -45,8 +45,9 @@ pub enum Process<'a, T: ShareRun> {
 #[derive(Drop)]
 pub struct Berth<'a, T: ShareRun> {
     process: Option<Process<'a, T>>,
-    /// At how many looks of other threads in a row nobody went on with it.
+    /// How many looks of other threads in a row found it as it was, and how many have to.
     looks: u32,
+    patience: u32,
 }
 
 /// A berth for each share. Errors: memory was refused.
@@ -56,10 +57,15 @@ pub(crate) fn berths_of<'a, T: ShareRun>(
 ) -> Result<Vec<Mutex<Berth<'a, T>>>, AllocError>
     requires covers { All (λ station. Covers T.run station.number station.senders) stations.items }
 {
+    let patience = if stations.len() == 1 { PATIENCE } else { 0 };
     let mut berths = Vec::new(alloc);
     for station in stations {
         let process = Some(Process::Resting(Resting { station }));
-        berths.push(Mutex::new(Berth { process, looks: 0 }))?;
+        berths.push(Mutex::new(Berth {
+            process,
+            looks: 0,
+            patience,
+        }))?;
     }
     Ok(berths)
 }
@@ -148,9 +154,9 @@ impl<'a, T: ShareRun> Berth<'a, T> {
         true
     }
 
-    /// The same for another thread than its own, but only where its own seems to be away.
+    /// The same for another thread than its own. The only share is left to its own one, unless that seems to be away.
     pub(crate) fn help(&mut self) -> bool {
         self.looks = self.looks.saturating_add(1);
-        self.looks > LOYAL && self.go_on()
+        self.looks > self.patience && self.go_on()
     }
 }

@@ -4,7 +4,7 @@ use crate::desk::{Desk, Job};
 use crate::message::Message;
 use crate::share_run::ShareRun;
 use crate::shelf::Shelf;
-use crate::stages::{Draft, Free};
+use crate::stages::{Draft, Free, Text};
 use std::alloc::{AllocError, Global};
 use std::sync::{Mutex, Wait};
 
@@ -24,6 +24,8 @@ pub struct Clerk<'a, 'd, T: ShareRun> {
     spent: Vec<Message<T>>,
     /// Room for a text.
     room: Vec<u8>,
+    /// Whether there were texts enough when it looked last.
+    is_ahead: bool,
     looks: u32,
 }
 
@@ -42,6 +44,7 @@ impl<'a, 'd, T: ShareRun> Clerk<'a, 'd, T> {
             draft: Some(Draft::new(free)),
             spent: Vec::new(alloc),
             room: Vec::new(alloc),
+            is_ahead: false,
             looks: 0,
         }
     }
@@ -65,17 +68,27 @@ impl<'a, 'd, T: ShareRun> Clerk<'a, 'd, T> {
         self.looks % LOOKS != 0 && !self.is_busy()
     }
 
-    // Whether there are texts enough.
-    fn is_ahead(&self) -> bool {
-        match self.shelf.try_lock() {
-            Some(shelf) => shelf.is_full(),
-            None => false,
+    // Puts a text on the shelf, and takes room for another one. Errors: memory was refused.
+    fn put<R: Wait>(&mut self, rt: &R, text: Text<T>) -> Result<(), AllocError> {
+        let mut shelf = self.shelf.lock(rt);
+        self.room = shelf.put(text)?;
+        self.is_ahead = shelf.is_full();
+        Ok(())
+    }
+
+    // Whether there are still texts enough, where there were.
+    fn stays_ahead(&mut self) -> bool {
+        if self.is_ahead {
+            if let Some(shelf) = self.shelf.try_lock() {
+                self.is_ahead = shelf.is_full();
+            }
         }
+        self.is_ahead
     }
 
     // The next window, if it has come and nobody else is at the desk.
     fn take_job(&mut self) -> Result<Option<Job<T>>, AllocError> {
-        if self.is_ahead() {
+        if self.stays_ahead() {
             return Ok(None);
         }
         match self.desk.try_lock() {
@@ -108,7 +121,7 @@ impl<'a, 'd, T: ShareRun> Clerk<'a, 'd, T> {
         let (draft, text) = draft.go_on(self.alloc, &mut self.spent, &mut self.room)?;
         self.draft = Some(draft);
         if let Some(text) = text {
-            self.room = self.shelf.lock(rt).put(text)?;
+            self.put(rt, text)?;
         }
         Ok(())
     }

@@ -6,6 +6,10 @@ use crate::share_run::ShareRun;
 use cmb_waiting::Idle;
 use std::sync::{Mutex, Wait};
 
+// After so many looks in a row at which it found nothing to do, it goes on with others' shares: their threads may have
+// lost their processors. Before that it leaves them alone, since a share's words are in its own processor's cache.
+const LOYAL: u32 = 10;
+
 /// A thread at work.
 #[derive(Drop)]
 pub struct Executor<'a, 'd, T: ShareRun> {
@@ -14,8 +18,8 @@ pub struct Executor<'a, 'd, T: ShareRun> {
     home: usize,
     clerk: Clerk<'a, 'd, T>,
     idle: Idle,
-    /// The place of the share at which it looked last.
-    other: usize,
+    /// How many looks in a row found nothing to do.
+    looks: u32,
 }
 
 impl<'a, 'd, T: ShareRun> Executor<'a, 'd, T> {
@@ -30,11 +34,11 @@ impl<'a, 'd, T: ShareRun> Executor<'a, 'd, T> {
             home,
             clerk,
             idle: Idle::new(),
-            other: home,
+            looks: 0,
         }
     }
 
-    // Goes on by a window with its own share, if it has one, unless that would have to wait or another thread is at it.
+    // Goes on with its own share, if it has one, by a window, unless that would have to wait or another thread is at it.
     // Says whether it did so.
     fn visit(&self) -> bool {
         let Some(berth) = self.berths.get(self.home) else {
@@ -46,13 +50,18 @@ impl<'a, 'd, T: ShareRun> Executor<'a, 'd, T> {
         }
     }
 
-    // The same with the next share whose thread seems to be away.
+    // Goes on with another share than its own, where it found nothing to do for a while.
     fn help(&mut self) -> bool {
-        self.other = self.other.wrapping_add(1);
-        if self.other >= self.berths.len() {
-            self.other = 0;
+        self.looks = self.looks.saturating_add(1);
+        if self.looks < LOYAL {
+            return false;
         }
-        let Some(berth) = self.berths.get(self.other) else {
+        let count = self.berths.len();
+        if count == 0 {
+            return false;
+        }
+        let place = self.home.wrapping_add(self.looks as usize) % count;
+        let Some(berth) = self.berths.get(place) else {
             return false;
         };
         match berth.try_lock() {
@@ -65,10 +74,15 @@ impl<'a, 'd, T: ShareRun> Executor<'a, 'd, T> {
     // anything to do.
     fn work<R: Wait>(&mut self, rt: &R) -> bool {
         if self.visit() {
+            self.looks = 0;
             self.clerk.keep_up(rt);
             return true;
         }
-        self.clerk.go_on(rt) || self.help()
+        if self.clerk.go_on(rt) {
+            self.looks = 0;
+            return true;
+        }
+        self.help()
     }
 
     /// Goes on by a little, or rests for a moment where there is nothing to do. Says whether it can go on: not where
